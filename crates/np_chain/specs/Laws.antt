@@ -1,0 +1,22 @@
+-- The laws of versions in a row, over the definitions alone.
+use Rattle.std.specs.Prelude.{ℕ, List}
+use Rattle.np_chain.specs.Chain.{Extends}
+use Rattle.np_code_points.specs.declared.forms.Form.{Form}
+use Rattle.np_forms.specs.Assigned.{IsAssigned}
+use Rattle.np_forms.specs.Forms.{IsNormalForm}
+use Rattle.np_tables.specs.Conditions.{IsSound}
+use Rattle.np_tables.specs.Versions.{VersionData}
+
+-- where b extends a, a text that is assigned in a has one form under both, which is assigned in a
+abbrev pub Stability : Type 0
+Stability =
+    (a b : VersionData) (form : Form) (xs ys : List ℕ) → IsSound a → IsSound b → Extends a b → IsAssigned a xs → IsNormalForm a form xs ys →
+    IsNormalForm b form xs ys × IsAssigned a ys
+
+abbrev pub Transitivity : Type 0
+Transitivity = (a b c : VersionData) → Extends a b → Extends b c → Extends a c
+
+-- where b extends a, the form under b of a text that is assigned in b is its own form under a
+abbrev pub Backward : Type 0
+Backward =
+    (a b : VersionData) (form : Form) (xs ys : List ℕ) → IsSound a → IsSound b → Extends a b → IsAssigned b xs → IsNormalForm b form xs ys → IsNormalForm a form ys ys

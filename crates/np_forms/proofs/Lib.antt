@@ -1,0 +1,13 @@
+pub mod ComposeLemmas
+pub mod ComposerLemmas
+pub mod FormLemmas
+pub mod HeldLemmas
+pub mod KeptLemmas
+pub mod MachineLemmas
+pub mod OrderLaws
+pub mod OrderLemmas
+pub mod PendingLemmas
+pub mod PieceLemmas
+pub mod SortLemmas
+pub mod StreamLemmas
+pub mod TextLemmas

@@ -1,0 +1,301 @@
+-- The machine of composition stops with one list, which `compose` computes.
+use Rattle.std.proofs.Common.{◌≡◌, ◌≢◌, ℕ, zero, suc, ◌+◌, ◌-◌, ◌<◌, ◌≤◌, ◌⊎◌, Bool, true, false, not, List, [], ◌∷◌, ◌++◌, length, get_or, drop, set, Option, Some, None, refl, sym, ap, ap₂, subst, ◌∙◌, arith, inl, inr, append_assoc, append-nil, length-append}
+use Rattle.std.proofs.lemmas.Bool.{cases_Bool, cases_lt, cases_order, and_parts, and_from, not-true, not_from_false, and_cases, eqb-false, both_ways}
+use Rattle.std.proofs.lemmas.List.{get_or-append-add, get_or_append_left, get_or_at, set_at, take_at}
+use Rattle.std.proofs.lemmas.List.Edits.{remove-append_right}
+use Rattle.std.specs.List.{list_all, remove}
+use Rattle.np_code_points.specs.Steps.{Reaches, ReachesIn}
+use Rattle.np_tables.specs.Versions.{VersionData, class_of}
+use Rattle.np_forms.specs.Order.{is_reorderable}
+use Rattle.np_forms.specs.Composition.{IsBlocked, IsLastStarter, Joins, Stage, ComposeStep, IsComposed}
+use Rattle.np_forms.specs.Composing.{is_starter, is_free, joined, compose_after, compose, compose_of}
+use Rattle.np_tables.specs.Composites.{composite}
+use Rattle.np_tables.specs.Conditions.{IsSound}
+use Rattle.np_code_points.proofs.StepsLemmas.{stays, one_more}
+use Rattle.np_tables.proofs.MappingLemmas.{list_all-append}
+use Rattle.np_forms.proofs.OrderLemmas.{is_reorderable-false, not_reorderable_starter, not_reorderable_rising}
+use Rattle.np_forms.proofs.ComposeLemmas.{not_starter_from, joined-some, joined-free, compose_after-nil, compose_after-joined, compose_after-starter, compose_after-kept, compose-nil, compose-starter, compose-mark}
+use Rattle.np_tables.proofs.CompositeLemmas.{cases_Option, primary_parts, composite-some, composite-none}
+
+-- ---- tests along a list, by index
+
+list_all-at : (p : ℕ → Bool) (xs : List ℕ) (k : ℕ) → list_all p xs ≡ true → k < length xs → p (get_or xs k 0) ≡ true
+list_all-at p [] k h lt = absurd (omega arith)
+list_all-at p (x ∷ xs) zero h lt = (and_parts (p x) (list_all p xs) h).0
+list_all-at p (x ∷ xs) (suc k) h lt = list_all-at p xs k (and_parts (p x) (list_all p xs) h).1 (omega arith)
+
+-- the first that fails
+list_all-fails : (p : ℕ → Bool) (xs : List ℕ) → list_all p xs ≡ false → (k : ℕ) × (k < length xs) × (p (get_or xs k 0) ≡ false)
+list_all-fails p [] h = cc
+list_all-fails p (x ∷ xs) h =
+    elim (and_cases (p x) (list_all p xs) h) [
+      | inl here ↦ (zero, omega arith, here)
+      | inr later ↦ let found = list_all-fails p xs later in (suc found.0, omega (arith, found.1), found.2)
+    ]
+
+drop_past : (bs : List ℕ) (c : ℕ) (cs : List ℕ) → drop (suc (length bs)) (bs ++ c ∷ cs) ≡ cs
+drop_past [] c cs = refl
+drop_past (b ∷ bs) c cs = drop_past bs c cs
+
+-- the machine, begun at this stage, stops with ys
+record Halts (v : VersionData) (start : Stage) (ys : List ℕ) : Type 0 where
+  place : ℕ
+  reached : Reaches (ComposeStep v) start (record { text = ys; place = place })
+  ended : length ys ≤ place
+
+-- ---- a list with its last starter shown
+
+module _ (v : VersionData) (sound : IsSound v) where
+  abbrev ccc : ℕ → ℕ
+  ccc = class_of v
+
+  abbrev join : ℕ → ℕ → Option ℕ
+  join = composite v
+
+  abbrev are_marks : List ℕ → Bool
+  are_marks bs = list_all (λ b. not (is_starter ccc b)) bs
+
+  module _ (done : List ℕ) (s : ℕ) (bs : List ℕ) (c : ℕ) (cs : List ℕ) where
+    abbrev shown : List ℕ
+    shown = done ++ s ∷ (bs ++ c ∷ cs)
+
+    abbrev q : ℕ
+    q = length done
+
+    abbrev p : ℕ
+    p = length done + suc (length bs)
+
+    at_q : get_or shown q 0 ≡ s
+    at_q = get_or_at done s (bs ++ c ∷ cs) 0 (length done) refl
+
+    at_p : get_or shown p 0 ≡ c
+    at_p = get_or-append-add done (s ∷ (bs ++ c ∷ cs)) (suc (length bs)) 0 ∙ get_or_at bs c cs 0 (length bs) refl
+
+    at_between : (j : ℕ) → j < length bs → get_or shown (length done + suc j) 0 ≡ get_or bs j 0
+    at_between j lt = get_or-append-add done (s ∷ (bs ++ c ∷ cs)) (suc j) 0 ∙ get_or_append_left bs (c ∷ cs) 0 j lt
+
+    -- each place between is one of bs
+    between : (P : ℕ → Type 0) → ((j : ℕ) → j < length bs → P (get_or bs j 0)) → (k : ℕ) → q < k → k < p → P (get_or shown k 0)
+    between P each k low high =
+        let j = k - suc (length done) in
+        let same : length done + suc j ≡ k = omega arith in
+        subst (λ i. P (get_or shown i 0)) same (subst P (sym (at_between j (omega arith))) (each j (omega arith)))
+
+    p_within : p < length shown
+    p_within = omega (arith, length-append done (s ∷ (bs ++ c ∷ cs)), length-append bs (c ∷ cs))
+
+    module _ (starter : class_of v s ≤ 0) (marks : are_marks bs ≡ true) where
+      last_starter : IsLastStarter v shown p q
+      last_starter =
+          record {
+            below = omega arith;
+            starter = ap ccc at_q ∙ omega arith;
+            greatest = between (λ x. class_of v x ≢ 0) (λ j lt e. eqb-false (ccc (get_or bs j 0)) 0 (not-true _ (list_all-at (λ b. not (is_starter ccc b)) bs j marks lt)) e);
+          }
+
+      last_starter_is : (q' : ℕ) → IsLastStarter v shown p q' → q' ≡ q
+      last_starter_is q' h =
+          elim (cases_order q' q) [
+            | inl same ↦ same
+            | inr other ↦ elim other [ inl below ↦ absurd (h.greatest q below last_starter.below last_starter.starter) | inr above ↦ absurd (last_starter.greatest q' above h.below h.starter) ]
+          ]
+
+      blocks_at : (b : ℕ) → is_reorderable ccc c b ≡ false → (class_of v b ≡ 0) ⊎ (class_of v c ≤ class_of v b)
+      blocks_at b h = elim (is_reorderable-false ccc c b h) [ inl low ↦ inl (omega arith) | inr high ↦ inr high ]
+
+      blocks_from : (b : ℕ) → (class_of v b ≡ 0) ⊎ (class_of v c ≤ class_of v b) → is_reorderable ccc c b ≡ false
+      blocks_from b h = elim h [ inl zero_class ↦ not_reorderable_starter ccc c b (omega arith) | inr high ↦ not_reorderable_rising ccc c b high ]
+
+      blocked : is_free ccc bs c ≡ false → IsBlocked v shown q p
+      blocked h =
+          let found = list_all-fails (is_reorderable ccc c) bs h in
+          let here = at_between found.0 found.1 in
+          record {
+            at = length done + suc found.0;
+            behind = omega arith;
+            before = omega (arith, found.1);
+            blocks = subst (λ x. (class_of v x ≡ 0) ⊎ (class_of v (get_or shown p 0) ≤ class_of v x)) (sym here)
+                (subst (λ y. (class_of v (get_or bs found.0 0) ≡ 0) ⊎ (class_of v y ≤ class_of v (get_or bs found.0 0))) (sym at_p) (blocks_at (get_or bs found.0 0) found.2));
+          }
+
+      free : is_free ccc bs c ≡ true → ¬ IsBlocked v shown q p
+      free h b =
+          between (λ x. ((class_of v x ≡ 0) ⊎ (class_of v (get_or shown p 0) ≤ class_of v x)) → ⊥)
+          (λ j lt w. both_ways _
+          (blocks_from (get_or bs j 0) (subst (λ y. (class_of v (get_or bs j 0) ≡ 0) ⊎ (class_of v y ≤ class_of v (get_or bs j 0))) at_p w))
+          (list_all-at (is_reorderable ccc c) bs j h lt))
+          b.at b.behind b.before b.blocks
+
+      joins_in : (k : ℕ) → joined ccc join s bs c ≡ Some k → Joins v shown p q k
+      joins_in k h =
+          let halves = joined-some ccc join s bs c k h in
+          let is = composite-some v s c k halves.1 in
+          record {
+            seek = last_starter;
+            free = free halves.0;
+            pair = record { primary = is.primary; mapping = is.mapping ∙ ap₂ (λ x y. x ∷ y ∷ []) (sym at_q) (sym at_p) };
+          }
+
+      joins_out : joined ccc join s bs c ≡ None → (q' k : ℕ) → ¬ Joins v shown p q' k
+      joins_out h q' k j =
+          let same = last_starter_is q' j.seek in
+          elim (cases_Bool (is_free ccc bs c)) [
+            | inl is ↦
+                composite-none v sound s c k (sym (joined-free ccc join s bs c is) ∙ h)
+                (record { primary = j.pair.primary; mapping = j.pair.mapping ∙ ap₂ (λ x y. x ∷ y ∷ []) (ap (λ i. get_or shown i 0) same ∙ at_q) at_p })
+            | inr isnt ↦ j.free (subst (λ i. IsBlocked v shown i p) (sym same) (blocked isnt))
+          ]
+
+      after_join : (k : ℕ) → remove (set shown q k) p ≡ done ++ k ∷ (bs ++ cs)
+      after_join k =
+          ap (λ l. remove l p) (set_at done s (bs ++ c ∷ cs) k (length done) refl)
+          ∙ remove-append_right done (k ∷ (bs ++ c ∷ cs)) (length done) p refl (omega arith)
+          ∙ ap (λ l. done ++ l) (ap (remove (k ∷ (bs ++ c ∷ cs))) (let e : p - length done ≡ suc (length bs) = omega arith in e)
+          ∙ ap (λ l. k ∷ l) (ap₂ (λ l m. l ++ m) (take_at bs (c ∷ cs) (length bs) refl) (drop_past bs c cs)))
+
+      step_in : (k : ℕ) → joined ccc join s bs c ≡ Some k → ComposeStep v (record { text = shown; place = p }) (record { text = done ++ k ∷ (bs ++ cs); place = p })
+      step_in k h = (p_within, inl (record { q = q; c = k; joins = joins_in k h; text = sym (after_join k); place = refl }))
+
+      step_on : joined ccc join s bs c ≡ None → ComposeStep v (record { text = shown; place = p }) (record { text = shown; place = p + 1 })
+      step_on h = (p_within, inr (record { none = joins_out h; text = refl; place = refl }))
+
+  stage : List ℕ → ℕ → Stage
+  stage xs n = record { text = xs; place = n }
+
+  halts_after_step : (a b : Stage) (ys : List ℕ) → ComposeStep v a b → Halts v b ys → Halts v a ys
+  halts_after_step a b ys s h = record { place = h.place; reached = one_more (ComposeStep v) a b _ s h.reached; ended = h.ended }
+
+  abbrev at_stage : List ℕ → ℕ → List ℕ → Type 0
+  at_stage xs n ys = Halts v (record { text = xs; place = n }) ys
+
+  -- from a last starter on
+  run_after : (done : List ℕ) (s : ℕ) (bs cs : List ℕ) → class_of v s ≤ 0 → are_marks bs ≡ true → at_stage (done ++ s ∷ (bs ++ cs)) (length done + suc (length bs)) (done ++ compose_after ccc join s bs cs)
+  run_after done s bs [] starter marks =
+      let same : done ++ s ∷ (bs ++ []) ≡ done ++ compose_after ccc join s bs [] =
+      ap (λ l. done ++ s ∷ l) (append-nil bs) ∙ ap (λ l. done ++ l) (sym (compose_after-nil ccc join s bs)) in
+      let size : length (done ++ s ∷ (bs ++ [])) ≤ length done + suc (length bs) = omega (arith, length-append done (s ∷ (bs ++ [])), length-append bs []) in
+      subst (λ l. at_stage (done ++ s ∷ (bs ++ [])) (length done + suc (length bs)) l) same
+      (record { place = length done + suc (length bs); reached = stays (ComposeStep v) _; ended = size })
+  run_after done s bs (c ∷ cs) starter marks =
+      let here = done ++ s ∷ (bs ++ c ∷ cs) in
+      let place = length done + suc (length bs) in
+      elim (cases_Option (joined ccc join s bs c)) [
+        | inl none ↦
+            elim (cases_lt 0 (class_of v c)) [
+              | inl mark ↦
+                  subst (λ l. at_stage here place (done ++ l)) (sym (compose_after-kept ccc join s bs c cs none mark))
+                  (halts_after_step _ _ _ (step_on done s bs c cs starter marks none)
+                  (subst (λ l. at_stage (done ++ s ∷ l) (place + 1) (done ++ compose_after ccc join s (bs ++ c ∷ []) cs)) (append_assoc bs (c ∷ []) cs)
+                  (let size : length done + suc (length (bs ++ c ∷ [])) ≡ place + 1 = omega (arith, length-append bs (c ∷ [])) in
+                  subst (λ n. at_stage (done ++ s ∷ ((bs ++ c ∷ []) ++ cs)) n (done ++ compose_after ccc join s (bs ++ c ∷ []) cs)) size
+                  (run_after done s (bs ++ c ∷ []) cs starter
+                  (list_all-append (λ b. not (is_starter ccc b)) bs (c ∷ []) marks (and_from _ _ (not_from_false _ (not_starter_from ccc c mark)) refl))))))
+              | inr starts ↦
+                  subst (λ l. at_stage here place (done ++ l)) (sym (compose_after-starter ccc join s bs c cs none starts))
+                  (halts_after_step _ _ _ (step_on done s bs c cs starter marks none)
+                  (subst (λ l. at_stage l (place + 1) (done ++ s ∷ (bs ++ compose_after ccc join c [] cs))) (append_assoc done (s ∷ bs) (c ∷ cs))
+                  (subst (λ l. at_stage ((done ++ s ∷ bs) ++ c ∷ cs) (place + 1) l) (append_assoc done (s ∷ bs) (compose_after ccc join c [] cs))
+                  (let size : length (done ++ s ∷ bs) + 1 ≡ place + 1 = omega (arith, length-append done (s ∷ bs)) in
+                  subst (λ n. at_stage ((done ++ s ∷ bs) ++ c ∷ cs) n ((done ++ s ∷ bs) ++ compose_after ccc join c [] cs)) size
+                  (run_after (done ++ s ∷ bs) c [] cs starts refl)))))
+            ]
+        | inr some ↦
+            let is = composite-some v s c some.0 (joined-some ccc join s bs c some.0 some.1).1 in
+            subst (λ l. at_stage here place (done ++ l)) (sym (compose_after-joined ccc join s bs c some.0 cs some.1))
+            (halts_after_step _ _ _ (step_in done s bs c cs starter marks some.0 some.1)
+            (run_after done some.0 bs cs (let e = (primary_parts v some.0 is.primary).starter in omega arith) marks))
+      ]
+
+  -- no starter yet
+  no_starter : (ms cs : List ℕ) → are_marks ms ≡ true → (q k : ℕ) → ¬ Joins v (ms ++ cs) (length ms) q k
+  no_starter ms cs marks q k j =
+      eqb-false (ccc (get_or ms q 0)) 0 (not-true _ (list_all-at (λ b. not (is_starter ccc b)) ms q marks j.seek.below))
+      (sym (ap ccc (get_or_append_left ms cs 0 q j.seek.below)) ∙ j.seek.starter)
+
+  run_before : (ms cs : List ℕ) → are_marks ms ≡ true → at_stage (ms ++ cs) (length ms) (ms ++ compose ccc join cs)
+  run_before ms [] marks =
+      let same : ms ++ [] ≡ ms ++ compose ccc join [] = ap (λ l. ms ++ l) (sym (compose-nil ccc join)) in
+      subst (λ l. at_stage (ms ++ []) (length ms) l) same
+      (record { place = length ms; reached = stays (ComposeStep v) _; ended = omega (arith, length-append ms []) })
+  run_before ms (c ∷ cs) marks =
+      let step : ComposeStep v (record { text = ms ++ c ∷ cs; place = length ms }) (record { text = ms ++ c ∷ cs; place = length ms + 1 }) =
+      (omega (arith, length-append ms (c ∷ cs)), inr (record { none = no_starter ms (c ∷ cs) marks; text = refl; place = refl })) in
+      elim (cases_lt 0 (class_of v c)) [
+        | inl mark ↦
+            subst (λ l. at_stage (ms ++ c ∷ cs) (length ms) (ms ++ l)) (sym (compose-mark ccc join c cs mark))
+            (halts_after_step _ _ _ step
+            (subst (λ l. at_stage l (length ms + 1) (ms ++ c ∷ compose ccc join cs)) (append_assoc ms (c ∷ []) cs)
+            (subst (λ l. at_stage ((ms ++ c ∷ []) ++ cs) (length ms + 1) l) (append_assoc ms (c ∷ []) (compose ccc join cs))
+            (let size : length (ms ++ c ∷ []) ≡ length ms + 1 = omega (arith, length-append ms (c ∷ [])) in
+            subst (λ n. at_stage ((ms ++ c ∷ []) ++ cs) n ((ms ++ c ∷ []) ++ compose ccc join cs)) size
+            (run_before (ms ++ c ∷ []) cs (list_all-append (λ b. not (is_starter ccc b)) ms (c ∷ []) marks (and_from _ _ (not_from_false _ (not_starter_from ccc c mark)) refl)))))))
+        | inr starts ↦
+            subst (λ l. at_stage (ms ++ c ∷ cs) (length ms) (ms ++ l)) (sym (compose-starter ccc join c cs starts))
+            (halts_after_step _ _ _ step (run_after ms c [] cs starts refl))
+      ]
+
+  run_from_one : (xs : List ℕ) → at_stage xs 1 (compose ccc join xs)
+  run_from_one [] =
+      subst (λ l. at_stage [] 1 l) (sym (compose-nil ccc join)) (record { place = 1; reached = stays (ComposeStep v) _; ended = omega arith })
+  run_from_one (x ∷ xs) =
+      elim (cases_lt 0 (class_of v x)) [
+        | inl mark ↦
+            subst (λ l. at_stage (x ∷ xs) 1 l) (sym (compose-mark ccc join x xs mark))
+            (run_before (x ∷ []) xs (and_from _ _ (not_from_false _ (not_starter_from ccc x mark)) refl))
+        | inr starts ↦
+            subst (λ l. at_stage (x ∷ xs) 1 l) (sym (compose-starter ccc join x xs starts)) (run_after [] x [] xs starts refl)
+      ]
+
+  pub IsComposed-compose_of : (xs : List ℕ) → IsComposed v xs (compose_of v xs)
+  unfolding compose_of
+  IsComposed-compose_of xs = let h = run_from_one xs in record { place = h.place; reached = h.reached; ended = h.ended }
+
+  -- ---- no other list
+
+  one_starter : (xs : List ℕ) (n q r : ℕ) → IsLastStarter v xs n q → IsLastStarter v xs n r → q ≡ r
+  one_starter xs n q r h k =
+      elim (cases_order q r) [
+        | inl same ↦ same
+        | inr other ↦ elim other [ inl below ↦ absurd (h.greatest r below k.below k.starter) | inr above ↦ absurd (k.greatest q above h.below h.starter) ]
+      ]
+
+  one_composite : (xs : List ℕ) (n q r c d : ℕ) → Joins v xs n q c → Joins v xs n r d → q ≡ r → c ≡ d
+  one_composite xs n q r c d j k e =
+      sound.unlike (get_or xs q 0) (get_or xs n 0) c d j.pair
+      (record { primary = k.pair.primary; mapping = k.pair.mapping ∙ ap (λ i. get_or xs i 0 ∷ get_or xs n 0 ∷ []) (sym e) })
+
+  same_stage : (a b : Stage) → a.text ≡ b.text → a.place ≡ b.place → a ≡ b
+  same_stage a b e f = λ i. record { text = e i; place = f i }
+
+  one_result : (a b c : Stage) → ComposeStep v a b → ComposeStep v a c → b ≡ c
+  one_result a b c s t =
+      elim s.1 [
+        | inl into ↦
+            elim t.1 [
+              | inl too ↦
+                  let e = one_starter a.text a.place into.q too.q into.joins.seek too.joins.seek in
+                  let f = one_composite a.text a.place into.q too.q into.c too.c into.joins too.joins e in
+                  same_stage b c (into.text ∙ ap₂ (λ x y. remove (set a.text x y) a.place) e f ∙ sym too.text) (into.place ∙ sym too.place)
+              | inr on ↦ absurd (on.none into.q into.c into.joins)
+            ]
+        | inr on ↦
+            elim t.1 [
+              | inl into ↦ absurd (on.none into.q into.c into.joins)
+              | inr too ↦ same_stage b c (on.text ∙ sym too.text) (on.place ∙ sym too.place)
+            ]
+      ]
+
+  one_end : (n m : ℕ) (a b c : Stage) → ReachesIn (ComposeStep v) n a b → length b.text ≤ b.place → ReachesIn (ComposeStep v) m a c → length c.text ≤ c.place → b ≡ c
+  one_end zero zero a b c r ended s stopped = sym r ∙ s
+  one_end zero (suc m) a b c r ended s stopped =
+      let step = subst (λ x. x.place < length x.text) r s.1.0 in absurd (omega arith)
+  one_end (suc n) zero a b c r ended s stopped =
+      let step = subst (λ x. x.place < length x.text) s r.1.0 in absurd (omega arith)
+  one_end (suc n) (suc m) a b c r ended s stopped =
+      let same = one_result a s.0 r.0 s.1 r.1 in
+      one_end n m r.0 b c r.2 ended (subst (λ x. ReachesIn (ComposeStep v) m x c) same s.2) stopped
+
+  pub composed-compose_of : (xs ys : List ℕ) → IsComposed v xs ys → ys ≡ compose_of v xs
+  composed-compose_of xs ys h =
+      let k = IsComposed-compose_of xs in
+      ap (λ x. x.text) (one_end h.reached.0 k.reached.0 (record { text = xs; place = 1 }) (record { text = ys; place = h.place }) (record { text = compose_of v xs; place = k.place }) h.reached.1 h.ended k.reached.1 k.ended)

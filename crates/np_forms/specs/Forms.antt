@@ -1,0 +1,32 @@
+-- The normalization forms, and equivalence.
+use Rattle.std.specs.Prelude.{◌≡◌, ℕ, Bool, true, false, List}
+use Rattle.np_code_points.specs.Forms.{is_compat, composes}
+use Rattle.np_code_points.specs.declared.forms.Form.{Form}
+use Rattle.np_forms.specs.Composition.{IsComposed}
+use Rattle.np_tables.specs.Mappings.{IsFullDecomposition}
+use Rattle.np_forms.specs.Order.{IsOrderedForm}
+use Rattle.np_tables.specs.Versions.{VersionData, class_of}
+use Rattle.np_code_points.specs.declared.forms.Form.{Form}
+use Rattle.np_code_points.specs.declared.forms.Form.TheVariants.{Nfd, Nfc, Nfkd, Nfkc}
+
+-- the ordered full decomposition
+pub record IsDecomposed (v : VersionData) (compat : Bool) (xs ys : List ℕ) : Type 0 where
+  pub full : List ℕ
+  pub decomposes : IsFullDecomposition v compat xs full
+  pub orders : IsOrderedForm (class_of v) full ys
+
+abbrev pub EndsAs : VersionData → Bool → List ℕ → List ℕ → Type 0
+EndsAs v true xs ys = IsComposed v xs ys
+EndsAs v false xs ys = ys ≡ xs
+
+-- full decomposition, then its ordered form, and for NFC and NFKC composition of that
+pub record IsNormalForm (v : VersionData) (form : Form) (xs ys : List ℕ) : Type 0 where
+  pub decomposed : List ℕ
+  pub first : IsDecomposed v (is_compat form) xs decomposed
+  pub last : EndsAs v (composes form) decomposed ys
+
+-- the ordered full decompositions are one list
+pub record IsEquivalent (v : VersionData) (compat : Bool) (xs ys : List ℕ) : Type 0 where
+  pub decomposed : List ℕ
+  pub left : IsDecomposed v compat xs decomposed
+  pub right : IsDecomposed v compat ys decomposed

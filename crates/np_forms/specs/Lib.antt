@@ -1,0 +1,9 @@
+pub mod Assigned
+pub mod Composers
+pub mod Composing
+pub mod Composition
+pub mod Forms
+pub mod Laws
+pub mod NormalForms
+pub mod Order
+pub mod Streams

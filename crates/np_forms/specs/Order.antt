@@ -1,0 +1,37 @@
+-- Canonical ordering (chapter 3, reorderable pairs).
+use Rattle.std.specs.Prelude.{◌≡◌, ℕ, Bool, true, not, ◌&&◌, nat_lt, List, [], ◌∷◌, ◌++◌, if◌then◌else◌}
+use Rattle.np_code_points.specs.Steps.{Reaches}
+
+-- A before B is a reorderable pair
+unfoldable pub is_reorderable : (ℕ → ℕ) → ℕ → ℕ → Bool
+is_reorderable ccc a b = nat_lt 0 (ccc b) && nat_lt (ccc b) (ccc a)
+
+-- two adjacent code points that are a reorderable pair change places
+pub record Exchanges (ccc : ℕ → ℕ) (xs ys : List ℕ) : Type 0 where
+  pub before : List ℕ
+  pub a : ℕ
+  pub b : ℕ
+  pub after : List ℕ
+  pub pair : is_reorderable ccc a b ≡ true
+  pub old : xs ≡ before ++ a ∷ b ∷ after
+  pub new : ys ≡ before ++ b ∷ a ∷ after
+
+-- no two neighbors are a reorderable pair
+unfoldable pub is_ordered : (ℕ → ℕ) → List ℕ → Bool
+is_ordered ccc [] = true
+is_ordered ccc (a ∷ []) = true
+is_ordered ccc (a ∷ b ∷ cs) = not (is_reorderable ccc a b) && is_ordered ccc (b ∷ cs)
+
+pub record IsOrderedForm (ccc : ℕ → ℕ) (xs ys : List ℕ) : Type 0 where
+  pub reached : Reaches (Exchanges ccc) xs ys
+  pub ordered : is_ordered ccc ys ≡ true
+
+-- c, put before ds, slides over each code point with which it is a reorderable pair, up to the first with which it is none
+unfoldable pub slide : (ℕ → ℕ) → ℕ → List ℕ → List ℕ
+slide ccc c [] = c ∷ []
+slide ccc c (d ∷ ds) = if is_reorderable ccc c d then d ∷ slide ccc c ds else c ∷ d ∷ ds
+
+-- a way to the one ordered form: from the last code point to the first, each slides into what follows it
+unfoldable pub canonical_order : (ℕ → ℕ) → List ℕ → List ℕ
+canonical_order ccc [] = []
+canonical_order ccc (c ∷ cs) = slide ccc c (canonical_order ccc cs)

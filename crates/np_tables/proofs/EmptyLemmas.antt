@@ -1,0 +1,39 @@
+-- The version of empty files meets the conditions, so the laws are not vacuous.
+use Rattle.std.proofs.Common.{◌≡◌, ℕ, true, false, [], length, refl, ap, arith, inl, inr}
+use Rattle.std.proofs.lemmas.Bool.{cases_Bool, both_ways}
+use Rattle.std.specs.List.{list_all}
+use Rattle.np_tables.specs.Versions.{VersionData, entry_at, is_assigned, is_empty, mapping_of}
+use Rattle.np_tables.specs.Mappings.{has_depth}
+use Rattle.np_tables.specs.Conditions.{IsSound}
+use Rattle.np_tables.proofs.MappingLemmas.{is_empty-true, full_of-final, parts-cases}
+use Rattle.np_tables.proofs.CompositeLemmas.{mapped-assigned, composite-assigned}
+
+abbrev empty : VersionData
+empty = record { entries = []; exclusions = [] }
+
+lacks : (c : ℕ) → is_assigned empty c ≡ false
+unfolding is_assigned entry_at
+lacks c = refl
+
+no_mapping : (c : ℕ) → mapping_of empty c ≡ []
+no_mapping c =
+    is_empty-true (mapping_of empty c)
+    (elim (cases_Bool (is_empty (mapping_of empty c))) [ inl none ↦ none | inr some ↦ absurd (both_ways _ (lacks c) (mapped-assigned empty c some)) ])
+
+shallow : (c : ℕ) → has_depth empty 32 c ≡ true
+unfolding has_depth
+shallow c = ap (list_all (has_depth empty 31)) (no_mapping c)
+
+pub IsSound-empty : IsSound empty
+IsSound-empty =
+    record {
+      rows = tt;
+      bounded = λ c h. absurd (both_ways _ (lacks c) h);
+      maps_to_assigned = λ c. ap (list_all (is_assigned empty)) (no_mapping c);
+      shallow = shallow;
+      short = λ c.
+          let final = parts-cases empty true (λ l. is_empty l ≡ true) refl c (ap is_empty (no_mapping c)) in
+          let e = ap length (full_of-final empty true shallow c final) in omega arith;
+      unlike = λ a b c d h k. absurd (both_ways _ (lacks c) (composite-assigned empty a b c h));
+      hangul = λ c among h. absurd (both_ways _ (lacks c) h);
+    }

@@ -1,0 +1,3 @@
+pub mod CompositeLemmas
+pub mod EmptyLemmas
+pub mod MappingLemmas

@@ -1,0 +1,186 @@
+-- Full decomposition: there is one, and only one.
+use Rattle.std.proofs.Common.{◌≡◌, ◌≢◌, ℕ, zero, suc, Bool, true, false, List, [], ◌∷◌, ◌++◌, flat_map, refl, sym, ap, subst, ◌∙◌, inl, inr, append_assoc, append-nil}
+use Rattle.std.proofs.lemmas.Bool.{cond-true, cond-false, cases_Bool, and_parts, and_from}
+use Rattle.std.proofs.lemmas.Grind.{flat_map-append}
+use Rattle.std.specs.List.{list_all}
+use Rattle.np_code_points.specs.Steps.{Reaches}
+use Rattle.np_tables.specs.Versions.{VersionData, is_empty, kind_of, mapping_of}
+use Rattle.np_tables.specs.Mappings.{counts, parts, Rewrites, is_final, IsFullDecomposition, has_depth, full, full_of}
+use Rattle.np_code_points.proofs.StepsLemmas.{stays_at, one_more, join, keeps, along}
+
+pub list_all-append : (p : ℕ → Bool) (xs ys : List ℕ) → list_all p xs ≡ true → list_all p ys ≡ true → list_all p (xs ++ ys) ≡ true
+list_all-append p [] ys front back = back
+list_all-append p (x ∷ xs) ys front back =
+    let halves = and_parts (p x) (list_all p xs) front in and_from _ _ halves.0 (list_all-append p xs ys halves.1 back)
+
+pub is_empty-true : (xs : List ℕ) → is_empty xs ≡ true → xs ≡ []
+is_empty-true [] h = refl
+is_empty-true (x ∷ xs) h = cc
+
+pub is_empty-false : (xs : List ℕ) → is_empty xs ≡ false → xs ≢ []
+is_empty-false [] h e = cc
+is_empty-false (x ∷ xs) h e = cc
+
+pub is_empty_from : (xs : List ℕ) → xs ≢ [] → is_empty xs ≡ false
+is_empty_from [] h = absurd (h refl)
+is_empty_from (x ∷ xs) h = refl
+
+module _ (v : VersionData) (compat : Bool) where
+  -- what counts is the mapping
+  pub parts-cases : (P : List ℕ → Type 0) → P [] → (c : ℕ) → P (mapping_of v c) → P (parts v compat c)
+  unfolding parts
+  parts-cases P none c some =
+      elim (cases_Bool (counts compat (kind_of v c))) [
+        | inl on ↦ subst P (sym (cond-true _ _ _ on)) some
+        | inr off ↦ subst P (sym (cond-false _ _ _ off)) none
+      ]
+
+  full-final : (n c : ℕ) → is_final v compat c ≡ true → full v compat n c ≡ c ∷ []
+  unfolding full
+  full-final zero c h = refl
+  full-final (suc n) c h = cond-true _ _ _ h
+
+  full-mapped : (n c : ℕ) → is_final v compat c ≡ false → full v compat (suc n) c ≡ flat_map (full v compat n) (parts v compat c)
+  unfolding full
+  full-mapped n c h = cond-false _ _ _ h
+
+  flat_map-same : (f g : ℕ → List ℕ) (p : ℕ → Bool) → ((c : ℕ) → p c ≡ true → f c ≡ g c) → (xs : List ℕ) → list_all p xs ≡ true → flat_map f xs ≡ flat_map g xs
+  flat_map-same f g p same [] all = refl
+  flat_map-same f g p same (x ∷ xs) all =
+      let halves = and_parts (p x) (list_all p xs) all in
+      ap (λ l. l ++ flat_map f xs) (same x halves.0) ∙ ap (λ l. g x ++ l) (flat_map-same f g p same xs halves.1)
+
+  shallow_final : (c : ℕ) → has_depth v zero c ≡ true → is_final v compat c ≡ true
+  unfolding has_depth
+  shallow_final c h = parts-cases (λ l. is_empty l ≡ true) refl c h
+
+  depth_parts : (n c : ℕ) → has_depth v (suc n) c ≡ true → list_all (has_depth v n) (parts v compat c) ≡ true
+  unfolding has_depth
+  depth_parts n c h = parts-cases (λ l. list_all (has_depth v n) l ≡ true) refl c h
+
+  -- more fuel than the depth changes nothing
+  full-more : (n c : ℕ) → has_depth v n c ≡ true → full v compat (suc n) c ≡ full v compat n c
+  full-more zero c h = let final = shallow_final c h in full-final 1 c final ∙ sym (full-final zero c final)
+  full-more (suc n) c h =
+      elim (cases_Bool (is_final v compat c)) [
+        | inl final ↦ full-final _ c final ∙ sym (full-final (suc n) c final)
+        | inr mapped ↦
+            full-mapped (suc n) c mapped
+            ∙ flat_map-same (full v compat (suc n)) (full v compat n) (has_depth v n) (full-more n) (parts v compat c) (depth_parts n c h)
+            ∙ sym (full-mapped n c mapped)
+      ]
+
+  final-flat_map : (f : ℕ → List ℕ) (p q : ℕ → Bool) → ((c : ℕ) → p c ≡ true → list_all q (f c) ≡ true) → (xs : List ℕ) → list_all p xs ≡ true → list_all q (flat_map f xs) ≡ true
+  final-flat_map f p q each [] all = refl
+  final-flat_map f p q each (x ∷ xs) all =
+      let halves = and_parts (p x) (list_all p xs) all in
+      list_all-append q (f x) (flat_map f xs) (each x halves.0) (final-flat_map f p q each xs halves.1)
+
+  final-full : (n c : ℕ) → has_depth v n c ≡ true → list_all (is_final v compat) (full v compat n c) ≡ true
+  final-full zero c h =
+      let final = shallow_final c h in ap (list_all (is_final v compat)) (full-final zero c final) ∙ and_from _ _ final refl
+  final-full (suc n) c h =
+      elim (cases_Bool (is_final v compat c)) [
+        | inl final ↦ ap (list_all (is_final v compat)) (full-final (suc n) c final) ∙ and_from _ _ final refl
+        | inr mapped ↦
+            ap (list_all (is_final v compat)) (full-mapped n c mapped)
+            ∙ final-flat_map (full v compat n) (has_depth v n) (is_final v compat) (final-full n) (parts v compat c) (depth_parts n c h)
+      ]
+
+  -- ---- steps of rewriting lead there
+
+  rewrite_front : (zs xs ys : List ℕ) → Rewrites v compat xs ys → Rewrites v compat (zs ++ xs) (zs ++ ys)
+  rewrite_front zs xs ys r =
+      record {
+        before = zs ++ r.before;
+        code = r.code;
+        after = r.after;
+        maps = r.maps;
+        old = ap (λ l. zs ++ l) r.old ∙ sym (append_assoc zs _ _);
+        new = ap (λ l. zs ++ l) r.new ∙ sym (append_assoc zs _ _);
+      }
+
+  rewrite_back : (zs xs ys : List ℕ) → Rewrites v compat xs ys → Rewrites v compat (xs ++ zs) (ys ++ zs)
+  rewrite_back zs xs ys r =
+      record {
+        before = r.before;
+        code = r.code;
+        after = r.after ++ zs;
+        maps = r.maps;
+        old = ap (λ l. l ++ zs) r.old ∙ append_assoc r.before _ zs;
+        new = ap (λ l. l ++ zs) r.new ∙ append_assoc r.before _ zs ∙ ap (λ l. r.before ++ l) (append_assoc (parts v compat r.code) r.after zs);
+      }
+
+  abbrev Leads : List ℕ → List ℕ → Type 0
+  Leads = Reaches (Rewrites v compat)
+
+  leads_flat_map : (f : ℕ → List ℕ) (p : ℕ → Bool) → ((c : ℕ) → p c ≡ true → Leads (c ∷ []) (f c)) → (xs : List ℕ) → list_all p xs ≡ true → Leads xs (flat_map f xs)
+  leads_flat_map f p each [] all = stays_at (Rewrites v compat) [] [] refl
+  leads_flat_map f p each (x ∷ xs) all =
+      let halves = and_parts (p x) (list_all p xs) all in
+      join (Rewrites v compat) (x ∷ xs) (f x ++ xs) (f x ++ flat_map f xs)
+      (along (Rewrites v compat) (λ l. l ++ xs) (rewrite_back xs) (x ∷ []) (f x) (each x halves.0))
+      (along (Rewrites v compat) (λ l. f x ++ l) (rewrite_front (f x)) xs (flat_map f xs) (leads_flat_map f p each xs halves.1))
+
+  leads_full : (n c : ℕ) → has_depth v n c ≡ true → Leads (c ∷ []) (full v compat n c)
+  leads_full zero c h = stays_at (Rewrites v compat) _ _ (sym (full-final zero c (shallow_final c h)))
+  leads_full (suc n) c h =
+      elim (cases_Bool (is_final v compat c)) [
+        | inl final ↦ stays_at (Rewrites v compat) _ _ (sym (full-final (suc n) c final))
+        | inr mapped ↦
+            subst (λ l. Leads (c ∷ []) l) (sym (full-mapped n c mapped))
+            (one_more (Rewrites v compat) (c ∷ []) (parts v compat c) _
+            (record { before = []; code = c; after = []; maps = is_empty-false _ mapped; old = refl; new = sym (append-nil _) })
+            (leads_flat_map (full v compat n) (has_depth v n) (leads_full n) (parts v compat c) (depth_parts n c h)))
+      ]
+
+  -- ---- where no code point is too deep
+
+  module _ (shallow : (c : ℕ) → has_depth v 32 c ≡ true) where
+    pub full_of-final : (c : ℕ) → is_final v compat c ≡ true → full_of v compat c ≡ c ∷ []
+    unfolding full_of
+    full_of-final c h = full-final 32 c h
+
+    pub full_of-mapped : (c : ℕ) → is_final v compat c ≡ false → full_of v compat c ≡ flat_map (full_of v compat) (parts v compat c)
+    unfolding full_of
+    full_of-mapped c h = sym (full-more 32 c (shallow c)) ∙ full-mapped 32 c h
+
+    pub final-full_of : (c : ℕ) → list_all (is_final v compat) (full_of v compat c) ≡ true
+    unfolding full_of
+    final-full_of c = final-full 32 c (shallow c)
+
+    leads_full_of : (c : ℕ) → Leads (c ∷ []) (full_of v compat c)
+    unfolding full_of
+    leads_full_of c = leads_full 32 c (shallow c)
+
+    all_any : (xs : List ℕ) → list_all (λ _. true) xs ≡ true
+    all_any [] = refl
+    all_any (x ∷ xs) = all_any xs
+
+    pub final-decomposed : (xs : List ℕ) → list_all (is_final v compat) (flat_map (full_of v compat) xs) ≡ true
+    final-decomposed xs = final-flat_map (full_of v compat) (λ _. true) (is_final v compat) (λ c _. final-full_of c) xs (all_any xs)
+
+    pub IsFullDecomposition-flat_map : (xs : List ℕ) → IsFullDecomposition v compat xs (flat_map (full_of v compat) xs)
+    IsFullDecomposition-flat_map xs =
+        record {
+          reached = leads_flat_map (full_of v compat) (λ _. true) (λ c _. leads_full_of c) xs (all_any xs);
+          final = final-decomposed xs;
+        }
+
+    rewrite_keeps : (xs ys : List ℕ) → Rewrites v compat xs ys → flat_map (full_of v compat) xs ≡ flat_map (full_of v compat) ys
+    rewrite_keeps xs ys r =
+        let f = full_of v compat in
+        ap (flat_map f) r.old ∙ flat_map-append f r.before (r.code ∷ r.after)
+        ∙ ap (λ l. flat_map f r.before ++ (l ++ flat_map f r.after)) (full_of-mapped r.code (is_empty_from _ r.maps))
+        ∙ ap (λ l. flat_map f r.before ++ l) (sym (flat_map-append f (parts v compat r.code) r.after))
+        ∙ sym (flat_map-append f r.before _) ∙ ap (flat_map f) (sym r.new)
+
+    pub flat_map-final : (xs : List ℕ) → list_all (is_final v compat) xs ≡ true → flat_map (full_of v compat) xs ≡ xs
+    flat_map-final [] h = refl
+    flat_map-final (x ∷ xs) h =
+        let halves = and_parts (is_final v compat x) (list_all (is_final v compat) xs) h in
+        ap (λ l. l ++ flat_map (full_of v compat) xs) (full_of-final x halves.0) ∙ ap (λ l. x ∷ l) (flat_map-final xs halves.1)
+
+    pub full_decomposition-flat_map : (xs ys : List ℕ) → IsFullDecomposition v compat xs ys → ys ≡ flat_map (full_of v compat) xs
+    full_decomposition-flat_map xs ys h =
+        sym (keeps (Rewrites v compat) (flat_map (full_of v compat)) rewrite_keeps xs ys h.reached ∙ flat_map-final ys h.final)

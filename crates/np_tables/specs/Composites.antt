@@ -1,0 +1,37 @@
+-- Primary composites (chapter 3).
+use Rattle.std.specs.Prelude.{◌≡◌, ℕ, zero, suc, Bool, true, false, not, ◌&&◌, ◌==◌, List, [], ◌∷◌, Option, Some, None}
+use Rattle.np_tables.specs.Versions.{VersionData, is_canonical, kind_of, mapping_of, class_of, is_excluded}
+
+-- exactly two code points, of which the first is a starter
+abbrev pub is_starter_pair : (ℕ → ℕ) → List ℕ → Bool
+is_starter_pair ccc [] = false
+is_starter_pair ccc (a ∷ []) = false
+is_starter_pair ccc (a ∷ b ∷ []) = ccc a == 0
+is_starter_pair ccc (a ∷ b ∷ c ∷ cs) = false
+
+-- a canonical mapping of exactly two code points, not excluded, class 0, and so has the mapping's first part
+unfoldable pub is_primary : VersionData → ℕ → Bool
+is_primary v c = (is_canonical (kind_of v c) && is_starter_pair (class_of v) (mapping_of v c)) && (not (is_excluded v c) && class_of v c == 0)
+
+-- a primary composite with exactly this pair as its mapping
+pub record IsCompositeOf (v : VersionData) (a b c : ℕ) : Type 0 where
+  pub primary : is_primary v c ≡ true
+  pub mapping : mapping_of v c ≡ a ∷ b ∷ []
+
+abbrev pub or_this : Option ℕ → Bool → ℕ → Option ℕ
+or_this (Some k) b n = Some k
+or_this None true n = Some n
+or_this None false n = None
+
+-- the least number below n that passes
+unfoldable pub least_below : (ℕ → Bool) → ℕ → Option ℕ
+least_below p zero = None
+least_below p (suc n) = or_this (least_below p n) (p n) n
+
+abbrev pub is_pair : ℕ → ℕ → List ℕ → Bool
+is_pair a b (x ∷ y ∷ []) = x == a && y == b
+is_pair a b _ = false
+
+-- the primary composite whose mapping is exactly a and then b
+unfoldable pub composite : VersionData → ℕ → ℕ → Option ℕ
+composite v a b = least_below (λ c. is_primary v c && is_pair a b (mapping_of v c)) 0x110000
