@@ -1,0 +1,8 @@
+use Rattle.std.proofs.Common.{ap}
+use Rattle.np_code_points.proofs.Bytes.{on_err, taken_more}
+use Rattle.np_code_points.proofs.input.read_whole.Goals as goal
+
+pub returns-in_err-read_piece-clause-taken : goal.returns-in_err-read_piece-clause-taken
+returns-in_err-read_piece-clause-taken g c =
+    on_err c.from_residual.result _
+    (taken_more _ _ _ _ c.loop-bytes.bytes.items 16777217 (ap g.R.Read.remaining c.clear.ensures.device) c.loop-bytes.invariant.taken c.in_err-read_piece.ensures.taken)

@@ -1,0 +1,62 @@
+//! Code points in hex digits, as UnicodeData.txt has them (UAX #44).
+ghost use Rattle.std.specs.Prelude.{◌≡◌, ◌<◌, ◌++◌, ◌↔◌, false, IsNone, IfSome, is_ok, string_bytes, if◌then◌else◌};
+ghost use Rattle.std.specs.Str.{IsAscii};
+ghost use Rattle.np_code_points.specs.Codes.{code_digits, code_value, hex_digit as upper_hex_digit, is_code};
+
+use crate::Memory;
+
+/// The code point that the bytes stand for: exactly four to six hex digits of either case, with a
+/// value of at most 10FFFF. `None` for all other bytes.
+pub fn code_of(bytes: &[u8]) -> Option<u32>
+    ensures value { result ≡ code_value bytes.now }
+    ensures none { IsNone result ↔ (is_code bytes.now ≡ false) }
+    ensures bound { IfSome result (λ code. code < 0x110000) }
+{
+    if bytes.len() < 4 || bytes.len() > 6 {
+        return None;
+    }
+    let mut code: u32 = 0;
+    for byte in bytes {
+        let digit = char::from(*byte).to_digit(16)?;
+        code = code * 16 + digit;
+    }
+    if code <= 0x10FFFF { Some(code) } else { None }
+}
+
+/// The upper-case hex digit of a number below 16.
+fn hex_digit(digit: u8) -> u8
+    requires { digit < 16 }
+    ensures { result ≡ upper_hex_digit digit }
+{
+    if digit < 10 {
+        b'0' + digit
+    } else {
+        b'A' - 10 + digit
+    }
+}
+
+/// Appends ASCII bytes.
+fn push_ascii(out: &mut String, bytes: &[u8]) -> Result<(), Memory>
+    requires { IsAscii bytes.now }
+    ensures { string_bytes out.new ≡ (if is_ok result then string_bytes out.old ++ bytes.now else string_bytes out.old) }
+{
+    let text = std::str::from_utf8(bytes).unwrap();
+    out.push_str(text)?;
+    Ok(())
+}
+
+/// Appends a code in upper-case hex digits: at least four, and no zero in front where there are
+/// more. After a `Memory` the text is as it was.
+pub fn write_code(out: &mut String, code: u32) -> Result<(), Memory>
+    ensures { string_bytes out.new ≡ (if is_ok result then string_bytes out.old ++ code_digits code else string_bytes out.old) }
+{
+    let mut digits = [b'0'; 8];
+    let mut at: usize = 8;
+    let mut left = code;
+    while left > 0 {
+        at -= 1;
+        digits[at] = hex_digit((left % 16) as u8);
+        left /= 16;
+    }
+    push_ascii(out, &digits[at.min(4)..])
+}

@@ -1,0 +1,211 @@
+//! Readers and writers for tests, each of which can fail at a call that is told beforehand.
+ghost use Rattle.std.specs.Prelude.{◌≡◌, Some, None, ℕ, List, [], IfOk};
+ghost use Rattle.np_code_points.specs.Devices.{bytes_left, bytes_taken};
+
+use crate::Memory;
+use std::alloc::Global;
+use std::io::{Error, ErrorKind, Read, Result as IoResult, Write};
+
+/// How a call fails.
+#[derive(Clone, Copy, Debug, PartialEq, Eq)]
+pub enum Failure {
+    /// By an error.
+    Error,
+    /// By an error that says that the call was interrupted.
+    Interrupted,
+    /// A write takes no byte. A read or a flush fails by an error.
+    TakesNothing,
+}
+
+impl Failure {
+    fn error(self) -> Error {
+        match self {
+            Failure::Interrupted => Error::from(ErrorKind::Interrupted),
+            Failure::Error | Failure::TakesNothing => Error::from(ErrorKind::Other),
+        }
+    }
+}
+
+/// The calls so far, and the one that fails.
+#[derive(Clone, Copy, Drop)]
+struct Calls {
+    made: u64,
+    fails: Option<(u64, Failure)>,
+}
+
+impl Calls {
+    fn new() -> Self {
+        Calls {
+            made: 0,
+            fails: None,
+        }
+    }
+
+    /// Counts a call, and answers how it fails.
+    fn next(&mut self) -> Option<Failure> {
+        let call = self.made;
+        self.made = call.saturating_add(1);
+        match self.fails {
+            Some((at, failure)) if at == call => Some(failure),
+            _ => None,
+        }
+    }
+}
+
+/// A reader of `bytes` that gives at most `piece` of them a call, and at least one.
+#[derive(Drop)]
+pub struct Trickle<'a> {
+    bytes: &'a [u8],
+    piece: usize,
+    calls: Calls,
+}
+
+impl<'a> Trickle<'a> {
+    /// A reader that does not fail.
+    pub fn new(bytes: &'a [u8], piece: usize) -> Self
+        ensures { bytes_left result ≡ bytes.now }
+    {
+        Trickle {
+            bytes,
+            piece,
+            calls: Calls::new(),
+        }
+    }
+
+    /// The reader, whose call of that number, from 0, fails.
+    pub fn failing_at(self, call: u64, failure: Failure) -> Self
+        ensures { bytes_left result ≡ bytes_left self.entry }
+    {
+        Trickle {
+            bytes: self.bytes,
+            piece: self.piece,
+            calls: Calls {
+                made: 0,
+                fails: Some((call, failure)),
+            },
+        }
+    }
+}
+
+impl Read for Trickle<'_> {
+    ghost remaining = { λ t. Some (bytes_left t) };
+
+    fn read(&mut self, buf: &mut [u8]) -> IoResult<usize> {
+        if let Some(failure) = self.calls.next() {
+            return Err(failure.error());
+        }
+        let room = buf.len().min(self.piece.max(1));
+        self.bytes.read(&mut buf[..room])
+    }
+}
+
+/// A reader that never ends: it fills each piece with the letter a.
+#[derive(Drop)]
+pub struct Endless {
+    calls: Calls,
+}
+
+impl Endless {
+    /// A reader that does not fail.
+    pub fn new() -> Self {
+        Endless {
+            calls: Calls::new(),
+        }
+    }
+
+    /// The reader, whose call of that number, from 0, fails.
+    pub fn failing_at(self, call: u64, failure: Failure) -> Self {
+        Endless {
+            calls: Calls {
+                made: self.calls.made,
+                fails: Some((call, failure)),
+            },
+        }
+    }
+}
+
+impl Read for Endless {
+    ghost remaining = { λ _. None };
+
+    fn read(&mut self, buf: &mut [u8]) -> IoResult<usize> {
+        if let Some(failure) = self.calls.next() {
+            return Err(failure.error());
+        }
+        buf.fill(b'a');
+        Ok(buf.len())
+    }
+}
+
+/// A writer into room that was reserved beforehand, which takes at most `piece` bytes a call.
+/// Where the room is full it takes none. Writes and flushes count as calls alike.
+#[derive(Drop)]
+pub struct Room {
+    bytes: Vec<u8>,
+    piece: usize,
+    calls: Calls,
+}
+
+impl Room {
+    /// A writer with that much room, which does not fail until it is full.
+    pub fn new(alloc: Global, room: usize, piece: usize) -> Result<Self, Memory>
+        ensures { IfOk result (λ r. bytes_taken r ≡ []) }
+    {
+        let bytes = Vec::with_capacity(alloc, room)?;
+        Ok(Room {
+            bytes,
+            piece,
+            calls: Calls::new(),
+        })
+    }
+
+    /// The writer, whose call of that number, from 0, fails.
+    pub fn failing_at(self, call: u64, failure: Failure) -> Self
+        ensures { bytes_taken result ≡ bytes_taken self }
+    {
+        let Room {
+            bytes,
+            piece,
+            calls,
+        } = self;
+        Room {
+            bytes,
+            piece,
+            calls: Calls {
+                made: calls.made,
+                fails: Some((call, failure)),
+            },
+        }
+    }
+
+    /// What was taken.
+    pub fn bytes(&self) -> &[u8]
+        ensures { result.now ≡ bytes_taken self.now }
+    {
+        self.bytes.as_slice()
+    }
+}
+
+impl Write for Room {
+    ghost contents = { λ r. Some (bytes_taken r) };
+
+    fn write(&mut self, buf: &[u8]) -> IoResult<usize> {
+        match self.calls.next() {
+            Some(Failure::TakesNothing) => return Ok(0),
+            Some(failure) => return Err(failure.error()),
+            None => {}
+        }
+        let left = self.bytes.capacity().saturating_sub(self.bytes.len());
+        let taken = buf.len().min(self.piece).min(left);
+        if self.bytes.extend_from_slice(&buf[..taken]).is_err() {
+            return Ok(0);
+        }
+        Ok(taken)
+    }
+
+    fn flush(&mut self) -> IoResult<()> {
+        match self.calls.next() {
+            Some(failure) => Err(failure.error()),
+            None => Ok(()),
+        }
+    }
+}
