@@ -1,7 +1,10 @@
 -- One version extends another; versions in a row.
-use Rattle.std.specs.Prelude.{◌≡◌, ℕ, true, List, [], ◌∷◌}
+use Rattle.std.specs.Prelude.{◌≡◌, ℕ, ◌-◌, ◌<◌, ◌≤◌, true, List, [], ◌∷◌, take, Some, slice_get}
 use Rattle.std.specs.List.{list_all}
+use Rattle.np_chain.specs.Breaks.{IsFirstBreak}
+use Rattle.np_chain.specs.declared.breaks.Break.{Break}
 use Rattle.np_tables.specs.Composites.{is_primary}
+use Rattle.np_tables.specs.Conditions.{IsSound}
 use Rattle.np_tables.specs.Versions.{VersionData, is_assigned, class_of, kind_of, mapping_of}
 
 -- what is assigned in a stands in b as it was
@@ -25,3 +28,29 @@ EachExtends v (w ∷ ws) = Extends v w × EachExtends w ws
 abbrev pub IsChain : List VersionData → Type 0
 IsChain [] = ⊥
 IsChain (v ∷ vs) = EachExtends v vs
+
+abbrev pub EachSound : List VersionData → Type 0
+EachSound [] = Unit {0}
+EachSound (v ∷ vs) = IsSound v × EachSound vs
+
+-- a chain of versions that meet the conditions
+pub record IsSoundChain (vs : List VersionData) : Type 0 where
+  pub chain : IsChain vs
+  pub sound : EachSound vs
+
+-- at is the first place whose version does not extend the one before, and brk is its first break
+pub record IsFirstBroken (vs : List VersionData) (at : ℕ) (brk : Break) : Type 0 where
+  pub old : VersionData
+  pub new : VersionData
+  pub behind : 0 < at
+  pub before : slice_get vs (at - 1) ≡ Some old
+  pub here : slice_get vs at ≡ Some new
+  pub first : IsFirstBreak old new brk
+  pub chain : IsChain (take at vs)
+
+-- v stands at place i of a chain: each version up to it is extended by it, and each from it on extends it
+pub record StandsAt (vs : List VersionData) (i : ℕ) (v : VersionData) : Type 0 where
+  pub here : slice_get vs i ≡ Some v
+  pub sound : IsSound v
+  pub earlier : (j : ℕ) (u : VersionData) → j ≤ i → slice_get vs j ≡ Some u → Extends u v
+  pub later : (j : ℕ) (w : VersionData) → i ≤ j → slice_get vs j ≡ Some w → Extends v w

@@ -1,2 +1,4 @@
+pub mod Breaks
 pub mod Chain
+pub mod ChainFaults
 pub mod Laws

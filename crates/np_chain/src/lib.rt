@@ -1,4 +1,11 @@
 //! Versions in a row: what a later version keeps of an earlier one.
 #![tactic(auto)]
 
+pub mod audits;
+pub mod breaks;
+pub mod chains;
 pub mod laws;
+
+pub use audits::{audit, extends};
+pub use breaks::{Break, BreakKind};
+pub use chains::{Chain, ChainFault};

@@ -1,13 +1,13 @@
+pub mod AnswerLemmas
 pub mod ComposeLemmas
 pub mod ComposerLemmas
 pub mod FormLemmas
-pub mod HeldLemmas
 pub mod KeptLemmas
 pub mod MachineLemmas
 pub mod OrderLaws
 pub mod OrderLemmas
-pub mod PendingLemmas
-pub mod PieceLemmas
+pub mod RunLemmas
 pub mod SortLemmas
-pub mod StreamLemmas
+pub mod StreamSafeLemmas
+pub mod SyllableLemmas
 pub mod TextLemmas

@@ -1,12 +1,13 @@
--- Texts of assigned code points.
+-- Texts of assigned code points (UAX #15, section 12).
 use Rattle.std.specs.Prelude.{◌≡◌, ℕ, true, false, List, ◌∷◌, ◌++◌, length, encode_utf8_all}
 use Rattle.std.specs.List.{list_all}
 use Rattle.np_tables.specs.Versions.{VersionData, is_assigned}
 
+-- each code point is assigned
 abbrev pub IsAssigned : VersionData → List ℕ → Type 0
 IsAssigned v xs = list_all (is_assigned v) xs ≡ true
 
--- code is the first that is not assigned, and at its byte place
+-- code is the first that is not assigned, and `at` is its byte place: what stands before it, as UTF-8, has so many bytes
 pub record IsFirstUnassigned (v : VersionData) (xs : List ℕ) (at code : ℕ) : Type 0 where
   pub before : List ℕ
   pub after : List ℕ

@@ -1,10 +1,10 @@
--- Composition (chapter 3, composition algorithm): a machine on a list and a place in it.
+-- Canonical composition (The Unicode Standard, D115 to D117): a machine on a list and a place in it.
 use Rattle.std.specs.Prelude.{◌≡◌, ◌≢◌, ℕ, ◌+◌, ◌<◌, ◌≤◌, ◌⊎◌, List, length, slice_index, slice_set, remove}
 use Rattle.np_tables.specs.Composites.{IsCompositeOf}
 use Rattle.np_code_points.specs.Steps.{Reaches}
 use Rattle.np_tables.specs.Versions.{VersionData, class_of}
 
--- a place between i and j blocks: its class is 0, or at least the class at j
+-- what stands at j is blocked from what stands at i (D115): a place between them has class 0, or at least the class at j
 pub record IsBlocked (v : VersionData) (xs : List ℕ) (i j : ℕ) : Type 0 where
   pub at : ℕ
   pub behind : i < at

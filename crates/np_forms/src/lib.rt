@@ -1,4 +1,19 @@
-//! The normalization forms, stabilized strings and equivalence (UAX #15).
+//! The normalization forms, stabilized strings and equivalence (The Unicode Standard, chapter 3,
+//! and UAX #15), over a table of a version.
 #![tactic(auto)]
 
+mod assigned;
+mod composing;
+mod decomposing;
+mod equivalence;
+mod forms;
 pub mod laws;
+mod ordering;
+mod stabilized;
+mod stream_safety;
+
+pub use assigned::{first_lacking, first_unassigned};
+pub use equivalence::equivalent;
+pub use forms::{form, is_form};
+pub use stabilized::{NpssFault, npss};
+pub use stream_safety::is_stream_safe;

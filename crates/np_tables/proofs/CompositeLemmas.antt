@@ -62,7 +62,7 @@ is_pair_from a b xs e = ap (is_pair a b) e ∙ and_from _ _ (eq-eqb a a refl) (e
 
 -- ---- a code point with a mapping is assigned
 
-all_from-at : (p : ℕ → Bool) (base n k : ℕ) → all_from p base n ≡ true → k < n → p (base + k) ≡ true
+pub all_from-at : (p : ℕ → Bool) (base n k : ℕ) → all_from p base n ≡ true → k < n → p (base + k) ≡ true
 unfolding all_from
 all_from-at p base zero k h lt = absurd (omega arith)
 all_from-at p base (suc n) k h lt =
@@ -72,7 +72,7 @@ all_from-at p base (suc n) k h lt =
       | inr other ↦ all_from-at p base n k halves.1 (omega arith)
     ]
 
-syllable_row : (v : VersionData) (c : ℕ) → has_hangul v ≡ true → is_syllable c ≡ true → is_hangul_row v c ≡ true
+pub syllable_row : (v : VersionData) (c : ℕ) → has_hangul v ≡ true → is_syllable c ≡ true → is_hangul_row v c ≡ true
 unfolding has_hangul all_hangul
 syllable_row v c on h =
     let p = is_hangul_row v in

@@ -5,6 +5,7 @@ use Rattle.std.specs.List.{list_all}
 use Rattle.np_tables.specs.Versions.{VersionData, entry_at, is_assigned, is_empty, mapping_of}
 use Rattle.np_tables.specs.Mappings.{has_depth}
 use Rattle.np_tables.specs.Conditions.{IsSound}
+use Rattle.np_tables.proofs.FactLemmas.{classes-at, scalars-at, mapped_scalar-at}
 use Rattle.np_tables.proofs.MappingLemmas.{is_empty-true, full_of-final, parts-cases}
 use Rattle.np_tables.proofs.CompositeLemmas.{mapped-assigned, composite-assigned}
 
@@ -29,6 +30,9 @@ IsSound-empty =
     record {
       rows = tt;
       bounded = λ c h. absurd (both_ways _ (lacks c) h);
+      classes = λ c. classes-at empty c tt;
+      scalars = λ c. scalars-at empty c tt;
+      mapped_scalar = λ c. mapped_scalar-at empty c tt;
       maps_to_assigned = λ c. ap (list_all (is_assigned empty)) (no_mapping c);
       shallow = shallow;
       short = λ c.

@@ -35,16 +35,16 @@ module _ (v : VersionData) (compat : Bool) where
         | inr off ↦ subst P (sym (cond-false _ _ _ off)) none
       ]
 
-  full-final : (n c : ℕ) → is_final v compat c ≡ true → full v compat n c ≡ c ∷ []
+  pub full-final : (n c : ℕ) → is_final v compat c ≡ true → full v compat n c ≡ c ∷ []
   unfolding full
   full-final zero c h = refl
   full-final (suc n) c h = cond-true _ _ _ h
 
-  full-mapped : (n c : ℕ) → is_final v compat c ≡ false → full v compat (suc n) c ≡ flat_map (full v compat n) (parts v compat c)
+  pub full-mapped : (n c : ℕ) → is_final v compat c ≡ false → full v compat (suc n) c ≡ flat_map (full v compat n) (parts v compat c)
   unfolding full
   full-mapped n c h = cond-false _ _ _ h
 
-  flat_map-same : (f g : ℕ → List ℕ) (p : ℕ → Bool) → ((c : ℕ) → p c ≡ true → f c ≡ g c) → (xs : List ℕ) → list_all p xs ≡ true → flat_map f xs ≡ flat_map g xs
+  pub flat_map-same : (f g : ℕ → List ℕ) (p : ℕ → Bool) → ((c : ℕ) → p c ≡ true → f c ≡ g c) → (xs : List ℕ) → list_all p xs ≡ true → flat_map f xs ≡ flat_map g xs
   flat_map-same f g p same [] all = refl
   flat_map-same f g p same (x ∷ xs) all =
       let halves = and_parts (p x) (list_all p xs) all in
@@ -59,7 +59,7 @@ module _ (v : VersionData) (compat : Bool) where
   depth_parts n c h = parts-cases (λ l. list_all (has_depth v n) l ≡ true) refl c h
 
   -- more fuel than the depth changes nothing
-  full-more : (n c : ℕ) → has_depth v n c ≡ true → full v compat (suc n) c ≡ full v compat n c
+  pub full-more : (n c : ℕ) → has_depth v n c ≡ true → full v compat (suc n) c ≡ full v compat n c
   full-more zero c h = let final = shallow_final c h in full-final 1 c final ∙ sym (full-final zero c final)
   full-more (suc n) c h =
       elim (cases_Bool (is_final v compat c)) [

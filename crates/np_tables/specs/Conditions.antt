@@ -1,16 +1,23 @@
 -- What holds of each version that was built.
-use Rattle.std.specs.Prelude.{◌≡◌, ℕ, ◌<◌, ◌≤◌, true, length}
+use Rattle.std.specs.Prelude.{◌≡◌, ◌≢◌, ℕ, ◌<◌, ◌≤◌, true, [], length}
+use lib.Utf8.{scalar}
 use Rattle.std.specs.List.{list_all}
 use Rattle.np_ucd.specs.Entries.{AreRows}
 use Rattle.np_tables.specs.Composites.{IsCompositeOf}
 use Rattle.np_tables.specs.Mappings.{has_depth, full_of}
-use Rattle.np_tables.specs.Versions.{VersionData, is_assigned, is_hangul, has_hangul, mapping_of}
+use Rattle.np_tables.specs.Versions.{VersionData, class_of, is_assigned, is_hangul, has_hangul, mapping_of}
 
 pub record IsSound (v : VersionData) : Type 0 where
   -- the rows are those of a data file
   pub rows : AreRows v.entries
   -- each row lies within the code points
   pub bounded : (c : ℕ) → is_assigned v c ≡ true → c < 0x110000
+  -- 255 is no combining class
+  pub classes : (c : ℕ) → class_of v c ≤ 254
+  -- a mapping holds no surrogate
+  pub scalars : (c : ℕ) → list_all scalar (mapping_of v c) ≡ true
+  -- no surrogate has a mapping
+  pub mapped_scalar : (c : ℕ) → mapping_of v c ≢ [] → scalar c ≡ true
   -- a mapping holds assigned code points alone
   pub maps_to_assigned : (c : ℕ) → list_all (is_assigned v) (mapping_of v c) ≡ true
   -- no code point is deeper than 32

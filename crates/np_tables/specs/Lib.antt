@@ -1,6 +1,17 @@
+pub mod Accessors
 pub mod Composites
 pub mod Conditions
+pub mod Counts
+pub mod Depths
+pub mod Faults
+pub mod FullLists
+pub mod FullParts
+pub mod HangulRows
 pub mod Mappings
+pub mod Pairs
+pub mod RowPlaces
+pub mod Suspects
+pub mod TableFaults
 pub mod Versions
 pub use Rattle.np_code_points.specs.Hangul
 pub use Rattle.np_code_points.specs.Steps

@@ -1,8 +1,27 @@
 //! Versions of the character tables, and tables over them.
 #![tactic(auto)]
 
+mod ambiguity;
+pub mod characters;
+mod counts;
+mod depths;
+pub mod faults;
+mod first_faults;
+mod fulls;
+mod hangul_faults;
+mod hangul_rows;
+mod mapped_faults;
+mod pairs;
+mod row_index;
+mod row_places;
+pub mod row_table;
+mod syllables;
 pub mod tables;
+#[cfg(test)]
+mod tests;
 pub mod version;
 
+pub use faults::TableFault;
+pub use row_table::RowTable;
 pub use tables::NormTable;
 pub use version::Version;

@@ -1,21 +1,130 @@
-//! Versions of the character tables.
-use np_ucd::{Exclusions, Rows};
+//! Versions of the character tables (UAX #44).
+ghost use Rattle.std.specs.Prelude.{◌≡◌, ◌⊎◌, IfOk, OnOk, IfErr};
+ghost use Rattle.np_tables.specs.TableFaults.{IsFaultless, IsLeastFault};
+ghost use Rattle.np_tables.specs.declared.faults.TableFault.TheVariants.{Memory as OutOfMemory};
+ghost use Rattle.np_tables.specs.Composites.{is_primary};
+ghost use Rattle.np_tables.specs.Conditions.{IsSound};
+ghost use Rattle.np_tables.specs.Counts.{assigned_count};
+ghost use Rattle.np_tables.specs.Versions.{class_of, file_kind, file_mapping, has_hangul, is_assigned, is_excluded};
+
+use crate::characters::CharacterData;
+use crate::counts::assigned_count as count_of;
+use crate::faults::TableFault;
+use crate::first_faults::fault_of;
+use np_ucd::{Exclusions, MapKind, Rows};
+use std::alloc::Global;
 use std::marker::Model;
 
-/// A version that meets the conditions.
+/// A version of the character tables that has none of the faults of
+/// [`TableFault`](crate::TableFault). A code point is any number here: one that no row lists is
+/// unassigned, of class 0 and without a mapping.
 #[derive(Drop)]
 pub struct Version {
-    rows: Rows,
-    exclusions: Exclusions,
+    characters: CharacterData,
+    count: u32,
 }
 
 impl Model for Version {
-    ghost use Rattle.np_tables.specs.Versions.{VersionData};
+    ghost use Rattle.std.specs.Prelude.{◌≡◌};
     ghost use Rattle.np_tables.specs.Conditions.{IsSound};
+    ghost use Rattle.np_tables.specs.Counts.{assigned_count};
+    ghost use Rattle.np_tables.specs.Versions.{VersionData};
 
     ghost Value = { VersionData };
 
-    ghost view = { λ a. record { entries = a.rows; exclusions = a.exclusions } };
+    ghost view = { λ a. a.characters };
 
-    ghost invariant = { λ a. IsSound (record { entries = a.rows; exclusions = a.exclusions }) };
+    ghost invariant = { λ a. IsSound a.characters × (a.count ≡ assigned_count a.characters) };
+}
+
+impl Version {
+    /// The version that these rows and exclusions make. An `Err` tells the fault at the least code
+    /// point, and of the faults there the first in the list of [`TableFault`]; or that memory ran
+    /// out.
+    pub fn build(alloc: Global, rows: Rows, exclusions: Exclusions) -> Result<Version, TableFault>
+        ensures version { IfOk result (λ v. v ≡ record { entries = rows; exclusions = exclusions }) }
+        ensures faultless { OnOk result (IsFaultless (record { entries = rows; exclusions = exclusions })) }
+        ensures fault { IfErr result (λ f. (f ≡ OutOfMemory) ⊎ IsLeastFault (record { entries = rows; exclusions = exclusions }) f) }
+    {
+        let characters = CharacterData::new(alloc, rows, exclusions)?;
+        match fault_of(alloc, &characters)? {
+            Some(fault) => Err(fault),
+            None => Ok(Version::of_faultless(characters)),
+        }
+    }
+
+    /// The version of these characters.
+    fn of_faultless(characters: CharacterData) -> Version
+        requires { IsFaultless characters }
+        ensures { result ≡ characters }
+    {
+        let _ = characters.len();
+        let count = count_of(&characters);
+        Version { characters, count }
+    }
+
+    /// What the two files say of each code point.
+    pub fn characters(&self) -> &CharacterData
+        ensures same { result.now ≡ self.now }
+        ensures sound { IsSound self.now }
+    {
+        &self.characters
+    }
+
+    /// Whether a code point is assigned: listed, alone or inside a range.
+    pub fn assigned_code(&self, code: u32) -> bool
+        ensures { result ≡ is_assigned self.now code }
+    {
+        self.characters.assigned(code)
+    }
+
+    /// The canonical combining class of a code point, 0 where it is not assigned.
+    pub fn class_of(&self, code: u32) -> u8
+        ensures { result ≡ class_of self.now code }
+    {
+        self.characters.class(code)
+    }
+
+    /// The kind of a code point's mapping in the file: a syllable of the arithmetic is `Plain`.
+    pub fn kind_of(&self, code: u32) -> MapKind
+        ensures { result ≡ file_kind self.now code }
+    {
+        self.characters.kind(code)
+    }
+
+    /// The mapping of a code point in the file, empty where there is none: so that of a syllable.
+    pub fn mapping_of(&self, code: u32) -> &[char]
+        ensures { result.now ≡ file_mapping self.now code }
+    {
+        self.characters.mapping(code)
+    }
+
+    /// Whether a code point is listed as an exclusion, and has a canonical mapping in the file.
+    pub fn is_excluded(&self, code: u32) -> bool
+        ensures { result ≡ is_excluded self.now code }
+    {
+        self.characters.excluded(code)
+    }
+
+    /// Whether a code point is a primary composite (The Unicode Standard, D114): syllables are,
+    /// where the Hangul arithmetic is on.
+    pub fn is_primary(&self, code: u32) -> bool
+        ensures { result ≡ is_primary self.now code }
+    {
+        self.characters.is_primary(code)
+    }
+
+    /// Whether the Hangul arithmetic is on (The Unicode Standard, section 3.12).
+    pub fn has_hangul(&self) -> bool
+        ensures { result ≡ has_hangul self.now }
+    {
+        self.characters.has_hangul()
+    }
+
+    /// How many code points are assigned.
+    pub fn count(&self) -> u32
+        ensures { result ≡ assigned_count self.now }
+    {
+        self.count
+    }
 }

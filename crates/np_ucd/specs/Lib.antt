@@ -1,4 +1,14 @@
 pub mod Entries
+pub mod Exclusions
+pub mod Faults
+pub mod Fields
+pub mod Files
+pub mod LineSteps
+pub mod Lines
 pub mod Listed
+pub mod MappingValues
+pub mod RecordValues
+pub mod Reading
+pub mod Records
 pub mod RowValues
 pub mod SpanValues

@@ -1,14 +1,16 @@
 //! The code points that CompositionExclusions.txt lists.
-ghost use Rattle.std.specs.Prelude.{◌≡◌};
+ghost use Rattle.std.specs.Prelude.{◌≡◌, ℕ, map, IfOk};
 ghost use Rattle.np_ucd.specs.Listed.{is_listed};
+ghost use Rattle.np_ucd.specs.SpanValues.{raised};
 
+use np_code_points::Memory;
 use std::marker::Model;
 
 /// The code points from `first` to `last`, both included.
 #[derive(Clone, Copy)]
-struct Listing {
-    first: u32,
-    last: u32,
+pub(crate) struct Listing {
+    pub first: u32,
+    pub last: u32,
 }
 
 /// A set of code points.
@@ -23,21 +25,46 @@ impl Model for Exclusions {
 
     ghost Value = { List Span };
 
-    ghost use Rattle.np_ucd.specs.SpanValues.{span_of};
+    ghost use Rattle.np_ucd.specs.SpanValues.{span_of, AreRising};
 
     ghost view = { λ a. map span_of a.listings.items };
+
+    ghost invariant = { λ a. AreRising a.listings.items };
+}
+
+/// Raises each last code point to that of the listing before, where it is smaller: of listings
+/// whose first code points rise, no other code point is listed then.
+fn raise_lasts(listings: &mut Vec<Listing>)
+    ensures { listings.new.items ≡ raised 0 listings.old.items }
+{
+    let mut last = 0;
+    for at in 0..listings.len() {
+        let listing = listings[at];
+        last = listing.last.max(last);
+        listings[at] = Listing {
+            first: listing.first,
+            last,
+        };
+    }
 }
 
 impl Exclusions {
+    ghost use Rattle.np_ucd.specs.SpanValues.{span_of};
+
+    /// The code points of these listings, in any order.
+    pub(crate) fn of_listings(mut listings: Vec<Listing>) -> Result<Exclusions, Memory>
+        ensures { IfOk result (λ spans. (code : ℕ) → is_listed spans code ≡ is_listed (map span_of listings.items) code) }
+    {
+        listings.sort_by_key(|l| l.first)?;
+        raise_lasts(&mut listings);
+        Ok(Exclusions { listings })
+    }
+
     /// Whether a code point is listed.
     pub fn holds(&self, code: u32) -> bool
         ensures { result ≡ is_listed self.now code }
     {
-        for l in &self.listings {
-            if l.first <= code && code <= l.last {
-                return true;
-            }
-        }
-        false
+        let begun = self.listings.partition_point(|l| l.first <= code);
+        begun > 0 && code <= self.listings[begun - 1].last
     }
 }

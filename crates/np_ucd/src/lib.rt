@@ -1,8 +1,21 @@
 //! Readers of UnicodeData.txt and CompositionExclusions.txt (UAX #44).
 #![tactic(auto)]
 
+mod data;
 pub mod exclusions;
+pub mod faults;
+mod fields;
+mod lines;
+mod mappings;
+mod readers;
+mod records;
 pub mod rows;
+mod spans;
 
 pub use exclusions::Exclusions;
+pub use faults::UcdFault;
+pub use readers::{read_exclusions, read_rows};
 pub use rows::{MapKind, Row, Rows};
+
+#[cfg(test)]
+mod tests;

@@ -1,5 +1,5 @@
 //! The rows of UnicodeData.txt.
-ghost use Rattle.std.specs.Prelude.{◌≡◌, length, option_map, slice_get};
+ghost use Rattle.std.specs.Prelude.{◌≡◌, length, map, option_map, slice_get};
 ghost use Rattle.np_ucd.specs.Entries.{AreRows};
 
 use smallvec::SmallVec;
@@ -52,6 +52,14 @@ impl Model for Rows {
 
 impl Rows {
     ghost use Rattle.np_ucd.specs.RowValues.{entry_of};
+
+    /// Rows that are in order.
+    pub(crate) fn from_rows(rows: Vec<Row>) -> Rows
+        requires { AreRows (map entry_of rows.items) }
+        ensures { result ≡ map entry_of rows.items }
+    {
+        Rows { rows }
+    }
 
     /// How many rows there are.
     pub fn len(&self) -> usize

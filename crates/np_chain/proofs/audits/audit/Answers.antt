@@ -1,0 +1,32 @@
+use Rattle.std.proofs.Common.{◌∙◌, sym, subst, arith}
+use Rattle.np_chain.specs.Breaks.{AreBreaks}
+use Rattle.np_chain.proofs.AuditLemmas.{below-zero, below-none, below-some, AreBreaks-end, breaks_of-end, nil_exactly}
+use Rattle.np_chain.proofs.audits.audit.Goals as goal
+use Rattle.np_chain.proofs.audits.audit.Goals.{in-Some+in_ok-push, in_default}
+
+pub loop-code-init : goal.loop-code-init
+loop-code-init c = c.new-breaks.ensures.items ∙ below-zero c.args.old.now c.args.new.now
+
+pub loop-code-preserved : goal.loop-code-preserved
+loop-code-preserved c =
+    elim c.match-break_at.branch [
+      | in-Some+in_ok-push w ↦
+          let items = w.in_ok-push.ensures.items in
+          let more = below-some c.args.old.now c.args.new.now c.loop-code.code w.in-Some.kind (sym w.in-Some.ensures) in
+          cc
+      | in_default w ↦ let same = below-none c.args.old.now c.args.new.now c.loop-code.code (sym c.break_at.ensures ∙ w.in_default.is) in cc
+    ]
+
+pub returns-clause-breaks : goal.returns-clause-breaks
+returns-clause-breaks c =
+    subst (AreBreaks c.args.old.now c.args.new.now) (sym c.loop-code.invariant)
+    (AreBreaks-end c.args.old.now c.args.new.now c.know.ensures c.know-2.ensures c.loop-code.code (omega arith))
+
+pub returns-clause-value : goal.returns-clause-value
+returns-clause-value c = c.loop-code.invariant ∙ breaks_of-end c.args.old.now c.args.new.now c.know.ensures c.know-2.ensures c.loop-code.code (omega arith)
+
+pub returns-clause-none : goal.returns-clause-none
+returns-clause-none c =
+    nil_exactly c.args.old.now c.args.new.now c.loop-code.breaks.items
+    (subst (AreBreaks c.args.old.now c.args.new.now) (sym c.loop-code.invariant)
+    (AreBreaks-end c.args.old.now c.args.new.now c.know.ensures c.know-2.ensures c.loop-code.code (omega arith)))

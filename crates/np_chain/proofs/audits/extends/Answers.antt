@@ -1,0 +1,14 @@
+use Rattle.std.proofs.Common.{refl, arith}
+use Rattle.np_chain.proofs.AuditLemmas.{Extends-end}
+use Rattle.np_chain.proofs.BreakLemmas.{none_from_Extends}
+use Rattle.np_chain.proofs.audits.extends.Goals as goal
+
+pub returns-in-Some-clause-extends : goal.returns-in-Some-clause-extends
+returns-in-Some-clause-extends c =
+    (λ h. cc, λ ext. let none = none_from_Extends c.args.old.now c.args.new.now ext c.loop-code.code in let some = c.in-Some.ensures in cc)
+
+pub returns-clause-extends : goal.returns-clause-extends
+returns-clause-extends c = (
+  λ _. Extends-end c.args.old.now c.args.new.now c.know.ensures c.know-2.ensures c.loop-code.code (omega arith) c.loop-code.invariant,
+  λ _. refl,
+)

@@ -1,0 +1,89 @@
+//! Tables whose versions extend one another in a row.
+ghost use Rattle.std.specs.Prelude.{◌≡◌, ◌↔◌, ◌-◌, ◌<◌, length, map, IsOk, IfOk, IfErr};
+ghost use Rattle.np_chain.specs.Chain.{IsChain, IsSoundChain, StandsAt};
+ghost use Rattle.np_chain.specs.ChainFaults.{IsFaultOf};
+
+use crate::audits::extends;
+use crate::breaks::Break;
+use np_tables::NormTable;
+use std::marker::Model;
+use thiserror::Error;
+
+/// Why tables are no chain.
+#[derive(Clone, Copy, Debug, PartialEq, Eq, Error)]
+pub enum ChainFault {
+    /// There is no table.
+    #[error("no version")]
+    NoVersion,
+    /// The version of the table at place `at`, from 0, does not extend the one before. It is the
+    /// first such place, and `brk` is its first break.
+    #[error("version {at} does not extend the one before")]
+    Broken { at: usize, brk: Break },
+}
+
+/// At least one table, each of whose versions extends the one before. Contracts see the versions.
+#[derive(Drop)]
+pub struct Chain<'t, T: NormTable> {
+    tables: &'t [T],
+}
+
+impl<'t, T: NormTable> Model for Chain<'t, T> {
+    ghost use Rattle.std.specs.Prelude.{List, map};
+    ghost use Rattle.np_chain.specs.Chain.{IsSoundChain};
+    ghost use Rattle.np_tables.specs.Versions.{VersionData};
+
+    ghost Value = { List VersionData };
+
+    ghost view = { λ a. map T.model a.tables.now };
+
+    ghost invariant = { λ a. IsSoundChain (map T.model a.tables.now) };
+}
+
+impl<'t, T: NormTable> Chain<'t, T> {
+    /// The chain of these tables, in their order.
+    ///
+    /// # Errors
+    /// `NoVersion` where there is no table, `Broken` where a version does not extend the one before.
+    pub fn check(tables: &'t [T]) -> Result<Chain<'t, T>, ChainFault>
+        ensures tables { IfOk result (λ chain. chain ≡ map T.model tables.now) }
+        ensures chain { IsOk result ↔ IsChain (map T.model tables.now) }
+        ensures fault { IfErr result (λ fault. IsFaultOf (map T.model tables.now) fault) }
+    {
+        if tables.is_empty() {
+            return Err(ChainFault::NoVersion);
+        }
+        let _first = tables[0].version();
+        for at in 1..tables.len() {
+            if let Err(brk) = extends(tables[at - 1].version(), tables[at].version()) {
+                return Err(ChainFault::Broken { at, brk });
+            }
+        }
+        Ok(Chain { tables })
+    }
+
+    /// How many tables there are, at least 1.
+    pub fn len(&self) -> usize
+        ensures count { result ≡ length self.now }
+        ensures some { 0 < result }
+        ensures chain { IsSoundChain self.now }
+    {
+        self.tables.len()
+    }
+
+    /// The table at a place, from 0: its version extends all before it, and all after it extend it.
+    pub fn at(&self, i: usize) -> &'t T
+        requires { i < length self.now }
+        ensures { StandsAt self.now i (T.model result.now) }
+    {
+        let tables = self.tables;
+        &tables[i]
+    }
+
+    /// The last table: its version extends all others.
+    pub fn last(&self) -> &'t T
+        ensures { StandsAt self.now (length self.now - 1) (T.model result.now) }
+    {
+        let tables = self.tables;
+        &tables[tables.len() - 1]
+    }
+}

@@ -1,0 +1,151 @@
+-- The longest run of non-starters, counted and as a relation.
+use Rattle.std.proofs.Common.{◌≡◌, ℕ, suc, ◌+◌, ◌<◌, ◌≤◌, ◌⊎◌, ◌↔◌, Bool, true, false, not, nat_lt, max, IsTrue, List, [], ◌∷◌, ◌++◌, length, refl, sym, ap, subst, ◌∙◌, arith, inl, inr, append_assoc, eq-eqb}
+use Rattle.std.proofs.lemmas.Bool.{cases_Bool, cond-true, cond-false, and_parts, and_from, ne_eqb, not-true, ltb-true, ltb-false, lt-ltb, le-ltb}
+use Rattle.std.proofs.lemmas.Bool.Decides.{nat_tests}
+use Rattle.std.specs.List.{list_all}
+use Rattle.np_code_points.specs.declared.forms.Form.TheVariants.{Nfkd}
+use Rattle.np_tables.specs.Conditions.{IsSound}
+use Rattle.np_tables.specs.Versions.{VersionData, class_of}
+use Rattle.np_forms.specs.Composing.{is_starter, is_mark}
+use Rattle.np_forms.specs.NormalForms.{decomposed, normal_form}
+use Rattle.np_forms.specs.StreamSafe.{HasRunOver, IsStreamSafe, longest_run}
+use Rattle.np_forms.proofs.ComposeLemmas.{is_starter-false, not_starter_from}
+use Rattle.np_forms.proofs.FormLemmas.{IsNormalForm-normal_form, normal_form_is}
+
+-- all of `xs` up to `after` is marks, and with the k before them they are more than n
+record FrontRun (v : VersionData) (n k : ℕ) (xs : List ℕ) : Type 0 where
+  run : List ℕ
+  after : List ℕ
+  split : xs ≡ run ++ after
+  marks : list_all (is_mark v) run ≡ true
+  long : n < k + length run
+
+module _ (v : VersionData) where
+  abbrev ccc : ℕ → ℕ
+  ccc = class_of v
+
+  pub longest-nil : (n : ℕ) → longest_run ccc n [] ≡ n
+  unfolding longest_run
+  longest-nil n = refl
+
+  pub longest-starter : (n c : ℕ) (cs : List ℕ) → is_starter ccc c ≡ true → longest_run ccc n (c ∷ cs) ≡ max n (longest_run ccc 0 cs)
+  unfolding longest_run
+  longest-starter n c cs h = cond-true _ _ _ h
+
+  pub longest-mark : (n c : ℕ) (cs : List ℕ) → is_starter ccc c ≡ false → longest_run ccc n (c ∷ cs) ≡ longest_run ccc (suc n) cs
+  unfolding longest_run
+  longest-mark n c cs h = cond-false _ _ _ h
+
+  pub longest-least : (n : ℕ) (cs : List ℕ) → n ≤ longest_run ccc n cs
+  longest-least n [] = omega (arith, longest-nil n)
+  longest-least n (c ∷ cs) =
+      elim (cases_Bool (is_starter ccc c)) [
+        | inl starter ↦ omega (arith, longest-starter n c cs starter)
+        | inr mark ↦ omega (arith, longest-mark n c cs mark, longest-least (suc n) cs)
+      ]
+
+  longest-mono : (j k : ℕ) (cs : List ℕ) → j ≤ k → longest_run ccc j cs ≤ longest_run ccc k cs
+  longest-mono j k [] h = omega (arith, longest-nil j, longest-nil k)
+  longest-mono j k (c ∷ cs) h =
+      elim (cases_Bool (is_starter ccc c)) [
+        | inl starter ↦ omega (arith, longest-starter j c cs starter, longest-starter k c cs starter)
+        | inr mark ↦ omega (arith, longest-mark j c cs mark, longest-mark k c cs mark, longest-mono (suc j) (suc k) cs (omega arith))
+      ]
+
+  longest-behind : (k : ℕ) (before rest : List ℕ) → longest_run ccc 0 rest ≤ longest_run ccc k (before ++ rest)
+  longest-behind k [] rest = longest-mono 0 k rest (omega arith)
+  longest-behind k (c ∷ cs) rest =
+      elim (cases_Bool (is_starter ccc c)) [
+        | inl starter ↦ omega (arith, longest-starter k c (cs ++ rest) starter, longest-behind 0 cs rest)
+        | inr mark ↦ omega (arith, longest-mark k c (cs ++ rest) mark, longest-behind (suc k) cs rest)
+      ]
+
+  longest-front : (k : ℕ) (run rest : List ℕ) → list_all (is_mark v) run ≡ true → k + length run ≤ longest_run ccc k (run ++ rest)
+  longest-front k [] rest h = omega (arith, longest-least k rest)
+  longest-front k (c ∷ cs) rest h =
+      let halves = and_parts (is_mark v c) (list_all (is_mark v) cs) h in
+      omega (arith, longest-mark k c (cs ++ rest) (not-true (is_starter ccc c) halves.0), longest-front (suc k) cs rest halves.1)
+
+  longest-run : (n : ℕ) (xs : List ℕ) → HasRunOver v n xs → n < longest_run ccc 0 xs
+  longest-run n xs h =
+      let behind = longest-behind 0 h.before (h.run ++ h.after) in
+      let front = longest-front 0 h.run h.after h.marks in
+      omega (arith, behind, front, h.long, ap (longest_run ccc 0) h.split)
+
+  shifted : (n c : ℕ) (cs : List ℕ) → HasRunOver v n cs → HasRunOver v n (c ∷ cs)
+  shifted n c cs h = record { before = c ∷ h.before; run = h.run; after = h.after; split = ap (λ l. c ∷ l) h.split; marks = h.marks; long = h.long }
+
+  front_is_run : (n : ℕ) (xs : List ℕ) → FrontRun v n 0 xs → HasRunOver v n xs
+  front_is_run n xs h = record { before = []; run = h.run; after = h.after; split = h.split; marks = h.marks; long = omega (arith, h.long) }
+
+  run_of : (n k : ℕ) (xs : List ℕ) → n < longest_run ccc k xs → HasRunOver v n xs ⊎ FrontRun v n k xs
+  run_of n k [] h = inr (record { run = []; after = []; split = refl; marks = refl; long = omega (arith, longest-nil k) })
+  run_of n k (c ∷ cs) h =
+      elim (cases_Bool (is_starter ccc c)) [
+        | inl starter ↦
+            elim (cases_Bool (nat_lt n k)) [
+              | inl now ↦ inr (record { run = []; after = c ∷ cs; split = refl; marks = refl; long = omega (arith, ltb-true n k now) })
+              | inr later ↦
+                  let rest : n < longest_run ccc 0 cs = omega (arith, ltb-false n k later, longest-starter k c cs starter) in
+                  elim (run_of n 0 cs rest) [ inl some ↦ inl (shifted n c cs some) | inr front ↦ inl (shifted n c cs (front_is_run n cs front)) ]
+            ]
+        | inr mark ↦
+            let rest : n < longest_run ccc (suc k) cs = omega (arith, longest-mark k c cs mark) in
+            elim (run_of n (suc k) cs rest) [
+              | inl some ↦ inl (shifted n c cs some)
+              | inr front ↦ inr (record {
+                run = c ∷ front.run;
+                after = front.after;
+                split = ap (λ l. c ∷ l) front.split;
+                marks = and_from _ _ (ap not mark) front.marks;
+                long = omega (arith, front.long);
+              })
+            ]
+      ]
+
+  -- a run of more than n is there exactly where the longest run is longer than n
+  pub HasRunOver-longest : (n : ℕ) (xs : List ℕ) → HasRunOver v n xs ↔ (n < longest_run ccc 0 xs)
+  HasRunOver-longest n xs =
+      (longest-run n xs, λ h. elim (run_of n 0 xs h) [ inl some ↦ some | inr front ↦ front_is_run n xs front ])
+
+  -- ---- the steps of a count that stops past 30
+
+  pub count-starter : (n c : ℕ) (cs : List ℕ) → n ≤ 30 → class_of v c ≡ 0 → nat_lt 30 (longest_run ccc n (c ∷ cs)) ≡ nat_lt 30 (longest_run ccc 0 cs)
+  count-starter n c cs few starter =
+      let e = longest-starter n c cs (eq-eqb (ccc c) 0 starter) in
+      elim (cases_Bool (nat_lt 30 (longest_run ccc 0 cs))) [
+        | inl long ↦ lt-ltb 30 _ (omega (arith, ltb-true 30 _ long)) ∙ sym long
+        | inr short ↦ le-ltb 30 _ (omega (arith, ltb-false 30 _ short)) ∙ sym short
+      ]
+
+  pub count-mark : (n c : ℕ) (cs : List ℕ) → 0 < class_of v c → nat_lt 30 (longest_run ccc n (c ∷ cs)) ≡ nat_lt 30 (longest_run ccc (n + 1) cs)
+  count-mark n c cs mark =
+      let same : suc n ≡ n + 1 = omega arith in
+      ap (nat_lt 30) (longest-mark n c cs (not_starter_from ccc c mark) ∙ ap (λ k. longest_run ccc k cs) same)
+
+  pub count-over : (n c : ℕ) (cs : List ℕ) → n ≡ 30 → 0 < class_of v c → nat_lt 30 (longest_run ccc n (c ∷ cs)) ≡ true
+  count-over n c cs full mark = count-mark n c cs mark ∙ lt-ltb 30 _ (omega (arith, longest-least (n + 1) cs))
+
+  pub count-end : (n : ℕ) → n ≤ 30 → nat_lt 30 (longest_run ccc n []) ≡ false
+  count-end n few = le-ltb 30 _ (omega (arith, longest-nil n))
+
+  nfkd_is : (xs : List ℕ) → normal_form v Nfkd xs ≡ decomposed v true xs
+  unfolding normal_form
+  nfkd_is xs = refl
+
+  -- a text is stream-safe exactly where the count of its NFKD form stays at 30 or below
+  pub IsStreamSafe-counted : IsSound v → (xs : List ℕ) (b : Bool) → b ≡ not (nat_lt 30 (longest_run ccc 0 (decomposed v true xs))) → IsTrue b ↔ IsStreamSafe v xs
+  IsStreamSafe-counted sound xs b is =
+      let over = HasRunOver-longest 30 (normal_form v Nfkd xs) in
+      let same : longest_run ccc 0 (normal_form v Nfkd xs) ≡ longest_run ccc 0 (decomposed v true xs) = ap (longest_run ccc 0) (nfkd_is xs) in (
+        λ yes.
+            let short = ltb-false 30 _ (not-true (nat_lt 30 (longest_run ccc 0 (decomposed v true xs))) (sym is ∙ yes)) in
+            record { nfkd = normal_form v Nfkd xs; is = IsNormalForm-normal_form v sound Nfkd xs; short = λ run. let long = over.0 run in absurd (omega (arith, same)) },
+        λ safe.
+            elim (cases_Bool (nat_lt 30 (longest_run ccc 0 (decomposed v true xs)))) [
+              | inl long ↦
+                  let more : 30 < longest_run ccc 0 (normal_form v Nfkd xs) = omega (arith, ltb-true 30 _ long, same) in
+                  absurd (safe.short (subst (HasRunOver v 30) (sym (normal_form_is v sound Nfkd xs safe.nfkd safe.is)) (over.1 more)))
+              | inr short ↦ is ∙ ap not short
+            ],
+      )

@@ -1,0 +1,11 @@
+-- The full decomposition of a Hangul syllable (The Unicode Standard, section 3.12).
+use Rattle.std.specs.Prelude.{ℕ, List, [], ◌∷◌, flat_map, if◌then◌else◌}
+use Rattle.np_code_points.specs.Hangul.{is_syllable, syllable_pair}
+
+-- the pair of a syllable, and anything else itself
+abbrev pub pair_or_self : ℕ → List ℕ
+pair_or_self c = if is_syllable c then syllable_pair c else c ∷ []
+
+-- LV gives L and V, LVT the two of LV, and T
+unfoldable pub syllable_parts : ℕ → List ℕ
+syllable_parts s = flat_map pair_or_self (syllable_pair s)

@@ -1,0 +1,34 @@
+//! Texts of assigned code points.
+ghost use Rattle.std.specs.Prelude.{◌≡◌, ℕ, chars, length, encode_utf8_all, IfSome, IfNone};
+ghost use Rattle.np_forms.specs.Assigned.{IsAssigned, IsFirstUnassigned};
+
+use np_tables::NormTable;
+
+/// The first code point that is not assigned, with its byte place, from 0; none where each is
+/// assigned.
+pub fn first_lacking<T: NormTable>(table: &T, text: &str) -> Option<(usize, char)>
+    ensures none { IfNone result (IsAssigned (T.model table.now) (chars text.now)) }
+    ensures some { IfSome result (λ found. IsFirstUnassigned (T.model table.now) (chars text.now) found.0 found.1) }
+{
+    let mut iter = text.chars();
+    'scan: loop {
+        let here = iter.as_str();
+        let Some(c) = iter.next() else {
+            return None;
+        };
+        if !table.assigned(c) {
+            return Some((text.len() - here.len(), c));
+        }
+    }
+}
+
+/// The byte place, from 0, of the first code point that is not assigned; none where each is.
+pub fn first_unassigned<T: NormTable>(table: &T, text: &str) -> Option<usize>
+    ensures none { IfNone result (IsAssigned (T.model table.now) (chars text.now)) }
+    ensures some { IfSome result (λ at. (code : ℕ) × IsFirstUnassigned (T.model table.now) (chars text.now) at code) }
+{
+    match first_lacking(table, text) {
+        None => None,
+        Some((at, _)) => Some(at),
+    }
+}

@@ -1,0 +1,73 @@
+//! Full decompositions (The Unicode Standard, D68 and D65).
+ghost use Rattle.std.specs.Prelude.{◌≡◌, ◌++◌, [], chars, flat_map, if◌then◌else◌, IfOk, OnOk};
+ghost use Rattle.np_code_points.specs.Hangul.{is_syllable};
+ghost use Rattle.np_forms.specs.Syllables.{syllable_parts};
+ghost use Rattle.np_tables.specs.Conditions.{IsSound};
+ghost use Rattle.np_tables.specs.Mappings.{full_of};
+ghost use Rattle.np_tables.specs.Versions.{has_hangul};
+
+use np_code_points::Memory;
+use np_code_points::hangul::hangul_parts;
+use np_tables::NormTable;
+use std::alloc::Global;
+
+/// Appends the full decomposition of a syllable by arithmetic, and tells whether `c` is one.
+fn append_syllable(list: &mut Vec<char>, c: char) -> Result<bool, Memory>
+    ensures syllable { IfOk result (λ b. b ≡ is_syllable c) }
+    ensures items { IfOk result (λ b. list.new.items ≡ list.old.items ++ (if b then syllable_parts c else [])) }
+{
+    let Some((first, second)) = hangul_parts(c) else {
+        return Ok(false);
+    };
+    match hangul_parts(first) {
+        Some((lead, vowel)) => {
+            list.push(lead)?;
+            list.push(vowel)?;
+        }
+        None => list.push(first)?,
+    }
+    list.push(second)?;
+    Ok(true)
+}
+
+/// Appends the full decomposition of a code point.
+fn append<T: NormTable>(
+    list: &mut Vec<char>,
+    table: &T,
+    hangul: bool,
+    compat: bool,
+    c: char,
+) -> Result<(), Memory>
+    requires sound { IsSound (T.model table.now) }
+    requires hangul { hangul ≡ has_hangul (T.model table.now) }
+    ensures { OnOk result (list.new.items ≡ list.old.items ++ full_of (T.model table.now) compat c) }
+{
+    let full = table.full(c, compat);
+    if !full.is_empty() {
+        list.extend_from_slice(full)?;
+        return Ok(());
+    }
+    if hangul && append_syllable(list, c)? {
+        return Ok(());
+    }
+    list.push(c)?;
+    Ok(())
+}
+
+/// The full decomposition of a text, in the order of the text.
+pub(crate) fn full_decomposition<T: NormTable>(
+    alloc: Global,
+    table: &T,
+    compat: bool,
+    text: &str,
+) -> Result<Vec<char>, Memory>
+    ensures { IfOk result (λ list. list.items ≡ flat_map (full_of (T.model table.now) compat) (chars text.now)) }
+{
+    table.version();
+    let hangul = table.hangul();
+    let mut list = Vec::with_capacity(alloc, text.len())?;
+    for c in text.chars() {
+        append(&mut list, table, hangul, compat, c)?;
+    }
+    Ok(list)
+}

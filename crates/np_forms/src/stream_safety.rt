@@ -1,0 +1,42 @@
+//! Stream-safe text (UAX #15, section 13).
+ghost use Rattle.std.specs.Prelude.{◌≡◌, ◌↔◌, ◌<◌, nat_lt, IsTrue, chars, IfOk};
+ghost use Rattle.np_forms.specs.StreamSafe.{IsStreamSafe, longest_run};
+ghost use Rattle.np_tables.specs.Versions.{class_of};
+
+use crate::forms::decomposed;
+use np_code_points::Memory;
+use np_tables::NormTable;
+use std::alloc::Global;
+
+/// The most non-starters that may stand side by side.
+const LONGEST: usize = 30;
+
+/// Whether more than `LONGEST` non-starters stand side by side.
+fn has_long_run<T: NormTable>(table: &T, list: &[char]) -> bool
+    ensures { result ≡ nat_lt 30 (longest_run (class_of (T.model table.now)) 0 list.now) }
+{
+    let mut run = 0;
+    for c in list {
+        if table.class(*c) == 0 {
+            run = 0;
+        } else if run == LONGEST {
+            return true;
+        } else {
+            run += 1;
+        }
+    }
+    false
+}
+
+/// Whether a text is stream-safe: its NFKD form holds no run of more than 30 non-starters.
+///
+/// # Errors
+///
+/// `Memory` where memory ran out.
+pub fn is_stream_safe<T: NormTable>(alloc: Global, table: &T, text: &str) -> Result<bool, Memory>
+    ensures { IfOk result (λ b. IsTrue b ↔ IsStreamSafe (T.model table.now) (chars text.now)) }
+{
+    table.version();
+    let nfkd = decomposed(alloc, table, true, text)?;
+    Ok(!has_long_run(table, &nfkd))
+}

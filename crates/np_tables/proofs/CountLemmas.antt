@@ -1,0 +1,133 @@
+-- The assigned code points are counted by the sizes of the rows.
+use Rattle.std.proofs.Common.{◌≡◌, ℕ, zero, suc, ◌+◌, ◌-◌, ◌<◌, ◌≤◌, ◌⊎◌, Bool, true, false, ◌&&◌, nat_le, nat_lt, List, [], ◌∷◌, length, drop, cond, Option, Some, None, is_some, refl, sym, ap, subst, ◌∙◌, arith, inl, inr, le-leb, lt-ltb}
+use Rattle.std.specs.List.{slice_get}
+use Rattle.std.proofs.lemmas.Bool.{cond-true, cond-false, cases_Bool, cases_lt, cases_order, and_parts, leb-true, and_from, and_left, and_right, lt-leb, both_ways}
+use Rattle.std.proofs.lemmas.List.{drop_all}
+use Rattle.std.proofs.lemmas.Option.{none-some, same_Some}
+use Rattle.np_ucd.specs.Entries.{Entry, IsRow, IsBefore, AreRows}
+use Rattle.np_tables.specs.Counts.{count_below, one_if, assigned_count}
+use Rattle.np_tables.specs.RowPlaces.{lies_in}
+use Rattle.np_tables.specs.Versions.{VersionData, entry_at, is_assigned}
+use Rattle.np_tables.proofs.RowLemmas.{entry_at-nil, entry_at-hit, entry_at-miss, out_of, below_out}
+
+-- how many code points the rows have
+unfoldable pub sizes : List Entry → ℕ
+sizes [] = 0
+sizes (e ∷ es) = (e.last - e.first + 1) + sizes es
+
+listed : List Entry → ℕ → Bool
+listed es c = is_some (entry_at es c)
+
+count-le : (p : ℕ → Bool) (n : ℕ) → count_below p n ≤ n
+unfolding count_below
+count-le p zero = omega arith
+count-le p (suc n) =
+    let rest = count-le p n in
+    elim (cases_Bool (p n)) [
+      | inl on ↦ (let one : one_if (p n) ≡ 1 = ap one_if on in omega arith)
+      | inr off ↦ (let none : one_if (p n) ≡ 0 = ap one_if off in omega arith)
+    ]
+
+count-none : (p : ℕ → Bool) (n : ℕ) → ((c : ℕ) → p c ≡ false) → count_below p n ≡ 0
+unfolding count_below
+count-none p zero none = refl
+count-none p (suc n) none =
+    let rest = count-none p n none in
+    let here : one_if (p n) ≡ 0 = ap one_if (none n) in
+    omega arith
+
+-- a row counts what of it is below n
+count-run : (e : Entry) (n : ℕ) → e.first ≤ e.last → ((n ≤ e.first) × (count_below (λ c. lies_in (Some e) c) n ≡ 0)) ⊎ (((e.first < n) × (n ≤ e.last + 1) × (count_below (λ c. lies_in (Some e) c) n ≡ n - e.first)) ⊎ ((e.last < n) × (count_below (λ c. lies_in (Some e) c) n ≡ e.last - e.first + 1)))
+unfolding count_below
+count-run e zero le = inl (omega arith, refl)
+count-run e (suc n) le =
+    let rest = count-run e n le in
+    elim (cases_lt n e.first) [
+      | inl low ↦
+          (let none : one_if (lies_in (Some e) n) ≡ 0 = ap one_if (below_out e n low) in
+          inl (omega arith, (elim rest [ inl a ↦ (let z = a.1 in omega arith) | inr b ↦ elim b [ inl c ↦ absurd (omega arith) | inr d ↦ absurd (omega arith) ] ])))
+      | inr from ↦ elim (cases_lt e.last n) [
+        | inl high ↦
+            (let none : one_if (lies_in (Some e) n) ≡ 0 = ap one_if (out_of e n high) in
+            inr (inr (omega arith, (elim rest [ inl a ↦ absurd (omega arith) | inr b ↦ elim b [ inl c ↦ (let z = c.2 in omega arith) | inr d ↦ (let z = d.1 in omega arith) ] ]))))
+        | inr to ↦
+            (let one : one_if (lies_in (Some e) n) ≡ 1 = ap one_if (and_from _ _ (le-leb e.first n from) (le-leb n e.last to)) in
+            inr (inl (omega arith, omega arith, (elim rest [ inl a ↦ (let z = a.1 in omega arith) | inr b ↦ elim b [ inl c ↦ (let z = c.2 in omega arith) | inr d ↦ absurd (omega arith) ] ]))))
+      ]
+    ]
+
+count-row : (e : Entry) (n : ℕ) → e.first ≤ e.last → e.last < n → count_below (λ c. lies_in (Some e) c) n ≡ e.last - e.first + 1
+count-row e n le lt =
+    elim (count-run e n le) [
+      | inl a ↦ absurd (omega arith)
+      | inr b ↦ elim b [ inl c ↦ (let z = c.2 in omega arith) | inr d ↦ d.1 ]
+    ]
+
+-- two tests of which no number passes both
+count-both : (p q r : ℕ → Bool) (n : ℕ) → ((c : ℕ) → ((p c ≡ true) × (q c ≡ false) × (r c ≡ true)) ⊎ ((p c ≡ false) × (q c ≡ r c))) → count_below r n ≡ count_below p n + count_below q n
+unfolding count_below
+count-both p q r zero either = refl
+count-both p q r (suc n) either =
+    let rest = count-both p q r n either in
+    elim (either n) [
+      | inl one ↦
+          (let a : one_if (p n) ≡ 1 = ap one_if one.0 in
+          let b : one_if (q n) ≡ 0 = ap one_if one.1 in
+          let d : one_if (r n) ≡ 1 = ap one_if one.2 in omega arith)
+      | inr other ↦
+          (let a : one_if (p n) ≡ 0 = ap one_if other.0 in
+          let b : one_if (q n) ≡ one_if (r n) = ap one_if other.1 in omega arith)
+    ]
+
+-- the rows after one list none of its code points
+after_none : (e : Entry) (es : List Entry) (c : ℕ) → IsBefore e es → AreRows es → c ≤ e.last → entry_at es c ≡ None
+after_none e [] c before rows le = entry_at-nil c
+after_none e (f ∷ fs) c before rows le =
+    let up = rows.0.rises in
+    entry_at-miss f fs c (below_out f c (omega arith)) ∙ after_none f fs c rows.1 rows.2 (omega arith)
+
+high_end : (e : Entry) (c : ℕ) → lies_in (Some e) c ≡ true → c ≤ e.last
+high_end e c h = leb-true c e.last (and_parts (nat_le e.first c) (nat_le c e.last) h).1
+
+listed_either : (e : Entry) (es : List Entry) (c : ℕ) → IsBefore e es → AreRows es
+    → ((lies_in (Some e) c ≡ true) × (listed es c ≡ false) × (listed (e ∷ es) c ≡ true)) ⊎ ((lies_in (Some e) c ≡ false) × (listed es c ≡ listed (e ∷ es) c))
+unfolding listed
+listed_either e es c before rows =
+    elim (cases_Bool (lies_in (Some e) c)) [
+      | inl on ↦ inl (on, ap is_some (after_none e es c before rows (high_end e c on)), ap is_some (entry_at-hit e es c on))
+      | inr off ↦ inr (off, sym (ap is_some (entry_at-miss e es c off)))
+    ]
+
+count-listed : (es : List Entry) (n : ℕ) → AreRows es → ((e : Entry) → IsRow e → e.last < n) → count_below (listed es) n ≡ sizes es
+unfolding sizes listed
+count-listed [] n rows below = count-none (listed []) n (λ c. ap is_some (entry_at-nil c))
+count-listed (e ∷ es) n rows below =
+    let both = count-both (λ c. lies_in (Some e) c) (listed es) (listed (e ∷ es)) n (λ c. listed_either e es c rows.1 rows.2) in
+    let here = count-row e n rows.0.rises (below e rows.0) in
+    let rest = count-listed es n rows.2 below in
+    omega arith
+
+-- at the numeral, by the lemma for each number
+pub sizes-count : (v : VersionData) → AreRows v.entries → sizes v.entries ≡ assigned_count v
+unfolding assigned_count listed is_assigned
+sizes-count v rows = sym (count-listed v.entries 0x110000 rows (λ e row. row.bounded))
+
+pub sizes-le : (v : VersionData) → AreRows v.entries → sizes v.entries ≤ 0x110000
+unfolding assigned_count
+sizes-le v rows = let same = sizes-count v rows in let le = count-le (is_assigned v) 0x110000 in omega arith
+
+-- one row less
+pub sizes-drop : (es : List Entry) (i : ℕ) (e : Entry) → slice_get es i ≡ Some e → sizes (drop i es) ≡ (e.last - e.first + 1) + sizes (drop (i + 1) es)
+unfolding sizes
+sizes-drop [] i e h = absurd (none-some e h)
+sizes-drop (x ∷ xs) zero e h = ap (λ (f : Entry). (f.last - f.first + 1) + sizes xs) (same_Some x e h)
+sizes-drop (x ∷ xs) (suc i) e h = let more : suc i + 1 ≡ suc (i + 1) = omega arith in sizes-drop xs i e h ∙ ap (λ j. (e.last - e.first + 1) + sizes (drop j (x ∷ xs))) (sym more)
+
+pub sizes-end : (es : List Entry) (i : ℕ) → length es ≤ i → sizes (drop i es) ≡ 0
+unfolding sizes
+sizes-end es i h = ap sizes (drop_all i es h)
+
+pub sizes-past : (es : List Entry) (i : ℕ) → i < length es → slice_get es i ≡ None → ⊥
+sizes-past [] i lt h = omega arith
+sizes-past (x ∷ xs) zero lt h = none-some x (sym h)
+sizes-past (x ∷ xs) (suc i) lt h = sizes-past xs i (omega arith) h

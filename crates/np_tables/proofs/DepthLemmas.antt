@@ -1,0 +1,227 @@
+-- Marks of code points, round by round.
+use Rattle.std.proofs.Common.{◌≡◌, ℕ, zero, suc, ◌<◌, ◌≤◌, Bool, true, false, ◌&&◌, min, List, [], ◌∷◌, map, flat_map, length, refl, sym, ap, subst, ◌∙◌, leb, inl, inr, arith, length-append}
+use Rattle.std.proofs.lemmas.Bool.{cond-true, cond-false, cases_Bool, cases_eq, both_ways}
+use Rattle.std.specs.List.{list_all}
+use Rattle.np_ucd.specs.Entries.{Entry, AreRows, HasLength}
+use Rattle.np_ucd.specs.declared.rows.MapKind.{MapKind}
+use Rattle.np_ucd.specs.declared.rows.MapKind.TheVariants.{Plain, Canonical, Compatibility}
+use Rattle.np_code_points.specs.Hangul.{is_syllable}
+use Rattle.np_tables.specs.Versions.{VersionData, entry_at, kind_in, mapping_in, is_empty, file_kind, file_mapping, has_hangul, kind_of, mapping_of}
+use Rattle.np_tables.specs.Mappings.{counts, parts, is_final, has_depth, full}
+use Rattle.np_tables.specs.Depths.{marked, mark, parts_mark, mapping_mark, row_marks}
+use Rattle.np_tables.proofs.MappingLemmas.{full-final, full-mapped, full-more, flat_map-same}
+
+-- ---- the mapping that counts for the compatibility decomposition is the mapping of the file
+
+length_zero : (xs : List ℕ) → length xs ≡ 0 → xs ≡ []
+length_zero [] h = refl
+length_zero (x ∷ xs) h = absurd (omega arith)
+
+plain_none : (kind : MapKind) (xs : List ℕ) → HasLength kind (length xs) → counts true kind ≡ false → xs ≡ []
+plain_none Plain xs fits h = length_zero xs fits
+plain_none Canonical xs fits h = cc
+plain_none Compatibility xs fits h = cc
+
+entry_at-fits : (es : List Entry) (c : ℕ) → AreRows es → HasLength (kind_in (entry_at es c)) (length (mapping_in (entry_at es c)))
+unfolding entry_at
+entry_at-fits [] c h = refl
+entry_at-fits (e ∷ es) c h =
+    elim (cases_Bool (leb e.first c && leb c e.last)) [
+      | inl here ↦ subst (λ o. HasLength (kind_in o) (length (mapping_in o))) (sym (cond-true _ _ _ here)) h.0.fits
+      | inr later ↦ subst (λ o. HasLength (kind_in o) (length (mapping_in o))) (sym (cond-false _ _ _ later)) (entry_at-fits es c h.2)
+    ]
+
+module _ (v : VersionData) (rows : AreRows v.entries) where
+  file_plain : (c : ℕ) → counts true (file_kind v c) ≡ false → file_mapping v c ≡ []
+  unfolding file_kind file_mapping
+  file_plain c h = plain_none _ _ (entry_at-fits v.entries c rows) h
+
+  plain : (c : ℕ) → counts true (kind_of v c) ≡ false → mapping_of v c ≡ []
+  unfolding kind_of mapping_of
+  plain c h =
+      elim (cases_Bool (has_hangul v && is_syllable c)) [
+        | inl hangul ↦ absurd (both_ways _ h (ap (counts true) (cond-true _ _ _ hangul)))
+        | inr other ↦ cond-false _ _ _ other ∙ file_plain c (sym (ap (counts true) (cond-false _ _ _ other)) ∙ h)
+      ]
+
+  pub parts-mapping : (c : ℕ) → parts v true c ≡ mapping_of v c
+  unfolding parts
+  parts-mapping c =
+      elim (cases_Bool (counts true (kind_of v c))) [
+        | inl on ↦ cond-true _ _ _ on
+        | inr off ↦ cond-false _ _ _ off ∙ sym (plain c off)
+      ]
+
+-- ---- the mark of a code point from that of its mapping
+
+module _ (v : VersionData) where
+  pub bare_depth : (n c : ℕ) → mapping_of v c ≡ [] → has_depth v n c ≡ true
+  unfolding has_depth
+  bare_depth zero c e = ap is_empty e
+  bare_depth (suc n) c e = ap (list_all (has_depth v n)) e
+
+  pub bare_full : (n c : ℕ) → parts v true c ≡ [] → full v true n c ≡ c ∷ []
+  bare_full n c e = full-final v true n c (ap is_empty e)
+
+  pub zero_depth : (c x : ℕ) (xs : List ℕ) → mapping_of v c ≡ x ∷ xs → has_depth v zero c ≡ false
+  unfolding has_depth
+  zero_depth c x xs e = ap is_empty e
+
+  pub suc_depth : (n c : ℕ) (xs : List ℕ) → mapping_of v c ≡ xs → has_depth v (suc n) c ≡ list_all (has_depth v n) xs
+  unfolding has_depth
+  suc_depth n c xs e = ap (list_all (has_depth v n)) e
+
+  pub suc_full : (n c x : ℕ) (xs : List ℕ) → parts v true c ≡ x ∷ xs → full v true (suc n) c ≡ flat_map (full v true n) (x ∷ xs)
+  suc_full n c x xs e = full-mapped v true n c (ap is_empty e) ∙ ap (flat_map (full v true n)) e
+
+  mark-at : (n c : ℕ) (xs : List ℕ) → mapping_of v c ≡ xs → parts v true c ≡ xs → mark v n c ≡ mapping_mark v n xs
+  unfolding mark mapping_mark parts_mark
+  mark-at n c [] e p = ap (λ b. marked b (length (full v true n c))) (bare_depth n c e) ∙ ap (λ l. marked true (length l)) (bare_full n c p)
+  mark-at zero c (x ∷ xs) e p = ap (λ b. marked b (length (full v true zero c))) (zero_depth c x xs e)
+  mark-at (suc n) c (x ∷ xs) e p =
+      ap (λ b. marked b (length (full v true (suc n) c))) (suc_depth n c (x ∷ xs) e)
+      ∙ ap (λ l. marked (list_all (has_depth v n) (x ∷ xs)) (length l)) (suc_full n c x xs p)
+
+pub mark-mapping : (v : VersionData) → AreRows v.entries → (n c : ℕ) → mark v n c ≡ mapping_mark v n (mapping_of v c)
+mark-mapping v rows n c = mark-at v n c (mapping_of v c) refl (parts-mapping v rows c)
+
+pub mapping_of-file : (v : VersionData) (c : ℕ) → (has_hangul v && is_syllable c) ≡ false → mapping_of v c ≡ mapping_in (entry_at v.entries c)
+unfolding mapping_of file_mapping
+mapping_of-file v c other = cond-false _ _ _ other
+
+pub mark-file : (v : VersionData) → AreRows v.entries → (n c : ℕ) → (has_hangul v && is_syllable c) ≡ false → mark v n c ≡ mapping_mark v n (mapping_in (entry_at v.entries c))
+mark-file v rows n c other = mark-mapping v rows n c ∙ ap (mapping_mark v n) (mapping_of-file v c other)
+
+-- ---- a mark is 0 exactly where the depth is over the round
+
+flat_map_long : (f : ℕ → List ℕ) → ((c : ℕ) → 0 < length (f c)) → (xs : List ℕ) → is_empty xs ≡ false → 0 < length (flat_map f xs)
+flat_map_long f long [] h = cc
+flat_map_long f long (x ∷ xs) h = let first = long x in simp length-append (omega arith)
+
+module _ (v : VersionData) where
+  full_zero : (c : ℕ) → full v true zero c ≡ c ∷ []
+  unfolding full
+  full_zero c = refl
+
+  full_long : (n c : ℕ) → 0 < length (full v true n c)
+  full_long zero c = subst (λ l. 0 < length l) (sym (full_zero c)) (omega arith)
+  full_long (suc n) c =
+      elim (cases_Bool (is_final v true c)) [
+        | inl final ↦ subst (λ l. 0 < length l) (sym (full-final v true (suc n) c final)) (omega arith)
+        | inr mapped ↦ subst (λ l. 0 < length l) (sym (full-mapped v true n c mapped)) (flat_map_long (full v true n) (full_long n) (parts v true c) mapped)
+      ]
+
+marked-zero : (known : Bool) (n : ℕ) → 0 < n → marked known n ≡ 0 → known ≡ false
+marked-zero true n long h = absurd (omega arith)
+marked-zero false n long h = refl
+
+marked-more : (known : Bool) (n : ℕ) → 0 < marked known n → known ≡ true
+marked-more true n h = refl
+marked-more false n h = absurd (omega arith)
+
+marked-false : (known : Bool) (n : ℕ) → known ≡ false → marked known n ≡ 0
+marked-false known n h = cond-false _ _ _ h
+
+marked-true : (known : Bool) (n : ℕ) → known ≡ true → marked known n ≡ min n 65
+marked-true known n h = cond-true _ _ _ h
+
+marked-same : (a b : Bool) (m n : ℕ) → 0 < m → 0 < n → marked a m ≡ marked b n → a ≡ b
+marked-same true true m n some other h = refl
+marked-same true false m n some other h = absurd (omega arith)
+marked-same false true m n some other h = absurd (omega arith)
+marked-same false false m n some other h = refl
+
+module _ (v : VersionData) where
+  pub mark-zero : (n c : ℕ) → mark v n c ≡ 0 → has_depth v n c ≡ false
+  unfolding mark
+  mark-zero n c h = marked-zero _ _ (full_long v n c) h
+
+  pub mark-more : (n c : ℕ) → 0 < mark v n c → has_depth v n c ≡ true
+  unfolding mark
+  mark-more n c h = marked-more (has_depth v n c) _ h
+
+  pub mark-deep : (n c : ℕ) → has_depth v n c ≡ false → mark v n c ≡ 0
+  unfolding mark
+  mark-deep n c h = marked-false _ _ h
+
+  pub mark-length : (n c : ℕ) → has_depth v n c ≡ true → mark v n c ≡ min (length (full v true n c)) 65
+  unfolding mark
+  mark-length n c h = marked-true _ _ h
+
+  same_depth : (m n c : ℕ) → mark v m c ≡ mark v n c → has_depth v m c ≡ has_depth v n c
+  unfolding mark
+  same_depth m n c h = marked-same (has_depth v m c) (has_depth v n c) _ _ (full_long v m c) (full_long v n c) h
+
+-- ---- a round that changes no mark is the last one that changes any
+
+list_all-same : (p q : ℕ → Bool) → ((c : ℕ) → p c ≡ q c) → (xs : List ℕ) → list_all p xs ≡ list_all q xs
+list_all-same p q same [] = refl
+list_all-same p q same (x ∷ xs) = ap (λ b. b && list_all p xs) (same x) ∙ ap (λ b. q x && b) (list_all-same p q same xs)
+
+module _ (v : VersionData) (n : ℕ) (still : (c : ℕ) → mark v (suc n) c ≡ mark v n c) where
+  depth_step : (m : ℕ) → ((c : ℕ) → has_depth v m c ≡ has_depth v n c) → (c : ℕ) → has_depth v (suc m) c ≡ has_depth v n c
+  depth_step m before c =
+      suc_depth v m c _ refl ∙ list_all-same (has_depth v m) (has_depth v n) before (mapping_of v c) ∙ sym (suc_depth v n c _ refl)
+      ∙ same_depth v (suc n) n c (still c)
+
+  settled_depth : (m : ℕ) → n ≤ m → (c : ℕ) → has_depth v m c ≡ has_depth v n c
+  settled_depth zero le c = let same : zero ≡ n = omega arith in ap (λ k. has_depth v k c) same
+  settled_depth (suc m) le c =
+      elim (cases_eq (suc m) n) [
+        | inl same ↦ ap (λ k. has_depth v k c) same
+        | inr other ↦ depth_step m (settled_depth m (omega arith)) c
+      ]
+
+  settled_full : (m : ℕ) → n ≤ m → (c : ℕ) → has_depth v n c ≡ true → full v true m c ≡ full v true n c
+  settled_full zero le c h = let same : zero ≡ n = omega arith in ap (λ k. full v true k c) same
+  settled_full (suc m) le c h =
+      elim (cases_eq (suc m) n) [
+        | inl same ↦ ap (λ k. full v true k c) same
+        | inr other ↦
+            let below : n ≤ m = omega arith in
+            full-more v true m c (settled_depth m below c ∙ h) ∙ settled_full m below c h
+      ]
+
+  settled_marked : (m : ℕ) → n ≤ m → (xs : List ℕ) (b : Bool) → list_all (has_depth v n) xs ≡ b → marked b (length (flat_map (full v true m) xs)) ≡ marked b (length (flat_map (full v true n) xs))
+  settled_marked m le xs true h =
+      ap (λ l. marked true (length l)) (flat_map-same v true (full v true m) (full v true n) (has_depth v n) (settled_full m le) xs h)
+  settled_marked m le xs false h = refl
+
+  settled_parts : (m : ℕ) → n ≤ m → (xs : List ℕ) → parts_mark v m xs ≡ parts_mark v n xs
+  unfolding parts_mark
+  settled_parts m le xs =
+      ap (λ b. marked b (length (flat_map (full v true m) xs))) (list_all-same (has_depth v m) (has_depth v n) (settled_depth m le) xs)
+      ∙ settled_marked m le xs (list_all (has_depth v n) xs) refl
+
+  settled_mapping : (m : ℕ) → n ≤ m → (xs : List ℕ) → mapping_mark v (suc m) xs ≡ mapping_mark v (suc n) xs
+  unfolding mapping_mark
+  settled_mapping m le [] = refl
+  settled_mapping m le (x ∷ xs) = settled_parts m le (x ∷ xs)
+
+  map-same : (f g : List ℕ → ℕ) → ((xs : List ℕ) → f xs ≡ g xs) → (es : List Entry) → map (λ e. f e.mapping) es ≡ map (λ e. g e.mapping) es
+  map-same f g same [] = refl
+  map-same f g same (e ∷ es) = ap (λ x. x ∷ map (λ e. f e.mapping) es) (same e.mapping) ∙ ap (λ l. g e.mapping ∷ l) (map-same f g same es)
+
+  pub settled_rows : (m : ℕ) → n ≤ m → row_marks v (suc m) ≡ row_marks v (suc n)
+  unfolding row_marks
+  settled_rows m le = map-same (mapping_mark v (suc m)) (mapping_mark v (suc n)) (settled_mapping m le) v.entries
+
+-- ---- where the rows' marks are the same, the marks of all code points are
+
+map_at : (f g : List ℕ → ℕ) → f [] ≡ g [] → (es : List Entry) (c : ℕ) → map (λ e. f e.mapping) es ≡ map (λ e. g e.mapping) es → f (mapping_in (entry_at es c)) ≡ g (mapping_in (entry_at es c))
+unfolding entry_at
+map_at f g none [] c h = none
+map_at f g none (e ∷ es) c h =
+    elim (cases_Bool (leb e.first c && leb c e.last)) [
+      | inl here ↦ subst (λ o. f (mapping_in o) ≡ g (mapping_in o)) (sym (cond-true _ _ _ here)) (cc)
+      | inr later ↦ subst (λ o. f (mapping_in o) ≡ g (mapping_in o)) (sym (cond-false _ _ _ later)) (map_at f g none es c (cc))
+    ]
+
+bare_mark : (v : VersionData) (m n : ℕ) → mapping_mark v m [] ≡ mapping_mark v n []
+unfolding mapping_mark
+bare_mark v m n = refl
+
+pub marks-from_rows : (v : VersionData) → AreRows v.entries → (m n c : ℕ) → row_marks v m ≡ row_marks v n → (has_hangul v && is_syllable c) ≡ false → mark v m c ≡ mark v n c
+unfolding row_marks
+marks-from_rows v rows m n c h other =
+    mark-file v rows m c other ∙ map_at (mapping_mark v m) (mapping_mark v n) (bare_mark v m n) v.entries c h ∙ sym (mark-file v rows n c other)

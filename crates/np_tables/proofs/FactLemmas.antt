@@ -1,0 +1,78 @@
+-- What holds of each code point because the rows are those of a data file.
+use Rattle.std.proofs.Common.{◌≡◌, ◌≢◌, ℕ, ◌+◌, ◌-◌, ◌*◌, ◌/◌, ◌%◌, ◌<◌, ◌≤◌, ◌⊎◌, Bool, true, false, not, ◌&&◌, ◌||◌, ◌==◌, nat_le, nat_lt, List, [], ◌∷◌, Option, Some, None, is_some, refl, sym, ap, subst, ◌∙◌, arith, inl, inr, le-leb, lt-ltb}
+use lib.Utf8.{scalar}
+use Rattle.std.specs.List.{list_all}
+use Rattle.std.proofs.lemmas.Bool.{cond-true, cond-false, cases_Bool, and_parts, and_from, leb-true, ltb-true}
+use Rattle.np_ucd.specs.Entries.{Entry, IsRow, AreRows}
+use Rattle.np_code_points.specs.Hangul.{is_syllable, syllable_pair}
+use Rattle.np_tables.specs.RowPlaces.{lies_in}
+use Rattle.np_tables.specs.Versions.{VersionData, entry_at, is_assigned, class_of, class_in, file_mapping, mapping_in, mapping_of, has_hangul, is_empty}
+use Rattle.np_tables.proofs.PrimaryLemmas.{syllable_bounds}
+use Rattle.np_tables.proofs.RowLemmas.{entry_at-row, entry_at-within}
+
+bounded_in : (o : Option Entry) (c : ℕ) → ((e : Entry) → o ≡ Some e → IsRow e) → ((e : Entry) → o ≡ Some e → c ≤ e.last) → is_some o ≡ true → c < 0x110000
+bounded_in None c row last h = cc
+bounded_in (Some e) c row last h = let b = (row e refl).bounded in let l = last e refl in omega arith
+
+pub bounded-at : (v : VersionData) (c : ℕ) → AreRows v.entries → is_assigned v c ≡ true → c < 0x110000
+unfolding is_assigned
+bounded-at v c rows h = bounded_in (entry_at v.entries c) c (λ e is. entry_at-row v.entries c e rows is) (λ e is. (entry_at-within v.entries c e is).1) h
+
+class_bound : (o : Option Entry) → ((e : Entry) → o ≡ Some e → IsRow e) → class_in o ≤ 254
+class_bound None row = omega arith
+class_bound (Some e) row = (row e refl).class
+
+pub classes-at : (v : VersionData) (c : ℕ) → AreRows v.entries → class_of v c ≤ 254
+unfolding class_of
+classes-at v c rows = class_bound (entry_at v.entries c) (λ e is. entry_at-row v.entries c e rows is)
+
+scalars_in : (o : Option Entry) → ((e : Entry) → o ≡ Some e → IsRow e) → list_all scalar (mapping_in o) ≡ true
+scalars_in None row = refl
+scalars_in (Some e) row = (row e refl).scalars
+
+scalar_low : (n : ℕ) → n < 0xD800 → scalar n ≡ true
+scalar_low n h = cond-true _ _ _ (lt-ltb n 0xD800 h)
+
+scalars_pair : (c : ℕ) → is_syllable c ≡ true → list_all scalar (syllable_pair c) ≡ true
+unfolding syllable_pair
+scalars_pair c h =
+    let index = c - 0xAC00 in
+    let bounds = syllable_bounds c h in
+    let both : (a b : ℕ) → a < 0xD800 → b < 0xD800 → list_all scalar (a ∷ b ∷ []) ≡ true = λ a b la lb. and_from _ _ (scalar_low a la) (and_from _ _ (scalar_low b lb) refl) in
+    let leading = 0x1100 + index / 588 in
+    let vowel = 0x1161 + index % 588 / 28 in
+    let base = c - index % 28 in
+    let trailing = 0x11A7 + index % 28 in
+    elim (cases_Bool (index % 28 == 0)) [
+      | inl lv ↦ ap (list_all scalar) (cond-true (index % 28 == 0) (leading ∷ vowel ∷ []) (base ∷ trailing ∷ []) lv) ∙ both leading vowel (omega arith) (omega arith)
+      | inr lvt ↦ ap (list_all scalar) (cond-false (index % 28 == 0) (leading ∷ vowel ∷ []) (base ∷ trailing ∷ []) lvt) ∙ both base trailing (omega arith) (omega arith)
+    ]
+
+pub scalars-at : (v : VersionData) (c : ℕ) → AreRows v.entries → list_all scalar (mapping_of v c) ≡ true
+unfolding mapping_of file_mapping
+scalars-at v c rows =
+    elim (cases_Bool (has_hangul v && is_syllable c)) [
+      | inl on ↦ ap (list_all scalar) (cond-true _ (syllable_pair c) (file_mapping v c) on) ∙ scalars_pair c (and_parts _ _ on).1
+      | inr off ↦
+          ap (list_all scalar) (cond-false _ (syllable_pair c) (file_mapping v c) off)
+          ∙ scalars_in (entry_at v.entries c) (λ e is. entry_at-row v.entries c e rows is)
+    ]
+
+mapped_in_row : (o : Option Entry) (c : ℕ) → ((e : Entry) → o ≡ Some e → IsRow e) → ((e : Entry) → o ≡ Some e → (e.first ≤ c) × (c ≤ e.last)) → mapping_in o ≢ [] → scalar c ≡ true
+mapped_in_row None c row within h = absurd (h refl)
+mapped_in_row (Some e) c row within h =
+    let is = row e refl in
+    let range = within e refl in
+    let alone = is.alone h in
+    let same : e.first ≡ c = omega arith in
+    ap scalar (sym same) ∙ is.mapped_scalar h
+
+pub mapped_scalar-at : (v : VersionData) (c : ℕ) → AreRows v.entries → mapping_of v c ≢ [] → scalar c ≡ true
+unfolding mapping_of file_mapping
+mapped_scalar-at v c rows h =
+    elim (cases_Bool (has_hangul v && is_syllable c)) [
+      | inl on ↦ (let bounds = syllable_bounds c (and_parts _ _ on).1 in scalar_low c (omega arith))
+      | inr off ↦
+          mapped_in_row (entry_at v.entries c) c (λ e is. entry_at-row v.entries c e rows is) (λ e is. entry_at-within v.entries c e is)
+          (λ none. h (cond-false _ (syllable_pair c) (file_mapping v c) off ∙ none))
+    ]

@@ -1,0 +1,68 @@
+-- A row of the file at its place.
+use Rattle.std.proofs.Common.{◌≡◌, ℕ, zero, suc, ◌<◌, ◌≤◌, false, ◌&&◌, List, [], ◌∷◌, Some, sym, ap, subst, ◌∙◌, arith, inl, inr, le-leb, nat_le}
+use Rattle.std.specs.List.{slice_get}
+use Rattle.std.proofs.lemmas.Bool.{cases_Bool, and_from, and_parts, and_right, lt-leb, leb-true, both_ways}
+use Rattle.std.proofs.lemmas.Option.{none-some, same_Some}
+use Rattle.np_ucd.specs.Entries.{Entry, IsRow, AreRows}
+use Rattle.np_tables.specs.RowPlaces.{lies_in}
+use Rattle.np_tables.specs.Versions.{VersionData, entry_at, file_kind, file_mapping, is_empty, has_hangul, kind_in, mapping_in}
+use Rattle.np_code_points.specs.Hangul.{is_syllable}
+use Rattle.np_tables.proofs.RowLemmas.{entry_at-hit, entry_at-miss, entry_at-nil}
+use Rattle.np_tables.proofs.CompositeLemmas.{syllable_row}
+use Rattle.np_tables.proofs.PrimaryLemmas.{hangul_parts}
+
+pub row-at : (es : List Entry) (i : ℕ) (e : Entry) → AreRows es → slice_get es i ≡ Some e → IsRow e
+row-at [] i e rows h = absurd (none-some e h)
+row-at (x ∷ xs) zero e rows h = subst IsRow (same_Some x e h) rows.0
+row-at (x ∷ xs) (suc i) e rows h = row-at xs i e rows.2 h
+
+-- a later row lies behind
+later : (x : Entry) (xs : List Entry) (i : ℕ) (e : Entry) → AreRows (x ∷ xs) → slice_get xs i ≡ Some e → x.last < e.first
+later x [] i e rows h = absurd (none-some e h)
+later x (y ∷ ys) zero e rows h = subst (λ (f : Entry). x.last < f.first) (same_Some y e h) rows.1
+later x (y ∷ ys) (suc i) e rows h =
+    let behind = later y ys i e rows.2 h in let rise = rows.2.0.rises in let next = rows.1 in omega arith
+
+-- the row of a row's first code point is the row itself
+pub first-at : (es : List Entry) (i : ℕ) (e : Entry) → AreRows es → slice_get es i ≡ Some e → entry_at es e.first ≡ Some e
+first-at [] i e rows h = absurd (none-some e h)
+first-at (x ∷ xs) zero e rows h =
+    let same = same_Some x e h in
+    let rise = rows.0.rises in
+    subst (λ (f : Entry). entry_at (x ∷ xs) f.first ≡ Some f) same
+    (entry_at-hit x xs x.first (and_from _ _ (le-leb x.first x.first (omega arith)) (le-leb x.first x.last rise)))
+first-at (x ∷ xs) (suc i) e rows h =
+    let behind = later x xs i e rows h in
+    entry_at-miss x xs e.first (and_right (nat_le x.first e.first) _ (lt-leb e.first x.last behind)) ∙ first-at xs i e rows.2 h
+
+-- a row that is found lists the code point
+pub found-lists : (es : List Entry) (c : ℕ) (e : Entry) → entry_at es c ≡ Some e → (e.first ≤ c) × (c ≤ e.last)
+found-lists [] c e h = absurd (none-some e (sym (entry_at-nil c) ∙ h))
+found-lists (x ∷ xs) c e h =
+    elim (cases_Bool (lies_in (Some x) c)) [
+      | inl in_row ↦
+          let halves = and_parts (nat_le x.first c) (nat_le c x.last) in_row in
+          let low = leb-true x.first c halves.0 in
+          let high = leb-true c x.last halves.1 in
+          subst (λ (f : Entry). (f.first ≤ c) × (c ≤ f.last)) (same_Some x e (sym (entry_at-hit x xs c in_row) ∙ h)) (low, high)
+      | inr past ↦ found-lists xs c e (sym (entry_at-miss x xs c past) ∙ h)
+    ]
+
+-- what the file says where a row is found
+pub file_mapping-found : (v : VersionData) (c : ℕ) (e : Entry) → entry_at v.entries c ≡ Some e → file_mapping v c ≡ e.mapping
+unfolding file_mapping
+file_mapping-found v c e h = ap mapping_in h
+
+pub file_kind-found : (v : VersionData) (c : ℕ) (e : Entry) → entry_at v.entries c ≡ Some e → file_kind v c ≡ e.kind
+unfolding file_kind
+file_kind-found v c e h = ap kind_in h
+
+-- where the file has a mapping, the arithmetic has none
+pub mapped-off : (v : VersionData) (c : ℕ) → is_empty (file_mapping v c) ≡ false → (has_hangul v && is_syllable c) ≡ false
+mapped-off v c some =
+    elim (cases_Bool (has_hangul v && is_syllable c)) [
+      | inl on ↦
+          let halves = and_parts (has_hangul v) (is_syllable c) on in
+          absurd (both_ways _ some (hangul_parts v c (syllable_row v c halves.0 halves.1)).mapping)
+      | inr off ↦ off
+    ]

@@ -1,0 +1,185 @@
+-- The syllables and jamo, counted from 0, and those that are wrong.
+use Rattle.std.proofs.Common.{◌≡◌, ℕ, ◌+◌, ◌-◌, ◌<◌, ◌≤◌, ◌⊎◌, Bool, true, false, ◌&&◌, ◌||◌, nat_le, nat_lt, Option, Some, None, refl, sym, ap, subst, zero, suc, ◌∙◌, arith, inl, inr, le-leb, lt-ltb}
+use Rattle.std.proofs.lemmas.Bool.{cond-true, cond-false, cases_Bool, cases_lt, cases_eq, and_parts, and_from, leb-true, ltb-true, le-ltb, both_ways}
+use Rattle.np_code_points.specs.Hangul.{is_among, is_syllable}
+use Rattle.np_tables.specs.Faults.{IsHangulWrong, IsLeastOf}
+use Rattle.np_tables.specs.HangulRows.{HasAssignedHangul, hangul_at}
+use Rattle.np_tables.specs.Versions.{VersionData, is_assigned, is_hangul, is_hangul_row, all_from, all_hangul, has_hangul}
+
+among_bounds : (base count c : ℕ) → is_among base count c ≡ true → (base ≤ c) × (c < base + count)
+among_bounds base count c h = let range = and_parts _ _ h in (leb-true base c range.0, ltb-true c (base + count) range.1)
+
+among_from : (base count c : ℕ) → base ≤ c → c < base + count → is_among base count c ≡ true
+among_from base count c low high = and_from _ _ (le-leb base c low) (lt-ltb c (base + count) high)
+
+-- the four runs of code points
+unfoldable pub Runs : ℕ → Type 0
+Runs c = ((0x1100 ≤ c) × (c < 0x1113)) ⊎ (((0x1161 ≤ c) × (c < 0x1176)) ⊎ (((0x11A8 ≤ c) × (c < 0x11C3)) ⊎ ((0xAC00 ≤ c) × (c < 0xD7A4))))
+
+or_cases : (a b : Bool) → (a || b) ≡ true → (a ≡ true) ⊎ (b ≡ true)
+or_cases true b h = inl refl
+or_cases false b h = inr h
+
+or_left : (a b : Bool) → a ≡ true → (a || b) ≡ true
+or_left true b h = refl
+or_left false b h = cc
+
+or_right : (a b : Bool) → b ≡ true → (a || b) ≡ true
+or_right true b h = refl
+or_right false b h = h
+
+pub hangul_runs : (c : ℕ) → is_hangul c ≡ true → Runs c
+unfolding Runs
+hangul_runs c h =
+    elim (or_cases (is_among 0x1100 19 c || is_among 0x1161 21 c || is_among 0x11A8 27 c) (is_syllable c) h) [
+      | inr s ↦ (let b = among_bounds 0xAC00 11172 c s in inr (inr (inr (b.0, omega arith))))
+      | inl three ↦ elim (or_cases (is_among 0x1100 19 c || is_among 0x1161 21 c) (is_among 0x11A8 27 c) three) [
+        | inr t ↦ (let b = among_bounds 0x11A8 27 c t in inr (inr (inl (b.0, omega arith))))
+        | inl two ↦ elim (or_cases (is_among 0x1100 19 c) (is_among 0x1161 21 c) two) [
+          | inr v ↦ (let b = among_bounds 0x1161 21 c v in inr (inl (b.0, omega arith)))
+          | inl l ↦ (let b = among_bounds 0x1100 19 c l in inl (b.0, omega arith))
+        ]
+      ]
+    ]
+
+pub runs_hangul : (c : ℕ) → Runs c → is_hangul c ≡ true
+unfolding Runs
+runs_hangul c runs =
+    elim runs [
+      | inl l ↦ or_left (is_among 0x1100 19 c || is_among 0x1161 21 c || is_among 0x11A8 27 c) (is_syllable c) (or_left (is_among 0x1100 19 c || is_among 0x1161 21 c) _ (or_left (is_among 0x1100 19 c) _ (among_from 0x1100 19 c l.0 (omega arith))))
+      | inr rest ↦ elim rest [
+        | inl v ↦ or_left (is_among 0x1100 19 c || is_among 0x1161 21 c || is_among 0x11A8 27 c) (is_syllable c) (or_left (is_among 0x1100 19 c || is_among 0x1161 21 c) _ (or_right (is_among 0x1100 19 c) _ (among_from 0x1161 21 c v.0 (omega arith))))
+        | inr rest ↦ elim rest [
+          | inl t ↦ or_left (is_among 0x1100 19 c || is_among 0x1161 21 c || is_among 0x11A8 27 c) (is_syllable c) (or_right (is_among 0x1100 19 c || is_among 0x1161 21 c) _ (among_from 0x11A8 27 c t.0 (omega arith)))
+          | inr s ↦ or_right (is_among 0x1100 19 c || is_among 0x1161 21 c || is_among 0x11A8 27 c) (is_syllable c) (among_from 0xAC00 11172 c s.0 (omega arith))
+        ]
+      ]
+    ]
+
+pub leading_run : (k : ℕ) → k < 19 → Runs (0x1100 + k)
+unfolding Runs
+leading_run k lt = inl (omega arith, omega arith)
+
+pub vowel_run : (k : ℕ) → k < 21 → Runs (0x1161 + k)
+unfolding Runs
+vowel_run k lt = inr (inl (omega arith, omega arith))
+
+pub trailing_run : (k : ℕ) → k < 27 → Runs (0x11A8 + k)
+unfolding Runs
+trailing_run k lt = inr (inr (inl (omega arith, omega arith)))
+
+pub syllable_run : (k : ℕ) → k < 11172 → Runs (0xAC00 + k)
+unfolding Runs
+syllable_run k lt = inr (inr (inr (omega arith, omega arith)))
+
+-- what a place stands for
+unfoldable pub Stands : ℕ → ℕ → Type 0
+Stands i c = ((i < 19) × (c ≡ 0x1100 + i)) ⊎ (((19 ≤ i) × (i < 40) × (c ≡ 0x1161 + (i - 19))) ⊎ (((40 ≤ i) × (i < 67) × (c ≡ 0x11A8 + (i - 40))) ⊎ ((67 ≤ i) × (c ≡ 0xAC00 + (i - 67)))))
+
+stands : (i : ℕ) → Stands i (hangul_at i)
+unfolding Stands hangul_at
+stands i =
+    elim (cases_lt i 19) [
+      | inl l ↦ inl (l, cond-true (nat_lt i 19) _ _ (lt-ltb i 19 l))
+      | inr al ↦ elim (cases_lt i 40) [
+        | inl v ↦ inr (inl (al, v, cond-false (nat_lt i 19) _ _ (le-ltb i 19 al) ∙ cond-true (nat_lt i 40) _ _ (lt-ltb i 40 v)))
+        | inr av ↦ elim (cases_lt i 67) [
+          | inl t ↦ inr (inr (inl (av, t, cond-false (nat_lt i 19) _ _ (le-ltb i 19 al) ∙ cond-false (nat_lt i 40) _ _ (le-ltb i 40 av) ∙ cond-true (nat_lt i 67) _ _ (lt-ltb i 67 t))))
+          | inr at ↦ inr (inr (inr (at, cond-false (nat_lt i 19) _ _ (le-ltb i 19 al) ∙ cond-false (nat_lt i 40) _ _ (le-ltb i 40 av) ∙ cond-false (nat_lt i 67) _ _ (le-ltb i 67 at))))
+        ]
+      ]
+    ]
+
+pub hangul_at-hangul : (i : ℕ) → i < 11239 → is_hangul (hangul_at i) ≡ true
+unfolding Stands Runs
+hangul_at-hangul i lt =
+    runs_hangul (hangul_at i)
+    (elim (stands i) [
+      | inl l ↦ inl (omega arith, omega arith)
+      | inr rest ↦ elim rest [
+        | inl v ↦ inr (inl (omega arith, omega arith))
+        | inr rest ↦ elim rest [
+          | inl t ↦ inr (inr (inl (omega arith, omega arith)))
+          | inr s ↦ inr (inr (inr (omega arith, omega arith)))
+        ]
+      ]
+    ])
+
+pub stands-is : (i c : ℕ) → Stands i c → c ≡ hangul_at i
+unfolding Stands
+stands-is i c h = let s = stands i in grind arith
+
+-- the place of a syllable or jamo
+place : (c : ℕ) → Runs c → (i : ℕ) × (i < 11239) × (hangul_at i ≡ c)
+unfolding Runs Stands
+place c runs =
+    elim runs [
+      | inl l ↦ (c - 0x1100, omega arith, sym (stands-is (c - 0x1100) c (inl (omega arith, omega arith))))
+      | inr rest ↦ elim rest [
+        | inl v ↦ (19 + (c - 0x1161), omega arith, sym (stands-is (19 + (c - 0x1161)) c (inr (inl (omega arith, omega arith, omega arith)))))
+        | inr rest ↦ elim rest [
+          | inl t ↦ (40 + (c - 0x11A8), omega arith, sym (stands-is (40 + (c - 0x11A8)) c (inr (inr (inl (omega arith, omega arith, omega arith))))))
+          | inr s ↦ (67 + (c - 0xAC00), omega arith, sym (stands-is (67 + (c - 0xAC00)) c (inr (inr (inr (omega arith, omega arith))))))
+        ]
+      ]
+    ]
+
+pub hangul_at-le : (i j : ℕ) → i ≤ j → hangul_at i ≤ hangul_at j
+unfolding Stands
+hangul_at-le i j le = let a = stands i in let b = stands j in grind arith
+
+pub each_hangul : (P : ℕ → Type 0) → ((k : ℕ) → k < 11239 → P (hangul_at k)) → (c : ℕ) → is_hangul c ≡ true → P c
+each_hangul P all c h = let at = place c (hangul_runs c h) in subst P at.2 (all at.0 at.1)
+
+-- a syllable or jamo that lacks what holds of the places below i is none of these
+pub not_below : (P : ℕ → Type 0) (i : ℕ) → ((k : ℕ) → k < i → P (hangul_at k)) → (c : ℕ) → is_hangul c ≡ true → ¬ P c → hangul_at i ≤ c
+not_below P i all c h lacks =
+    let at = place c (hangul_runs c h) in
+    elim (cases_lt at.0 i) [
+      | inl lt ↦ absurd (lacks (subst P at.2 (all at.0 lt)))
+      | inr le ↦ (let up = hangul_at-le i at.0 le in let is = at.2 in omega arith)
+    ]
+
+abbrev pub IsRight : VersionData → ℕ → Type 0
+IsRight v c = is_hangul_row v c ≡ true
+
+-- the first wrong one that is met
+pub first_wrong-some : (v : VersionData) (i : ℕ) → HasAssignedHangul v → i < 11239 → ((k : ℕ) → k < i → is_hangul_row v (hangul_at k) ≡ true) → is_hangul_row v (hangul_at i) ≡ false → IsLeastOf (IsHangulWrong v) (hangul_at i)
+first_wrong-some v i some lt before here =
+    record {
+      holds = record { hangul = hangul_at-hangul i lt; some = some.some; some_hangul = some.some_hangul; some_assigned = some.some_assigned; wrong = here };
+      least = λ d wrong. not_below (IsRight v) i before d wrong.hangul (λ right. both_ways _ wrong.wrong right);
+    }
+
+pub first_wrong-none : (v : VersionData) → ((k : ℕ) → k < 11239 → is_hangul_row v (hangul_at k) ≡ true) → (c : ℕ) → ¬ (IsHangulWrong v c)
+first_wrong-none v all c wrong = both_ways _ wrong.wrong (each_hangul (IsRight v) all c wrong.hangul)
+
+pub none_assigned : (v : VersionData) → ((c : ℕ) → is_hangul c ≡ true → is_assigned v c ≡ false) → (c : ℕ) → ¬ (IsHangulWrong v c)
+none_assigned v none c wrong = both_ways _ (none wrong.some wrong.some_hangul) wrong.some_assigned
+
+pub lacking : (v : VersionData) → ((k : ℕ) → k < 11239 → is_assigned v (hangul_at k) ≡ false) → (c : ℕ) → is_hangul c ≡ true → is_assigned v c ≡ false
+lacking v all c h = each_hangul (λ d. is_assigned v d ≡ false) all c h
+
+pub having : (v : VersionData) (i : ℕ) → i < 11239 → is_assigned v (hangul_at i) ≡ true → HasAssignedHangul v
+having v i lt h = record { some = hangul_at i; some_hangul = hangul_at-hangul i lt; some_assigned = h }
+
+all_from-from : (p : ℕ → Bool) (base n : ℕ) → ((k : ℕ) → k < n → p (base + k) ≡ true) → all_from p base n ≡ true
+unfolding all_from
+all_from-from p base zero all = refl
+all_from-from p base (suc n) all = and_from _ _ (all n (omega arith)) (all_from-from p base n (λ k lt. all k (omega arith)))
+
+-- where none is wrong and one is assigned, the arithmetic is on
+pub on_where_right : (v : VersionData) → ((c : ℕ) → ¬ (IsHangulWrong v c)) → (c : ℕ) → is_hangul c ≡ true → is_assigned v c ≡ true → has_hangul v ≡ true
+unfolding has_hangul all_hangul
+on_where_right v none c h assigned =
+    let p = is_hangul_row v in
+    let right : (d : ℕ) → Runs d → p d ≡ true = λ d runs.
+    elim (cases_Bool (p d)) [
+      | inl row ↦ row
+      | inr wrong ↦ absurd (none d (record { hangul = runs_hangul d runs; some = c; some_hangul = h; some_assigned = assigned; wrong = wrong }))
+    ] in
+    and_from _ _
+    (and_from _ _
+    (and_from _ _ (all_from-from p 0x1100 19 (λ k lt. right (0x1100 + k) (leading_run k lt))) (all_from-from p 0x1161 21 (λ k lt. right (0x1161 + k) (vowel_run k lt))))
+    (all_from-from p 0x11A8 27 (λ k lt. right (0x11A8 + k) (trailing_run k lt))))
+    (all_from-from p 0xAC00 11172 (λ k lt. right (0xAC00 + k) (syllable_run k lt)))

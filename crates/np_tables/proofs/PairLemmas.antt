@@ -1,0 +1,106 @@
+-- Composites in the order of their pairs.
+use Rattle.std.proofs.Common.{◌≡◌, ℕ, ◌+◌, ◌<◌, ◌≤◌, ◌⊎◌, true, false, nat_lt, nat_eq, List, length, get_or, sym, ap, ◌∙◌, arith, inl, inr}
+use Rattle.std.proofs.lemmas.Bool.{cases_order, cases_lt, cond-true, cond-false, lt-ltb, le-ltb, eq-eqb}
+use Rattle.std.proofs.lemmas.Bool.Decides.{nat_tests}
+use Rattle.std.proofs.lemmas.List.{get_or_default}
+use Rattle.std.proofs.lemmas.List.Sorted.{IsNonDecreasingBy-from_all_adjacent, All-permutation}
+use Rattle.std.specs.Ordering.{is_lt, ordering_then, nat_cmp}
+use Rattle.std.specs.declared.cmp.Ordering.{Ordering}
+use Rattle.std.specs.declared.cmp.Ordering.TheVariants.{Less, Equal}
+use Rattle.std.specs.List.{All, AllWithin}
+use Rattle.std.specs.List.Sorted.{IsPermutation, IsSorted}
+use Rattle.np_tables.specs.declared.pairs.Composite.{Composite}
+use Rattle.np_tables.specs.Pairs.{Lists, pair_rank, rank, IsInRange, AreOrdered}
+
+-- the order of the fields, one after another
+abbrev cmp : Composite → Composite → Ordering
+cmp x y = ordering_then (nat_cmp x.first y.first) (ordering_then (nat_cmp x.second y.second) (nat_cmp x.code y.code))
+
+le_from_cmp : (a b : ℕ) → is_lt (nat_cmp a b) ≡ false → b ≤ a
+le_from_cmp a b h = grind (arith, nat_tests)
+
+-- a first field that settles the order, or equal ones
+then_cases : (a b : ℕ) (o : Ordering) → is_lt (ordering_then (nat_cmp a b) o) ≡ false → (b < a) ⊎ ((a ≡ b) × (is_lt o ≡ false))
+then_cases a b o h =
+    elim (cases_order a b) [
+      | inl same ↦
+          let lt : nat_lt a b ≡ false = le-ltb a b (omega arith) in
+          let eq : nat_eq a b ≡ true = eq-eqb a b same in
+          let e : nat_cmp a b ≡ Equal = cond-false _ _ _ lt ∙ cond-true _ _ _ eq in
+          inr (same, sym (ap (λ r. is_lt (ordering_then r o)) e) ∙ h)
+      | inr other ↦ elim other [
+        | inl less ↦
+            let e : nat_cmp a b ≡ Less = cond-true _ _ _ (lt-ltb a b less) in
+            let e2 : true ≡ false = sym (ap (λ r. is_lt (ordering_then r o)) e) ∙ h in
+            cc
+        | inr more ↦ inl more
+      ]
+    ]
+
+rank_from_cmp : (x y : Composite) → IsInRange x → IsInRange y → is_lt (cmp y x) ≡ false → rank x ≤ rank y
+rank_from_cmp x y p q h =
+    elim (then_cases y.first x.first _ h) [
+      | inl less ↦ omega arith
+      | inr same ↦ elim (then_cases y.second x.second _ same.1) [
+        | inl less ↦ omega arith
+        | inr both ↦ let le = le_from_cmp y.code x.code both.1 in omega arith
+      ]
+    ]
+
+pub AreOrdered-from_sort : (xs ys : List Composite) → All IsInRange xs → IsPermutation xs ys → IsSorted cmp ys → AreOrdered ys
+AreOrdered-from_sort xs ys range moved sorted =
+    let all = All-permutation IsInRange xs ys moved range in
+    record {
+      rising = IsNonDecreasingBy-from_all_adjacent rank ys (λ k d lt. rank_from_cmp _ _ (all k d (omega arith)) (all (k + 1) d lt) (sorted k d (omega arith) lt));
+      range = all;
+    }
+
+module _ (cs : List Composite) (order : AreOrdered cs) where
+  -- earlier places have no later pairs
+  pub pairs_rise : (i j : ℕ) (d : Composite) → i ≤ j → j < length cs → pair_rank (get_or cs i d).first (get_or cs i d).second ≤ pair_rank (get_or cs j d).first (get_or cs j d).second
+  pairs_rise i j d le lt =
+      let up = order.rising i j d le lt in
+      let low = order.range i d (omega arith) in
+      let high = order.range j d lt in
+      omega arith
+
+  -- what comes before a pair at a place does so at each earlier one
+  pub before_more : (at : ℕ) (x : Composite) (r : ℕ) → at < length cs → x ≡ get_or cs at x → pair_rank x.first x.second < r → AllWithin (λ c. pair_rank c.first c.second < r) cs 0 (at + 1)
+  before_more at x r lt is less = λ k d low high.
+      let same : get_or cs at d ≡ x = get_or_default cs at d x lt ∙ sym is in
+      let here = ap (λ (c : Composite). pair_rank c.first c.second) same in
+      let up = pairs_rise k at d (omega arith) lt in
+      omega arith
+
+  -- and what doesn't, at no later one
+  pub after_more : (at : ℕ) (x : Composite) (r : ℕ) → at < length cs → x ≡ get_or cs at x → r ≤ pair_rank x.first x.second → AllWithin (λ c. r ≤ pair_rank c.first c.second) cs at (length cs)
+  after_more at x r lt is more = λ k d low high.
+      let same : get_or cs at d ≡ x = get_or_default cs at d x lt ∙ sym is in
+      let here = ap (λ (c : Composite). pair_rank c.first c.second) same in
+      let up = pairs_rise at k d low high in
+      omega arith
+
+  -- a pair that stands in no place
+  pub lists-none : (a b at : ℕ) → AllWithin (λ c. pair_rank c.first c.second < pair_rank a b) cs 0 at → length cs ≤ at → (code : ℕ) → ¬ Lists cs a b code
+  lists-none a b at below past code is =
+      let d : Composite = record { first = a; second = b; code = code } in
+      let less = below is.0 d (omega arith) (omega (arith, is.1)) in
+      let same = ap (λ (c : Composite). pair_rank c.first c.second) is.2 in
+      omega arith
+
+  pub lists-other : (a b at : ℕ) (x : Composite) → a < 0x110000 → b < 0x110000 → AllWithin (λ c. pair_rank c.first c.second < pair_rank a b) cs 0 at → AllWithin (λ c. pair_rank a b ≤ pair_rank c.first c.second) cs at (length cs) → at < length cs → x ≡ get_or cs at x → ((x.first ≡ a) → ¬ (x.second ≡ b)) → (code : ℕ) → ¬ Lists cs a b code
+  lists-other a b at x in_a in_b below above lt is other code has =
+      let d : Composite = record { first = a; second = b; code = code } in
+      let same = ap (λ (c : Composite). pair_rank c.first c.second) has.2 in
+      elim (cases_lt has.0 at) [
+        | inl early ↦ let less = below has.0 d (omega arith) early in omega arith
+        | inr late ↦
+            let up = pairs_rise at has.0 x late has.1 in
+            let here = ap (λ (c : Composite). pair_rank c.first c.second) is in
+            let there = ap (λ (c : Composite). pair_rank c.first c.second) (get_or_default cs has.0 x d has.1) in
+            let least = above at x (omega arith) lt in
+            let range = order.range at x lt in
+            let range_first = ap (λ (c : Composite). c.first) is in
+            let range_second = ap (λ (c : Composite). c.second) is in
+            other (omega arith) (omega arith)
+      ]

@@ -1,0 +1,194 @@
+-- The loops over the rows and over the parts of a mapping.
+use Rattle.std.proofs.Common.{◌≡◌, ◌≢◌, ℕ, zero, suc, ◌+◌, ◌-◌, ◌%◌, ◌<◌, ◌≤◌, Bool, true, false, ◌&&◌, ◌==◌, min, List, [], ◌∷◌, ◌++◌, map, flat_map, length, take, drop, get_or, Some, None, refl, sym, ap, ◌∙◌, inl, inr, arith, length-append, append-nil}
+use Rattle.std.proofs.lemmas.Bool.{cond-true, cond-false, and_from, eqb-true, eqb-false, eq-eqb, ne_eqb, le-leb, lt-leb}
+use Rattle.std.proofs.lemmas.List.{take_more, take_all, length-map, drop_all}
+use Rattle.std.proofs.lemmas.List.Folds.{list_all_at, list_all_more}
+use Rattle.std.proofs.lemmas.Grind.{flat_map-append, get_or_default_zero}
+use Rattle.std.proofs.Math.Nat.{min-le_right}
+use Rattle.std.specs.List.{list_all, slice_get}
+use Rattle.std.specs.Option.{option_map}
+use Rattle.std.proofs.lemmas.Option.{slice_get_cases}
+use Rattle.np_ucd.specs.Entries.{Entry, AreRows}
+use Rattle.np_code_points.specs.Hangul.{is_syllable}
+use Rattle.np_tables.specs.Versions.{VersionData, entry_at, mapping_in, is_empty, has_hangul}
+use Rattle.np_tables.specs.Mappings.{has_depth, full}
+use Rattle.np_tables.specs.Depths.{marked, mark, parts_mark, mapping_mark, row_marks, syllable_depth, syllable_mark, first_row, is_marked}
+use Rattle.np_tables.proofs.DepthLemmas.{mark-file, mark-zero, mark-more, mark-length}
+use Rattle.np_tables.proofs.FirstLemmas.{first_row-hit, first_row-miss, first_row-nil}
+
+-- ---- the marks of the rows, one by one
+
+marks_at : (f : List ℕ → ℕ) (es : List Entry) (at d : ℕ) → at < length es → get_or (map (λ e. f e.mapping) es) at d ≡ f (mapping_in (slice_get es at))
+marks_at f [] at d lt = absurd (omega arith)
+marks_at f (e ∷ es) zero d lt = refl
+marks_at f (e ∷ es) (suc at) d lt = marks_at f es at d (omega arith)
+
+module _ (v : VersionData) (n : ℕ) where
+  pub length-row_marks : length (row_marks v n) ≡ length v.entries
+  unfolding row_marks
+  length-row_marks = length-map v.entries (λ e. mapping_mark v n e.mapping)
+
+  pub row_marks_at : (at d : ℕ) → at < length v.entries → get_or (row_marks v n) at d ≡ mapping_mark v n (mapping_in (slice_get v.entries at))
+  unfolding row_marks
+  row_marks_at at d lt = marks_at (mapping_mark v n) v.entries at d lt
+
+  pub row_marks_more : (at m : ℕ) (xs : List ℕ) → at < length v.entries → xs ≡ take at (row_marks v n) → m ≡ mapping_mark v n (mapping_in (slice_get v.entries at)) → xs ++ m ∷ [] ≡ take (at + 1) (row_marks v n)
+  row_marks_more at m xs lt before here =
+      let count = length-row_marks in
+      ap (λ l. l ++ m ∷ []) before ∙ ap (λ k. take at (row_marks v n) ++ k ∷ []) (here ∙ sym (row_marks_at at 0 lt))
+      ∙ sym (take_more (row_marks v n) at 0 (omega arith))
+
+  pub row_marks_all : (at : ℕ) (xs : List ℕ) → length v.entries ≤ at → xs ≡ take at (row_marks v n) → xs ≡ row_marks v n
+  row_marks_all at xs le h = let count = length-row_marks in h ∙ take_all at (row_marks v n) (omega arith)
+
+pub bare_mapping : (v : VersionData) (xs : List ℕ) → is_empty xs ≡ true → mapping_mark v 0 xs ≡ 1
+unfolding mapping_mark
+bare_mapping v [] h = refl
+bare_mapping v (x ∷ xs) h = cc
+
+pub deep_mapping : (v : VersionData) (xs : List ℕ) → is_empty xs ≡ false → mapping_mark v 0 xs ≡ 0
+unfolding mapping_mark
+deep_mapping v [] h = cc
+deep_mapping v (x ∷ xs) h = refl
+
+pub next_bare : (v : VersionData) (n : ℕ) (xs : List ℕ) → is_empty xs ≡ true → mapping_mark v (n + 1) xs ≡ 1
+unfolding mapping_mark
+next_bare v n [] h = refl
+next_bare v n (x ∷ xs) h = cc
+
+pub next_parts : (v : VersionData) (n : ℕ) (xs : List ℕ) → is_empty xs ≡ false → mapping_mark v (n + 1) xs ≡ parts_mark v n xs
+unfolding mapping_mark
+next_parts v n [] h = cc
+next_parts v n (x ∷ xs) h = let same : n + 1 ≡ suc n = omega arith in ap (λ k. mapping_mark v k (x ∷ xs)) same
+
+-- ---- the parts of a mapping, one by one
+
+pub record IsSum (v : VersionData) (n : ℕ) (xs : List ℕ) (s : ℕ) : Type 0 where
+  pub known : list_all (has_depth v n) xs ≡ true
+  pub total : s ≡ min (length (flat_map (full v true n) xs)) 65
+
+module _ (v : VersionData) (n : ℕ) where
+  pub IsSum-none : IsSum v n [] 0
+  IsSum-none = record { known = refl; total = refl }
+
+  flat_map-last : (xs : List ℕ) (x : ℕ) → length (flat_map (full v true n) (xs ++ x ∷ [])) ≡ length (flat_map (full v true n) xs) + length (full v true n x)
+  flat_map-last xs x =
+      ap length (flat_map-append (full v true n) xs (x ∷ []) ∙ ap (λ l. flat_map (full v true n) xs ++ l) (append-nil (full v true n x)))
+      ∙ length-append (flat_map (full v true n) xs) (full v true n x)
+
+  sums : (a b s m : ℕ) → s ≡ min a 65 → m ≡ min b 65 → min (s + m) 65 ≡ min (a + b) 65
+  sums a b s m first second = omega arith
+
+  pub IsSum-more : (xs : List ℕ) (i s m : ℕ) → i < length xs → IsSum v n (take i xs) s → m ≡ mark v n (get_or xs i 0) → 0 < m → IsSum v n (take (i + 1) xs) (min (s + m) 65)
+  IsSum-more xs i s m lt before is more =
+      let x = get_or xs i 0 in
+      let known : has_depth v n x ≡ true = mark-more v n x (omega arith) in
+      let long = is ∙ mark-length v n x known in
+      record {
+        known = list_all_more (has_depth v n) xs i 0 lt ∙ and_from _ _ before.known known;
+        total =
+            sums _ _ s m before.total long
+            ∙ ap (λ k. min k 65) (sym (ap (λ l. length (flat_map (full v true n) l)) (take_more xs i 0 lt) ∙ flat_map-last (take i xs) x));
+      }
+
+  pub parts-fail : (xs : List ℕ) (i : ℕ) → i < length xs → mark v n (get_or xs i 0) ≡ 0 → parts_mark v n xs ≡ 0
+  unfolding parts_mark
+  parts-fail xs i lt h =
+      ap (λ b. marked b (length (flat_map (full v true n) xs))) (list_all_at (has_depth v n) xs i 0 lt (mark-zero v n (get_or xs i 0) h))
+
+  pub parts-done : (xs : List ℕ) (i s : ℕ) → length xs ≤ i → IsSum v n (take i xs) s → parts_mark v n xs ≡ s
+  unfolding parts_mark
+  parts-done xs i s le is =
+      let all = take_all i xs le in
+      ap (λ b. marked b (length (flat_map (full v true n) xs))) (sym (ap (list_all (has_depth v n)) all) ∙ is.known)
+      ∙ sym (is.total ∙ ap (λ l. min (length (flat_map (full v true n) l)) 65) all)
+
+  marked-bound : (b : Bool) (k : ℕ) → marked b k ≤ 65
+  marked-bound true k = min-le_right k 65
+  marked-bound false k = omega arith
+
+  pub mark-bound : (c : ℕ) → mark v n c ≤ 65
+  unfolding mark
+  mark-bound c = marked-bound (has_depth v n c) _
+
+-- ---- the mark of a code point that is no syllable of the arithmetic
+
+module _ (v : VersionData) (rows : AreRows v.entries) (n c : ℕ) (other : (has_hangul v && is_syllable c) ≡ false) where
+  pub mark-none : entry_at v.entries c ≡ None → mark v n c ≡ 1
+  unfolding mapping_mark
+  mark-none h = mark-file v rows n c other ∙ ap (λ o. mapping_mark v n (mapping_in o)) h
+
+  pub mark-some : (at d : ℕ) → at < length v.entries → slice_get v.entries at ≡ entry_at v.entries c → get_or (row_marks v n) at d ≡ mark v n c
+  mark-some at d lt h = row_marks_at v n at d lt ∙ ap (λ o. mapping_mark v n (mapping_in o)) h ∙ sym (mark-file v rows n c other)
+
+-- ---- the first row with a mark
+
+first_drop-hit : (p : Entry → Bool) (es : List Entry) (at : ℕ) (e : Entry) → slice_get es at ≡ Some e → p e ≡ true → first_row p (drop at es) ≡ Some e.first
+first_drop-hit p [] at e found h = cc
+first_drop-hit p (f ∷ fs) zero e found h = let same : f ≡ e = cc in ap (λ r. first_row p (r ∷ fs)) same ∙ first_row-hit p e fs h
+first_drop-hit p (f ∷ fs) (suc at) e found h = first_drop-hit p fs at e found h
+
+first_drop-miss : (p : Entry → Bool) (es : List Entry) (at : ℕ) (e : Entry) → slice_get es at ≡ Some e → p e ≡ false → first_row p (drop (suc at) es) ≡ first_row p (drop at es)
+first_drop-miss p [] at e found h = cc
+first_drop-miss p (f ∷ fs) zero e found h =
+    let same : f ≡ e = cc in sym (first_row-miss p f fs (ap p same ∙ h))
+first_drop-miss p (f ∷ fs) (suc at) e found h = first_drop-miss p fs at e found h
+
+module _ (v : VersionData) (n m at : ℕ) where
+  row_marked : (e : Entry) → slice_get v.entries at ≡ Some e → at < length v.entries → get_or (row_marks v n) at 0 ≡ mapping_mark v n e.mapping
+  row_marked e found lt = row_marks_at v n at 0 lt ∙ ap (λ o. mapping_mark v n (mapping_in o)) found
+
+  pub first_marked-hit : at < length v.entries → get_or (row_marks v n) at 0 ≡ m → first_row (is_marked v n m) (drop at v.entries) ≡ option_map (λ e. e.first) (slice_get v.entries at)
+  first_marked-hit lt here =
+      elim (slice_get_cases v.entries at).1 [
+        | inl within ↦
+            first_drop-hit (is_marked v n m) v.entries at within.0 within.2 (eq-eqb _ m (sym (row_marked within.0 within.2 lt) ∙ here))
+            ∙ sym (ap (option_map (λ e. e.first)) within.2)
+        | inr past ↦ absurd (omega arith)
+      ]
+
+  pub first_marked-miss : at < length v.entries → get_or (row_marks v n) at 0 ≢ m → first_row (is_marked v n m) (drop (at + 1) v.entries) ≡ first_row (is_marked v n m) (drop at v.entries)
+  first_marked-miss lt other =
+      let next : at + 1 ≡ suc at = omega arith in
+      ap (λ k. first_row (is_marked v n m) (drop k v.entries)) next
+      ∙ elim (slice_get_cases v.entries at).1 [
+        | inl within ↦
+            first_drop-miss (is_marked v n m) v.entries at within.0 within.2
+            (ne_eqb _ m (λ same. other (row_marked within.0 within.2 lt ∙ same)))
+        | inr past ↦ absurd (omega arith)
+      ]
+
+  pub first_marked-end : length v.entries ≤ at → first_row (is_marked v n m) (drop at v.entries) ≡ None
+  first_marked-end le = ap (first_row (is_marked v n m)) (drop_all at v.entries le) ∙ first_row-nil (is_marked v n m)
+
+-- ---- the mark of a syllable
+
+pub depth_even : (c : ℕ) → (c - 0xAC00) % 28 ≡ 0 → syllable_depth c ≡ 1
+unfolding syllable_depth
+depth_even c h = cond-true _ 1 2 (eq-eqb ((c - 0xAC00) % 28) 0 h)
+
+pub depth_odd : (c : ℕ) → (c - 0xAC00) % 28 ≢ 0 → syllable_depth c ≡ 2
+unfolding syllable_depth
+depth_odd c h = cond-false _ 1 2 (ne_eqb ((c - 0xAC00) % 28) 0 h)
+
+pub mark_shown : (n c d : ℕ) → d ≡ syllable_depth c → d ≤ n → d + 1 ≡ syllable_mark n c
+unfolding syllable_mark
+mark_shown n c d same le = ap (λ k. k + 1) same ∙ sym (cond-true _ _ _ (le-leb (syllable_depth c) n (omega arith)))
+
+pub mark_hidden : (n c d : ℕ) → d ≡ syllable_depth c → n < d → 0 ≡ syllable_mark n c
+unfolding syllable_mark
+mark_hidden n c d same lt = sym (cond-false _ _ _ (lt-leb (syllable_depth c) n (omega arith)))
+
+-- ---- an empty list by its length
+
+pub empty_test : (xs : List ℕ) → (length xs == 0) ≡ true → is_empty xs ≡ true
+empty_test [] h = refl
+empty_test (x ∷ xs) h = let none = eqb-true (length (x ∷ xs)) 0 h in absurd (omega arith)
+
+pub full_test : (xs : List ℕ) → (length xs == 0) ≡ false → is_empty xs ≡ false
+full_test [] h = absurd (eqb-false 0 0 h refl)
+full_test (x ∷ xs) h = refl
+
+-- a list's item as the loop over it gives it
+pub part_at : (xs : List ℕ) (i code item : ℕ) → i < length xs → code ≡ item → item ≡ get_or xs i item → code ≡ get_or xs i 0
+part_at xs i code item lt same is = same ∙ is ∙ get_or_default_zero xs i item lt

@@ -1,0 +1,120 @@
+-- What the plain table answers.
+use Rattle.std.proofs.Common.{◌≡◌, ℕ, zero, suc, ◌<◌, Bool, true, false, ◌&&◌, ◌||◌, List, [], ◌∷◌, ◌++◌, length, map, get_or, Some, None, Option, IfSome, IfNone, refl, sym, ap, subst, ◌∙◌, arith, inl, inr, append-nil, if◌then◌else◌, MatchBool}
+use Rattle.std.specs.List.{slice_get}
+use Rattle.std.proofs.lemmas.Bool.{cases_Bool, cond-true, cond-false}
+use Rattle.std.proofs.lemmas.List.{get_or-map}
+use Rattle.std.proofs.lemmas.Option.{get_or_from_slice_get}
+use Rattle.np_ucd.specs.Entries.{Entry, AreRows}
+use Rattle.np_code_points.specs.Hangul.{is_syllable, syllable_pair}
+use Rattle.np_tables.specs.Versions.{VersionData, entry_at, file_mapping, mapping_in, is_empty, has_hangul}
+use Rattle.np_tables.specs.Mappings.{is_final, full_of, table_full, IsLent, IsFullDecomposition}
+use Rattle.np_tables.specs.Composites.{IsCompositeOf, composite}
+use Rattle.np_tables.specs.Conditions.{IsSound}
+use Rattle.np_tables.specs.declared.pairs.Composite.{Composite}
+use Rattle.np_tables.specs.Pairs.{Lists, AreOfFile}
+use Rattle.np_tables.specs.FullLists.{FullLists, of_kind, row_full, AreFulls}
+use Rattle.np_tables.proofs.MappingLemmas.{IsFullDecomposition-flat_map, is_empty-false}
+use Rattle.np_tables.proofs.CompositeLemmas.{cases_Option, composite-some, composite_from}
+use Rattle.np_tables.proofs.PrimaryLemmas.{primary-syllable}
+use Rattle.np_tables.proofs.FileRowLemmas.{row-at, first-at, found-lists, file_mapping-found}
+use Rattle.np_tables.proofs.FullListLemmas.{lent-outside}
+use Rattle.np_tables.proofs.AmbiguityLemmas.{mapping_of-on}
+
+-- ---- pairs
+
+pub pair-syllable : (v w : VersionData) → w ≡ v → AreRows v.entries → (a b s : ℕ) → (has_hangul w && is_syllable s) ≡ true → syllable_pair s ≡ a ∷ b ∷ [] → IsCompositeOf v a b s
+pair-syllable v w same rows a b s on pair =
+    let on_v = subst (λ x. (has_hangul x && is_syllable s) ≡ true) same on in
+    record { primary = primary-syllable v s rows on_v; mapping = mapping_of-on v s on_v ∙ pair }
+
+pub pair-found : (v u : VersionData) → u ≡ v → (cs : List Composite) → AreOfFile u cs → (a b : ℕ) (r : Option ℕ) → IfSome r (Lists cs a b) → IfSome r (IsCompositeOf v a b)
+pair-found v u same cs file a b None h = h
+pair-found v u same cs file a b (Some c) h = subst (λ x. IsCompositeOf x a b c) same (file.composites a b c h)
+
+not_here : (v w u : VersionData) → w ≡ v → u ≡ v → (cs : List Composite) → AreOfFile u cs → (a b : ℕ) →
+    ((s : ℕ) → (has_hangul w && is_syllable s) ≡ true → ¬ (syllable_pair s ≡ a ∷ b ∷ [])) → ((code : ℕ) → ¬ Lists cs a b code) → (c : ℕ) → ¬ IsCompositeOf v a b c
+not_here v w u same same_u cs file a b none lists c is =
+    elim (cases_Bool (has_hangul v && is_syllable c)) [
+      | inl on ↦ none c (subst (λ x. (has_hangul x && is_syllable c) ≡ true) (sym same) on) (sym (mapping_of-on v c on) ∙ is.mapping)
+      | inr off ↦ lists c (file.all a b c (subst (λ x. IsCompositeOf x a b c) (sym same_u) is) (subst (λ x. (has_hangul x && is_syllable c) ≡ false) (sym same_u) off))
+    ]
+
+pub pair-none : (v w u : VersionData) → w ≡ v → u ≡ v → (cs : List Composite) → AreOfFile u cs → (a b : ℕ) →
+    ((s : ℕ) → (has_hangul w && is_syllable s) ≡ true → ¬ (syllable_pair s ≡ a ∷ b ∷ [])) → (r : Option ℕ) → IfNone r ((code : ℕ) → ¬ Lists cs a b code) → IfNone r ((c : ℕ) → ¬ IsCompositeOf v a b c)
+pair-none v w u same same_u cs file a b none None lists = λ c. not_here v w u same same_u cs file a b none lists c
+pair-none v w u same same_u cs file a b none (Some c) lists = lists
+
+pub pair-value : (v : VersionData) → IsSound v → (a b : ℕ) (r : Option ℕ) → IfSome r (IsCompositeOf v a b) → IfNone r ((c : ℕ) → ¬ IsCompositeOf v a b c) → r ≡ composite v a b
+pair-value v sound a b None some none =
+    elim (cases_Option (composite v a b)) [
+      | inl same ↦ sym same
+      | inr found ↦ absurd (none found.0 (composite-some v a b found.0 found.1))
+    ]
+pair-value v sound a b (Some c) some none = sym (composite_from v sound a b c some)
+
+-- ---- full decompositions
+
+pub of_kind-is : (v : VersionData) (compat : Bool) (lists : FullLists) → AreFulls v lists → of_kind compat lists ≡ map (row_full v compat) v.entries
+of_kind-is v false lists h = h.canonical
+of_kind-is v true lists h = h.compatible
+
+entry_in : (es : List Entry) (at : ℕ) → at < length es → (e : Entry) × (slice_get es at ≡ Some e)
+entry_in [] at lt = absurd (omega arith)
+entry_in (e ∷ es) zero lt = (e, refl)
+entry_in (e ∷ es) (suc at) lt = entry_in es at (omega arith)
+
+-- a row lends to each of its code points what it lends to its first
+row-shares : (v : VersionData) (compat : Bool) (c at : ℕ) (e : Entry) → AreRows v.entries → slice_get v.entries at ≡ Some e → entry_at v.entries c ≡ Some e → table_full v compat e.first ≡ table_full v compat c
+row-shares v compat c at e rows place found =
+    let own = file_mapping-found v e.first e (first-at v.entries at e rows place) in
+    let there = file_mapping-found v c e found in
+    elim (cases_Bool (is_empty e.mapping)) [
+      | inl none ↦ lent-outside v compat e.first (ap is_empty own ∙ none) ∙ sym (lent-outside v compat c (ap is_empty there ∙ none))
+      | inr some ↦
+          let alone = (row-at v.entries at e rows place).alone (is_empty-false e.mapping some) in
+          let lists = found-lists v.entries c e found in
+          let same : e.first ≡ c = omega arith in
+          ap (table_full v compat) same
+    ]
+
+pub full-value : (v : VersionData) (compat : Bool) (c at : ℕ) (lists : List (List ℕ)) → AreRows v.entries → lists ≡ map (row_full v compat) v.entries → at < length v.entries → slice_get v.entries at ≡ entry_at v.entries c →
+    get_or lists at [] ≡ table_full v compat c
+full-value v compat c at lists rows are lt place =
+    let here = entry_in v.entries at lt in
+    ap (λ l. get_or l at []) are ∙ get_or-map (row_full v compat) v.entries at here.0 [] lt ∙ ap (row_full v compat) (get_or_from_slice_get v.entries at here.0 here.0 here.1)
+    ∙ row-shares v compat c at here.0 rows here.1 (sym place ∙ here.1)
+
+no_mapping : (o : Option Entry) → o ≡ None → is_empty (mapping_in o) ≡ true
+no_mapping None h = refl
+no_mapping (Some e) h = cc
+
+pub full-none : (v : VersionData) (compat : Bool) (c : ℕ) → entry_at v.entries c ≡ None → [] ≡ table_full v compat c
+unfolding file_mapping
+full-none v compat c h = sym (lent-outside v compat c (no_mapping (entry_at v.entries c) h))
+
+pub IsLent-table_full : (v : VersionData) (compat : Bool) (c : ℕ) → IsSound v → IsLent v compat c (table_full v compat c)
+unfolding table_full
+IsLent-table_full v compat c sound =
+    let none : Bool = is_final v compat c || (has_hangul v && is_syllable c) in
+    let lent : List ℕ = if none then [] else full_of v compat c in
+    let Q : Bool → Type 0 = λ t. MatchBool t (lent ≡ []) (IsFullDecomposition v compat (c ∷ []) lent) in
+    elim (cases_Bool none) [
+      | inl holds ↦ subst Q (sym holds) (cond-true _ _ _ holds)
+      | inr fails ↦
+          let whole : full_of v compat c ++ [] ≡ lent = append-nil (full_of v compat c) ∙ sym (cond-false _ _ _ fails) in
+          subst Q (sym fails) (subst (IsFullDecomposition v compat (c ∷ [])) whole (IsFullDecomposition-flat_map v compat sound.shallow (c ∷ [])))
+    ]
+
+-- the same over a version that is this one
+pub full-some : (v w u : VersionData) (compat : Bool) (c d at : ℕ) (lists : FullLists) → w ≡ u → u ≡ v → d ≡ c → IsSound u → AreFulls u lists → at < length w.entries → slice_get w.entries at ≡ entry_at w.entries d →
+    get_or (of_kind compat lists) at [] ≡ table_full v compat c
+full-some v w u compat c d at lists same same_u code sound are lt place =
+    full-value u compat d at (of_kind compat lists) sound.rows (of_kind-is u compat lists are)
+    (subst (λ x. at < length x.entries) same lt) (subst (λ x. slice_get x.entries at ≡ entry_at x.entries d) same place)
+    ∙ ap (λ x. table_full x compat d) same_u ∙ ap (table_full v compat) code
+
+pub full-nothing : (v w : VersionData) (compat : Bool) (c d : ℕ) → w ≡ v → d ≡ c → entry_at w.entries d ≡ None → [] ≡ table_full v compat c
+full-nothing v w compat c d same code none = full-none w compat d none ∙ ap (λ x. table_full x compat d) same ∙ ap (table_full v compat) code
+
+pub lent-by_value : (v : VersionData) (compat : Bool) (c : ℕ) (lent : List ℕ) → IsSound v → lent ≡ table_full v compat c → IsLent v compat c lent
+lent-by_value v compat c lent sound is = subst (IsLent v compat c) (sym is) (IsLent-table_full v compat c sound)

@@ -1,0 +1,23 @@
+use Rattle.std.proofs.Common.{◌≡◌, ◌<◌, length, sym, ap, ◌∙◌, arith}
+use Rattle.np_tables.specs.Depths.{mapping_mark}
+use Rattle.np_tables.proofs.RoundLemmas.{row_marks_more, row_marks_all, bare_mapping, deep_mapping, empty_test, full_test}
+use Rattle.np_tables.proofs.depths.bare_marks.Goals as goal
+use Rattle.np_tables.proofs.depths.bare_marks.Goals.{then-is_empty, else-is_empty}
+
+pub loop-at-preserved : goal.loop-at-preserved
+loop-at-preserved c =
+    let v = c.args.characters.now in
+    let xs = c.mapping_at-mapping.result.now in
+    let lt : c.loop-at.at < length v.entries = omega arith in
+    let mark : c.if-is_empty.push ≡ mapping_mark v 0 xs =
+    elim c.if-is_empty.branch [
+      | then-is_empty w ↦ w.push-is ∙ sym (bare_mapping v xs (empty_test xs (sym w.if-is_empty.ensures)))
+      | else-is_empty w ↦ w.push-is ∙ sym (deep_mapping v xs (full_test xs (sym w.if-is_empty.ensures)))
+    ]
+    in
+    c.in_ok-push.ensures.items
+    ∙ row_marks_more v 0 c.loop-at.at c.if-is_empty.push c.loop-at.marks.items lt c.loop-at.invariant (mark ∙ ap (mapping_mark v 0) c.mapping_at-mapping.ensures)
+
+pub returns-clause-marks : goal.returns-clause-marks
+returns-clause-marks c =
+    row_marks_all c.args.characters.now 0 c.loop-at.at c.loop-at.marks.items (omega arith) c.loop-at.invariant

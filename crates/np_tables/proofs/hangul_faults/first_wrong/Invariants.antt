@@ -1,0 +1,7 @@
+use Rattle.std.proofs.Common.{◌≡◌, ℕ, ◌<◌, true}
+use Rattle.np_tables.specs.HangulRows.{hangul_at}
+use Rattle.np_tables.specs.Versions.{is_hangul_row}
+use Rattle.np_tables.proofs.hangul_faults.first_wrong.Given as goal
+
+abbrev pub invariant-loop-place : goal.invariant-loop-place
+invariant-loop-place l = (k : ℕ) → k < l.place → is_hangul_row l.characters (hangul_at k) ≡ true

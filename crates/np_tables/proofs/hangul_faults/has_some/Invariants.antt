@@ -1,0 +1,7 @@
+use Rattle.std.proofs.Common.{◌≡◌, ℕ, ◌<◌, false}
+use Rattle.np_tables.specs.HangulRows.{hangul_at}
+use Rattle.np_tables.specs.Versions.{is_assigned}
+use Rattle.np_tables.proofs.hangul_faults.has_some.Given as goal
+
+abbrev pub invariant-loop-place : goal.invariant-loop-place
+invariant-loop-place l = (k : ℕ) → k < l.place → is_assigned l.characters (hangul_at k) ≡ false

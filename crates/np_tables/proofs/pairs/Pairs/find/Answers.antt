@@ -1,0 +1,14 @@
+use Rattle.std.proofs.Common.{sym, arith, inl, inr}
+use Rattle.std.proofs.lemmas.Option.{get_or_from_slice_get}
+use Rattle.np_tables.proofs.PairLemmas.{lists-other}
+use Rattle.np_tables.proofs.pairs.Pairs.find.Goals as goal
+
+pub returns-else-here-first-clause-none : goal.returns-else-here-first-clause-none
+returns-else-here-first-clause-none c =
+    let at = c.place-place.result in
+    let here = sym (get_or_from_slice_get c.args.self.now at c.at-here.result c.at-here.result c.at-here.ensures.place) in
+    lists-other c.args.self.now c.len.ensures.order c.args.first c.args.second at c.at-here.result (omega arith) (omega arith) c.place-place.ensures.below c.place-place.ensures.above (omega arith) here
+    (λ first second. elim c.else-here-first.either [
+      | inl one ↦ one.1 second
+      | inr other ↦ other first
+    ])

@@ -1,0 +1,34 @@
+use Rattle.std.proofs.Common.{◌≡◌, ◌+◌, ◌-◌, ◌/◌, List, get_or, subst, arith, inl, inr}
+use Rattle.std.proofs.lemmas.Bool.{cases_lt, both_ways}
+use Rattle.np_tables.specs.declared.pairs.Composite.{Composite}
+use Rattle.np_tables.specs.Pairs.{AreOrdered}
+use Rattle.np_tables.proofs.PairLemmas.{before_more, after_more}
+use Rattle.np_tables.proofs.pairs.Pairs.place.Goals as goal
+
+pub loop-low-preserved-then-is_before : goal.loop-low-preserved-then-is_before
+loop-low-preserved-then-is_before c =
+    let at = c.loop-low.low + (c.loop-low.high - c.loop-low.low) / 2 in
+    let order = subst (λ (xs : List Composite). AreOrdered xs) c.self.view_is c.self.invariant in
+    let here = subst (λ (xs : List Composite). c.index.result.now ≡ get_or xs at c.index.result.now) c.self.view_is c.index.ensures in
+    record {
+      order = omega arith;
+      fits = c.loop-low.invariant.fits;
+      below = before_more c.args.self.now order at c.index.result.now _ (omega (arith, c.loop-low.invariant.fits)) here (c.is_before.ensures.0 c.if-is_before.true);
+      above = c.loop-low.invariant.above;
+    }
+
+pub loop-low-preserved : goal.loop-low-preserved
+loop-low-preserved c =
+    let at = c.loop-low.low + (c.loop-low.high - c.loop-low.low) / 2 in
+    let order = subst (λ (xs : List Composite). AreOrdered xs) c.self.view_is c.self.invariant in
+    let here = subst (λ (xs : List Composite). c.index.result.now ≡ get_or xs at c.index.result.now) c.self.view_is c.index.ensures in
+    record {
+      order = omega arith;
+      fits = omega (arith, c.loop-low.invariant.fits);
+      below = c.loop-low.invariant.below;
+      above = after_more c.args.self.now order at c.index.result.now _ (omega (arith, c.loop-low.invariant.fits)) here
+          (elim (cases_lt _ _) [
+            | inl less ↦ absurd (both_ways _ c.if-is_before.false (c.is_before.ensures.1 less))
+            | inr more ↦ more
+          ]);
+    }

@@ -1,0 +1,35 @@
+use Rattle.std.proofs.Common.{◌≡◌, ◌++◌, ◌∷◌, [], ◌∙◌, sym, ap, append-nil, subst, arith, List, Vec, Global}
+use Rattle.std.specs.List.{All}
+use Rattle.std.proofs.lemmas.List.Elements.{All-push}
+use Rattle.np_ucd.specs.RowValues.{entry_of}
+use Rattle.np_tables.specs.declared.pairs.Composite.{Composite}
+use Rattle.np_tables.specs.Pairs.{IsInRange, composites_in}
+use Rattle.np_tables.proofs.FileCompositeLemmas.{flat_step, flat_all}
+use Rattle.np_tables.proofs.pairs.file_composites.Goals as goal
+use Rattle.np_tables.proofs.pairs.file_composites.Goals.{in-Some+in_ok-push, in_default}
+
+pub loop-at-preserved : goal.loop-at-preserved
+loop-at-preserved c =
+    elim c.match-composite_in.branch [
+      | in-Some+in_ok-push w ↦
+          let now : c.match-composite_in.composites.items ≡ c.loop-at.composites.items ++ w.in-Some.composite ∷ [] = ap (λ (v : Vec Composite Global). v.items) w.composites-is ∙ w.in_ok-push.ensures.items in
+          record {
+            items = flat_step (composites_in c.args.characters.now) c.args.characters.now.entries c.loop-at.at (entry_of c.row_in.result.now) c.loop-at.composites.items _ (w.in-Some.composite ∷ [])
+                c.row_in.ensures.place c.loop-at.invariant.items now w.in-Some.ensures.value;
+            range = subst (λ (l : List Composite). All IsInRange l) (sym now) (All-push IsInRange c.loop-at.composites.items w.in-Some.composite c.loop-at.invariant.range w.in-Some.ensures.range);
+          }
+      | in_default w ↦
+          let now : c.match-composite_in.composites.items ≡ c.loop-at.composites.items = ap (λ (v : Vec Composite Global). v.items) w.composites-is in
+          record {
+            items = flat_step (composites_in c.args.characters.now) c.args.characters.now.entries c.loop-at.at (entry_of c.row_in.result.now) c.loop-at.composites.items _ []
+                c.row_in.ensures.place c.loop-at.invariant.items (now ∙ sym (append-nil c.loop-at.composites.items)) w.in_default.ensures.value;
+            range = subst (λ (l : List Composite). All IsInRange l) (sym now) c.loop-at.invariant.range;
+          }
+    ]
+
+pub returns : goal.returns
+returns c =
+    record {
+      items = flat_all (composites_in c.args.characters.now) c.args.characters.now.entries c.loop-at.at c.loop-at.composites.items (omega arith) c.loop-at.invariant.items;
+      range = c.loop-at.invariant.range;
+    }

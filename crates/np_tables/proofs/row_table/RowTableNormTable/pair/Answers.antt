@@ -1,0 +1,33 @@
+use Rattle.std.proofs.Common.{◌∙◌, subst, Some}
+use Rattle.np_tables.specs.Conditions.{IsSound}
+use Rattle.np_tables.proofs.TableLemmas.{pair-syllable, pair-found, pair-none, pair-value}
+use Rattle.np_tables.proofs.row_table.RowTableNormTable.pair.Goals as goal
+
+pub returns-in-Some-clause-some : goal.returns-in-Some-clause-some
+returns-in-Some-clause-some c =
+    let sound = subst (λ v. IsSound v) c.self.view_is c.characters.ensures.sound in
+    pair-syllable c.args.self.now c.characters.result.now (c.characters.ensures.same ∙ c.self.view_is) sound.rows c.args.a c.args.b c.in-Some.syllable c.in-Some.ensures.some c.in-Some.ensures.pair
+
+pub returns-in-Some-clause-value : goal.returns-in-Some-clause-value
+returns-in-Some-clause-value c =
+    let sound = subst (λ v. IsSound v) c.self.view_is c.characters.ensures.sound in
+    pair-value c.args.self.now sound c.args.a c.args.b (Some c.in-Some.syllable)
+    (pair-syllable c.args.self.now c.characters.result.now (c.characters.ensures.same ∙ c.self.view_is) sound.rows c.args.a c.args.b c.in-Some.syllable c.in-Some.ensures.some c.in-Some.ensures.pair)
+    tt
+
+pub returns-in-None-clause-some : goal.returns-in-None-clause-some
+returns-in-None-clause-some c =
+    pair-found c.args.self.now c.self.inside.version c.self.view_is c.self.inside.pairs c.self.invariant.0 c.args.a c.args.b c.find.result c.find.ensures.some
+
+pub returns-in-None-clause-none : goal.returns-in-None-clause-none
+returns-in-None-clause-none c =
+    pair-none c.args.self.now c.characters.result.now c.self.inside.version (c.characters.ensures.same ∙ c.self.view_is) c.self.view_is c.self.inside.pairs c.self.invariant.0 c.args.a c.args.b
+    c.in-None.ensures.none c.find.result c.find.ensures.none
+
+pub returns-in-None-clause-value : goal.returns-in-None-clause-value
+returns-in-None-clause-value c =
+    let sound = subst (λ v. IsSound v) c.self.view_is c.characters.ensures.sound in
+    pair-value c.args.self.now sound c.args.a c.args.b c.find.result
+    (pair-found c.args.self.now c.self.inside.version c.self.view_is c.self.inside.pairs c.self.invariant.0 c.args.a c.args.b c.find.result c.find.ensures.some)
+    (pair-none c.args.self.now c.characters.result.now c.self.inside.version (c.characters.ensures.same ∙ c.self.view_is) c.self.view_is c.self.inside.pairs c.self.invariant.0 c.args.a c.args.b
+    c.in-None.ensures.none c.find.result c.find.ensures.none)

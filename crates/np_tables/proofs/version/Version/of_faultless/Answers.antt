@@ -1,0 +1,6 @@
+use Rattle.np_tables.proofs.FaultLemmas.{sound-faultless}
+use Rattle.np_tables.proofs.version.Version.of_faultless.Goals as goal
+
+pub invariant_of-result : goal.invariant_of-result
+invariant_of-result c =
+    (sound-faultless c.args.characters c.len.ensures.rows c.requires, c.assigned_count-count.ensures)

@@ -1,0 +1,45 @@
+-- What a version may not have: five kinds of faults, each at a code point.
+use Rattle.std.specs.Prelude.{◌≡◌, ℕ, ◌<◌, ◌≤◌, true, false, length, Option, MatchOption}
+use Rattle.std.specs.List.{list_all}
+use Rattle.np_tables.specs.Composites.{is_primary}
+use Rattle.np_tables.specs.Mappings.{has_depth, full_of}
+use Rattle.np_tables.specs.Versions.{VersionData, is_assigned, is_hangul, is_hangul_row, mapping_of}
+
+-- its mapping holds an unassigned code point
+pub record IsMappedToUnassigned (v : VersionData) (c : ℕ) : Type 0 where
+  pub lacks : list_all (is_assigned v) (mapping_of v c) ≡ false
+
+-- its depth is over 32; a cycle is too deep
+pub record IsTooDeep (v : VersionData) (c : ℕ) : Type 0 where
+  pub deep : has_depth v 32 c ≡ false
+
+-- it is not too deep, and its full compatibility decomposition has more than 64 code points
+pub record IsTooLong (v : VersionData) (c : ℕ) : Type 0 where
+  pub shallow : has_depth v 32 c ≡ true
+  pub long : 64 < length (full_of v true c)
+
+-- it is a primary composite, and a smaller one has the same mapping
+pub record IsAmbiguous (v : VersionData) (c : ℕ) : Type 0 where
+  pub primary : is_primary v c ≡ true
+  pub other : ℕ
+  pub smaller : other < c
+  pub other_primary : is_primary v other ≡ true
+  pub same : mapping_of v other ≡ mapping_of v c
+
+-- it is a syllable or a jamo, some of which are assigned, and isn't as the arithmetic wants it:
+-- unassigned, of non-zero class, or with a mapping in the file
+pub record IsHangulWrong (v : VersionData) (c : ℕ) : Type 0 where
+  pub hangul : is_hangul c ≡ true
+  pub some : ℕ
+  pub some_hangul : is_hangul some ≡ true
+  pub some_assigned : is_assigned v some ≡ true
+  pub wrong : is_hangul_row v c ≡ false
+
+-- the least number with a property
+pub record IsLeastOf (P : ℕ → Type 0) (c : ℕ) : Type 0 where
+  pub holds : P c
+  pub least : (d : ℕ) → P d → c ≤ d
+
+-- the least number with a property, or none where no number has it
+abbrev pub IsFirst : (ℕ → Type 0) → Option ℕ → Type 0
+IsFirst P first = MatchOption first ((c : ℕ) → ¬ P c) (IsLeastOf P)

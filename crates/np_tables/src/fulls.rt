@@ -1,0 +1,176 @@
+//! The full decompositions of the code points of a data file.
+ghost use Rattle.std.specs.Prelude.{◌≡◌, ◌≢◌, ◌&&◌, ◌++◌, ◌<◌, [], not, length, map, slice_index_or, if◌then◌else◌, IfOk, IsTrue, Some};
+ghost use Rattle.np_ucd.specs.Entries.{IsRow};
+ghost use Rattle.np_ucd.specs.RowValues.{entry_of};
+ghost use Rattle.np_tables.specs.Mappings.{counts, full, table_full};
+ghost use Rattle.np_tables.specs.FullLists.{row_full};
+ghost use Rattle.np_tables.specs.FullParts.{AreParts, IsGrown, part_of};
+ghost use Rattle.np_tables.specs.Versions.{entry_at, file_kind, file_mapping, is_empty};
+
+use crate::characters::CharacterData;
+use crate::row_places::{mapped_code, row_in};
+use crate::syllables::arithmetic_parts;
+use np_code_points::Memory;
+use np_ucd::{MapKind, Row};
+use std::alloc::Global;
+use std::marker::Model;
+
+/// The greatest depth of a mapping.
+const DEPTH: usize = 32;
+
+/// A part of a flat list: from the place `start` up to the place `end`.
+#[derive(Clone, Copy)]
+struct Part {
+    start: usize,
+    end: usize,
+}
+
+/// What a table lends for the code point of each row, in one flat list.
+#[derive(Drop)]
+pub struct Fulls {
+    codes: Vec<char>,
+    canonical: Vec<Part>,
+    compatible: Vec<Part>,
+}
+
+impl Model for Fulls {
+    ghost use Rattle.std.specs.Prelude.{map};
+    ghost use Rattle.np_tables.specs.FullLists.{FullLists};
+
+    ghost Value = { FullLists };
+
+    ghost use Rattle.np_tables.specs.FullParts.{part_of, AreParts};
+
+    ghost view = { λ a. record { canonical = map (part_of a.codes.items) a.canonical.items; compatible = map (part_of a.codes.items) a.compatible.items } };
+
+    ghost invariant = { λ a. AreParts a.codes.items a.canonical.items × AreParts a.codes.items a.compatible.items };
+}
+
+impl Fulls {
+    ghost use Rattle.np_tables.specs.FullLists.{AreFulls, of_kind};
+
+    /// Those of the rows of a data file.
+    pub fn new(alloc: Global, characters: &CharacterData) -> Result<Fulls, Memory>
+        ensures { IfOk result (AreFulls characters.now) }
+    {
+        let mut codes = Vec::new(alloc);
+        let canonical = full_parts(alloc, characters, false, &mut codes)?;
+        let compatible = full_parts(alloc, characters, true, &mut codes)?;
+        Ok(Fulls {
+            codes,
+            canonical,
+            compatible,
+        })
+    }
+
+    /// What is lent for the row at a place, from 0.
+    pub fn lent(&self, at: usize, compat: bool) -> &[char]
+        requires { at < length (of_kind compat self.now) }
+        ensures { result.now ≡ slice_index_or (of_kind compat self.now) at [] }
+    {
+        let parts = if compat {
+            &self.compatible
+        } else {
+            &self.canonical
+        };
+        let part = parts[at];
+        &self.codes[part.start..part.end]
+    }
+}
+/// Whether mappings of a kind count in a decomposition, canonical or compatible.
+fn kind_counts(kind: MapKind, compat: bool) -> bool
+    ensures { result ≡ counts compat kind }
+{
+    match kind {
+        MapKind::Plain => false,
+        MapKind::Canonical => true,
+        MapKind::Compatibility => compat,
+    }
+}
+
+/// The mapping in the file, where it counts.
+fn counted_mapping<'a>(characters: &'a CharacterData, compat: bool, code: char) -> &'a [char]
+    ensures { result.now ≡ (if counts compat (file_kind characters.now code) then file_mapping characters.now code else []) }
+{
+    let number = u32::from(code);
+    if kind_counts(characters.kind(number), compat) {
+        characters.mapping(number)
+    } else {
+        &[]
+    }
+}
+
+/// Appends the full decomposition of a code point whose depth is at most `depth`.
+fn expand(
+    characters: &CharacterData,
+    compat: bool,
+    depth: usize,
+    code: char,
+    out: &mut Vec<char>,
+) -> Result<(), Memory>
+    ensures { IfOk result (λ _. out.new.items ≡ out.old.items ++ full characters.now compat depth code) }
+{
+    if depth == 0 {
+        out.push(code)?;
+        return Ok(());
+    }
+    if let Some((first, second)) = arithmetic_parts(characters, code) {
+        expand(characters, compat, depth - 1, first, out)?;
+        return expand(characters, compat, depth - 1, second, out);
+    }
+    let mapping = counted_mapping(characters, compat, code);
+    if mapping.is_empty() {
+        out.push(code)?;
+        return Ok(());
+    }
+    for part in mapping {
+        expand(characters, compat, depth - 1, *part, out)?;
+    }
+    Ok(())
+}
+
+/// Whether a table lends something for the code point of a row.
+fn is_lent(row: &Row, compat: bool) -> bool
+    ensures mapped { IsTrue result → row.now.mapping.items ≢ [] }
+    ensures value { result ≡ (counts compat row.now.kind && not (is_empty row.now.mapping.items)) }
+{
+    kind_counts(row.kind, compat) && !row.mapping.is_empty()
+}
+
+/// Appends what a table lends for the code point of a row.
+fn push_full(
+    characters: &CharacterData,
+    compat: bool,
+    row: &Row,
+    codes: &mut Vec<char>,
+) -> Result<(), Memory>
+    requires row { IsRow (entry_of row.now) }
+    requires first { entry_at characters.now.entries row.now.first ≡ Some (entry_of row.now) }
+    ensures { IfOk result (λ _. codes.new.items ≡ codes.old.items ++ table_full characters.now compat row.now.first) }
+{
+    if is_lent(row, compat) {
+        expand(characters, compat, DEPTH, mapped_code(row), codes)?;
+    }
+    Ok(())
+}
+
+/// Appends what a table lends for the code point of each row, and answers the parts.
+fn full_parts(
+    alloc: Global,
+    characters: &CharacterData,
+    compat: bool,
+    codes: &mut Vec<char>,
+) -> Result<Vec<Part>, Memory>
+    ensures grown { IfOk result (λ _. IsGrown codes.old.items codes.new.items) }
+    ensures parts { IfOk result (λ parts. AreParts codes.new.items parts.items) }
+    ensures lists { IfOk result (λ parts. map (part_of codes.new.items) parts.items ≡ map (row_full characters.now compat) characters.now.entries) }
+{
+    let mut parts = Vec::with_capacity(alloc, characters.len())?;
+    for at in 0..characters.len() {
+        let start = codes.len();
+        push_full(characters, compat, row_in(characters, at), codes)?;
+        let end = codes.len();
+        parts.push(Part { start, end })?;
+    }
+    Ok(parts)
+}

@@ -1,0 +1,82 @@
+//! The plain table: rows, a sorted list of pairs, and full decompositions by row.
+ghost use Rattle.std.specs.Prelude.{◌≡◌, IfOk};
+
+use crate::fulls::Fulls;
+use crate::pairs::Pairs;
+use crate::syllables::arithmetic_pair;
+use crate::tables::NormTable;
+use crate::version::Version;
+use np_code_points::Memory;
+use std::alloc::Global;
+use std::marker::Model;
+
+/// The table whose body is the definition's own: a row is found by its place, a pair by halves in
+/// a sorted list, and full decompositions were made once for each row.
+#[derive(Drop)]
+pub struct RowTable {
+    version: Version,
+    pairs: Pairs,
+    fulls: Fulls,
+}
+
+impl Model for RowTable {
+    ghost use Rattle.np_tables.specs.FullLists.{AreFulls};
+    ghost use Rattle.np_tables.specs.Pairs.{AreOfFile};
+    ghost use Rattle.np_tables.specs.Versions.{VersionData};
+
+    ghost Value = { VersionData };
+
+    ghost view = { λ a. a.version };
+
+    ghost invariant = { λ a. AreOfFile a.version a.pairs × AreFulls a.version a.fulls };
+}
+
+impl RowTable {
+    /// The table of a version.
+    pub fn new(alloc: Global, version: Version) -> Result<RowTable, Memory>
+        ensures { IfOk result (λ t. t ≡ version) }
+    {
+        let pairs = Pairs::new(alloc, version.characters())?;
+        let fulls = Fulls::new(alloc, version.characters())?;
+        Ok(RowTable {
+            version,
+            pairs,
+            fulls,
+        })
+    }
+}
+
+impl NormTable for RowTable {
+    ghost model = { λ t. t };
+
+    fn version(&self) -> &Version {
+        let _ = self.version.characters();
+        &self.version
+    }
+
+    fn assigned(&self, c: char) -> bool {
+        self.version.assigned_code(u32::from(c))
+    }
+
+    fn class(&self, c: char) -> u8 {
+        self.version.class_of(u32::from(c))
+    }
+
+    fn hangul(&self) -> bool {
+        self.version.has_hangul()
+    }
+
+    fn pair(&self, a: char, b: char) -> Option<char> {
+        match arithmetic_pair(self.version.characters(), a, b) {
+            Some(syllable) => Some(syllable),
+            None => self.pairs.find(a, b),
+        }
+    }
+
+    fn full(&self, c: char, compat: bool) -> &[char] {
+        match self.version.characters().place_of(u32::from(c)) {
+            Some(place) => self.fulls.lent(place, compat),
+            None => &[],
+        }
+    }
+}

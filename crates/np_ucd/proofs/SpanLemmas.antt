@@ -1,0 +1,151 @@
+-- Listings in order, and the search among them by halves.
+use Rattle.std.proofs.Common.{◌≡◌, ℕ, zero, suc, ◌+◌, ◌-◌, ◌<◌, ◌≤◌, max, Bool, true, false, ◌&&◌, ◌||◌, leb, ltb, List, [], ◌∷◌, ◌++◌, length, get_or, set, take, drop, map, refl, sym, ap, ◌∙◌, arith, ⊎_elim}
+use Rattle.std.specs.List.{list_any}
+use Rattle.std.specs.List.Sorted.{IsNonDecreasingBy, IsPartitionPoint, IsPermutation}
+use Rattle.std.proofs.lemmas.List.Sorted.{list_any-IsPermutation}
+use Rattle.std.proofs.lemmas.List.{append_assoc, append-nil, drop_more, take_all, at_drop_all, take_more_set, drop-set-lt, get_or_default}
+use Rattle.std.proofs.lemmas.List.Folds.{list_any_none, list_any_at}
+use Rattle.std.proofs.lemmas.List.Elements.{All-from_all_within}
+use Rattle.std.proofs.lemmas.Bool.{leb-true, leb-false, le-leb, lt-leb, le-ltb, and_from, and_left, and_right, cases_lt}
+use Rattle.std.proofs.lemmas.Bool.Decides.{nat_tests}
+use Rattle.np_ucd.specs.declared.exclusions.Listing.{Listing}
+use Rattle.np_ucd.specs.Listed.{is_listed}
+use Rattle.np_ucd.specs.SpanValues.{span_of, raised, AreRising}
+
+abbrev within : ℕ → ℕ → ℕ → Bool
+within first last c = leb first c && leb c last
+
+abbrev IsAbove : ℕ → List Listing → Type 0
+IsAbove first [] = Unit {0}
+IsAbove first (l ∷ ls) = (first ≤ l.first) × IsAbove l.first ls
+
+tail_rises : (l : Listing) (ls : List Listing) → IsNonDecreasingBy (λ (k : Listing). k.first) (l ∷ ls) → IsNonDecreasingBy (λ (k : Listing). k.first) ls
+tail_rises l ls h = λ i j d le lt. h (suc i) (suc j) d (omega arith) (omega arith)
+
+above : (l : Listing) (ls : List Listing) → IsNonDecreasingBy (λ (k : Listing). k.first) (l ∷ ls) → IsAbove l.first ls
+above l [] h = tt
+above l (k ∷ ks) h = (h 0 1 l (omega arith) (omega arith), above k ks (tail_rises l (k ∷ ks) h))
+
+-- raising a last code point to that of a listing that begins before lists nothing more
+raise_one : (f m g l c : ℕ) (rest : Bool) → f ≤ g → (within f m c || (within g (max l m) c || rest)) ≡ (within f m c || (within g l c || rest))
+raise_one f m g l c rest h = grind (arith, nat_tests)
+
+covered : (f m c : ℕ) (ls : List Listing) → IsAbove f ls → (within f m c || is_listed (map span_of (raised m ls)) c) ≡ (within f m c || is_listed (map span_of ls) c)
+covered f m c [] h = refl
+covered f m c (l ∷ ls) h =
+    ap (λ r. within f m c || r) (covered l.first (max l.last m) c ls h.1)
+    ∙ raise_one f m l.first l.last c (is_listed (map span_of ls) c) h.0
+
+max_zero : (n : ℕ) → max n 0 ≡ n
+max_zero n = omega arith
+
+pub raised_lists_same : (ls : List Listing) (c : ℕ) → IsNonDecreasingBy (λ (k : Listing). k.first) ls → is_listed (map span_of (raised 0 ls)) c ≡ is_listed (map span_of ls) c
+raised_lists_same [] c h = refl
+raised_lists_same (l ∷ ls) c h =
+    ap (λ n. within l.first n c || is_listed (map span_of (raised n ls)) c) (max_zero l.last)
+    ∙ covered l.first l.last c ls (above l ls h)
+
+length-raised : (m : ℕ) (ls : List Listing) → length (raised m ls) ≡ length ls
+length-raised m [] = refl
+length-raised m (l ∷ ls) = ap suc (length-raised (max l.last m) ls)
+
+first_raised : (m : ℕ) (ls : List Listing) (i : ℕ) (d : Listing) → (get_or (raised m ls) i d).first ≡ (get_or ls i d).first
+first_raised m [] i d = refl
+first_raised m (l ∷ ls) zero d = refl
+first_raised m (l ∷ ls) (suc i) d = first_raised (max l.last m) ls i d
+
+last_above : (m : ℕ) (ls : List Listing) (i : ℕ) (d : Listing) → i < length ls → m ≤ (get_or (raised m ls) i d).last
+last_above m [] i d h = absurd (omega arith)
+last_above m (l ∷ ls) zero d h = omega arith
+last_above m (l ∷ ls) (suc i) d h = let k = last_above (max l.last m) ls i d (omega arith) in omega arith
+
+lasts_rise : (m : ℕ) (ls : List Listing) (i j : ℕ) (d : Listing) → i ≤ j → j < length ls → (get_or (raised m ls) i d).last ≤ (get_or (raised m ls) j d).last
+lasts_rise m [] i j d le lt = absurd (omega arith)
+lasts_rise m (l ∷ ls) zero zero d le lt = omega arith
+lasts_rise m (l ∷ ls) zero (suc j) d le lt = last_above (max l.last m) ls j d (omega arith)
+lasts_rise m (l ∷ ls) (suc i) zero d le lt = absurd (omega arith)
+lasts_rise m (l ∷ ls) (suc i) (suc j) d le lt = lasts_rise (max l.last m) ls i j d (omega arith) (omega arith)
+
+pub raised_rises : (ls : List Listing) → IsNonDecreasingBy (λ (k : Listing). k.first) ls → AreRising (raised 0 ls)
+raised_rises ls h = record {
+  firsts = λ i j d le lt.
+      let len = length-raised 0 ls in
+      let a = first_raised 0 ls i d in
+      let b = first_raised 0 ls j d in
+      omega (arith, h i j d le (omega arith));
+  lasts = λ i j d le lt. let len = length-raised 0 ls in lasts_rise 0 ls i j d le (omega arith);
+}
+
+raised_more : (items : List Listing) (at last : ℕ) (y d : Listing) → at < length items → y ≡ record { first = (get_or items at d).first; last = max (get_or items at d).last last } → raised last (drop at items) ≡ y ∷ raised y.last (drop (at + 1) items)
+raised_more items at last y d l e =
+    ap (raised last) (drop_more items at d l)
+    ∙ ap (λ (z : Listing). z ∷ raised z.last (drop (at + 1) items)) (sym e)
+
+-- one step of the loop that raises
+pub raise_next : (total items : List Listing) (at last : ℕ) (y d : Listing) → take at items ++ raised last (drop at items) ≡ total → at < length items → y ≡ record { first = (get_or items at d).first; last = max (get_or items at d).last last } → take (at + 1) (set items at y) ++ raised y.last (drop (at + 1) (set items at y)) ≡ total
+raise_next total items at last y d h l e =
+    ap (λ front. front ++ raised y.last (drop (at + 1) (set items at y))) (take_more_set items at y l)
+    ∙ ap (λ back. (take at items ++ y ∷ []) ++ raised y.last back) (drop-set-lt (at + 1) items at y (omega arith))
+    ∙ append_assoc (take at items) (y ∷ []) (raised y.last (drop (at + 1) items))
+    ∙ ap (λ back. take at items ++ back) (sym (raised_more items at last y d l e))
+    ∙ h
+
+pub raise_end : (total items : List Listing) (at last : ℕ) → take at items ++ raised last (drop at items) ≡ total → length items ≤ at → items ≡ total
+raise_end total items at last h l =
+    sym (ap (λ back. take at items ++ back) (at_drop_all (raised last) items at l) ∙ append-nil (take at items) ∙ take_all at items l) ∙ h
+
+-- The search: all listings before a place have begun, and none from there on.
+abbrev lists : ℕ → Listing → Bool
+lists c l = within l.first l.last c
+
+any_map : (ls : List Listing) (c : ℕ) → is_listed (map span_of ls) c ≡ list_any (lists c) ls
+any_map [] c = refl
+any_map (l ∷ ls) c = ap (λ r. lists c l || r) (any_map ls c)
+
+abbrev pub Begun : ℕ → List Listing → ℕ → Type 0
+Begun c ls n = IsPartitionPoint (λ (l : Listing). leb l.first c ≡ true) (λ (l : Listing). leb l.first c ≡ false) ls n
+
+past_at : (n k : ℕ) → k < n → (j : ℕ) × (n ≡ suc j)
+past_at zero k h = absurd (omega arith)
+past_at (suc j) k h = (j, refl)
+
+-- no listing of a place where none has begun, or the last that has begun ends before
+pub listed_none : (c n : ℕ) (ls : List Listing) → Begun c ls n → AreRising ls → ((d : Listing) (k : ℕ) → n ≡ suc k → (get_or ls k d).last < c) → n ≤ length ls → is_listed (map span_of ls) c ≡ false
+listed_none c n ls begun rising past bound =
+    any_map ls c
+    ∙ list_any_none (lists c) ls (All-from_all_within (λ l. lists c l ≡ false) ls (λ k d low high.
+    ⊎_elim
+    (λ before. let j = past_at n k before in
+    let upto = rising.lasts k (j.0) d (omega (arith, j.1)) (omega (arith, j.1)) in
+    let end = past d (j.0) j.1 in
+    and_right (leb (get_or ls k d).first c) (leb c (get_or ls k d).last) (lt-leb c (get_or ls k d).last (omega arith)))
+    (λ after. and_left (leb (get_or ls k d).first c) (leb c (get_or ls k d).last) (begun.1 k d after high))
+    (cases_lt k n)))
+
+pub listed_some : (c n k : ℕ) (d : Listing) (ls : List Listing) → Begun c ls n → n ≡ suc k → n ≤ length ls → c ≤ (get_or ls k d).last → is_listed (map span_of ls) c ≡ true
+listed_some c n k d ls begun e bound within_last =
+    any_map ls c
+    ∙ list_any_at (lists c) ls k d (omega arith)
+    (and_from (leb (get_or ls k d).first c) (leb c (get_or ls k d).last) (begun.0 k d (omega arith) (omega arith)) (le-leb c (get_or ls k d).last within_last))
+
+held_step : (t : Bool) (c n : ℕ) (d : Listing) (ls : List Listing) → leb c d.last ≡ t → Begun c ls n → AreRising ls → n ≤ length ls → 0 < n → d ≡ get_or ls (n - 1) d → t ≡ is_listed (map span_of ls) c
+held_step true c n d ls e begun rising bound full is =
+    sym (listed_some c n (n - 1) d ls begun (omega arith) bound (let l = leb-true c d.last e in let same = ap (λ (k : Listing). k.last) is in omega arith))
+held_step false c n d ls e begun rising bound full is =
+    sym (listed_none c n ls begun rising
+    (λ other k at. let l = leb-false c d.last e in
+    let place : k ≡ n - 1 = omega arith in
+    let same = ap (λ (j : Listing). j.last) (is ∙ get_or_default ls (n - 1) d other (omega arith) ∙ ap (λ i. get_or ls i other) (sym place)) in
+    omega arith)
+    bound)
+
+pub held : (c n : ℕ) (d : Listing) (ls : List Listing) → Begun c ls n → AreRising ls → n ≤ length ls → 0 < n → d ≡ get_or ls (n - 1) d → leb c d.last ≡ is_listed (map span_of ls) c
+held c n d ls begun rising bound full is = held_step (leb c d.last) c n d ls refl begun rising bound full is
+
+pub not_held : (c n : ℕ) (ls : List Listing) → Begun c ls n → AreRising ls → n ≤ length ls → n ≤ 0 → ltb 0 n ≡ is_listed (map span_of ls) c
+not_held c n ls begun rising bound none =
+    le-ltb 0 n none ∙ sym (listed_none c n ls begun rising (λ d k at. absurd (omega arith)) bound)
+
+-- another order lists the same
+pub sorted_lists_same : (old new : List Listing) (c : ℕ) → IsPermutation old new → is_listed (map span_of new) c ≡ is_listed (map span_of old) c
+sorted_lists_same old new c h = any_map new c ∙ sym (list_any-IsPermutation (lists c) old new h) ∙ sym (any_map old c)

@@ -1,0 +1,15 @@
+use Rattle.std.proofs.Common.{◌≡◌, ℕ, ◌+◌, eqb, count_by, rules, arith, ap, ◌∙◌, sym}
+use Rattle.std.proofs.lemmas.List.Splits.{length-slice_split}
+use Rattle.std.proofs.lemmas.Bool.Decides.{nat_tests}
+use Rattle.np_ucd.specs.Fields.{fields_of as parts}
+use Rattle.np_ucd.proofs.records.are_nine.Goals as goal
+
+nine : (n : ℕ) → eqb n 8 ≡ eqb (n + 1) 9
+nine n = grind (arith, nat_tests)
+
+pub returns : goal.returns
+unfolding parts
+returns c =
+    let counted : c.count.result ≡ count_by (λ b. eqb b 59) c.args.rest.now = search rules in
+    ap (λ n. eqb n 8) counted ∙ nine (count_by (λ b. eqb b 59) c.args.rest.now)
+    ∙ ap (λ n. eqb n 9) (sym (length-slice_split (λ b. eqb b 59) c.args.rest.now))

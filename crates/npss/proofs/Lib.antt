@@ -1,0 +1,4 @@
+pub mod EndLemmas
+pub mod MatchLemmas
+pub mod TextLemmas
+pub mod VersionLemmas

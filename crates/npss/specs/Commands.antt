@@ -1,0 +1,39 @@
+-- The commands, options and places of the command line, as `clap` reads them.
+use Rattle.std.specs.Prelude.{ℕ, true, Some, codes}
+use Rattle.clap.specs.Words.{App, Rule, Text, new_app, new_rule, with_rule, with_subcommand}
+use Rattle.clap.specs.declared.builder.action.ArgAction.TheVariants.{Set}
+
+-- --form FORM, once
+abbrev pub form_rule : Rule
+form_rule = record (new_rule (codes "form")) {
+  long = Some (codes "form");
+  required = true;
+  action = Some Set;
+}
+
+-- n files
+abbrev pub files_rule : ℕ → Rule
+files_rule n = record (new_rule (codes "files")) {
+  range = Some (record { start_inclusive = n; end_inclusive = n });
+  required = true;
+  action = Some Set;
+}
+
+-- NAME --form FORM DATA EXCL
+abbrev pub text_app : Text → App
+text_app name = with_rule (with_rule (new_app name) form_rule) (files_rule 2)
+
+-- audit OLDDATA OLDEXCL NEWDATA NEWEXCL
+abbrev pub audit_app : App
+audit_app = with_rule (new_app (codes "audit")) (files_rule 4)
+
+-- the words begin with a command
+abbrev pub with_settings : App → App
+with_settings a = record a { top = record a.top { no_binary_name = true; subcommand_required = true } }
+
+abbrev pub texts_app : App
+texts_app = with_subcommand (with_subcommand (with_subcommand (with_settings (new_app (codes "npss")))
+    (text_app (codes "normalize")).top) (text_app (codes "key")).top) (text_app (codes "compare")).top
+
+abbrev pub program_app : App
+program_app = with_subcommand texts_app audit_app.top

@@ -1,0 +1,74 @@
+-- What words ask for, by `clap`'s reading of them.
+use Rattle.std.specs.Prelude.{◌≡◌, ℕ, ⊤, ◌==◌, List, [], ◌∷◌, length, map, option_map, option_and_then, string_bytes, Option, Some, None, codes, if◌then◌else◌}
+use Rattle.std.specs.Str.{bytes_eq}
+use Rattle.np_code_points.specs.declared.forms.Form.{Form}
+use Rattle.np_code_points.specs.Forms.{form_named}
+use Rattle.npss.specs.declared.words.Job.{Job}
+use Rattle.npss.specs.declared.words.Job.TheVariants.{Help, Normalize, Key, Compare, Audit}
+use Rattle.clap.specs.Words.{Kinds, Row, Text, all_of, fault_of, first_of, subcommand_of}
+use Rattle.npss.specs.Commands.{program_app}
+
+-- a command with its form, where it has one, and its files in the order of the words
+pub record Asked : Type 0 where
+  pub command : Text
+  pub form : Option Form
+  pub files : List Text
+
+-- what a job does; help is no command
+abbrev pub asked_of : Job → Asked
+asked_of Help = record { command = []; form = None; files = [] }
+asked_of (Normalize form files) = record { command = codes "normalize"; form = Some form; files = map string_bytes files.items }
+asked_of (Key form files) = record { command = codes "key"; form = Some form; files = map string_bytes files.items }
+asked_of (Compare form files) = record { command = codes "compare"; form = Some form; files = map string_bytes files.items }
+asked_of (Audit files) = record { command = codes "audit"; form = None; files = map string_bytes files.items }
+
+-- a job has as many files as its command wants
+abbrev pub HasItsFiles : Job → Type 0
+HasItsFiles Help = ⊤
+HasItsFiles (Normalize form files) = length files.items ≡ 2
+HasItsFiles (Key form files) = length files.items ≡ 2
+HasItsFiles (Compare form files) = length files.items ≡ 2
+HasItsFiles (Audit files) = length files.items ≡ 4
+
+-- the form that the value of --form names
+abbrev pub form_of : List Row → Option Form
+form_of rows = option_and_then form_named (first_of (codes "form") rows)
+
+abbrev pub if_so_many : ℕ → List Text → Option (List Text)
+if_so_many count files = if length files == count then Some files else None
+
+-- the values of the places, where they are so many
+abbrev pub files_of : ℕ → List Row → Option (List Text)
+files_of count rows = option_and_then (if_so_many count) (all_of (codes "files") rows)
+
+-- a command with a form and two files
+abbrev pub text_asked : Text → List Row → Option Asked
+text_asked command rows = option_and_then (λ form.
+    option_map (λ files. record { command = command; form = Some form; files = files }) (files_of 2 rows))
+    (form_of rows)
+
+-- the comparison of two versions, four files
+abbrev pub audit_asked : List Row → Option Asked
+audit_asked rows = option_map (λ files. record { command = codes "audit"; form = None; files = files }) (files_of 4 rows)
+
+-- what the command of this name asks for, by what is read behind it
+abbrev pub asked_in : Text → List Row → Option Asked
+asked_in name rows =
+    if bytes_eq name (codes "normalize") then text_asked (codes "normalize") rows
+    else (if bytes_eq name (codes "key") then text_asked (codes "key") rows
+    else (if bytes_eq name (codes "compare") then text_asked (codes "compare") rows
+    else (if bytes_eq name (codes "audit") then audit_asked rows else None)))
+
+-- what is read in words, where `clap` has no fault to find in them
+abbrev pub asked_unless : Kinds → Option (Text × List Row) → Option Asked
+asked_unless [] found = option_and_then (λ p. asked_in p.0 p.1) found
+asked_unless (_ ∷ _) found = None
+
+-- what `clap` reads in words
+abbrev pub asked_among : List Text → Option Asked
+asked_among words = asked_unless (fault_of program_app words) (subcommand_of program_app words)
+
+-- what words ask for: no words ask for help
+abbrev pub asked_by : List Text → Option Asked
+asked_by [] = Some (asked_of Help)
+asked_by (w ∷ ws) = asked_among (w ∷ ws)

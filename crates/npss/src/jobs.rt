@@ -1,0 +1,9 @@
+//! What each command does, over any readers and writers.
+
+pub mod audit;
+pub mod compare;
+pub mod faults;
+pub mod key;
+pub mod normalize;
+pub mod texts;
+pub mod versions;

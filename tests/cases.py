@@ -1,0 +1,251 @@
+"""The cases of the end-to-end tests: words, input, and what the program has to answer."""
+
+from dataclasses import dataclass
+
+from harness import COMMANDS, FORMS, NORMALIZE_STREAMS
+from versions import BAD_DATA, BAD_TABLES, EXCLUSIONS, LIMIT, S, V1, V2, good_files
+
+USAGE = (
+    "usage: npss normalize --form FORM DATA EXCL\n"
+    "       npss key --form FORM DATA EXCL\n"
+    "       npss compare --form FORM DATA EXCL\n"
+    "       npss audit OLDDATA OLDEXCL NEWDATA NEWEXCL\n"
+    "       npss replay --form FORM SCHEDULE FILES..\n"
+)
+
+# Statuses.
+DIFFERENT, WRONG_WORDS, UNASSIGNED, BAD_TEXT, DEVICE = 1, 2, 3, 4, 5
+
+
+@dataclass
+class Case:
+    """One run: its words, its input, and what it has to write and answer.
+
+    With `prefix` standard output may hold any prefix of `out`.
+    """
+
+    words: list
+    stdin: bytes = b""
+    out: bytes = b""
+    err: str = ""
+    status: int = 0
+    prefix: bool = False
+
+    def name(self):
+        return f"{' '.join(self.words)} < {self.stdin[:40]!r}"
+
+
+def text(codes):
+    """The bytes of a string that is written as code points."""
+    return "".join(chr(int(code, 16)) for code in codes.split()).encode("utf-8")
+
+
+# A version, the form or forms, a string and its form.
+FORM_ROWS = [
+    (V1, "nfd nfc nfkd nfkc", "", ""),
+    (V1, "nfd nfkd", "0061 0302 0323", "0061 0323 0302"),
+    (V1, "nfc nfkc", "0061 0302 0323", "1EAD"),
+    (V1, "nfd nfkd", "212B", "0041 030A"),
+    (V1, "nfc nfkc", "212B", "00C5"),
+    (V1, "nfc", "0344", "0308 0301"),
+    (V1, "nfc", "0958", "0915 093C"),
+    (V1, "nfc", "0061 0301 0302", "0061 0301 0302"),
+    (V1, "nfc", "0041 0327 030A", "00C5 0327"),
+    (S, "nfc", "0041 0323 030A", "00C5 0323"),
+    (S, "nfc", "F000", "00C5 0323"),
+    (V1, "nfd nfc", "FB01", "FB01"),
+    (V1, "nfkd nfkc", "FB01", "0066 0069"),
+    (V1, "nfd nfkd", "D4DB", "1111 1171 11B6"),
+    (V1, "nfc nfkc", "1111 1171 11B6", "D4DB"),
+    (V1, "nfc", "AC00 11A7", "AC00 11A7"),
+    (V1, "nfc", "AC00 11A8", "AC01"),
+    (V1, "nfc", "AC01 11A8", "AC01 11A8"),
+    (V1, "nfc", "E000", "E000"),
+    (V2, "nfc", "E000", "E000"),
+    (V2, "nfc", "0041 16D67", "0041 16D67"),
+    (V2, "nfc", "16D67 16D67 16D67", "16D68 16D67"),
+    (V2, "nfc", "16D63 16D67 16D67", "16D6A"),
+    (("new-composite.data", V1[1]), "nfc", "0041 0301", "00C1"),
+    (("new-composite.data", "with-00c1.excl"), "nfc", "0041 0301", "0041 0301"),
+    (("just-not-too-long.data", "empty"), "nfkd", "0063", " ".join(["0061"] * 64)),
+]
+
+# A version, a form and a string that `normalize` leaves as it is, and the refusal of `key`.
+UNASSIGNED_ROWS = [
+    (V1, "nfc", "0041 16D67", "unassigned 16D67 at byte 1"),
+    (V1, "nfc", "16D6A", "unassigned 16D6A at byte 0"),
+    (V1, "nfd", "FFFE", "unassigned FFFE at byte 0"),
+    (V2, "nfd", "FFFE", "unassigned FFFE at byte 0"),
+    (V1, "nfkc", "10FFFF", "unassigned 10FFFF at byte 0"),
+    (V1, "nfd", "0061 000A", "unassigned 000A at byte 1"),
+    (V1, "nfc", "00C5 0062 0063", "unassigned 0062 at byte 2"),
+    (S, "nfd", "AC00", "unassigned AC00 at byte 0"),
+    (("empty", "empty"), "nfc", "0061", "unassigned 0061 at byte 0"),
+]
+
+# Input that is not UTF-8, and the length of its longest valid prefix, which is its own NFC.
+NOT_UTF8 = [
+    ("80", 0), ("61bf", 1), ("c080", 0), ("61c1bf", 1), ("e08080", 0), ("e09fbf", 0),
+    ("f0808080", 0), ("f08fbfbf", 0), ("eda080", 0), ("61edbfbf", 1), ("f4908080", 0),
+    ("f5808080", 0), ("ff", 0), ("61fe62", 1), ("61ff62", 1), ("61cc", 1), ("61e1ba", 1),
+    ("f096b5", 0), ("c3a2f096", 2), ("c3a2c361", 2), ("cc820ac3", 3), ("e1baade1ba41", 3),
+] + [(f"61{byte:02x}808080", 1) for byte in range(0xF5, 0x100)]
+
+# The input of `compare` under V1: the form, bytes, output, error and status.
+COMPARE_ROWS = [
+    ("nfc", b"\xef\xac\x81\nfi\n", "different", "", DIFFERENT),
+    ("nfd", b"\xef\xac\x81\nfi\n", "different", "", DIFFERENT),
+    ("nfkc", b"\xef\xac\x81\nfi\n", "equal", "", 0),
+    ("nfkd", b"\xef\xac\x81\nfi\n", "equal", "", 0),
+    ("nfc", b"A\xcc\x8a\n\xe2\x84\xab", "equal", "", 0),
+    ("nfd", b"A\xcc\x8a\n\xe2\x84\xab\n", "equal", "", 0),
+    ("nfc", b"A\na\n", "different", "", DIFFERENT),
+    ("nfc", b"\n", "equal", "", 0),
+    ("nfc", b"\n\n", "equal", "", 0),
+    ("nfc", b"", "", "input: two lines wanted", BAD_TEXT),
+    ("nfc", b"a", "", "input: two lines wanted", BAD_TEXT),
+    ("nfc", b"b", "", "input: two lines wanted", BAD_TEXT),
+    ("nfc", b"a\n\n\n", "", "second: unassigned 000A at byte 0", UNASSIGNED),
+    ("nfc", b"ab\nb", "", "first: unassigned 0062 at byte 1", UNASSIGNED),
+    ("nfc", b"a\nab\n", "", "second: unassigned 0062 at byte 1", UNASSIGNED),
+    ("nfc", b"a\r\na\n", "", "first: unassigned 000D at byte 1", UNASSIGNED),
+    ("nfc", b"b\n\xff", "", "input: not UTF-8 at byte 2", BAD_TEXT),
+]
+
+LOST = "".join(f"Lost {code}\n" for code in ("1DFA", "16D63", "16D67", "16D68", "16D69", "16D6A"))
+
+# Two versions and the breaks between them.
+AUDIT_ROWS = [
+    (V1, V1, ""),
+    (V1, V2, ""),
+    (("empty", "empty"), V1, ""),
+    (V2, V1, LOST),
+    (V1, ("new-composite.data", V1[1]), "NewComposite 00C1\n"),
+    (V1, ("new-composite.data", "with-00c1.excl"), ""),
+    (V1, ("other-class.data", V1[1]), "ClassChanged 0323\n"),
+    (V1, (V1[0], "empty"), "NowIncluded 0958\n"),
+    ((V1[0], "empty"), V1, "NowExcluded 0958\n"),
+    (V1, ("other-mapping.data", V1[1]), "MappingChanged FB01\n"),
+]
+
+
+def refused(words, line, status, stdin=b"a"):
+    """A case in which one line is written, to standard error."""
+    return Case(words, stdin, b"", line + "\n", status)
+
+
+def usage_cases():
+    """No words at all, and words that ask for nothing that there is."""
+    yield Case([], out=USAGE.encode())
+    wrong = ["--help", "-h", "help", "--version", "help key", "key --help", "key", "nothing", "--",
+             "key --form nfx D E", "key --form NFC D E", "key D E", "key --form nfc D",
+             "key --form nfc D E F", "key --form nfc --form nfc D E", "audit A B C",
+             "audit A B C D E", "compare --form nfc D", "normalize --form nfc", "replay --form nfc S"]
+    if "replay" not in COMMANDS:
+        wrong.append("replay --form nfc S D E")
+    for words in wrong:
+        yield Case(words.split(), err=USAGE, status=WRONG_WORDS)
+
+
+def form_cases():
+    """Forms and keys of worked strings."""
+    for version, forms, given, wanted in FORM_ROWS:
+        for form in forms.split():
+            for command in ("key", "normalize"):
+                yield Case([command, "--form", form, *version], text(given), text(wanted))
+    for version, form, given, refusal in UNASSIGNED_ROWS:
+        yield Case(["normalize", "--form", form, *version], text(given), text(given))
+        yield refused(["key", "--form", form, *version], refusal, UNASSIGNED, text(given))
+
+
+def input_cases():
+    """Input that is not UTF-8 or too large."""
+    for given, at in NOT_UTF8:
+        given = bytes.fromhex(given)
+        line = f"input: not UTF-8 at byte {at}"
+        yield refused(["key", "--form", "nfc", *V1], line, BAD_TEXT, given)
+        yield refused(["compare", "--form", "nfc", *V1], line, BAD_TEXT, given)
+        out = given[:at] if NORMALIZE_STREAMS else b""
+        yield Case(["normalize", "--form", "nfc", *V1], given, out, line + "\n", BAD_TEXT, prefix=True)
+    full = b"a" * LIMIT
+    yield Case(["key", "--form", "nfc", *V1], full, full)
+    yield Case(["normalize", "--form", "nfc", *V1], full, full)
+    yield refused(["key", "--form", "nfc", *V1], "input: TooLarge", BAD_TEXT, full + b"a")
+    yield refused(["key", "--form", "nfc", *V1], "input: TooLarge", BAD_TEXT, full + b"\xff")
+    half = b"a" * (LIMIT // 2 - 1)
+    yield Case(["compare", "--form", "nfc", *V1], half + b"\n" + half + b"\n", b"equal\n")
+    yield refused(["compare", "--form", "nfc", *V1], "input: TooLarge", BAD_TEXT, full + b"\n")
+    if NORMALIZE_STREAMS:
+        yield Case(["normalize", "--form", "nfc", *V1], full + b"a", full + b"a")
+    else:
+        yield refused(["normalize", "--form", "nfc", *V1], "input: TooLarge", BAD_TEXT, full + b"a")
+
+
+def compare_cases():
+    for form, given, out, err, status in COMPARE_ROWS:
+        out, err = (line and line + "\n" for line in (out, err))
+        yield Case(["compare", "--form", form, *V1], given, out.encode(), err, status)
+
+
+def audit_cases():
+    for old, new, breaks in AUDIT_ROWS:
+        out = breaks or "extends\n"
+        yield Case(["audit", *old, *new], out=out.encode(), status=DIFFERENT if breaks else 0)
+
+
+def refusals(files, line, status):
+    """A version that is refused, as the one version of a command and as either one of `audit`."""
+    for command in ("key", "normalize", "compare"):
+        yield refused([command, "--form", "nfd", *files], line.replace("K", "0", 1), status, b"a\na")
+    yield refused(["audit", *files, *V1], line.replace("K", "0", 1), status)
+    yield refused(["audit", *V1, *files], line.replace("K", "1", 1), status)
+
+
+def file_cases():
+    """Files as a user may have them, right and wrong."""
+    for name in good_files(""):
+        if name != "crlf":
+            yield Case(["key", "--form", "nfd", f"{name}.data", "empty"], b"a", b"a")
+    yield Case(["key", "--form", "nfc", "crlf.data", V1[1]], text("0061 0302 0323"), text("1EAD"))
+    for name, _, line, fault in BAD_DATA:
+        yield from refusals((f"{name}.bad", V1[1]), f"version K data: line {line}: {fault}", BAD_TEXT)
+    for name, _, line in EXCLUSIONS:
+        if line is None:
+            yield Case(["key", "--form", "nfd", V1[0], f"{name}.excl"], b"a", b"a")
+        else:
+            yield from refusals((V1[0], f"{name}.excl"),
+                                f"version K exclusions: line {line}: BadCode", BAD_TEXT)
+    for name, fault in BAD_TABLES:
+        yield from refusals((f"{name}.data", "empty"), f"version K tables: {fault}", BAD_TEXT)
+    yield Case(["key", "--form", "nfd", V1[0], "comments-at-limit"], b"a", b"a")
+    yield from refusals(("too-large", V1[1]), "version K data: TooLarge", BAD_TEXT)
+    yield from refusals((V1[0], "too-large"), "version K exclusions: TooLarge", BAD_TEXT)
+    yield from refusals(("folder", V1[1]), "version K data: ReadFailed", DEVICE)
+    yield from refusals((V1[0], "folder"), "version K exclusions: ReadFailed", DEVICE)
+    yield from refusals(("nothing", V1[1]), "cannot open nothing", DEVICE)
+    yield from refusals((V1[0], "v1/nothing"), "cannot open v1/nothing", DEVICE)
+
+
+def order_cases():
+    """Where several things are wrong, the first of the order is told."""
+    yield refused(["key", "--form", "nfd", "page.bad", "nothing"], "cannot open nothing", DEVICE)
+    yield refused(["audit", "nothing", "page.bad", "never", V1[1]], "cannot open nothing", DEVICE)
+    yield refused(["audit", "page.bad", V1[1], V1[0], "nothing"], "cannot open nothing", DEVICE)
+    yield refused(["key", "--form", "nfd", "page.bad", "falling.excl"],
+                  "version 0 data: line 1: FieldCount", BAD_TEXT)
+    yield refused(["key", "--form", "nfd", "one-jamo.data", "falling.excl"],
+                  "version 0 exclusions: line 1: BadCode", BAD_TEXT)
+    yield refused(["audit", "one-jamo.data", V1[1], "page.bad", V1[1]],
+                  "version 0 tables: HangulWrong 1101", BAD_TEXT)
+    yield refused(["key", "--form", "nfd", "one-jamo.data", V1[1]],
+                  "version 0 tables: HangulWrong 1101", BAD_TEXT, b"\xff")
+    yield refused(["key", "--form", "nfd", *V1], "input: not UTF-8 at byte 1", BAD_TEXT, b"b\xff")
+
+
+def all_cases():
+    """The cases of the commands that exist."""
+    groups = (usage_cases, form_cases, input_cases, compare_cases, audit_cases, file_cases, order_cases)
+    for group in groups:
+        for case in group():
+            if group is usage_cases or case.words[0] in COMMANDS:
+                yield case

@@ -1,0 +1,105 @@
+#!/usr/bin/env python3
+"""Runs the built program end to end: tests/end_to_end.py PROGRAM [LAUNCHER].
+
+The program runs in a folder of its own that holds copies of the fixtures and the files of
+versions.py. Each case of cases.py is one run, judged by its status, standard output and standard
+error. Then come devices that fail, the launcher, and whether every file is as it was. Ends in a line
+'N passed, M failed'.
+"""
+
+import hashlib
+import os
+import shutil
+import sys
+import tempfile
+from pathlib import Path
+
+from cases import DEVICE, USAGE, WRONG_WORDS, all_cases, text
+from harness import COMMANDS, Tally, run, shown
+from versions import V1, write_all
+
+FIXTURES = Path(__file__).resolve().parent.parent / "fixtures"
+
+
+def check_case(tally, program, folder, case):
+    """One run against what it has to answer."""
+    status, out, err = run(program, case.words, case.stdin, folder)
+    holds = case.out.startswith(out) if case.prefix else out == case.out
+    tally.check(case.name(), holds and status == case.status and err == case.err.encode(),
+                f"got {status} {shown(out)} {shown(err)}, "
+                f"want {case.status} {shown(case.out)} {shown(case.err)}")
+
+
+def device_runs():
+    """One run that writes something, per command that exists: words and input."""
+    for command in ("key", "normalize", "compare"):
+        yield [command, "--form", "nfc", *V1], b"a\na" if command == "compare" else b"a"
+    yield ["audit", *V1, *V1], b""
+
+
+def check_devices(tally, program, folder):
+    """A full output, an input that can't be read, and a full standard error."""
+    with open("/dev/full", "wb") as full:
+        for words, stdin in device_runs():
+            if words[0] in COMMANDS:
+                got = run(program, words, stdin, folder, stdout=full)
+                tally.same(f"{words[0]} into a full device", got, (DEVICE, b"", b"output: WriteFailed\n"))
+        status, out, _ = run(program, ["nothing"], b"", folder, stderr=full)
+        tally.same("usage into a full device", (status, out), (WRONG_WORDS, b""))
+    for words, _ in device_runs():
+        if words[0] in COMMANDS and words[0] != "audit":
+            got = run_on_folder(program, words, folder)
+            tally.same(f"{words[0]} from a folder", got, (DEVICE, b"", b"input: ReadFailed\n"))
+
+
+def run_on_folder(program, words, folder):
+    """The run whose standard input is a folder, which opens and can't be read."""
+    handle = os.open(folder, os.O_RDONLY)
+    try:
+        return run(program, words, handle, folder)
+    finally:
+        os.close(handle)
+
+
+def check_launcher(tally, launcher, folder):
+    """The launcher keeps the caller's folder and the words, through a symbolic link too."""
+    link = folder / "link"
+    link.symlink_to(launcher)
+    for way in (launcher, link):
+        tally.same(f"{way.name} without words", run(way, [], b"", folder), (0, USAGE.encode(), b""))
+        if "key" in COMMANDS:
+            got = run(way, ["key", "--form", "nfd", *V1], text("0061 0302 0323"), folder)
+            tally.same(f"{way.name} key", got, (0, text("0061 0323 0302"), b""))
+        got = run(way, ["key", "a word", "*", ""], b"", folder)
+        tally.same(f"{way.name} with odd words", got, (WRONG_WORDS, b"", USAGE.encode()))
+    link.unlink()
+
+
+def state_of(folder):
+    """Every file and folder with its mode and contents."""
+    return {
+        str(path.relative_to(folder)):
+            (path.lstat().st_mode, hashlib.sha256(path.read_bytes()).hexdigest() if path.is_file() else "")
+        for path in sorted(folder.rglob("*"))
+    }
+
+
+def main():
+    program = Path(sys.argv[1]).resolve()
+    tally = Tally()
+    with tempfile.TemporaryDirectory() as name:
+        folder = Path(name) / "files"
+        shutil.copytree(FIXTURES, folder)
+        write_all(folder)
+        before = state_of(folder)
+        for case in all_cases():
+            check_case(tally, program, folder, case)
+        check_devices(tally, program, folder)
+        if len(sys.argv) > 2:
+            check_launcher(tally, Path(sys.argv[2]).resolve(), folder)
+        tally.check("files are as they were", state_of(folder) == before, "a file changed")
+    tally.finish()
+
+
+if __name__ == "__main__":
+    main()

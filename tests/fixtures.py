@@ -1,0 +1,67 @@
+#!/usr/bin/env python3
+"""Compares the files under fixtures/ with the texts that the crates' tests use.
+
+Those texts are constants of the crates, since a test can't read the repository's files. A constant
+is paired with a file by its name: V1_DATA with v1/UnicodeData.txt, V1_EXCLUSIONS with
+v1/CompositionExclusions.txt, EXCHANGE_SCHEDULE and EXCHANGE_REPORT with scripts/exchange.schedule
+and scripts/exchange.report. Each has to have the other. Ends in a line 'N passed, M failed'.
+"""
+
+import re
+from pathlib import Path
+
+from harness import COMMANDS, Tally
+
+ROOT = Path(__file__).resolve().parent.parent
+FILES = {
+    "DATA": "{}/UnicodeData.txt",
+    "EXCLUSIONS": "{}/CompositionExclusions.txt",
+    "SCHEDULE": "scripts/{}.schedule",
+    "REPORT": "scripts/{}.report",
+}
+CONSTANT = re.compile(r'const (\w+)_(DATA|EXCLUSIONS|SCHEDULE|REPORT): &(?:\'static )?str =\s*"((?:[^"\\]|\\.)*)";',
+                      re.DOTALL)
+ESCAPES = {"n": "\n", "r": "\r", "t": "\t", "0": "\0", "\\": "\\", '"': '"', "'": "'"}
+
+
+def unescaped(literal):
+    """The text of a Rust string literal, of what stands between its quotes."""
+    def one(match):
+        sign = match[1]
+        if sign[0] == "\n":
+            return ""
+        if sign[0] in "xu":
+            return chr(int(sign.strip("xu{}"), 16))
+        return ESCAPES[sign]
+    return re.sub(r"\\(\n\s*|x[0-9A-Fa-f]{2}|u\{[0-9A-Fa-f]+\}|.)", one, literal)
+
+
+def constants():
+    """The texts of the crates' constants, by the file that each is paired with."""
+    texts = {}
+    for source in sorted(ROOT.glob("crates/*/src/**/*.rt")):
+        for name, kind, literal in CONSTANT.findall(source.read_text(encoding="utf-8")):
+            texts[FILES[kind].format(name.lower())] = unescaped(literal)
+    return texts
+
+
+def files():
+    """The texts of the files; scripts count only where the command that runs them exists."""
+    folder = ROOT / "fixtures"
+    found = {str(path.relative_to(folder)): path.read_bytes().decode("utf-8")
+             for path in sorted(folder.rglob("*")) if path.is_file()}
+    return {name: text for name, text in found.items()
+            if "replay" in COMMANDS or not name.startswith("scripts/")}
+
+
+def main():
+    tally = Tally()
+    wanted, got = constants(), files()
+    for name in sorted(wanted.keys() | got.keys()):
+        tally.same(f"fixtures/{name}", got.get(name), wanted.get(name))
+    tally.check("there are fixtures", got, "fixtures/ has no file")
+    tally.finish()
+
+
+if __name__ == "__main__":
+    main()

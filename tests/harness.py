@@ -1,0 +1,61 @@
+"""What the test scripts share: which commands there are, runs of the program, and the count."""
+
+import subprocess
+import sys
+
+# The commands that exist now. Cases of another command are left out.
+COMMANDS = ("normalize", "key", "compare", "audit")
+
+# Whether `normalize` takes its input as a stream: then it has no limit that a test could reach, and
+# after a fault of the input a part of the form may have been written.
+NORMALIZE_STREAMS = False
+
+FORMS = ("nfd", "nfc", "nfkd", "nfkc")
+
+
+def run(program, words, stdin=b"", folder=None, **streams):
+    """The run of the program with these words: its status and what it wrote.
+
+    `stdin` is bytes, or an open file. `streams` may put an open file in the place of `stdout` or
+    `stderr`; what goes there is answered as nothing.
+    """
+    given = {"input": stdin} if isinstance(stdin, bytes) else {"stdin": stdin}
+    wanted = {"stdout": subprocess.PIPE, "stderr": subprocess.PIPE}
+    wanted.update(streams)
+    try:
+        done = subprocess.run([str(program), *words], cwd=folder, timeout=120, **given, **wanted)
+    except subprocess.TimeoutExpired:
+        return None, b"", b"no end after two minutes"
+    return done.returncode, done.stdout or b"", done.stderr or b""
+
+
+def shown(value, limit=200):
+    """The value for a line of output, cut where it is long."""
+    text = repr(value)
+    return text if len(text) <= limit else f"{text[:limit]}... ({len(value)})"
+
+
+class Tally:
+    """Counts what passed and what failed, and names each failure."""
+
+    def __init__(self):
+        self.passed = 0
+        self.failed = 0
+
+    def check(self, name, holds, detail=""):
+        """Counts one check; where it doesn't hold, prints its name and the detail."""
+        if holds:
+            self.passed += 1
+        else:
+            self.failed += 1
+            print(f"FAILED {name}: {detail}")
+        return holds
+
+    def same(self, name, got, want):
+        """Counts one comparison."""
+        return self.check(name, got == want, f"got {shown(got)}, want {shown(want)}")
+
+    def finish(self):
+        """Prints the last line and ends with the status."""
+        print(f"{self.passed} passed, {self.failed} failed")
+        sys.exit(1 if self.failed else 0)
