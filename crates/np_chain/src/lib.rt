@@ -5,6 +5,8 @@ pub mod audits;
 pub mod breaks;
 pub mod chains;
 pub mod laws;
+#[cfg(test)]
+mod tests;
 
 pub use audits::{audit, extends};
 pub use breaks::{Break, BreakKind};

@@ -11,6 +11,8 @@ pub mod laws;
 mod ordering;
 mod stabilized;
 mod stream_safety;
+#[cfg(test)]
+mod tests;
 
 pub use assigned::{first_lacking, first_unassigned};
 pub use equivalence::equivalent;

@@ -5,5 +5,7 @@ pub mod compare;
 pub mod faults;
 pub mod key;
 pub mod normalize;
+#[cfg(test)]
+mod tests;
 pub mod texts;
 pub mod versions;

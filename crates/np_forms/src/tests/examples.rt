@@ -1,25 +1,12 @@
-//! Worked examples over the fixtures.
-// Waits for np_tables::RowTable and the readers of np_ucd. To take it in: rename it to tests.rt, add
-// `#[cfg(test)] mod tests;` to lib.rt, and see that the calls in `table_of` are named as there.
+//! What each call answers on worked examples.
+use super::table_of;
 use crate::{NpssFault, equivalent, first_unassigned, form, is_form, is_stream_safe, npss};
-use np_code_points::devices::Trickle;
-use np_code_points::fixtures::{S_DATA, S_EXCLUSIONS, V1_DATA, V1_EXCLUSIONS, V2_DATA, V2_EXCLUSIONS};
-use np_code_points::watched::Watched;
+use np_code_points::fixtures::{
+    S_DATA, S_EXCLUSIONS, V1_DATA, V1_EXCLUSIONS, V2_DATA, V2_EXCLUSIONS,
+};
 use np_code_points::{Form, Memory};
-use np_tables::{RowTable, Version};
-use np_ucd::{read_exclusions, read_rows};
 use std::alloc::Global;
 use std::test::Fail;
-
-/// A table of the version that two files give.
-fn table_of(alloc: Global, data: &str, exclusions: &str) -> Result<RowTable, Fail> {
-    let mut data = Watched::new(Trickle::new(data.as_bytes(), 4096));
-    let mut exclusions = Watched::new(Trickle::new(exclusions.as_bytes(), 4096));
-    let rows = read_rows(alloc, &mut data)?;
-    let excluded = read_exclusions(alloc, &mut exclusions)?;
-    let version = Version::build(alloc, rows, excluded)?;
-    Ok(RowTable::new(alloc, version)?)
-}
 
 /// `a` and then `count` times `mark`.
 fn marked(alloc: Global, mark: char, count: u32) -> Result<String, Memory> {
@@ -32,7 +19,7 @@ fn marked(alloc: Global, mark: char, count: u32) -> Result<String, Memory> {
 }
 
 // (text, NFD, NFC)
-const CANONICAL: [(&str, &str, &str); 12] = [
+const CANONICAL: [(&str, &str, &str); 13] = [
     ("", "", ""),
     ("\u{61}\u{302}\u{323}", "\u{61}\u{323}\u{302}", "\u{1EAD}"),
     ("\u{212B}", "\u{41}\u{30A}", "\u{C5}"),
@@ -42,6 +29,7 @@ const CANONICAL: [(&str, &str, &str); 12] = [
     ("\u{41}\u{327}\u{30A}", "\u{41}\u{327}\u{30A}", "\u{C5}\u{327}"),
     ("\u{FB01}", "\u{FB01}", "\u{FB01}"),
     ("\u{D4DB}", "\u{1111}\u{1171}\u{11B6}", "\u{D4DB}"),
+    ("\u{1111}\u{1171}\u{11B6}", "\u{1111}\u{1171}\u{11B6}", "\u{D4DB}"),
     ("\u{AC00}\u{11A7}", "\u{1100}\u{1161}\u{11A7}", "\u{AC00}\u{11A7}"),
     ("\u{AC00}\u{11A8}", "\u{1100}\u{1161}\u{11A8}", "\u{AC01}"),
     ("\u{AC01}\u{11A8}", "\u{1100}\u{1161}\u{11A8}\u{11A8}", "\u{AC01}\u{11A8}"),
