@@ -180,3 +180,18 @@ fn a_table_answers_by_its_version(rt: HostRuntime) -> Result<(), Fail> {
     assert_eq!(rt; table.full('\u{FB01}', false), [].as_slice());
     Ok(())
 }
+
+#[test]
+fn syllables_go_by_arithmetic(rt: HostRuntime) -> Result<(), Fail> {
+    let v1 = version(rt.alloc(), V1_DATA, V1_EXCLUSIONS)?;
+    let table = RowTable::new(rt.alloc(), v1)?;
+    // 11A7 is no trailing consonant
+    assert_eq!(rt; table.pair('\u{AC00}', '\u{11A7}'), None);
+    assert_eq!(rt; table.pair('\u{1112}', '\u{1175}'), Some('\u{D788}'));
+    assert_eq!(rt; table.full('\u{AC01}', false), [].as_slice());
+    let s = version(rt.alloc(), S_DATA, S_EXCLUSIONS)?;
+    let off = RowTable::new(rt.alloc(), s)?;
+    assert!(rt; !off.hangul());
+    assert_eq!(rt; off.pair('\u{1100}', '\u{1161}'), None);
+    Ok(())
+}

@@ -63,13 +63,13 @@ fn answer_line(equal: bool) -> &'static str
 fn run_compare<F: Read, I: Read, O: Write>(
     alloc: Global,
     form: Form,
-    data: &mut Watched<F>,
+    data_file: &mut Watched<F>,
     exclusions: &mut Watched<F>,
     input: &mut Watched<I>,
     output: &mut Watched<O>,
 ) -> Result<bool, JobFault>
     ensures { CompareEnds form (record {
-      rows = stream_of F.remaining data.old data.new;
+      rows = stream_of F.remaining data_file.old data_file.new;
       listed = stream_of F.remaining exclusions.old exclusions.new;
       input = stream_of I.remaining input.old input.new;
       output = stream_of O.contents output.old output.new;
@@ -77,7 +77,7 @@ fn run_compare<F: Read, I: Read, O: Write>(
 {
     input.clear();
     output.clear();
-    let table = read_table(alloc, 0, data, exclusions)?;
+    let table = read_table(alloc, 0, data_file, exclusions)?;
     let bytes = read_input(alloc, input)?;
     let text = text_in(bytes.as_slice())?;
     let Some((first, second)) = two_lines(text) else {
@@ -100,20 +100,20 @@ fn run_compare<F: Read, I: Read, O: Write>(
 pub fn compare_job<F: Read, I: Read, O: Write, E: Write>(
     alloc: Global,
     form: Form,
-    data: &mut Watched<F>,
+    data_file: &mut Watched<F>,
     exclusions: &mut Watched<F>,
     input: &mut Watched<I>,
     output: &mut Watched<O>,
     error: &mut Watched<E>,
 ) -> u8
     ensures { Answers result (CompareEnds form (record {
-      rows = stream_of F.remaining data.old data.new;
+      rows = stream_of F.remaining data_file.old data_file.new;
       listed = stream_of F.remaining exclusions.old exclusions.new;
       input = stream_of I.remaining input.old input.new;
       output = stream_of O.contents output.old output.new;
     })) }
 {
-    match run_compare(alloc, form, data, exclusions, input, output) {
+    match run_compare(alloc, form, data_file, exclusions, input, output) {
         Ok(true) => DONE,
         Ok(false) => DIFFERENT,
         Err(fault) => refuse(alloc, error, &fault),

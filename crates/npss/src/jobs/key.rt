@@ -35,13 +35,13 @@ fn key_of<T: NormTable>(
 fn run_key<F: Read, I: Read, O: Write>(
     alloc: Global,
     form: Form,
-    data: &mut Watched<F>,
+    data_file: &mut Watched<F>,
     exclusions: &mut Watched<F>,
     input: &mut Watched<I>,
     output: &mut Watched<O>,
 ) -> Result<(), JobFault>
     ensures { KeyEnds form (record {
-      rows = stream_of F.remaining data.old data.new;
+      rows = stream_of F.remaining data_file.old data_file.new;
       listed = stream_of F.remaining exclusions.old exclusions.new;
       input = stream_of I.remaining input.old input.new;
       output = stream_of O.contents output.old output.new;
@@ -49,7 +49,7 @@ fn run_key<F: Read, I: Read, O: Write>(
 {
     input.clear();
     output.clear();
-    let table = read_table(alloc, 0, data, exclusions)?;
+    let table = read_table(alloc, 0, data_file, exclusions)?;
     let bytes = read_input(alloc, input)?;
     let text = text_in(bytes.as_slice())?;
     let key = key_of(alloc, &table, form, text)?;
@@ -62,20 +62,20 @@ fn run_key<F: Read, I: Read, O: Write>(
 pub fn key_job<F: Read, I: Read, O: Write, E: Write>(
     alloc: Global,
     form: Form,
-    data: &mut Watched<F>,
+    data_file: &mut Watched<F>,
     exclusions: &mut Watched<F>,
     input: &mut Watched<I>,
     output: &mut Watched<O>,
     error: &mut Watched<E>,
 ) -> u8
     ensures { Finishes result (KeyEnds form (record {
-      rows = stream_of F.remaining data.old data.new;
+      rows = stream_of F.remaining data_file.old data_file.new;
       listed = stream_of F.remaining exclusions.old exclusions.new;
       input = stream_of I.remaining input.old input.new;
       output = stream_of O.contents output.old output.new;
     })) }
 {
-    match run_key(alloc, form, data, exclusions, input, output) {
+    match run_key(alloc, form, data_file, exclusions, input, output) {
         Ok(()) => DONE,
         Err(fault) => refuse(alloc, error, &fault),
     }

@@ -15,12 +15,16 @@ use std::alloc::Global;
 use std::io::Read;
 
 /// The rows of a data file.
-fn rows_of<R: Read>(alloc: Global, number: u32, data: &mut Watched<R>) -> Result<Rows, JobFault>
-    ensures rows { IfOk result (λ rows. (bytes : List ℕ) × WasRead (stream_of R.remaining data.old data.new) bytes
+fn rows_of<R: Read>(
+    alloc: Global,
+    number: u32,
+    data_file: &mut Watched<R>,
+) -> Result<Rows, JobFault>
+    ensures rows { IfOk result (λ rows. (bytes : List ℕ) × WasRead (stream_of R.remaining data_file.old data_file.new) bytes
         × (first_fault bytes ≡ None) × (rows ≡ rows_in bytes)) }
-    ensures refused { IfErr result (IsDataFault number (stream_of R.remaining data.old data.new)) }
+    ensures refused { IfErr result (IsDataFault number (stream_of R.remaining data_file.old data_file.new)) }
 {
-    match read_rows(alloc, data) {
+    match read_rows(alloc, data_file) {
         Ok(rows) => Ok(rows),
         Err(UcdFault::Memory) => Err(JobFault::Memory),
         Err(fault) => Err(JobFault::Data {
@@ -76,14 +80,14 @@ fn version_of(
 pub fn read_version<R: Read>(
     alloc: Global,
     number: u32,
-    data: &mut Watched<R>,
+    data_file: &mut Watched<R>,
     exclusions: &mut Watched<R>,
 ) -> Result<Version, JobFault>
-    ensures built { IfOk result (WasBuilt (stream_of R.remaining data.old data.new) (stream_of R.remaining exclusions.old exclusions.new)) }
-    ensures refused { IfErr result (IsVersionFault number (stream_of R.remaining data.old data.new) (stream_of R.remaining exclusions.old exclusions.new)) }
+    ensures built { IfOk result (WasBuilt (stream_of R.remaining data_file.old data_file.new) (stream_of R.remaining exclusions.old exclusions.new)) }
+    ensures refused { IfErr result (IsVersionFault number (stream_of R.remaining data_file.old data_file.new) (stream_of R.remaining exclusions.old exclusions.new)) }
 {
     exclusions.clear();
-    let rows = rows_of(alloc, number, data)?;
+    let rows = rows_of(alloc, number, data_file)?;
     match exclusions_of(alloc, number, exclusions) {
         Ok(listed) => version_of(alloc, number, rows, listed),
         Err(fault) => Err(fault),
@@ -94,13 +98,13 @@ pub fn read_version<R: Read>(
 pub fn read_table<R: Read>(
     alloc: Global,
     number: u32,
-    data: &mut Watched<R>,
+    data_file: &mut Watched<R>,
     exclusions: &mut Watched<R>,
 ) -> Result<RowTable, JobFault>
-    ensures built { IfOk result (WasBuilt (stream_of R.remaining data.old data.new) (stream_of R.remaining exclusions.old exclusions.new)) }
-    ensures refused { IfErr result (IsVersionFault number (stream_of R.remaining data.old data.new) (stream_of R.remaining exclusions.old exclusions.new)) }
+    ensures built { IfOk result (WasBuilt (stream_of R.remaining data_file.old data_file.new) (stream_of R.remaining exclusions.old exclusions.new)) }
+    ensures refused { IfErr result (IsVersionFault number (stream_of R.remaining data_file.old data_file.new) (stream_of R.remaining exclusions.old exclusions.new)) }
 {
-    let version = read_version(alloc, number, data, exclusions)?;
+    let version = read_version(alloc, number, data_file, exclusions)?;
     match RowTable::new(alloc, version) {
         Ok(table) => Ok(table),
         Err(_) => Err(JobFault::Memory),

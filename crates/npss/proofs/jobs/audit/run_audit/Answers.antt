@@ -9,14 +9,14 @@ pub returns : goal.returns
 returns g c =
     let files = g.F.Read.remaining in
     let outputs = g.O.Write.contents in
-    let old_rows : Stream = stream_of files c.args.old_data.now c.read_version.new.data in
+    let old_rows : Stream = stream_of files c.args.old_data.now c.read_version.new.data_file in
     let old_listed : Stream = stream_of files c.args.old_exclusions.now c.read_version.new.exclusions in
-    let new_rows : Stream = stream_of files c.args.new_data.now c.read_version-2.new.data in
+    let new_rows : Stream = stream_of files c.args.new_data.now c.read_version-2.new.data_file in
     let new_listed : Stream = stream_of files c.args.new_exclusions.now c.read_version-2.new.exclusions in
     let output : Stream = stream_of outputs c.args.output.now c.write_output.new.output in
     let s : AuditStreams = record { old_rows = old_rows; old_listed = old_listed; new_rows = new_rows; new_listed = new_listed; output = output } in
     let cleared : Stream = stream_of files c.clear-2.new.self c.read_version-2.new.exclusions in
-    let half : WasBuilt new_rows cleared c.in_ok-new.new = subst (λ t. WasBuilt t cleared c.in_ok-new.new) (same_stream files c.clear.new.self c.args.new_data.now c.read_version-2.new.data c.clear.ensures.device) c.in_ok-new.ensures.built in
+    let half : WasBuilt new_rows cleared c.in_ok-new.new = subst (λ t. WasBuilt t cleared c.in_ok-new.new) (same_stream files c.clear.new.self c.args.new_data.now c.read_version-2.new.data_file c.clear.ensures.device) c.in_ok-new.ensures.built in
     let built : WasBuilt new_rows new_listed c.in_ok-new.new = subst (λ t. WasBuilt new_rows t c.in_ok-new.new) (same_stream files c.clear-2.new.self c.args.new_exclusions.now c.read_version-2.new.exclusions c.clear-2.ensures.device) half in
     let breaks = c.in_ok-breaks.breaks.items in
     let out = c.as_bytes.result.now in

@@ -12,7 +12,7 @@ returns-in-Ok-write_output g c =
     let outputs = g.O.Write.contents in
     let input : Stream = stream_of inputs c.args.input.now c.read_input.new.input in
     let output : Stream = stream_of outputs c.args.output.now c.write_output.new.output in
-    let s : Streams = record { rows = stream_of files c.args.data.now c.read_table.new.data; listed = stream_of files c.args.exclusions.now c.read_table.new.exclusions; input = input; output = output } in
+    let s : Streams = record { rows = stream_of files c.args.data_file.now c.read_table.new.data_file; listed = stream_of files c.args.exclusions.now c.read_table.new.exclusions; input = input; output = output } in
     let read : WasRead input c.in_ok-bytes.bytes.items = subst (λ t. WasRead t c.in_ok-bytes.bytes.items) (same_stream inputs c.clear.new.self c.args.input.now c.read_input.new.input c.clear.ensures.device) c.in_ok-bytes.ensures.read in
     let slice = c.as_slice.result.now in
     let first = c.in-Some.first.now in
@@ -33,7 +33,7 @@ returns g c =
     let outputs = g.O.Write.contents in
     let input : Stream = stream_of inputs c.args.input.now c.read_input.new.input in
     let output : Stream = stream_of outputs c.args.output.now c.write_output.new.output in
-    let s : Streams = record { rows = stream_of files c.args.data.now c.read_table.new.data; listed = stream_of files c.args.exclusions.now c.read_table.new.exclusions; input = input; output = output } in
+    let s : Streams = record { rows = stream_of files c.args.data_file.now c.read_table.new.data_file; listed = stream_of files c.args.exclusions.now c.read_table.new.exclusions; input = input; output = output } in
     let read : WasRead input c.in_ok-bytes.bytes.items = subst (λ t. WasRead t c.in_ok-bytes.bytes.items) (same_stream inputs c.clear.new.self c.args.input.now c.read_input.new.input c.clear.ensures.device) c.in_ok-bytes.ensures.read in
     let slice = c.as_slice.result.now in
     let first = c.in-Some.first.now in
@@ -55,7 +55,7 @@ returns-in-Err g c =
     let outputs = g.O.Write.contents in
     let input : Stream = stream_of inputs c.args.input.now c.read_input.new.input in
     let output : Stream = stream_of outputs c.args.output.now c.clear-2.new.self in
-    let s : Streams = record { rows = stream_of files c.args.data.now c.read_table.new.data; listed = stream_of files c.args.exclusions.now c.read_table.new.exclusions; input = input; output = output } in
+    let s : Streams = record { rows = stream_of files c.args.data_file.now c.read_table.new.data_file; listed = stream_of files c.args.exclusions.now c.read_table.new.exclusions; input = input; output = output } in
     let read : WasRead input c.in_ok-bytes.bytes.items = subst (λ t. WasRead t c.in_ok-bytes.bytes.items) (same_stream inputs c.clear.new.self c.args.input.now c.read_input.new.input c.clear.ensures.device) c.in_ok-bytes.ensures.read in
     let slice = c.as_slice.result.now in
     let first = c.in-Some.first.now in

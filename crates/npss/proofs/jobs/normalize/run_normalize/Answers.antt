@@ -12,7 +12,7 @@ returns g c =
     let outputs = g.O.Write.contents in
     let input : Stream = stream_of inputs c.args.input.now c.read_input.new.input in
     let output : Stream = stream_of outputs c.args.output.now c.write_output.new.output in
-    let s : Streams = record { rows = stream_of files c.args.data.now c.read_table.new.data; listed = stream_of files c.args.exclusions.now c.read_table.new.exclusions; input = input; output = output } in
+    let s : Streams = record { rows = stream_of files c.args.data_file.now c.read_table.new.data_file; listed = stream_of files c.args.exclusions.now c.read_table.new.exclusions; input = input; output = output } in
     let read : WasRead input c.in_ok-bytes.bytes.items = subst (λ t. WasRead t c.in_ok-bytes.bytes.items) (same_stream inputs c.clear.new.self c.args.input.now c.read_input.new.input c.clear.ensures.device) c.in_ok-bytes.ensures.read in
     let moved = same_stream outputs c.clear-2.new.self c.args.output.now c.write_output.new.output c.clear-2.ensures.device in
     let out = c.as_bytes.result.now in
