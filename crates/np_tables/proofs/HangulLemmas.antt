@@ -1,5 +1,5 @@
 -- A test that holds of each syllable and jamo.
-use Rattle.std.proofs.Common.{◌≡◌, ℕ, zero, suc, ◌+◌, ◌<◌, true, false, Bool, inl, inr, List, refl, sym, ap, ◌∙◌, arith}
+use Rattle.std.proofs.Common.{◌≡◌, ℕ, zero, suc, ◌+◌, ◌<◌, true, false, Bool, inl, inr, refl, sym, ap, ◌∙◌, arith}
 use Rattle.std.proofs.lemmas.Bool.{and_from, and_left, and_right, cases_eq}
 use Rattle.np_ucd.specs.Entries.{Entry}
 use Rattle.std.specs.Prelude.{◌&&◌, ◌==◌, Option, Some, None, is_some}

@@ -1,9 +1,8 @@
 -- Mappings that hold an unassigned code point.
-use Rattle.std.proofs.Common.{◌≡◌, ℕ, zero, suc, ◌+◌, ◌-◌, ◌/◌, ◌%◌, ◌<◌, ◌≤◌, ◌⊎◌, Bool, true, false, ◌&&◌, ◌==◌, List, [], ◌∷◌, length, Option, Some, None, refl, sym, ap, subst, ◌∙◌, arith, inl, inr, ◌≢◌, eq-eqb}
+use Rattle.std.proofs.Common.{◌≡◌, ℕ, ◌+◌, ◌-◌, ◌/◌, ◌%◌, ◌<◌, ◌≤◌, ◌⊎◌, Bool, true, false, ◌&&◌, ◌==◌, List, [], ◌∷◌, length, Option, Some, None, refl, sym, ap, subst, ◌∙◌, arith, inl, inr, ◌≢◌, eq-eqb}
 use Rattle.std.specs.List.{list_all, slice_get}
 use Rattle.std.proofs.lemmas.Bool.{cond-true, cond-false, cases_Bool, cases_lt, and_parts, and_from, both_ways}
-use Rattle.std.proofs.lemmas.Option.{none-some, same_Some}
-use Rattle.np_ucd.specs.Entries.{Entry, IsRow, AreRows}
+use Rattle.np_ucd.specs.Entries.{Entry, AreRows}
 use Rattle.np_code_points.specs.Hangul.{is_syllable, syllable_pair}
 use Rattle.np_tables.specs.Faults.{IsMappedToUnassigned, IsLeastOf}
 use Rattle.np_tables.specs.Versions.{VersionData, entry_at, is_assigned, file_mapping, mapping_in, mapping_of, has_hangul, all_hangul, all_from, is_hangul_row, is_empty}

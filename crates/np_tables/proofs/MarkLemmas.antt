@@ -1,9 +1,9 @@
 -- The marks of the code points, row by row.
-use Rattle.std.proofs.Common.{◌≡◌, ℕ, zero, suc, ◌+◌, ◌-◌, ◌<◌, ◌≤◌, ◌⊎◌, true, false, List, [], ◌∷◌, length, slice_index, Some, None, Option, refl, sym, ap, subst, ◌∙◌, arith, inl, inr}
+use Rattle.std.proofs.Common.{◌≡◌, ℕ, ◌+◌, ◌-◌, ◌<◌, ◌≤◌, ◌⊎◌, false, List, length, slice_index, Some, None, Option, refl, sym, ap, ◌∙◌, arith, inl, inr}
 use Rattle.std.specs.List.{slice_get}
 use Rattle.std.proofs.lemmas.Bool.{cases_eq, cases_lt}
-use Rattle.std.proofs.lemmas.Option.{none-some, same_Some, slice_get_within}
-use Rattle.np_ucd.specs.Entries.{Entry, IsRow, AreRows}
+use Rattle.std.proofs.lemmas.Option.{slice_get_within}
+use Rattle.np_ucd.specs.Entries.{Entry, AreRows}
 use Rattle.np_tables.specs.Versions.{entry_at}
 use Rattle.np_tables.specs.RowPlaces.{lies_in, IsMark, AreMarks, AreMarkedRows}
 use Rattle.np_tables.proofs.RowLemmas.{at-found, none-found, entry_at-row, entry_at-within, out_of, below_out}

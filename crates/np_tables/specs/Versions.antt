@@ -1,5 +1,5 @@
 -- A version of the character tables (UAX #44): what UnicodeData.txt and CompositionExclusions.txt say of each code point.
-use Rattle.std.specs.Prelude.{ℕ, zero, suc, ◌+◌, Bool, true, false, ◌&&◌, ◌||◌, not, ◌==◌, nat_le, List, [], ◌∷◌, Option, Some, None, is_some, if◌then◌else◌}
+use Rattle.std.specs.Prelude.{ℕ, zero, suc, ◌+◌, Bool, true, false, ◌&&◌, ◌||◌, ◌==◌, nat_le, List, [], ◌∷◌, Option, Some, None, is_some, if◌then◌else◌}
 use Rattle.np_code_points.specs.Hangul.{is_among, is_syllable, syllable_pair}
 use Rattle.np_ucd.specs.Entries.{Entry}
 use Rattle.np_ucd.specs.declared.rows.MapKind.{MapKind}

@@ -1,5 +1,5 @@
 -- What words ask for, by `clap`'s reading of them.
-use Rattle.std.specs.Prelude.{◌≡◌, ℕ, ⊤, ◌==◌, List, [], ◌∷◌, length, map, option_map, option_and_then, string_bytes, Option, Some, None, codes, if◌then◌else◌}
+use Rattle.std.specs.Prelude.{◌≡◌, ℕ, ⊤, ◌==◌, List, [], ◌∷◌, ◌++◌, length, map, option_map, option_and_then, string_bytes, Option, Some, None, codes, if◌then◌else◌}
 use Rattle.std.specs.Str.{bytes_eq}
 use Rattle.np_code_points.specs.declared.forms.Form.{Form}
 use Rattle.np_code_points.specs.Forms.{form_named}
@@ -7,6 +7,14 @@ use Rattle.npss.specs.declared.words.Job.{Job}
 use Rattle.npss.specs.declared.words.Job.TheVariants.{Help, Normalize, Key, Compare, Audit}
 use Rattle.clap.specs.Words.{Kinds, Row, Text, all_of, fault_of, first_of, subcommand_of}
 use Rattle.npss.specs.Commands.{program_app}
+
+-- how the program is used, a line per command
+abbrev pub usage_lines : Text
+usage_lines =
+    codes "usage: npss normalize --form FORM DATA EXCL\n" ++
+    (codes "       npss key --form FORM DATA EXCL\n" ++
+    (codes "       npss compare --form FORM DATA EXCL\n" ++
+    (codes "       npss audit OLDDATA OLDEXCL NEWDATA NEWEXCL\n" ++ codes "       npss replay --form FORM SCHEDULE FILES..\n")))
 
 -- a command with its form, where it has one, and its files in the order of the words
 pub record Asked : Type 0 where

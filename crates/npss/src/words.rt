@@ -1,7 +1,7 @@
 //! What a command line asks for.
 ghost use Rattle.std.specs.Prelude.{◌≡◌, ◌≢◌, length, codes, [], IfOk, Some, None, Err, map, option_map, string_bytes};
 ghost use Rattle.clap.specs.Words.{Text, all_of, found_of, kind_of, rows_of, subcommand_rows_of};
-ghost use Rattle.npss.specs.Words.{HasItsFiles, asked_among, asked_by, asked_in, asked_of, asked_unless, files_of, form_of, text_asked};
+ghost use Rattle.npss.specs.Words.{HasItsFiles, asked_among, asked_by, asked_in, asked_of, asked_unless, files_of, form_of, text_asked, usage_lines};
 
 mod command;
 
@@ -36,7 +36,9 @@ pub enum WordsFault {
 }
 
 /// How the program is used: a line per command, each with its line end.
-pub fn usage_text() -> &'static str {
+pub fn usage_text() -> &'static str
+    ensures { result.now ≡ usage_lines }
+{
     "usage: npss normalize --form FORM DATA EXCL
        npss key --form FORM DATA EXCL
        npss compare --form FORM DATA EXCL

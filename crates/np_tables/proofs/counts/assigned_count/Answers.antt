@@ -1,7 +1,7 @@
-use Rattle.std.proofs.Common.{◌≡◌, ◌+◌, ◌∙◌, sym, ap, arith, None, option_map, slice_get}
+use Rattle.std.proofs.Common.{◌≡◌, ◌∙◌, sym, ap, arith, None, option_map, slice_get}
 use Rattle.np_ucd.specs.RowValues.{entry_of}
 use Rattle.np_tables.proofs.RowLemmas.{at-row}
-use Rattle.np_tables.proofs.CountLemmas.{sizes, sizes-count, sizes-le, sizes-drop, sizes-end, sizes-past}
+use Rattle.np_tables.proofs.CountLemmas.{sizes-count, sizes-le, sizes-drop, sizes-end, sizes-past}
 use Rattle.np_tables.proofs.counts.assigned_count.Goals as goal
 use Rattle.np_tables.proofs.counts.assigned_count.Goals.{in-Some, in_default}
 

@@ -1,8 +1,7 @@
-use Rattle.std.proofs.Common.{◌≡◌, ◌∙◌, sym, subst, ap, arith, ℕ, ◌<◌, true}
+use Rattle.std.proofs.Common.{◌∙◌, sym, subst, ap, arith}
 use Rattle.np_tables.specs.Faults.{IsHangulWrong, IsLeastOf}
-use Rattle.np_tables.specs.HangulRows.{hangul_at}
 use Rattle.np_tables.specs.Versions.{is_hangul_row}
-use Rattle.np_tables.proofs.HangulPlaces.{first_wrong-some, first_wrong-none, none_assigned}
+use Rattle.np_tables.proofs.HangulPlaces.{first_wrong-some, first_wrong-none}
 use Rattle.np_tables.proofs.hangul_faults.first_wrong.Goals as goal
 
 pub returns-then-not-is_hangul_row : goal.returns-then-not-is_hangul_row

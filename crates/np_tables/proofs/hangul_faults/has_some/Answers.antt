@@ -1,5 +1,4 @@
-use Rattle.std.proofs.Common.{◌≡◌, ◌∙◌, sym, subst, ap, arith, ℕ, ◌<◌, true}
-use Rattle.np_tables.specs.HangulRows.{HasAssignedHangul, hangul_at}
+use Rattle.std.proofs.Common.{◌∙◌, sym, ap, arith}
 use Rattle.np_tables.specs.Versions.{is_assigned}
 use Rattle.np_tables.proofs.HangulPlaces.{having, lacking}
 use Rattle.np_tables.proofs.hangul_faults.has_some.Goals as goal

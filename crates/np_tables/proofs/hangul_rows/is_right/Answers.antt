@@ -1,4 +1,4 @@
-use Rattle.std.proofs.Common.{sym, ap, ◌∙◌, arith}
+use Rattle.std.proofs.Common.{arith}
 use Rattle.std.proofs.lemmas.Grind.{common_steps}
 use Rattle.np_tables.proofs.AccessLemmas.{is_right-at, length-empty}
 use Rattle.np_tables.proofs.hangul_rows.is_right.Goals as goal

@@ -1,4 +1,4 @@
-use Rattle.std.proofs.Common.{◌≡◌, ◌∙◌, sym, ap, arith}
+use Rattle.std.proofs.Common.{◌∙◌, sym, ap, arith}
 use Rattle.std.specs.List.{list_all}
 use Rattle.np_ucd.specs.RowValues.{entry_of}
 use Rattle.np_tables.specs.Versions.{is_assigned}

@@ -1,4 +1,4 @@
-use Rattle.std.proofs.Common.{◌≡◌, ◌+◌, sym, arith}
+use Rattle.std.proofs.Common.{sym, arith}
 use Rattle.np_ucd.specs.RowValues.{entry_of}
 use Rattle.np_tables.proofs.RowLemmas.{at-row, place-le}
 use Rattle.np_tables.proofs.MarkLemmas.{marks-more}

@@ -1,4 +1,3 @@
-use Rattle.std.proofs.Common.{◌≡◌, ℕ, ◌<◌, ◌≤◌, length, slice_index}
 use Rattle.np_tables.specs.RowPlaces.{IsMarkedBelow}
 use Rattle.np_tables.proofs.row_index.mark_row.Given as goal
 

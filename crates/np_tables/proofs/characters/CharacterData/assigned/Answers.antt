@@ -1,4 +1,4 @@
-use Rattle.std.proofs.Common.{sym, ap, ◌∙◌, is_some, arith}
+use Rattle.std.proofs.Common.{ap, is_some, arith}
 use Rattle.std.proofs.lemmas.Grind.{common_steps}
 use Rattle.np_tables.proofs.AccessLemmas.{is_assigned-at}
 use Rattle.np_tables.proofs.characters.CharacterData.assigned.Goals as goal

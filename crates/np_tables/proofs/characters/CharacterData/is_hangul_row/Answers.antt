@@ -1,4 +1,4 @@
-use Rattle.std.proofs.Common.{◌≡◌, ◌∙◌, arith}
+use Rattle.std.proofs.Common.{arith}
 use Rattle.std.proofs.lemmas.Grind.{common_steps}
 use Rattle.np_tables.proofs.AccessLemmas.{is_hangul_row-is, length-empty}
 use Rattle.np_tables.proofs.characters.CharacterData.is_hangul_row.Goals as goal

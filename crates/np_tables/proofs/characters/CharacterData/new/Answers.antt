@@ -1,4 +1,4 @@
-use Rattle.std.proofs.Common.{◌≡◌, ◌∙◌}
+use Rattle.std.proofs.Common.{◌∙◌}
 use Rattle.np_tables.proofs.HangulLemmas.{has_hangul-is}
 use Rattle.np_tables.proofs.characters.CharacterData.new.Goals as goal
 

@@ -1,6 +1,5 @@
-use Rattle.std.proofs.Common.{◌≡◌, sym, ap, ◌∙◌, arith, slice_index}
+use Rattle.std.proofs.Common.{arith}
 use Rattle.std.proofs.lemmas.Grind.{common_steps}
-use Rattle.np_tables.specs.Versions.{entry_at}
 use Rattle.np_tables.proofs.MarkLemmas.{mark-zero, mark-past}
 use Rattle.np_tables.proofs.row_index.RowIndex.place_of.Goals as goal
 
