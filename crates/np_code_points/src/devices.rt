@@ -1,6 +1,9 @@
 //! Readers and writers for tests, each of which can fail at a call that is told beforehand.
-ghost use Rattle.std.specs.Prelude.{◌≡◌, Some, None, ℕ, List, [], IfOk};
-ghost use Rattle.np_code_points.specs.Devices.{bytes_left, bytes_taken};
+ghost use Rattle.std.specs.Prelude.{◌≡◌, ◌≢◌, ◌≤◌, Some, None, ℕ, List, [], IfOk, true, is_some, max};
+ghost use Rattle.std.specs.Io.{ReadsAtMost, WritesAtMost};
+ghost use Rattle.std.specs.Io.KnownBytes.{Keeps, ReadConsumes, WriteAppends};
+ghost use Rattle.np_code_points.specs.Devices.{IsNextCall, bytes_left, bytes_taken, endless_call, endless_plan, failure_at, piece_of, piece_taken, reader_call, reader_plan, writer_call, writer_plan};
+ghost use Rattle.np_code_points.specs.Watched.{flush_fails, read_fails, write_fails};
 
 use crate::Memory;
 use std::alloc::Global;
@@ -34,7 +37,10 @@ struct Calls {
 }
 
 impl Calls {
-    fn new() -> Self {
+    fn new() -> Self
+        ensures calm { result.fails ≡ None }
+        ensures first { result.made ≡ 0 }
+    {
         Calls {
             made: 0,
             fails: None,
@@ -42,7 +48,11 @@ impl Calls {
     }
 
     /// Counts a call, and answers how it fails.
-    fn next(&mut self) -> Option<Failure> {
+    fn next(&mut self) -> Option<Failure>
+        ensures fails { result ≡ failure_at self.old.made self.old.fails }
+        ensures plan { self.new.fails ≡ self.old.fails }
+        ensures counts { IsNextCall self.old.made self.new.made }
+    {
         let call = self.made;
         self.made = call.saturating_add(1);
         match self.fails {
@@ -63,7 +73,10 @@ pub struct Trickle<'a> {
 impl<'a> Trickle<'a> {
     /// A reader that does not fail.
     pub fn new(bytes: &'a [u8], piece: usize) -> Self
-        ensures { bytes_left result ≡ bytes.now }
+        ensures bytes { bytes_left result ≡ bytes.now }
+        ensures piece { piece_of result ≡ piece }
+        ensures calm { reader_plan result ≡ None }
+        ensures first { reader_call result ≡ 0 }
     {
         Trickle {
             bytes,
@@ -74,13 +87,16 @@ impl<'a> Trickle<'a> {
 
     /// The reader, whose call of that number, from 0, fails.
     pub fn failing_at(self, call: u64, failure: Failure) -> Self
-        ensures { bytes_left result ≡ bytes_left self.entry }
+        ensures bytes { bytes_left result ≡ bytes_left self.entry }
+        ensures piece { piece_of result ≡ piece_of self.entry }
+        ensures fails { reader_plan result ≡ Some (call, failure) }
+        ensures count { reader_call result ≡ reader_call self.entry }
     {
         Trickle {
             bytes: self.bytes,
             piece: self.piece,
             calls: Calls {
-                made: 0,
+                made: self.calls.made,
                 fails: Some((call, failure)),
             },
         }
@@ -90,7 +106,14 @@ impl<'a> Trickle<'a> {
 impl Read for Trickle<'_> {
     ghost remaining = { λ t. Some (bytes_left t) };
 
-    fn read(&mut self, buf: &mut [u8]) -> IoResult<usize> {
+    fn read(&mut self, buf: &mut [u8]) -> IoResult<usize>
+        ensures bound { ReadsAtMost result buf.new }
+        ensures bytes { ReadConsumes (Some (bytes_left self.old)) (Some (bytes_left self.new)) result buf.new }
+        ensures piece { IfOk result (λ n. n ≤ max 1 (piece_of self.old)) }
+        ensures fails { is_some (failure_at (reader_call self.old) (reader_plan self.old)) ≡ true → read_fails result ≡ true }
+        ensures plan { reader_plan self.new ≡ reader_plan self.old }
+        ensures counts { IsNextCall (reader_call self.old) (reader_call self.new) }
+    {
         if let Some(failure) = self.calls.next() {
             return Err(failure.error());
         }
@@ -107,14 +130,20 @@ pub struct Endless {
 
 impl Endless {
     /// A reader that does not fail.
-    pub fn new() -> Self {
+    pub fn new() -> Self
+        ensures calm { endless_plan result ≡ None }
+        ensures first { endless_call result ≡ 0 }
+    {
         Endless {
             calls: Calls::new(),
         }
     }
 
     /// The reader, whose call of that number, from 0, fails.
-    pub fn failing_at(self, call: u64, failure: Failure) -> Self {
+    pub fn failing_at(self, call: u64, failure: Failure) -> Self
+        ensures fails { endless_plan result ≡ Some (call, failure) }
+        ensures count { endless_call result ≡ endless_call self }
+    {
         Endless {
             calls: Calls {
                 made: self.calls.made,
@@ -127,7 +156,12 @@ impl Endless {
 impl Read for Endless {
     ghost remaining = { λ _. None };
 
-    fn read(&mut self, buf: &mut [u8]) -> IoResult<usize> {
+    fn read(&mut self, buf: &mut [u8]) -> IoResult<usize>
+        ensures bound { ReadsAtMost result buf.new }
+        ensures fails { read_fails result ≡ is_some (failure_at (endless_call self.old) (endless_plan self.old)) }
+        ensures plan { endless_plan self.new ≡ endless_plan self.old }
+        ensures counts { IsNextCall (endless_call self.old) (endless_call self.new) }
+    {
         if let Some(failure) = self.calls.next() {
             return Err(failure.error());
         }
@@ -148,7 +182,10 @@ pub struct Room {
 impl Room {
     /// A writer with that much room, which does not fail until it is full.
     pub fn new(alloc: Global, room: usize, piece: usize) -> Result<Self, Memory>
-        ensures { IfOk result (λ r. bytes_taken r ≡ []) }
+        ensures bytes { IfOk result (λ r. bytes_taken r ≡ []) }
+        ensures piece { IfOk result (λ r. piece_taken r ≡ piece) }
+        ensures calm { IfOk result (λ r. writer_plan r ≡ None) }
+        ensures first { IfOk result (λ r. writer_call r ≡ 0) }
     {
         let bytes = Vec::with_capacity(alloc, room)?;
         Ok(Room {
@@ -160,7 +197,10 @@ impl Room {
 
     /// The writer, whose call of that number, from 0, fails.
     pub fn failing_at(self, call: u64, failure: Failure) -> Self
-        ensures { bytes_taken result ≡ bytes_taken self }
+        ensures bytes { bytes_taken result ≡ bytes_taken self }
+        ensures piece { piece_taken result ≡ piece_taken self }
+        ensures fails { writer_plan result ≡ Some (call, failure) }
+        ensures count { writer_call result ≡ writer_call self }
     {
         let Room {
             bytes,
@@ -188,7 +228,14 @@ impl Room {
 impl Write for Room {
     ghost contents = { λ r. Some (bytes_taken r) };
 
-    fn write(&mut self, buf: &[u8]) -> IoResult<usize> {
+    fn write(&mut self, buf: &[u8]) -> IoResult<usize>
+        ensures bound { WritesAtMost result buf.now }
+        ensures bytes { WriteAppends (Some (bytes_taken self.old)) (Some (bytes_taken self.new)) result buf.now }
+        ensures piece { IfOk result (λ n. n ≤ piece_taken self.old) }
+        ensures fails { is_some (failure_at (writer_call self.old) (writer_plan self.old)) ≡ true → buf.now ≢ [] → write_fails result buf.now ≡ true }
+        ensures plan { writer_plan self.new ≡ writer_plan self.old }
+        ensures counts { IsNextCall (writer_call self.old) (writer_call self.new) }
+    {
         match self.calls.next() {
             Some(Failure::TakesNothing) => return Ok(0),
             Some(failure) => return Err(failure.error()),
@@ -202,7 +249,12 @@ impl Write for Room {
         Ok(taken)
     }
 
-    fn flush(&mut self) -> IoResult<()> {
+    fn flush(&mut self) -> IoResult<()>
+        ensures bytes { Keeps (Some (bytes_taken self.old)) (Some (bytes_taken self.new)) }
+        ensures fails { flush_fails result ≡ is_some (failure_at (writer_call self.old) (writer_plan self.old)) }
+        ensures plan { writer_plan self.new ≡ writer_plan self.old }
+        ensures counts { IsNextCall (writer_call self.old) (writer_call self.new) }
+    {
         match self.calls.next() {
             Some(failure) => Err(failure.error()),
             None => Ok(()),
