@@ -1,10 +1,12 @@
 -- The laws of the forms, over the definitions alone.
 use Rattle.std.specs.Prelude.{◌≡◌, ℕ, List, ◌↔◌}
+use Rattle.np_tables.specs.Composites.{IsCompositeOf}
 use Rattle.np_tables.specs.Conditions.{IsSound}
+use Rattle.np_tables.specs.Examples.{without_rows, with_rows}
 use Rattle.np_code_points.specs.declared.forms.Form.{Form}
 use Rattle.np_code_points.specs.Forms.{is_compat}
 use Rattle.np_forms.specs.Forms.{IsDecomposed, IsNormalForm, IsEquivalent}
-use Rattle.np_tables.specs.Versions.{VersionData}
+use Rattle.np_tables.specs.Versions.{VersionData, class_of}
 
 -- a text has exactly one normal form
 pub record HasOneForm (v : VersionData) (form : Form) (xs : List ℕ) : Type 0 where
@@ -26,3 +28,9 @@ abbrev pub SameForms : Type 0
 SameForms =
     (v : VersionData) (form : Form) (xs ys ks ls : List ℕ) → IsSound v → IsNormalForm v form xs ks → IsNormalForm v form ys ls →
     (ks ≡ ls) ↔ IsEquivalent v (is_compat form) xs ys
+
+-- the premise of these laws on a version is met: by the version of empty files, and by one of three rows, a starter, a
+-- mark of class 230 and their primary composite
+abbrev pub PremisesAreMet : Type 0
+PremisesAreMet =
+    IsSound without_rows × IsSound with_rows × (class_of with_rows 0x30A ≡ 230) × IsCompositeOf with_rows 0x41 0x30A 0xC5

@@ -5,6 +5,7 @@ pub mod CompositeLemmas
 pub mod CountLemmas
 pub mod DepthLemmas
 pub mod EmptyLemmas
+pub mod ExampleLemmas
 pub mod FactLemmas
 pub mod FaultLemmas
 pub mod FileCompositeLemmas

@@ -3,6 +3,7 @@ pub mod Composites
 pub mod Conditions
 pub mod Counts
 pub mod Depths
+pub mod Examples
 pub mod Faults
 pub mod FullLists
 pub mod FullParts
