@@ -2,6 +2,9 @@
 
 import subprocess
 import sys
+from pathlib import Path
+
+ROOT = Path(__file__).resolve().parent.parent
 
 # The commands that exist now. Cases of another command are left out.
 COMMANDS = ("normalize", "key", "compare", "audit")
@@ -11,6 +14,12 @@ COMMANDS = ("normalize", "key", "compare", "audit")
 NORMALIZE_STREAMS = False
 
 FORMS = ("nfd", "nfc", "nfkd", "nfkc")
+
+
+def built_program():
+    """The built program; the launcher builds it where it is missing or old. None where that fails."""
+    done = subprocess.run([ROOT / "npss"], stdin=subprocess.DEVNULL, stdout=subprocess.DEVNULL)
+    return ROOT / "crates" / "npss" / "out" / "npss" if done.returncode == 0 else None
 
 
 def run(program, words, stdin=b"", folder=None, **streams):
