@@ -14,7 +14,8 @@ RUN = 4_000
 RUNS_LIMIT = MIB // 2
 
 LATIN = "abcdefghijklmnopqrstuvwxyz" * 2 + "eeeeaaaiiioooutnsr"
-ACCENTED = "àâäéèêëîïôöùûüçñáíóúýčďěňřšťůžąćęłńóśźżåãõ" + "ăâđêôơưạảấầẩẫậắằẳẵặẹẻẽếềểễệỉĩịọỏốồổỗộớờởỡợụủũứừửữựỳỵỷỹ"
+ACCENTED = ("àâäéèêëîïôöùûüçñáíóúýčďěňřšťůžąćęłńóśźżåãõ"
+            "ăâđêôơưạảấầẩẫậắằẳẵặẹẻẽếềểễệỉĩịọỏốồổỗộớờởỡợụủũứừửữựỳỵỷỹ")
 KANJI = [chr(code) for code in range(0x4E00, 0x9F00, 13)]
 KANA = [chr(code) for code in [*range(0x3042, 0x3093), *range(0x30A2, 0x30F3)]]
 # What Japanese text has of compatibility characters: halfwidth kana with and without voicing,
@@ -58,8 +59,10 @@ def japanese_word(source):
 
 def pointed_word(source):
     letters, marks = source.choice(POINTED)
-    return "".join(chr(source.choice(letters)) + "".join(chr(source.choice(marks)) for _ in range(source.choice((0, 1, 1, 2))))
-                   for _ in range(source.randint(2, 6)))
+    points = []
+    for _ in range(source.randint(2, 6)):
+        points += [source.choice(letters), *source.choices(marks, k=source.choice((0, 1, 1, 2)))]
+    return "".join(map(chr, points))
 
 
 def run_line(source):

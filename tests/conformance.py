@@ -3,14 +3,16 @@
 
 Takes the files of the folder, or of Debian's package unicode-data. Worked examples of each command;
 all of NormalizationTest.txt; random texts against two implementations that no one here wrote; the
-count of records and of assigned code points; and versions of several ages against each other. What
-can't be done here is skipped, with the reason. Ends in a line 'N passed, M failed'.
+count of records and of assigned code points; a break of each kind; and versions of several ages
+against each other. What can't be done here is skipped, with the reason. Ends in a line 'N passed, M
+failed'.
 
 Strings go through the program joined by LF, a starter that composes with nothing, so one run serves
 a form. Nothing here is drawn by chance: the seed is fixed.
 """
 
 import random
+import re
 import shutil
 import subprocess
 import sys
@@ -29,9 +31,11 @@ WANTED = {
     "nfkd": (4, 4, 4, 4, 4),
 }
 
-# Assigned code points of a version, as the standard's own page on it adds them up: graphic, format
-# and control characters, private use and surrogates.
-ASSIGNED = {"15.0.0": 288_767}
+# Graphic and format characters of a version, as the standard's page on it tells them; and what else
+# is assigned in each of these: controls, private use and surrogates.
+CHARACTERS = {"4.1": 97_655, "6.0": 109_384, "9.0": 128_172, "12.0": 137_928, "13.0": 143_859, "14.0": 144_697,
+              "15.0": 149_186, "15.1": 149_813, "16.0": 154_998, "17.0": 159_801}
+CONTROLS_PRIVATE_AND_SURROGATES = 65 + 137_468 + 2_048
 
 # Ages to cut versions at. Ranges of ideographs grew after most of them. Before 4.1 the composites
 # were not yet stable.
@@ -55,10 +59,9 @@ class Published:
         self.assigned = {code for row in self.rows for code in row.codes()}
 
     def number(self):
-        """The version that the exclusions' first line names, or None."""
-        first = ucd.text_of(self.files, ucd.EXCLUSIONS).split("\n", 1)[0]
-        name = first.removeprefix("# CompositionExclusions-")
-        return name.removesuffix(".txt") if name != first else None
+        """The version that the exclusions' first line names, like 15.0, or None."""
+        found = re.match(r"# CompositionExclusions-(\d+\.\d+)\.", ucd.text_of(self.files, ucd.EXCLUSIONS))
+        return found and found[1]
 
 
 def codes(text):
@@ -253,11 +256,15 @@ def check_counts(tally, program, published, folder):
     got = run(program, ["audit", *published.versions, str(empty), str(empty)])
     if tally.same("all that is lost to an empty version", got, (1, lost(published.assigned), b"")):
         print(f"assigned: {len(published.assigned):,} code points")
-    number = published.number()
-    if number in ASSIGNED:
-        tally.same(f"assigned code points of {number}", got[1].count(b"Lost "), ASSIGNED[number])
+    check_size(tally, published.number(), got[1].count(b"Lost "))
+
+
+def check_size(tally, number, assigned):
+    """The count of assigned code points against what the standard's page tells."""
+    if number in CHARACTERS:
+        tally.same(f"assigned code points of version {number}", assigned, CHARACTERS[number] + CONTROLS_PRIVATE_AND_SURROGATES)
     else:
-        print(f"skipped: the number of assigned code points of version {number} is not known here")
+        print(f"skipped: how many code points version {number} assigns is not known here")
 
 
 def lost(code_points):
@@ -275,15 +282,48 @@ def check_ages(tally, program, published, folder):
         name = ".".join(map(str, age))
         versions, kept = ucd.write_cut(published.files, age, folder)
         assigned = published.assigned & kept
+        if assigned == published.assigned:
+            print(f"skipped: version {name}: the published one is not younger")
+            continue
+        check_size(tally, name, len(assigned))
         for other, names, codes_of_other in newer:
             got = run(program, ["audit", *versions, *names])
             tally.same(f"audit from {name} to {other}", got, (0, b"extends\n", b""))
-            younger = codes_of_other - assigned
-            tally.check(f"{other} is younger than {name}", younger, "no code point is younger")
             got = run(program, ["audit", *names, *versions])
-            tally.same(f"audit from {other} back to {name}", got, (1, lost(younger), b""))
+            want = (1, lost(codes_of_other - assigned), b"")
+            tally.same(f"audit from {other} back to {name}", got, want)
         print(f"version {name}: {len(assigned):,} code points; {len(newer)} newer ones extend it")
         newer.append((name, versions, assigned))
+    tally.check("there is an older version", len(newer) > 1, "DerivedAge.txt gives none")
+
+
+def with_field(data, code, place, value):
+    """The text of UnicodeData.txt with another value in one field of one record."""
+    lines = []
+    for line in data.splitlines():
+        fields = line.split(";")
+        if int(fields[0], 16) == code:
+            fields[place] = value
+        lines.append(";".join(fields) + "\n")
+    return "".join(lines)
+
+
+def check_breaks(tally, program, published, folder):
+    """One break of each kind, between two versions that each differ a little from the published one."""
+    exclusions = ucd.text_of(published.files, ucd.EXCLUSIONS)
+    younger = with_field(with_field(published.data, 0x323, 3, "222"), 0xFB01, 5, "<compat> 0066")
+    texts = {
+        "old-data": ucd.cut_data(published.data, published.assigned - {0x1EF2}),
+        "old-exclusions": exclusions,
+        "new-data": ucd.cut_data(younger, published.assigned - {0x2603}),
+        "new-exclusions": ucd.cut_exclusions(exclusions, published.assigned - {0x958}) + "00C0\n",
+    }
+    for name, text in texts.items():
+        (folder / name).write_text(text, encoding="utf-8")
+    got = run(program, ["audit", *(str(folder / name) for name in texts)])
+    want = (b"NowExcluded 00C0\nClassChanged 0323\nNowIncluded 0958\nNewComposite 1EF2\nLost 2603\n"
+            b"MappingChanged FB01\n")
+    tally.same("audit of a break of each kind", got, (1, want, b""))
 
 
 def main():
@@ -308,6 +348,7 @@ def main():
         check_normalization_test(tally, program, published)
         check_random_texts(tally, program, published)
         check_compared_pairs(tally, program, published)
+        check_breaks(tally, program, published, Path(folder))
         check_ages(tally, program, published, Path(folder))
     tally.finish()
 

@@ -40,18 +40,7 @@ static char *whole_file(const char *name) {
     return text;
 }
 
-static uint32_t code(char **at) {
-    uint32_t value = 0;
-    for (;; ++*at) {
-        char sign = **at;
-        if (sign >= '0' && sign <= '9')
-            value = value * 16 + (sign - '0');
-        else if (sign >= 'A' && sign <= 'F')
-            value = value * 16 + (sign - 'A' + 10);
-        else
-            return value;
-    }
-}
+static uint32_t code(char **at) { return strtoul(*at, at, 16); }
 
 static void read_mapping(struct row *row, char *at) {
     row->mapping = part_count;
