@@ -35,7 +35,7 @@ WANTED = {
 # is assigned in each of these: controls, private use and surrogates.
 CHARACTERS = {"4.1": 97_655, "6.0": 109_384, "9.0": 128_172, "12.0": 137_928, "13.0": 143_859, "14.0": 144_697,
               "15.0": 149_186, "15.1": 149_813, "16.0": 154_998, "17.0": 159_801}
-CONTROLS_PRIVATE_AND_SURROGATES = 65 + 137_468 + 2_048
+OTHER_ASSIGNED = 65 + 137_468 + 2_048
 
 # Ages to cut versions at. Ranges of ideographs grew after most of them. Before 4.1 the composites
 # were not yet stable.
@@ -262,7 +262,7 @@ def check_counts(tally, program, published, folder):
 def check_size(tally, number, assigned):
     """The count of assigned code points against what the standard's page tells."""
     if number in CHARACTERS:
-        tally.same(f"assigned code points of version {number}", assigned, CHARACTERS[number] + CONTROLS_PRIVATE_AND_SURROGATES)
+        tally.same(f"assigned code points of version {number}", assigned, CHARACTERS[number] + OTHER_ASSIGNED)
     else:
         print(f"skipped: how many code points version {number} assigns is not known here")
 
