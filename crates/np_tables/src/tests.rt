@@ -77,6 +77,19 @@ fn composites_are_told_apart(rt: HostRuntime) -> Result<(), Fail> {
 }
 
 #[test]
+fn a_starter_that_maps_to_marks_is_no_composite(rt: HostRuntime) -> Result<(), Fail> {
+    let data = "\
+0F71;X;Mn;129;L;;;;;N;;;;;
+0F72;X;Mn;130;L;;;;;N;;;;;
+0F73;X;Mn;0;L;0F71 0F72;;;;N;;;;;
+";
+    let marks = version(rt.alloc(), data, "")?;
+    assert_eq!(rt; marks.class_of(0xF73), 0);
+    assert!(rt; !marks.is_primary(0xF73));
+    Ok(())
+}
+
+#[test]
 fn faults_are_told(rt: HostRuntime) -> Result<(), Fail> {
     let alloc = rt.alloc();
     let lacks = edited(alloc, V1_DATA, "030A;X;Mn;230;L;;;;;N;;;;;", "")?;
