@@ -39,7 +39,10 @@ fn an_earlier_version_loses_what_was_added(rt: HostRuntime) -> Result<(), Fail> 
     for (found, code) in breaks.iter().zip(lost) {
         assert_eq!(rt; *found, told(BreakKind::Lost, code));
     }
-    assert_eq!(rt; extends(&second, &first), Err(told(BreakKind::Lost, 0x1DFA)));
+    assert_eq!(rt;
+        extends(&second, &first),
+        Err(told(BreakKind::Lost, 0x1DFA))
+    );
     Ok(())
 }
 

@@ -25,14 +25,34 @@ const CANONICAL: [(&str, &str, &str); 13] = [
     ("\u{212B}", "\u{41}\u{30A}", "\u{C5}"),
     ("\u{344}", "\u{308}\u{301}", "\u{308}\u{301}"),
     ("\u{958}", "\u{915}\u{93C}", "\u{915}\u{93C}"),
-    ("\u{61}\u{301}\u{302}", "\u{61}\u{301}\u{302}", "\u{61}\u{301}\u{302}"),
-    ("\u{41}\u{327}\u{30A}", "\u{41}\u{327}\u{30A}", "\u{C5}\u{327}"),
+    (
+        "\u{61}\u{301}\u{302}",
+        "\u{61}\u{301}\u{302}",
+        "\u{61}\u{301}\u{302}",
+    ),
+    (
+        "\u{41}\u{327}\u{30A}",
+        "\u{41}\u{327}\u{30A}",
+        "\u{C5}\u{327}",
+    ),
     ("\u{FB01}", "\u{FB01}", "\u{FB01}"),
     ("\u{D4DB}", "\u{1111}\u{1171}\u{11B6}", "\u{D4DB}"),
-    ("\u{1111}\u{1171}\u{11B6}", "\u{1111}\u{1171}\u{11B6}", "\u{D4DB}"),
-    ("\u{AC00}\u{11A7}", "\u{1100}\u{1161}\u{11A7}", "\u{AC00}\u{11A7}"),
+    (
+        "\u{1111}\u{1171}\u{11B6}",
+        "\u{1111}\u{1171}\u{11B6}",
+        "\u{D4DB}",
+    ),
+    (
+        "\u{AC00}\u{11A7}",
+        "\u{1100}\u{1161}\u{11A7}",
+        "\u{AC00}\u{11A7}",
+    ),
     ("\u{AC00}\u{11A8}", "\u{1100}\u{1161}\u{11A8}", "\u{AC01}"),
-    ("\u{AC01}\u{11A8}", "\u{1100}\u{1161}\u{11A8}\u{11A8}", "\u{AC01}\u{11A8}"),
+    (
+        "\u{AC01}\u{11A8}",
+        "\u{1100}\u{1161}\u{11A8}\u{11A8}",
+        "\u{AC01}\u{11A8}",
+    ),
 ];
 
 #[test]
@@ -68,7 +88,13 @@ fn unassigned_code_points_are_refused(rt: HostRuntime) -> Result<(), Fail> {
     let v2 = table_of(rt.alloc(), V2_DATA, V2_EXCLUSIONS)?;
     assert_eq!(rt; first_unassigned(&v1, "\u{41}\u{16D67}"), Some(1));
     let fault = npss(rt.alloc(), &v1, Form::Nfc, "\u{41}\u{16D67}").err();
-    assert_eq!(rt; fault, Some(NpssFault::Unassigned { at: 1, code: '\u{16D67}' }));
+    assert_eq!(rt;
+        fault,
+        Some(NpssFault::Unassigned {
+            at: 1,
+            code: '\u{16D67}'
+        })
+    );
     let kept = npss(rt.alloc(), &v2, Form::Nfc, "\u{41}\u{16D67}")?;
     assert_eq!(rt; kept.as_str(), "\u{41}\u{16D67}");
     assert_eq!(rt; first_unassigned(&v2, "\u{FFFE}"), Some(0));
@@ -98,7 +124,13 @@ fn passed_marks_are_not_visited_again(rt: HostRuntime) -> Result<(), Fail> {
     let syllable = form(rt.alloc(), &table, Form::Nfd, "\u{AC00}")?;
     assert_eq!(rt; syllable.as_str(), "\u{AC00}");
     let fault = npss(rt.alloc(), &table, Form::Nfd, "\u{AC00}").err();
-    assert_eq!(rt; fault, Some(NpssFault::Unassigned { at: 0, code: '\u{AC00}' }));
+    assert_eq!(rt;
+        fault,
+        Some(NpssFault::Unassigned {
+            at: 0,
+            code: '\u{AC00}'
+        })
+    );
     Ok(())
 }
 
