@@ -6,3 +6,4 @@ pub mod DataLemmas
 pub mod AnswerLemmas
 pub mod ExclusionLemmas
 pub mod SpanLemmas
+pub mod LineGrammar

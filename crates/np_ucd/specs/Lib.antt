@@ -3,6 +3,8 @@ pub mod Exclusions
 pub mod Faults
 pub mod Fields
 pub mod Files
+pub mod Grammar
+pub mod Laws
 pub mod LineSteps
 pub mod Lines
 pub mod Listed

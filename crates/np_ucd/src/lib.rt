@@ -5,6 +5,7 @@ mod data;
 pub mod exclusions;
 pub mod faults;
 mod fields;
+pub mod laws;
 mod lines;
 mod mappings;
 mod readers;

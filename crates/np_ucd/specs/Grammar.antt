@@ -1,0 +1,18 @@
+-- How both files are cut, as relations on their bytes (UAX #44, section 4.2).
+use Rattle.std.specs.Prelude.{◌≡◌, ◌≢◌, ℕ, List, [], ◌∷◌, ◌++◌, ◌⊎◌}
+use Rattle.std.specs.List.{All}
+
+-- this is so of x, and of nothing else
+abbrev pub IsOnly : {X : Type 0} → (X → Type 0) → X → Type 0
+IsOnly {X} P x = P x × ((y : X) → P y → y ≡ x)
+
+-- no such byte is among them
+abbrev pub HasNo : ℕ → List ℕ → Type 0
+HasNo byte bytes = All (λ b. b ≢ byte) bytes
+
+-- No line where there are no bytes. Else a line without LF (10), and then an LF and the lines of the
+-- rest, or the end of the file; no line that is empty stands at the end without its LF.
+abbrev pub AreLines : List ℕ → List (List ℕ) → Type 0
+AreLines bytes [] = bytes ≡ []
+AreLines bytes (line ∷ lines) =
+    HasNo 10 line × (((rest : List ℕ) × (bytes ≡ line ++ 10 ∷ rest) × AreLines rest lines) ⊎ ((bytes ≡ line) × (line ≢ []) × (lines ≡ [])))
