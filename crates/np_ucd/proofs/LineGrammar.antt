@@ -2,9 +2,9 @@
 use Rattle.std.proofs.Common.{◌≡◌, ◌≢◌, ℕ, zero, suc, ◌+◌, ◌<◌, ◌≤◌, Bool, true, false, cond, eqb, List, [], ◌∷◌, ◌++◌, length, Option, Some, None, refl, sym, ap, subst, ◌∙◌, inl, inr, ⊎_elim, arith}
 use Rattle.std.proofs.lemmas.Bool.{eqb-true, eq-eqb, ne_eqb}
 use Rattle.std.proofs.lemmas.List.Elements.{All-nil, All-cons, All-head, All-tail}
-use Rattle.np_ucd.specs.Grammar.{IsOnly, HasNo, AreLines}
-use Rattle.np_ucd.specs.Laws.{HasOneCut}
-use Rattle.np_ucd.specs.Lines.{before_byte, after_byte, lines_of}
+use Rattle.np_ucd.specs.Grammar.{IsOnly, HasNo, AreLines, DropsReturn}
+use Rattle.np_ucd.specs.Laws.{HasOneCut, HasOneText}
+use Rattle.np_ucd.specs.Lines.{before_byte, after_byte, lines_of, without_return}
 use Rattle.np_ucd.proofs.LineLemmas.{lines_cut, lines_lone, length-after_byte}
 
 -- What stands before the first such byte, and behind it.
@@ -105,3 +105,43 @@ are_lines bytes = lines_within (length bytes) bytes (omega arith)
 
 pub one_cut : HasOneCut
 one_cut bytes = (are_lines bytes, only_lines bytes)
+
+-- The return at the end of a line.
+return_dropped : (text : List ℕ) → without_return (text ++ 13 ∷ []) ≡ text
+return_dropped [] = refl
+return_dropped (x ∷ []) = refl
+return_dropped (x ∷ y ∷ ys) = ap (λ r. x ∷ r) (return_dropped (y ∷ ys))
+
+ends_not : (text : List ℕ) → ((front : List ℕ) → text ≢ front ++ 13 ∷ []) → without_return text ≡ text
+ends_not [] h = refl
+ends_not (x ∷ []) h = ap (λ t. cond t [] (x ∷ [])) (ne_eqb x 13 (λ e. h [] (ap (λ z. z ∷ []) e)))
+ends_not (x ∷ y ∷ ys) h = ap (λ r. x ∷ r) (ends_not (y ∷ ys) (λ front e. h (x ∷ front) (ap (λ r. x ∷ r) e)))
+
+pub only_text : (line text : List ℕ) → DropsReturn line text → text ≡ without_return line
+only_text line text h =
+    ⊎_elim (λ e. sym (return_dropped text) ∙ ap without_return (sym e)) (λ w. sym (ends_not text w.1) ∙ ap without_return (sym w.0)) h
+
+one_not : (x : ℕ) → (x ≢ 13) → (front : List ℕ) → x ∷ [] ≢ front ++ 13 ∷ []
+one_not x ne [] e = let same : x ≡ 13 = cc in ne same
+one_not x ne (f ∷ front) e = let rest : front ++ 13 ∷ [] ≡ [] = cc in ended_filled front 13 [] rest
+
+last_step : (t : Bool) (x : ℕ) → eqb x 13 ≡ t → DropsReturn (x ∷ []) (cond t [] (x ∷ []))
+last_step true x e = inl (ap (λ z. z ∷ []) (eqb-true x 13 e))
+last_step false x e = inr (refl, one_not x (eqb_false x 13 e))
+
+more_not : (x : ℕ) (text : List ℕ) → (text ≢ []) → ((front : List ℕ) → text ≢ front ++ 13 ∷ []) → (front : List ℕ) → x ∷ text ≢ front ++ 13 ∷ []
+more_not x text filled h [] e = let none : text ≡ [] = cc in filled none
+more_not x text filled h (f ∷ front) e = let rest : text ≡ front ++ 13 ∷ [] = cc in h front rest
+
+longer : (x y : ℕ) (ys text : List ℕ) → DropsReturn (y ∷ ys) text → DropsReturn (x ∷ y ∷ ys) (x ∷ text)
+longer x y ys text h =
+    ⊎_elim (λ e. inl (ap (λ r. x ∷ r) e))
+    (λ w. inr (ap (λ r. x ∷ r) w.0, more_not x text (λ none. let e = w.0 in absurd (cc)) w.1)) h
+
+drops_return : (line : List ℕ) → DropsReturn line (without_return line)
+drops_return [] = inr (refl, λ front e. ended_filled front 13 [] (sym e))
+drops_return (x ∷ []) = last_step (eqb x 13) x refl
+drops_return (x ∷ y ∷ ys) = longer x y ys (without_return (y ∷ ys)) (drops_return (y ∷ ys))
+
+pub one_text : HasOneText
+one_text line = (drops_return line, only_text line)

@@ -16,3 +16,7 @@ abbrev pub AreLines : List ℕ → List (List ℕ) → Type 0
 AreLines bytes [] = bytes ≡ []
 AreLines bytes (line ∷ lines) =
     HasNo 10 line × (((rest : List ℕ) × (bytes ≡ line ++ 10 ∷ rest) × AreLines rest lines) ⊎ ((bytes ≡ line) × (line ≢ []) × (lines ≡ [])))
+
+-- A line without the CR (13) at its end, one of them where there are more; or the line, which ends in none.
+abbrev pub DropsReturn : List ℕ → List ℕ → Type 0
+DropsReturn line text = (line ≡ text ++ 13 ∷ []) ⊎ ((line ≡ text) × ((front : List ℕ) → text ≢ front ++ 13 ∷ []))
