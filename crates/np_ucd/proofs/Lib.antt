@@ -7,3 +7,4 @@ pub mod AnswerLemmas
 pub mod ExclusionLemmas
 pub mod SpanLemmas
 pub mod LineGrammar
+pub mod FaultGrammar

@@ -1,7 +1,10 @@
 -- The laws of the grammar: what the definitions that the readers' contracts cite say in its relations.
-use Rattle.std.specs.Prelude.{ℕ, List}
+use Rattle.std.specs.Prelude.{◌≡◌, ℕ, List, Some, None, ◌↔◌}
+use Rattle.np_ucd.specs.FaultGrammar.{IsFirstFault, IsWithoutFault}
+use Rattle.np_ucd.specs.Files.{first_fault}
 use Rattle.np_ucd.specs.Grammar.{IsOnly, AreLines, DropsReturn}
 use Rattle.np_ucd.specs.Lines.{lines_of, without_return}
+use Rattle.np_ucd.specs.Records.{UcdFault}
 
 -- bytes are cut into lines in one way
 abbrev pub HasOneCut : Type 0
@@ -10,3 +13,11 @@ HasOneCut = (bytes : List ℕ) → IsOnly (AreLines bytes) (lines_of bytes)
 -- a line is one text without its return
 abbrev pub HasOneText : Type 0
 HasOneText = (line : List ℕ) → IsOnly (DropsReturn line) (without_return line)
+
+-- the fault that a file is refused with is its first one
+abbrev pub NamesFirstFault : Type 0
+NamesFirstFault = (bytes : List ℕ) (fault : UcdFault) → (first_fault bytes ≡ Some fault) ↔ IsFirstFault bytes fault
+
+-- a file is taken exactly where it has no fault
+abbrev pub TakesTheFaultless : Type 0
+TakesTheFaultless = (bytes : List ℕ) → (first_fault bytes ≡ None) ↔ IsWithoutFault bytes

@@ -1,5 +1,6 @@
 pub mod Entries
 pub mod Exclusions
+pub mod FaultGrammar
 pub mod Faults
 pub mod Fields
 pub mod Files

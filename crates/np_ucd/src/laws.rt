@@ -1,5 +1,5 @@
 //! The laws of the grammar of both files, over the definitions alone.
-ghost use Rattle.np_ucd.specs.Laws.{HasOneCut, HasOneText};
+ghost use Rattle.np_ucd.specs.Laws.{HasOneCut, HasOneText, NamesFirstFault, TakesTheFaultless};
 
 /// LF ends a line, and a last line may stand without it (UAX #44, section 4.2): each file is cut
 /// into lines in exactly one way.
@@ -10,4 +10,17 @@ pub fn lines()
 /// A line may end in CR LF: one CR at its end, and no other, is dropped (UAX #44, section 4.2).
 pub fn carriage_returns()
     ensures { HasOneText }
+{}
+
+/// The fault of UnicodeData.txt is that of the least faulty line, and there of the first test that
+/// fits (UAX #44, table 9, and section 4.2.3 for the tests between two records); a range that is
+/// open at the end comes last.
+pub fn first_fault()
+    ensures { NamesFirstFault }
+{}
+
+/// UnicodeData.txt has no fault exactly where no test of any record fits, and the last record
+/// begins no range (UAX #44, section 4.2.3).
+pub fn no_fault()
+    ensures { TakesTheFaultless }
 {}
