@@ -1,11 +1,14 @@
 -- The lines, the returns and the fields meet the grammar, and nothing else does.
 use Rattle.std.proofs.Common.{◌≡◌, ◌≢◌, ℕ, zero, suc, ◌+◌, ◌<◌, ◌≤◌, Bool, true, false, cond, eqb, List, [], ◌∷◌, ◌++◌, length, Option, Some, None, refl, sym, ap, subst, ◌∙◌, inl, inr, ⊎_elim, arith}
+use Rattle.std.specs.List.{All, slice_split, onto_first, join_with_byte}
 use Rattle.std.proofs.lemmas.Bool.{eqb-true, eq-eqb, ne_eqb}
 use Rattle.std.proofs.lemmas.List.Elements.{All-nil, All-cons, All-head, All-tail}
-use Rattle.np_ucd.specs.Grammar.{IsOnly, HasNo, AreLines, DropsReturn}
-use Rattle.np_ucd.specs.Laws.{HasOneCut, HasOneText}
+use Rattle.std.proofs.lemmas.List.Splits.{join_with_byte-slice_split}
+use Rattle.np_ucd.specs.Grammar.{IsOnly, HasNo, AreLines, DropsReturn, AreFields}
+use Rattle.np_ucd.specs.Fields.{fields_of}
+use Rattle.np_ucd.specs.Laws.{HasOneCut, HasOneText, HasOneRecord}
 use Rattle.np_ucd.specs.Lines.{before_byte, after_byte, lines_of, without_return}
-use Rattle.np_ucd.proofs.LineLemmas.{lines_cut, lines_lone, length-after_byte}
+use Rattle.np_ucd.proofs.LineLemmas.{rest_parts, split_cut, lines_cut, lines_lone, length-after_byte}
 
 -- What stands before the first such byte, and behind it.
 abbrev pub not_byte : ℕ → ℕ → Type 0
@@ -145,3 +148,48 @@ drops_return (x ∷ y ∷ ys) = longer x y ys (without_return (y ∷ ys)) (drops
 
 pub one_text : HasOneText
 one_text line = (drops_return line, only_text line)
+
+-- The fields.
+abbrev parts : List ℕ → List (List ℕ)
+parts text = slice_split (λ b. eqb b 59) text
+
+parts_none : (xs : List ℕ) → HasNo 59 xs → parts xs ≡ xs ∷ []
+parts_none xs h =
+    let none = after_none 59 xs h in
+    split_cut 59 xs ∙ ap (λ o. before_byte 59 xs ∷ rest_parts 59 o) none ∙ ap (λ front. front ∷ []) (sym (joined_none 59 xs none))
+
+parts_some : (xs rest : List ℕ) → HasNo 59 xs → parts (xs ++ 59 ∷ rest) ≡ xs ∷ parts rest
+parts_some xs rest h =
+    split_cut 59 (xs ++ 59 ∷ rest)
+    ∙ ap (λ o. before_byte 59 (xs ++ 59 ∷ rest) ∷ rest_parts 59 o) (after_at 59 xs rest h)
+    ∙ ap (λ front. front ∷ parts rest) (before_at 59 xs rest h)
+
+parts_only : (fields : List (List ℕ)) → (fields ≢ []) → All (HasNo 59) fields → fields ≡ parts (join_with_byte 59 fields)
+parts_only [] ne h = absurd (ne refl)
+parts_only (x ∷ []) ne h = sym (parts_none x (All-head (HasNo 59) x [] h))
+parts_only (x ∷ y ∷ ys) ne h =
+    ap (λ ps. x ∷ ps) (parts_only (y ∷ ys) (λ e. absurd (cc)) (All-tail (HasNo 59) x (y ∷ ys) h))
+    ∙ sym (parts_some x (join_with_byte 59 (y ∷ ys)) (All-head (HasNo 59) x (y ∷ ys) h))
+
+onto_free : (x : ℕ) (ps : List (List ℕ)) → (x ≢ 59) → All (HasNo 59) ps → All (HasNo 59) (onto_first x ps)
+onto_free x [] ne h = All-cons (HasNo 59) (x ∷ []) [] (All-cons (not_byte 59) x [] ne (All-nil (not_byte 59))) (All-nil (HasNo 59))
+onto_free x (p ∷ ps) ne h =
+    All-cons (HasNo 59) (x ∷ p) ps (All-cons (not_byte 59) x p ne (All-head (HasNo 59) p ps h)) (All-tail (HasNo 59) p ps h)
+
+parts_step : (t : Bool) (x : ℕ) (ps : List (List ℕ)) → eqb x 59 ≡ t → All (HasNo 59) ps → All (HasNo 59) (cond t ([] ∷ ps) (onto_first x ps))
+parts_step true x ps e h = All-cons (HasNo 59) [] ps (All-nil (not_byte 59)) h
+parts_step false x ps e h = onto_free x ps (eqb_false x 59 e) h
+
+parts_free : (xs : List ℕ) → All (HasNo 59) (parts xs)
+parts_free [] = All-cons (HasNo 59) [] [] (All-nil (not_byte 59)) (All-nil (HasNo 59))
+parts_free (x ∷ xs) = parts_step (eqb x 59) x (parts xs) refl (parts_free xs)
+
+parts_filled : (xs : List ℕ) → parts xs ≢ []
+parts_filled xs e = let both = sym (split_cut 59 xs) ∙ e in absurd (cc)
+
+pub one_record : HasOneRecord
+unfolding fields_of
+one_record text = (
+  record { some = parts_filled text; free = parts_free text; joined = sym (join_with_byte-slice_split 59 text) },
+  λ fields h. parts_only fields h.some h.free ∙ ap parts (sym h.joined),
+)

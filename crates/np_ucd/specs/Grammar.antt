@@ -1,6 +1,6 @@
 -- How both files are cut, as relations on their bytes (UAX #44, section 4.2).
 use Rattle.std.specs.Prelude.{◌≡◌, ◌≢◌, ℕ, List, [], ◌∷◌, ◌++◌, ◌⊎◌}
-use Rattle.std.specs.List.{All}
+use Rattle.std.specs.List.{All, join_with_byte}
 
 -- this is so of x, and of nothing else
 abbrev pub IsOnly : {X : Type 0} → (X → Type 0) → X → Type 0
@@ -20,3 +20,9 @@ AreLines bytes (line ∷ lines) =
 -- A line without the CR (13) at its end, one of them where there are more; or the line, which ends in none.
 abbrev pub DropsReturn : List ℕ → List ℕ → Type 0
 DropsReturn line text = (line ≡ text ++ 13 ∷ []) ⊎ ((line ≡ text) × ((front : List ℕ) → text ≢ front ++ 13 ∷ []))
+
+-- The fields of a record, at least one: ';' (59) stands between two of them, and in none.
+pub record AreFields (text : List ℕ) (fields : List (List ℕ)) : Type 0 where
+  pub some : fields ≢ []
+  pub free : All (HasNo 59) fields
+  pub joined : text ≡ join_with_byte 59 fields

@@ -1,8 +1,9 @@
 -- The laws of the grammar: what the definitions that the readers' contracts cite say in its relations.
 use Rattle.std.specs.Prelude.{◌≡◌, ℕ, List, Some, None, ◌↔◌}
 use Rattle.np_ucd.specs.FaultGrammar.{IsFirstFault, IsWithoutFault}
+use Rattle.np_ucd.specs.Fields.{fields_of}
 use Rattle.np_ucd.specs.Files.{first_fault}
-use Rattle.np_ucd.specs.Grammar.{IsOnly, AreLines, DropsReturn}
+use Rattle.np_ucd.specs.Grammar.{IsOnly, AreLines, DropsReturn, AreFields}
 use Rattle.np_ucd.specs.Lines.{lines_of, without_return}
 use Rattle.np_ucd.specs.Records.{UcdFault}
 
@@ -21,3 +22,7 @@ NamesFirstFault = (bytes : List ℕ) (fault : UcdFault) → (first_fault bytes �
 -- a file is taken exactly where it has no fault
 abbrev pub TakesTheFaultless : Type 0
 TakesTheFaultless = (bytes : List ℕ) → (first_fault bytes ≡ None) ↔ IsWithoutFault bytes
+
+-- a record is cut into fields in one way
+abbrev pub HasOneRecord : Type 0
+HasOneRecord = (text : List ℕ) → IsOnly (AreFields text) (fields_of text)

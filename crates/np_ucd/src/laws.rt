@@ -1,5 +1,5 @@
 //! The laws of the grammar of both files, over the definitions alone.
-ghost use Rattle.np_ucd.specs.Laws.{HasOneCut, HasOneText, NamesFirstFault, TakesTheFaultless};
+ghost use Rattle.np_ucd.specs.Laws.{HasOneCut, HasOneRecord, HasOneText, NamesFirstFault, TakesTheFaultless};
 
 /// LF ends a line, and a last line may stand without it (UAX #44, section 4.2): each file is cut
 /// into lines in exactly one way.
@@ -23,4 +23,10 @@ pub fn first_fault()
 /// begins no range (UAX #44, section 4.2.3).
 pub fn no_fault()
     ensures { TakesTheFaultless }
+{}
+
+/// `;` stands between two fields of a record (UAX #44, section 4.2): each record is cut into fields
+/// in exactly one way.
+pub fn fields()
+    ensures { HasOneRecord }
 {}
