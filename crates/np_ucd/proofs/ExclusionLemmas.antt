@@ -38,13 +38,13 @@ push_other xs x e =
     ∙ ap (λ b. list_all is_blank xs && (b && true)) e
     ∙ and_right (list_all is_blank xs) false refl
 
-back_blank : (xs : List ℕ) (x : ℕ) → is_blank x ≡ true → before_blanks (xs ++ x ∷ []) ≡ before_blanks xs
+pub back_blank : (xs : List ℕ) (x : ℕ) → is_blank x ≡ true → before_blanks (xs ++ x ∷ []) ≡ before_blanks xs
 back_blank [] x e = cond-true (is_blank x && true) [] (x ∷ []) (ap (λ b. b && true) e)
 back_blank (y ∷ ys) x e =
     ap (λ b. cond b [] (y ∷ before_blanks (ys ++ x ∷ []))) (push_blank (y ∷ ys) x e)
     ∙ ap (λ r. cond (list_all is_blank (y ∷ ys)) [] (y ∷ r)) (back_blank ys x e)
 
-back_other : (xs : List ℕ) (x : ℕ) → is_blank x ≡ false → before_blanks (xs ++ x ∷ []) ≡ xs ++ x ∷ []
+pub back_other : (xs : List ℕ) (x : ℕ) → is_blank x ≡ false → before_blanks (xs ++ x ∷ []) ≡ xs ++ x ∷ []
 back_other [] x e = cond-false (is_blank x && true) [] (x ∷ []) (ap (λ b. b && true) e)
 back_other (y ∷ ys) x e =
     cond-false (list_all is_blank (y ∷ ys ++ x ∷ [])) [] (y ∷ before_blanks (ys ++ x ∷ [])) (push_other (y ∷ ys) x e)

@@ -8,3 +8,4 @@ pub mod ExclusionLemmas
 pub mod SpanLemmas
 pub mod LineGrammar
 pub mod FaultGrammar
+pub mod TextGrammar

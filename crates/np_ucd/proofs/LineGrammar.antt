@@ -1,7 +1,7 @@
 -- The lines, the returns and the fields meet the grammar, and nothing else does.
 use Rattle.std.proofs.Common.{◌≡◌, ◌≢◌, ℕ, zero, suc, ◌+◌, ◌<◌, ◌≤◌, Bool, true, false, cond, eqb, List, [], ◌∷◌, ◌++◌, length, Option, Some, None, refl, sym, ap, subst, ◌∙◌, inl, inr, ⊎_elim, arith}
 use Rattle.std.specs.List.{All, slice_split, onto_first, join_with_byte}
-use Rattle.std.proofs.lemmas.Bool.{eqb-true, eq-eqb, ne_eqb}
+use Rattle.std.proofs.lemmas.Bool.{eqb-true, eqb-false, eq-eqb, ne_eqb}
 use Rattle.std.proofs.lemmas.List.Elements.{All-nil, All-cons, All-head, All-tail}
 use Rattle.std.proofs.lemmas.List.Splits.{join_with_byte-slice_split}
 use Rattle.np_ucd.specs.Grammar.{IsOnly, HasNo, AreLines, DropsReturn, AreFields}
@@ -14,14 +14,11 @@ use Rattle.np_ucd.proofs.LineLemmas.{rest_parts, split_cut, lines_cut, lines_lon
 abbrev pub not_byte : ℕ → ℕ → Type 0
 not_byte byte b = b ≢ byte
 
-eqb_false : (x b : ℕ) → eqb x b ≡ false → x ≢ b
-eqb_false x b e same = let yes = eq-eqb x b same in absurd (cc)
-
 free_step : (t : Bool) (b x : ℕ) (before : List ℕ) → eqb x b ≡ t → HasNo b before → HasNo b (cond t [] (x ∷ before))
 free_step true b x before e h = All-nil (not_byte b)
-free_step false b x before e h = All-cons (not_byte b) x before (eqb_false x b e) h
+free_step false b x before e h = All-cons (not_byte b) x before (eqb-false x b e) h
 
-before_free : (b : ℕ) (xs : List ℕ) → HasNo b (before_byte b xs)
+pub before_free : (b : ℕ) (xs : List ℕ) → HasNo b (before_byte b xs)
 before_free b [] = All-nil (not_byte b)
 before_free b (x ∷ xs) = free_step (eqb x b) b x (before_byte b xs) refl (before_free b xs)
 
@@ -29,7 +26,7 @@ some_step : (t : Bool) (b x : ℕ) (xs rest before : List ℕ) (after : Option (
 some_step true b x xs rest before after e ih h = let same : x ≡ b = eqb-true x b e in let tail : xs ≡ rest = cc in cc
 some_step false b x xs rest before after e ih h = ap (λ r. x ∷ r) (ih h)
 
-joined_some : (b : ℕ) (xs rest : List ℕ) → after_byte b xs ≡ Some rest → xs ≡ before_byte b xs ++ b ∷ rest
+pub joined_some : (b : ℕ) (xs rest : List ℕ) → after_byte b xs ≡ Some rest → xs ≡ before_byte b xs ++ b ∷ rest
 joined_some b [] rest h = absurd (cc)
 joined_some b (x ∷ xs) rest h = some_step (eqb x b) b x xs rest (before_byte b xs) (after_byte b xs) refl (joined_some b xs rest) h
 
@@ -37,7 +34,7 @@ none_step : (t : Bool) (x : ℕ) (xs before : List ℕ) (after : Option (List �
 none_step true x xs before after ih h = absurd (cc)
 none_step false x xs before after ih h = ap (λ r. x ∷ r) (ih h)
 
-joined_none : (b : ℕ) (xs : List ℕ) → after_byte b xs ≡ None → xs ≡ before_byte b xs
+pub joined_none : (b : ℕ) (xs : List ℕ) → after_byte b xs ≡ None → xs ≡ before_byte b xs
 joined_none b [] h = refl
 joined_none b (x ∷ xs) h = none_step (eqb x b) x xs (before_byte b xs) (after_byte b xs) (joined_none b xs) h
 
@@ -45,19 +42,19 @@ joined_none b (x ∷ xs) h = none_step (eqb x b) x xs (before_byte b xs) (after_
 before_here : (t : Bool) (rest : List ℕ) (b : ℕ) → t ≡ true → cond t [] (b ∷ before_byte b rest) ≡ []
 before_here t rest b e = ap (λ t. cond t [] (b ∷ before_byte b rest)) e
 
-before_at : (b : ℕ) (front rest : List ℕ) → HasNo b front → before_byte b (front ++ b ∷ rest) ≡ front
+pub before_at : (b : ℕ) (front rest : List ℕ) → HasNo b front → before_byte b (front ++ b ∷ rest) ≡ front
 before_at b [] rest h = before_here (eqb b b) rest b (eq-eqb b b refl)
 before_at b (x ∷ xs) rest h =
     ap (λ t. cond t [] (x ∷ before_byte b (xs ++ b ∷ rest))) (ne_eqb x b (All-head (not_byte b) x xs h))
     ∙ ap (λ r. x ∷ r) (before_at b xs rest (All-tail (not_byte b) x xs h))
 
-after_at : (b : ℕ) (front rest : List ℕ) → HasNo b front → after_byte b (front ++ b ∷ rest) ≡ Some rest
+pub after_at : (b : ℕ) (front rest : List ℕ) → HasNo b front → after_byte b (front ++ b ∷ rest) ≡ Some rest
 after_at b [] rest h = ap (λ t. cond t (Some rest) (after_byte b rest)) (eq-eqb b b refl)
 after_at b (x ∷ xs) rest h =
     ap (λ t. cond t (Some (xs ++ b ∷ rest)) (after_byte b (xs ++ b ∷ rest))) (ne_eqb x b (All-head (not_byte b) x xs h))
     ∙ after_at b xs rest (All-tail (not_byte b) x xs h)
 
-after_none : (b : ℕ) (xs : List ℕ) → HasNo b xs → after_byte b xs ≡ None
+pub after_none : (b : ℕ) (xs : List ℕ) → HasNo b xs → after_byte b xs ≡ None
 after_none b [] h = refl
 after_none b (x ∷ xs) h =
     ap (λ t. cond t (Some xs) (after_byte b xs)) (ne_eqb x b (All-head (not_byte b) x xs h))
@@ -81,7 +78,7 @@ lines_within n [] l = subst (AreLines []) (sym no_lines) refl
 lines_within zero (x ∷ xs) l = absurd (omega arith)
 lines_within (suc n) (x ∷ xs) l = some_lines n (x ∷ xs) (after_byte 10 (x ∷ xs)) l (λ e. absurd (cc)) refl (lines_within n)
 
-ended_filled : (xs : List ℕ) (b : ℕ) (rest : List ℕ) → xs ++ b ∷ rest ≢ []
+pub ended_filled : (xs : List ℕ) (b : ℕ) (rest : List ℕ) → xs ++ b ∷ rest ≢ []
 ended_filled [] b rest e = absurd (cc)
 ended_filled (x ∷ xs) b rest e = absurd (cc)
 
@@ -95,7 +92,7 @@ lines_last line h ne =
     let none = after_none 10 line h in
     lines_lone line ne none ∙ ap (λ ls. before_byte 10 line ∷ ls) no_lines ∙ ap (λ front. front ∷ []) (sym (joined_none 10 line none))
 
-only_lines : (bytes : List ℕ) (lines : List (List ℕ)) → AreLines bytes lines → lines ≡ lines_of bytes
+pub only_lines : (bytes : List ℕ) (lines : List (List ℕ)) → AreLines bytes lines → lines ≡ lines_of bytes
 only_lines bytes [] h = sym (ap lines_of h ∙ no_lines)
 only_lines bytes (line ∷ lines) h =
     ⊎_elim
@@ -130,7 +127,7 @@ one_not x ne (f ∷ front) e = let rest : front ++ 13 ∷ [] ≡ [] = cc in ende
 
 last_step : (t : Bool) (x : ℕ) → eqb x 13 ≡ t → DropsReturn (x ∷ []) (cond t [] (x ∷ []))
 last_step true x e = inl (ap (λ z. z ∷ []) (eqb-true x 13 e))
-last_step false x e = inr (refl, one_not x (eqb_false x 13 e))
+last_step false x e = inr (refl, one_not x (eqb-false x 13 e))
 
 more_not : (x : ℕ) (text : List ℕ) → (text ≢ []) → ((front : List ℕ) → text ≢ front ++ 13 ∷ []) → (front : List ℕ) → x ∷ text ≢ front ++ 13 ∷ []
 more_not x text filled h [] e = let none : text ≡ [] = cc in filled none
@@ -141,7 +138,7 @@ longer x y ys text h =
     ⊎_elim (λ e. inl (ap (λ r. x ∷ r) e))
     (λ w. inr (ap (λ r. x ∷ r) w.0, more_not x text (λ none. let e = w.0 in absurd (cc)) w.1)) h
 
-drops_return : (line : List ℕ) → DropsReturn line (without_return line)
+pub drops_return : (line : List ℕ) → DropsReturn line (without_return line)
 drops_return [] = inr (refl, λ front e. ended_filled front 13 [] (sym e))
 drops_return (x ∷ []) = last_step (eqb x 13) x refl
 drops_return (x ∷ y ∷ ys) = longer x y ys (without_return (y ∷ ys)) (drops_return (y ∷ ys))
@@ -178,7 +175,7 @@ onto_free x (p ∷ ps) ne h =
 
 parts_step : (t : Bool) (x : ℕ) (ps : List (List ℕ)) → eqb x 59 ≡ t → All (HasNo 59) ps → All (HasNo 59) (cond t ([] ∷ ps) (onto_first x ps))
 parts_step true x ps e h = All-cons (HasNo 59) [] ps (All-nil (not_byte 59)) h
-parts_step false x ps e h = onto_free x ps (eqb_false x 59 e) h
+parts_step false x ps e h = onto_free x ps (eqb-false x 59 e) h
 
 parts_free : (xs : List ℕ) → All (HasNo 59) (parts xs)
 parts_free [] = All-cons (HasNo 59) [] [] (All-nil (not_byte 59)) (All-nil (HasNo 59))

@@ -26,3 +26,10 @@ pub record AreFields (text : List ℕ) (fields : List (List ℕ)) : Type 0 where
   pub some : fields ≢ []
   pub free : All (HasNo 59) fields
   pub joined : text ≡ join_with_byte 59 fields
+
+-- a space (32) or a tab (9)
+abbrev pub IsBlank : ℕ → Type 0
+IsBlank b = (b ≡ 32) ⊎ (b ≡ 9)
+
+abbrev pub AreBlanks : List ℕ → Type 0
+AreBlanks bytes = All IsBlank bytes

@@ -1,5 +1,7 @@
 -- The laws of the grammar: what the definitions that the readers' contracts cite say in its relations.
 use Rattle.std.specs.Prelude.{◌≡◌, ℕ, List, Some, None, ◌↔◌}
+use Rattle.np_ucd.specs.ExclusionGrammar.{SaysText}
+use Rattle.np_ucd.specs.Exclusions.{entry_text}
 use Rattle.np_ucd.specs.FaultGrammar.{IsFirstFault, IsWithoutFault}
 use Rattle.np_ucd.specs.Fields.{fields_of}
 use Rattle.np_ucd.specs.Files.{first_fault}
@@ -26,3 +28,7 @@ TakesTheFaultless = (bytes : List ℕ) → (first_fault bytes ≡ None) ↔ IsWi
 -- a record is cut into fields in one way
 abbrev pub HasOneRecord : Type 0
 HasOneRecord = (text : List ℕ) → IsOnly (AreFields text) (fields_of text)
+
+-- a line of CompositionExclusions.txt says one text
+abbrev pub SaysOneText : Type 0
+SaysOneText = (line : List ℕ) → IsOnly (SaysText line) (entry_text line)

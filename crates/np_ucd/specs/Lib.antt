@@ -1,4 +1,5 @@
 pub mod Entries
+pub mod ExclusionGrammar
 pub mod Exclusions
 pub mod FaultGrammar
 pub mod Faults

@@ -1,5 +1,5 @@
 //! The laws of the grammar of both files, over the definitions alone.
-ghost use Rattle.np_ucd.specs.Laws.{HasOneCut, HasOneRecord, HasOneText, NamesFirstFault, TakesTheFaultless};
+ghost use Rattle.np_ucd.specs.Laws.{HasOneCut, HasOneRecord, HasOneText, NamesFirstFault, SaysOneText, TakesTheFaultless};
 
 /// LF ends a line, and a last line may stand without it (UAX #44, section 4.2): each file is cut
 /// into lines in exactly one way.
@@ -29,4 +29,10 @@ pub fn no_fault()
 /// in exactly one way.
 pub fn fields()
     ensures { HasOneRecord }
+{}
+
+/// A line of CompositionExclusions.txt says what stands before its first `#`, without the spaces
+/// and tabs around (UAX #44, section 4.2).
+pub fn exclusion_text()
+    ensures { SaysOneText }
 {}
