@@ -1,5 +1,5 @@
 -- From what was read to the answer.
-use Rattle.std.proofs.Common.{◌≡◌, ℕ, true, false, List, Option, Some, None, IfSome, is_some, length, ap, sym, ◌∙◌, arith, ⊎_elim}
+use Rattle.std.proofs.Common.{◌≡◌, ℕ, true, false, List, Option, Some, None, IfSome, is_some, ap, sym, ◌∙◌, arith, ⊎_elim}
 use Rattle.np_code_points.specs.Inputs.{IsReadWhole}
 use Rattle.np_ucd.specs.Faults.{line_of}
 use Rattle.np_ucd.specs.Reading.{IsRefused}

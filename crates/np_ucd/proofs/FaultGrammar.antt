@@ -2,7 +2,7 @@
 use Rattle.std.proofs.Common.{◌≡◌, ℕ, ◌⊎◌, Bool, true, false, cond, List, [], ◌∷◌, ◌++◌, Option, Some, None, refl, sym, ap, subst, ◌∙◌, inl, inr, ⊎_elim, append_assoc}
 use Rattle.std.specs.Option.{option_or}
 use Rattle.std.proofs.lemmas.List.Elements.{All-nil, All-cons, All-head, All-tail}
-use Rattle.np_ucd.specs.FaultGrammar.{FitsNone, IsFirstFit, IsNeighbourBehind, AreTestsBehind, AreFaultless, IsFaultOfRecord, IsFaultOfEnd, IsFirstFault, IsWithoutFault}
+use Rattle.np_ucd.specs.FaultGrammar.{FitsNone, IsFirstFit, IsNeighbourBehind, AreTestsBehind, AreFaultless, IsFaultOfRecord, IsFaultOfEnd, IsWithoutFault}
 use Rattle.np_ucd.specs.Files.{Numbered, records_in, end_fault, fault_after, first_fault}
 use Rattle.np_ucd.specs.Laws.{NamesFirstFault, TakesTheFaultless}
 use Rattle.np_ucd.specs.Records.{UcdFault, RangeOpen, Neighbour, neighbour_of, opens, first_that_fits, record_tests, record_fault}

@@ -9,3 +9,5 @@ pub mod SpanLemmas
 pub mod LineGrammar
 pub mod FaultGrammar
 pub mod TextGrammar
+pub mod SpanGrammar
+pub mod ExclusionGrammar

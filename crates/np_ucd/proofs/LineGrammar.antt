@@ -1,10 +1,10 @@
 -- The lines, the returns and the fields meet the grammar, and nothing else does.
-use Rattle.std.proofs.Common.{◌≡◌, ◌≢◌, ℕ, zero, suc, ◌+◌, ◌<◌, ◌≤◌, Bool, true, false, cond, eqb, List, [], ◌∷◌, ◌++◌, length, Option, Some, None, refl, sym, ap, subst, ◌∙◌, inl, inr, ⊎_elim, arith}
+use Rattle.std.proofs.Common.{◌≡◌, ◌≢◌, ℕ, zero, suc, ◌≤◌, Bool, true, false, cond, eqb, List, [], ◌∷◌, ◌++◌, length, Option, Some, None, refl, sym, ap, subst, ◌∙◌, inl, inr, ⊎_elim, arith}
 use Rattle.std.specs.List.{All, slice_split, onto_first, join_with_byte}
 use Rattle.std.proofs.lemmas.Bool.{eqb-true, eqb-false, eq-eqb, ne_eqb}
 use Rattle.std.proofs.lemmas.List.Elements.{All-nil, All-cons, All-head, All-tail}
 use Rattle.std.proofs.lemmas.List.Splits.{join_with_byte-slice_split}
-use Rattle.np_ucd.specs.Grammar.{IsOnly, HasNo, AreLines, DropsReturn, AreFields}
+use Rattle.np_ucd.specs.Grammar.{HasNo, AreLines, DropsReturn}
 use Rattle.np_ucd.specs.Fields.{fields_of}
 use Rattle.np_ucd.specs.Laws.{HasOneCut, HasOneText, HasOneRecord}
 use Rattle.np_ucd.specs.Lines.{before_byte, after_byte, lines_of, without_return}

@@ -1,7 +1,8 @@
 -- CompositionExclusions.txt, as relations on its lines (UAX #44, section 4.2).
-use Rattle.std.specs.Prelude.{◌≡◌, ℕ, ◌+◌, ◌≤◌, List, [], ◌∷◌, ◌++◌, length, Some, ◌⊎◌}
+use Rattle.std.specs.Prelude.{◌≡◌, ℕ, ◌+◌, ◌≤◌, List, [], ◌∷◌, ◌++◌, length, Some, None, ◌⊎◌, ◌↔◌}
 use Rattle.std.specs.List.{All}
 use Rattle.np_code_points.specs.Codes.{code_value}
+use Rattle.np_ucd.specs.Exclusions.{line_spans}
 use Rattle.np_ucd.specs.Grammar.{HasNo, AreLines, DropsReturn, IsBlank, AreBlanks}
 use Rattle.np_ucd.specs.Listed.{Span}
 
@@ -26,3 +27,53 @@ pub record SaysText (line text : List ℕ) : Type 0 where
   pub returned : DropsReturn line whole
   pub uncommented : StandsBefore 35 whole entry
   pub trimmed : IsTrimmed entry text
+
+-- a code point
+abbrev pub IsOneCode : List ℕ → Span → Type 0
+IsOneCode text span = (code_value text ≡ Some span.first) × (span.last ≡ span.first)
+
+-- two of them, the second not smaller, with ".." (46 is '.') between
+pub record IsCodeRange (text : List ℕ) (span : Span) : Type 0 where
+  pub low : List ℕ
+  pub high : List ℕ
+  pub stands : text ≡ low ++ 46 ∷ 46 ∷ high
+  pub first : code_value low ≡ Some span.first
+  pub last : code_value high ≡ Some span.last
+  pub rises : span.first ≤ span.last
+
+-- a line lists nothing, or the code points from first to last, or it can't be read
+abbrev pub ListsNothing : List ℕ → Type 0
+ListsNothing line = SaysText line []
+
+abbrev pub ListsSpan : List ℕ → Span → Type 0
+ListsSpan line span = (text : List ℕ) × SaysText line text × (IsOneCode text span ⊎ IsCodeRange text span)
+
+abbrev pub IsReadable : List ℕ → Type 0
+IsReadable line = ListsNothing line ⊎ ((span : Span) × ListsSpan line span)
+
+-- what is read of a line is what it lists
+pub record IsReadAsListed (line : List ℕ) : Type 0 where
+  pub nothing : (line_spans line ≡ Some []) ↔ ListsNothing line
+  pub one : (span : Span) → (line_spans line ≡ Some (span ∷ [])) ↔ ListsSpan line span
+  pub bad : (line_spans line ≡ None) ↔ (IsReadable line → ⊥)
+
+-- the line of this number, from 1, can't be read, and each before it can
+pub record IsFirstBadLine (bytes : List ℕ) (number : ℕ) : Type 0 where
+  pub before : List (List ℕ)
+  pub line : List ℕ
+  pub behind : List (List ℕ)
+  pub lines : AreLines bytes (before ++ line ∷ behind)
+  pub counted : number ≡ length before + 1
+  pub bad : IsReadable line → ⊥
+  pub first : All IsReadable before
+
+-- a line lists code points, and this one lies among them
+pub record IsListedIn (bytes : List ℕ) (code : ℕ) : Type 0 where
+  pub before : List (List ℕ)
+  pub line : List ℕ
+  pub behind : List (List ℕ)
+  pub span : Span
+  pub lines : AreLines bytes (before ++ line ∷ behind)
+  pub lists : ListsSpan line span
+  pub begun : span.first ≤ code
+  pub reached : code ≤ span.last

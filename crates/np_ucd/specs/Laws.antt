@@ -1,13 +1,15 @@
 -- The laws of the grammar: what the definitions that the readers' contracts cite say in its relations.
-use Rattle.std.specs.Prelude.{◌≡◌, ℕ, List, Some, None, ◌↔◌}
-use Rattle.np_ucd.specs.ExclusionGrammar.{SaysText}
-use Rattle.np_ucd.specs.Exclusions.{entry_text}
+use Rattle.std.specs.Prelude.{◌≡◌, ℕ, true, List, Some, None, ◌↔◌}
+use Rattle.std.specs.List.{All}
+use Rattle.np_ucd.specs.ExclusionGrammar.{SaysText, IsReadable, IsReadAsListed, IsFirstBadLine, IsListedIn}
+use Rattle.np_ucd.specs.Exclusions.{entry_text, exclusions_fault, spans_in}
 use Rattle.np_ucd.specs.FaultGrammar.{IsFirstFault, IsWithoutFault}
 use Rattle.np_ucd.specs.Fields.{fields_of}
 use Rattle.np_ucd.specs.Files.{first_fault}
 use Rattle.np_ucd.specs.Grammar.{IsOnly, AreLines, DropsReturn, AreFields}
 use Rattle.np_ucd.specs.Lines.{lines_of, without_return}
-use Rattle.np_ucd.specs.Records.{UcdFault}
+use Rattle.np_ucd.specs.Listed.{is_listed}
+use Rattle.np_ucd.specs.Records.{UcdFault, BadCode}
 
 -- bytes are cut into lines in one way
 abbrev pub HasOneCut : Type 0
@@ -32,3 +34,21 @@ HasOneRecord = (text : List ℕ) → IsOnly (AreFields text) (fields_of text)
 -- a line of CompositionExclusions.txt says one text
 abbrev pub SaysOneText : Type 0
 SaysOneText = (line : List ℕ) → IsOnly (SaysText line) (entry_text line)
+
+abbrev pub ReadsLines : Type 0
+ReadsLines = (line : List ℕ) → IsReadAsListed line
+
+-- the one fault of CompositionExclusions.txt is its first line that can't be read
+abbrev pub NamesFirstBadLine : Type 0
+NamesFirstBadLine =
+    (bytes : List ℕ) (fault : UcdFault) →
+    (exclusions_fault bytes ≡ Some fault) ↔ ((number : ℕ) × (fault ≡ BadCode number) × IsFirstBadLine bytes number)
+
+-- it is taken exactly where each line can be read
+abbrev pub TakesTheReadable : Type 0
+TakesTheReadable =
+    (bytes : List ℕ) → (exclusions_fault bytes ≡ None) ↔ ((lines : List (List ℕ)) → AreLines bytes lines → All IsReadable lines)
+
+-- a code point is listed exactly where a line lists it
+abbrev pub ListsTheCodes : Type 0
+ListsTheCodes = (bytes : List ℕ) (code : ℕ) → (is_listed (spans_in bytes) code ≡ true) ↔ IsListedIn bytes code

@@ -1,5 +1,5 @@
 //! The laws of the grammar of both files, over the definitions alone.
-ghost use Rattle.np_ucd.specs.Laws.{HasOneCut, HasOneRecord, HasOneText, NamesFirstFault, SaysOneText, TakesTheFaultless};
+ghost use Rattle.np_ucd.specs.Laws.{HasOneCut, HasOneRecord, HasOneText, ListsTheCodes, NamesFirstBadLine, NamesFirstFault, ReadsLines, SaysOneText, TakesTheFaultless, TakesTheReadable};
 
 /// LF ends a line, and a last line may stand without it (UAX #44, section 4.2): each file is cut
 /// into lines in exactly one way.
@@ -35,4 +35,25 @@ pub fn fields()
 /// and tabs around (UAX #44, section 4.2).
 pub fn exclusion_text()
     ensures { SaysOneText }
+{}
+
+/// Such a text is nothing, or a code point, or two with `..` between of which the second is not
+/// smaller; a line that says any other can't be read.
+pub fn exclusion_line()
+    ensures { ReadsLines }
+{}
+
+/// The fault of CompositionExclusions.txt is its first line that can't be read.
+pub fn first_bad_line()
+    ensures { NamesFirstBadLine }
+{}
+
+/// CompositionExclusions.txt has no fault exactly where each of its lines can be read.
+pub fn no_bad_line()
+    ensures { TakesTheReadable }
+{}
+
+/// A code point is listed exactly where a line lists it, alone or in a range.
+pub fn listed()
+    ensures { ListsTheCodes }
 {}
