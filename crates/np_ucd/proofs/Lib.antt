@@ -11,3 +11,4 @@ pub mod FaultGrammar
 pub mod TextGrammar
 pub mod SpanGrammar
 pub mod ExclusionGrammar
+pub mod RecordGrammar

@@ -11,6 +11,7 @@ pub mod LineSteps
 pub mod Lines
 pub mod Listed
 pub mod MappingValues
+pub mod RecordGrammar
 pub mod RecordValues
 pub mod Reading
 pub mod Records

@@ -1,5 +1,5 @@
 //! The laws of the grammar of both files, over the definitions alone.
-ghost use Rattle.np_ucd.specs.Laws.{HasOneCut, HasOneRecord, HasOneText, ListsTheCodes, NamesFirstBadLine, NamesFirstFault, ReadsLines, SaysOneText, TakesTheFaultless, TakesTheReadable};
+ghost use Rattle.np_ucd.specs.Laws.{HasOneCut, HasOneListOfRecords, HasOneRecord, HasOneText, ListsTheCodes, NamesFirstBadLine, NamesFirstFault, ReadsLines, SaysOneText, TakesTheFaultless, TakesTheReadable};
 
 /// LF ends a line, and a last line may stand without it (UAX #44, section 4.2): each file is cut
 /// into lines in exactly one way.
@@ -56,4 +56,10 @@ pub fn no_bad_line()
 /// A code point is listed exactly where a line lists it, alone or in a range.
 pub fn listed()
     ensures { ListsTheCodes }
+{}
+
+/// The records of UnicodeData.txt are its lines that are no comments and not blank (UAX #44,
+/// section 4.2), each with the number of its line, in their order; and no other list is.
+pub fn records()
+    ensures { HasOneListOfRecords }
 {}
