@@ -101,7 +101,7 @@ no_fault : (b : Option Neighbour) (r : Numbered) → FitsNone (record_tests b r.
 unfolding record_fault
 no_fault b r h = fits_none (record_tests b r.line r.text) h
 
-no_test : (b : Option Neighbour) (r : Numbered) → record_fault b r.line r.text ≡ None → FitsNone (record_tests b r.line r.text)
+pub no_test : (b : Option Neighbour) (r : Numbered) → record_fault b r.line r.text ≡ None → FitsNone (record_tests b r.line r.text)
 unfolding record_fault
 no_test b r h = none_fits (record_tests b r.line r.text) h
 
@@ -180,12 +180,12 @@ end_behind : (records front : List Numbered) (last : Numbered) → records ≡ f
 end_behind records front last e =
     ap (λ rs. end_fault (behind None rs)) e ∙ ap end_fault (behind_last None front last) ∙ end_last last
 
-record HasLast (records : List Numbered) : Type 0 where
-  front : List Numbered
-  last : Numbered
-  stands : records ≡ front ++ last ∷ []
+pub record HasLast (records : List Numbered) : Type 0 where
+  pub front : List Numbered
+  pub last : Numbered
+  pub stands : records ≡ front ++ last ∷ []
 
-last_of : (front : List Numbered) (r : Numbered) (records : List Numbered) → HasLast (front ++ r ∷ records)
+pub last_of : (front : List Numbered) (r : Numbered) (records : List Numbered) → HasLast (front ++ r ∷ records)
 last_of front r [] = record { front = front; last = r; stands = refl }
 last_of front r (s ∷ records) = subst HasLast (append_assoc front (r ∷ []) (s ∷ records)) (last_of (front ++ r ∷ []) s records)
 

@@ -12,3 +12,4 @@ pub mod TextGrammar
 pub mod SpanGrammar
 pub mod ExclusionGrammar
 pub mod RecordGrammar
+pub mod RowGrammar

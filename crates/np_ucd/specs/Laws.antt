@@ -5,11 +5,12 @@ use Rattle.np_ucd.specs.ExclusionGrammar.{SaysText, IsReadable, IsReadAsListed, 
 use Rattle.np_ucd.specs.Exclusions.{entry_text, exclusions_fault, spans_in}
 use Rattle.np_ucd.specs.FaultGrammar.{IsFirstFault, IsWithoutFault}
 use Rattle.np_ucd.specs.Fields.{fields_of}
-use Rattle.np_ucd.specs.Files.{first_fault, records_in}
+use Rattle.np_ucd.specs.Files.{first_fault, records_in, rows_in}
 use Rattle.np_ucd.specs.Grammar.{IsOnly, AreLines, DropsReturn, AreFields}
 use Rattle.np_ucd.specs.Lines.{lines_of, without_return}
 use Rattle.np_ucd.specs.Listed.{is_listed}
 use Rattle.np_ucd.specs.RecordGrammar.{AreRecords}
+use Rattle.np_ucd.specs.RowGrammar.{AreAllRows}
 use Rattle.np_ucd.specs.Records.{UcdFault, BadCode}
 
 -- bytes are cut into lines in one way
@@ -57,3 +58,7 @@ ListsTheCodes = (bytes : List ℕ) (code : ℕ) → (is_listed (spans_in bytes) 
 -- a file has one list of records
 abbrev pub HasOneListOfRecords : Type 0
 HasOneListOfRecords = (bytes : List ℕ) → IsOnly (AreRecords bytes) (records_in bytes)
+
+-- a file without a fault has one list of rows
+abbrev pub HasOneListOfRows : Type 0
+HasOneListOfRows = (bytes : List ℕ) → first_fault bytes ≡ None → IsOnly (AreAllRows bytes) (rows_in bytes)

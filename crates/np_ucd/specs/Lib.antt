@@ -15,5 +15,6 @@ pub mod RecordGrammar
 pub mod RecordValues
 pub mod Reading
 pub mod Records
+pub mod RowGrammar
 pub mod RowValues
 pub mod SpanValues

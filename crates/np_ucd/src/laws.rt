@@ -1,5 +1,5 @@
 //! The laws of the grammar of both files, over the definitions alone.
-ghost use Rattle.np_ucd.specs.Laws.{HasOneCut, HasOneListOfRecords, HasOneRecord, HasOneText, ListsTheCodes, NamesFirstBadLine, NamesFirstFault, ReadsLines, SaysOneText, TakesTheFaultless, TakesTheReadable};
+ghost use Rattle.np_ucd.specs.Laws.{HasOneCut, HasOneListOfRecords, HasOneListOfRows, HasOneRecord, HasOneText, ListsTheCodes, NamesFirstBadLine, NamesFirstFault, ReadsLines, SaysOneText, TakesTheFaultless, TakesTheReadable};
 
 /// LF ends a line, and a last line may stand without it (UAX #44, section 4.2): each file is cut
 /// into lines in exactly one way.
@@ -62,4 +62,11 @@ pub fn listed()
 /// section 4.2), each with the number of its line, in their order; and no other list is.
 pub fn records()
     ensures { HasOneListOfRecords }
+{}
+
+/// The rows of UnicodeData.txt without a fault are those of its records that begin no range (UAX
+/// #44, table 9, and section 4.2.3), each with the code points, the class and the mapping that the
+/// fields say, in the order of the code points; and no other list is.
+pub fn rows()
+    ensures { HasOneListOfRows }
 {}
