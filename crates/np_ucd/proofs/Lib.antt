@@ -12,4 +12,5 @@ pub mod TextGrammar
 pub mod SpanGrammar
 pub mod ExclusionGrammar
 pub mod RecordGrammar
+pub mod FieldGrammar
 pub mod RowGrammar

@@ -6,7 +6,7 @@ use Rattle.std.proofs.lemmas.List.Elements.{All-nil, All-cons, All-head, All-tai
 use Rattle.std.proofs.lemmas.List.Splits.{join_with_byte-slice_split}
 use Rattle.np_ucd.specs.Grammar.{HasNo, AreLines, DropsReturn}
 use Rattle.np_ucd.specs.Fields.{fields_of}
-use Rattle.np_ucd.specs.Laws.{HasOneCut, HasOneText, HasOneRecord}
+use Rattle.np_ucd.specs.Laws.{HasOneCut, HasOneText, HasOneListOfFields}
 use Rattle.np_ucd.specs.Lines.{before_byte, after_byte, lines_of, without_return}
 use Rattle.np_ucd.proofs.LineLemmas.{rest_parts, split_cut, lines_cut, lines_lone, length-after_byte}
 
@@ -184,7 +184,7 @@ parts_free (x ∷ xs) = parts_step (eqb x 59) x (parts xs) refl (parts_free xs)
 parts_filled : (xs : List ℕ) → parts xs ≢ []
 parts_filled xs e = let both = sym (split_cut 59 xs) ∙ e in absurd (cc)
 
-pub one_record : HasOneRecord
+pub one_record : HasOneListOfFields
 unfolding fields_of
 one_record text = (
   record { some = parts_filled text; free = parts_free text; joined = sym (join_with_byte-slice_split 59 text) },

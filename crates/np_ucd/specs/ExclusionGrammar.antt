@@ -41,7 +41,7 @@ pub record IsCodeRange (text : List ℕ) (span : Span) : Type 0 where
   pub last : code_value high ≡ Some span.last
   pub rises : span.first ≤ span.last
 
--- a line lists nothing, or the code points from first to last, or it can't be read
+-- A line lists nothing, or the code points from first to last, or it can't be read.
 abbrev pub ListsNothing : List ℕ → Type 0
 ListsNothing line = SaysText line []
 

@@ -10,8 +10,8 @@ use Rattle.np_ucd.specs.Grammar.{IsOnly, AreLines, DropsReturn, AreFields}
 use Rattle.np_ucd.specs.Lines.{lines_of, without_return}
 use Rattle.np_ucd.specs.Listed.{is_listed}
 use Rattle.np_ucd.specs.RecordGrammar.{AreRecords}
-use Rattle.np_ucd.specs.RowGrammar.{AreAllRows}
 use Rattle.np_ucd.specs.Records.{UcdFault, BadCode}
+use Rattle.np_ucd.specs.RowGrammar.{AreAllRows}
 
 -- bytes are cut into lines in one way
 abbrev pub HasOneCut : Type 0
@@ -21,44 +21,45 @@ HasOneCut = (bytes : List ℕ) → IsOnly (AreLines bytes) (lines_of bytes)
 abbrev pub HasOneText : Type 0
 HasOneText = (line : List ℕ) → IsOnly (DropsReturn line) (without_return line)
 
--- the fault that a file is refused with is its first one
-abbrev pub NamesFirstFault : Type 0
-NamesFirstFault = (bytes : List ℕ) (fault : UcdFault) → (first_fault bytes ≡ Some fault) ↔ IsFirstFault bytes fault
+-- a file has one list of records
+abbrev pub HasOneListOfRecords : Type 0
+HasOneListOfRecords = (bytes : List ℕ) → IsOnly (AreRecords bytes) (records_in bytes)
 
--- a file is taken exactly where it has no fault
+-- a record is cut into fields in one way
+abbrev pub HasOneListOfFields : Type 0
+HasOneListOfFields = (text : List ℕ) → IsOnly (AreFields text) (fields_of text)
+
+-- UnicodeData.txt is taken exactly where it has no fault
 abbrev pub TakesTheFaultless : Type 0
 TakesTheFaultless = (bytes : List ℕ) → (first_fault bytes ≡ None) ↔ IsWithoutFault bytes
 
--- a record is cut into fields in one way
-abbrev pub HasOneRecord : Type 0
-HasOneRecord = (text : List ℕ) → IsOnly (AreFields text) (fields_of text)
+-- the fault that it is refused with is its first one
+abbrev pub NamesFirstFault : Type 0
+NamesFirstFault = (bytes : List ℕ) (fault : UcdFault) → (first_fault bytes ≡ Some fault) ↔ IsFirstFault bytes fault
+
+-- a file without a fault has one list of rows
+abbrev pub HasOneListOfRows : Type 0
+HasOneListOfRows = (bytes : List ℕ) → first_fault bytes ≡ None → IsOnly (AreAllRows bytes) (rows_in bytes)
 
 -- a line of CompositionExclusions.txt says one text
 abbrev pub SaysOneText : Type 0
 SaysOneText = (line : List ℕ) → IsOnly (SaysText line) (entry_text line)
 
+-- what is read of a line of CompositionExclusions.txt is what it lists
 abbrev pub ReadsLines : Type 0
 ReadsLines = (line : List ℕ) → IsReadAsListed line
 
--- the one fault of CompositionExclusions.txt is its first line that can't be read
+-- CompositionExclusions.txt is taken exactly where each line can be read
+abbrev pub TakesTheReadable : Type 0
+TakesTheReadable =
+    (bytes : List ℕ) → (exclusions_fault bytes ≡ None) ↔ ((lines : List (List ℕ)) → AreLines bytes lines → All IsReadable lines)
+
+-- the fault that it is refused with is its first line that can't be read
 abbrev pub NamesFirstBadLine : Type 0
 NamesFirstBadLine =
     (bytes : List ℕ) (fault : UcdFault) →
     (exclusions_fault bytes ≡ Some fault) ↔ ((number : ℕ) × (fault ≡ BadCode number) × IsFirstBadLine bytes number)
 
--- it is taken exactly where each line can be read
-abbrev pub TakesTheReadable : Type 0
-TakesTheReadable =
-    (bytes : List ℕ) → (exclusions_fault bytes ≡ None) ↔ ((lines : List (List ℕ)) → AreLines bytes lines → All IsReadable lines)
-
 -- a code point is listed exactly where a line lists it
 abbrev pub ListsTheCodes : Type 0
 ListsTheCodes = (bytes : List ℕ) (code : ℕ) → (is_listed (spans_in bytes) code ≡ true) ↔ IsListedIn bytes code
-
--- a file has one list of records
-abbrev pub HasOneListOfRecords : Type 0
-HasOneListOfRecords = (bytes : List ℕ) → IsOnly (AreRecords bytes) (records_in bytes)
-
--- a file without a fault has one list of rows
-abbrev pub HasOneListOfRows : Type 0
-HasOneListOfRows = (bytes : List ℕ) → first_fault bytes ≡ None → IsOnly (AreAllRows bytes) (rows_in bytes)

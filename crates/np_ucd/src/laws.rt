@@ -1,5 +1,5 @@
 //! The laws of the grammar of both files, over the definitions alone.
-ghost use Rattle.np_ucd.specs.Laws.{HasOneCut, HasOneListOfRecords, HasOneListOfRows, HasOneRecord, HasOneText, ListsTheCodes, NamesFirstBadLine, NamesFirstFault, ReadsLines, SaysOneText, TakesTheFaultless, TakesTheReadable};
+ghost use Rattle.np_ucd.specs.Laws.{HasOneCut, HasOneListOfFields, HasOneListOfRecords, HasOneListOfRows, HasOneText, ListsTheCodes, NamesFirstBadLine, NamesFirstFault, ReadsLines, SaysOneText, TakesTheFaultless, TakesTheReadable};
 
 /// LF ends a line, and a last line may stand without it (UAX #44, section 4.2): each file is cut
 /// into lines in exactly one way.
@@ -12,11 +12,16 @@ pub fn carriage_returns()
     ensures { HasOneText }
 {}
 
-/// The fault of UnicodeData.txt is that of the least faulty line, and there of the first test that
-/// fits (UAX #44, table 9, and section 4.2.3 for the tests between two records); a range that is
-/// open at the end comes last.
-pub fn first_fault()
-    ensures { NamesFirstFault }
+/// The records of UnicodeData.txt are its lines that are no comments and not blank (UAX #44,
+/// section 4.2), each with the number of its line, in their order; and no other list is.
+pub fn records()
+    ensures { HasOneListOfRecords }
+{}
+
+/// `;` stands between two fields of a record (UAX #44, section 4.2): each record is cut into fields
+/// in exactly one way.
+pub fn fields()
+    ensures { HasOneListOfFields }
 {}
 
 /// UnicodeData.txt has no fault exactly where no test of any record fits, and the last record
@@ -25,10 +30,18 @@ pub fn no_fault()
     ensures { TakesTheFaultless }
 {}
 
-/// `;` stands between two fields of a record (UAX #44, section 4.2): each record is cut into fields
-/// in exactly one way.
-pub fn fields()
-    ensures { HasOneRecord }
+/// The fault of UnicodeData.txt is that of the least faulty line, and there of the first test that
+/// fits (UAX #44, table 9, and section 4.2.3 for the tests between two records); a range that is
+/// open at the end comes last.
+pub fn first_fault()
+    ensures { NamesFirstFault }
+{}
+
+/// The rows of UnicodeData.txt without a fault are those of its records that begin no range (UAX
+/// #44, table 9, and section 4.2.3), each with the code points, the class and the mapping that the
+/// fields say, in the order of the code points; and no other list is.
+pub fn rows()
+    ensures { HasOneListOfRows }
 {}
 
 /// A line of CompositionExclusions.txt says what stands before its first `#`, without the spaces
@@ -43,30 +56,17 @@ pub fn exclusion_line()
     ensures { ReadsLines }
 {}
 
-/// The fault of CompositionExclusions.txt is its first line that can't be read.
-pub fn first_bad_line()
-    ensures { NamesFirstBadLine }
-{}
-
 /// CompositionExclusions.txt has no fault exactly where each of its lines can be read.
 pub fn no_bad_line()
     ensures { TakesTheReadable }
 {}
 
+/// The fault of CompositionExclusions.txt is its first line that can't be read.
+pub fn first_bad_line()
+    ensures { NamesFirstBadLine }
+{}
+
 /// A code point is listed exactly where a line lists it, alone or in a range.
 pub fn listed()
     ensures { ListsTheCodes }
-{}
-
-/// The records of UnicodeData.txt are its lines that are no comments and not blank (UAX #44,
-/// section 4.2), each with the number of its line, in their order; and no other list is.
-pub fn records()
-    ensures { HasOneListOfRecords }
-{}
-
-/// The rows of UnicodeData.txt without a fault are those of its records that begin no range (UAX
-/// #44, table 9, and section 4.2.3), each with the code points, the class and the mapping that the
-/// fields say, in the order of the code points; and no other list is.
-pub fn rows()
-    ensures { HasOneListOfRows }
 {}
