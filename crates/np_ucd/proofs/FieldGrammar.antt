@@ -17,23 +17,23 @@ pub record Proper (before : Option Neighbour) (text : List ℕ) : Type 0 where
   pub mapping : mapping_value (field 5 text) ≡ Some (mapping_in text)
   pub closing : closes_no_range before text ≡ false
 
-count_is : (text : List ℕ) → has_other_count text ≡ false → length (fields_of text) ≡ 15
+pub count_is : (text : List ℕ) → has_other_count text ≡ false → length (fields_of text) ≡ 15
 unfolding has_other_count
 count_is text h = eqb-true (length (fields_of text)) 15 (not-false _ h)
 
-said : {X : Type 0} (o : Option X) (d : X) → is_none o ≡ false → o ≡ Some (unwrap_or o d)
+pub said : {X : Type 0} (o : Option X) (d : X) → is_none o ≡ false → o ≡ Some (unwrap_or o d)
 said None d h = absurd (cc)
 said (Some x) d h = refl
 
-code_said : (text : List ℕ) → has_bad_code text ≡ false → code_value (field 0 text) ≡ Some (code_in text)
+pub code_said : (text : List ℕ) → has_bad_code text ≡ false → code_value (field 0 text) ≡ Some (code_in text)
 unfolding has_bad_code code_in
 code_said text h = said (code_value (field 0 text)) 0 h
 
-class_said : (text : List ℕ) → has_bad_class text ≡ false → class_value (field 3 text) ≡ Some (class_in text)
+pub class_said : (text : List ℕ) → has_bad_class text ≡ false → class_value (field 3 text) ≡ Some (class_in text)
 unfolding has_bad_class class_in
 class_said text h = said (class_value (field 3 text)) 0 h
 
-mapping_said : (text : List ℕ) → has_bad_mapping text ≡ false → mapping_value (field 5 text) ≡ Some (mapping_in text)
+pub mapping_said : (text : List ℕ) → has_bad_mapping text ≡ false → mapping_value (field 5 text) ≡ Some (mapping_in text)
 unfolding has_bad_mapping mapping_in
 mapping_said text h = said (mapping_value (field 5 text)) _ (or_parts _ _ h).0
 
@@ -83,3 +83,13 @@ unfolding field
 fields_are text code name class mapping h =
     let same = (one_record text).1 (code ∷ name ∷ h.category ∷ class ∷ h.bidi ∷ mapping ∷ h.more) h.are in
     (ap (λ ps. get_or ps 0 []) same, ap (λ ps. get_or ps 1 []) same, ap (λ ps. get_or ps 3 []) same, ap (λ ps. get_or ps 5 []) same)
+
+pub category_are : (text code name class mapping : List ℕ) (h : HasFields text code name class mapping) → h.category ≡ field 2 text
+unfolding field
+category_are text code name class mapping h =
+    ap (λ ps. get_or ps 2 []) ((one_record text).1 (code ∷ name ∷ h.category ∷ class ∷ h.bidi ∷ mapping ∷ h.more) h.are)
+
+pub fifteen_are : (text code name class mapping : List ℕ) → HasFields text code name class mapping → length (fields_of text) ≡ 15
+fifteen_are text code name class mapping h =
+    let same = (one_record text).1 (code ∷ name ∷ h.category ∷ class ∷ h.bidi ∷ mapping ∷ h.more) h.are in
+    omega (arith, ap length same, h.count)

@@ -14,3 +14,4 @@ pub mod ExclusionGrammar
 pub mod RecordGrammar
 pub mod FieldGrammar
 pub mod RowGrammar
+pub mod TestGrammar

@@ -29,7 +29,7 @@ opening_opens : (opening : Numbered) → is_open (as_neighbour opening) ≡ open
 unfolding neighbour_of
 opening_opens opening = refl
 
-open_before : (closing opened : Bool) → (closing && not opened) ≡ false → closing ≡ true → opened ≡ true
+pub open_before : (closing opened : Bool) → (closing && not opened) ≡ false → closing ≡ true → opened ≡ true
 open_before true opened h e = not-false opened h
 open_before false opened h e = absurd (false≢true e)
 
@@ -145,7 +145,7 @@ class_from : (text class : List ℕ) (n : ℕ) → class ≡ field 3 text → cl
 unfolding class_in
 class_from text class n e h = sym (ap (λ o. unwrap_or o 0) (ap class_value (sym e) ∙ h))
 
-mapping_from : (text mapping : List ℕ) (m : Mapping) → mapping ≡ field 5 text → mapping_value mapping ≡ Some m → m ≡ mapping_in text
+pub mapping_from : (text mapping : List ℕ) (m : Mapping) → mapping ≡ field 5 text → mapping_value mapping ≡ Some m → m ≡ mapping_in text
 unfolding mapping_in
 mapping_from text mapping m e h = sym (ap (λ o. unwrap_or o (mapped Plain [])) (ap mapping_value (sym e) ∙ h))
 

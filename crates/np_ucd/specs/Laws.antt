@@ -1,17 +1,18 @@
 -- The laws of the grammar: what the definitions that the readers' contracts cite say in its relations.
-use Rattle.std.specs.Prelude.{◌≡◌, ℕ, true, List, Some, None, ◌↔◌}
+use Rattle.std.specs.Prelude.{◌≡◌, ℕ, true, List, Option, Some, None, ◌↔◌}
 use Rattle.std.specs.List.{All}
 use Rattle.np_ucd.specs.ExclusionGrammar.{SaysText, IsReadable, IsReadAsListed, IsFirstBadLine, IsListedIn}
 use Rattle.np_ucd.specs.Exclusions.{entry_text, exclusions_fault, spans_in}
-use Rattle.np_ucd.specs.FaultGrammar.{IsFirstFault, IsWithoutFault}
+use Rattle.np_ucd.specs.FaultGrammar.{FitsNone, IsFirstFault, IsWithoutFault}
 use Rattle.np_ucd.specs.Fields.{fields_of}
 use Rattle.np_ucd.specs.Files.{first_fault, records_in, rows_in}
 use Rattle.np_ucd.specs.Grammar.{IsOnly, AreLines, DropsReturn, AreFields}
 use Rattle.np_ucd.specs.Lines.{lines_of, without_return}
 use Rattle.np_ucd.specs.Listed.{is_listed}
 use Rattle.np_ucd.specs.RecordGrammar.{AreRecords}
-use Rattle.np_ucd.specs.Records.{UcdFault, BadCode}
+use Rattle.np_ucd.specs.Records.{UcdFault, BadCode, Neighbour, record_tests}
 use Rattle.np_ucd.specs.RowGrammar.{AreAllRows}
+use Rattle.np_ucd.specs.TestGrammar.{IsWellFormed}
 
 -- bytes are cut into lines in one way
 abbrev pub HasOneCut : Type 0
@@ -28,6 +29,12 @@ HasOneListOfRecords = (bytes : List ℕ) → IsOnly (AreRecords bytes) (records_
 -- a record is cut into fields in one way
 abbrev pub HasOneListOfFields : Type 0
 HasOneListOfFields = (text : List ℕ) → IsOnly (AreFields text) (fields_of text)
+
+-- no test fits a record exactly where it is well formed
+abbrev pub PassesTheWellFormed : Type 0
+PassesTheWellFormed =
+    (neighbour : Option Neighbour) (line : ℕ) (text : List ℕ) →
+    FitsNone (record_tests neighbour line text) ↔ IsWellFormed neighbour text
 
 -- UnicodeData.txt is taken exactly where it has no fault
 abbrev pub TakesTheFaultless : Type 0

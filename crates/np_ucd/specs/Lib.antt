@@ -18,3 +18,4 @@ pub mod Records
 pub mod RowGrammar
 pub mod RowValues
 pub mod SpanValues
+pub mod TestGrammar

@@ -1,5 +1,5 @@
 //! The laws of the grammar of both files, over the definitions alone.
-ghost use Rattle.np_ucd.specs.Laws.{HasOneCut, HasOneListOfFields, HasOneListOfRecords, HasOneListOfRows, HasOneText, ListsTheCodes, NamesFirstBadLine, NamesFirstFault, ReadsLines, SaysOneText, TakesTheFaultless, TakesTheReadable};
+ghost use Rattle.np_ucd.specs.Laws.{HasOneCut, HasOneListOfFields, HasOneListOfRecords, HasOneListOfRows, HasOneText, ListsTheCodes, NamesFirstBadLine, NamesFirstFault, PassesTheWellFormed, ReadsLines, SaysOneText, TakesTheFaultless, TakesTheReadable};
 
 /// LF ends a line, and a last line may stand without it (UAX #44, section 4.2): each file is cut
 /// into lines in exactly one way.
@@ -22,6 +22,14 @@ pub fn records()
 /// in exactly one way.
 pub fn fields()
     ensures { HasOneListOfFields }
+{}
+
+/// No test fits a record exactly where it has fifteen fields, those that are read say a code point,
+/// a category, a class and a mapping (UAX #44, table 9), its code point is above the one before,
+/// and it ends the range that the record just before it begins, or neither is of a range (section
+/// 4.2.3).
+pub fn tests()
+    ensures { PassesTheWellFormed }
 {}
 
 /// UnicodeData.txt has no fault exactly where no test of any record fits, and the last record
