@@ -15,3 +15,5 @@ pub mod RecordGrammar
 pub mod FieldGrammar
 pub mod RowGrammar
 pub mod TestGrammar
+pub mod WordGrammar
+pub mod MappingGrammar

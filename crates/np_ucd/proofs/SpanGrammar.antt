@@ -21,7 +21,7 @@ no_dot_digits (x ∷ xs) h =
     let both = and_parts (is_hex_digit x) (list_all is_hex_digit xs) h in
     All-cons (not_byte 46) x xs (λ e. false≢true (ap is_hex_digit (sym e) ∙ both.0)) (no_dot_digits xs both.1)
 
-taken : (t : Bool) (n c : ℕ) → cond t (Some n) None ≡ Some c → t ≡ true
+pub taken : (t : Bool) (n c : ℕ) → cond t (Some n) None ≡ Some c → t ≡ true
 taken true n c h = refl
 taken false n c h = absurd (cc)
 

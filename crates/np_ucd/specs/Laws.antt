@@ -4,11 +4,12 @@ use Rattle.std.specs.List.{All}
 use Rattle.np_ucd.specs.ExclusionGrammar.{SaysText, IsReadable, IsReadAsListed, IsFirstBadLine, IsListedIn}
 use Rattle.np_ucd.specs.Exclusions.{entry_text, exclusions_fault, spans_in}
 use Rattle.np_ucd.specs.FaultGrammar.{FitsNone, IsFirstFault, IsWithoutFault}
-use Rattle.np_ucd.specs.Fields.{fields_of}
+use Rattle.np_ucd.specs.Fields.{fields_of, words_of, Mapping, mapping_value}
 use Rattle.np_ucd.specs.Files.{first_fault, records_in, rows_in}
 use Rattle.np_ucd.specs.Grammar.{IsOnly, AreLines, DropsReturn, AreFields}
 use Rattle.np_ucd.specs.Lines.{lines_of, without_return}
 use Rattle.np_ucd.specs.Listed.{is_listed}
+use Rattle.np_ucd.specs.MappingGrammar.{AreWords, IsMapping}
 use Rattle.np_ucd.specs.RecordGrammar.{AreRecords}
 use Rattle.np_ucd.specs.Records.{UcdFault, BadCode, Neighbour, record_tests}
 use Rattle.np_ucd.specs.RowGrammar.{AreAllRows}
@@ -29,6 +30,14 @@ HasOneListOfRecords = (bytes : List ℕ) → IsOnly (AreRecords bytes) (records_
 -- a record is cut into fields in one way
 abbrev pub HasOneListOfFields : Type 0
 HasOneListOfFields = (text : List ℕ) → IsOnly (AreFields text) (fields_of text)
+
+-- a text is cut into words in one way
+abbrev pub HasOneListOfWords : Type 0
+HasOneListOfWords = (text : List ℕ) → IsOnly (AreWords text) (words_of text)
+
+-- what is read of a mapping's field is what it says
+abbrev pub ReadsMappings : Type 0
+ReadsMappings = (field : List ℕ) (to : Mapping) → (mapping_value field ≡ Some to) ↔ IsMapping field to
 
 -- no test fits a record exactly where it is well formed
 abbrev pub PassesTheWellFormed : Type 0

@@ -10,6 +10,7 @@ pub mod Laws
 pub mod LineSteps
 pub mod Lines
 pub mod Listed
+pub mod MappingGrammar
 pub mod MappingValues
 pub mod RecordGrammar
 pub mod RecordValues

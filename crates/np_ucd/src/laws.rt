@@ -1,5 +1,5 @@
 //! The laws of the grammar of both files, over the definitions alone.
-ghost use Rattle.np_ucd.specs.Laws.{HasOneCut, HasOneListOfFields, HasOneListOfRecords, HasOneListOfRows, HasOneText, ListsTheCodes, NamesFirstBadLine, NamesFirstFault, PassesTheWellFormed, ReadsLines, SaysOneText, TakesTheFaultless, TakesTheReadable};
+ghost use Rattle.np_ucd.specs.Laws.{HasOneCut, HasOneListOfFields, HasOneListOfRecords, HasOneListOfRows, HasOneListOfWords, HasOneText, ListsTheCodes, NamesFirstBadLine, NamesFirstFault, PassesTheWellFormed, ReadsLines, ReadsMappings, SaysOneText, TakesTheFaultless, TakesTheReadable};
 
 /// LF ends a line, and a last line may stand without it (UAX #44, section 4.2): each file is cut
 /// into lines in exactly one way.
@@ -22,6 +22,18 @@ pub fn records()
 /// in exactly one way.
 pub fn fields()
     ensures { HasOneListOfFields }
+{}
+
+/// Spaces divide the code points of a mapping's field (UAX #44, table 9): each text is cut into
+/// words in exactly one way.
+pub fn words()
+    ensures { HasOneListOfWords }
+{}
+
+/// A mapping's field says none, a canonical one of one or two code points, or, behind a tag in
+/// `<` and `>`, a compatibility one of up to 32 (UAX #44, table 9).
+pub fn mappings()
+    ensures { ReadsMappings }
 {}
 
 /// No test fits a record exactly where it has fifteen fields, those that are read say a code point,
