@@ -1,17 +1,15 @@
 -- No test fits a record exactly where it is well formed.
-use Rattle.std.proofs.Common.{◌≡◌, ◌≢◌, ℕ, ◌<◌, ◌⊎◌, Bool, true, false, not, ◌&&◌, ◌||◌, eqb, leb, List, [], ◌∷◌, length, Option, Some, None, is_none, refl, sym, ap, subst, ◌∙◌, inl, inr, ⊎_elim, arith}
+use Rattle.std.proofs.Common.{◌≡◌, ◌≢◌, ℕ, Bool, true, false, not, ◌&&◌, ◌||◌, eqb, List, [], ◌∷◌, Option, Some, None, is_none, refl, sym, ap, subst, ◌∙◌, inl, inr, ⊎_elim, arith}
 use Rattle.std.specs.Str.{bytes_eq}
 use lib.Utf8.{scalar}
 use Rattle.std.proofs.lemmas.Bool.{false≢true, true≢false, eqb-true, eq-eqb, leb-false, lt-leb, not-false, not_from_true, and_left, and_right, or_parts, or_from, cases_Bool}
 use Rattle.std.proofs.lemmas.Slice.Eq.{bytes_eq-Decides}
 use Rattle.std.proofs.lemmas.List.Elements.{All-nil, All-cons}
-use Rattle.np_code_points.specs.Codes.{code_value}
 use Rattle.np_ucd.specs.FaultGrammar.{FitsNone}
-use Rattle.np_ucd.specs.Fields.{fields_of, category_value, class_value, Mapping, mapping_value, opens_range, closes_range}
+use Rattle.np_ucd.specs.Fields.{category_value, mapping_value, closes_range}
 use Rattle.np_ucd.specs.Laws.{PassesTheWellFormed}
 use Rattle.np_ucd.specs.Lines.{is_empty}
-use Rattle.np_ucd.specs.Records.{UcdFault, RangeOpen, Neighbour, field, code_in, category_in, class_in, mapping_in, opens, closes, maps, is_open, is_at_most, has_other_count, has_bad_code, is_out_of_order, has_bad_category, has_bad_class, has_bad_mapping, leaves_range_open, closes_no_range, differs_from, differs_in_range, maps_in_range, record_tests}
-use Rattle.np_ucd.specs.RowGrammar.{HasFields}
+use Rattle.np_ucd.specs.Records.{UcdFault, RangeOpen, Neighbour, field, code_in, category_in, class_in, mapping_in, opens, closes, maps, is_at_most, is_out_of_order, has_bad_category, has_bad_mapping, leaves_range_open, closes_no_range, differs_from, differs_in_range, maps_in_range, record_tests}
 use Rattle.np_ucd.specs.TestGrammar.{IsAbove, MapsAlone, KeepsRange, IsWellFormed}
 use Rattle.np_ucd.proofs.FieldGrammar.{count_is, said, code_said, class_said, mapping_said, has_fields, fields_are, category_are, fifteen_are}
 use Rattle.np_ucd.proofs.RecordLemmas.{count_good, code_good, code_is, order_is, category_good, category_is, class_good, class_is}
