@@ -2,6 +2,7 @@ pub mod AnswerLemmas
 pub mod ComposeLemmas
 pub mod ComposerLemmas
 pub mod FormLemmas
+pub mod InPlaceLemmas
 pub mod KeptLemmas
 pub mod MachineLemmas
 pub mod OrderLaws

@@ -1,7 +1,6 @@
 -- The longest run of non-starters, counted and as a relation.
-use Rattle.std.proofs.Common.{◌≡◌, ℕ, suc, ◌+◌, ◌<◌, ◌≤◌, ◌⊎◌, ◌↔◌, Bool, true, false, not, nat_lt, max, IsTrue, List, [], ◌∷◌, ◌++◌, length, refl, sym, ap, subst, ◌∙◌, arith, inl, inr, append_assoc, eq-eqb}
-use Rattle.std.proofs.lemmas.Bool.{cases_Bool, cond-true, cond-false, and_parts, and_from, ne_eqb, not-true, ltb-true, ltb-false, lt-ltb, le-ltb}
-use Rattle.std.proofs.lemmas.Bool.Decides.{nat_tests}
+use Rattle.std.proofs.Common.{◌≡◌, ℕ, suc, ◌+◌, ◌<◌, ◌≤◌, ◌⊎◌, ◌↔◌, Bool, true, false, not, nat_lt, max, IsTrue, List, [], ◌∷◌, ◌++◌, length, refl, sym, ap, subst, ◌∙◌, arith, inl, inr, eq-eqb}
+use Rattle.std.proofs.lemmas.Bool.{cases_Bool, cond-true, cond-false, and_parts, and_from, not-true, ltb-true, ltb-false, lt-ltb, le-ltb}
 use Rattle.std.specs.List.{list_all}
 use Rattle.np_code_points.specs.declared.forms.Form.TheVariants.{Nfkd}
 use Rattle.np_tables.specs.Conditions.{IsSound}
@@ -9,7 +8,7 @@ use Rattle.np_tables.specs.Versions.{VersionData, class_of}
 use Rattle.np_forms.specs.Composing.{is_starter, is_mark}
 use Rattle.np_forms.specs.NormalForms.{decomposed, normal_form}
 use Rattle.np_forms.specs.StreamSafe.{HasRunOver, IsStreamSafe, longest_run}
-use Rattle.np_forms.proofs.ComposeLemmas.{is_starter-false, not_starter_from}
+use Rattle.np_forms.proofs.ComposeLemmas.{not_starter_from}
 use Rattle.np_forms.proofs.FormLemmas.{IsNormalForm-normal_form, normal_form_is}
 
 -- all of `xs` up to `after` is marks, and with the k before them they are more than n

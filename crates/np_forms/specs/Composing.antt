@@ -1,9 +1,9 @@
 -- Canonical composition (The Unicode Standard, D117) as a function of the list. `join` gives the composite of a pair.
-use Rattle.std.specs.Prelude.{ℕ, zero, suc, Bool, true, false, not, ◌&&◌, ◌==◌, List, [], ◌∷◌, ◌++◌, Option, Some, None, if◌then◌else◌}
+use Rattle.std.specs.Prelude.{ℕ, Bool, true, false, not, ◌==◌, List, [], ◌∷◌, ◌++◌, Option, Some, None, if◌then◌else◌}
 use Rattle.std.specs.List.{list_all}
 use Rattle.np_tables.specs.Composites.{composite}
 use Rattle.np_forms.specs.Order.{is_reorderable}
-use Rattle.np_tables.specs.Versions.{VersionData, class_of, mapping_of}
+use Rattle.np_tables.specs.Versions.{VersionData, class_of}
 
 -- a starter (D107)
 abbrev pub is_starter : (ℕ → ℕ) → ℕ → Bool

@@ -6,7 +6,6 @@ use Rattle.np_tables.specs.Mappings.{IsFullDecomposition}
 use Rattle.np_forms.specs.Order.{IsOrderedForm}
 use Rattle.np_tables.specs.Versions.{VersionData, class_of}
 use Rattle.np_code_points.specs.declared.forms.Form.{Form}
-use Rattle.np_code_points.specs.declared.forms.Form.TheVariants.{Nfd, Nfc, Nfkd, Nfkc}
 
 -- the full decomposition in canonical order (D65 or D68, then D109)
 pub record IsDecomposed (v : VersionData) (compat : Bool) (xs ys : List ℕ) : Type 0 where

@@ -1,23 +1,24 @@
 //! Canonical composition in one pass (The Unicode Standard, D117).
-ghost use Rattle.std.specs.Prelude.{◌≡◌, ◌<◌, ◌++◌, ◌∷◌, [], ℕ, List, true, drop, vec_len, IfSome, IfOk, OnOk};
+ghost use Rattle.std.specs.Prelude.{◌≡◌, ◌<◌, ◌≤◌, ◌+◌, ℕ, List, true, take, drop, vec_len, IfSome};
 ghost use Rattle.std.specs.Option.{ForSome};
 ghost use Rattle.np_forms.specs.Composers.{IsComposing, pair_with_last as pair_found};
 ghost use Rattle.np_forms.specs.Composing.{compose_of};
 ghost use Rattle.np_forms.specs.Order.{is_ordered};
 ghost use Rattle.np_tables.specs.Versions.{class_of};
 
-use np_code_points::Memory;
 use np_tables::NormTable;
-use std::alloc::Global;
 
-/// What was composed so far: the place of the last starter, and the class of the last code point
-/// that was kept behind it, 0 where there is none.
+/// A composition inside its own list. The first `kept` places hold what was composed so far; what
+/// is still to be read stands at a place that is no smaller. Of what was composed, the place of the
+/// last starter, and the class of the last code point that was kept behind it, 0 where there is none.
 #[derive(Drop)]
 struct Composer {
-    out: Vec<char>,
+    list: Vec<char>,
+    kept: usize,
     starter: Option<usize>,
     last: u8,
-    ghost in_range: { ForSome starter (λ q. q < vec_len out) },
+    ghost fits: { kept ≤ vec_len list },
+    ghost in_range: { ForSome starter (λ q. q < kept) },
 }
 
 /// The place of the last starter and its composite with `c`, where `c` is not blocked from it.
@@ -29,53 +30,58 @@ fn pair_with_last<T: NormTable>(
     class: u8,
 ) -> Option<(usize, char)>
     requires { class ≡ class_of (T.model table.now) c }
-    ensures pair { result ≡ pair_found (T.model table.now) composer.now.out.items composer.now.starter composer.now.last c }
-    ensures in_range { IfSome result (λ found. found.0 < vec_len composer.now.out) }
+    ensures pair { result ≡ pair_found (T.model table.now) (take composer.now.kept composer.now.list.items) composer.now.starter composer.now.last c }
+    ensures in_range { IfSome result (λ found. found.0 < composer.now.kept) }
 {
     let q = composer.starter?;
     if composer.last == 0 || composer.last < class {
-        let p = table.pair(composer.out[q], c)?;
+        let p = table.pair(composer.list[q], c)?;
         Some((q, p))
     } else {
         None
     }
 }
 
-/// Takes in one more code point.
-fn push<T: NormTable>(composer: &mut Composer, table: &T, c: char) -> Result<(), Memory>
-    ensures { OnOk result ((whole rest : List ℕ) → IsComposing (T.model table.now) whole composer.old.out.items composer.old.starter composer.old.last (c ∷ rest) →
-        IsComposing (T.model table.now) whole composer.new.out.items composer.new.starter composer.new.last rest) }
+/// Takes in the code point at `at`, the first that is still to be read.
+fn take_in<T: NormTable>(composer: &mut Composer, table: &T, at: usize)
+    requires kept { composer.old.kept ≤ at }
+    requires place { at < vec_len composer.old.list }
+    ensures composing { (whole : List ℕ) →
+        IsComposing (T.model table.now) whole (take composer.old.kept composer.old.list.items) composer.old.starter composer.old.last (drop at composer.old.list.items) →
+        IsComposing (T.model table.now) whole (take composer.new.kept composer.new.list.items) composer.new.starter composer.new.last (drop (at + 1) composer.new.list.items) }
+    ensures kept { composer.new.kept ≤ at + 1 }
+    ensures length { vec_len composer.new.list ≡ vec_len composer.old.list }
 {
+    let c = composer.list[at];
     let class = table.class(c);
     if let Some((q, p)) = pair_with_last(composer, table, c, class) {
-        composer.out[q] = p;
-        return Ok(());
+        composer.list[q] = p;
+        return;
     }
-    let place = composer.out.len();
-    composer.out.push(c)?;
+    let place = composer.kept;
+    composer.list[place] = c;
+    composer.kept = place + 1;
     composer.last = class;
     if class == 0 {
         composer.starter = Some(place);
     }
-    Ok(())
 }
 
-/// The composition of a list in canonical order.
-pub(crate) fn compose<T: NormTable>(
-    alloc: Global,
-    table: &T,
-    text: &[char],
-) -> Result<Vec<char>, Memory>
-    requires { is_ordered (class_of (T.model table.now)) text.now ≡ true }
-    ensures { IfOk result (λ out. out.items ≡ compose_of (T.model table.now) text.now) }
+/// The composition of a list in canonical order, in the list's own memory.
+pub(crate) fn compose<T: NormTable>(table: &T, text: Vec<char>) -> Vec<char>
+    requires { is_ordered (class_of (T.model table.now)) text.items ≡ true }
+    ensures { result.items ≡ compose_of (T.model table.now) text.items }
 {
     let mut composer = Composer {
-        out: Vec::with_capacity(alloc, text.len())?,
+        list: text,
+        kept: 0,
         starter: None,
         last: 0,
     };
-    for c in text {
-        push(&mut composer, table, *c)?;
+    for at in 0..composer.list.len() {
+        take_in(&mut composer, table, at);
     }
-    Ok(composer.out)
+    let Composer { mut list, kept, .. } = composer;
+    list.truncate(kept);
+    list
 }

@@ -36,7 +36,7 @@ fn normalized<T: NormTable>(
 {
     let list = decomposed(alloc, table, form.compat(), text)?;
     if form.composes() {
-        compose(alloc, table, &list)
+        Ok(compose(table, list))
     } else {
         Ok(list)
     }

@@ -1,4 +1,4 @@
-use Rattle.std.proofs.Common.{◌++◌, drop, take, sym, ap, ◌∙◌, append-nil, [], length}
+use Rattle.std.proofs.Common.{◌++◌, drop, sym, ap, ◌∙◌, append-nil}
 use Rattle.std.proofs.lemmas.List.{take_all, drop_all}
 use Rattle.np_tables.specs.Versions.{class_of}
 use Rattle.np_forms.specs.Order.{canonical_order}
