@@ -17,6 +17,10 @@ piece_of t = t.piece
 abbrev pub bytes_taken : Room → List ℕ
 bytes_taken r = r.bytes.items
 
+-- how many bytes it takes in all
+abbrev pub room_of : Room → ℕ
+room_of r = r.bytes.cap
+
 -- how many bytes it takes a call at most
 abbrev pub piece_taken : Room → ℕ
 piece_taken r = r.piece

@@ -2,7 +2,7 @@
 ghost use Rattle.std.specs.Prelude.{◌≡◌, ◌≢◌, ◌≤◌, Some, None, ℕ, List, [], IfOk, true, is_some, max};
 ghost use Rattle.std.specs.Io.{ReadsAtMost, WritesAtMost};
 ghost use Rattle.std.specs.Io.KnownBytes.{Keeps, ReadConsumes, WriteAppends};
-ghost use Rattle.np_code_points.specs.Devices.{IsNextCall, bytes_left, bytes_taken, endless_call, endless_plan, failure_at, piece_of, piece_taken, reader_call, reader_plan, writer_call, writer_plan};
+ghost use Rattle.np_code_points.specs.Devices.{IsNextCall, bytes_left, bytes_taken, endless_call, endless_plan, failure_at, piece_of, piece_taken, reader_call, reader_plan, room_of, writer_call, writer_plan};
 ghost use Rattle.np_code_points.specs.Watched.{flush_fails, read_fails, write_fails};
 
 use crate::Memory;
@@ -183,6 +183,7 @@ impl Room {
     /// A writer with that much room, which does not fail until it is full.
     pub fn new(alloc: Global, room: usize, piece: usize) -> Result<Self, Memory>
         ensures bytes { IfOk result (λ r. bytes_taken r ≡ []) }
+        ensures room { IfOk result (λ r. room_of r ≡ room) }
         ensures piece { IfOk result (λ r. piece_taken r ≡ piece) }
         ensures calm { IfOk result (λ r. writer_plan r ≡ None) }
         ensures first { IfOk result (λ r. writer_call r ≡ 0) }
@@ -198,6 +199,7 @@ impl Room {
     /// The writer, whose call of that number, from 0, fails.
     pub fn failing_at(self, call: u64, failure: Failure) -> Self
         ensures bytes { bytes_taken result ≡ bytes_taken self }
+        ensures room { room_of result ≡ room_of self }
         ensures piece { piece_taken result ≡ piece_taken self }
         ensures fails { writer_plan result ≡ Some (call, failure) }
         ensures count { writer_call result ≡ writer_call self }
