@@ -67,6 +67,7 @@ FORM_ROWS = [
     (V2, "nfc", "16D63 16D67 16D67", "16D6A"),
     (("new-composite.data", V1[1]), "nfc", "0041 0301", "00C1"),
     (("new-composite.data", "with-00c1.excl"), "nfc", "0041 0301", "0041 0301"),
+    (("chain-of-32.data", "empty"), "nfd", "0100", "0120"),
     (("just-not-too-long.data", "empty"), "nfkd", "0063", " ".join(["0061"] * 64)),
 ]
 

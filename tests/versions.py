@@ -36,6 +36,12 @@ def filled(text, size):
     return text + "#" * (size - len(text.encode()) - 1) + "\n"
 
 
+def chain(mappings):
+    """A data file in which 0100 has so many mappings, one behind another."""
+    codes = [f"{0x100 + step:04X}" for step in range(mappings + 1)]
+    return "".join(record(code, mapping=after) for code, after in zip(codes, [*codes[1:], ""]))
+
+
 def made_versions(v1):
     """Data files made from the text of V1, by name."""
     compat = "<compat> "
@@ -45,10 +51,15 @@ def made_versions(v1):
         "other-mapping": with_records(v1, record("FB01", "Ll", 0, compat + "0066")),
         "maps-to-unassigned": without(v1, 0x030A),
         "maps-to-itself": with_records(v1, record("0041", "Lu", 0, "0041")),
+        "circle-of-three": record("0061", mapping="0063") + record("0062", mapping="0061")
+                           + record("0063", mapping="0062"),
+        "chain-of-32": chain(32),
+        "chain-of-33": chain(33),
         "ambiguous-pair": with_records(v1, record("00C4", "Lu", 0, "0041 030A")),
         "short-trailing-range": with_records(without(v1, 0x11C2),
                                              record("11C1", "Lo", 0, "", "<R, Last>")),
         "one-jamo": record("1100"),
+        "half-of-the-jamo": "".join(record(f"{code:04X}") for code in range(0x1100, 0x1113)),
         "too-long": record("0061") + record("0062", mapping=compat + " ".join(["0061"] * 32))
                     + record("0063", mapping=compat + "0062 0062 0062"),
         "just-not-too-long": record("0061")
@@ -115,10 +126,13 @@ EXCLUSIONS = [
 BAD_TABLES = [
     ("maps-to-unassigned", "MapsToUnassigned 00C5"),
     ("maps-to-itself", "TooDeep 0041"),
+    ("circle-of-three", "TooDeep 0061"),
+    ("chain-of-33", "TooDeep 0100"),
     ("too-long", "TooLong 0063"),
     ("ambiguous-pair", "AmbiguousPair 00C5"),
     ("short-trailing-range", "HangulWrong 11C2"),
     ("one-jamo", "HangulWrong 1101"),
+    ("half-of-the-jamo", "HangulWrong 1161"),
 ]
 
 
