@@ -1,5 +1,5 @@
 //! Readers and writers for tests, each of which can fail at a call that is told beforehand.
-ghost use Rattle.std.specs.Prelude.{◌≡◌, ◌≢◌, ◌≤◌, Some, None, ℕ, List, [], IfOk, true, is_some, max};
+ghost use Rattle.std.specs.Prelude.{◌≡◌, ◌≢◌, ◌≤◌, Some, None, ℕ, ◌-◌, List, [], IfOk, Ok, true, is_some, length, max, min};
 ghost use Rattle.std.specs.Io.{ReadsAtMost, WritesAtMost};
 ghost use Rattle.std.specs.Io.KnownBytes.{Keeps, ReadConsumes, WriteAppends};
 ghost use Rattle.np_code_points.specs.Devices.{IsNextCall, bytes_left, bytes_taken, endless_call, endless_plan, failure_at, piece_of, piece_taken, reader_call, reader_plan, room_of, writer_call, writer_plan};
@@ -110,7 +110,7 @@ impl Read for Trickle<'_> {
         ensures bound { ReadsAtMost result buf.new }
         ensures bytes { ReadConsumes (Some (bytes_left self.old)) (Some (bytes_left self.new)) result buf.new }
         ensures piece { IfOk result (λ n. n ≤ max 1 (piece_of self.old)) }
-        ensures fails { is_some (failure_at (reader_call self.old) (reader_plan self.old)) ≡ true → read_fails result ≡ true }
+        ensures fails { read_fails result ≡ is_some (failure_at (reader_call self.old) (reader_plan self.old)) }
         ensures plan { reader_plan self.new ≡ reader_plan self.old }
         ensures counts { IsNextCall (reader_call self.old) (reader_call self.new) }
     {
@@ -235,6 +235,7 @@ impl Write for Room {
         ensures bytes { WriteAppends (Some (bytes_taken self.old)) (Some (bytes_taken self.new)) result buf.now }
         ensures piece { IfOk result (λ n. n ≤ piece_taken self.old) }
         ensures fails { is_some (failure_at (writer_call self.old) (writer_plan self.old)) ≡ true → buf.now ≢ [] → write_fails result buf.now ≡ true }
+        ensures takes { failure_at (writer_call self.old) (writer_plan self.old) ≡ None → result ≡ Ok (min (min (length buf.now) (piece_taken self.old)) (room_of self.old - length (bytes_taken self.old))) }
         ensures plan { writer_plan self.new ≡ writer_plan self.old }
         ensures counts { IsNextCall (writer_call self.old) (writer_call self.new) }
     {

@@ -6,7 +6,7 @@ ghost use Rattle.np_ucd.specs.Fields.{category_value, class_value, is_letter as 
 fn is_letter(byte: u8) -> bool
     ensures { result ≡ letter byte }
 {
-    (b'A' <= byte && byte <= b'Z') || (b'a' <= byte && byte <= b'z')
+    byte.is_ascii_alphabetic()
 }
 
 /// A General_Category, where the field holds one that a listed code point may have.
@@ -24,7 +24,7 @@ pub(crate) fn category_of(field: &[u8]) -> Option<[u8; 2]>
 fn is_digit(byte: u8) -> bool
     ensures { result ≡ digit byte }
 {
-    b'0' <= byte && byte <= b'9'
+    byte.is_ascii_digit()
 }
 
 /// Whether a record of this name begins a range.

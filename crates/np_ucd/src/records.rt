@@ -160,7 +160,7 @@ fn differs(before: Option<Neighbour>, neighbour: Neighbour) -> bool
 fn is_scalar(code: u32) -> bool
     ensures { result ≡ scalar code }
 {
-    code < 0xD800 || (0xE000 <= code && code < 0x11_0000)
+    char::from_u32(code).is_some()
 }
 
 /// The fault of a record whose fields can all be read.

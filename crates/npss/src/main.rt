@@ -6,7 +6,7 @@ mod words;
 
 use jobs::audit::audit_job;
 use jobs::compare::compare_job;
-use jobs::faults::{JobFault, refuse};
+use jobs::faults::{DONE, FAILED, JobFault, refuse};
 use jobs::key::key_job;
 use jobs::normalize::normalize_job;
 use np_code_points::Form;
@@ -19,14 +19,8 @@ use std::process::ExitCode;
 use std::rt::Files;
 use words::{Job, WordsFault, parse, usage_text};
 
-/// The status where the job is done.
-const DONE: u8 = 0;
-
 /// The status of words that ask for nothing that there is.
 const USAGE: u8 = 2;
-
-/// The status where a file can't be opened.
-const FAILED: u8 = 5;
 
 /// The standard streams.
 #[derive(Drop)]

@@ -21,8 +21,8 @@ pub const DIFFERENT: u8 = 1;
 /// Bad data, text or schedule.
 const BAD: u8 = 4;
 
-/// A device failed.
-const FAILED: u8 = 5;
+/// A device failed, or a file can't be opened.
+pub const FAILED: u8 = 5;
 
 /// Memory ran out.
 const MEMORY: u8 = 6;
