@@ -10,6 +10,7 @@ ghost use Rattle.std.specs.List.{list_all};
 
 use crate::breaks::{Break, BreakKind};
 use np_code_points::Memory;
+use np_code_points::hangul::is_syllable;
 use np_tables::Version;
 use np_ucd::MapKind;
 use std::alloc::Global;
@@ -22,13 +23,6 @@ fn know(version: &Version)
     ensures { IsSound version.now }
 {
     let _characters = version.characters();
-}
-
-/// Whether a code point is a Hangul syllable (The Unicode Standard, section 3.12).
-fn is_syllable(code: u32) -> bool
-    ensures { result ≡ syllable code }
-{
-    0xAC00 <= code && code < 0xAC00 + 11172
 }
 
 /// Whether two kinds of mapping are the same.

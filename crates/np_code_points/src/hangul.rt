@@ -1,6 +1,6 @@
 //! Hangul syllables by arithmetic (The Unicode Standard, section 3.12).
 ghost use Rattle.std.specs.Prelude.{◌≡◌, ◌+◌, ◌<◌, ◌↔◌, ℕ, true, [], ◌∷◌, IsSome, IfSome, IfNone};
-ghost use Rattle.np_code_points.specs.Hangul.{is_among as among, is_syllable, syllable_pair};
+ghost use Rattle.np_code_points.specs.Hangul.{is_among as among, is_syllable as in_block, syllable_pair};
 
 /// SBase, the first syllable, and SCount, how many there are.
 const S_BASE: u32 = 0xAC00;
@@ -36,10 +36,17 @@ fn character(code: u32) -> char
     char::from_u32(code).unwrap()
 }
 
+/// Whether a code point is one of the 11,172 Hangul syllables.
+pub fn is_syllable(code: u32) -> bool
+    ensures { result ≡ in_block code }
+{
+    is_among(S_BASE, S_COUNT, code)
+}
+
 /// The two code points that a Hangul syllable maps to: a leading consonant and a vowel, or a
 /// syllable of those two and a trailing consonant. `None` for all other characters.
 pub fn hangul_parts(syllable: char) -> Option<(char, char)>
-    ensures some { IsSome result ↔ (is_syllable syllable ≡ true) }
+    ensures some { IsSome result ↔ (in_block syllable ≡ true) }
     ensures parts { IfSome result (λ parts. syllable_pair syllable ≡ parts.0 ∷ parts.1 ∷ []) }
 {
     let code = syllable as u32;
@@ -59,9 +66,9 @@ pub fn hangul_parts(syllable: char) -> Option<(char, char)>
 
 /// The Hangul syllable that maps to the pair. `None` where there is none.
 pub fn hangul_pair(first: char, second: char) -> Option<char>
-    ensures some { IfSome result (λ s. is_syllable s ≡ true) }
+    ensures some { IfSome result (λ s. in_block s ≡ true) }
     ensures parts { IfSome result (λ s. syllable_pair s ≡ first ∷ second ∷ []) }
-    ensures none { IfNone result ((s : ℕ) → is_syllable s ≡ true → syllable_pair s ≡ first ∷ second ∷ [] → ⊥) }
+    ensures none { IfNone result ((s : ℕ) → in_block s ≡ true → syllable_pair s ≡ first ∷ second ∷ [] → ⊥) }
 {
     let (a, b) = (first as u32, second as u32);
     if is_among(L_BASE, L_COUNT, a) && is_among(V_BASE, V_COUNT, b) {

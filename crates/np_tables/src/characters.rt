@@ -11,6 +11,7 @@ ghost use Rattle.np_code_points.specs.Hangul.{is_syllable as in_block};
 use crate::hangul_rows;
 use crate::row_index::RowIndex;
 use np_code_points::Memory;
+use np_code_points::hangul::is_syllable;
 use np_ucd::{Exclusions, MapKind, Row, Rows};
 use std::alloc::Global;
 use std::marker::Model;
@@ -156,11 +157,11 @@ impl CharacterData {
     }
 
     /// Whether the code point is a syllable of the arithmetic.
-    fn is_composed(&self, code: u32) -> bool
+    pub fn is_composed(&self, code: u32) -> bool
         ensures on { result ≡ (has_hangul self.now && in_block code) }
         ensures rows { AreRows self.now.entries }
     {
-        self.hangul && hangul_rows::is_syllable(code)
+        self.hangul && is_syllable(code)
     }
 
     /// Whether the code point is a primary composite by its mapping in the file.

@@ -4,10 +4,9 @@ ghost use Rattle.np_ucd.specs.Entries.{AreRows};
 ghost use Rattle.np_code_points.specs.Hangul.{is_syllable as in_block};
 ghost use Rattle.np_tables.specs.Depths.{AreShort, first_row, is_marked, mapping_mark, mark, parts_mark as mark_of_parts, row_marks, syllable_mark as mark_of_syllable};
 ghost use Rattle.np_tables.specs.Faults.{IsFirst, IsTooDeep, IsTooLong};
-ghost use Rattle.np_tables.specs.Versions.{has_hangul, mapping_in};
+ghost use Rattle.np_tables.specs.Versions.{mapping_in};
 
 use crate::characters::CharacterData;
-use crate::hangul_rows::is_syllable;
 use np_code_points::Memory;
 use std::alloc::Global;
 
@@ -164,20 +163,13 @@ fn part_mark(characters: &CharacterData, marks: &[u8], round: u32, code: u32) ->
     ensures value { result ≡ mark characters.now round code }
     ensures bound { result ≤ 65 }
 {
-    if is_composed(characters, code) {
+    if characters.is_composed(code) {
         return syllable_mark(round, code);
     }
     match characters.place_of(code) {
         Some(at) => marks[at],
         None => 1,
     }
-}
-
-/// Whether a code point is a syllable of the arithmetic.
-fn is_composed(characters: &CharacterData, code: u32) -> bool
-    ensures { result ≡ (has_hangul characters.now && in_block code) }
-{
-    characters.has_hangul() && is_syllable(code)
 }
 
 /// The mark of a syllable of the arithmetic: `<L, V>` has depth 1, `<LV, T>` depth 2.

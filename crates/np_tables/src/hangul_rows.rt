@@ -1,17 +1,9 @@
 //! The rows of the Hangul syllables and jamo (The Unicode Standard, section 3.12).
 ghost use Rattle.std.specs.Prelude.{◌≡◌, ◌+◌, ◌≤◌};
-ghost use Rattle.np_code_points.specs.Hangul.{is_syllable as in_block};
 ghost use Rattle.np_tables.specs.Versions.{all_from, all_hangul, entry_at};
 ghost use Rattle.np_tables.specs.HangulRows.{is_right_entry, is_right_at};
 
 use crate::row_index::RowIndex;
-
-/// Whether a code point is one of the 11,172 syllables.
-pub fn is_syllable(code: u32) -> bool
-    ensures { result ≡ in_block code }
-{
-    0xAC00 <= code && code < 0xD7A4
-}
 
 /// Whether a code point is assigned, of class 0 and without a mapping.
 fn is_right(rows: &RowIndex, code: u32) -> bool

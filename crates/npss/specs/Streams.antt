@@ -33,7 +33,7 @@ pub record WasTooLarge (s : Stream) : Type 0 where
 abbrev pub HasFailed : Stream → Type 0
 HasFailed s = s.failed ≡ true
 
--- exactly these bytes were written, and flushed
+-- exactly these bytes were written, and neither a write nor the flush failed
 pub record WasWritten (s : Stream) (bytes : List ℕ) : Type 0 where
   pub written : Appends s.before s.after bytes
   pub clear : s.failed ≡ false

@@ -9,7 +9,7 @@ use Rattle.np_tables.proofs.depths.part_mark.Goals as goal
 pub returns-then-is_composed-clause-value : goal.returns-then-is_composed-clause-value
 returns-then-is_composed-clause-value c =
     let v = c.args.characters.now in
-    let halves = and_parts (has_hangul v) (is_syllable c.args.code) (sym c.if-is_composed.ensures) in
+    let halves = and_parts (has_hangul v) (is_syllable c.args.code) (sym c.if-is_composed.ensures.on) in
     c.syllable_mark.ensures ∙ sym (mark-syllable v c.requires.rows halves.0 c.args.round c.args.code halves.1)
 
 pub returns-then-is_composed-clause-bound : goal.returns-then-is_composed-clause-bound
@@ -29,7 +29,7 @@ returns-in-Some-clause-value c =
     let v = c.args.characters.now in
     let told = c.in-Some.ensures in
     ap (λ l. get_or l c.in-Some.at 0) c.requires.marks
-    ∙ mark-some v c.requires.rows c.args.round c.args.code (sym c.if-is_composed.ensures) c.in-Some.at 0 told.within told.row
+    ∙ mark-some v c.requires.rows c.args.round c.args.code (sym c.if-is_composed.ensures.on) c.in-Some.at 0 told.within told.row
 
 pub returns-in-Some-clause-bound : goal.returns-in-Some-clause-bound
 returns-in-Some-clause-bound c =
@@ -40,4 +40,4 @@ returns-in-Some-clause-bound c =
 pub returns-in-None-clause-value : goal.returns-in-None-clause-value
 returns-in-None-clause-value c =
     let told = c.in-None.ensures in
-    sym (mark-none c.args.characters.now c.requires.rows c.args.round c.args.code (sym c.if-is_composed.ensures) told.none)
+    sym (mark-none c.args.characters.now c.requires.rows c.args.round c.args.code (sym c.if-is_composed.ensures.on) told.none)
