@@ -212,18 +212,18 @@ module _ (a b : VersionData) (sound_a : IsSound a) (sound_b : IsSound b) (ext : 
       ended-same (composes form) _ (assigned-decomposed a sound_a (is_compat form) xs all)
       ∙ ap (ended b (composes form)) (decomposed-same (is_compat form) xs all)
 
-pub stability : Stability
-stability a b form xs ys sound_a sound_b ext all is =
-    let same = normal_form_is a sound_a form xs ys is in
-    let other : normal_form b form xs ≡ ys = sym (normal_form-same a b sound_a sound_b ext form xs all) ∙ sym same in
-    (subst (λ l. IsNormalForm b form xs l) other (IsNormalForm-normal_form b sound_b form xs), ap (list_all (is_assigned a)) same ∙ assigned-normal_form a sound_a form xs all)
-
--- ---- extension goes on
-
 pub list_all-mono : (p q : ℕ → Bool) → ((x : ℕ) → p x ≡ true → q x ≡ true) → (xs : List ℕ) → list_all p xs ≡ true → list_all q xs ≡ true
 list_all-mono p q h [] all = refl
 list_all-mono p q h (x ∷ xs) all =
     let halves = and_parts (p x) (list_all p xs) all in and_from _ _ (h x halves.0) (list_all-mono p q h xs halves.1)
+
+pub stability : Stability
+stability a b form xs ys sound_a sound_b ext all is =
+    let same = normal_form_is a sound_a form xs ys is in
+    let other : normal_form b form xs ≡ ys = sym (normal_form-same a b sound_a sound_b ext form xs all) ∙ sym same in
+    (subst (λ l. IsNormalForm b form xs l) other (IsNormalForm-normal_form b sound_b form xs), ap (list_all (is_assigned a)) same ∙ assigned-normal_form a sound_a form xs all, list_all-mono (is_assigned a) (is_assigned b) (λ c h. (ext.keeps c h).assigned) xs all)
+
+-- ---- extension goes on
 
 pub transitivity : Transitivity
 transitivity a b c first second =

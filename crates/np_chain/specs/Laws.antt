@@ -11,7 +11,7 @@ use Rattle.np_tables.specs.Versions.{VersionData}
 abbrev pub Stability : Type 0
 Stability =
     (a b : VersionData) (form : Form) (xs ys : List ℕ) → IsSound a → IsSound b → Extends a b → IsAssigned a xs → IsNormalForm a form xs ys →
-    IsNormalForm b form xs ys × IsAssigned a ys
+    IsNormalForm b form xs ys × IsAssigned a ys × IsAssigned b xs
 
 abbrev pub Transitivity : Type 0
 Transitivity = (a b c : VersionData) → Extends a b → Extends b c → Extends a c

@@ -1,5 +1,5 @@
 //! Tables whose versions extend one another in a row.
-ghost use Rattle.std.specs.Prelude.{◌≡◌, ◌↔◌, ◌-◌, ◌<◌, length, map, IsOk, IfOk, IfErr};
+ghost use Rattle.std.specs.Prelude.{◌≡◌, ◌↔◌, ◌-◌, ◌<◌, length, map, slice_get, Some, IsOk, IfOk, IfErr};
 ghost use Rattle.np_chain.specs.Chain.{IsChain, IsSoundChain, StandsAt};
 ghost use Rattle.np_chain.specs.ChainFaults.{IsFaultOf};
 
@@ -30,11 +30,10 @@ pub struct Chain<'t, T: NormTable> {
 impl<'t, T: NormTable> Model for Chain<'t, T> {
     ghost use Rattle.std.specs.Prelude.{List, map};
     ghost use Rattle.np_chain.specs.Chain.{IsSoundChain};
-    ghost use Rattle.np_tables.specs.Versions.{VersionData};
 
-    ghost Value = { List VersionData };
+    ghost Value = { List T };
 
-    ghost view = { λ a. map T.model a.tables.now };
+    ghost view = { λ a. a.tables.now };
 
     ghost invariant = { λ a. IsSoundChain (map T.model a.tables.now) };
 }
@@ -45,7 +44,7 @@ impl<'t, T: NormTable> Chain<'t, T> {
     /// # Errors
     /// `NoVersion` where there is no table, `Broken` where a version does not extend the one before.
     pub fn check(tables: &'t [T]) -> Result<Chain<'t, T>, ChainFault>
-        ensures tables { IfOk result (λ chain. chain ≡ map T.model tables.now) }
+        ensures tables { IfOk result (λ chain. chain ≡ tables.now) }
         ensures chain { IsOk result ↔ IsChain (map T.model tables.now) }
         ensures fault { IfErr result (λ fault. IsFaultOf (map T.model tables.now) fault) }
     {
@@ -65,7 +64,7 @@ impl<'t, T: NormTable> Chain<'t, T> {
     pub fn len(&self) -> usize
         ensures count { result ≡ length self.now }
         ensures some { 0 < result }
-        ensures chain { IsSoundChain self.now }
+        ensures chain { IsSoundChain (map T.model self.now) }
     {
         self.tables.len()
     }
@@ -73,7 +72,8 @@ impl<'t, T: NormTable> Chain<'t, T> {
     /// The table at a place, from 0: its version extends all before it, and all after it extend it.
     pub fn at(&self, i: usize) -> &'t T
         requires { i < length self.now }
-        ensures { StandsAt self.now i (T.model result.now) }
+        ensures table { slice_get self.now i ≡ Some result.now }
+        ensures stands { StandsAt (map T.model self.now) i (T.model result.now) }
     {
         let tables = self.tables;
         &tables[i]
@@ -81,7 +81,8 @@ impl<'t, T: NormTable> Chain<'t, T> {
 
     /// The last table: its version extends all others.
     pub fn last(&self) -> &'t T
-        ensures { StandsAt self.now (length self.now - 1) (T.model result.now) }
+        ensures table { slice_get self.now (length self.now - 1) ≡ Some result.now }
+        ensures stands { StandsAt (map T.model self.now) (length self.now - 1) (T.model result.now) }
     {
         let tables = self.tables;
         &tables[tables.len() - 1]
