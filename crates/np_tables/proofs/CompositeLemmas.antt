@@ -1,7 +1,7 @@
 -- The composite of a pair, and what it decomposes to.
 use Rattle.std.proofs.Common.{◌≡◌, ℕ, zero, suc, ◌+◌, ◌-◌, ◌<◌, ◌⊎◌, Bool, true, false, not, ◌&&◌, ◌==◌, List, [], ◌∷◌, ◌++◌, flat_map, Option, Some, None, is_some, refl, sym, ap, ◌∙◌, arith, inl, inr, eqb-true, eq-eqb, append-nil}
 use Rattle.std.proofs.lemmas.Bool.{cond-true, cond-false, cases_Bool, cases_eq, and_parts, and_from, leb-true, ltb-true, both_ways}
-use Rattle.np_tables.specs.Versions.{VersionData, entry_at, is_assigned, class_of, file_mapping, mapping_in, is_canonical, is_empty, is_excluded, kind_of, mapping_of, has_hangul, all_hangul, all_from, is_hangul_row}
+use Rattle.np_tables.specs.Versions.{VersionData, entry_at, is_assigned, class_of, file_mapping, mapping_in, is_canonical, is_empty, is_excluded, decomposition_kind, decomposition_mapping, has_hangul, all_hangul, all_from, is_hangul_row}
 use Rattle.np_ucd.specs.Entries.{Entry}
 use Rattle.np_ucd.specs.declared.rows.MapKind.{MapKind}
 use Rattle.np_ucd.specs.declared.rows.MapKind.TheVariants.{Plain, Canonical, Compatibility}
@@ -97,8 +97,8 @@ file_mapped-assigned : (v : VersionData) (c : ℕ) → is_empty (file_mapping v 
 unfolding file_mapping is_assigned
 file_mapped-assigned v c h = mapped_in (entry_at v.entries c) h
 
-pub mapped-assigned : (v : VersionData) (c : ℕ) → is_empty (mapping_of v c) ≡ false → is_assigned v c ≡ true
-unfolding mapping_of
+pub mapped-assigned : (v : VersionData) (c : ℕ) → is_empty (decomposition_mapping v c) ≡ false → is_assigned v c ≡ true
+unfolding decomposition_mapping
 mapped-assigned v c h =
     elim (cases_Bool (has_hangul v && is_syllable c)) [
       | inl hangul ↦
@@ -110,15 +110,15 @@ mapped-assigned v c h =
 -- ---- primary composites
 
 pub record PrimaryParts (v : VersionData) (c : ℕ) : Type 0 where
-  pub canonical : is_canonical (kind_of v c) ≡ true
-  pub pair : is_starter_pair (class_of v) (mapping_of v c) ≡ true
+  pub canonical : is_canonical (decomposition_kind v c) ≡ true
+  pub pair : is_starter_pair (class_of v) (decomposition_mapping v c) ≡ true
   pub starter : class_of v c ≡ 0
 
 pub primary_parts : (v : VersionData) (c : ℕ) → is_primary v c ≡ true → PrimaryParts v c
 unfolding is_primary
 primary_parts v c h =
-    let halves = and_parts (is_canonical (kind_of v c) && is_starter_pair (class_of v) (mapping_of v c)) _ h in
-    let front = and_parts (is_canonical (kind_of v c)) _ halves.0 in
+    let halves = and_parts (is_canonical (decomposition_kind v c) && is_starter_pair (class_of v) (decomposition_mapping v c)) _ h in
+    let front = and_parts (is_canonical (decomposition_kind v c)) _ halves.0 in
     let back = and_parts (not (is_excluded v c)) _ halves.1 in
     record { canonical = front.0; pair = front.1; starter = eqb-true (class_of v c) 0 back.1 }
 
@@ -130,7 +130,7 @@ counts_canonical compat Compatibility h = cc
 pub composite_parts : (v : VersionData) (compat : Bool) (a b c : ℕ) → IsCompositeOf v a b c → parts v compat c ≡ a ∷ b ∷ []
 unfolding parts
 composite_parts v compat a b c h =
-    cond-true _ _ _ (counts_canonical compat (kind_of v c) (primary_parts v c h.primary).canonical) ∙ h.mapping
+    cond-true _ _ _ (counts_canonical compat (decomposition_kind v c) (primary_parts v c h.primary).canonical) ∙ h.mapping
 
 pub composite_first : (v : VersionData) (a b c : ℕ) → IsCompositeOf v a b c → class_of v a ≡ 0
 composite_first v a b c h =
@@ -144,20 +144,20 @@ starter_pair-mapped ccc [] h = cc
 starter_pair-mapped ccc (x ∷ xs) h = refl
 
 pub primary-assigned : (v : VersionData) (c : ℕ) → is_primary v c ≡ true → is_assigned v c ≡ true
-primary-assigned v c h = mapped-assigned v c (starter_pair-mapped (class_of v) (mapping_of v c) (primary_parts v c h).pair)
+primary-assigned v c h = mapped-assigned v c (starter_pair-mapped (class_of v) (decomposition_mapping v c) (primary_parts v c h).pair)
 
 pub composite-some : (v : VersionData) (a b c : ℕ) → composite v a b ≡ Some c → IsCompositeOf v a b c
 unfolding composite
 composite-some v a b c h =
-    let halves = and_parts (is_primary v c) (is_pair a b (mapping_of v c)) (least_below-some _ 0x110000 c h) in
-    record { primary = halves.0; mapping = is_pair-true a b (mapping_of v c) halves.1 }
+    let halves = and_parts (is_primary v c) (is_pair a b (decomposition_mapping v c)) (least_below-some _ 0x110000 c h) in
+    record { primary = halves.0; mapping = is_pair-true a b (decomposition_mapping v c) halves.1 }
 
 module _ (v : VersionData) (sound : IsSound v) where
   pub composite-none : (a b c : ℕ) → composite v a b ≡ None → ¬ IsCompositeOf v a b c
   unfolding composite
   composite-none a b c h is =
       both_ways _ (least_below-none _ 0x110000 c h (sound.bounded c (composite-assigned v a b c is)))
-      (and_from _ _ is.primary (is_pair_from a b (mapping_of v c) is.mapping))
+      (and_from _ _ is.primary (is_pair_from a b (decomposition_mapping v c) is.mapping))
 
   pub composite_from : (a b c : ℕ) → IsCompositeOf v a b c → composite v a b ≡ Some c
   composite_from a b c is =

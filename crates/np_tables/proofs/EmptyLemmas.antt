@@ -2,7 +2,7 @@
 use Rattle.std.proofs.Common.{◌≡◌, ℕ, true, false, [], length, refl, ap, arith, inl, inr}
 use Rattle.std.proofs.lemmas.Bool.{cases_Bool, both_ways}
 use Rattle.std.specs.List.{list_all}
-use Rattle.np_tables.specs.Versions.{entry_at, is_assigned, is_empty, mapping_of}
+use Rattle.np_tables.specs.Versions.{entry_at, is_assigned, is_empty, decomposition_mapping}
 use Rattle.np_tables.specs.Mappings.{has_depth}
 use Rattle.np_tables.specs.Conditions.{IsSound}
 use Rattle.np_tables.specs.Examples.{without_rows}
@@ -14,10 +14,10 @@ lacks : (c : ℕ) → is_assigned without_rows c ≡ false
 unfolding is_assigned entry_at
 lacks c = refl
 
-no_mapping : (c : ℕ) → mapping_of without_rows c ≡ []
+no_mapping : (c : ℕ) → decomposition_mapping without_rows c ≡ []
 no_mapping c =
-    is_empty-true (mapping_of without_rows c)
-    (elim (cases_Bool (is_empty (mapping_of without_rows c))) [ inl none ↦ none | inr some ↦ absurd (both_ways _ (lacks c) (mapped-assigned without_rows c some)) ])
+    is_empty-true (decomposition_mapping without_rows c)
+    (elim (cases_Bool (is_empty (decomposition_mapping without_rows c))) [ inl none ↦ none | inr some ↦ absurd (both_ways _ (lacks c) (mapped-assigned without_rows c some)) ])
 
 shallow : (c : ℕ) → has_depth without_rows 32 c ≡ true
 unfolding has_depth

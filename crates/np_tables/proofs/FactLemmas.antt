@@ -5,7 +5,7 @@ use Rattle.std.specs.List.{list_all}
 use Rattle.std.proofs.lemmas.Bool.{cond-true, cond-false, cases_Bool, and_parts, and_from}
 use Rattle.np_ucd.specs.Entries.{Entry, IsRow, AreRows}
 use Rattle.np_code_points.specs.Hangul.{is_syllable, syllable_pair}
-use Rattle.np_tables.specs.Versions.{VersionData, entry_at, is_assigned, class_of, class_in, file_mapping, mapping_in, mapping_of, has_hangul}
+use Rattle.np_tables.specs.Versions.{VersionData, entry_at, is_assigned, class_of, class_in, file_mapping, mapping_in, decomposition_mapping, has_hangul}
 use Rattle.np_tables.proofs.PrimaryLemmas.{syllable_bounds}
 use Rattle.np_tables.proofs.RowLemmas.{entry_at-row, entry_at-within}
 
@@ -47,8 +47,8 @@ scalars_pair c h =
       | inr lvt ↦ ap (list_all scalar) (cond-false (index % 28 == 0) (leading ∷ vowel ∷ []) (base ∷ trailing ∷ []) lvt) ∙ both base trailing (omega arith) (omega arith)
     ]
 
-pub scalars-at : (v : VersionData) (c : ℕ) → AreRows v.entries → list_all scalar (mapping_of v c) ≡ true
-unfolding mapping_of file_mapping
+pub scalars-at : (v : VersionData) (c : ℕ) → AreRows v.entries → list_all scalar (decomposition_mapping v c) ≡ true
+unfolding decomposition_mapping file_mapping
 scalars-at v c rows =
     elim (cases_Bool (has_hangul v && is_syllable c)) [
       | inl on ↦ ap (list_all scalar) (cond-true _ (syllable_pair c) (file_mapping v c) on) ∙ scalars_pair c (and_parts _ _ on).1
@@ -66,8 +66,8 @@ mapped_in_row (Some e) c row within h =
     let same : e.first ≡ c = omega arith in
     ap scalar (sym same) ∙ is.mapped_scalar h
 
-pub mapped_scalar-at : (v : VersionData) (c : ℕ) → AreRows v.entries → mapping_of v c ≢ [] → scalar c ≡ true
-unfolding mapping_of file_mapping
+pub mapped_scalar-at : (v : VersionData) (c : ℕ) → AreRows v.entries → decomposition_mapping v c ≢ [] → scalar c ≡ true
+unfolding decomposition_mapping file_mapping
 mapped_scalar-at v c rows h =
     elim (cases_Bool (has_hangul v && is_syllable c)) [
       | inl on ↦ (let bounds = syllable_bounds c (and_parts _ _ on).1 in scalar_low c (omega arith))

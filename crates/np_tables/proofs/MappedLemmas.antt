@@ -6,7 +6,7 @@ use Rattle.np_ucd.specs.Entries.{Entry, AreRows}
 use Rattle.np_code_points.specs.Hangul.{is_syllable, syllable_pair}
 use Rattle.np_tables.specs.Faults.{IsMappedToUnassigned}
 use Rattle.np_tables.specs.inside.FirstFaults.{IsLeastOf}
-use Rattle.np_tables.specs.Versions.{VersionData, entry_at, is_assigned, file_mapping, mapping_in, mapping_of, has_hangul, all_hangul, all_from, is_hangul_row, is_empty}
+use Rattle.np_tables.specs.Versions.{VersionData, entry_at, is_assigned, file_mapping, mapping_in, decomposition_mapping, has_hangul, all_hangul, all_from, is_hangul_row, is_empty}
 use Rattle.np_tables.proofs.CompositeLemmas.{all_from-at, syllable_row}
 use Rattle.np_tables.proofs.HangulPlaces.{Runs, leading_run, vowel_run, trailing_run, syllable_run}
 use Rattle.np_tables.proofs.PrimaryLemmas.{hangul_parts, syllable_bounds}
@@ -62,7 +62,7 @@ syllable_assigned v c on h =
 
 -- only a mapping in the file may lack something
 pub lacks_in_file : (v : VersionData) (c : ℕ) → IsMappedToUnassigned v c → list_all (is_assigned v) (file_mapping v c) ≡ false
-unfolding mapping_of
+unfolding decomposition_mapping
 lacks_in_file v c h =
     elim (cases_Bool (has_hangul v && is_syllable c)) [
       | inl on ↦
@@ -76,7 +76,7 @@ empty_all p [] h = refl
 empty_all p (x ∷ xs) h = cc
 
 pub file_lacks : (v : VersionData) (c : ℕ) → list_all (is_assigned v) (file_mapping v c) ≡ false → IsMappedToUnassigned v c
-unfolding mapping_of
+unfolding decomposition_mapping
 file_lacks v c h =
     elim (cases_Bool (has_hangul v && is_syllable c)) [
       | inl on ↦

@@ -4,7 +4,7 @@ use Rattle.std.proofs.lemmas.Bool.{cond-true, cond-false, cases_Bool, and_parts,
 use Rattle.std.proofs.lemmas.Grind.{flat_map-append}
 use Rattle.std.specs.List.{list_all}
 use Rattle.np_code_points.specs.Steps.{Reaches}
-use Rattle.np_tables.specs.Versions.{VersionData, is_empty, kind_of, mapping_of}
+use Rattle.np_tables.specs.Versions.{VersionData, is_empty, decomposition_kind, decomposition_mapping}
 use Rattle.np_tables.specs.Mappings.{counts, parts, Rewrites, is_final, IsFullDecomposition, has_depth}
 use Rattle.np_tables.specs.inside.FullDecompositions.{full, full_of}
 use Rattle.np_code_points.proofs.StepsLemmas.{stays_at, one_more, join, keeps, along}
@@ -28,10 +28,10 @@ is_empty_from (x ∷ xs) h = refl
 
 module _ (v : VersionData) (compat : Bool) where
   -- what counts is the mapping
-  pub parts-cases : (P : List ℕ → Type 0) → P [] → (c : ℕ) → P (mapping_of v c) → P (parts v compat c)
+  pub parts-cases : (P : List ℕ → Type 0) → P [] → (c : ℕ) → P (decomposition_mapping v c) → P (parts v compat c)
   unfolding parts
   parts-cases P none c some =
-      elim (cases_Bool (counts compat (kind_of v c))) [
+      elim (cases_Bool (counts compat (decomposition_kind v c))) [
         | inl on ↦ subst P (sym (cond-true _ _ _ on)) some
         | inr off ↦ subst P (sym (cond-false _ _ _ off)) none
       ]

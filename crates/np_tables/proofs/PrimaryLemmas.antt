@@ -7,18 +7,18 @@ use Rattle.np_ucd.specs.Entries.{Entry, IsRow, AreRows, HasLength}
 use Rattle.np_ucd.specs.declared.rows.MapKind.{MapKind}
 use Rattle.np_ucd.specs.declared.rows.MapKind.TheVariants.{Plain, Canonical, Compatibility}
 use Rattle.np_code_points.specs.Hangul.{is_syllable, syllable_pair}
-use Rattle.np_tables.specs.Versions.{VersionData, entry_at, is_assigned, class_of, file_kind, file_mapping, mapping_in, kind_in, is_canonical, is_empty, is_excluded, kind_of, mapping_of, has_hangul, all_hangul, all_from, is_hangul_row}
+use Rattle.np_tables.specs.Versions.{VersionData, entry_at, is_assigned, class_of, file_kind, file_mapping, mapping_in, kind_in, is_canonical, is_empty, is_excluded, decomposition_kind, decomposition_mapping, has_hangul, all_hangul, all_from, is_hangul_row}
 use Rattle.np_tables.specs.Composites.{is_starter_pair, is_primary}
 use Rattle.np_tables.specs.inside.Accessors.{is_file_primary}
 use Rattle.np_tables.proofs.CompositeLemmas.{all_from-at, syllable_row}
 
 pub primary-file : (v : VersionData) (c : ℕ) → (has_hangul v && is_syllable c) ≡ false → is_file_primary v c ≡ is_primary v c
-unfolding is_primary kind_of mapping_of
+unfolding is_primary decomposition_kind decomposition_mapping
 primary-file v c off =
-    let kind : file_kind v c ≡ kind_of v c = sym (cond-false _ Canonical (file_kind v c) off) in
-    let mapping : file_mapping v c ≡ mapping_of v c = sym (cond-false _ (syllable_pair c) (file_mapping v c) off) in
+    let kind : file_kind v c ≡ decomposition_kind v c = sym (cond-false _ Canonical (file_kind v c) off) in
+    let mapping : file_mapping v c ≡ decomposition_mapping v c = sym (cond-false _ (syllable_pair c) (file_mapping v c) off) in
     ap (λ k. (is_canonical k && is_starter_pair (class_of v) (file_mapping v c)) && (not (is_excluded v c) && class_of v c == 0)) kind
-    ∙ ap (λ m. (is_canonical (kind_of v c) && is_starter_pair (class_of v) m) && (not (is_excluded v c) && class_of v c == 0)) mapping
+    ∙ ap (λ m. (is_canonical (decomposition_kind v c) && is_starter_pair (class_of v) m) && (not (is_excluded v c) && class_of v c == 0)) mapping
 
 plain_of : (k : MapKind) (n : ℕ) → HasLength k n → n ≡ 0 → is_canonical k ≡ false
 plain_of Plain n h e = refl
@@ -92,12 +92,12 @@ unfolding is_excluded
 not_excluded v c h = ap not (and_right (is_listed v.exclusions c) _ h)
 
 pub primary-syllable : (v : VersionData) (c : ℕ) → AreRows v.entries → (has_hangul v && is_syllable c) ≡ true → is_primary v c ≡ true
-unfolding is_primary kind_of mapping_of
+unfolding is_primary decomposition_kind decomposition_mapping
 primary-syllable v c rows both =
     let halves = and_parts (has_hangul v) (is_syllable c) both in
     let row = hangul_parts v c (syllable_row v c halves.0 halves.1) in
-    let kind : kind_of v c ≡ Canonical = cond-true _ Canonical (file_kind v c) both in
-    let mapping : mapping_of v c ≡ syllable_pair c = cond-true _ (syllable_pair c) (file_mapping v c) both in
+    let kind : decomposition_kind v c ≡ Canonical = cond-true _ Canonical (file_kind v c) both in
+    let mapping : decomposition_mapping v c ≡ syllable_pair c = cond-true _ (syllable_pair c) (file_mapping v c) both in
     and_from _ _
     (and_from _ _ (ap is_canonical kind) (ap (is_starter_pair (class_of v)) mapping ∙ syllable_starter v c halves.0 halves.1))
     (and_from _ _ (not_excluded v c (plain-at v c rows row.mapping)) (eq-eqb (class_of v c) 0 row.class))

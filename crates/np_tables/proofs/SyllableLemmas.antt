@@ -4,7 +4,7 @@ use Rattle.std.proofs.lemmas.Bool.{cond-true, cond-false, cond_both, cases_Bool,
 use Rattle.std.specs.List.{list_all}
 use Rattle.np_ucd.specs.Entries.{AreRows}
 use Rattle.np_code_points.specs.Hangul.{is_syllable, syllable_pair}
-use Rattle.np_tables.specs.Versions.{VersionData, file_mapping, all_from, all_hangul, has_hangul, is_hangul_row, mapping_of}
+use Rattle.np_tables.specs.Versions.{VersionData, file_mapping, all_from, all_hangul, has_hangul, is_hangul_row, decomposition_mapping}
 use Rattle.np_tables.specs.Mappings.{has_depth}
 use Rattle.np_tables.specs.inside.FullDecompositions.{full}
 use Rattle.np_tables.specs.inside.Depths.{marked, mark, parts_mark, mapping_mark, syllable_depth, syllable_mark}
@@ -24,8 +24,8 @@ syllable-bare v c on h = hangul_row-bare v c (syllable_row v c on h)
 above-no_syllable : (c : ℕ) → c < 0xAC00 → is_syllable c ≡ false
 above-no_syllable c h = and_left _ _ (lt-leb 0xAC00 c h)
 
-jamo-bare : (v : VersionData) (c : ℕ) → c < 0xAC00 → is_hangul_row v c ≡ true → mapping_of v c ≡ []
-unfolding mapping_of
+jamo-bare : (v : VersionData) (c : ℕ) → c < 0xAC00 → is_hangul_row v c ≡ true → decomposition_mapping v c ≡ []
+unfolding decomposition_mapping
 jamo-bare v c low h = cond-false _ _ _ (and_right (has_hangul v) (is_syllable c) (above-no_syllable c low)) ∙ hangul_row-bare v c h
 
 record JamoRows (v : VersionData) : Type 0 where
@@ -56,8 +56,8 @@ pair_lvt : (c : ℕ) → ((c - 0xAC00) % 28 == 0) ≡ false → syllable_pair c 
 unfolding syllable_pair
 pair_lvt c h = cond-false _ _ _ h
 
-syllable_mapping : (v : VersionData) (c : ℕ) → has_hangul v ≡ true → is_syllable c ≡ true → mapping_of v c ≡ syllable_pair c
-unfolding mapping_of
+syllable_mapping : (v : VersionData) (c : ℕ) → has_hangul v ≡ true → is_syllable c ≡ true → decomposition_mapping v c ≡ syllable_pair c
+unfolding decomposition_mapping
 syllable_mapping v c on h = cond-true _ _ _ (and_from _ _ on h)
 
 record IsAmong (c : ℕ) : Type 0 where
@@ -100,7 +100,7 @@ syllable_mark-still n c late = syllable_mark-late (suc n) c (omega arith) ∙ sy
 
 module _ (v : VersionData) (rows : AreRows v.entries) (on : has_hangul v ≡ true) where
   -- a list of two code points without mappings
-  bare_two : (n a b : ℕ) → mapping_of v a ≡ [] → mapping_of v b ≡ [] → (list_all (has_depth v n) (a ∷ b ∷ []) ≡ true) × (flat_map (full v true n) (a ∷ b ∷ []) ≡ a ∷ b ∷ [])
+  bare_two : (n a b : ℕ) → decomposition_mapping v a ≡ [] → decomposition_mapping v b ≡ [] → (list_all (has_depth v n) (a ∷ b ∷ []) ≡ true) × (flat_map (full v true n) (a ∷ b ∷ []) ≡ a ∷ b ∷ [])
   bare_two n a b first second =
       let full_a = bare_full v n a (parts-mapping v rows a ∙ first) in
       let full_b = bare_full v n b (parts-mapping v rows b ∙ second) in (
@@ -108,20 +108,20 @@ module _ (v : VersionData) (rows : AreRows v.entries) (on : has_hangul v ≡ tru
         ap (λ l. l ++ (full v true n b ++ [])) full_a ∙ ap (λ l. (a ∷ []) ++ (l ++ [])) full_b,
       )
 
-  leading-bare : (i : ℕ) → i < 11172 → mapping_of v (0x1100 + i / 588) ≡ []
+  leading-bare : (i : ℕ) → i < 11172 → decomposition_mapping v (0x1100 + i / 588) ≡ []
   leading-bare i h =
       let lt = leading_below i h in
       jamo-bare v _ (omega arith) ((jamo_rows v on).leading (i / 588) lt)
 
-  vowel-bare : (i : ℕ) → mapping_of v (0x1161 + i % 588 / 28) ≡ []
+  vowel-bare : (i : ℕ) → decomposition_mapping v (0x1161 + i % 588 / 28) ≡ []
   vowel-bare i =
       let lt = vowel_below i in
       jamo-bare v _ (omega arith) ((jamo_rows v on).vowels (i % 588 / 28) lt)
 
-  trailing-bare : (t : ℕ) → 0 < t → t < 28 → mapping_of v (0x11A7 + t) ≡ []
+  trailing-bare : (t : ℕ) → 0 < t → t < 28 → decomposition_mapping v (0x11A7 + t) ≡ []
   trailing-bare t low high =
       let lt : t - 1 < 27 = omega arith in
-      ap (mapping_of v) (trailing_same t low high) ∙ jamo-bare v _ (omega arith) ((jamo_rows v on).trailing (t - 1) lt)
+      ap (decomposition_mapping v) (trailing_same t low high) ∙ jamo-bare v _ (omega arith) ((jamo_rows v on).trailing (t - 1) lt)
 
   -- <L, V>
   record Lv (n c : ℕ) : Type 0 where
@@ -157,8 +157,8 @@ module _ (v : VersionData) (rows : AreRows v.entries) (on : has_hangul v ≡ tru
     last : ℕ
     syllable : is_syllable base ≡ true
     even : (base - 0xAC00) % 28 ≡ 0
-    bare : mapping_of v last ≡ []
-    pair : mapping_of v c ≡ base ∷ last ∷ []
+    bare : decomposition_mapping v last ≡ []
+    pair : decomposition_mapping v c ≡ base ∷ last ∷ []
 
   lvt : (c : ℕ) → is_syllable c ≡ true → ((c - 0xAC00) % 28 == 0) ≡ false → Lvt c
   lvt c h odd =
@@ -175,7 +175,7 @@ module _ (v : VersionData) (rows : AreRows v.entries) (on : has_hangul v ≡ tru
         pair = syllable_mapping v c on h ∙ pair_lvt c odd;
       }
 
-  mark_parts : (n c a b : ℕ) → mapping_of v c ≡ a ∷ b ∷ [] → mark v (suc n) c ≡ parts_mark v n (a ∷ b ∷ [])
+  mark_parts : (n c a b : ℕ) → decomposition_mapping v c ≡ a ∷ b ∷ [] → mark v (suc n) c ≡ parts_mark v n (a ∷ b ∷ [])
   unfolding mapping_mark
   mark_parts n c a b pair = mark-mapping v rows (suc n) c ∙ ap (mapping_mark v (suc n)) pair
 

@@ -20,14 +20,14 @@ use Rattle.np_tables.proofs.CompositeLemmas.{cases_Option, composite-some, compo
 use Rattle.np_tables.proofs.PrimaryLemmas.{primary-syllable}
 use Rattle.np_tables.proofs.FileRowLemmas.{row-at, first-at, found-lists, file_mapping-found}
 use Rattle.np_tables.proofs.FullListLemmas.{lent-outside}
-use Rattle.np_tables.proofs.AmbiguityLemmas.{mapping_of-on}
+use Rattle.np_tables.proofs.AmbiguityLemmas.{decomposition_mapping-on}
 
 -- ---- pairs
 
 pub pair-syllable : (v w : VersionData) → w ≡ v → AreRows v.entries → (a b s : ℕ) → (has_hangul w && is_syllable s) ≡ true → syllable_pair s ≡ a ∷ b ∷ [] → IsCompositeOf v a b s
 pair-syllable v w same rows a b s on pair =
     let on_v = subst (λ x. (has_hangul x && is_syllable s) ≡ true) same on in
-    record { primary = primary-syllable v s rows on_v; mapping = mapping_of-on v s on_v ∙ pair }
+    record { primary = primary-syllable v s rows on_v; mapping = decomposition_mapping-on v s on_v ∙ pair }
 
 pub pair-found : (v u : VersionData) → u ≡ v → (cs : List Composite) → AreOfFile u cs → (a b : ℕ) (r : Option ℕ) → IfSome r (Lists cs a b) → IfSome r (IsCompositeOf v a b)
 pair-found v u same cs file a b None h = h
@@ -37,7 +37,7 @@ not_here : (v w u : VersionData) → w ≡ v → u ≡ v → (cs : List Composit
     ((s : ℕ) → (has_hangul w && is_syllable s) ≡ true → ¬ (syllable_pair s ≡ a ∷ b ∷ [])) → ((code : ℕ) → ¬ Lists cs a b code) → (c : ℕ) → ¬ IsCompositeOf v a b c
 not_here v w u same same_u cs file a b none lists c is =
     elim (cases_Bool (has_hangul v && is_syllable c)) [
-      | inl on ↦ none c (subst (λ x. (has_hangul x && is_syllable c) ≡ true) (sym same) on) (sym (mapping_of-on v c on) ∙ is.mapping)
+      | inl on ↦ none c (subst (λ x. (has_hangul x && is_syllable c) ≡ true) (sym same) on) (sym (decomposition_mapping-on v c on) ∙ is.mapping)
       | inr off ↦ lists c (file.all a b c (subst (λ x. IsCompositeOf x a b c) (sym same_u) is) (subst (λ x. (has_hangul x && is_syllable c) ≡ false) (sym same_u) off))
     ]
 

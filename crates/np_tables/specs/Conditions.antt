@@ -6,7 +6,7 @@ use Rattle.np_ucd.specs.Entries.{AreRows}
 use Rattle.np_tables.specs.Composites.{IsCompositeOf}
 use Rattle.np_tables.specs.Mappings.{has_depth}
 use Rattle.np_tables.specs.inside.FullDecompositions.{full_of}
-use Rattle.np_tables.specs.Versions.{VersionData, class_of, is_assigned, is_hangul, has_hangul, mapping_of}
+use Rattle.np_tables.specs.Versions.{VersionData, class_of, is_assigned, is_hangul, has_hangul, decomposition_mapping}
 
 pub record IsSound (v : VersionData) : Type 0 where
   -- the rows are those of a data file
@@ -16,11 +16,11 @@ pub record IsSound (v : VersionData) : Type 0 where
   -- 255 is no combining class
   pub classes : (c : ℕ) → class_of v c ≤ 254
   -- a mapping holds no surrogate
-  pub scalars : (c : ℕ) → list_all scalar (mapping_of v c) ≡ true
+  pub scalars : (c : ℕ) → list_all scalar (decomposition_mapping v c) ≡ true
   -- no surrogate has a mapping
-  pub mapped_scalar : (c : ℕ) → mapping_of v c ≢ [] → scalar c ≡ true
+  pub mapped_scalar : (c : ℕ) → decomposition_mapping v c ≢ [] → scalar c ≡ true
   -- a mapping holds assigned code points alone
-  pub maps_to_assigned : (c : ℕ) → list_all (is_assigned v) (mapping_of v c) ≡ true
+  pub maps_to_assigned : (c : ℕ) → list_all (is_assigned v) (decomposition_mapping v c) ≡ true
   -- no code point is deeper than 32
   pub shallow : (c : ℕ) → has_depth v 32 c ≡ true
   -- no full compatibility decomposition is longer than 64

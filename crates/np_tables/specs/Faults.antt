@@ -4,11 +4,11 @@ use Rattle.std.specs.List.{list_all}
 use Rattle.np_tables.specs.Composites.{is_primary}
 use Rattle.np_tables.specs.Mappings.{has_depth}
 use Rattle.np_tables.specs.inside.FullDecompositions.{full_of}
-use Rattle.np_tables.specs.Versions.{VersionData, is_assigned, is_hangul, is_hangul_row, mapping_of}
+use Rattle.np_tables.specs.Versions.{VersionData, is_assigned, is_hangul, is_hangul_row, decomposition_mapping}
 
 -- its mapping holds an unassigned code point
 pub record IsMappedToUnassigned (v : VersionData) (c : ℕ) : Type 0 where
-  pub lacks : list_all (is_assigned v) (mapping_of v c) ≡ false
+  pub lacks : list_all (is_assigned v) (decomposition_mapping v c) ≡ false
 
 -- its depth is over 32; a cycle is too deep
 pub record IsTooDeep (v : VersionData) (c : ℕ) : Type 0 where
@@ -25,7 +25,7 @@ pub record IsAmbiguous (v : VersionData) (c : ℕ) : Type 0 where
   pub other : ℕ
   pub smaller : other < c
   pub other_primary : is_primary v other ≡ true
-  pub same : mapping_of v other ≡ mapping_of v c
+  pub same : decomposition_mapping v other ≡ decomposition_mapping v c
 
 -- it is a syllable or a jamo, some of which are assigned, and isn't as the arithmetic wants it:
 -- unassigned, of non-zero class, or with a mapping in the file

@@ -80,8 +80,8 @@ has_hangul v = all_hangul (is_hangul_row v)
 
 -- ---- kind and mapping, with the syllables' pairs as canonical mappings like any other
 
-unfoldable pub kind_of : VersionData → ℕ → MapKind
-kind_of v c = if has_hangul v && is_syllable c then Canonical else file_kind v c
+unfoldable pub decomposition_kind : VersionData → ℕ → MapKind
+decomposition_kind v c = if has_hangul v && is_syllable c then Canonical else file_kind v c
 
-unfoldable pub mapping_of : VersionData → ℕ → List ℕ
-mapping_of v c = if has_hangul v && is_syllable c then syllable_pair c else file_mapping v c
+unfoldable pub decomposition_mapping : VersionData → ℕ → List ℕ
+decomposition_mapping v c = if has_hangul v && is_syllable c then syllable_pair c else file_mapping v c
