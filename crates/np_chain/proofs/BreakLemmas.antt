@@ -6,7 +6,7 @@ use Rattle.np_chain.specs.Breaks.{is_lost, changes_class, is_same_kind, maps_ali
 use Rattle.np_chain.specs.Chain.{Extends}
 use Rattle.np_chain.specs.declared.breaks.BreakKind.{BreakKind}
 use Rattle.np_chain.specs.declared.breaks.BreakKind.TheVariants.{Lost, ClassChanged, MappingChanged, NowExcluded, NowIncluded, NewComposite}
-use Rattle.np_tables.specs.Composites.{is_primary}
+use Rattle.np_tables.specs.inside.Primaries.{is_primary}
 use Rattle.np_tables.specs.Conditions.{IsSound}
 use Rattle.np_tables.specs.Versions.{VersionData, is_assigned, class_of, decomposition_kind, decomposition_mapping}
 use Rattle.np_tables.proofs.CompositeLemmas.{primary-assigned}

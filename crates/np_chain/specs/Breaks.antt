@@ -4,7 +4,7 @@ use Rattle.std.specs.List.{list_all, All, AllPairs, Contains}
 use Rattle.np_chain.specs.declared.breaks.Break.{Break}
 use Rattle.np_chain.specs.declared.breaks.BreakKind.{BreakKind}
 use Rattle.np_chain.specs.declared.breaks.BreakKind.TheVariants.{Lost, ClassChanged, MappingChanged, NowExcluded, NowIncluded, NewComposite}
-use Rattle.np_tables.specs.Composites.{is_primary}
+use Rattle.np_tables.specs.inside.Primaries.{is_primary}
 use Rattle.np_tables.specs.Versions.{VersionData, is_assigned, class_of, decomposition_kind, decomposition_mapping}
 use Rattle.np_ucd.specs.declared.rows.MapKind.{MapKind}
 use Rattle.np_ucd.specs.declared.rows.MapKind.TheVariants.{Plain, Canonical, Compatibility}

@@ -3,7 +3,7 @@ use Rattle.std.specs.Prelude.{◌≡◌, ℕ, ◌-◌, ◌<◌, ◌≤◌, true,
 use Rattle.std.specs.List.{list_all}
 use Rattle.np_chain.specs.Breaks.{IsFirstBreak}
 use Rattle.np_chain.specs.declared.breaks.Break.{Break}
-use Rattle.np_tables.specs.Composites.{is_primary}
+use Rattle.np_tables.specs.inside.Primaries.{is_primary}
 use Rattle.np_tables.specs.Conditions.{IsSound}
 use Rattle.np_tables.specs.Versions.{VersionData, is_assigned, class_of, decomposition_kind, decomposition_mapping}
 

@@ -8,12 +8,13 @@ use Rattle.np_code_points.specs.Hangul.{is_syllable, syllable_pair}
 use Rattle.np_tables.specs.Versions.{entry_at, is_assigned, class_of, file_kind, file_mapping, mapping_in, is_canonical, is_empty, is_excluded, is_hangul, is_hangul_row, has_hangul, decomposition_kind, decomposition_mapping}
 use Rattle.np_tables.specs.Mappings.{has_depth}
 use Rattle.np_tables.specs.inside.FullDecompositions.{full_of}
-use Rattle.np_tables.specs.Composites.{is_starter_pair, is_primary, IsCompositeOf}
+use Rattle.np_tables.specs.Composites.{IsPrimary, IsCompositeOf}
 use Rattle.np_tables.specs.Conditions.{IsSound}
 use Rattle.np_tables.specs.Examples.{letter, letter_with_ring, ring, with_rows}
 use Rattle.np_tables.proofs.FactLemmas.{classes-at, scalars-at, mapped_scalar-at}
-use Rattle.np_tables.proofs.MappingLemmas.{full_of-final, full_of-mapped, parts-cases}
-use Rattle.np_tables.proofs.CompositeLemmas.{syllable_row, composite_parts}
+use Rattle.np_tables.proofs.MappingLemmas.{full_of-final, full_of-mapped, full_of-only, parts-cases}
+use Rattle.np_tables.proofs.CompositeLemmas.{composite_parts}
+use Rattle.np_tables.proofs.HangulLemmas.{syllable_row}
 
 -- ---- the rows
 
@@ -83,12 +84,10 @@ pair_kind : decomposition_kind with_rows 0xC5 ≡ Canonical
 unfolding decomposition_kind file_kind entry_at
 pair_kind = cond-false _ Canonical _ (off_at 0xC5)
 
-pair_primary : is_primary with_rows 0xC5 ≡ true
-unfolding is_primary class_of is_excluded entry_at
+pair_primary : IsPrimary with_rows 0xC5
+unfolding class_of is_excluded entry_at
 pair_primary =
-    let canonical = ap is_canonical pair_kind in
-    let starters = ap (is_starter_pair (class_of with_rows)) pair_mapping in
-    and_from _ _ (and_from _ _ canonical starters) refl
+    record { canonical = pair_kind; first = 0x41; second = 0x30A; pair = pair_mapping; starter = refl; first_starter = refl; included = refl }
 
 pub IsCompositeOf-with_rows : IsCompositeOf with_rows 0x41 0x30A 0xC5
 IsCompositeOf-with_rows = record { primary = pair_primary; mapping = pair_mapping }
@@ -134,8 +133,8 @@ pair_full =
 one_long : (c : ℕ) → decomposition_mapping with_rows c ≡ [] → length (full_of with_rows true c) ≤ 64
 one_long c none = let e = ap length (final_full c none) in omega arith
 
-short : (c : ℕ) → length (full_of with_rows true c) ≤ 64
-short c =
+few : (c : ℕ) → length (full_of with_rows true c) ≤ 64
+few c =
     by_row (λ d o. decomposition_mapping with_rows d ≡ mapping_in o → length (full_of with_rows true d) ≤ 64)
     one_long (one_long 0x41) (λ _. let e = ap length pair_full in omega arith) (one_long 0x30A) c (mapping_is c)
 
@@ -158,7 +157,7 @@ IsSound-with_rows =
       mapped_scalar = λ c. mapped_scalar-at with_rows c rows;
       maps_to_assigned = maps_to_assigned;
       shallow = shallow;
-      short = short;
+      short = λ c ys is. (let e = ap length (full_of-only with_rows true shallow c ys is) in let le = few c in omega arith);
       unlike = λ a b c d h k. pair_alone a b c h ∙ sym (pair_alone a b d k);
       hangul = no_hangul;
     }

@@ -18,7 +18,7 @@ use Rattle.np_tables.specs.Mappings.{has_depth}
 use Rattle.np_tables.specs.inside.FullDecompositions.{full_of}
 use Rattle.np_tables.specs.Versions.{VersionData, is_assigned, decomposition_mapping}
 use Rattle.np_tables.proofs.FactLemmas.{bounded-at, classes-at, scalars-at, mapped_scalar-at}
-use Rattle.np_tables.proofs.HangulPlaces.{on_where_right}
+use Rattle.np_tables.proofs.HangulLemmas.{on_where_right}
 
 -- ---- a version without faults meets the conditions
 
@@ -43,8 +43,8 @@ sound-faultless v rows none =
         | inr lacks ↦ absurd (none (MapsToUnassigned c) (record { lacks = lacks }))
       ];
       shallow = shallow;
-      short = λ c. elim (cases_lt 64 (length (full_of v true c))) [
-        | inl long ↦ absurd (none (TooLong c) (record { shallow = shallow c; long = long }))
+      short = λ c full is. elim (cases_lt 64 (length full)) [
+        | inl long ↦ absurd (none (TooLong c) (record { shallow = shallow c; full = full; decomposes = is; long = long }))
         | inr ok ↦ ok
       ];
       unlike = λ a b c d hc hd. elim (cases_order c d) [

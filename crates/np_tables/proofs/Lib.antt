@@ -20,7 +20,9 @@ pub mod MappingLemmas
 pub mod MarkLemmas
 pub mod PairLemmas
 pub mod PrimaryLemmas
+pub mod RightLemmas
 pub mod RoundLemmas
 pub mod RowLemmas
 pub mod SyllableLemmas
 pub mod TableLemmas
+pub mod UniqueLemmas

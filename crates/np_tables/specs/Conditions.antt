@@ -1,11 +1,10 @@
 -- What holds of each version that was built.
-use Rattle.std.specs.Prelude.{◌≡◌, ◌≢◌, ℕ, ◌<◌, ◌≤◌, true, [], length}
+use Rattle.std.specs.Prelude.{◌≡◌, ◌≢◌, ℕ, ◌<◌, ◌≤◌, true, List, [], ◌∷◌, length}
 use lib.Utf8.{scalar}
 use Rattle.std.specs.List.{list_all}
 use Rattle.np_ucd.specs.Entries.{AreRows}
 use Rattle.np_tables.specs.Composites.{IsCompositeOf}
-use Rattle.np_tables.specs.Mappings.{has_depth}
-use Rattle.np_tables.specs.inside.FullDecompositions.{full_of}
+use Rattle.np_tables.specs.Mappings.{IsFullDecomposition, has_depth}
 use Rattle.np_tables.specs.Versions.{VersionData, class_of, is_assigned, is_hangul, has_hangul, decomposition_mapping}
 
 pub record IsSound (v : VersionData) : Type 0 where
@@ -24,7 +23,7 @@ pub record IsSound (v : VersionData) : Type 0 where
   -- no code point is deeper than 32
   pub shallow : (c : ℕ) → has_depth v 32 c ≡ true
   -- no full compatibility decomposition is longer than 64
-  pub short : (c : ℕ) → length (full_of v true c) ≤ 64
+  pub short : (c : ℕ) (full : List ℕ) → IsFullDecomposition v true (c ∷ []) full → length full ≤ 64
   -- a pair has one primary composite at most
   pub unlike : (a b c d : ℕ) → IsCompositeOf v a b c → IsCompositeOf v a b d → c ≡ d
   -- where a syllable or a jamo is assigned, the arithmetic is on

@@ -7,5 +7,6 @@ pub mod FullLists
 pub mod FullParts
 pub mod HangulRows
 pub mod Pairs
+pub mod Primaries
 pub mod RowPlaces
 pub mod Suspects

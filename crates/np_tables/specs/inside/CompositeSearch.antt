@@ -1,7 +1,7 @@
 -- The primary composite of a pair as a function: the least code point that is one.
 use Rattle.std.specs.Prelude.{ℕ, zero, suc, Bool, true, false, ◌&&◌, ◌==◌, List, [], ◌∷◌, Option, Some, None}
 use Rattle.np_tables.specs.Versions.{VersionData, decomposition_mapping}
-use Rattle.np_tables.specs.Composites.{is_primary}
+use Rattle.np_tables.specs.inside.Primaries.{is_primary}
 
 abbrev pub or_this : Option ℕ → Bool → ℕ → Option ℕ
 or_this (Some k) b n = Some k
