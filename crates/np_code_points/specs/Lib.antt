@@ -3,6 +3,8 @@ pub mod Devices
 pub mod Forms
 pub mod Hangul
 pub mod Inputs
+pub mod Lines
 pub mod Steps
 pub mod Text
 pub mod Watched
+pub mod inside
