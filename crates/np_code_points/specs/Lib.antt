@@ -1,5 +1,4 @@
 pub mod Codes
-pub mod Devices
 pub mod Forms
 pub mod Hangul
 pub mod Inputs
