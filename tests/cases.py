@@ -2,7 +2,6 @@
 
 from dataclasses import dataclass
 
-from harness import COMMANDS, FORMS, NORMALIZE_STREAMS
 from versions import BAD_DATA, BAD_TABLES, EXCLUSIONS, LIMIT, S, V1, V2, good_files
 
 USAGE = (
@@ -19,17 +18,13 @@ DIFFERENT, WRONG_WORDS, UNASSIGNED, BAD_TEXT, DEVICE = 1, 2, 3, 4, 5
 
 @dataclass
 class Case:
-    """One run: its words, its input, and what it has to write and answer.
-
-    With `prefix` standard output may hold any prefix of `out`.
-    """
+    """One run: its words, its input, and what it has to write and answer."""
 
     words: list
     stdin: bytes = b""
     out: bytes = b""
     err: str = ""
     status: int = 0
-    prefix: bool = False
 
     def name(self):
         return f"{' '.join(self.words)} < {self.stdin[:40]!r}"
@@ -141,9 +136,9 @@ def usage_cases():
     wrong = ["--help", "-h", "help", "--version", "help key", "key --help", "key", "nothing", "--",
              "key --form nfx D E", "key --form NFC D E", "key D E", "key --form nfc D",
              "key --form nfc D E F", "key --form nfc --form nfc D E", "audit A B C",
-             "audit A B C D E", "compare --form nfc D", "normalize --form nfc", "replay --form nfc S"]
-    if "replay" not in COMMANDS:
-        wrong.append("replay --form nfc S D E")
+             "audit A B C D E", "compare --form nfc D", "normalize --form nfc", "replay --form nfc S",
+             # until the command comes
+             "replay --form nfc S D E"]
     for words in wrong:
         yield Case(words.split(), err=USAGE, status=WRONG_WORDS)
 
@@ -166,8 +161,7 @@ def input_cases():
         line = f"input: not UTF-8 at byte {at}"
         yield refused(["key", "--form", "nfc", *V1], line, BAD_TEXT, given)
         yield refused(["compare", "--form", "nfc", *V1], line, BAD_TEXT, given)
-        out = given[:at] if NORMALIZE_STREAMS else b""
-        yield Case(["normalize", "--form", "nfc", *V1], given, out, line + "\n", BAD_TEXT, prefix=True)
+        yield refused(["normalize", "--form", "nfc", *V1], line, BAD_TEXT, given)
     full = b"a" * LIMIT
     yield Case(["key", "--form", "nfc", *V1], full, full)
     yield Case(["normalize", "--form", "nfc", *V1], full, full)
@@ -176,10 +170,7 @@ def input_cases():
     half = b"a" * (LIMIT // 2 - 1)
     yield Case(["compare", "--form", "nfc", *V1], half + b"\n" + half + b"\n", b"equal\n")
     yield refused(["compare", "--form", "nfc", *V1], "input: TooLarge", BAD_TEXT, full + b"\n")
-    if NORMALIZE_STREAMS:
-        yield Case(["normalize", "--form", "nfc", *V1], full + b"a", full + b"a")
-    else:
-        yield refused(["normalize", "--form", "nfc", *V1], "input: TooLarge", BAD_TEXT, full + b"a")
+    yield refused(["normalize", "--form", "nfc", *V1], "input: TooLarge", BAD_TEXT, full + b"a")
 
 
 def compare_cases():
@@ -244,9 +235,6 @@ def order_cases():
 
 
 def all_cases():
-    """The cases of the commands that exist."""
-    groups = (usage_cases, form_cases, input_cases, compare_cases, audit_cases, file_cases, order_cases)
-    for group in groups:
-        for case in group():
-            if group is usage_cases or case.words[0] in COMMANDS:
-                yield case
+    """All of them."""
+    for group in (usage_cases, form_cases, input_cases, compare_cases, audit_cases, file_cases, order_cases):
+        yield from group()

@@ -1,17 +1,10 @@
-"""What the test scripts share: which commands there are, runs of the program, and the count."""
+"""What the test scripts share: runs of the program, and the count."""
 
 import subprocess
 import sys
 from pathlib import Path
 
 ROOT = Path(__file__).resolve().parent.parent
-
-# The commands that exist now. Cases of another command are left out.
-COMMANDS = ("normalize", "key", "compare", "audit")
-
-# Whether `normalize` takes its input as a stream: then it has no limit that a test could reach, and
-# after a fault of the input a part of the form may have been written.
-NORMALIZE_STREAMS = False
 
 FORMS = ("nfd", "nfc", "nfkd", "nfkc")
 

@@ -1,4 +1,6 @@
 //! Worked examples: the fixtures against one another, and against themselves with a line altered.
+ghost use Rattle.std.specs.Prelude.{IsTrue, OnOk};
+
 mod audits;
 mod chains;
 
@@ -15,6 +17,8 @@ fn version_of(alloc: Global, data: &str, exclusions: &str) -> Result<Version, Fa
 }
 
 /// Fails with these words where the fact does not hold.
-fn want(holds: bool, what: &str) -> Result<(), Fail> {
+fn want(holds: bool, what: &str) -> Result<(), Fail>
+    ensures { OnOk result (IsTrue holds) }
+{
     if holds { Ok(()) } else { Err(Fail::new(what)) }
 }
