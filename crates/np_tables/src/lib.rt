@@ -14,6 +14,7 @@ pub mod laws;
 mod mapped_faults;
 mod pairs;
 mod row_index;
+mod row_pages;
 mod row_places;
 pub mod row_table;
 mod syllables;
