@@ -22,26 +22,26 @@ use Rattle.np_forms.proofs.OrderLaws.{ordered_form-canonical_order, IsOrderedFor
 use Rattle.np_forms.proofs.OrderLemmas.{list_all-canonical_order}
 use Rattle.np_forms.proofs.ComposeLemmas.{is_starter-false, not_starter_from, compose-nil}
 use Rattle.np_forms.proofs.FormLemmas.{EndsAs-ended, ended_is, IsNormalForm-normal_form}
-use Rattle.np_forms.proofs.StreamLemmas.{compose_of_is, IsLastRun, last_after, mark_or_starter}
-use Rattle.np_forms.proofs.PendingLemmas.{order_starter, composed_starter, compose-marks}
+use Rattle.np_forms.proofs.StreamLemmas.{compose_of_is, IsLastRun, last_after, non_starter_or_starter}
+use Rattle.np_forms.proofs.PendingLemmas.{order_starter, composed_starter, compose-non_starters}
 
 module _ (v : VersionData) (sound : IsSound v) where
   pub held_start : (e : Bool) → IsHeld v e [] [] []
-  held_start e = record { front = []; marks = []; split = refl; all = refl; shape = no_starter []; goes_on = λ zs. refl }
+  held_start e = record { front = []; non_starters = []; split = refl; all = refl; shape = no_starter []; goes_on = λ zs. refl }
 
-  shape_mark : (out ms pending : List ℕ) (d : ℕ) → Shape v out ms pending → Shape v out (ms ++ d ∷ []) (pending ++ d ∷ [])
-  shape_mark out ms pending d (no_starter ns) = no_starter (ns ++ d ∷ [])
-  shape_mark out ms pending d (starter before s ns low) = starter before s (ns ++ d ∷ []) low
+  shape_non_starter : (out ms pending : List ℕ) (d : ℕ) → Shape v out ms pending → Shape v out (ms ++ d ∷ []) (pending ++ d ∷ [])
+  shape_non_starter out ms pending d (no_starter ns) = no_starter (ns ++ d ∷ [])
+  shape_non_starter out ms pending d (starter before s ns low) = starter before s (ns ++ d ∷ []) low
 
   -- a non-starter is held back too
-  pub held_mark : (e : Bool) (ds out pending : List ℕ) (d : ℕ) → 0 < class_of v d → IsHeld v e ds out pending → IsHeld v e (ds ++ d ∷ []) out (pending ++ d ∷ [])
-  held_mark e ds out pending d mark h =
+  pub held_non_starter : (e : Bool) (ds out pending : List ℕ) (d : ℕ) → 0 < class_of v d → IsHeld v e ds out pending → IsHeld v e (ds ++ d ∷ []) out (pending ++ d ∷ [])
+  held_non_starter e ds out pending d non_starter h =
       record {
         front = h.front;
-        marks = h.marks ++ d ∷ [];
-        split = ap (λ l. l ++ d ∷ []) h.split ∙ append_assoc h.front h.marks (d ∷ []);
-        all = list_all-append (is_non_starter v) h.marks (d ∷ []) h.all (and_from _ _ (not_from_false _ (not_starter_from (class_of v) d mark)) refl);
-        shape = shape_mark out h.marks pending d h.shape;
+        non_starters = h.non_starters ++ d ∷ [];
+        split = ap (λ l. l ++ d ∷ []) h.split ∙ append_assoc h.front h.non_starters (d ∷ []);
+        all = list_all-append (is_non_starter v) h.non_starters (d ∷ []) h.all (and_from _ _ (not_from_false _ (not_starter_from (class_of v) d non_starter)) refl);
+        shape = shape_non_starter out h.non_starters pending d h.shape;
         goes_on = λ zs.
             ap (λ l. ended v e (canonical_order (class_of v) l)) (append_assoc ds (d ∷ []) zs) ∙ h.goes_on (d ∷ zs)
             ∙ ap (λ l. out ++ ended v e (canonical_order (class_of v) l)) (sym (append_assoc pending (d ∷ []) zs));
@@ -52,7 +52,7 @@ module _ (v : VersionData) (sound : IsSound v) where
   held_all e ds out pending [] all h = subst (λ l. IsHeld v e l out (pending ++ [])) (sym (append-nil ds)) (subst (λ l. IsHeld v e ds out l) (sym (append-nil pending)) h)
   held_all e ds out pending (m ∷ ms) all h =
       let both = and_parts (is_non_starter v m) (list_all (is_non_starter v) ms) all in
-      let next = held_all e (ds ++ m ∷ []) out (pending ++ m ∷ []) ms both.1 (held_mark e ds out pending m (is_starter-false (class_of v) m (not-true _ both.0)) h) in
+      let next = held_all e (ds ++ m ∷ []) out (pending ++ m ∷ []) ms both.1 (held_non_starter e ds out pending m (is_starter-false (class_of v) m (not-true _ both.0)) h) in
       subst (λ l. IsHeld v e l out (pending ++ m ∷ ms)) (append_assoc ds (m ∷ []) ms)
       (subst (λ l. IsHeld v e ((ds ++ m ∷ []) ++ ms) out l) (append_assoc pending (m ∷ []) ms) next)
 
@@ -61,7 +61,7 @@ module _ (v : VersionData) (sound : IsSound v) where
   held_flush e ds out pending d low h parts =
       record {
         front = ds ++ d ∷ [];
-        marks = [];
+        non_starters = [];
         split = sym (append-nil (ds ++ d ∷ []));
         all = refl;
         shape = starter _ d [] low;
@@ -75,7 +75,7 @@ module _ (v : VersionData) (sound : IsSound v) where
   held_join e ds out pending d p low h joins =
       record {
         front = ds ++ d ∷ [];
-        marks = [];
+        non_starters = [];
         split = sym (append-nil (ds ++ d ∷ []));
         all = refl;
         shape = starter out p [] low;
@@ -117,16 +117,16 @@ module _ (v : VersionData) (sound : IsSound v) where
   few_held out ms pending (no_starter ns) = omega arith
   few_held out ms pending (starter before s ns low) = omega arith
 
-  pub marks_ended : (e : Bool) (ms : List ℕ) → list_all (is_non_starter v) ms ≡ true → ended v e (canonical_order (class_of v) ms) ≡ canonical_order (class_of v) ms
-  marks_ended false ms h = refl
-  marks_ended true ms h =
+  pub non_starters_ended : (e : Bool) (ms : List ℕ) → list_all (is_non_starter v) ms ≡ true → ended v e (canonical_order (class_of v) ms) ≡ canonical_order (class_of v) ms
+  non_starters_ended false ms h = refl
+  non_starters_ended true ms h =
       let sorted = list_all-canonical_order (class_of v) (is_non_starter v) ms h in
-      compose_of_is v sound _ ∙ ap (compose (class_of v) (composite v)) (sym (append-nil _)) ∙ compose-marks v sound _ [] sorted
+      compose_of_is v sound _ ∙ ap (compose (class_of v) (composite v)) (sym (append-nil _)) ∙ compose-non_starters v sound _ [] sorted
       ∙ ap (λ l. canonical_order (class_of v) ms ++ l) (compose-nil (class_of v) (composite v)) ∙ append-nil _
 
   starter_ended : (e : Bool) (s : ℕ) (ms : List ℕ) → class_of v s ≤ 0 → list_all (is_non_starter v) ms ≡ true → IsLastRun v sound (ended v e (canonical_order (class_of v) (s ∷ ms)))
   starter_ended false s ms low h =
-      record { head = s; marks = canonical_order (class_of v) ms; split = order_starter v sound s ms low; starter = omega arith; all = list_all-canonical_order (class_of v) (is_non_starter v) ms h }
+      record { head = s; non_starters = canonical_order (class_of v) ms; split = order_starter v sound s ms low; starter = omega arith; all = list_all-canonical_order (class_of v) (is_non_starter v) ms h }
   starter_ended true s ms low h =
       let sorted = list_all-canonical_order (class_of v) (is_non_starter v) ms h in
       let e = compose_of_is v sound _ ∙ composed_starter v sound s ms low in
@@ -134,14 +134,14 @@ module _ (v : VersionData) (sound : IsSound v) where
         | inl whole ↦ subst (IsLastRun v sound) (sym e) whole
         | inr part ↦
             let low_first = part.starter in
-            absurd (mark_or_starter v sound part.first part.front part.rest (omega arith) (ap (list_all (is_non_starter v)) (sym part.split) ∙ sorted))
+            absurd (non_starter_or_starter v sound part.first part.front part.rest (omega arith) (ap (list_all (is_non_starter v)) (sym part.split) ∙ sorted))
       ]
 
   cut_held : (e : Bool) (out ms pending : List ℕ) → list_all (is_non_starter v) ms ≡ true → Shape v out ms pending → IsCutAtLastStarter v out (ended v e (canonical_order (class_of v) pending))
   cut_held e out ms pending all (no_starter ns) =
-      inr (record { nothing = refl; marks = ap (list_all (is_non_starter v)) (marks_ended e ns all) ∙ list_all-canonical_order (class_of v) (is_non_starter v) ns all })
+      inr (record { nothing = refl; non_starters = ap (list_all (is_non_starter v)) (non_starters_ended e ns all) ∙ list_all-canonical_order (class_of v) (is_non_starter v) ns all })
   cut_held e out ms pending all (starter before s ns low) =
-      let r = starter_ended e s ns low all in inl (record { s = r.head; ms = r.marks; split = r.split; starter = r.starter; marks = r.all })
+      let r = starter_ended e s ns low all in inl (record { s = r.head; ms = r.non_starters; split = r.split; starter = r.starter; non_starters = r.all })
 
   -- ---- the relation of the definitions
 
@@ -176,17 +176,17 @@ module _ (v : VersionData) (sound : IsSound v) where
       record {
         full = ds;
         decomposes = IsFullDecomposition-flat_map v (is_compat form) sound.shallow fed;
-        held_back = record { front = h.front; run = h.marks; split = h.split; marks = h.all; behind = shape_behind out h.marks pending h.shape };
+        held_back = record { front = h.front; run = h.non_starters; split = h.split; non_starters = h.all; behind = shape_behind out h.non_starters pending h.shape };
         goes_on = λ more ys of_ys.
             subst (IsOrderedAndComposed v form (ds ++ more)) (h.goes_on more ∙ ap (λ l. out ++ l) (sym (ordered_value form (pending ++ more) ys of_ys))) (value_ordered form (ds ++ more));
         held = ended v e (canonical_order (class_of v) pending);
         holds = value_ordered form pending;
         whole = subst (IsNormalForm v form fed) whole (IsNormalForm-normal_form v sound form fed);
-        cut = cut_held e out h.marks pending h.all h.shape;
+        cut = cut_held e out h.non_starters pending h.all h.shape;
         few = λ n short.
-            elim (cases_lt n (length h.marks)) [
-              | inl long ↦ absurd (short (record { before = h.front; run = h.marks; after = []; split = h.split ∙ ap (λ l. h.front ++ l) (sym (append-nil h.marks)); marks = h.all; long = long }))
-              | inr fits ↦ (let most = few_held out h.marks pending h.shape in omega arith)
+            elim (cases_lt n (length h.non_starters)) [
+              | inl long ↦ absurd (short (record { before = h.front; run = h.non_starters; after = []; split = h.split ∙ ap (λ l. h.front ++ l) (sym (append-nil h.non_starters)); non_starters = h.all; long = long }))
+              | inr fits ↦ (let most = few_held out h.non_starters pending h.shape in omega arith)
             ];
       }
 
@@ -197,9 +197,9 @@ module _ (v : VersionData) (sound : IsSound v) where
       let same : s.full ≡ ds = full_decomposition-flat_map v (is_compat form) sound.shallow fed s.full s.decomposes in
       record {
         front = s.held_back.front;
-        marks = s.held_back.run;
+        non_starters = s.held_back.run;
         split = sym same ∙ s.held_back.split;
-        all = s.held_back.marks;
+        all = s.held_back.non_starters;
         shape = behind_shape out s.held_back.run pending s.held_back.behind;
         goes_on = λ zs.
             ap (λ l. ended v e (canonical_order (class_of v) (l ++ zs))) (sym same)

@@ -20,7 +20,7 @@ use Rattle.np_forms.specs.Streams.{BeginsAtLastStarter, HasNoStarter}
 use Rattle.np_forms.specs.StreamLaws.{OneMore}
 use Rattle.np_tables.proofs.MappingLemmas.{list_all-append}
 use Rattle.np_forms.proofs.OrderLemmas.{canonical_order-front, canonical_order-at_starter, canonical_order-ordered, is_ordered-front, is_ordered-back}
-use Rattle.np_forms.proofs.ComposeLemmas.{not_starter_from, compose_after-nil, compose_after-joined, compose_after-starter, compose_after-kept, compose-nil, compose-starter, compose-mark, joined-some}
+use Rattle.np_forms.proofs.ComposeLemmas.{not_starter_from, compose_after-nil, compose_after-joined, compose_after-starter, compose_after-kept, compose-nil, compose-starter, compose-non_starter, joined-some}
 use Rattle.np_tables.proofs.CompositeLemmas.{cases_Option, composite-starter}
 use Rattle.np_forms.proofs.FormLemmas.{IsNormalForm-normal_form, normal_form_is}
 use Rattle.np_forms.proofs.KeptLemmas.{is_ordered-decomposed, all_final, decomposed-final, decomposed-composed, decomposed-normal_form}
@@ -40,18 +40,18 @@ module _ (v : VersionData) (sound : IsSound v) where
   abbrev join : ℕ → ℕ → Option ℕ
   join = composite v
 
-  mark_from : (c : ℕ) → 0 < class_of v c → is_non_starter v c ≡ true
-  mark_from c h = not_from_false _ (not_starter_from ccc c h)
+  non_starter_from : (c : ℕ) → 0 < class_of v c → is_non_starter v c ≡ true
+  non_starter_from c h = not_from_false _ (not_starter_from ccc c h)
 
   -- ---- the last starter that composition writes
 
-  -- a starter and marks
+  -- a starter and non-starters
   pub record IsLastRun (ys : List ℕ) : Type 0 where
     pub head : ℕ
-    pub marks : List ℕ
-    pub split : ys ≡ head ∷ marks
+    pub non_starters : List ℕ
+    pub split : ys ≡ head ∷ non_starters
     pub starter : class_of v head ≡ 0
-    pub all : list_all (is_non_starter v) marks ≡ true
+    pub all : list_all (is_non_starter v) non_starters ≡ true
 
   -- what comes out last comes from `rest` on, whatever follows
   pub record LastAfter (s : ℕ) (bs cs : List ℕ) : Type 0 where
@@ -65,14 +65,14 @@ module _ (v : VersionData) (sound : IsSound v) where
     pub last : IsLastRun (compose_after ccc join first [] rest)
 
   pub last_after : (s : ℕ) (bs cs : List ℕ) → class_of v s ≤ 0 → list_all (is_non_starter v) bs ≡ true → IsLastRun (compose_after ccc join s bs cs) ⊎ LastAfter s bs cs
-  last_after s bs [] starter marks =
-      inl (record { head = s; marks = bs; split = compose_after-nil ccc join s bs; starter = omega arith; all = marks })
-  last_after s bs (c ∷ cs) starter marks =
+  last_after s bs [] starter non_starters =
+      inl (record { head = s; non_starters = bs; split = compose_after-nil ccc join s bs; starter = omega arith; all = non_starters })
+  last_after s bs (c ∷ cs) starter non_starters =
       elim (cases_Option (joined ccc join s bs c)) [
         | inr some ↦
             let goes = λ (zs : List ℕ). compose_after-joined ccc join s bs c some.0 zs some.1 in
             let both = (joined-some ccc join s bs c some.0 some.1).1 in
-            elim (last_after some.0 bs cs (let e = composite-starter v sound s c some.0 both in omega arith) marks) [
+            elim (last_after some.0 bs cs (let e = composite-starter v sound s c some.0 both in omega arith) non_starters) [
               | inl whole ↦ inl (subst IsLastRun (sym (goes cs)) whole)
               | inr part ↦
                   inr (record {
@@ -88,9 +88,9 @@ module _ (v : VersionData) (sound : IsSound v) where
             ]
         | inl none ↦
             elim (cases_lt 0 (class_of v c)) [
-              | inl mark ↦
-                  let goes = λ (zs : List ℕ). compose_after-kept ccc join s bs c zs none mark in
-                  elim (last_after s (bs ++ c ∷ []) cs starter (list_all-append (is_non_starter v) bs (c ∷ []) marks (and_from _ _ (mark_from c mark) refl))) [
+              | inl non_starter ↦
+                  let goes = λ (zs : List ℕ). compose_after-kept ccc join s bs c zs none non_starter in
+                  elim (last_after s (bs ++ c ∷ []) cs starter (list_all-append (is_non_starter v) bs (c ∷ []) non_starters (and_from _ _ (non_starter_from c non_starter) refl))) [
                     | inl whole ↦ inl (subst IsLastRun (sym (goes cs)) whole)
                     | inr part ↦
                         inr (record {
@@ -149,10 +149,10 @@ module _ (v : VersionData) (sound : IsSound v) where
   last_part [] = inl (ap (list_all (is_non_starter v)) (compose-nil ccc join))
   last_part (c ∷ cs) =
       elim (cases_lt 0 (class_of v c)) [
-        | inl mark ↦
-            let goes = λ (zs : List ℕ). compose-mark ccc join c zs mark in
+        | inl non_starter ↦
+            let goes = λ (zs : List ℕ). compose-non_starter ccc join c zs non_starter in
             elim (last_part cs) [
-              | inl none ↦ inl (ap (list_all (is_non_starter v)) (goes cs) ∙ and_from _ _ (mark_from c mark) none)
+              | inl none ↦ inl (ap (list_all (is_non_starter v)) (goes cs) ∙ and_from _ _ (non_starter_from c non_starter) none)
               | inr part ↦
                   inr (record {
                     front = c ∷ part.front;
@@ -186,16 +186,16 @@ module _ (v : VersionData) (sound : IsSound v) where
 
   -- ---- the last starter is one place
 
-  pub mark_or_starter : (s : ℕ) (xs : List ℕ) (ms : List ℕ) → class_of v s ≡ 0 → list_all (is_non_starter v) (xs ++ s ∷ ms) ≡ true → ⊥
-  mark_or_starter s xs ms starter h =
+  pub non_starter_or_starter : (s : ℕ) (xs : List ℕ) (ms : List ℕ) → class_of v s ≡ 0 → list_all (is_non_starter v) (xs ++ s ∷ ms) ≡ true → ⊥
+  non_starter_or_starter s xs ms starter h =
       eqb-false (ccc s) 0 (not-true _ (and_parts (is_non_starter v s) (list_all (is_non_starter v) ms) (list_all-back (is_non_starter v) xs (s ∷ ms) h)).0) starter
 
   one_last : (xs ys : List ℕ) (s t : ℕ) (ms ns : List ℕ) → xs ++ s ∷ ms ≡ ys ++ t ∷ ns → class_of v s ≡ 0 → class_of v t ≡ 0 → list_all (is_non_starter v) ms ≡ true → list_all (is_non_starter v) ns ≡ true → (xs ≡ ys) × (s ∷ ms ≡ t ∷ ns)
   one_last [] [] s t ms ns e of_s of_t all_m all_n = (refl, e)
   one_last [] (y ∷ ys) s t ms ns e of_s of_t all_m all_n =
-      let rest : ms ≡ ys ++ t ∷ ns = cc in absurd (mark_or_starter t ys ns of_t (sym (ap (list_all (is_non_starter v)) rest) ∙ all_m))
+      let rest : ms ≡ ys ++ t ∷ ns = cc in absurd (non_starter_or_starter t ys ns of_t (sym (ap (list_all (is_non_starter v)) rest) ∙ all_m))
   one_last (x ∷ xs) [] s t ms ns e of_s of_t all_m all_n =
-      let rest : xs ++ s ∷ ms ≡ ns = cc in absurd (mark_or_starter s xs ms of_s (ap (list_all (is_non_starter v)) rest ∙ all_n))
+      let rest : xs ++ s ∷ ms ≡ ns = cc in absurd (non_starter_or_starter s xs ms of_s (ap (list_all (is_non_starter v)) rest ∙ all_n))
   one_last (x ∷ xs) (y ∷ ys) s t ms ns e of_s of_t all_m all_n =
       let rest : xs ++ s ∷ ms ≡ ys ++ t ∷ ns = cc in
       let head : x ≡ y = cc in
@@ -229,10 +229,10 @@ module _ (v : VersionData) (sound : IsSound v) where
   compose_of_is xs = refl
 
   more_composed : (compat : Bool) (ds x : List ℕ) (s : ℕ) (ms fs : List ℕ) → is_ordered ccc ds ≡ true → list_all (is_final v compat) ds ≡ true → compose ccc join ds ≡ x ++ s ∷ ms → class_of v s ≡ 0 → list_all (is_non_starter v) ms ≡ true → (part : LastPart ds) → compose ccc join (canonical_order ccc (ds ++ fs)) ≡ x ++ compose ccc join (canonical_order ccc (decomposed v compat (s ∷ ms) ++ fs))
-  more_composed compat ds x s ms fs ordered final is starter marks part =
+  more_composed compat ds x s ms fs ordered final is starter non_starters part =
       let tail = part.first ∷ part.rest in
       let ends = sym (ap (λ l. part.out ++ l) part.last.split) ∙ sym (ap (compose ccc join) part.split ∙ part.goes_on part.rest) ∙ is in
-      let same = one_last part.out x part.last.head s part.last.marks ms ends part.last.starter starter part.last.all marks in
+      let same = one_last part.out x part.last.head s part.last.non_starters ms ends part.last.starter starter part.last.all non_starters in
       let ordered_is = ap (is_ordered ccc) (sym part.split) ∙ ordered in
       let final_is = ap (list_all (is_final v compat)) (sym part.split) ∙ final in
       let ordered_tail = is_ordered-back ccc part.front tail ordered_is in
@@ -249,19 +249,19 @@ module _ (v : VersionData) (sound : IsSound v) where
 
   -- the form ends as `ended e` of the decomposition ds
   more_text : (e compat : Bool) (ds x : List ℕ) (s : ℕ) (ms fs : List ℕ) → is_ordered ccc ds ≡ true → list_all (is_final v compat) ds ≡ true → ended v e ds ≡ x ++ s ∷ ms → class_of v s ≡ 0 → list_all (is_non_starter v) ms ≡ true → ended v e (canonical_order ccc (ds ++ fs)) ≡ x ++ ended v e (canonical_order ccc (decomposed v compat (s ∷ ms) ++ fs))
-  more_text false compat ds x s ms fs ordered final is starter marks =
+  more_text false compat ds x s ms fs ordered final is starter non_starters =
       let ordered_is = ap (is_ordered ccc) (sym is) ∙ ordered in
       let final_is = ap (list_all (is_final v compat)) (sym is) ∙ final in
       let low : class_of v s ≤ 0 = omega arith in
       ap (λ l. canonical_order ccc (l ++ fs)) is ∙ order_parts x s ms fs ordered_is low
       ∙ ap (λ l. x ++ l) (sym (ap (λ l. canonical_order ccc (l ++ fs)) (decomposed-final v sound compat (s ∷ ms) (list_all-back (is_final v compat) x (s ∷ ms) final_is) (is_ordered-back ccc x (s ∷ ms) ordered_is))
       ∙ order_parts [] s ms fs (is_ordered-back ccc x (s ∷ ms) ordered_is) low))
-  more_text true compat ds x s ms fs ordered final is starter marks =
+  more_text true compat ds x s ms fs ordered final is starter non_starters =
       let is_composed = sym (compose_of_is ds) ∙ is in
       compose_of_is _
       ∙ elim (last_part ds) [
-        | inl none ↦ absurd (mark_or_starter s x ms starter (ap (list_all (is_non_starter v)) (sym is_composed) ∙ none))
-        | inr part ↦ more_composed compat ds x s ms fs ordered final is_composed starter marks part
+        | inl none ↦ absurd (non_starter_or_starter s x ms starter (ap (list_all (is_non_starter v)) (sym is_composed) ∙ none))
+        | inr part ↦ more_composed compat ds x s ms fs ordered final is_composed starter non_starters part
       ]
       ∙ ap (λ l. x ++ l) (sym (compose_of_is _))
 
@@ -272,13 +272,13 @@ module _ (v : VersionData) (sound : IsSound v) where
       let compat = is_compat form in
       let fs = flat_map (full_of v compat) zs in
       ap (ended v (composes form)) (decomposed-front compat xs zs)
-      ∙ more_text (composes form) compat (decomposed v compat xs) x begins.s begins.ms fs (is_ordered-decomposed v sound compat xs) (all_final v sound compat xs) (is ∙ ap (λ l. x ++ l) begins.split) begins.starter begins.marks
+      ∙ more_text (composes form) compat (decomposed v compat xs) x begins.s begins.ms fs (is_ordered-decomposed v sound compat xs) (all_final v sound compat xs) (is ∙ ap (λ l. x ++ l) begins.split) begins.starter begins.non_starters
       ∙ ap (λ l. x ++ l)
       (ap (λ l. ended v (composes form) (canonical_order ccc (decomposed v compat l ++ fs))) (sym begins.split)
       ∙ ap (ended v (composes form)) (sym (decomposed-front compat y zs)))
 
-  pub more_behind_marks : (form : Form) (xs x y zs : List ℕ) → normal_form v form xs ≡ x ++ y → HasNoStarter v x y → normal_form v form (xs ++ zs) ≡ x ++ normal_form v form (y ++ zs)
-  more_behind_marks form xs x y zs is none =
+  pub more_behind_non_starters : (form : Form) (xs x y zs : List ℕ) → normal_form v form xs ≡ x ++ y → HasNoStarter v x y → normal_form v form (xs ++ zs) ≡ x ++ normal_form v form (y ++ zs)
+  more_behind_non_starters form xs x y zs is none =
       let all : normal_form v form xs ≡ y = is ∙ ap (λ l. l ++ y) none.nothing in
       sym (normal_form-front form xs zs) ∙ ap (λ l. normal_form v form (l ++ zs)) all ∙ ap (λ l. l ++ normal_form v form (y ++ zs)) (sym none.nothing)
 
@@ -289,6 +289,6 @@ one_more v form text x y z c sound is where_y of_y =
     let step : normal_form v form (text ++ c ∷ []) ≡ x ++ normal_form v form (y ++ c ∷ []) =
     elim where_y [
       | inl begins ↦ more v sound form text x y (c ∷ []) is_value begins
-      | inr none ↦ more_behind_marks v sound form text x y (c ∷ []) is_value none
+      | inr none ↦ more_behind_non_starters v sound form text x y (c ∷ []) is_value none
     ] in
     subst (IsNormalForm v form (text ++ c ∷ [])) (step ∙ ap (λ l. x ++ l) (sym value)) (IsNormalForm-normal_form v sound form (text ++ c ∷ []))

@@ -16,12 +16,12 @@ pub record BeginsAtLastStarter (v : VersionData) (xs ys : List ℕ) : Type 0 whe
   pub ms : List ℕ
   pub split : ys ≡ s ∷ ms
   pub starter : class_of v s ≡ 0
-  pub marks : list_all (is_non_starter v) ms ≡ true
+  pub non_starters : list_all (is_non_starter v) ms ≡ true
 
 -- xs ++ ys has no starter, and ys is all of it
 pub record HasNoStarter (v : VersionData) (xs ys : List ℕ) : Type 0 where
   pub nothing : xs ≡ []
-  pub marks : list_all (is_non_starter v) ys ≡ true
+  pub non_starters : list_all (is_non_starter v) ys ≡ true
 
 -- xs is xs ++ ys cut before its last starter, nothing where it has none
 abbrev pub IsCutAtLastStarter : VersionData → List ℕ → List ℕ → Type 0
@@ -39,7 +39,7 @@ pub record IsHeldBack (v : VersionData) (full out pending : List ℕ) : Type 0 w
   pub front : List ℕ
   pub run : List ℕ
   pub split : full ≡ front ++ run
-  pub marks : list_all (is_non_starter v) run ≡ true
+  pub non_starters : list_all (is_non_starter v) run ≡ true
   pub behind : ((out ≡ []) × (pending ≡ run)) ⊎ ((s : ℕ) × (class_of v s ≡ 0) × (pending ≡ s ∷ run))
 
 -- the text `fed` came, of its normal form `out` was ever ready, and `pending` is held back

@@ -14,10 +14,10 @@ pub data Shape (v : VersionData) : List ℕ → List ℕ → List ℕ → Type 0
 -- ds was read, each of them without a mapping
 pub record IsHeld (v : VersionData) (e : Bool) (ds out pending : List ℕ) : Type 0 where
   pub front : List ℕ
-  pub marks : List ℕ
-  pub split : ds ≡ front ++ marks
-  pub all : list_all (is_non_starter v) marks ≡ true
-  pub shape : Shape v out marks pending
+  pub non_starters : List ℕ
+  pub split : ds ≡ front ++ non_starters
+  pub all : list_all (is_non_starter v) non_starters ≡ true
+  pub shape : Shape v out non_starters pending
   pub goes_on : (zs : List ℕ) → ended v e (canonical_order (class_of v) (ds ++ zs)) ≡ out ++ ended v e (canonical_order (class_of v) (pending ++ zs))
 
 -- these code points of the full decomposition were taken in; `more` became ready behind what was ready

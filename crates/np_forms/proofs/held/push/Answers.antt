@@ -3,18 +3,18 @@ use Rattle.np_tables.specs.Versions.{class_of}
 use Rattle.np_forms.specs.inside.Held.{IsHeld}
 use Rattle.np_forms.specs.inside.NormalForms.{ended}
 use Rattle.np_forms.specs.inside.CanonicalOrder.{canonical_order}
-use Rattle.np_forms.proofs.HeldLemmas.{Advances-kept, held_mark}
+use Rattle.np_forms.proofs.HeldLemmas.{Advances-kept, held_non_starter}
 use Rattle.np_forms.proofs.PushLemmas.{held_joins, held_parts}
 use Rattle.np_forms.proofs.held.push.Goals as goal
 
 pub returns-then-class-ne0-clause-ok : goal.returns-then-class-ne0-clause-ok
 returns-then-class-ne0-clause-ok g c =
     let v = g.T.NormTable.model c.args.table.now in
-    let mark : 0 < class_of v c.args.d = omega (arith, c.class.ensures, c.if-class-ne0.true) in
+    let non_starter : 0 < class_of v c.args.d = omega (arith, c.class.ensures, c.if-class-ne0.true) in
     Advances-kept v c.requires c.args.composes (c.args.d ∷ []) c.args.held.now.ready.items c.args.held.now.pending.items _
     (λ ds out h.
     subst (IsHeld v c.args.composes (ds ++ c.args.d ∷ []) out) (sym c.in_ok-push.ensures.items)
-    (held_mark v c.requires c.args.composes ds out c.args.held.now.pending.items c.args.d mark h))
+    (held_non_starter v c.requires c.args.composes ds out c.args.held.now.pending.items c.args.d non_starter h))
 
 pub returns-in-Some-clause-ok : goal.returns-in-Some-clause-ok
 returns-in-Some-clause-ok g c =
