@@ -12,6 +12,7 @@ pub mod OrderLemmas
 pub mod PendingLemmas
 pub mod PushLemmas
 pub mod RunLemmas
+pub mod RunTextLemmas
 pub mod SortLemmas
 pub mod StreamLemmas
 pub mod StreamSafeLemmas

@@ -3,6 +3,7 @@ pub mod Composers
 pub mod Composing
 pub mod Held
 pub mod NormalForms
+pub mod Running
 pub mod Runs
 pub mod Syllables
 pub mod Written

@@ -10,6 +10,7 @@ mod forms;
 mod held;
 pub mod laws;
 mod ordering;
+pub mod runs;
 mod stabilized;
 mod stream_safety;
 mod streams;
