@@ -13,6 +13,7 @@ pub mod PendingLemmas
 pub mod PushLemmas
 pub mod RunLemmas
 pub mod RunTextLemmas
+pub mod RunningLemmas
 pub mod SortLemmas
 pub mod StreamLemmas
 pub mod StreamSafeLemmas

@@ -1,7 +1,7 @@
 -- Bytes that were read up to some place, and what is a text of them.
 use Rattle.std.proofs.Common.{◌≡◌, ◌≢◌, ℕ, zero, suc, ◌+◌, ◌-◌, ◌<◌, ◌≤◌, Bool, true, false, List, [], ◌∷◌, ◌++◌, length, take, drop, IsUtf8, refl, sym, ap, subst, ◌∙◌, arith, inl, inr, append_assoc, append-nil, length-append}
 use Rattle.std.proofs.lemmas.Bool.{cases_Bool, cases_lt, cond-true, cond-false}
-use Rattle.std.proofs.lemmas.List.{take_at, drop_at, length-take, length-drop, take-append-drop}
+use Rattle.std.proofs.lemmas.List.{take_all, take_at, drop_at, length-take, length-drop, take-append-drop}
 use Rattle.std.proofs.lemmas.Str.{IsUtf8-nil, IsUtf8-append, IsUtf8-drop, IsCharBoundary-from_take, IsUtf8-from_is_utf8, is_utf8-from_IsUtf8}
 use Rattle.std.proofs.Math.Seq.{take-add}
 use Rattle.std.specs.Str.{is_utf8}
@@ -55,11 +55,11 @@ up_to bs zero = (omega arith, IsUtf8-nil, λ m low u. low)
 up_to bs (suc n) =
     let r = up_to bs n in
     elim (cases_Bool (is_utf8 (take (suc n) bs))) [
-      | inl yes ↦
-          let is : valid_len_up_to bs (suc n) ≡ suc n = cond-true _ _ _ yes in
-          (omega arith, subst (λ k. IsUtf8 (take k bs)) (sym is) (IsUtf8-from_is_utf8 _ yes), λ m low u. omega arith)
-      | inr no ↦
-          let is : valid_len_up_to bs (suc n) ≡ valid_len_up_to bs n = cond-false _ _ _ no in
+      | inl whole ↦
+          let is : valid_len_up_to bs (suc n) ≡ suc n = cond-true _ _ _ whole in
+          (omega arith, subst (λ k. IsUtf8 (take k bs)) (sym is) (IsUtf8-from_is_utf8 _ whole), λ m low u. omega arith)
+      | inr cut ↦
+          let is : valid_len_up_to bs (suc n) ≡ valid_len_up_to bs n = cond-false _ _ _ cut in
           (
             omega (arith, r.0),
             subst (λ k. IsUtf8 (take k bs)) (sym is) r.1,
@@ -68,7 +68,7 @@ up_to bs (suc n) =
                   | inl below ↦ (let most = r.2 m (omega arith) u in omega arith)
                   | inr same ↦
                       let e : m ≡ suc n = omega arith in
-                      let clash : true ≡ false = sym (is_utf8-from_IsUtf8 _ (subst (λ k. IsUtf8 (take k bs)) e u)) ∙ no in
+                      let clash : true ≡ false = sym (is_utf8-from_IsUtf8 _ (subst (λ k. IsUtf8 (take k bs)) e u)) ∙ cut in
                       cc
                 ],
           )
@@ -86,3 +86,8 @@ one_prefix bs n h =
     let up = h.longest (utf8_valid_len bs) other.within other.valid in
     let down = other.longest n h.within h.valid in
     omega arith
+
+-- a text is its own longest prefix
+pub whole_prefix : (bs : List ℕ) (n : ℕ) → n ≡ length bs → IsUtf8 bs → IsLongestValidPrefix bs n
+whole_prefix bs n is utf8 =
+    record { within = omega arith; valid = subst IsUtf8 (sym (take_all n bs (omega arith))) utf8; longest = λ m within valid. omega arith }
