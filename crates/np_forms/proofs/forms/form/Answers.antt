@@ -7,5 +7,5 @@ pub returns-clause-normal : goal.returns-clause-normal
 returns-clause-normal g c =
     let v = g.T.NormTable.model c.args.table.now in
     IfOk-weaker c.string_of.result _ _
-    (λ t same. IsNormalForm-value v c.version.ensures.sound c.args.form (chars c.args.text.now) (chars (string_bytes t)) (same ∙ c.deref.ensures.value ∙ c.in_ok-list.ensures))
+    (λ t same. IsNormalForm-value v c.meets_conditions.ensures c.args.form (chars c.args.text.now) (chars (string_bytes t)) (same ∙ c.deref.ensures.value ∙ c.in_ok-list.ensures))
     c.string_of.ensures.same
