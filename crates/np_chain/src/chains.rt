@@ -21,8 +21,9 @@ pub enum ChainFault {
     Broken { at: usize, brk: Break },
 }
 
-/// At least one table, each of whose versions extends the one before. Contracts see the versions.
+/// At least one table, each of whose versions extends the one before. Contracts see the tables.
 #[derive(Debug, Drop)]
+#[derive_where(Clone)]
 pub struct Chain<'t, T: NormTable> {
     tables: &'t [T],
 }
