@@ -1,8 +1,5 @@
 //! Worked examples of the jobs over the fixtures.
-use super::audit::audit_job;
-use super::compare::compare_job;
-use super::key::key_job;
-use super::normalize::normalize_job;
+use super::{audit_job, compare_job, key_job, normalize_job};
 use np_code_points::Form;
 use np_code_points::devices::{Failure, Room};
 use np_code_points::fixtures::{V1_DATA, V1_EXCLUSIONS, V2_DATA, V2_EXCLUSIONS};

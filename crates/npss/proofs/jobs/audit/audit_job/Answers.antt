@@ -1,6 +1,0 @@
-use Rattle.npss.proofs.EndLemmas.{audit_untold, refused_answer}
-use Rattle.npss.proofs.jobs.audit.audit_job.Goals as goal
-
-pub returns-in-Err : goal.returns-in-Err
-returns-in-Err g c =
-    refused_answer _ c.in-Err.fault _ c.in-Err.ensures (audit_untold _ c.in-Err.fault c.in-Err.ensures) c.refuse.ensures
