@@ -1,5 +1,6 @@
 //! The line that is told on a refusal.
-ghost use Rattle.std.specs.Prelude.{◌≡◌, ◌==◌, false, IfOk, OnErr};
+ghost use Rattle.std.specs.Prelude.{◌≡◌, ◌==◌, false, IfOk, OnErr, string_bytes};
+ghost use Rattle.np_code_points.specs.Codes.{code_digits};
 ghost use Rattle.npss.specs.Lines as lines;
 ghost use Rattle.npss.specs.Lines.{is_text_told_freely, is_told_freely};
 ghost use Rattle.npss.specs.Statuses.{version_status};
@@ -37,6 +38,15 @@ impl Line {
     }
 }
 
+/// A code point in hex digits.
+fn code_text(alloc: Global, code: u32) -> Result<String, Memory>
+    ensures { IfOk result (λ text. string_bytes text ≡ code_digits code) }
+{
+    let mut text = String::new(alloc);
+    write_code(&mut text, code)?;
+    Ok(text)
+}
+
 /// The line on a file of a version.
 fn file_line(alloc: Global, version: u32, file: &str, fault: &UcdFault) -> Result<Line, Memory>
     ensures line { IfOk result (λ line. line_bytes line ≡ lines.file_line version file.now fault.now) }
@@ -55,10 +65,10 @@ fn tables_line(alloc: Global, version: u32, fault: &TableFault) -> Result<Line, 
     ensures line { IfOk result (λ line. line_bytes line ≡ lines.tables_line version fault.now) }
 {
     let name = fault.name();
-    let mut line = format!(in alloc; "version {version} tables: {name} ")?;
-    write_code(&mut line, fault.code().unwrap_or(0))?;
-    line.push_str("\n")?;
-    Ok(Line::Made(line))
+    let code = code_text(alloc, fault.code().unwrap_or(0))?;
+    Ok(Line::Made(
+        format!(in alloc; "version {version} tables: {name} {code}\n")?,
+    ))
 }
 
 /// The line on a version.
@@ -93,10 +103,10 @@ fn input_line(fault: &InputFault) -> &'static str
 fn unassigned_line(alloc: Global, head: &str, at: usize, code: char) -> Result<Line, Memory>
     ensures line { IfOk result (λ line. line_bytes line ≡ lines.unassigned_line head.now at code) }
 {
-    let mut line = format!(in alloc; "{head}unassigned ")?;
-    write_code(&mut line, u32::from(code))?;
-    write!(line, " at byte {at}\n")?;
-    Ok(Line::Made(line))
+    let code = code_text(alloc, u32::from(code))?;
+    Ok(Line::Made(
+        format!(in alloc; "{head}unassigned {code} at byte {at}\n")?,
+    ))
 }
 
 /// The line on a text.

@@ -1,0 +1,23 @@
+-- From what a job made, or why it was refused, to its end.
+use Rattle.std.proofs.Common.{◌≡◌, ℕ, ◌⊎◌, inl, inr, Bool, List, Option, Result, Ok, Err, IfOk, IfErr, string_bytes, ap}
+use Rattle.np_code_points.specs.Watched.{device_of, has_failed}
+use Rattle.np_code_points.specs.declared.watched.Watched.{Watched}
+use Rattle.npss.specs.Ends.{Ends}
+use Rattle.npss.specs.Streams.{Stream, stream_of}
+use Rattle.npss.specs.inside.Endings.{EndsWith}
+use Rattle.npss.specs.declared.jobs.ending.Made.{Made}
+use Rattle.npss.specs.declared.jobs.faults.JobFault.{JobFault}
+
+-- a stream goes by the devices, and not by the marks before
+pub same_stream : {D : Type 0} (tells : D → Option (List ℕ)) (a b new : Watched D) → device_of a ≡ device_of b → stream_of tells a new ≡ stream_of tells b new
+same_stream tells a b new e = ap (λ d. record { before = tells d; after = tells (device_of new); failed = has_failed new }) e
+
+-- the end of a job that makes this, or is refused for this
+pub ends : (Makes : Bool → List ℕ → Type 0) (Refuses : JobFault → Type 0) (made : Result Made JobFault) (output error : Stream) (status : ℕ)
+    → IfOk made (λ (m : Made). Makes m.is_yes (string_bytes m.text)) → IfErr made Refuses → EndsWith made output error status → Ends Makes Refuses output error status
+ends Makes Refuses (Ok m) output error status makes refuses end = elim end [
+  | inl done ↦ inl (record { is_yes = m.is_yes; bytes = string_bytes m.text; makes = makes; written = done.0; silent = done.1; status_is = done.2 })
+  | inr cut ↦ inr (inl (record { is_yes = m.is_yes; bytes = string_bytes m.text; makes = makes; written = cut.0; told = cut.1 }))
+]
+ends Makes Refuses (Err fault) output error status makes refuses end =
+    inr (inr (record { fault = fault; refuses = refuses; untouched = end.0; told = end.1 }))
