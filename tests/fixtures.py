@@ -8,9 +8,13 @@ and scripts/exchange.report. Each has to have the other. Ends in a line 'N passe
 """
 
 import re
+import sys
 from pathlib import Path
 
-from harness import COMMANDS, Tally
+# Nothing is written into the tree.
+sys.dont_write_bytecode = True
+
+from harness import Tally
 
 ROOT = Path(__file__).resolve().parent.parent
 FILES = {
@@ -45,18 +49,19 @@ def constants():
     return texts
 
 
-def files():
-    """The texts of the files; scripts count only where the command that runs them exists."""
+def files(wanted):
+    """The texts of the files. Scripts count once a crate has a constant of one."""
     folder = ROOT / "fixtures"
     found = {str(path.relative_to(folder)): path.read_bytes().decode("utf-8")
              for path in sorted(folder.rglob("*")) if path.is_file()}
-    return {name: text for name, text in found.items()
-            if "replay" in COMMANDS or not name.startswith("scripts/")}
+    has_scripts = any(name.startswith("scripts/") for name in wanted)
+    return {name: text for name, text in found.items() if has_scripts or not name.startswith("scripts/")}
 
 
 def main():
     tally = Tally()
-    wanted, got = constants(), files()
+    wanted = constants()
+    got = files(wanted)
     for name in sorted(wanted.keys() | got.keys()):
         tally.same(f"fixtures/{name}", got.get(name), wanted.get(name))
     tally.check("there are fixtures", got, "fixtures/ has no file")
