@@ -66,9 +66,7 @@ fn tables_line(alloc: Global, version: u32, fault: &TableFault) -> Result<Line, 
 {
     let name = fault.name();
     let code = code_text(alloc, fault.code().unwrap_or(0))?;
-    Ok(Line::Made(
-        format!(in alloc; "version {version} tables: {name} {code}\n")?,
-    ))
+    Ok(Line::Made(format!(in alloc; "version {version} tables: {name} {code}\n")?))
 }
 
 /// The line on a version.
@@ -104,9 +102,7 @@ fn unassigned_line(alloc: Global, head: &str, at: usize, code: char) -> Result<L
     ensures line { IfOk result (λ line. line_bytes line ≡ lines.unassigned_line head.now at code) }
 {
     let code = code_text(alloc, u32::from(code))?;
-    Ok(Line::Made(
-        format!(in alloc; "{head}unassigned {code} at byte {at}\n")?,
-    ))
+    Ok(Line::Made(format!(in alloc; "{head}unassigned {code} at byte {at}\n")?))
 }
 
 /// The line on a text.

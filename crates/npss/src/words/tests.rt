@@ -45,6 +45,10 @@ fn reads_words_that_name_a_job(rt: HostRuntime) -> Result<(), Fail> {
             r#"Key { form: Nfd, files: VersionFiles { data_file: "D", exclusions_file: "E" } }"#,
         ),
         (
+            "key D --form nfd E",
+            r#"Key { form: Nfd, files: VersionFiles { data_file: "D", exclusions_file: "E" } }"#,
+        ),
+        (
             "key --form nfc -- -D E",
             r#"Key { form: Nfc, files: VersionFiles { data_file: "-D", exclusions_file: "E" } }"#,
         ),
