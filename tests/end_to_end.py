@@ -3,7 +3,8 @@
 
 The program runs in a folder of its own that holds copies of the fixtures and the files of
 versions.py. Each case of cases.py is one run, judged by its status, standard output and standard
-error. Then come devices that fail, bounds on memory (limits.py), the launcher, and whether every file
+error. Then come devices that fail, closed streams (streams.py), bounds on memory
+(limits.py), the launcher, and whether every file
 is as it was. Ends in a line 'N passed, M failed'.
 """
 
@@ -20,6 +21,7 @@ sys.dont_write_bytecode = True
 from cases import DEVICE, USAGE, WRONG_WORDS, all_cases, text
 from harness import Tally, run, shown
 from limits import check_memory, check_usage
+from streams import check_closed, check_words
 from versions import V1, write_all
 
 FIXTURES = Path(__file__).resolve().parent.parent / "fixtures"
@@ -97,6 +99,8 @@ def main():
             check_case(tally, program, folder, case)
         check_devices(tally, program, folder)
         check_usage(tally, program, folder)
+        check_closed(tally, program, folder)
+        check_words(tally, program, folder)
         check_memory(tally, program, folder)
         if len(sys.argv) > 2:
             check_launcher(tally, Path(sys.argv[2]).resolve(), folder)
