@@ -87,7 +87,8 @@ impl<'t, T: NormTable> Chain<'t, T> {
     pub fn tables(&self) -> &'t [T]
         ensures { result.now ≡ self.now }
     {
-        self.tables
+        let tables = self.tables;
+        &tables[..]
     }
 
     /// The table at a place, from 0: its version extends all before it, and all after it extend it.
