@@ -1,36 +1,38 @@
 -- A version with Hangul syllables and jamo extends one without them.
-use Rattle.std.proofs.Common.{◌≡◌, ℕ, true, false, ◌&&◌, refl, sym, ap, subst, ◌∙◌, inl, inr, is_some, []}
+use Rattle.std.proofs.Common.{◌≡◌, ℕ, true, false, ◌&&◌, refl, sym, ap, subst, ◌∙◌, inl, inr, []}
 use Rattle.std.specs.List.{list_all}
 use Rattle.std.proofs.lemmas.Bool.{and_left, and_parts, cases_Bool}
 use Rattle.np_chain.specs.Chain.{Keeps, Extends}
 use Rattle.np_chain.specs.Laws.{ExtensionIsMet}
 use Rattle.np_code_points.specs.Hangul.{is_syllable}
-use Rattle.np_tables.proofs.ExampleLemmas.{by_row, hangul_on_with, hangul_rows, IsSound-with_hangul, IsSound-with_rows, letter_kind, letter_mapping, no_hangul, pair_alone-with_hangul, pair_alone-with_rows, pair_kind, pair_mapping, pair_primary, ring_kind, ring_mapping}
+use Rattle.np_tables.proofs.ExampleLemmas.{assigned_code, hangul_on_with, hangul_rows, IsSound-with_hangul, IsSound-with_rows, letter_kind, letter_mapping, no_hangul, pair_alone-with_hangul, pair_alone-with_rows, pair_kind, pair_mapping, pair_primary, ring_kind, ring_mapping, syllable_lacks, three_codes}
 use Rattle.np_tables.proofs.HangulLemmas.{decomposition_mapping-on, has_hangul-at, hangul_parts, head_hangul, shape_of}
 use Rattle.np_tables.specs.Composites.{IsPrimary, IsCompositeOf}
 use Rattle.np_tables.specs.Examples.{with_rows, with_hangul}
-use Rattle.np_tables.specs.Versions.{class_of, decomposition_mapping, entry_at, has_hangul, is_assigned}
+use Rattle.np_tables.specs.Versions.{decomposition_mapping, has_hangul, is_assigned}
 
 -- ---- the three code points stand in both versions as they are
 
 kept_letter : Keeps with_rows with_hangul 0x41
-unfolding is_assigned class_of entry_at
 kept_letter =
-    record { assigned = refl; class = refl; kind = letter_kind hangul_rows ∙ sym (letter_kind []); mapping = letter_mapping hangul_rows ∙ sym (letter_mapping []) }
+    let now = (three_codes hangul_rows).letter in
+    let before = (three_codes []).letter in
+    record { assigned = now.0; class = now.1 ∙ sym before.1; kind = letter_kind hangul_rows ∙ sym (letter_kind []); mapping = letter_mapping hangul_rows ∙ sym (letter_mapping []) }
 
 kept_pair : Keeps with_rows with_hangul 0xC5
-unfolding is_assigned class_of entry_at
 kept_pair =
-    record { assigned = refl; class = refl; kind = pair_kind hangul_rows ∙ sym (pair_kind []); mapping = pair_mapping hangul_rows ∙ sym (pair_mapping []) }
+    let now = (three_codes hangul_rows).pair in
+    let before = (three_codes []).pair in
+    record { assigned = now.0; class = now.1 ∙ sym before.1; kind = pair_kind hangul_rows ∙ sym (pair_kind []); mapping = pair_mapping hangul_rows ∙ sym (pair_mapping []) }
 
 kept_ring : Keeps with_rows with_hangul 0x30A
-unfolding is_assigned class_of entry_at
 kept_ring =
-    record { assigned = refl; class = refl; kind = ring_kind hangul_rows ∙ sym (ring_kind []); mapping = ring_mapping hangul_rows ∙ sym (ring_mapping []) }
+    let now = (three_codes hangul_rows).ring in
+    let before = (three_codes []).ring in
+    record { assigned = now.0; class = now.1 ∙ sym before.1; kind = ring_kind hangul_rows ∙ sym (ring_kind []); mapping = ring_mapping hangul_rows ∙ sym (ring_mapping []) }
 
 keeps : (c : ℕ) → is_assigned with_rows c ≡ true → Keeps with_rows with_hangul c
-unfolding is_assigned
-keeps = by_row (λ d o. is_some o ≡ true → Keeps with_rows with_hangul d) (λ _ h. cc) (λ _. kept_letter) (λ _. kept_pair) (λ _. kept_ring)
+keeps = assigned_code (Keeps with_rows with_hangul) kept_letter kept_pair kept_ring
 
 -- ---- primary composites
 
@@ -61,9 +63,5 @@ new_composites c is parts =
 extends : Extends with_rows with_hangul
 extends = record { keeps = keeps; old_composites = old_composites; new_composites = new_composites }
 
-lacks : is_assigned with_rows 0xAC00 ≡ false
-unfolding is_assigned entry_at
-lacks = refl
-
 pub extension_is_met : ExtensionIsMet
-extension_is_met = (IsSound-with_rows, IsSound-with_hangul, extends, lacks, hangul_on_with)
+extension_is_met = (IsSound-with_rows, IsSound-with_hangul, extends, syllable_lacks, hangul_on_with)

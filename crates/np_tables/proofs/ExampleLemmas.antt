@@ -16,7 +16,7 @@ use Rattle.np_tables.specs.Examples.{letter, letter_with_ring, ring, with_rows, 
 use Rattle.np_tables.proofs.CompositeLemmas.{composite_parts}
 use Rattle.np_tables.proofs.DepthLemmas.{bare_depth, mark-length, mark-more, suc_depth}
 use Rattle.np_tables.proofs.FactLemmas.{bounded-at, classes-at, scalars-at, mapped_scalar-at}
-use Rattle.np_tables.proofs.HangulLemmas.{decomposition_mapping-off, decomposition_mapping-on, has_hangul-from, head_hangul, pair_assigned, shape_of}
+use Rattle.np_tables.proofs.HangulLemmas.{decomposition_kind-off, decomposition_mapping-off, decomposition_mapping-on, has_hangul-from, head_hangul, pair_assigned, shape_of}
 use Rattle.np_tables.proofs.HangulPlaces.{hangul_runs, Runs}
 use Rattle.np_tables.proofs.MappingLemmas.{full_of-final, full_of-mapped, full_of-only, parts-cases}
 use Rattle.np_tables.proofs.RowLemmas.{at-found}
@@ -81,21 +81,31 @@ module _ (more : List Entry) where
   pair_mapping = decomposition_mapping-off version 0xC5 (off_at 0xC5 refl)
 
   pub letter_kind : decomposition_kind version 0x41 ≡ Plain
-  unfolding decomposition_kind file_kind entry_at
-  letter_kind = cond-false _ Canonical _ (off_at 0x41 refl)
+  unfolding file_kind entry_at
+  letter_kind = decomposition_kind-off version 0x41 (off_at 0x41 refl)
 
   pub ring_kind : decomposition_kind version 0x30A ≡ Plain
-  unfolding decomposition_kind file_kind entry_at
-  ring_kind = cond-false _ Canonical _ (off_at 0x30A refl)
+  unfolding file_kind entry_at
+  ring_kind = decomposition_kind-off version 0x30A (off_at 0x30A refl)
 
   pub pair_kind : decomposition_kind version 0xC5 ≡ Canonical
-  unfolding decomposition_kind file_kind entry_at
-  pair_kind = cond-false _ Canonical _ (off_at 0xC5 refl)
+  unfolding file_kind entry_at
+  pair_kind = decomposition_kind-off version 0xC5 (off_at 0xC5 refl)
 
   pub pair_primary : IsPrimary version 0xC5
   unfolding class_of is_excluded entry_at
   pair_primary =
       record { canonical = pair_kind; first = 0x41; second = 0x30A; pair = pair_mapping; starter = refl; first_starter = refl; included = refl }
+
+  -- all three are assigned, and with what class
+  pub record ThreeCodes : Type 0 where
+    pub letter : (is_assigned version 0x41 ≡ true) × (class_of version 0x41 ≡ 0)
+    pub pair : (is_assigned version 0xC5 ≡ true) × (class_of version 0xC5 ≡ 0)
+    pub ring : (is_assigned version 0x30A ≡ true) × (class_of version 0x30A ≡ 230)
+
+  pub three_codes : ThreeCodes
+  unfolding is_assigned class_of entry_at
+  three_codes = record { letter = (refl, refl); pair = (refl, refl); ring = (refl, refl) }
 
   parts_assigned : list_all (is_assigned version) (0x41 ∷ 0x30A ∷ []) ≡ true
   unfolding is_assigned entry_at
@@ -210,18 +220,23 @@ module _ (more : List Entry) where
 
 -- ---- the three rows alone
 
--- a code point lies in none of the three rows, or is that of one of them
-pub by_row : (P : ℕ → Option Entry → Type 0) → ((c : ℕ) → P c None) → P 0x41 (Some letter) → P 0xC5 (Some letter_with_ring) → P 0x30A (Some ring) → (c : ℕ) → P c (entry_at with_rows.entries c)
-unfolding entry_at
-by_row P none at_letter at_both at_ring c =
-    at_row P letter (letter_with_ring ∷ ring ∷ []) c refl at_letter (at_row P letter_with_ring (ring ∷ []) c refl at_both (at_row P ring [] c refl at_ring (none c)))
+-- what lies in a row is one of the three
+pub assigned_code : (P : ℕ → Type 0) → P 0x41 → P 0xC5 → P 0x30A → (c : ℕ) → is_assigned with_rows c ≡ true → P c
+unfolding is_assigned entry_at
+assigned_code P at_letter at_pair at_ring c =
+    let Q : ℕ → Option Entry → Type 0 = λ d o. is_some o ≡ true → P d in
+    at_row Q letter (letter_with_ring ∷ ring ∷ []) c refl (λ _. at_letter)
+    (at_row Q letter_with_ring (ring ∷ []) c refl (λ _. at_pair) (at_row Q ring [] c refl (λ _. at_ring) (λ h. cc)))
+
+pub syllable_lacks : is_assigned with_rows 0xAC00 ≡ false
+unfolding is_assigned entry_at
+syllable_lacks = refl
 
 rows_alone : AreRows with_rows.entries
 rows_alone = (letter_is, omega arith, (letter_with_ring_is, omega arith, (ring_is, tt, tt)))
 
 pub no_hangul : (c : ℕ) → is_hangul c ≡ true → is_assigned with_rows c ≡ true → ⊥
-unfolding is_assigned
-no_hangul c among h = by_row (λ d o. is_hangul d ≡ true → is_some o ≡ true → ⊥) (λ _ _ e. cc) (λ e _. cc) (λ e _. cc) (λ e _. cc) c among h
+no_hangul c among h = assigned_code (λ d. is_hangul d ≡ true → ⊥) (λ e. cc) (λ e. cc) (λ e. cc) c h among
 
 pub IsSound-with_rows : IsSound with_rows
 IsSound-with_rows = is_sound [] rows_alone tt (λ c among h. absurd (no_hangul c among h))
@@ -230,8 +245,7 @@ pub pair_alone-with_rows : (a b c : ℕ) → IsCompositeOf with_rows a b c → (
 pair_alone-with_rows = pair_alone [] rows_alone tt (λ c among h. absurd (no_hangul c among h))
 
 pub class_of-ring : class_of with_rows 0x30A ≡ 230
-unfolding class_of entry_at
-class_of-ring = refl
+class_of-ring = (three_codes []).ring.1
 
 pub IsCompositeOf-with_rows : IsCompositeOf with_rows 0x41 0x30A 0xC5
 IsCompositeOf-with_rows = composite_is [] rows_alone tt (λ c among h. absurd (no_hangul c among h))
