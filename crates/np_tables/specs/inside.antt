@@ -6,6 +6,8 @@ pub mod FullDecompositions
 pub mod FullLists
 pub mod FullParts
 pub mod HangulRows
+pub mod Pages
 pub mod Pairs
+pub mod RowPages
 pub mod RowPlaces
 pub mod Suspects

@@ -13,6 +13,7 @@ mod hangul_rows;
 mod mapped_faults;
 mod pairs;
 mod row_index;
+mod row_pages;
 mod row_places;
 pub mod row_table;
 mod syllables;
