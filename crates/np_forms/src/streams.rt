@@ -53,7 +53,7 @@ impl<'t, T: NormTable> Stream<'t, T> {
         ensures ready { result.ready ≡ [] }
         ensures begins { IsStreaming (T.model table.now) form [] [] result.pending }
     {
-        table.meets_conditions();
+        table.version();
         Stream {
             table,
             form,

@@ -18,6 +18,6 @@ returns-in-Ok-clause-ok g c =
       version = refl;
       form = refl;
       nothing = c.in-Ok.ensures.nothing;
-      whole = λ fed out s. whole_streams v c.meets_conditions.ensures form c.composes.result pending fed out c.composes.ensures s;
-      begins = subst (IsStreaming v form [] []) (sym c.in-Ok.ensures.nothing) (IsStreaming-start v c.meets_conditions.ensures form);
+      whole = λ fed out s. whole_streams v c.version.ensures.sound form c.composes.result pending fed out c.composes.ensures s;
+      begins = subst (IsStreaming v form [] []) (sym c.in-Ok.ensures.nothing) (IsStreaming-start v c.version.ensures.sound form);
     })
