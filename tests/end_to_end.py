@@ -3,8 +3,9 @@
 
 The program runs in a folder of its own that holds copies of the fixtures and the files of
 versions.py. Each case of cases.py is one run, judged by its status, standard output and standard
-error. Then come devices that fail, bounds on memory (limits.py), the launcher (launching.py too), the
-README's commands, and whether every file is as it was. Ends in a line 'N passed, M failed'.
+error. Then come devices that fail, closed streams (streams.py), bounds on memory (limits.py), the
+launcher (launching.py too), the README's commands, and whether every file is as it was. Ends in a line
+'N passed, M failed'.
 """
 
 import hashlib
@@ -23,6 +24,7 @@ from cases import DEVICE, USAGE, WRONG_WORDS, all_cases, text
 from harness import ROOT, Tally, run, shown
 from launching import check_building
 from limits import check_memory, check_usage
+from streams import check_closed, check_words
 from versions import V1, write_all
 
 FIXTURES = ROOT / "fixtures"
@@ -112,6 +114,8 @@ def main():
             check_case(tally, program, folder, case)
         check_devices(tally, program, folder)
         check_usage(tally, program, folder)
+        check_closed(tally, program, folder)
+        check_words(tally, program, folder)
         check_memory(tally, program, folder)
         if len(sys.argv) > 2:
             check_launcher(tally, Path(sys.argv[2]).resolve(), folder)

@@ -1,6 +1,7 @@
 //! The laws of the forms, over the definitions alone.
 ghost use Rattle.np_forms.specs.Boundaries.{Parting, Staying};
 ghost use Rattle.np_forms.specs.Laws.{OneForm, OneOrderedForm, PremisesAreMet};
+ghost use Rattle.np_forms.specs.StreamLaws.{OneMore};
 ghost use Rattle.np_forms.specs.inside.NormalForms.{GivesNormalForm};
 
 /// Whatever gives the combining classes, a list has exactly one ordered form (The Unicode Standard,
@@ -15,6 +16,11 @@ pub fn one_form()
     ensures only { OneForm }
     ensures value { GivesNormalForm }
     ensures met { PremisesAreMet }
+{}
+
+/// One more code point of a text changes its normal form from the last starter on alone.
+pub fn one_more()
+    ensures { OneMore }
 {}
 
 /// A normal form parts before a code point whose full decomposition begins with a starter that goes
