@@ -6,7 +6,7 @@ and their lines. Each file has to exist, what it imports has to stand before it 
 definitions that a contract may cite has to be there, none of them may import one of `inside`, and the
 lines have to be right. `--write` puts all of this right but for the imports of `inside`: it adds to a row
 what its files import, and at the end a row for the files of a crate that no row has. In the table 'Where is' of docs/ARCHITECTURE.md each name has to stand in the file before it.
-Prints the sums, and ends in a line 'N passed, M failed'.
+Prints the sums, also without imports and blank lines, and ends in a line 'N passed, M failed'.
 """
 
 import re
@@ -78,6 +78,12 @@ def lines_of(path):
     return len(path.read_text(encoding="utf-8").splitlines())
 
 
+def said_in(path):
+    """How many lines say something: neither blank nor an import."""
+    lines = path.read_text(encoding="utf-8").splitlines()
+    return sum(1 for line in lines if line.strip() and not re.match(r"(pub )?use ", line))
+
+
 def reading_list(text):
     """The rows of the table: promise, files as written, lines as written."""
     for line in text.splitlines():
@@ -137,14 +143,15 @@ def check_reading_list(tally):
         count = sum(map(lines_of, files))
         tally.check(f"{promise}: lines", count == lines,
                     f"{count} and not {lines}: run tests/definitions.py --write")
-        print(f"{promise}: {len(files)} files, {count} lines")
+        print(f"{promise}: {len(files)} files, {count} lines, of which {sum(map(said_in, files))} say something")
     for path in sorted(believed()):
         name = path.relative_to(ROOT)
         tally.check(f"{name} is in docs/DEFINITIONS.md", path in listed, "it is not")
         tally.check(f"{name} imports nothing of inside", not INSIDE.search(path.read_text(encoding="utf-8")),
                     "it does")
     tally.check("there is a reading list", listed, "the table has no row")
-    print(f"all: {len(listed)} files, {sum(map(lines_of, listed))} lines")
+    print(f"all: {len(listed)} files, {sum(map(lines_of, listed))} lines, "
+          f"of which {sum(map(said_in, listed))} say something")
 
 
 def check_paths(tally):
