@@ -21,7 +21,7 @@ from pathlib import Path
 sys.dont_write_bytecode = True
 
 from cases import DEVICE, USAGE, WRONG_WORDS, all_cases, text
-from harness import ROOT, Tally, run, shown
+from harness import ROOT, Tally, built_program, run, shown
 from launching import check_building
 from limits import check_memory, check_usage
 from streams import check_closed, check_words
@@ -70,6 +70,7 @@ def run_on_folder(program, words, folder):
 
 def check_launcher(tally, launcher, folder):
     """The launcher keeps the caller's folder and the words, through a symbolic link too."""
+    built_program()
     link = folder / "link"
     link.symlink_to(launcher)
     for way in (launcher, link):
