@@ -8,10 +8,10 @@ use std::os::fd::{AsFd, AsRawFd, IntoRawFd};
 
 /// The standard streams.
 #[derive(Drop)]
-pub struct Standard<I, O, E> {
-    pub input: Watched<I>,
-    pub output: Watched<O>,
-    pub error: Watched<E>,
+pub struct Standard {
+    pub input: Watched<Stdin>,
+    pub output: Watched<Stdout>,
+    pub error: Watched<Stderr>,
 }
 
 /// Whether the program was started with a stream open.
@@ -42,7 +42,7 @@ fn fill_closed(rt: &HostRuntime) -> bool {
 
 /// The standard streams, none of whose places a file that is opened later can take; an `Err` is
 /// the status that was told where that can't be had.
-pub fn take_standard(rt: &HostRuntime) -> Result<Standard<Stdin, Stdout, Stderr>, u8> {
+pub fn take_standard(rt: &HostRuntime) -> Result<Standard, u8> {
     let filled = fill_closed(rt);
     let mut streams = Standard {
         input: Watched::new(rt.stdin()),
