@@ -14,9 +14,15 @@ pub struct Standard {
     pub error: Watched<Stderr>,
 }
 
+/// What the system says of a descriptor that is not open (`EBADF`).
+const NOT_OPEN: i32 = 9;
+
 /// Whether the program was started with a stream open.
 fn is_open<S: AsFd>(stream: &S) -> bool {
-    stream.as_fd().try_clone_to_owned().is_ok()
+    match stream.as_fd().try_clone_to_owned() {
+        Ok(_) => true,
+        Err(why) => why.raw_os_error() != Some(NOT_OPEN),
+    }
 }
 
 /// Puts a folder in the place of each standard stream that is closed, since the system gives the
