@@ -6,9 +6,9 @@ use Rattle.np_chain.specs.Breaks.{is_lost, changes_class, is_same_kind, maps_ali
 use Rattle.np_chain.specs.Chain.{Extends}
 use Rattle.np_chain.specs.declared.breaks.BreakKind.{BreakKind}
 use Rattle.np_chain.specs.declared.breaks.BreakKind.TheVariants.{Lost, ClassChanged, MappingChanged, NowExcluded, NowIncluded, NewComposite}
-use Rattle.np_tables.specs.Composites.{is_primary}
+use Rattle.np_tables.specs.inside.Primaries.{is_primary}
 use Rattle.np_tables.specs.Conditions.{IsSound}
-use Rattle.np_tables.specs.Versions.{VersionData, is_assigned, class_of, kind_of, mapping_of}
+use Rattle.np_tables.specs.Versions.{VersionData, is_assigned, class_of, decomposition_kind, decomposition_mapping}
 use Rattle.np_tables.proofs.CompositeLemmas.{primary-assigned}
 use Rattle.np_ucd.specs.declared.rows.MapKind.{MapKind}
 use Rattle.np_ucd.specs.declared.rows.MapKind.TheVariants.{Plain, Canonical, Compatibility}
@@ -166,17 +166,17 @@ same_kind_self Canonical = refl
 same_kind_self Compatibility = refl
 
 module _ (old new : VersionData) where
-  alike-same : (c : ℕ) → maps_alike old new c ≡ true → (kind_of new c ≡ kind_of old c) × (mapping_of new c ≡ mapping_of old c)
+  alike-same : (c : ℕ) → maps_alike old new c ≡ true → (decomposition_kind new c ≡ decomposition_kind old c) × (decomposition_mapping new c ≡ decomposition_mapping old c)
   unfolding maps_alike
   alike-same c h =
-      let halves = and_parts (is_same_kind (kind_of new c) (kind_of old c)) _ h in
-      (same_kind-true _ _ halves.0, (bytes_eq-Decides (mapping_of new c) (mapping_of old c)).0 halves.1)
+      let halves = and_parts (is_same_kind (decomposition_kind new c) (decomposition_kind old c)) _ h in
+      (same_kind-true _ _ halves.0, (bytes_eq-Decides (decomposition_mapping new c) (decomposition_mapping old c)).0 halves.1)
 
-  alike_from : (c : ℕ) → kind_of new c ≡ kind_of old c → mapping_of new c ≡ mapping_of old c → maps_alike old new c ≡ true
+  alike_from : (c : ℕ) → decomposition_kind new c ≡ decomposition_kind old c → decomposition_mapping new c ≡ decomposition_mapping old c → maps_alike old new c ≡ true
   unfolding maps_alike
   alike_from c k m =
-      and_from _ _ (ap (λ l. is_same_kind l (kind_of old c)) k ∙ same_kind_self (kind_of old c))
-      ((bytes_eq-Decides (mapping_of new c) (mapping_of old c)).1 m)
+      and_from _ _ (ap (λ l. is_same_kind l (decomposition_kind old c)) k ∙ same_kind_self (decomposition_kind old c))
+      ((bytes_eq-Decides (decomposition_mapping new c) (decomposition_mapping old c)).1 m)
 
   abbrev NoBreakAt : ℕ → Type 0
   NoBreakAt c =

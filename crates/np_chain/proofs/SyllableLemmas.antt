@@ -7,7 +7,7 @@ use Rattle.std.proofs.lemmas.Slice.Eq.{bytes_eq-Decides}
 use Rattle.np_chain.specs.Breaks.{is_same_kind, maps_alike, has_old_parts}
 use Rattle.np_code_points.specs.Hangul.{is_among, is_syllable, syllable_pair}
 use Rattle.np_tables.specs.Conditions.{IsSound}
-use Rattle.np_tables.specs.Versions.{VersionData, is_assigned, class_of, file_kind, file_mapping, all_from, all_hangul, is_hangul, is_hangul_row, has_hangul, kind_of, mapping_of}
+use Rattle.np_tables.specs.Versions.{VersionData, is_assigned, class_of, file_kind, file_mapping, all_from, all_hangul, is_hangul, is_hangul_row, has_hangul, decomposition_kind, decomposition_mapping}
 use Rattle.np_ucd.specs.declared.rows.MapKind.TheVariants.{Canonical}
 
 among_from : (base count c : ℕ) → base ≤ c → c < base + count → is_among base count c ≡ true
@@ -135,18 +135,18 @@ pair_parts v xs sound pair =
 
 module _ (old new : VersionData) (c : ℕ) where
   pub old_parts-syllable : IsSound old → is_syllable c ≡ true → has_hangul new ≡ true → has_hangul old ≡ has_old_parts old new c
-  unfolding has_old_parts mapping_of
+  unfolding has_old_parts decomposition_mapping
   old_parts-syllable sound is on =
       pair_parts old (syllable_pair c) sound (hangul_pair c is) ∙ ap (list_all (is_assigned old)) (sym (cond-true _ _ _ (and_from _ _ on is)))
 
   pub old_parts-listed : (has_hangul new && is_syllable c) ≡ false → list_all (is_assigned old) (file_mapping new c) ≡ has_old_parts old new c
-  unfolding has_old_parts mapping_of
+  unfolding has_old_parts decomposition_mapping
   old_parts-listed off = ap (list_all (is_assigned old)) (sym (cond-false _ _ _ off))
 
   -- ---- the mappings of a code point in both versions
 
   pub alike-listed : is_syllable c ≡ false → (is_same_kind (file_kind new c) (file_kind old c) && bytes_eq (file_mapping new c) (file_mapping old c)) ≡ maps_alike old new c
-  unfolding maps_alike kind_of mapping_of
+  unfolding maps_alike decomposition_kind decomposition_mapping
   alike-listed not =
       let a = and_right (has_hangul old) _ not in
       let b = and_right (has_hangul new) _ not in
@@ -161,7 +161,7 @@ module _ (old new : VersionData) (c : ℕ) where
       sym (ap (λ (b : Bool). b && bytes_eq (file_mapping new c) (file_mapping old c)) same) ∙ alike-listed not
 
   pub alike-syllable : IsSound old → IsSound new → is_assigned old c ≡ true → is_assigned new c ≡ true → is_syllable c ≡ true → maps_alike old new c ≡ true
-  unfolding maps_alike kind_of mapping_of
+  unfolding maps_alike decomposition_kind decomposition_mapping
   alike-syllable sound_old sound_new in_old in_new is =
       let hangul = syllable-hangul c is in
       let a = and_from _ _ (sound_old.hangul c hangul in_old) is in

@@ -4,8 +4,8 @@ use Rattle.std.specs.List.{list_all, All, AllPairs, Contains}
 use Rattle.np_chain.specs.declared.breaks.Break.{Break}
 use Rattle.np_chain.specs.declared.breaks.BreakKind.{BreakKind}
 use Rattle.np_chain.specs.declared.breaks.BreakKind.TheVariants.{Lost, ClassChanged, MappingChanged, NowExcluded, NowIncluded, NewComposite}
-use Rattle.np_tables.specs.Composites.{is_primary}
-use Rattle.np_tables.specs.Versions.{VersionData, is_assigned, class_of, kind_of, mapping_of}
+use Rattle.np_tables.specs.inside.Primaries.{is_primary}
+use Rattle.np_tables.specs.Versions.{VersionData, is_assigned, class_of, decomposition_kind, decomposition_mapping}
 use Rattle.np_ucd.specs.declared.rows.MapKind.{MapKind}
 use Rattle.np_ucd.specs.declared.rows.MapKind.TheVariants.{Plain, Canonical, Compatibility}
 
@@ -38,7 +38,7 @@ is_same_kind _ _ = false
 
 -- the same kind of mapping, and the same mapping
 unfoldable pub maps_alike : VersionData → VersionData → ℕ → Bool
-maps_alike old new c = is_same_kind (kind_of new c) (kind_of old c) && bytes_eq (mapping_of new c) (mapping_of old c)
+maps_alike old new c = is_same_kind (decomposition_kind new c) (decomposition_kind old c) && bytes_eq (decomposition_mapping new c) (decomposition_mapping old c)
 
 -- assigned in both, with unlike kinds of mapping or unlike mappings
 unfoldable pub changes_mapping : VersionData → VersionData → ℕ → Bool
@@ -50,7 +50,7 @@ becomes_excluded old new c = is_primary old c && not (is_primary new c)
 
 -- what the code point maps to in new is assigned in old
 unfoldable pub has_old_parts : VersionData → VersionData → ℕ → Bool
-has_old_parts old new c = list_all (is_assigned old) (mapping_of new c)
+has_old_parts old new c = list_all (is_assigned old) (decomposition_mapping new c)
 
 -- assigned in old, a primary composite of new and not of old, with both parts assigned in old
 unfoldable pub becomes_included : VersionData → VersionData → ℕ → Bool

@@ -4,7 +4,7 @@ ghost use Rattle.np_chain.specs.Breaks.{AreBreaks, IsFirstBreak, break_of, has_o
 ghost use Rattle.np_chain.specs.inside.BreakLists.{breaks_of};
 ghost use Rattle.np_chain.specs.Chain.{Extends};
 ghost use Rattle.np_code_points.specs.Hangul.{is_syllable as syllable};
-ghost use Rattle.np_tables.specs.Composites.{is_primary};
+ghost use Rattle.np_tables.specs.inside.Primaries.{is_primary};
 ghost use Rattle.np_tables.specs.Conditions.{IsSound};
 ghost use Rattle.np_tables.specs.Versions.{has_hangul, is_assigned};
 ghost use Rattle.std.specs.List.{list_all};

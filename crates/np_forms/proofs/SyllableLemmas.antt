@@ -5,7 +5,7 @@ use Rattle.np_code_points.specs.Hangul.{is_syllable, syllable_pair}
 use Rattle.np_tables.specs.Conditions.{IsSound}
 use Rattle.np_tables.specs.Mappings.{counts, parts, is_final}
 use Rattle.np_tables.specs.inside.FullDecompositions.{full, full_of, table_full}
-use Rattle.np_tables.specs.Versions.{VersionData, is_empty, file_mapping, kind_of, mapping_of, has_hangul, all_hangul, all_from, is_hangul_row}
+use Rattle.np_tables.specs.Versions.{VersionData, is_empty, file_mapping, decomposition_kind, decomposition_mapping, has_hangul, all_hangul, all_from, is_hangul_row}
 use Rattle.np_tables.proofs.CompositeLemmas.{all_from-at}
 use Rattle.np_tables.proofs.MappingLemmas.{is_empty-true, parts-cases, full_of-final, full_of-mapped}
 use Rattle.np_forms.specs.inside.Syllables.{pair_or_self, syllable_parts}
@@ -149,8 +149,8 @@ row_unmapped : (v : VersionData) (c : ℕ) → is_hangul_row v c ≡ true → fi
 unfolding is_hangul_row
 row_unmapped v c h = is_empty-true (file_mapping v c) (and_parts _ (is_empty (file_mapping v c)) h).1
 
-plain_mapping : (v : VersionData) (c : ℕ) → is_syllable c ≡ false → mapping_of v c ≡ file_mapping v c
-unfolding mapping_of
+plain_mapping : (v : VersionData) (c : ℕ) → is_syllable c ≡ false → decomposition_mapping v c ≡ file_mapping v c
+unfolding decomposition_mapping
 plain_mapping v c h = cond-false _ _ _ (and_right (has_hangul v) _ h)
 
 flat_some : (f : ℕ → List ℕ) → ((c : ℕ) → 0 < length (f c)) → (xs : List ℕ) → is_empty xs ≡ false → 0 < length (flat_map f xs)
@@ -159,7 +159,7 @@ flat_some f some (x ∷ xs) h = omega (arith, some x, length-append (f x) (flat_
 
 module _ (v : VersionData) (compat : Bool) where
   syllable_counts : (s : ℕ) → has_hangul v ≡ true → is_syllable s ≡ true → parts v compat s ≡ syllable_pair s
-  unfolding parts kind_of mapping_of
+  unfolding parts decomposition_kind decomposition_mapping
   syllable_counts s on h =
       let both = and_from _ _ on h in cond-true _ _ _ (ap (counts compat) (cond-true _ _ _ both)) ∙ cond-true _ _ _ both
 
@@ -201,7 +201,7 @@ module _ (v : VersionData) (compat : Bool) where
     module _ (on : has_hangul v ≡ true) where
       full_of-jamo : (c : ℕ) → IsJamo c → full_of v compat c ≡ c ∷ []
       full_of-jamo c jamo =
-          let none : mapping_of v c ≡ [] = plain_mapping v c (below_syllables c (jamo_low c jamo)) ∙ row_unmapped v c (jamo_row v c on jamo) in
+          let none : decomposition_mapping v c ≡ [] = plain_mapping v c (below_syllables c (jamo_low c jamo)) ∙ row_unmapped v c (jamo_row v c on jamo) in
           full_of-final v compat sound.shallow c (parts-cases v compat (λ l. is_empty l ≡ true) refl c (ap is_empty none))
 
       full_of-pair : (s a b : ℕ) → is_syllable s ≡ true → syllable_pair s ≡ a ∷ b ∷ [] → full_of v compat s ≡ full_of v compat a ++ (full_of v compat b ++ [])

@@ -30,7 +30,7 @@ SameForms =
     (ks ≡ ls) ↔ IsEquivalent v (is_compat form) xs ys
 
 -- the premise of these laws on a version is met: by the version of empty files, and by one of three rows, a starter, a
--- mark of class 230 and their primary composite
+-- non-starter of class 230 and their primary composite
 abbrev pub PremisesAreMet : Type 0
 PremisesAreMet =
     IsSound without_rows × IsSound with_rows × (class_of with_rows 0x30A ≡ 230) × IsCompositeOf with_rows 0x41 0x30A 0xC5

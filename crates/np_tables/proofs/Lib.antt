@@ -19,8 +19,10 @@ pub mod MappedLemmas
 pub mod MappingLemmas
 pub mod PairLemmas
 pub mod PrimaryLemmas
+pub mod RightLemmas
 pub mod RoundLemmas
 pub mod RowLemmas
 pub mod RowPageLemmas
 pub mod SyllableLemmas
 pub mod TableLemmas
+pub mod UniqueLemmas

@@ -8,6 +8,7 @@ pub mod FullParts
 pub mod HangulRows
 pub mod Pages
 pub mod Pairs
+pub mod Primaries
 pub mod RowPages
 pub mod RowPlaces
 pub mod Suspects

@@ -10,6 +10,7 @@ mod first_faults;
 mod fulls;
 mod hangul_faults;
 mod hangul_rows;
+pub mod laws;
 mod mapped_faults;
 mod pairs;
 mod row_index;

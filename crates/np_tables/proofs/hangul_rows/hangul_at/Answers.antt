@@ -1,6 +1,6 @@
 use Rattle.std.proofs.Common.{arith, inl, inr, refl}
 use Rattle.np_tables.proofs.HangulPlaces.{Stands, stands-is}
-use Rattle.np_tables.proofs.hangul_faults.hangul_at.Goals as goal
+use Rattle.np_tables.proofs.hangul_rows.hangul_at.Goals as goal
 
 pub returns-then-place-lt19 : goal.returns-then-place-lt19
 unfolding Stands

@@ -4,7 +4,7 @@ use Rattle.std.proofs.lemmas.List.Sorted.{IsNonDecreasingBy-from_sort}
 use Rattle.std.proofs.lemmas.Result.{on_ok_weaker}
 use Rattle.np_tables.specs.Versions.{class_of}
 use Rattle.np_forms.proofs.SortLemmas.{canonical_order-from_sort}
-use Rattle.np_forms.proofs.ordering.sort_marks.Goals as goal
+use Rattle.np_forms.proofs.ordering.sort_non_starters.Goals as goal
 
 pub returns-clause-ok : goal.returns-clause-ok
 returns-clause-ok g c =
