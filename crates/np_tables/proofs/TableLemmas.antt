@@ -66,7 +66,7 @@ entry_in (e ∷ es) zero lt = (e, refl)
 entry_in (e ∷ es) (suc at) lt = entry_in es at (omega arith)
 
 -- a row lends to each of its code points what it lends to its first
-row-shares : (v : VersionData) (compat : Bool) (c at : ℕ) (e : Entry) → AreRows v.entries → slice_get v.entries at ≡ Some e → entry_at v.entries c ≡ Some e → table_full v compat e.first ≡ table_full v compat c
+pub row-shares : (v : VersionData) (compat : Bool) (c at : ℕ) (e : Entry) → AreRows v.entries → slice_get v.entries at ≡ Some e → entry_at v.entries c ≡ Some e → table_full v compat e.first ≡ table_full v compat c
 row-shares v compat c at e rows place found =
     let own = file_mapping-found v e.first e (first-at v.entries at e rows place) in
     let there = file_mapping-found v c e found in

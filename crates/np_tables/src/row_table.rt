@@ -34,10 +34,7 @@ impl RowTable {
         ensures { IfOk result (λ t. t ≡ version) }
     {
         let fulls = Fulls::new(alloc, version.characters())?;
-        Ok(RowTable {
-            version,
-            fulls,
-        })
+        Ok(RowTable { version, fulls })
     }
 }
 
