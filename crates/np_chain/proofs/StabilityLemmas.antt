@@ -76,10 +76,6 @@ module _ (v : VersionData) (sound : IsSound v) where
   pub assigned-normal_form : (form : Form) (xs : List ℕ) → IsAssigned v xs → IsAssigned v (normal_form v form xs)
   assigned-normal_form = kept-normal_form v (is_assigned v) (λ c _. sound.maps_to_assigned c) made_assigned
 
-  -- a form of a string is a string
-  pub scalar-normal_form : ((c : ℕ) → list_all scalar (decomposition_mapping v c) ≡ true) → ((c : ℕ) → is_empty (decomposition_mapping v c) ≡ false → scalar c ≡ true) → (form : Form) (xs : List ℕ) → list_all scalar xs ≡ true → list_all scalar (normal_form v form xs) ≡ true
-  scalar-normal_form maps mapped = kept-normal_form v scalar (λ c _. maps c) (λ a b c _ _ is. mapped c (ap is_empty is.mapping))
-
 -- ---- two functions of a code point that agree where a test passes
 
 module _ (p : ℕ → Bool) (f g : ℕ → ℕ) (same : (c : ℕ) → p c ≡ true → f c ≡ g c) where

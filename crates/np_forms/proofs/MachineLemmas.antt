@@ -16,7 +16,7 @@ use Rattle.np_code_points.proofs.StepsLemmas.{stays, one_more}
 use Rattle.np_tables.proofs.MappingLemmas.{list_all-append}
 use Rattle.np_forms.proofs.OrderLemmas.{is_reorderable-false, not_reorderable_starter, not_reorderable_rising}
 use Rattle.np_forms.proofs.ComposeLemmas.{not_starter_from, joined-some, joined-free, compose_after-nil, compose_after-joined, compose_after-starter, compose_after-kept, compose-nil, compose-starter, compose-non_starter}
-use Rattle.np_tables.proofs.CompositeLemmas.{cases_Option, primary_parts, composite-some, composite-none}
+use Rattle.np_tables.proofs.CompositeLemmas.{cases_Option, composite-some, composite-none}
 
 -- ---- tests along a list, by index
 
@@ -204,7 +204,7 @@ module _ (v : VersionData) (sound : IsSound v) where
             let is = composite-some v s c some.0 (joined-some ccc join s bs c some.0 some.1).1 in
             subst (λ l. at_stage here place (done ++ l)) (sym (compose_after-joined ccc join s bs c some.0 cs some.1))
             (halts_after_step _ _ _ (step_in done s bs c cs starter non_starters some.0 some.1)
-            (run_after done some.0 bs cs (let e = (primary_parts v some.0 is.primary).starter in omega arith) non_starters))
+            (run_after done some.0 bs cs (let e = is.primary.starter in omega arith) non_starters))
       ]
 
   -- no starter yet

@@ -31,6 +31,14 @@ fn non_starters_at_front<T: NormTable>(table: &T, list: &[char]) -> (usize, bool
     (list.len(), ordered)
 }
 
+/// Whether a list holds non-starters alone.
+pub(crate) fn are_non_starters<T: NormTable>(table: &T, list: &[char]) -> bool
+    ensures { result ≡ true → list_all (is_non_starter (T.model table.now)) list.now ≡ true }
+{
+    let (count, _) = non_starters_at_front(table, list);
+    count == list.len()
+}
+
 /// Puts a run of non-starters in canonical order, by a stable sort.
 fn sort_non_starters<T: NormTable>(
     alloc: Global,
