@@ -5,7 +5,7 @@ use Rattle.std.specs.List.{list_all}
 use Rattle.np_ucd.specs.Entries.{Entry, IsRow, AreRows}
 use Rattle.np_ucd.specs.declared.rows.MapKind.TheVariants.{Canonical}
 use Rattle.np_code_points.specs.Hangul.{is_syllable, syllable_pair}
-use Rattle.np_tables.specs.Versions.{entry_at, is_assigned, class_of, file_kind, file_mapping, mapping_in, is_canonical, is_empty, is_excluded, is_hangul, is_hangul_row, has_hangul, decomposition_kind, decomposition_mapping}
+use Rattle.np_tables.specs.Versions.{entry_at, is_assigned, class_of, file_kind, file_mapping, mapping_in, is_empty, is_excluded, is_hangul, is_hangul_row, has_hangul, decomposition_kind, decomposition_mapping}
 use Rattle.np_tables.specs.Mappings.{has_depth}
 use Rattle.np_tables.specs.inside.FullDecompositions.{full_of}
 use Rattle.np_tables.specs.Composites.{IsPrimary, IsCompositeOf}

@@ -1,5 +1,5 @@
 -- Slots of full decompositions in one flat list.
-use Rattle.std.proofs.Common.{◌≡◌, ℕ, zero, suc, ◌+◌, ◌<◌, ◌≤◌, Bool, true, false, List, [], ◌∷◌, ◌++◌, length, map, take, get_or, slice_index, Some, refl, sym, ap, subst, ◌∙◌, arith, inl, inr, append_assoc}
+use Rattle.std.proofs.Common.{◌≡◌, ℕ, ◌+◌, ◌<◌, ◌≤◌, Bool, true, false, List, [], ◌∷◌, ◌++◌, length, map, take, get_or, slice_index, Some, refl, sym, ap, subst, ◌∙◌, arith, inl, inr}
 use Rattle.std.specs.List.{slice_get}
 use Rattle.std.proofs.lemmas.Bool.{cases_lt}
 use Rattle.std.proofs.lemmas.List.{get_or_append_left, length-append, length-map, map_push}
@@ -13,7 +13,7 @@ use Rattle.np_tables.specs.inside.FullDecompositions.{table_full}
 use Rattle.np_tables.specs.inside.FullLists.{FullLists, of_kind}
 use Rattle.np_tables.specs.inside.FullParts.{part_of, IsPart, AreParts}
 use Rattle.np_tables.specs.inside.PageWords.{lists_of, IsSlotPushed, IsSlot, AreSlots, AreSlotsSoFar}
-use Rattle.np_tables.proofs.FileRowLemmas.{file_mapping-found, first-at}
+use Rattle.np_tables.proofs.FileRowLemmas.{file_mapping-found}
 use Rattle.np_tables.proofs.FullListLemmas.{part_of-grown, parts-grown, AreParts-grown, part_of-new, lent-outside}
 
 -- ---- one slot more

@@ -1,5 +1,5 @@
 -- Words of code points, by rows and by blocks.
-use Rattle.std.proofs.Common.{◌≡◌, ℕ, zero, suc, ◌+◌, ◌-◌, ◌*◌, ◌/◌, ◌%◌, ◌<◌, ◌≤◌, ◌⊎◌, Bool, true, false, ◌&&◌, List, [], ◌∷◌, ◌++◌, length, map, get_or, set, slice_index, Some, None, Option, IfNone, IfSome, refl, sym, ap, subst, ◌∙◌, arith, inl, inr}
+use Rattle.std.proofs.Common.{◌≡◌, ℕ, suc, ◌+◌, ◌-◌, ◌/◌, ◌<◌, Bool, true, false, ◌&&◌, List, [], ◌∷◌, ◌++◌, length, get_or, set, slice_index, Some, None, sym, ap, subst, ◌∙◌, arith, inl, inr}
 use Rattle.std.specs.List.{slice_get}
 use Rattle.std.specs.Option.{is_some}
 use Rattle.std.proofs.Math.Nat.{mod-lt}
@@ -9,7 +9,7 @@ use Rattle.std.proofs.lemmas.List.{get_or_append_left, get_or-map, get_or-set_sa
 use Rattle.std.proofs.lemmas.Option.{none-some, same_Some, slice_get_within, slice_get-get_or}
 use Rattle.np_code_points.specs.Hangul.{is_syllable, syllable_pair}
 use Rattle.np_ucd.specs.Entries.{Entry, AreRows}
-use Rattle.np_tables.specs.Versions.{VersionData, class_of, class_in, entry_at, file_mapping, mapping_in, has_hangul, is_assigned}
+use Rattle.np_tables.specs.Versions.{VersionData, class_of, class_in, entry_at, has_hangul, is_assigned}
 use Rattle.std.specs.List.{list_all}
 use Rattle.np_tables.specs.Conditions.{IsSound}
 use Rattle.np_tables.specs.Composites.{IsCompositeOf}
@@ -17,11 +17,10 @@ use Rattle.np_tables.specs.declared.page_words.Word.{Word}
 use Rattle.np_tables.specs.declared.pairs.Composite.{Composite}
 use Rattle.np_tables.specs.inside.FullDecompositions.{table_full}
 use Rattle.np_tables.specs.inside.FullLists.{FullLists, of_kind}
-use Rattle.np_tables.specs.inside.Pages.{AreWithin, word_place}
-use Rattle.np_tables.specs.inside.Pairs.{AreOfFile, Lists}
+use Rattle.np_tables.specs.inside.Pages.{word_place}
+use Rattle.np_tables.specs.inside.Pairs.{AreOfFile}
 use Rattle.np_tables.specs.inside.RowPages.{AreRowPages, IsRowNumber}
-use Rattle.np_tables.specs.inside.PageWords.{AreRowWords, AreSecondRows, AreSlots, IsSlot, IsWord, ArePages, no_word, row_word, paged_words}
-use Rattle.np_tables.proofs.FullListLemmas.{lent-outside}
+use Rattle.np_tables.specs.inside.PageWords.{AreRowWords, AreSecondRows, AreSlots, IsWord, ArePages, no_word, row_word, paged_words}
 use Rattle.np_tables.proofs.HangulLemmas.{decomposition_mapping-on}
 use Rattle.np_tables.proofs.RowLemmas.{at-found, at-row, entry_at-within, firsts-le}
 use Rattle.np_tables.proofs.RowPageLemmas.{ends-rise, some_at}

@@ -12,7 +12,6 @@ use Rattle.np_tables.specs.inside.FullDecompositions.{table_full}
 use Rattle.np_tables.specs.inside.FullLists.{FullLists, of_kind}
 use Rattle.np_tables.specs.inside.FullParts.{AreParts, part_of}
 use Rattle.np_tables.specs.inside.Pages.{AreWithin, word_place}
-use Rattle.np_tables.specs.inside.Pairs.{Lists}
 
 -- ---- slots of full decompositions
 

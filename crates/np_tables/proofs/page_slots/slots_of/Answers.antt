@@ -1,4 +1,4 @@
-use Rattle.std.proofs.Common.{◌∙◌, ap, Vec, Global, ℕ, List, arith}
+use Rattle.std.proofs.Common.{◌∙◌, ap, Vec, Global, ℕ, arith}
 use Rattle.np_ucd.specs.RowValues.{entry_of}
 use Rattle.np_tables.specs.Versions.{is_empty}
 use Rattle.np_tables.specs.declared.fulls.Part.{Part}
