@@ -1,13 +1,13 @@
 -- Primary composites by what the file says.
-use Rattle.std.proofs.Common.{◌≡◌, ℕ, ◌+◌, ◌-◌, ◌/◌, ◌%◌, ◌<◌, ◌≤◌, true, false, not, ◌&&◌, ◌==◌, List, [], ◌∷◌, length, Option, Some, None, refl, sym, ap, ◌∙◌, arith, inl, inr, eqb-true, eq-eqb, le-leb, lt-ltb}
-use Rattle.std.proofs.lemmas.Bool.{cond-true, cond-false, cases_Bool, and_parts, and_from, leb-true, ltb-true, and_right}
+use Rattle.std.proofs.Common.{◌≡◌, ℕ, ◌+◌, ◌<◌, ◌≤◌, true, false, not, ◌&&◌, ◌==◌, List, [], ◌∷◌, length, Option, Some, None, refl, sym, ap, ◌∙◌, arith}
+use Rattle.std.proofs.lemmas.Bool.{cond-true, cond-false, and_parts, leb-true, ltb-true, and_right}
 use Rattle.np_ucd.specs.Listed.{is_listed}
 use Rattle.np_tables.proofs.RowLemmas.{entry_at-row}
 use Rattle.np_ucd.specs.Entries.{Entry, IsRow, AreRows, HasLength}
 use Rattle.np_ucd.specs.declared.rows.MapKind.{MapKind}
 use Rattle.np_ucd.specs.declared.rows.MapKind.TheVariants.{Plain, Canonical, Compatibility}
 use Rattle.np_code_points.specs.Hangul.{is_syllable, syllable_pair}
-use Rattle.np_tables.specs.Versions.{VersionData, entry_at, is_assigned, class_of, file_kind, file_mapping, mapping_in, kind_in, is_canonical, is_empty, is_excluded, decomposition_kind, decomposition_mapping, has_hangul}
+use Rattle.np_tables.specs.Versions.{VersionData, entry_at, class_of, file_kind, file_mapping, mapping_in, kind_in, is_canonical, is_empty, is_excluded, decomposition_kind, decomposition_mapping, has_hangul}
 use Rattle.np_tables.specs.inside.Primaries.{is_starter_pair, is_primary}
 use Rattle.np_tables.specs.inside.Accessors.{is_file_primary}
 use Rattle.np_tables.specs.Composites.{IsPrimary}
