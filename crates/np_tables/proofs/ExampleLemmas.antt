@@ -268,9 +268,19 @@ syllables_is : IsRow syllables
 syllables_is = record { rises = omega arith; bounded = omega arith; class = omega arith; fits = refl; scalars = refl; alone = λ h. absurd (h refl); mapped_scalar = λ h. refl }
 
 rows_hangul : AreRows with_hangul.entries
-rows_hangul =
-    (letter_is, omega arith, (letter_with_ring_is, omega arith, (ring_is, omega arith,
-    (leading_is, omega arith, (vowels_is, omega arith, (trailing_is, omega arith, (syllables_is, tt, tt)))))))
+rows_hangul = (
+  letter_is,
+  omega arith,
+  (
+    letter_with_ring_is,
+    omega arith,
+    (
+      ring_is,
+      omega arith,
+      (leading_is, omega arith, (vowels_is, omega arith, (trailing_is, omega arith, (syllables_is, tt, tt)))),
+    ),
+  ),
+)
 
 -- a code point of a row of class 0 without a mapping is as the arithmetic wants it
 row_at : (i : ℕ) (e : Entry) (c : ℕ) → slice_get with_hangul.entries i ≡ Some e → e.class ≡ 0 → e.mapping ≡ [] → e.first ≤ c → c ≤ e.last → is_hangul_row with_hangul c ≡ true

@@ -110,4 +110,12 @@ impl<T: NormTable> NormTable for &T {
     fn full(&self, c: char, compat: bool) -> &[char] {
         (**self).full(c, compat)
     }
+
+    fn is_boundary(&self, form: Form, c: char) -> bool {
+        (**self).is_boundary(form, c)
+    }
+
+    fn staying(&self, form: Form, text: &str) -> usize {
+        (**self).staying(form, text)
+    }
 }
