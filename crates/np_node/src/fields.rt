@@ -24,7 +24,7 @@ impl<'b> Fields<'b> {
     ghost use Rattle.std.specs.Prelude.{◌≡◌, ℕ, ◌+◌, ◌^◌, ◌<◌, ◌∷◌, [], IfOk, IfErr, IfSome, IfNone};
     ghost use Rattle.np_code_points.specs.Forms.{byte_of};
     ghost use Rattle.np_node.specs.Fields.{entry_bytes, field_bytes, number_bytes, FitsFields, IsEntryFault, IsFieldFault, LacksForm};
-    ghost use Rattle.np_node.specs.inside.Reading.{left_of, told_entry, Passes};
+    ghost use Rattle.np_node.specs.inside.Reading.{left_of, told_entry, Passes, Skips};
 
     /// A reader of all of the bytes.
     pub(crate) fn new(bytes: &'b [u8]) -> Self
@@ -62,7 +62,9 @@ impl<'b> Fields<'b> {
     }
 
     /// Goes over the name, where it is in front.
-    pub(crate) fn skip(&mut self, name: &[u8]) -> bool {
+    pub(crate) fn skip(&mut self, name: &[u8]) -> bool
+        ensures { Skips self.old self.new name.now result }
+    {
         if self.left() < name.len() {
             return false;
         }
