@@ -4,6 +4,7 @@ pub mod ComposerLemmas
 pub mod FormLemmas
 pub mod InPlaceLemmas
 pub mod KeptLemmas
+pub mod LengthLemmas
 pub mod MachineLemmas
 pub mod OrderLaws
 pub mod OrderLemmas

@@ -18,7 +18,14 @@ pub(crate) struct Told<'b> {
     pub key: &'b [u8],
 }
 
-ghost use Rattle.std.specs.Prelude.{◌≤◌, length};
+ghost use Rattle.std.specs.Prelude.{◌≤◌, ◌≡◌, ◌↔◌, length, IsTrue};
+
+/// Whether the bytes are the same.
+pub(crate) fn same_bytes(left: &[u8], right: &[u8]) -> bool
+    ensures { IsTrue result ↔ (left.now ≡ right.now) }
+{
+    left == right
+}
 
 impl<'b> Fields<'b> {
     ghost use Rattle.std.specs.Prelude.{◌≡◌, ℕ, ◌+◌, ◌^◌, ◌<◌, ◌∷◌, [], IfOk, IfErr, IfSome, IfNone};
@@ -69,7 +76,7 @@ impl<'b> Fields<'b> {
             return false;
         }
         match self.take(name.len()) {
-            Some(found) => found == name,
+            Some(found) => same_bytes(found, name),
             None => false,
         }
     }
@@ -85,7 +92,7 @@ impl<'b> Fields<'b> {
 
     /// The next number.
     pub(crate) fn number(&mut self) -> Option<u32>
-        ensures some { IfSome result (λ n. Passes self.old self.new (number_bytes n)) }
+        ensures some { IfSome result (λ n. Passes self.old self.new (number_bytes n) × (n < 2 ^ 32)) }
         ensures none { IfNone result (length (left_of self.old) < 4) }
     {
         let bytes = self.take(4)?;
@@ -113,15 +120,18 @@ impl<'b> Fields<'b> {
         ensures err { IfErr result (λ at. (inner : ℕ) × IsEntryFault (left_of self.old) inner × (at ≡ self.old.at + inner)) }
     {
         let string = self.field()?;
-        let key = self.field()?;
-        Ok(Told { string, key })
+        match self.field() {
+            Ok(key) => Ok(Told { string, key }),
+            Err(at) => Err(at),
+        }
     }
 }
 
-ghost use Rattle.std.specs.Prelude.{◌≡◌, ◌++◌, ◌^◌, ◌<◌, OnOk};
+ghost use Rattle.std.specs.Prelude.{◌++◌, ◌^◌, ◌<◌, OnOk};
 ghost use Rattle.np_node.specs.Fields.{entry_bytes as entry_spelled, field_bytes as field_spelled};
 
 /// Appends a list of bytes behind its length.
+#[tactic(auto, using(crate::proofs::ListLemmas::joined), unfolding(crate::specs::Fields::field_bytes, crate::specs::Fields::number_bytes))]
 fn push_field(out: &mut Vec<u8>, bytes: &[u8]) -> Result<(), Memory>
     requires { length bytes.now < 2 ^ 32 }
     ensures { OnOk result (out.new.items ≡ out.old.items ++ field_spelled bytes.now) }
@@ -132,6 +142,7 @@ fn push_field(out: &mut Vec<u8>, bytes: &[u8]) -> Result<(), Memory>
 }
 
 /// Appends a string and its key.
+#[tactic(auto, using(crate::proofs::ListLemmas::joined), unfolding(crate::specs::Fields::entry_bytes))]
 pub(crate) fn push_entry(out: &mut Vec<u8>, string: &[u8], key: &[u8]) -> Result<(), Memory>
     requires string { length string.now < 2 ^ 32 }
     requires key { length key.now < 2 ^ 32 }

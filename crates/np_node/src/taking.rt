@@ -1,7 +1,7 @@
 //! Messages of other nodes.
 
 use crate::faults::NodeFault;
-use crate::fields::Told;
+use crate::fields::{Told, same_bytes};
 use crate::messages::read_message;
 use crate::nodes::Node;
 use crate::strings::{check_assigned, key_for, short_text};
@@ -53,7 +53,7 @@ impl<'t, T: NormTable> Node<'t, T> {
     {
         let text = short_text(told.string)?;
         match self.kept.key_of(text) {
-            Some(key) if key.as_bytes() == told.key => Ok(Taken::Known),
+            Some(key) if same_bytes(key.as_bytes(), told.key) => Ok(Taken::Known),
             Some(_) => Err(NodeFault::KeyDiffers),
             None => self.take_new(text, told.key),
         }
@@ -68,7 +68,7 @@ impl<'t, T: NormTable> Node<'t, T> {
     {
         check_assigned(self.table, text)?;
         let key = key_for(self.kept.allocator(), self.table, self.form, text)?;
-        if key.as_bytes() != told {
+        if !same_bytes(key.as_bytes(), told) {
             return Err(NodeFault::KeyDiffers);
         }
         if self.is_full() {

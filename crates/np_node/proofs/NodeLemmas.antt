@@ -1,0 +1,92 @@
+-- What holds of a node as strings come to it, and along an extension.
+use Rattle.std.proofs.Common.{◌≡◌, ◌≢◌, ℕ, zero, suc, ◌+◌, ◌<◌, ◌≤◌, List, [], ◌∷◌, ◌++◌, length, map, get_or, All, AllPairs, Contains, refl, sym, ap, subst, ◌∙◌, arith, length-append}
+use Rattle.std.proofs.lemmas.List.Elements.{All-push, All-weaker}
+use Rattle.std.proofs.lemmas.List.Quantifiers.{all_pairs_push}
+use Rattle.np_chain.specs.Chain.{Extends}
+use Rattle.np_chain.specs.Laws.{Stability}
+use Rattle.np_code_points.specs.declared.forms.Form.{Form}
+use Rattle.np_node.proofs.KeyLemmas.{later_entry}
+use Rattle.np_node.specs.Nodes.{State, strings_of, HasPlace, IsKept, AreUnlike, IsNode}
+use Rattle.np_node.specs.Strings.{Entry, IsEntry, IsKeepable, IsKey}
+use Rattle.np_tables.specs.Conditions.{IsSound}
+use Rattle.np_tables.specs.Versions.{VersionData}
+
+-- ---- elements
+
+length-map : {A B : Type 0} (f : A → B) (xs : List A) → length (map f xs) ≡ length xs
+length-map f [] = refl
+length-map f (x ∷ xs) = ap suc (length-map f xs)
+
+get-map : {A B : Type 0} (f : A → B) (xs : List A) (k : ℕ) (d : A) (e : B) → k < length xs → get_or (map f xs) k e ≡ f (get_or xs k d)
+get-map f [] k d e lt = absurd (omega arith)
+get-map f (x ∷ xs) zero d e lt = refl
+get-map f (x ∷ xs) (suc k) d e lt = get-map f xs k d e (omega arith)
+
+get_or-any : {A : Type 0} (xs : List A) (k : ℕ) (d e : A) → k < length xs → get_or xs k d ≡ get_or xs k e
+get_or-any [] k d e lt = absurd (omega arith)
+get_or-any (x ∷ xs) zero d e lt = refl
+get_or-any (x ∷ xs) (suc k) d e lt = get_or-any xs k d e (omega arith)
+
+-- what holds of each element holds of one that the list contains
+pub All-Contains : {A : Type 0} (P : A → Type 0) (xs : List A) (x : A) → All P xs → Contains xs x → P x
+All-Contains P xs x all (k, lt, is) = subst P is (all k x lt)
+
+-- the string of an entry is kept
+pub kept-entry : (es : List Entry) (e : Entry) → Contains es e → IsKept es e.string
+kept-entry es e (k, lt, is) =
+    (k, omega (arith, length-map (λ (x : Entry). x.string) es), get-map (λ (x : Entry). x.string) es k e e.string lt ∙ ap (λ (x : Entry). x.string) is)
+
+-- a kept string is that of an entry
+pub entry-kept : (es : List Entry) (string : List ℕ) → IsKept es string → (key : List ℕ) × Contains es (record { string = string; key = key })
+entry-kept es string (k, lt, is) =
+    let none : Entry = record { string = string; key = [] } in
+    let within : k < length es = omega (arith, length-map (λ (x : Entry). x.string) es) in
+    let at = get_or es k none in
+    let named : at.string ≡ string = sym (get-map (λ (x : Entry). x.string) es k none string within) ∙ is in
+    let whole : at ≡ record { string = string; key = at.key } = (λ i. record { string = named i; key = at.key }) in
+    (at.key, (k, within, get_or-any es k _ none within ∙ whole))
+
+-- ---- one more entry
+
+strings-push : (es : List Entry) (e : Entry) → strings_of (es ++ e ∷ []) ≡ strings_of es ++ e.string ∷ []
+strings-push [] e = refl
+strings-push (x ∷ xs) e = ap (λ l. x.string ∷ l) (strings-push xs e)
+
+-- a string that isn't kept is unlike each that is
+unlike-absent : (es : List Entry) (string : List ℕ) → ¬ IsKept es string → (k : ℕ) (d : List ℕ) → k < length (strings_of es) → get_or (strings_of es) k d ≢ string
+unlike-absent es string absent k d lt same =
+    absent (k, lt, get_or-any (strings_of es) k string d lt ∙ same)
+
+pub unlike-push : (es : List Entry) (e : Entry) → AreUnlike es → ¬ IsKept es e.string → AreUnlike (es ++ e ∷ [])
+unlike-push es e unlike absent =
+    subst (AllPairs (λ a b. a ≢ b)) (sym (strings-push es e))
+    (all_pairs_push (λ a b. a ≢ b) (strings_of es) e.string unlike (unlike-absent es e.string absent))
+
+pub IsNode-push : (node : State) (e : Entry) → IsNode node → HasPlace node e.string → IsKey node.version node.form e.string e.key → IsNode (record node { entries = node.entries ++ e ∷ [] })
+IsNode-push node e is place key =
+    record {
+      sound = is.sound;
+      entries = All-push (IsEntry node.version node.form) node.entries e is.entries (record { keepable = place.new.keepable; key = key });
+      unlike = unlike-push node.entries e is.unlike place.new.absent;
+      fits = omega (arith, place.room, length-append node.entries (e ∷ []));
+      room = is.room;
+    }
+
+-- ---- an extension
+
+pub IsNode-later : (stability : Stability) (node : State) (w : VersionData) → IsSound w → Extends node.version w → IsNode node → IsNode (record node { version = w })
+IsNode-later stability node w sound ext is =
+    record {
+      sound = sound;
+      entries = All-weaker (IsEntry node.version node.form) (IsEntry w node.form) (later_entry stability node.version w is.sound sound ext node.form) node.entries is.entries;
+      unlike = is.unlike;
+      fits = is.fits;
+      room = is.room;
+    }
+
+-- ---- what a kept string may
+
+pub keepable-kept : (node : State) (string : List ℕ) → IsNode node → IsKept node.entries string → IsKeepable node.version string
+keepable-kept node string is kept =
+    let found = entry-kept node.entries string kept in
+    (All-Contains (IsEntry node.version node.form) node.entries _ is.entries found.1).keepable
