@@ -44,7 +44,7 @@ length-entries-more : (e : Entry) (es : List Entry) → length (entries_bytes (e
 unfolding entries_bytes
 length-entries-more e es = length-append (entry_bytes e) (flat_map entry_bytes es)
 
-length-entries-none : length (entries_bytes []) ≡ 0
+pub length-entries-none : length (entries_bytes []) ≡ 0
 unfolding entries_bytes
 length-entries-none = refl
 

@@ -5,3 +5,4 @@ pub mod ListLemmas
 pub mod MessageLemmas
 pub mod NodeLemmas
 pub mod ReadingLemmas
+pub mod EntryLemmas

@@ -1,13 +1,17 @@
 -- What holds of a node as strings come to it, and along an extension.
-use Rattle.std.proofs.Common.{◌≡◌, ◌≢◌, ℕ, zero, suc, ◌+◌, ◌<◌, ◌≤◌, List, [], ◌∷◌, ◌++◌, length, map, get_or, All, AllPairs, Contains, refl, sym, ap, subst, ◌∙◌, arith, length-append}
+use Rattle.std.proofs.Common.{◌≡◌, ◌≢◌, ℕ, zero, suc, ◌+◌, ◌<◌, ◌≤◌, List, [], ◌∷◌, ◌++◌, length, map, get_or, All, AllPairs, Contains, Bool, true, false, true≢false, IsTrue, ◌↔◌, Result, Ok, Err, OnOk, OnErr, refl, sym, ap, subst, ◌∙◌, arith, length-append}
 use Rattle.std.proofs.lemmas.List.Elements.{All-push, All-weaker}
 use Rattle.std.proofs.lemmas.List.Quantifiers.{all_pairs_push}
 use Rattle.np_chain.specs.Chain.{Extends}
 use Rattle.np_chain.specs.Laws.{Stability}
 use Rattle.np_code_points.specs.declared.forms.Form.{Form}
-use Rattle.np_node.proofs.KeyLemmas.{later_entry}
+use Rattle.np_node.proofs.KeyLemmas.{later_entry, one_key}
+use Rattle.np_node.specs.Accepting.{AnswersAccept}
 use Rattle.np_node.specs.Nodes.{State, strings_of, HasPlace, IsKept, AreUnlike, IsNode}
-use Rattle.np_node.specs.Strings.{Entry, IsEntry, IsKeepable, IsKey}
+use Rattle.np_node.specs.Strings.{Entry, IsEntry, IsKeepable, IsKey, IsStringFault}
+use Rattle.np_node.specs.Taking.{AnswersEntry}
+use Rattle.np_node.specs.declared.faults.NodeFault.{NodeFault}
+use Rattle.np_node.specs.declared.faults.NodeFault.TheVariants.{Malformed, OtherForm, TooLong, NotUtf8, Unassigned, KeyDiffers, Full, Memory}
 use Rattle.np_tables.specs.Conditions.{IsSound}
 use Rattle.np_tables.specs.Versions.{VersionData}
 
@@ -90,3 +94,35 @@ pub keepable-kept : (node : State) (string : List ℕ) → IsNode node → IsKep
 keepable-kept node string is kept =
     let found = entry-kept node.entries string kept in
     (All-Contains (IsEntry node.version node.form) node.entries _ is.entries found.1).keepable
+
+-- ---- answers
+
+-- what holds of both ends of a call holds of what it left
+pub either : {A T E : Type 0} (r : Result T E) (P : A → Type 0) (new a b : A) → OnOk r (new ≡ a) → OnErr r (new ≡ b) → P a → P b → P new
+either (Ok x) P new a b ok err pa pb = subst P (sym ok) pa
+either (Err x) P new a b ok err pa pb = subst P (sym err) pb
+
+-- what is wrong with a string is refused with it
+pub refuses-accept : (node : State) (string : List ℕ) (fault : NodeFault) → IsStringFault node.version string fault → AnswersAccept node string (Err fault)
+refuses-accept node string TooLong h = h
+refuses-accept node string (NotUtf8 at) h = h
+refuses-accept node string (Unassigned at code) h = h
+refuses-accept node string (Malformed at) h = absurd h
+refuses-accept node string OtherForm h = absurd h
+refuses-accept node string KeyDiffers h = absurd h
+refuses-accept node string Full h = absurd h
+refuses-accept node string Memory h = absurd h
+
+pub refuses-entry : (node : State) (e : Entry) (fault : NodeFault) → IsStringFault node.version e.string fault → AnswersEntry node e (Err fault)
+refuses-entry node e TooLong h = h
+refuses-entry node e (NotUtf8 at) h = h
+refuses-entry node e (Unassigned at code) h = h
+refuses-entry node e (Malformed at) h = absurd h
+refuses-entry node e OtherForm h = absurd h
+refuses-entry node e KeyDiffers h = absurd h
+refuses-entry node e Full h = absurd h
+refuses-entry node e Memory h = absurd h
+
+-- a string that stands beside one key has no other
+pub other-key : (v : VersionData) (form : Form) (string k l : List ℕ) (b : Bool) → IsSound v → IsKey v form string k → (IsTrue b ↔ (k ≡ l)) → b ≡ false → ¬ IsKey v form string l
+other-key v form string k l b sound is same off has = true≢false (sym (same.1 (one_key v sound form string k l is has)) ∙ off)

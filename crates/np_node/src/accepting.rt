@@ -37,11 +37,11 @@ impl<'t, T: NormTable> Node<'t, T> {
         ensures answer { AnswersAccept (state_of T.model self.old) string.now result }
         ensures node { LeavesAccepted T.model self.old self.new string.now result }
     {
-        let text = short_text(string)?;
-        if self.kept.key_of(text).is_some() {
-            return Ok(Accepted::Known);
+        match short_text(string) {
+            Ok(text) if self.kept.key_of(text).is_some() => Ok(Accepted::Known),
+            Ok(text) => self.accept_new(text),
+            Err(fault) => Err(fault),
         }
-        self.accept_new(text)
     }
 
     /// Keeps a string that is not kept yet.

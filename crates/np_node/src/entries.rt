@@ -59,8 +59,10 @@ impl Entries {
         ensures some { IfSome result (λ key. Contains self.now (record { string = string.now; key = key.now })) }
         ensures none { IfNone result (¬ IsKept self.now string.now) }
     {
-        let key = self.map.get(string)?;
-        Some(key.as_str())
+        match self.map.get(string) {
+            Some(key) => Some(key.as_str()),
+            None => None,
+        }
     }
 
     /// Puts a new string and its key behind the others.

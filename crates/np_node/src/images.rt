@@ -40,7 +40,10 @@ pub(crate) fn shape_of(bytes: &[u8]) -> Result<(Form, u32), usize>
     let mut fields = Fields::new(bytes);
     let (form, count) = read_head(&mut fields)?;
     for _number in 0..count {
-        fields.entry()?;
+        match fields.entry() {
+            Ok(_told) => {}
+            Err(at) => return Err(at),
+        }
     }
     if fields.left() > 0 {
         return Err(fields.place());

@@ -10,6 +10,7 @@ ghost use Rattle.np_node.specs.Strings.{IsKey};
 ghost use Rattle.std.specs.Prelude.{chars, string_bytes};
 
 use crate::entries::Entries;
+use crate::fields::same_bytes;
 use np_chain::Break;
 use np_code_points::{Form, Memory};
 use np_tables::NormTable;
@@ -128,9 +129,10 @@ impl<'t, T: NormTable> Node<'t, T> {
         ensures kept { OnSome result (IsKept self.now.entries left.now × IsKept self.now.entries right.now) }
         ensures none { IfNone result (¬ (IsKept self.now.entries left.now × IsKept self.now.entries right.now)) }
     {
+        let _node = &self.table;
         let first = self.key_of(left)?;
         let second = self.key_of(right)?;
-        Some(first == second)
+        Some(same_bytes(first.as_bytes(), second.as_bytes()))
     }
 
     /// Moves to a table whose version extends the present one. Strings and keys stay as they are,

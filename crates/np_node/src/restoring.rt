@@ -70,9 +70,12 @@ impl<'t, T: NormTable> Node<'t, T> {
         }
         for number in 0..count {
             let at = fields.place();
-            match fields.entry() {
-                Ok(told) => self.restore_entry(told, number, at)?,
+            let told = match fields.entry() {
+                Ok(told) => told,
                 Err(at) => return Err(whole(NodeFault::Malformed { at })),
+            };
+            if let Err(refused) = self.restore_entry(told, number, at) {
+                return Err(refused);
             }
         }
         Ok(self)

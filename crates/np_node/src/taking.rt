@@ -51,7 +51,10 @@ impl<'t, T: NormTable> Node<'t, T> {
         ensures answer { AnswersEntry (state_of T.model self.old) (told_entry told.entry) result }
         ensures node { LeavesEntry self.old self.new (told_entry told.entry) result }
     {
-        let text = short_text(told.string)?;
+        let text = match short_text(told.string) {
+            Ok(text) => text,
+            Err(fault) => return Err(fault),
+        };
         match self.kept.key_of(text) {
             Some(key) if same_bytes(key.as_bytes(), told.key) => Ok(Taken::Known),
             Some(_) => Err(NodeFault::KeyDiffers),

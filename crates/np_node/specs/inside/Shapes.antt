@@ -1,5 +1,5 @@
 -- Images that are read or written up to some entry.
-use Rattle.std.specs.Prelude.{◌≡◌, ℕ, ◌+◌, List, ◌++◌, length, take, drop, All, ◌⊎◌, Option, Some, None}
+use Rattle.std.specs.Prelude.{◌≡◌, ℕ, ◌+◌, ◌≤◌, List, ◌++◌, length, take, drop, All, ◌⊎◌, Option, Some, None}
 use Rattle.np_code_points.specs.declared.forms.Form.{Form}
 use Rattle.np_node.specs.Fields.{FitsFields}
 use Rattle.np_node.specs.Images.{IsImage, head_bytes, entries_bytes}
@@ -10,7 +10,7 @@ use Rattle.np_node.specs.declared.faults.ImageFault.{ImageFault}
 use Rattle.np_node.specs.declared.faults.NodeFault.{NodeFault}
 use Rattle.np_node.specs.declared.faults.NodeFault.TheVariants.{Malformed, OtherForm, TooLong, NotUtf8, Unassigned, KeyDiffers, Full, Memory}
 use Rattle.np_node.specs.declared.fields.Fields.{Fields}
-use Rattle.np_node.specs.inside.Reading.{Passes}
+use Rattle.np_node.specs.inside.Reading.{left_of}
 use Rattle.np_tables.specs.Versions.{VersionData}
 
 -- the bytes are an image of the form with so many entries
@@ -19,19 +19,24 @@ pub record HasShape (bytes : List ℕ) (form : Form) (count : ℕ) : Type 0 wher
   pub spelled : IsImage bytes (record { form = form; entries = entries })
   pub counted : length entries ≡ count
 
--- from the start on, the reader went over the head and n whole entries
-pub record HasRead (start here : Fields) (form : Form) (count n : ℕ) : Type 0 where
+-- the reader went over the head and n whole entries
+pub record HasRead (bytes : List ℕ) (here : Fields) (form : Form) (count n : ℕ) : Type 0 where
   pub entries : List Entry
   pub counted : length entries ≡ n
   pub fits : All FitsFields entries
-  pub passes : Passes start here (head_bytes form count ++ entries_bytes entries)
+  pub split : bytes ≡ head_bytes form count ++ (entries_bytes entries ++ left_of here)
+  pub place : here.at ≡ length (head_bytes form count) + length (entries_bytes entries)
 
--- the node has the first n of the entries, each of them right, and the reader stands before the others
-pub record HasFilled {T : Type 0} (model : T → VersionData) (empty node : NodeState T) (entries : List Entry) (left : List ℕ) (at n : ℕ) : Type 0 where
+-- the node has the first n entries of an image, each of them right, and the reader stands before the others
+pub record IsFilling {T : Type 0} (model : T → VersionData) (empty node : NodeState T) (bytes : List ℕ) (count : ℕ) (here : Fields) (n : ℕ) : Type 0 where
+  pub entries : List Entry
+  pub spelled : IsImage bytes (record { form = empty.form; entries = entries })
+  pub counted : length entries ≡ count
+  pub room : count ≤ empty.room
   pub node_is : node ≡ record empty { entries = take n entries }
   pub right : AreRight (model empty.table) empty.form (take n entries)
-  pub left_is : left ≡ entries_bytes (drop n entries)
-  pub place : at ≡ length (head_bytes empty.form (length entries)) + length (entries_bytes (take n entries))
+  pub left_is : left_of here ≡ entries_bytes (drop n entries)
+  pub place : here.at ≡ length (head_bytes empty.form count) + length (entries_bytes (take n entries))
 
 -- what is wrong with an entry that comes to a node, for which there is room
 abbrev pub IsEntryWrong : State → Entry → ℕ → NodeFault → Type 0
