@@ -1,8 +1,9 @@
 -- The map of strings as a list of entries.
-use Rattle.std.proofs.Common.{◌≡◌, ℕ, zero, suc, ◌+◌, ◌<◌, Bool, true, false, true≢false, cond, List, [], ◌∷◌, ◌++◌, length, map, Option, Some, None, String, string_bytes, Contains, refl, sym, ap, subst, ◌∙◌, inl, inr, arith}
+use Rattle.std.proofs.Common.{◌≡◌, ℕ, zero, suc, ◌+◌, ◌<◌, Bool, true, false, true≢false, cond, List, [], ◌∷◌, ◌++◌, length, map, Option, Some, None, String, string_bytes, slice_get, IsSome, Contains, refl, sym, ap, subst, ◌∙◌, inl, inr, arith}
 use Rattle.std.proofs.lemmas.Bool.{cond-true, cond-false, cases_Bool}
 use Rattle.std.proofs.lemmas.Slice.Eq.{bytes_eq-Decides}
 use Rattle.std.specs.Map.{lookup}
+use Rattle.std.specs.Option.{option_map}
 use Rattle.std.specs.Str.{bytes_eq}
 use Rattle.std.specs.String.{string_eq}
 use Rattle.indexmap.specs.IndexMap.{insert_entry}
@@ -65,3 +66,10 @@ shown-insert (e ∷ es) s k absent =
       | inr other ↦
           ap shown (cond-false _ _ _ other) ∙ ap (λ l. entry_of e ∷ l) (shown-insert es s k (λ kept. absent (kept-later (entry_of e) (shown es) (string_bytes s) kept)))
     ]
+
+-- where there is an entry it is given
+pub some-at : {A : Type 0} (f : A → Entry) (o : Option A) (es : List Entry) (i : ℕ) → option_map f o ≡ slice_get es i → i < length es → IsSome o
+some-at f (Some x) es i e lt = refl
+some-at f None [] i e lt = absurd (omega (arith, lt))
+some-at f None (x ∷ xs) zero e lt = cc
+some-at f None (x ∷ xs) (suc i) e lt = some-at f None xs i e (omega (arith, lt))

@@ -6,3 +6,5 @@ pub mod MessageLemmas
 pub mod NodeLemmas
 pub mod ReadingLemmas
 pub mod EntryLemmas
+pub mod FillLemmas
+pub mod LawLemmas

@@ -1,6 +1,6 @@
 -- What holds of a node as strings come to it, and along an extension.
-use Rattle.std.proofs.Common.{◌≡◌, ◌≢◌, ℕ, zero, suc, ◌+◌, ◌<◌, ◌≤◌, List, [], ◌∷◌, ◌++◌, length, map, get_or, All, AllPairs, Contains, Bool, true, false, true≢false, IsTrue, ◌↔◌, Result, Ok, Err, OnOk, OnErr, refl, sym, ap, subst, ◌∙◌, arith, length-append}
-use Rattle.std.proofs.lemmas.List.Elements.{All-push, All-weaker}
+use Rattle.std.proofs.Common.{◌≡◌, ◌≢◌, ℕ, zero, suc, ◌+◌, ◌<◌, ◌≤◌, List, [], ◌∷◌, ◌++◌, length, map, take, slice_get, Some, get_or, All, AllPairs, Contains, Bool, true, false, true≢false, IsTrue, ◌↔◌, Result, Ok, Err, OnOk, OnErr, refl, sym, ap, subst, ◌∙◌, arith, length-append}
+use Rattle.std.proofs.lemmas.List.Elements.{All-push, All-weaker, All-head, All-tail}
 use Rattle.std.proofs.lemmas.List.Quantifiers.{all_pairs_push}
 use Rattle.np_chain.specs.Chain.{Extends}
 use Rattle.np_chain.specs.Laws.{Stability}
@@ -126,3 +126,29 @@ refuses-entry node e Memory h = absurd h
 -- a string that stands beside one key has no other
 pub other-key : (v : VersionData) (form : Form) (string k l : List ℕ) (b : Bool) → IsSound v → IsKey v form string k → (IsTrue b ↔ (k ≡ l)) → b ≡ false → ¬ IsKey v form string l
 other-key v form string k l b sound is same off has = true≢false (sym (same.1 (one_key v sound form string k l is has)) ∙ off)
+
+-- ---- the first entries
+
+-- what holds of each holds of the one at a place
+pub All-at : (P : Entry → Type 0) (es : List Entry) (n : ℕ) (e : Entry) → All P es → slice_get es n ≡ Some e → P e
+All-at P [] n e all here = cc
+All-at P (x ∷ xs) zero e all here = let same : x ≡ e = cc in subst P same (All-head P x xs all)
+All-at P (x ∷ xs) (suc n) e all here = All-at P xs n e (All-tail P x xs all) here
+
+unlike-tail : (x : Entry) (xs : List Entry) → AreUnlike (x ∷ xs) → AreUnlike xs
+unlike-tail x xs unlike = λ i j d lt within. unlike (suc i) (suc j) d (omega (arith, lt)) (omega (arith, within))
+
+kept-at : (es : List Entry) (n : ℕ) (e : Entry) → slice_get es n ≡ Some e → IsKept es e.string
+kept-at [] n e here = cc
+kept-at (x ∷ xs) zero e here = let same : x ≡ e = cc in (0, omega arith, ap (λ (y : Entry). y.string) same)
+kept-at (x ∷ xs) (suc n) e here = let (k, lt, is) = kept-at xs n e here in (suc k, omega (arith, lt), is)
+
+unlike-head : (x : Entry) (xs : List Entry) (s : List ℕ) → AreUnlike (x ∷ xs) → IsKept xs s → x.string ≢ s
+unlike-head x xs s unlike (k, lt, is) same = unlike 0 (suc k) s (omega arith) (omega (arith, lt)) (same ∙ sym is)
+
+-- no entry before a place has the string there
+pub unlike-take : (es : List Entry) (n : ℕ) (e : Entry) → AreUnlike es → slice_get es n ≡ Some e → ¬ IsKept (take n es) e.string
+unlike-take [] n e unlike here kept = cc
+unlike-take (x ∷ xs) zero e unlike here (k, lt, is) = omega (arith, lt)
+unlike-take (x ∷ xs) (suc n) e unlike here (zero, lt, is) = unlike-head x xs e.string unlike (kept-at xs n e here) is
+unlike-take (x ∷ xs) (suc n) e unlike here (suc k, lt, is) = unlike-take xs n e (unlike-tail x xs unlike) here (k, omega (arith, lt), is)

@@ -131,6 +131,10 @@ read-start start here bytes form count is zero_ head =
       place = omega (arith, head.place, zero_, length-entries-none);
     }
 
+pub entries-append : (ds es : List Entry) → entries_bytes (ds ++ es) ≡ entries_bytes ds ++ entries_bytes es
+unfolding entries_bytes
+entries-append ds es = flat_map-append entry_bytes ds es
+
 pub entries-push : (es : List Entry) (e : Entry) → entries_bytes (es ++ e ∷ []) ≡ entries_bytes es ++ entry_bytes e
 unfolding entries_bytes
 entries-push es e = flat_map-append entry_bytes es (e ∷ []) ∙ ap (λ l. entries_bytes es ++ l) (append-nil (entry_bytes e))
@@ -192,6 +196,12 @@ read-over a bytes form count at r small more place =
     }))))
 
 -- ---- images that are written
+
+pub head-pushed : (a b c d : List ℕ) (form : Form) (n : ℕ) → b ≡ a ++ image_name → c ≡ b ++ byte_of form ∷ [] → d ≡ c ++ number_bytes n → d ≡ a ++ head_bytes form n
+unfolding head_bytes
+head-pushed a b c d form n p q r =
+    r ∙ ap (λ l. l ++ number_bytes n) (q ∙ ap (λ l. l ++ byte_of form ∷ []) p ∙ append_assoc a image_name (byte_of form ∷ []))
+    ∙ append_assoc a (image_name ++ byte_of form ∷ []) (number_bytes n)
 
 take-suc : (es : List Entry) (i : ℕ) (e : Entry) → slice_get es i ≡ Some e → take (suc i) es ≡ take i es ++ e ∷ []
 take-suc [] i e here = cc

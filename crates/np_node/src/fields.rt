@@ -128,15 +128,24 @@ impl<'b> Fields<'b> {
 }
 
 ghost use Rattle.std.specs.Prelude.{◌++◌, ◌^◌, ◌<◌, OnOk};
-ghost use Rattle.np_node.specs.Fields.{entry_bytes as entry_spelled, field_bytes as field_spelled};
+ghost use Rattle.np_node.specs.Fields.{entry_bytes as entry_spelled, field_bytes as field_spelled, number_bytes as number_spelled};
+
+/// Appends a number.
+#[tactic(auto, unfolding(crate::specs::Fields::number_bytes))]
+pub(crate) fn push_number(out: &mut Vec<u8>, number: u32) -> Result<(), Memory>
+    ensures { OnOk result (out.new.items ≡ out.old.items ++ number_spelled number) }
+{
+    out.extend_from_slice(&number.to_be_bytes())?;
+    Ok(())
+}
 
 /// Appends a list of bytes behind its length.
-#[tactic(auto, using(crate::proofs::ListLemmas::joined), unfolding(crate::specs::Fields::field_bytes, crate::specs::Fields::number_bytes))]
+#[tactic(auto, using(crate::proofs::ListLemmas::joined), unfolding(crate::specs::Fields::field_bytes))]
 fn push_field(out: &mut Vec<u8>, bytes: &[u8]) -> Result<(), Memory>
     requires { length bytes.now < 2 ^ 32 }
     ensures { OnOk result (out.new.items ≡ out.old.items ++ field_spelled bytes.now) }
 {
-    out.extend_from_slice(&(bytes.len() as u32).to_be_bytes())?;
+    push_number(out, bytes.len() as u32)?;
     out.extend_from_slice(bytes)?;
     Ok(())
 }

@@ -1,12 +1,12 @@
 //! Images, read and written.
-ghost use Rattle.std.specs.Prelude.{◌≡◌, ◌≤◌, length, All, IfOk, IfErr};
+ghost use Rattle.std.specs.Prelude.{◌≡◌, ◌++◌, ◌≤◌, ◌<◌, ◌^◌, length, All, IfOk, IfErr, OnOk};
 ghost use Rattle.np_node.specs.Fields.{FitsFields};
 ghost use Rattle.np_node.specs.Images.{head_bytes, image_bytes, image_name, IsImageFault};
 ghost use Rattle.np_node.specs.inside.Reading.{Passes};
 ghost use Rattle.np_node.specs.inside.Shapes.{HasShape};
 
 use crate::entries::Entries;
-use crate::fields::{Fields, push_entry};
+use crate::fields::{Fields, push_entry, push_number};
 use crate::nodes::Node;
 use np_code_points::{Form, Memory};
 use np_tables::NormTable;
@@ -18,6 +18,7 @@ const NAME: [u8; 4] = *b"NPS1";
 pub(crate) fn read_head(fields: &mut Fields<'_>) -> Result<(Form, u32), usize>
     requires { fields.old.at ≡ 0 }
     ensures ok { IfOk result (λ head. Passes fields.old fields.new (head_bytes head.0 head.1)) }
+    ensures count { IfOk result (λ head. head.1 < 2 ^ 32) }
     ensures err { IfErr result (λ at. IsImageFault fields.old.bytes.now at) }
 {
     if !fields.skip(&NAME) {
@@ -51,6 +52,16 @@ pub(crate) fn shape_of(bytes: &[u8]) -> Result<(Form, u32), usize>
     Ok((form, count))
 }
 
+/// Appends what stands before the entries.
+fn push_head(out: &mut Vec<u8>, form: Form, count: u32) -> Result<(), Memory>
+    ensures { OnOk result (out.new.items ≡ out.old.items ++ head_bytes form count) }
+{
+    out.extend_from_slice(&NAME)?;
+    out.push(form.byte())?;
+    push_number(out, count)?;
+    Ok(())
+}
+
 /// The image of a form and entries.
 fn image_of(form: Form, entries: &Entries) -> Result<Vec<u8>, Memory>
     requires count { length entries.now ≤ 65536 }
@@ -58,9 +69,7 @@ fn image_of(form: Form, entries: &Entries) -> Result<Vec<u8>, Memory>
     ensures { IfOk result (λ bytes. bytes.items ≡ image_bytes (record { form = form; entries = entries.now })) }
 {
     let mut bytes = Vec::new(entries.allocator());
-    bytes.extend_from_slice(&NAME)?;
-    bytes.push(form.byte())?;
-    bytes.extend_from_slice(&(entries.len() as u32).to_be_bytes())?;
+    push_head(&mut bytes, form, entries.len() as u32)?;
     for index in 0..entries.len() {
         let (string, key) = entries.get(index).unwrap();
         push_entry(&mut bytes, string.as_bytes(), key.as_bytes())?;
