@@ -2,15 +2,11 @@
 
 from dataclasses import dataclass
 
+from harness import ROOT
 from versions import BAD_DATA, BAD_TABLES, EXCLUSIONS, LIMIT, S, V1, V2, good_files
 
-USAGE = (
-    "usage: npss normalize --form FORM DATA EXCL\n"
-    "       npss key --form FORM DATA EXCL\n"
-    "       npss compare --form FORM DATA EXCL\n"
-    "       npss audit OLDDATA OLDEXCL NEWDATA NEWEXCL\n"
-    "       npss replay --form FORM SCHEDULE FILES..\n"
-)
+# The usage text is that of the stored run, which tests/fixtures.py compares with docs/FORMATS.md.
+USAGE = (ROOT / "crates" / "npss" / "stdout").read_text(encoding="utf-8")
 
 # Statuses.
 DIFFERENT, WRONG_WORDS, UNASSIGNED, BAD_TEXT, DEVICE = 1, 2, 3, 4, 5
@@ -130,6 +126,14 @@ COMPARE_ROWS = [
     ("nfc", b"", "", "input: two lines wanted", BAD_TEXT),
     ("nfc", b"a", "", "input: two lines wanted", BAD_TEXT),
     ("nfc", b"b", "", "input: two lines wanted", BAD_TEXT),
+    # a text and its prefix, either way round
+    ("nfc", b"Aa\nA\n", "different", "", DIFFERENT),
+    ("nfkd", b"A\nAa\n", "different", "", DIFFERENT),
+    # two equal strings that aren't assigned
+    ("nfc", b"b\nb\n", "", "first: unassigned 0062 at byte 0", UNASSIGNED),
+    # a last line with CR, with and without a line end behind it
+    ("nfc", b"a\na\r", "", "second: unassigned 000D at byte 1", UNASSIGNED),
+    ("nfc", b"a\na\r\n", "", "second: unassigned 000D at byte 1", UNASSIGNED),
     ("nfc", b"a\n\n\n", "", "second: unassigned 000A at byte 0", UNASSIGNED),
     ("nfc", b"ab\nb", "", "first: unassigned 0062 at byte 1", UNASSIGNED),
     ("nfc", b"a\nab\n", "", "second: unassigned 0062 at byte 1", UNASSIGNED),
@@ -176,11 +180,21 @@ def usage_cases():
     wrong = ["--help", "-h", "help", "--version", "help key", "key --help", "key", "nothing", "--",
              "key --form nfx D E", "key --form NFC D E", "key D E", "key --form nfc D",
              "key --form nfc D E F", "key --form nfc --form nfc D E", "audit A B C",
-             "audit A B C D E", "compare --form nfc D", "normalize --form nfc", "replay --form nfc S",
+             "audit A B C D E", "audit A B --form nfc C D", "compare --form nfc D", "normalize --form nfc", "replay --form nfc S",
              # until the command comes
              "replay --form nfc S D E"]
     for words in wrong:
         yield Case(words.split(), err=USAGE, status=WRONG_WORDS)
+
+
+def word_cases():
+    """Words in other orders: options stand anywhere among the places of a command."""
+    given, wanted = text("0061 0302 0323"), text("1EAD")
+    for words in (["--form", "nfc", *V1], [*V1, "--form", "nfc"], [V1[0], "--form", "nfc", V1[1]],
+                  ["--form=nfc", *V1], ["--form", "nfc", "--", *V1]):
+        yield Case(["key", *words], given, wanted)
+    # one file may be named twice
+    yield Case(["audit", *V1, *V1], out=b"extends\n")
 
 
 def form_cases():
@@ -291,6 +305,6 @@ def order_cases():
 
 def all_cases():
     """All of them."""
-    for group in (usage_cases, form_cases, worked_cases, input_cases, compare_cases, audit_cases, file_cases,
-                  order_cases):
+    for group in (usage_cases, word_cases, form_cases, worked_cases, input_cases, compare_cases, audit_cases,
+                  file_cases, order_cases):
         yield from group()

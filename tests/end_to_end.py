@@ -3,13 +3,16 @@
 
 The program runs in a folder of its own that holds copies of the fixtures and the files of
 versions.py. Each case of cases.py is one run, judged by its status, standard output and standard
-error. Then come devices that fail, bounds on memory (limits.py), the launcher, and whether every file
-is as it was. Ends in a line 'N passed, M failed'.
+error. Then come devices that fail, closed streams (streams.py), bounds on memory (limits.py), the
+launcher (launching.py too), the README's commands, and whether every file is as it was. Ends in a line
+'N passed, M failed'.
 """
 
 import hashlib
 import os
+import re
 import shutil
+import subprocess
 import sys
 import tempfile
 from pathlib import Path
@@ -18,11 +21,13 @@ from pathlib import Path
 sys.dont_write_bytecode = True
 
 from cases import DEVICE, USAGE, WRONG_WORDS, all_cases, text
-from harness import Tally, run, shown
+from harness import ROOT, Tally, built_program, run, shown
+from launching import check_building
 from limits import check_memory, check_usage
+from streams import check_closed, check_words
 from versions import V1, write_all
 
-FIXTURES = Path(__file__).resolve().parent.parent / "fixtures"
+FIXTURES = ROOT / "fixtures"
 
 
 def check_case(tally, program, folder, case):
@@ -65,6 +70,7 @@ def run_on_folder(program, words, folder):
 
 def check_launcher(tally, launcher, folder):
     """The launcher keeps the caller's folder and the words, through a symbolic link too."""
+    built_program()
     link = folder / "link"
     link.symlink_to(launcher)
     for way in (launcher, link):
@@ -74,6 +80,18 @@ def check_launcher(tally, launcher, folder):
         got = run(way, ["key", "a word", "*", ""], b"", folder)
         tally.same(f"{way.name} with odd words", got, (WRONG_WORDS, b"", USAGE.encode()))
     link.unlink()
+
+
+def check_readme(tally):
+    """Each command of the README, by a plain shell, prints what stands below it."""
+    text = (ROOT / "README.md").read_text(encoding="utf-8")
+    for block in re.findall(r"^```\n(\$ .*?)^```$", text, re.DOTALL | re.MULTILINE):
+        for command, wanted in re.findall(r"^\$ (.*)\n((?:(?!\$ ).*\n)*)", block, re.MULTILINE):
+            if "/usr/share/unicode/" in command and not Path("/usr/share/unicode/UnicodeData.txt").exists():
+                print(f"skipped: {command}: the published files are not there")
+                continue
+            done = subprocess.run(["sh", "-c", command], cwd=ROOT, capture_output=True, text=True, check=False)
+            tally.same(f"README: {command}", done.stdout + done.stderr, wanted)
 
 
 def state_of(folder):
@@ -97,9 +115,13 @@ def main():
             check_case(tally, program, folder, case)
         check_devices(tally, program, folder)
         check_usage(tally, program, folder)
+        check_closed(tally, program, folder)
+        check_words(tally, program, folder)
         check_memory(tally, program, folder)
         if len(sys.argv) > 2:
             check_launcher(tally, Path(sys.argv[2]).resolve(), folder)
+            check_building(tally, Path(sys.argv[2]).resolve(), Path(name))
+            check_readme(tally)
         tally.check("files are as they were", state_of(folder) == before, "a file changed")
     tally.finish()
 

@@ -4,7 +4,8 @@
 Those texts are constants of the crates, since a test can't read the repository's files. A constant
 is paired with a file by its name: V1_DATA with v1/UnicodeData.txt, V1_EXCLUSIONS with
 v1/CompositionExclusions.txt, EXCHANGE_SCHEDULE and EXCHANGE_REPORT with scripts/exchange.schedule
-and scripts/exchange.report. Each has to have the other. Ends in a line 'N passed, M failed'.
+and scripts/exchange.report. Each has to have the other. The usage text of docs/FORMATS.md is compared
+with that of the stored run. Ends in a line 'N passed, M failed'.
 """
 
 import re
@@ -64,6 +65,9 @@ def main():
     got = files(wanted)
     for name in sorted(wanted.keys() | got.keys()):
         tally.same(f"fixtures/{name}", got.get(name), wanted.get(name))
+    usage = (ROOT / "crates" / "npss" / "stdout").read_text(encoding="utf-8")
+    tally.check("docs/FORMATS.md has the usage text",
+                f"\n```\n{usage}```\n" in (ROOT / "docs" / "FORMATS.md").read_text(encoding="utf-8"))
     tally.check("there are fixtures", got, "fixtures/ has no file")
     tally.finish()
 
