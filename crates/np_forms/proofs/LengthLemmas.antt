@@ -103,12 +103,15 @@ module _ (v : VersionData) where
         ap (flat_map (full_of v true)) (sym (append-nil (full_of v false c)))
         ∙ full_decomposition-flat_map v true shallow (c ∷ []) _ is ∙ append-nil (full_of v true c)
 
-    short : (compat : Bool) (c : ℕ) → length (full_of v compat c) ≤ 64
-    short true c =
+    short-compatible : (c : ℕ) → length (full_of v true c) ≤ 64
+    short-compatible c =
         let whole = sound.short c (flat_map (full_of v true) (c ∷ [])) (IsFullDecomposition-flat_map v true sound.shallow (c ∷ [])) in
         omega (arith, whole, ap length (append-nil (full_of v true c)))
+
+    short : (compat : Bool) (c : ℕ) → length (full_of v compat c) ≤ 64
+    short true c = short-compatible c
     short false c =
-        omega (arith, short true c, ap length (further c), length-flat_map-some (full_of v true) (length-full_of true) (full_of v false c))
+        omega (arith, short-compatible c, ap length (further c), length-flat_map-some (full_of v true) (length-full_of true) (full_of v false c))
 
     length-decomposed : (compat : Bool) (xs : List ℕ) → length (decomposed v compat xs) ≤ 64 * length xs
     unfolding decomposed
