@@ -20,14 +20,14 @@ use std::marker::Model;
 const DEPTH: usize = 32;
 
 /// A part of a flat list: from the place `start` up to the place `end`.
-#[derive(Clone, Copy)]
+#[derive(Clone, Copy, Debug)]
 struct Part {
     start: usize,
     end: usize,
 }
 
 /// What a table lends for the code point of each row, in one flat list.
-#[derive(Drop)]
+#[derive(Debug, Drop)]
 pub struct Fulls {
     codes: Vec<char>,
     canonical: Vec<Part>,
