@@ -12,13 +12,11 @@ ghost use Rattle.std.specs.List.{list_all};
 
 use crate::breaks::{Break, BreakKind};
 use np_code_points::Memory;
+use np_code_points::codes::CODE_POINTS;
 use np_code_points::hangul::is_syllable;
 use np_tables::Version;
 use np_ucd::MapKind;
 use std::alloc::Global;
-
-/// How many code points there are.
-const CODE_POINTS: u32 = 0x11_0000;
 
 /// What holds of each version.
 fn know(version: &Version)

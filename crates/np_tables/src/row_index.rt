@@ -7,12 +7,10 @@ ghost use Rattle.np_tables.specs.inside.RowPages.{AreRowPages};
 
 use crate::row_pages::RowPages;
 use np_code_points::Memory;
+use np_code_points::codes::CODE_POINTS;
 use np_ucd::{Row, Rows};
 use std::alloc::Global;
 use std::marker::Model;
-
-/// The number after the last code point.
-const CODE_POINTS: u32 = 0x110000;
 
 /// The rows of a data file, with the place of the row of each code point.
 #[derive(Drop)]

@@ -1,5 +1,5 @@
 -- Why `audit` is refused, behind an old version that was built.
-use Rattle.std.proofs.Common.{◌≡◌, ◌⊎◌, inl, inr, Result, Ok, Err, IfErr}
+use Rattle.std.proofs.Common.{inl, inr, Result, Ok, Err, IfErr}
 use Rattle.np_tables.specs.Versions.{VersionData}
 use Rattle.npss.specs.Audits.{AuditReaders, RefusesAudit}
 use Rattle.npss.specs.Versions.{WasBuilt}

@@ -1,5 +1,5 @@
 -- How a job reads the two files of a version, and builds it.
-use Rattle.std.specs.Prelude.{◌≡◌, ◌↔◌, ◌⊎◌, ℕ, true, List, Option, Some, None}
+use Rattle.std.specs.Prelude.{◌≡◌, ◌↔◌, ◌⊎◌, ℕ, true, List, Option, None}
 use Rattle.np_tables.specs.TableFaults.{IsFaultless, IsLeastFault}
 use Rattle.np_tables.specs.Versions.{VersionData}
 use Rattle.np_tables.specs.declared.faults.TableFault.{TableFault}

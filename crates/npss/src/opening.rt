@@ -1,5 +1,9 @@
 //! The files of a job are opened before any of them is read.
 
+ghost use Rattle.std.specs.Prelude.{◌≡◌, IfOk, IfErr};
+ghost use Rattle.npss.specs.Streams.{stream_of};
+ghost use Rattle.npss.specs.Usage.{IsUnopened};
+
 use crate::jobs::{FAILED, JobFault, refuse, tell};
 use crate::words::VersionFiles;
 use np_code_points::watched::Watched;
@@ -9,7 +13,9 @@ use std::io::Write;
 use std::rt::Files;
 
 /// Says that a file can't be opened.
-fn refuse_file<E: Write>(alloc: Global, error: &mut Watched<E>, name: &str) -> u8 {
+fn refuse_file<E: Write>(alloc: Global, error: &mut Watched<E>, name: &str) -> u8
+    ensures { IsUnopened name.now (stream_of E.contents error.old error.new) result }
+{
     match format!(in alloc; "cannot open {name}\n") {
         Ok(line) => {
             tell(error, line.as_str());
@@ -25,7 +31,10 @@ pub fn open_file<R: Files, E: Write>(
     alloc: Global,
     error: &mut Watched<E>,
     name: &str,
-) -> Result<Watched<R::File>, u8> {
+) -> Result<Watched<R::File>, u8>
+    ensures opened { IfOk result (λ file. error.new ≡ error.old) }
+    ensures told { IfErr result (IsUnopened name.now (stream_of E.contents error.old error.new)) }
+{
     match fs::open(rt, name) {
         Ok(file) => Ok(Watched::new(file)),
         Err(_) => Err(refuse_file(alloc, error, name)),
