@@ -25,7 +25,7 @@ fn without_last(text: &str) -> &str
 fn split_staying<'a, T: NormTable>(table: &T, form: Form, text: &'a str) -> (&'a str, &'a str)
     ensures { IsCopied (T.model table.now) form text.now result.0.now result.1.now }
 {
-    table.version();
+    table.meets_conditions();
     let (front, back) = text.split_at(table.staying(form, text));
     let mut behind = back.chars();
     match behind.next() {
@@ -40,7 +40,7 @@ fn split_segment<'a, T: NormTable>(table: &T, form: Form, text: &'a str) -> (&'a
     ensures parted { IsParted (T.model table.now) form text.now result.0.now result.1.now }
     ensures some { 0 < length text.now → 0 < length result.0.now }
 {
-    table.version();
+    table.meets_conditions();
     let mut iter = text.chars();
     // a segment has at least one code point
     let _first = iter.next();

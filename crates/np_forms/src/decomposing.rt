@@ -63,7 +63,7 @@ pub(crate) fn decompose_into<T: NormTable>(
 ) -> Result<(), Memory>
     ensures { OnOk result (list.new.items ≡ flat_map (full_of (T.model table.now) compat) (chars text.now)) }
 {
-    table.version();
+    table.meets_conditions();
     let hangul = table.hangul();
     list.clear();
     for c in text.chars() {

@@ -6,7 +6,7 @@ ghost use Rattle.np_tables.specs.TableFaults.{IsFaultless};
 
 use super::faults::VersionFault;
 use np_code_points::watched::Watched;
-use np_tables::{RowTable, TableFault, Version};
+use np_tables::{PageTable, TableFault, Version};
 use np_ucd::{Exclusions, Rows, read_exclusions, read_rows};
 use std::alloc::Global;
 use std::io::Read;
@@ -81,12 +81,12 @@ pub fn read_table<R: Read>(
     version: u32,
     data_file: &mut Watched<R>,
     exclusions_file: &mut Watched<R>,
-) -> Result<RowTable, VersionFault>
+) -> Result<PageTable, VersionFault>
     ensures built { IfOk result (WasBuilt (stream_of R.remaining data_file.old data_file.new) (stream_of R.remaining exclusions_file.old exclusions_file.new)) }
     ensures refused { IfErr result (IsVersionFault version (stream_of R.remaining data_file.old data_file.new) (stream_of R.remaining exclusions_file.old exclusions_file.new)) }
 {
     let built = read_version(alloc, version, data_file, exclusions_file)?;
-    match RowTable::new(alloc, built) {
+    match PageTable::new(alloc, built) {
         Ok(table) => Ok(table),
         Err(_) => Err(VersionFault::Tables {
             version,

@@ -4,7 +4,7 @@ use Rattle.np_forms.proofs.copying.split_segment.Goals as goal
 
 pub returns-in_default-clause-parted : goal.returns-in_default-clause-parted
 returns-in_default-clause-parted g c =
-    IsParted-whole (g.T.NormTable.model c.args.table.now) c.version.ensures.sound c.args.form c.args.text.now c.as_str-here.result.now
+    IsParted-whole (g.T.NormTable.model c.args.table.now) c.meets_conditions.ensures c.args.form c.args.text.now c.as_str-here.result.now
     (ap length c.as_str-here.ensures ∙ c.in_default.ensures.steps.0.0) c.as_str-here.utf8
 
 pub range-requires-clause-end_boundary : goal.range-requires-clause-end_boundary
@@ -15,7 +15,7 @@ pub returns-then-is_boundary-clause-parted : goal.returns-then-is_boundary-claus
 returns-then-is_boundary-clause-parted g c =
     let whole = c.scan.invariant.1 ∙ ap (λ l. c.scan.invariant.0 ++ l) (sym c.as_str-here.ensures) in
     let front = c.range.ensures.value ∙ front_of _ _ _ whole in
-    IsParted-at (g.T.NormTable.model c.args.table.now) c.version.ensures.sound c.args.form c.args.text.now c.range.result.now c.as_str-here.result.now c.in-Some.c _
+    IsParted-at (g.T.NormTable.model c.args.table.now) c.meets_conditions.ensures c.args.form c.args.text.now c.range.result.now c.as_str-here.result.now c.in-Some.c _
     (whole ∙ ap (λ l. l ++ c.as_str-here.result.now) (sym front)) c.range.utf8 c.as_str-here.utf8
     (c.as_str-here.ensures ∙ c.in-Some.ensures.steps.0) (c.is_boundary.ensures c.if-is_boundary.true)
 

@@ -12,18 +12,18 @@ split_at-requires-in-Some-2 g c =
 
 pub returns-in-None : goal.returns-in-None
 returns-in-None g c =
-    IsCopied-whole (g.T.NormTable.model c.args.table.now) c.version.ensures.sound c.args.form c.args.text.now c.staying.result c.staying.ensures
+    IsCopied-whole (g.T.NormTable.model c.args.table.now) c.meets_conditions.ensures c.args.form c.args.text.now c.staying.result c.staying.ensures
     c.split_at.result.0.now c.split_at.result.1.now c.split_at.ensures.front c.split_at.ensures.back
     (ap length (sym c.chars-behind.ensures.rest) ∙ c.in-None.ensures.steps.0.0)
 
 pub returns-in-Some : goal.returns-in-Some
 returns-in-Some g c =
-    IsCopied-boundary (g.T.NormTable.model c.args.table.now) c.version.ensures.sound c.args.form c.args.text.now c.staying.result c.staying.ensures
+    IsCopied-boundary (g.T.NormTable.model c.args.table.now) c.meets_conditions.ensures c.args.form c.args.text.now c.staying.result c.staying.ensures
     c.split_at.result.0.now c.split_at.result.1.now c.split_at.ensures.front c.split_at.ensures.back
     c.in-Some.next _ (sym c.chars-behind.ensures.rest ∙ c.in-Some.ensures.steps.0) (c.is_boundary.ensures c.if-is_boundary.true)
 
 pub returns-in-Some-2 : goal.returns-in-Some-2
 returns-in-Some-2 g c =
     IsCopied-last (g.T.NormTable.model c.args.table.now) c.args.form c.args.text.now c.staying.result c.staying.ensures
-    c.split_at.result.0.now c.without_last.result.now c.split_at.ensures.front c.utf8.text c.without_last.utf8 c.version.ensures.sound
+    c.split_at.result.0.now c.without_last.result.now c.split_at.ensures.front c.utf8.text c.without_last.utf8 c.meets_conditions.ensures
     c.split_at-in-Some-2.result.0.now c.split_at-in-Some-2.result.1.now c.without_last.ensures c.split_at-in-Some-2.ensures.front c.split_at-in-Some-2.ensures.back
