@@ -118,12 +118,4 @@ impl<T: NormTable> NormTable for &T {
     fn staying(&self, form: Form, text: &str) -> usize {
         (**self).staying(form, text)
     }
-
-    fn is_boundary(&self, form: Form, c: char) -> bool {
-        (**self).is_boundary(form, c)
-    }
-
-    fn staying(&self, form: Form, text: &str) -> usize {
-        (**self).staying(form, text)
-    }
 }
