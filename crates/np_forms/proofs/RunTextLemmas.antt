@@ -59,8 +59,7 @@ up_to bs (suc n) =
           let is : valid_len_up_to bs (suc n) ≡ suc n = cond-true _ _ _ whole in
           (omega arith, subst (λ k. IsUtf8 (take k bs)) (sym is) (IsUtf8-from_is_utf8 _ whole), λ m low u. omega arith)
       | inr cut ↦
-          let is : valid_len_up_to bs (suc n) ≡ valid_len_up_to bs n = cond-false _ _ _ cut in
-          (
+          let is : valid_len_up_to bs (suc n) ≡ valid_len_up_to bs n = cond-false _ _ _ cut in (
             omega (arith, r.0),
             subst (λ k. IsUtf8 (take k bs)) (sym is) r.1,
             λ m low u.

@@ -67,8 +67,7 @@ module _ (v : VersionData) (sound : IsSound v) where
   unfolding normal_form decomposed
   form_front form fed ready pending text s =
       let each = full_of v (is_compat form) in
-      let h = held_streaming v sound form fed ready pending s in
-      (
+      let h = held_streaming v sound form fed ready pending s in (
         ended v (composes form) (canonical_order (class_of v) (pending ++ flat_map each text)),
         ap (λ l. ended v (composes form) (canonical_order (class_of v) l)) (flat_map-append each fed text) ∙ h.goes_on (flat_map each text),
       )
@@ -138,23 +137,25 @@ module _ (v : VersionData) (sound : IsSound v) where
         let sizes = length-append kept f.came in
         let here : place ≡ length r.done + n = omega (arith, r.size, f.cause.cause.0, sizes) in
         let all = length-append r.done chunk in
-        cut_early i₂ f.came n (NotUtf8 place) f.taken f.cause.prefix f.size
-        (here, elim f.cause.cause.1 [
-          | inl whole ↦
-              inl (
-                length (r.done ++ chunk),
-                omega (arith, whole.0, r.size, sizes, all),
-                omega arith,
-                λ begins. not_begins_past r.done chunk n r.utf8 whole.1 (subst BeginsText (take_all (length (r.done ++ chunk)) (r.done ++ chunk) (omega arith)) begins),
-              )
-          | inr past ↦
-              inl (
-                length r.done + past.1.m,
-                omega (arith, past.0, past.1.size, r.size, sizes),
-                omega (arith, past.1.size, all),
-                λ begins. not_begins_past r.done (take past.1.m chunk) past.1.k r.utf8 past.1.front (subst BeginsText (take_past r.done chunk past.1.m) begins),
-              )
-        ])
+        cut_early i₂ f.came n (NotUtf8 place) f.taken f.cause.prefix f.size (
+          here,
+          elim f.cause.cause.1 [
+            | inl whole ↦
+                inl (
+                  length (r.done ++ chunk),
+                  omega (arith, whole.0, r.size, sizes, all),
+                  omega arith,
+                  λ begins. not_begins_past r.done chunk n r.utf8 whole.1 (subst BeginsText (take_all (length (r.done ++ chunk)) (r.done ++ chunk) (omega arith)) begins),
+                )
+            | inr past ↦
+                inl (
+                  length r.done + past.1.m,
+                  omega (arith, past.0, past.1.size, r.size, sizes),
+                  omega (arith, past.1.size, all),
+                  λ begins. not_begins_past r.done (take past.1.m chunk) past.1.k r.utf8 past.1.front (subst BeginsText (take_past r.done chunk past.1.m) begins),
+                )
+          ],
+        )
         (λ list out h. h)
     cut_input i₂ ReadFailed f = cut_read i₂ (subst (Consumes i₁ i₂) f.cause f.taken) (omega (arith, f.size))
     cut_input i₂ WriteFailed f = absurd f.cause
@@ -164,8 +165,7 @@ module _ (v : VersionData) (sound : IsSound v) where
         let sizes = length-append kept f.came in
         let large = f.cause.cause in
         let last : length r.done + large.1.m ≡ 4294967295 = omega (arith, large.0, large.1.size, r.size, sizes) in
-        cut_early i₂ f.came n TooLarge f.taken f.cause.prefix f.size
-        (
+        cut_early i₂ f.came n TooLarge f.taken f.cause.prefix f.size (
           omega (arith, large.0, r.size, sizes, length-append r.done chunk),
           subst BeginsText (sym (take_past r.done chunk large.1.m) ∙ ap (λ k. take k (r.done ++ chunk)) last) (begins_past r.done (take large.1.m chunk) large.1.k r.utf8 large.1.front),
         )

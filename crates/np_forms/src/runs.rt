@@ -9,9 +9,9 @@ ghost use Rattle.np_forms.specs.inside.Running.{MayBegin, MayNotBegin, IsChunkFa
 
 use crate::streams::Stream;
 use crate::written::{write_end, write_text};
-use np_code_points::{Form, Memory};
 use np_code_points::output::{flush_once, write_whole};
 use np_code_points::watched::Watched;
+use np_code_points::{Form, Memory};
 use np_tables::NormTable;
 use std::alloc::Global;
 use std::io::{Read, Write};

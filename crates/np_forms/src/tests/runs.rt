@@ -54,12 +54,7 @@ fn cuttings(alloc: Global, table: &RowTable) -> Result<(), Fail> {
 }
 
 /// A form, the input, the answer, and what is written.
-type Row = (
-    Form,
-    &'static [u8],
-    Result<u64, RunFault>,
-    &'static [u8],
-);
+type Row = (Form, &'static [u8], Result<u64, RunFault>, &'static [u8]);
 
 const ROWS: [Row; 9] = [
     (Form::Nfc, b"a\xcc\x82", Ok(2), b"\xc3\xa2"),
@@ -82,12 +77,7 @@ fn wants_rows(alloc: Global, table: &RowTable) -> Result<(), Fail> {
 }
 
 /// A read that fails at a call that is counted from 0.
-fn wants_failed_read(
-    alloc: Global,
-    table: &RowTable,
-    call: u64,
-    bytes: &[u8],
-) -> Result<(), Fail> {
+fn wants_failed_read(alloc: Global, table: &RowTable, call: u64, bytes: &[u8]) -> Result<(), Fail> {
     let source = Trickle::new(b"a\xcc\x82A", 1).failing_at(call, Failure::Interrupted);
     let fault = Err(RunFault::ReadFailed);
     wants_run(alloc, table, Form::Nfc, Watched::new(source), fault, bytes)
