@@ -1,25 +1,67 @@
 -- How `normalize` ends.
-use Rattle.std.specs.Prelude.{◌≡◌, ℕ, Bool, true, List, chars, encode_utf8_all}
+use Rattle.std.specs.Prelude.{◌≡◌, ◌⊎◌, ◌↔◌, ℕ, true, false, Ok, Err}
 use Rattle.np_code_points.specs.declared.forms.Form.{Form}
-use Rattle.np_forms.specs.Forms.{IsNormalForm}
+use Rattle.np_code_points.specs.declared.input.InputFault.TheVariants as Inputs
+use Rattle.np_forms.specs.RunEnds.{Ends as RunDevices, RunEnds}
+use Rattle.np_forms.specs.declared.runs.RunFault.{RunFault}
+use Rattle.np_forms.specs.declared.runs.RunFault.TheVariants as Runs
 use Rattle.np_tables.specs.Versions.{VersionData}
-use Rattle.npss.specs.Ends.{Ends}
-use Rattle.npss.specs.Streams.{Stream}
-use Rattle.npss.specs.Texts.{TextReaders, MakesOfText, RefusesText}
-use Rattle.npss.specs.declared.jobs.faults.TextFault.{TextFault}
-use Rattle.npss.specs.declared.jobs.faults.TextFault.TheVariants.{Memory}
+use Rattle.npss.specs.Ends.{IsRefused}
+use Rattle.npss.specs.Streams.{Stream, IsUntouched}
+use Rattle.npss.specs.Texts.{TextReaders, LacksVersion}
+use Rattle.npss.specs.Versions.{WasBuilt}
+use Rattle.npss.specs.declared.jobs.faults.JobFault.{JobFault}
+use Rattle.npss.specs.declared.jobs.faults.JobFault.TheVariants.{Text, WriteFailed}
+use Rattle.npss.specs.declared.jobs.faults.TextFault.TheVariants as Texts
 
--- the one normal form of a text
-pub record IsFormOfText (form : Form) (v : VersionData) (text : List ℕ) (is_yes : Bool) (bytes : List ℕ) : Type 0 where
-  pub list : List ℕ
-  pub is : IsNormalForm v form (chars text) list
-  pub bytes_are : bytes ≡ encode_utf8_all list
-  pub done : is_yes ≡ true
+-- what a run's devices hold, before and after
+abbrev pub run_devices : Stream → Stream → RunDevices
+run_devices input output = record { in_before = input.before; in_after = input.after; out_before = output.before; out_after = output.after }
 
--- memory alone can lack
-abbrev pub LacksForm : VersionData → List ℕ → TextFault → Type 0
-LacksForm v text fault = fault ≡ Memory
+-- how a fault of the run is told
+abbrev pub told_as : RunFault → JobFault
+told_as (Runs.NotUtf8 at) = Text (Texts.NotUtf8 at)
+told_as Runs.ReadFailed = Text (Texts.Input Inputs.ReadFailed)
+told_as Runs.WriteFailed = WriteFailed
+told_as Runs.TooLarge = Text (Texts.Input Inputs.TooLarge)
+told_as Runs.Memory = Text Texts.Memory
 
--- `normalize`: the normal form of the input
+-- the version was built, the normal form of the whole input was written, and no device failed
+pub record IsNormalized (form : Form) (readers : TextReaders) (output : Stream) : Type 0 where
+  pub v : VersionData
+  pub built : WasBuilt readers.data_file readers.exclusions_file v
+  pub count : ℕ
+  pub ran : RunEnds v form (run_devices readers.input output) (Ok count)
+  pub read : readers.input.failed ≡ false
+  pub written : output.failed ≡ false
+
+-- the version was built, and the run ended early; the input failed exactly where that is told, and so did the output
+pub record IsNormalizedInPart (form : Form) (readers : TextReaders) (output : Stream) (fault : JobFault) : Type 0 where
+  pub v : VersionData
+  pub built : WasBuilt readers.data_file readers.exclusions_file v
+  pub run_fault : RunFault
+  pub is : fault ≡ told_as run_fault
+  pub ran : RunEnds v form (run_devices readers.input output) (Err run_fault)
+  pub read : (run_fault ≡ Runs.ReadFailed) ↔ (readers.input.failed ≡ true)
+  pub written : (run_fault ≡ Runs.WriteFailed) ↔ (output.failed ≡ true)
+
+-- the version was refused, and nothing was read of the input or written
+pub record IsNotBegun (readers : TextReaders) (output : Stream) (fault : JobFault) : Type 0 where
+  pub lacks : LacksVersion readers fault
+  pub untouched : IsUntouched output
+
+-- the job stopped, and why is told
+pub record IsStopped (form : Form) (readers : TextReaders) (output error : Stream) (status : ℕ) : Type 0 where
+  pub fault : JobFault
+  pub cause : IsNormalizedInPart form readers output fault ⊎ IsNotBegun readers output fault
+  pub told : IsRefused fault error status
+
+-- the job is done, and nothing is told
+pub record IsDoneWhole (form : Form) (readers : TextReaders) (output error : Stream) (status : ℕ) : Type 0 where
+  pub normalized : IsNormalized form readers output
+  pub silent : IsUntouched error
+  pub status_is : status ≡ 0
+
+-- `normalize`: the normal form of the input, written as it is read
 abbrev pub NormalizeEnds : Form → TextReaders → Stream → Stream → ℕ → Type 0
-NormalizeEnds form readers output error status = Ends (MakesOfText (IsFormOfText form) readers) (RefusesText LacksForm readers) output error status
+NormalizeEnds form readers output error status = IsDoneWhole form readers output error status ⊎ IsStopped form readers output error status

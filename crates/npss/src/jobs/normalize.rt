@@ -1,39 +1,73 @@
-//! The command `normalize`: normal forms.
-ghost use Rattle.std.specs.Prelude.{◌≡◌, IfOk, IfErr, string_bytes};
-ghost use Rattle.npss.specs.NormalForms.{IsFormOfText, LacksForm, NormalizeEnds};
+//! The command `normalize`: the normal form of an input, as it is read.
+ghost use Rattle.std.specs.Prelude.{◌≡◌, ◌⊎◌, OnOk, IfErr};
+ghost use Rattle.npss.specs.NormalForms.{IsNormalized, IsNormalizedInPart, IsNotBegun, NormalizeEnds, told_as};
 ghost use Rattle.npss.specs.Streams.{stream_of};
 
-use super::ending::{Made, finish};
-use super::faults::TextFault;
-use super::texts::{TextJob, made_of_text};
+use super::ending::{DONE, refuse};
+use super::faults::{JobFault, TextFault};
+use super::versions::read_table;
 use np_code_points::Form;
+use np_code_points::input::InputFault;
 use np_code_points::watched::Watched;
-use np_tables::NormTable;
+use np_forms::{RunFault, run};
 use std::alloc::Global;
 use std::io::{Read, Write};
 
-/// The normal form of a text.
-pub(super) fn make_form<T: NormTable>(
+/// How a fault of a run is told.
+fn told(fault: RunFault) -> JobFault
+    ensures { result ≡ told_as fault }
+{
+    let fault = match fault {
+        RunFault::WriteFailed => return JobFault::WriteFailed,
+        RunFault::NotUtf8 { at } => TextFault::NotUtf8 { at: at as usize },
+        RunFault::ReadFailed => TextFault::Input {
+            fault: InputFault::ReadFailed,
+        },
+        RunFault::TooLarge => TextFault::Input {
+            fault: InputFault::TooLarge,
+        },
+        RunFault::Memory => TextFault::Memory,
+    };
+    JobFault::Text { fault }
+}
+
+/// Reads the two files of a version, and writes the normal form of the input.
+fn normalized<F: Read, I: Read, O: Write>(
     alloc: Global,
     form: Form,
-    table: &T,
-    text: &str,
-) -> Result<Made, TextFault>
-    ensures form { IfOk result (λ m. IsFormOfText form (T.model table.now) text.now m.is_yes (string_bytes m.text)) }
-    ensures refused { IfErr result (LacksForm (T.model table.now) text.now) }
+    data_file: &mut Watched<F>,
+    exclusions_file: &mut Watched<F>,
+    input: &mut Watched<I>,
+    output: &mut Watched<O>,
+) -> Result<(), JobFault>
+    ensures done { OnOk result (IsNormalized form (record {
+      data_file = stream_of F.remaining data_file.old data_file.new;
+      exclusions_file = stream_of F.remaining exclusions_file.old exclusions_file.new;
+      input = stream_of I.remaining input.old input.new;
+    }) (stream_of O.contents output.old output.new)) }
+    ensures stopped { IfErr result (λ fault. IsNormalizedInPart form (record {
+      data_file = stream_of F.remaining data_file.old data_file.new;
+      exclusions_file = stream_of F.remaining exclusions_file.old exclusions_file.new;
+      input = stream_of I.remaining input.old input.new;
+    }) (stream_of O.contents output.old output.new) fault ⊎ IsNotBegun (record {
+      data_file = stream_of F.remaining data_file.old data_file.new;
+      exclusions_file = stream_of F.remaining exclusions_file.old exclusions_file.new;
+      input = stream_of I.remaining input.old input.new;
+    }) (stream_of O.contents output.old output.new) fault) }
 {
-    match np_forms::form(alloc, table, form, text) {
-        Ok(written) => Ok(Made {
-            text: written,
-            is_yes: true,
-        }),
-        Err(_) => Err(TextFault::Memory),
+    input.clear();
+    output.clear();
+    let table = read_table(alloc, 0, data_file, exclusions_file)?;
+    match run(alloc, &table, form, input, output) {
+        Ok(_) => Ok(()),
+        Err(fault) => Err(told(fault)),
     }
 }
 
-/// Writes the normal form of the input, a text, to the output. Unassigned code points pass as
-/// starters without a mapping. Answers the status; a refusal is told in a line on `error`, and
-/// leaves the output as it was.
+/// Writes the normal form of the input, a text of at most 4,294,967,295 bytes, to the output as it
+/// is read. Unassigned code points pass as starters without a mapping. Answers the status; a
+/// refusal is told in a line on `error`. After a fault of a file the output is as it was; after one
+/// of the input or the output some first bytes of the form of what was read are written.
 pub fn normalize_job<F: Read, I: Read, O: Write, E: Write>(
     alloc: Global,
     form: Form,
@@ -49,13 +83,9 @@ pub fn normalize_job<F: Read, I: Read, O: Write, E: Write>(
       input = stream_of I.remaining input.old input.new;
     }) (stream_of O.contents output.old output.new) (stream_of E.contents error.old error.new) result }
 {
-    let made = made_of_text(
-        alloc,
-        TextJob::Normalize,
-        form,
-        data_file,
-        exclusions_file,
-        input,
-    );
-    finish(alloc, output, error, made)
+    error.clear();
+    match normalized(alloc, form, data_file, exclusions_file, input, output) {
+        Ok(()) => DONE,
+        Err(fault) => refuse(alloc, error, &fault),
+    }
 }

@@ -9,7 +9,6 @@ use super::compare::make_comparison;
 use super::ending::Made;
 use super::faults::{JobFault, TextFault};
 use super::key::make_key;
-use super::normalize::make_form;
 use super::versions::read_table;
 use np_code_points::Form;
 use np_code_points::input::read_whole;
@@ -22,7 +21,6 @@ use std::io::Read;
 /// The jobs on one text.
 #[derive(Clone, Copy, Debug, PartialEq, Eq)]
 pub enum TextJob {
-    Normalize,
     Key,
     Compare,
 }
@@ -39,7 +37,6 @@ fn make<T: NormTable>(
     ensures refused { IfErr result (Refuses job (T.model table.now) text.now) }
 {
     match job {
-        TextJob::Normalize => make_form(alloc, form, table, text),
         TextJob::Key => make_key(alloc, form, table, text),
         TextJob::Compare => make_comparison(alloc, form, table, text),
     }

@@ -1,12 +1,19 @@
 //! Worked examples of the jobs over the fixtures.
 use super::want;
-use crate::jobs::texts::TextJob;
 use crate::jobs::{audit_job, compare_job, key_job, normalize_job};
 use np_code_points::Form;
 use np_code_points::fixtures::{V1_DATA, V1_EXCLUSIONS, V2_DATA, V2_EXCLUSIONS};
 use np_code_points::watched::Watched;
 use std::alloc::Global;
 use std::test::Fail;
+
+/// The commands on one text.
+#[derive(Clone, Copy)]
+enum Command {
+    Normalize,
+    Key,
+    Compare,
+}
 
 /// Status, standard output and standard error of a run.
 #[derive(Drop)]
@@ -28,7 +35,7 @@ fn is_answer(ran: &Ran, answer: &Answer<'_>) -> bool {
 }
 
 /// The run of a job on one text under the first fixture's exclusions.
-fn run(alloc: Global, job: TextJob, form: Form, data: &str, input: &[u8]) -> Ran {
+fn run(alloc: Global, job: Command, form: Form, data: &str, input: &[u8]) -> Ran {
     let mut data = Watched::new(data.as_bytes());
     let mut exclusions = Watched::new(V1_EXCLUSIONS.as_bytes());
     let mut input = Watched::new(input);
@@ -37,9 +44,9 @@ fn run(alloc: Global, job: TextJob, form: Form, data: &str, input: &[u8]) -> Ran
     let (data, exclusions, input) = (&mut data, &mut exclusions, &mut input);
     let (written, told) = (&mut output, &mut error);
     let status = match job {
-        TextJob::Key => key_job(alloc, form, data, exclusions, input, written, told),
-        TextJob::Normalize => normalize_job(alloc, form, data, exclusions, input, written, told),
-        TextJob::Compare => compare_job(alloc, form, data, exclusions, input, written, told),
+        Command::Key => key_job(alloc, form, data, exclusions, input, written, told),
+        Command::Normalize => normalize_job(alloc, form, data, exclusions, input, written, told),
+        Command::Compare => compare_job(alloc, form, data, exclusions, input, written, told),
     };
     Ran {
         status,
@@ -49,7 +56,7 @@ fn run(alloc: Global, job: TextJob, form: Form, data: &str, input: &[u8]) -> Ran
 }
 
 /// Runs over the first fixture: job, form and input, and the answer.
-fn are_answered(alloc: Global, rows: &[(TextJob, Form, &str, Answer<'_>)]) -> Result<(), Fail> {
+fn are_answered(alloc: Global, rows: &[(Command, Form, &str, Answer<'_>)]) -> Result<(), Fail> {
     for (job, form, input, answer) in rows {
         let ran = run(alloc, *job, *form, V1_DATA, input.as_bytes());
         want(is_answer(&ran, answer), input)?;
@@ -63,17 +70,17 @@ fn key_answers_the_worked_examples(rt: HostRuntime) -> Result<(), Fail> {
     are_answered(
         rt.alloc(),
         &[
-            (TextJob::Key, Form::Nfd, text, (0, "a\u{323}\u{302}", "")),
-            (TextJob::Key, Form::Nfc, text, (0, "\u{1EAD}", "")),
-            (TextJob::Key, Form::Nfd, "", (0, "", "")),
+            (Command::Key, Form::Nfd, text, (0, "a\u{323}\u{302}", "")),
+            (Command::Key, Form::Nfc, text, (0, "\u{1EAD}", "")),
+            (Command::Key, Form::Nfd, "", (0, "", "")),
             (
-                TextJob::Key,
+                Command::Key,
                 Form::Nfd,
                 "A\u{16D67}",
                 (3, "", "unassigned 16D67 at byte 1\n"),
             ),
             (
-                TextJob::Key,
+                Command::Key,
                 Form::Nfc,
                 "\u{FFFE}",
                 (3, "", "unassigned FFFE at byte 0\n"),
@@ -88,13 +95,13 @@ fn normalize_answers_the_worked_examples(rt: HostRuntime) -> Result<(), Fail> {
         rt.alloc(),
         &[
             (
-                TextJob::Normalize,
+                Command::Normalize,
                 Form::Nfd,
                 "a\u{302}\u{323}",
                 (0, "a\u{323}\u{302}", ""),
             ),
             (
-                TextJob::Normalize,
+                Command::Normalize,
                 Form::Nfc,
                 "\u{16D6A}",
                 (0, "\u{16D6A}", ""),
@@ -110,21 +117,21 @@ fn compare_answers_the_worked_examples(rt: HostRuntime) -> Result<(), Fail> {
         rt.alloc(),
         &[
             (
-                TextJob::Compare,
+                Command::Compare,
                 Form::Nfc,
                 ligature,
                 (1, "different\n", ""),
             ),
-            (TextJob::Compare, Form::Nfkc, ligature, (0, "equal\n", "")),
+            (Command::Compare, Form::Nfkc, ligature, (0, "equal\n", "")),
             (
-                TextJob::Compare,
+                Command::Compare,
                 Form::Nfc,
                 "a",
                 (4, "", "input: two lines wanted\n"),
             ),
             // a text and its prefix
             (
-                TextJob::Compare,
+                Command::Compare,
                 Form::Nfc,
                 "Aa\nA\n",
                 (1, "different\n", ""),
@@ -140,20 +147,20 @@ fn compare_wants_assigned_lines(rt: HostRuntime) -> Result<(), Fail> {
         &[
             // two equal strings
             (
-                TextJob::Compare,
+                Command::Compare,
                 Form::Nfc,
                 "b\nb\n",
                 (3, "", "first: unassigned 0062 at byte 0\n"),
             ),
             (
-                TextJob::Compare,
+                Command::Compare,
                 Form::Nfc,
                 "a\nab\n",
                 (3, "", "second: unassigned 0062 at byte 1\n"),
             ),
             // a last line with CR
             (
-                TextJob::Compare,
+                Command::Compare,
                 Form::Nfc,
                 "a\na\r",
                 (3, "", "second: unassigned 000D at byte 1\n"),
@@ -167,7 +174,7 @@ fn bad_bytes_and_bad_files_are_told(rt: HostRuntime) -> Result<(), Fail> {
     let invalid = (4, "", "input: not UTF-8 at byte 1\n");
     let ran = run(
         rt.alloc(),
-        TextJob::Key,
+        Command::Key,
         Form::Nfc,
         V1_DATA,
         b"a\xff".as_slice(),
@@ -175,7 +182,7 @@ fn bad_bytes_and_bad_files_are_told(rt: HostRuntime) -> Result<(), Fail> {
     want(is_answer(&ran, &invalid), "invalid bytes")?;
     let short = "0041;X;Lu;0;L;;;;N;;;;;\n";
     let faulty = (4, "", "version 0 data: line 1: FieldCount\n");
-    let ran = run(rt.alloc(), TextJob::Key, Form::Nfd, short, b"A".as_slice());
+    let ran = run(rt.alloc(), Command::Key, Form::Nfd, short, b"A".as_slice());
     want(is_answer(&ran, &faulty), "a short record")
 }
 
