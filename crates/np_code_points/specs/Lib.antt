@@ -6,4 +6,5 @@ pub mod Lines
 pub mod Steps
 pub mod Text
 pub mod Watched
+pub mod Words
 pub mod inside

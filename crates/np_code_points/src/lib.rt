@@ -13,6 +13,7 @@ pub mod lines;
 pub mod output;
 pub mod text;
 pub mod watched;
+pub mod words;
 
 pub use forms::Form;
 use std::alloc::{AllocError, AllocFailed};
