@@ -1,4 +1,5 @@
 pub mod AnswerLemmas
+pub mod BoundaryLemmas
 pub mod ComposeLemmas
 pub mod ComposerLemmas
 pub mod FormLemmas

@@ -1,4 +1,5 @@
 pub mod Assigned
+pub mod Boundaries
 pub mod Composition
 pub mod Faults
 pub mod Forms

@@ -1,3 +1,4 @@
+pub mod Boundaries
 pub mod Composites
 pub mod Conditions
 pub mod Counts
