@@ -123,7 +123,7 @@ are_data_lines bytes = record {
       (all_from 1 h.before h.line h.behind r h.counted h.returned h.counts);
 }
 
-only_data_lines : (bytes : List ℕ) (found : List Numbered) → AreDataLines bytes found → found ≡ data_lines_in bytes
+pub only_data_lines : (bytes : List ℕ) (found : List Numbered) → AreDataLines bytes found → found ≡ data_lines_in bytes
 only_data_lines bytes found h =
     let is = are_data_lines bytes in
     same_lists Numbered (λ r. r.line) found (data_lines_in bytes) h.rise is.rise

@@ -142,7 +142,7 @@ module _ (d : Dividers) where
   are_words text = words_within (length text) text (omega arith)
 
   -- No other words are.
-  word_first : (word rest : List ℕ) → (word ≢ []) → All IsOther word → after_all (divides d) (word ++ rest) ≡ word ++ rest
+  pub word_first : (word rest : List ℕ) → (word ≢ []) → All IsOther word → after_all (divides d) (word ++ rest) ≡ word ++ rest
   word_first [] rest ne h = absurd (ne refl)
   word_first (x ∷ xs) rest ne h =
       ap (λ t. cond t (after_all (divides d) (xs ++ rest)) (x ∷ xs ++ rest)) (other_false x (All-head IsOther x xs h))

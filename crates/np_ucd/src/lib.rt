@@ -5,8 +5,6 @@ mod data;
 pub mod exclusions;
 pub mod faults;
 mod fields;
-pub mod laws;
-mod lines;
 mod mappings;
 mod readers;
 mod records;
