@@ -1,5 +1,6 @@
 pub mod AuditLemmas
 pub mod BreakLemmas
 pub mod ChainLemmas
+pub mod KindLemmas
 pub mod StabilityLemmas
 pub mod SyllableLemmas

@@ -15,8 +15,3 @@ Stability =
 
 abbrev pub Transitivity : Type 0
 Transitivity = (a b c : VersionData) → Extends a b → Extends b c → Extends a c
-
--- where b extends a, the form under b of a text that is assigned in b is its own form under a
-abbrev pub Backward : Type 0
-Backward =
-    (a b : VersionData) (form : Form) (xs ys : List ℕ) → IsSound a → IsSound b → Extends a b → IsAssigned b xs → IsNormalForm b form xs ys → IsNormalForm a form ys ys

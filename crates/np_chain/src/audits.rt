@@ -1,12 +1,13 @@
 //! A version against an earlier one.
 ghost use Rattle.std.specs.Prelude.{◌≡◌, ◌↔◌, true, ◌&&◌, [], IsOk, IfOk, IfErr};
-ghost use Rattle.np_chain.specs.Breaks.{AreBreaks, IsFirstBreak, break_of, has_old_parts, is_same_kind, maps_alike as alike};
+ghost use Rattle.np_chain.specs.Breaks.{AreBreaks, IsFirstBreak};
+ghost use Rattle.np_chain.specs.inside.BreakTests.{break_of, has_old_parts, is_same_kind, maps_alike as alike};
 ghost use Rattle.np_chain.specs.inside.BreakLists.{breaks_of};
 ghost use Rattle.np_chain.specs.Chain.{Extends};
 ghost use Rattle.np_code_points.specs.Hangul.{is_syllable as syllable};
-ghost use Rattle.np_tables.specs.Composites.{is_primary};
+ghost use Rattle.np_tables.specs.inside.Primaries.{is_primary};
 ghost use Rattle.np_tables.specs.Conditions.{IsSound};
-ghost use Rattle.np_tables.specs.Versions.{has_hangul, is_assigned};
+ghost use Rattle.np_tables.specs.Versions.{class_of, has_hangul, is_assigned};
 ghost use Rattle.std.specs.List.{list_all};
 
 use crate::breaks::{Break, BreakKind};
@@ -101,6 +102,16 @@ fn break_of_assigned(old: &Version, new: &Version, code: u32) -> Option<BreakKin
     if new.class_of(code) != old.class_of(code) {
         return Some(BreakKind::ClassChanged);
     }
+    break_of_kept(old, new, code)
+}
+
+/// The break of a code point that both versions assign with one class, if it has one.
+fn break_of_kept(old: &Version, new: &Version, code: u32) -> Option<BreakKind>
+    requires old { is_assigned old.now code ≡ true }
+    requires new { is_assigned new.now code ≡ true }
+    requires class { class_of new.now code ≡ class_of old.now code }
+    ensures { result ≡ break_of old.now new.now code }
+{
     if !maps_alike(old, new, code) {
         return Some(BreakKind::MappingChanged);
     }

@@ -17,12 +17,12 @@ pub enum ChainFault {
     NoVersion,
     /// The version of the table at place `at`, from 0, does not extend the one before. It is the
     /// first such place, and `brk` is its first break.
-    #[error("version {at} does not extend the one before")]
+    #[error("version {at} does not extend the one before: {brk}")]
     Broken { at: usize, brk: Break },
 }
 
 /// At least one table, each of whose versions extends the one before. Contracts see the versions.
-#[derive(Drop)]
+#[derive(Debug, Drop)]
 pub struct Chain<'t, T: NormTable> {
     tables: &'t [T],
 }

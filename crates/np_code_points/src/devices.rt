@@ -51,6 +51,14 @@ impl Calls {
         }
     }
 
+    /// How many calls there were.
+    fn count(&self) -> u64
+        ensures { result ≡ self.now.made }
+    {
+        let Calls { made, .. } = self;
+        *made
+    }
+
     /// Counts a call, and answers how it fails.
     fn next(&mut self) -> Option<Failure>
         ensures fails { result ≡ failure_at self.old.made self.old.fails }
@@ -110,7 +118,7 @@ impl<'a> Trickle<'a> {
     pub fn calls(&self) -> u64
         ensures { result ≡ reader_call self.now }
     {
-        self.calls.made
+        self.calls.count()
     }
 }
 
@@ -169,7 +177,7 @@ impl Endless {
     pub fn calls(&self) -> u64
         ensures { result ≡ endless_call self.now }
     {
-        self.calls.made
+        self.calls.count()
     }
 }
 
@@ -247,7 +255,7 @@ impl Room {
     pub fn calls(&self) -> u64
         ensures { result ≡ writer_call self.now }
     {
-        self.calls.made
+        self.calls.count()
     }
 
     /// What was taken.

@@ -7,4 +7,6 @@ pub mod Laws
 pub mod Order
 pub mod Starters
 pub mod StreamSafe
+pub mod StreamLaws
+pub mod Streams
 pub mod inside

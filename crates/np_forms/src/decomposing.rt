@@ -31,7 +31,7 @@ fn append_syllable(list: &mut Vec<char>, c: char) -> Result<bool, Memory>
 }
 
 /// Appends the full decomposition of a code point.
-fn append<T: NormTable>(
+pub(crate) fn append<T: NormTable>(
     list: &mut Vec<char>,
     table: &T,
     hangul: bool,

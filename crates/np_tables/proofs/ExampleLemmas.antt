@@ -5,15 +5,16 @@ use Rattle.std.specs.List.{list_all}
 use Rattle.np_ucd.specs.Entries.{Entry, IsRow, AreRows}
 use Rattle.np_ucd.specs.declared.rows.MapKind.TheVariants.{Canonical}
 use Rattle.np_code_points.specs.Hangul.{is_syllable, syllable_pair}
-use Rattle.np_tables.specs.Versions.{entry_at, is_assigned, class_of, file_kind, file_mapping, mapping_in, is_canonical, is_empty, is_excluded, is_hangul, is_hangul_row, has_hangul, kind_of, mapping_of}
+use Rattle.np_tables.specs.Versions.{entry_at, is_assigned, class_of, file_kind, file_mapping, mapping_in, is_canonical, is_empty, is_excluded, is_hangul, is_hangul_row, has_hangul, decomposition_kind, decomposition_mapping}
 use Rattle.np_tables.specs.Mappings.{has_depth}
 use Rattle.np_tables.specs.inside.FullDecompositions.{full_of}
-use Rattle.np_tables.specs.Composites.{is_starter_pair, is_primary, IsCompositeOf}
+use Rattle.np_tables.specs.Composites.{IsPrimary, IsCompositeOf}
 use Rattle.np_tables.specs.Conditions.{IsSound}
 use Rattle.np_tables.specs.Examples.{letter, letter_with_ring, ring, with_rows}
 use Rattle.np_tables.proofs.FactLemmas.{classes-at, scalars-at, mapped_scalar-at}
-use Rattle.np_tables.proofs.MappingLemmas.{full_of-final, full_of-mapped, parts-cases}
-use Rattle.np_tables.proofs.CompositeLemmas.{syllable_row, composite_parts}
+use Rattle.np_tables.proofs.MappingLemmas.{full_of-final, full_of-mapped, full_of-only, parts-cases}
+use Rattle.np_tables.proofs.CompositeLemmas.{composite_parts}
+use Rattle.np_tables.proofs.HangulLemmas.{syllable_row}
 
 -- ---- the rows
 
@@ -57,17 +58,17 @@ off = elim (cases_Bool (has_hangul with_rows)) [ inl on ↦ absurd (both_ways _ 
 off_at : (c : ℕ) → (has_hangul with_rows && is_syllable c) ≡ false
 off_at c = and_left _ (is_syllable c) off
 
-mapping_is : (c : ℕ) → mapping_of with_rows c ≡ mapping_in (entry_at with_rows.entries c)
-unfolding mapping_of file_mapping
+mapping_is : (c : ℕ) → decomposition_mapping with_rows c ≡ mapping_in (entry_at with_rows.entries c)
+unfolding decomposition_mapping file_mapping
 mapping_is c = cond-false _ (syllable_pair c) _ (off_at c)
 
 -- ---- what each row says
 
-letter_mapping : mapping_of with_rows 0x41 ≡ []
+letter_mapping : decomposition_mapping with_rows 0x41 ≡ []
 unfolding entry_at
 letter_mapping = mapping_is 0x41
 
-ring_mapping : mapping_of with_rows 0x30A ≡ []
+ring_mapping : decomposition_mapping with_rows 0x30A ≡ []
 unfolding entry_at
 ring_mapping = mapping_is 0x30A
 
@@ -75,20 +76,18 @@ pub class_of-ring : class_of with_rows 0x30A ≡ 230
 unfolding class_of entry_at
 class_of-ring = refl
 
-pair_mapping : mapping_of with_rows 0xC5 ≡ 0x41 ∷ 0x30A ∷ []
+pair_mapping : decomposition_mapping with_rows 0xC5 ≡ 0x41 ∷ 0x30A ∷ []
 unfolding entry_at
 pair_mapping = mapping_is 0xC5
 
-pair_kind : kind_of with_rows 0xC5 ≡ Canonical
-unfolding kind_of file_kind entry_at
+pair_kind : decomposition_kind with_rows 0xC5 ≡ Canonical
+unfolding decomposition_kind file_kind entry_at
 pair_kind = cond-false _ Canonical _ (off_at 0xC5)
 
-pair_primary : is_primary with_rows 0xC5 ≡ true
-unfolding is_primary class_of is_excluded entry_at
+pair_primary : IsPrimary with_rows 0xC5
+unfolding class_of is_excluded entry_at
 pair_primary =
-    let canonical = ap is_canonical pair_kind in
-    let starters = ap (is_starter_pair (class_of with_rows)) pair_mapping in
-    and_from _ _ (and_from _ _ canonical starters) refl
+    record { canonical = pair_kind; first = 0x41; second = 0x30A; pair = pair_mapping; starter = refl; first_starter = refl; included = refl }
 
 pub IsCompositeOf-with_rows : IsCompositeOf with_rows 0x41 0x30A 0xC5
 IsCompositeOf-with_rows = record { primary = pair_primary; mapping = pair_mapping }
@@ -103,7 +102,7 @@ parts_assigned : list_all (is_assigned with_rows) (0x41 ∷ 0x30A ∷ []) ≡ tr
 unfolding is_assigned entry_at
 parts_assigned = refl
 
-maps_to_assigned : (c : ℕ) → list_all (is_assigned with_rows) (mapping_of with_rows c) ≡ true
+maps_to_assigned : (c : ℕ) → list_all (is_assigned with_rows) (decomposition_mapping with_rows c) ≡ true
 maps_to_assigned c =
     ap (list_all (is_assigned with_rows)) (mapping_is c)
     ∙ by_row (λ _ o. list_all (is_assigned with_rows) (mapping_in o) ≡ true) (λ _. refl) refl parts_assigned refl c
@@ -120,7 +119,7 @@ shallow c =
     ap (list_all (has_depth with_rows 31)) (mapping_is c)
     ∙ by_row (λ _ o. list_all (has_depth with_rows 31) (mapping_in o) ≡ true) (λ _. refl) refl parts_shallow refl c
 
-final_full : (c : ℕ) → mapping_of with_rows c ≡ [] → full_of with_rows true c ≡ c ∷ []
+final_full : (c : ℕ) → decomposition_mapping with_rows c ≡ [] → full_of with_rows true c ≡ c ∷ []
 final_full c none = full_of-final with_rows true shallow c (parts-cases with_rows true (λ l. is_empty l ≡ true) refl c (ap is_empty none))
 
 pair_full : full_of with_rows true 0xC5 ≡ 0x41 ∷ 0x30A ∷ []
@@ -131,12 +130,12 @@ pair_full =
     full_of-mapped with_rows true shallow 0xC5 (ap is_empty parts_are) ∙ ap (flat_map (full_of with_rows true)) parts_are
     ∙ ap (λ l. l ++ (full_of with_rows true 0x30A ++ [])) front ∙ ap (λ l. 0x41 ∷ (l ++ [])) back
 
-one_long : (c : ℕ) → mapping_of with_rows c ≡ [] → length (full_of with_rows true c) ≤ 64
+one_long : (c : ℕ) → decomposition_mapping with_rows c ≡ [] → length (full_of with_rows true c) ≤ 64
 one_long c none = let e = ap length (final_full c none) in omega arith
 
-short : (c : ℕ) → length (full_of with_rows true c) ≤ 64
-short c =
-    by_row (λ d o. mapping_of with_rows d ≡ mapping_in o → length (full_of with_rows true d) ≤ 64)
+few : (c : ℕ) → length (full_of with_rows true c) ≤ 64
+few c =
+    by_row (λ d o. decomposition_mapping with_rows d ≡ mapping_in o → length (full_of with_rows true d) ≤ 64)
     one_long (one_long 0x41) (λ _. let e = ap length pair_full in omega arith) (one_long 0x30A) c (mapping_is c)
 
 pair_alone : (a b c : ℕ) → IsCompositeOf with_rows a b c → c ≡ 0xC5
@@ -158,7 +157,7 @@ IsSound-with_rows =
       mapped_scalar = λ c. mapped_scalar-at with_rows c rows;
       maps_to_assigned = maps_to_assigned;
       shallow = shallow;
-      short = short;
+      short = λ c ys is. (let e = ap length (full_of-only with_rows true shallow c ys is) in let le = few c in omega arith);
       unlike = λ a b c d h k. pair_alone a b c h ∙ sym (pair_alone a b d k);
       hangul = no_hangul;
     }

@@ -4,6 +4,7 @@ pub mod Conditions
 pub mod Counts
 pub mod Examples
 pub mod Faults
+pub mod Laws
 pub mod Mappings
 pub mod TableFaults
 pub mod Versions

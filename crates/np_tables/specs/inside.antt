@@ -6,6 +6,9 @@ pub mod FullDecompositions
 pub mod FullLists
 pub mod FullParts
 pub mod HangulRows
+pub mod Pages
 pub mod Pairs
+pub mod Primaries
+pub mod RowPages
 pub mod RowPlaces
 pub mod Suspects

@@ -2,7 +2,7 @@
 ghost use Rattle.std.specs.Prelude.{◌≡◌, ◌+◌, ◌<◌, ◌≤◌, ◌&&◌, true, None, length, option_map, slice_get, IfOk};
 ghost use Rattle.np_ucd.specs.Entries.{AreRows};
 ghost use Rattle.np_code_points.specs.Hangul.{is_syllable as in_block};
-ghost use Rattle.np_tables.specs.inside.Depths.{AreShort, first_row, is_marked, mapping_mark, mark, parts_mark as mark_of_parts, row_marks, syllable_mark as mark_of_syllable};
+ghost use Rattle.np_tables.specs.inside.Depths.{first_row, is_marked, mapping_mark, mark, parts_mark as mark_of_parts, row_marks, syllable_mark as mark_of_syllable};
 ghost use Rattle.np_tables.specs.Faults.{IsTooDeep, IsTooLong};
 ghost use Rattle.np_tables.specs.inside.FirstFaults.{IsFirst};
 ghost use Rattle.np_tables.specs.Versions.{mapping_in};
@@ -34,7 +34,6 @@ pub struct DepthFaults {
 pub fn depth_faults(alloc: Global, characters: &CharacterData) -> Result<DepthFaults, Memory>
     ensures too_deep { IfOk result (λ f. IsFirst (IsTooDeep characters.now) f.too_deep) }
     ensures too_long { IfOk result (λ f. IsFirst (IsTooLong characters.now) f.too_long) }
-    ensures short { IfOk result (λ f. f.too_deep ≡ None → f.too_long ≡ None → AreShort characters.now) }
 {
     let marks = final_marks(alloc, characters)?;
     Ok(DepthFaults {

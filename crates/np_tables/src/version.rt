@@ -1,8 +1,9 @@
 //! Versions of the character tables (UAX #44).
-ghost use Rattle.std.specs.Prelude.{◌≡◌, ◌⊎◌, IfOk, OnOk, IfErr};
+ghost use Rattle.std.specs.Prelude.{◌≡◌, ◌↔◌, ◌⊎◌, IfOk, OnOk, IfErr, IsTrue};
 ghost use Rattle.np_tables.specs.TableFaults.{IsFaultless, IsLeastFault};
 ghost use Rattle.np_tables.specs.declared.faults.TableFault.TheVariants.{Memory as OutOfMemory};
-ghost use Rattle.np_tables.specs.Composites.{is_primary};
+ghost use Rattle.np_tables.specs.Composites.{IsPrimary};
+ghost use Rattle.np_tables.specs.inside.Primaries.{is_primary};
 ghost use Rattle.np_tables.specs.Conditions.{IsSound};
 ghost use Rattle.np_tables.specs.Counts.{assigned_count};
 ghost use Rattle.np_tables.specs.Versions.{class_of, file_kind, file_mapping, has_hangul, is_assigned, is_excluded};
@@ -109,7 +110,8 @@ impl Version {
     /// Whether a code point is a primary composite (The Unicode Standard, D114): syllables are,
     /// where the Hangul arithmetic is on.
     pub fn is_primary(&self, code: u32) -> bool
-        ensures { result ≡ is_primary self.now code }
+        ensures primary { IsTrue result ↔ IsPrimary self.now code }
+        ensures value { result ≡ is_primary self.now code }
     {
         self.characters.is_primary(code)
     }

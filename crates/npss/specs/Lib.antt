@@ -2,7 +2,12 @@ pub mod Audits
 pub mod Commands
 pub mod Comparisons
 pub mod Ends
+pub mod Keys
+pub mod Lines
+pub mod NormalForms
 pub mod Statuses
 pub mod Streams
+pub mod Texts
 pub mod Versions
 pub mod Words
+pub mod inside

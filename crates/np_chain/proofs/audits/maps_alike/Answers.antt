@@ -1,7 +1,7 @@
 use Rattle.std.proofs.Common.{◌∙◌, sym, ap₂}
 use Rattle.std.proofs.lemmas.Bool.{and_left}
 use Rattle.std.specs.Prelude.{bytes_eq}
-use Rattle.np_chain.specs.Breaks.{is_same_kind}
+use Rattle.np_chain.specs.inside.BreakTests.{is_same_kind}
 use Rattle.np_chain.proofs.SyllableLemmas.{alike-syllable, alike-listed, alike-when}
 use Rattle.np_chain.proofs.audits.maps_alike.Goals as goal
 
