@@ -8,7 +8,7 @@ use Rattle.np_code_points.proofs.DataLineGrammar.{are_data_lines, only_data_line
 use Rattle.np_code_points.proofs.Elements.{contains_middle, greatest_front}
 use Rattle.np_ucd.specs.Faults.{line_of}
 use Rattle.np_ucd.specs.Fields.{Fields, IsFirstName}
-use Rattle.np_ucd.specs.FirstFaults.{IsLastOf, IsFaultAt, HasNoFaultAt, IsOpenAtEnd, IsFirstFault, IsFaultless}
+use Rattle.np_ucd.specs.FirstFaults.{IsLastOf, IsFaultAt, HasNoFaultAt, IsOpenAtEnd, IsFirstFault, HasNoFault}
 use Rattle.np_ucd.specs.Tests.{UcdFault, RangeOpen, IsFaultOf, Fits}
 use Rattle.np_ucd.specs.inside.FileReading.{end_fault, fault_after, first_fault}
 use Rattle.np_ucd.specs.inside.RecordReading.{Neighbour, field, neighbour_of, opens, record_fault}
@@ -265,7 +265,7 @@ closed_end : (bytes : List ℕ) → first_fault bytes ≡ None → end_fault (be
 unfolding first_fault
 closed_end bytes h = sym (at_end None (data_lines_in bytes) (fine_all bytes h)) ∙ h
 
-pub faultless : (bytes : List ℕ) → first_fault bytes ≡ None → IsFaultless bytes
+pub faultless : (bytes : List ℕ) → first_fault bytes ≡ None → HasNoFault bytes
 faultless bytes h = record { records = no_fault_at bytes (fine_all bytes h); end = closed bytes (closed_end bytes h) }
 
 pub first_lined : (bytes : List ℕ) (e : UcdFault) → IsFirstFault bytes e → is_some (line_of e) ≡ true

@@ -5,7 +5,7 @@ use Rattle.np_ucd.specs.AllRows.{AreAllRows}
 use Rattle.np_ucd.specs.Entries.{Entry}
 use Rattle.np_ucd.specs.Exclusions.{AreReadable, IsListedIn}
 use Rattle.np_ucd.specs.Faults.{line_of}
-use Rattle.np_ucd.specs.FirstFaults.{IsFaultless}
+use Rattle.np_ucd.specs.FirstFaults.{HasNoFault}
 use Rattle.np_ucd.specs.Listed.{Span, is_listed}
 use Rattle.np_ucd.specs.Reading.{IsRefused}
 use Rattle.np_ucd.specs.Tests.{UcdFault}
@@ -19,7 +19,7 @@ use Rattle.np_ucd.proofs.FaultGrammar.{faultless}
 use Rattle.np_ucd.proofs.RowGrammar.{are_all_rows}
 
 -- the rows of a file that was read
-pub rows_read : (before after : Option (List ℕ)) (bytes : List ℕ) (r : Result (List Entry) UcdFault) → IsReadWhole before after bytes → OnOk r (first_fault bytes ≡ None) → IfOk r (λ rows. rows ≡ rows_in bytes) → IfOk r (λ rows. (bytes : List ℕ) × IsReadWhole before after bytes × IsFaultless bytes × AreAllRows bytes rows)
+pub rows_read : (before after : Option (List ℕ)) (bytes : List ℕ) (r : Result (List Entry) UcdFault) → IsReadWhole before after bytes → OnOk r (first_fault bytes ≡ None) → IfOk r (λ rows. rows ≡ rows_in bytes) → IfOk r (λ rows. (bytes : List ℕ) × IsReadWhole before after bytes × HasNoFault bytes × AreAllRows bytes rows)
 rows_read before after bytes (Ok rows) whole fine is =
     (bytes, whole, faultless bytes fine, rw is (are_all_rows bytes fine))
 rows_read before after bytes (Err e) whole fine is = tt

@@ -45,6 +45,6 @@ IsFirstFault bytes fault =
     ⊎ (HasNoFaultAt bytes × IsOpenAtEnd bytes fault)
 
 -- neither a record nor the end has a fault
-pub record IsFaultless (bytes : List ℕ) : Type 0 where
+pub record HasNoFault (bytes : List ℕ) : Type 0 where
   pub records : HasNoFaultAt bytes
   pub end : (fault : UcdFault) → IsOpenAtEnd bytes fault → ⊥

@@ -4,7 +4,7 @@ ghost use Rattle.np_code_points.specs.Inputs.{IsReadWhole};
 ghost use Rattle.np_code_points.specs.Watched.{device_of, has_failed};
 ghost use Rattle.np_ucd.specs.AllRows.{AreAllRows};
 ghost use Rattle.np_ucd.specs.Exclusions.{AreReadable, IsFirstBadLine, IsListedIn};
-ghost use Rattle.np_ucd.specs.FirstFaults.{IsFaultless, IsFirstFault};
+ghost use Rattle.np_ucd.specs.FirstFaults.{HasNoFault, IsFirstFault};
 ghost use Rattle.np_ucd.specs.Listed.{is_listed};
 ghost use Rattle.np_ucd.specs.Reading.{IsRefused};
 ghost use Rattle.np_ucd.specs.inside.ExclusionReading.{exclusions_fault, spans_in};
@@ -48,7 +48,7 @@ pub fn read_rows<R: Read>(alloc: Global, source: &mut Watched<R>) -> Result<Rows
     // all bytes were read, which have no fault, and these are their rows
     ensures rows { IfOk result (λ rows. (bytes : List ℕ)
         × IsReadWhole (R.remaining (device_of source.old)) (R.remaining (device_of source.new)) bytes
-        × IsFaultless bytes × AreAllRows bytes rows) }
+        × HasNoFault bytes × AreAllRows bytes rows) }
     ensures refused { IfErr result (IsRefused IsFirstFault (R.remaining (device_of source.old)) (R.remaining (device_of source.new))) }
     ensures failed { result ≡ Err UcdFault.ReadFailed ↔ (has_failed source.new ≡ true) }
     // the same as functions of the bytes
