@@ -25,6 +25,15 @@ contains_middle (b ∷ before) x behind = contains_more b x (before ++ x ∷ beh
 pub all_contained : {X : Type 0} (P : X → Type 0) (xs : List X) (x : X) → All P xs → Contains xs x → P x
 all_contained P xs x h in' = subst P in'.2 (h in'.0 x in'.1)
 
+-- two lists that end in one element each end in the same one, where they are the same
+pub same_end : {X : Type 0} (xs ys : List X) (x y : X) → xs ++ x ∷ [] ≡ ys ++ y ∷ [] → x ≡ y
+same_end [] [] x y e = cc
+same_end [] (z ∷ []) x y e = absurd (cc)
+same_end [] (z ∷ w ∷ ys) x y e = absurd (cc)
+same_end (z ∷ []) [] x y e = absurd (cc)
+same_end (z ∷ w ∷ xs) [] x y e = absurd (cc)
+same_end (z ∷ xs) (w ∷ ys) x y e = same_end xs ys x y (cc)
+
 -- Two lists that rise and have the same elements are one.
 module _ (X : Type 0) (key : X → ℕ) where
   abbrev pub Rises : List X → Type 0
@@ -83,3 +92,21 @@ module _ (X : Type 0) (key : X → ℕ) where
       (λ same. let lt = rises_head b x (before ++ x ∷ behind) h (contains_middle before x behind) in let e : key b ≡ key y = ap key same in omega arith)
       (λ later. greatest_front before x behind y (rises_tail b (before ++ x ∷ behind) h) later)
       (contains_cases b y (before ++ x ∷ []) in')
+
+  -- elements of one key stand at one place
+  pub same_place : (xs : List X) (x : X) (more : List X) (ys : List X) (y : X) (rest : List X) → Rises (xs ++ x ∷ more) → xs ++ x ∷ more ≡ ys ++ y ∷ rest → key x ≡ key y → (xs ≡ ys) × (x ≡ y)
+  same_place [] x more [] y rest h e k = (refl, cc)
+  same_place [] x more (z ∷ ys) y rest h e k =
+      let tail : more ≡ ys ++ y ∷ rest = cc in
+      let lt = rises_head x y more h (subst (λ l. Contains l y) (sym tail) (contains_middle ys y rest)) in
+      absurd (omega arith)
+  same_place (w ∷ xs) x more [] y rest h e k =
+      let head : w ≡ y = cc in
+      let lt = rises_head w x (xs ++ x ∷ more) h (contains_middle xs x more) in
+      let same = ap key head in
+      absurd (omega arith)
+  same_place (w ∷ xs) x more (z ∷ ys) y rest h e k =
+      let head : w ≡ z = cc in
+      let tail : xs ++ x ∷ more ≡ ys ++ y ∷ rest = cc in
+      let ih = same_place xs x more ys y rest (rises_tail w (xs ++ x ∷ more) h) tail k in
+      (ap (λ v. v ∷ xs) head ∙ ap (λ l. z ∷ l) ih.0, ih.1)

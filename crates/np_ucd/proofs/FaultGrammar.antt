@@ -271,3 +271,15 @@ faultless bytes h = record { records = no_fault_at bytes (fine_all bytes h); end
 pub first_lined : (bytes : List ℕ) (e : UcdFault) → IsFirstFault bytes e → is_some (line_of e) ≡ true
 first_lined bytes e h =
     ⊎_elim (λ at. ap is_some at.1.fault_of.line) (λ end. ap (λ f. is_some (line_of f)) end.1.is) h
+
+-- No first fault stands beside none.
+pub not_both : (bytes : List ℕ) → HasNoFault bytes → (fault : UcdFault) → IsFirstFault bytes fault → ⊥
+not_both bytes h fault is =
+    ⊎_elim (λ at. h.records at.0 fault at.1) (λ end. h.end fault end.1) is
+
+none_step : (bytes : List ℕ) (o : Option UcdFault) → HasNoFault bytes → first_fault bytes ≡ o → o ≡ None
+none_step bytes None h e = refl
+none_step bytes (Some fault) h e = absurd (not_both bytes h fault (first_fault_is bytes fault e))
+
+pub has_none : (bytes : List ℕ) → HasNoFault bytes → first_fault bytes ≡ None
+has_none bytes h = none_step bytes (first_fault bytes) h refl

@@ -14,3 +14,4 @@ pub mod FaultGrammar
 pub mod RowGrammar
 pub mod ExclusionGrammar
 pub mod ReaderLemmas
+pub mod LawGrammar

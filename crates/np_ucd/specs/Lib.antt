@@ -4,6 +4,7 @@ pub mod Exclusions
 pub mod Faults
 pub mod Fields
 pub mod FirstFaults
+pub mod Laws
 pub mod Listed
 pub mod Mappings
 pub mod Reading

@@ -5,6 +5,7 @@ mod data;
 pub mod exclusions;
 pub mod faults;
 mod fields;
+pub mod laws;
 mod mappings;
 mod readers;
 mod records;
