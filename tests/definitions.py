@@ -4,8 +4,9 @@
 docs/DEFINITIONS.md has a table: a promise, the files that a reader must believe for it in reading order,
 and their lines. Each file has to exist, what it imports has to stand before it in its row, each file of
 definitions that a contract may cite has to be there, none of them may import one of `inside`, and the
-lines have to be right: `--write` puts them right. In the table 'Where is' of docs/ARCHITECTURE.md each name has to stand in the file before it.
-Prints the sums, and ends in a line 'N passed, M failed'.
+lines have to be right. `--write` puts all of this right but for the imports of `inside`: it adds to a row
+what its files import, and at the end a row for the files of a crate that no row has. In the table 'Where is' of docs/ARCHITECTURE.md each name has to stand in the file before it.
+Prints the sums, also without imports and blank lines, and ends in a line 'N passed, M failed'.
 """
 
 import re
@@ -77,6 +78,12 @@ def lines_of(path):
     return len(path.read_text(encoding="utf-8").splitlines())
 
 
+def said_in(path):
+    """How many lines say something: neither blank nor an import."""
+    lines = path.read_text(encoding="utf-8").splitlines()
+    return sum(1 for line in lines if line.strip() and not re.match(r"(pub )?use ", line))
+
+
 def reading_list(text):
     """The rows of the table: promise, files as written, lines as written."""
     for line in text.splitlines():
@@ -85,16 +92,39 @@ def reading_list(text):
             yield match["promise"], CODE.findall(match["files"]), int(match["lines"].replace(",", ""))
 
 
+def in_order(paths, before=()):
+    """The files and what they import, each behind what it imports."""
+    ordered = list(before)
+    for path in paths:
+        if path not in ordered:
+            ordered = in_order([here for here in imported(path) if here not in ordered], ordered)
+            ordered.append(path)
+    return ordered
+
+
+def row_of(promise, paths):
+    """The row of a promise, for which these files are to be believed."""
+    ordered = in_order(paths)
+    names = ", ".join(f"`{path.relative_to(ROOT / 'crates').with_suffix('')}`" for path in ordered)
+    return f"| {promise} | {names} | {sum(map(lines_of, ordered)):,} |"
+
+
 def put_right(text):
-    """The text with the right number of lines in each row."""
-    def row(line):
+    """The text with all files and the right number of lines in each row, and a row for files that none has."""
+    lines, listed, last = [], set(), 0
+    for line in text.splitlines():
         match = ROW.match(line)
-        if not match:
-            return line
-        paths = [found(name) for name in CODE.findall(match["files"])]
-        count = sum(lines_of(path) for path in paths if path)
-        return f"| {match['promise']} | {match['files']} | {count:,} |"
-    return "".join(row(line) + "\n" for line in text.splitlines())
+        if match:
+            paths = [path for path in map(found, CODE.findall(match["files"])) if path]
+            listed.update(in_order(paths))
+            line, last = row_of(match["promise"], paths), len(lines) + 1
+        lines.append(line)
+    others = sorted(believed() - listed)
+    for crate in sorted({path.parts[-3] for path in others}):
+        rest = [path for path in others if path.parts[-3] == crate]
+        lines.insert(last, row_of(f"what else the contracts of {crate} say", rest))
+        last += 1
+    return "".join(line + "\n" for line in lines)
 
 
 def check_reading_list(tally):
@@ -113,14 +143,15 @@ def check_reading_list(tally):
         count = sum(map(lines_of, files))
         tally.check(f"{promise}: lines", count == lines,
                     f"{count} and not {lines}: run tests/definitions.py --write")
-        print(f"{promise}: {len(files)} files, {count} lines")
+        print(f"{promise}: {len(files)} files, {count} lines, of which {sum(map(said_in, files))} say something")
     for path in sorted(believed()):
         name = path.relative_to(ROOT)
         tally.check(f"{name} is in docs/DEFINITIONS.md", path in listed, "it is not")
         tally.check(f"{name} imports nothing of inside", not INSIDE.search(path.read_text(encoding="utf-8")),
                     "it does")
     tally.check("there is a reading list", listed, "the table has no row")
-    print(f"all: {len(listed)} files, {sum(map(lines_of, listed))} lines")
+    print(f"all: {len(listed)} files, {sum(map(lines_of, listed))} lines, "
+          f"of which {sum(map(said_in, listed))} say something")
 
 
 def check_paths(tally):

@@ -4,8 +4,8 @@
 The program runs in a folder of its own that holds copies of the fixtures and the files of
 versions.py. Each case of cases.py is one run, judged by its status, standard output and standard
 error. Then come devices that fail, closed streams (streams.py), bounds on memory (limits.py), the
-launcher, the README's commands, and whether every file is as it was. Ends in a line 'N passed, M
-failed'.
+launcher (launching.py too), the README's commands, and whether every file is as it was. Ends in a line
+'N passed, M failed'.
 """
 
 import hashlib
@@ -21,7 +21,8 @@ from pathlib import Path
 sys.dont_write_bytecode = True
 
 from cases import DEVICE, USAGE, WRONG_WORDS, all_cases, text
-from harness import ROOT, Tally, run, shown
+from harness import ROOT, Tally, built_program, run, shown
+from launching import check_building
 from limits import check_memory, check_usage
 from streams import check_closed, check_words
 from versions import V1, write_all
@@ -69,6 +70,7 @@ def run_on_folder(program, words, folder):
 
 def check_launcher(tally, launcher, folder):
     """The launcher keeps the caller's folder and the words, through a symbolic link too."""
+    built_program()
     link = folder / "link"
     link.symlink_to(launcher)
     for way in (launcher, link):
@@ -118,6 +120,7 @@ def main():
         check_memory(tally, program, folder)
         if len(sys.argv) > 2:
             check_launcher(tally, Path(sys.argv[2]).resolve(), folder)
+            check_building(tally, Path(sys.argv[2]).resolve(), Path(name))
             check_readme(tally)
         tally.check("files are as they were", state_of(folder) == before, "a file changed")
     tally.finish()

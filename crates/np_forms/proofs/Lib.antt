@@ -2,10 +2,12 @@ pub mod AnswerLemmas
 pub mod BoundaryLemmas
 pub mod ComposeLemmas
 pub mod ComposerLemmas
+pub mod CopyLemmas
 pub mod FormLemmas
 pub mod HeldLemmas
 pub mod InPlaceLemmas
 pub mod KeptLemmas
+pub mod LengthLemmas
 pub mod MachineLemmas
 pub mod OrderLaws
 pub mod OrderLemmas

@@ -3,10 +3,9 @@ ghost use Rattle.std.specs.Prelude.{◌≡◌, ◌↔◌, IsTrue, chars, string_
 ghost use Rattle.np_forms.specs.Forms.{IsNormalForm};
 ghost use Rattle.np_forms.specs.inside.NormalForms.{decomposed as decomposed_list, normal_form};
 
+use crate::copying::write_form;
 use crate::decomposing::full_decomposition;
 use crate::ordering::order;
-use crate::streams::Stream;
-use crate::written::{write_end, write_text};
 use np_code_points::{Form, Memory};
 use np_tables::NormTable;
 use std::alloc::Global;
@@ -40,11 +39,9 @@ pub fn form<T: NormTable>(
     ensures value { IfOk result (λ t. chars (string_bytes t) ≡ normal_form (T.model table.now) form (chars text.now)) }
     ensures bytes { IfOk result (λ t. string_bytes t ≡ encode_utf8_all (normal_form (T.model table.now) form (chars text.now))) }
 {
-    table.version();
-    let mut stream = Stream::new(alloc, table, form);
+    table.meets_conditions();
     let mut out = String::with_capacity(alloc, text.len())?;
-    write_text(&mut stream, &mut out, text)?;
-    write_end(&mut stream, &mut out)?;
+    write_form(alloc, table, form, text, &mut out)?;
     Ok(out)
 }
 
@@ -68,7 +65,7 @@ pub fn is_form<T: NormTable>(
 ) -> Result<bool, Memory>
     ensures { IfOk result (λ b. IsTrue b ↔ IsNormalForm (T.model table.now) wanted (chars text.now) (chars text.now)) }
 {
-    table.version();
+    table.meets_conditions();
     let normal = form(alloc, table, wanted, text)?;
     Ok(are_same(normal.as_str(), text))
 }

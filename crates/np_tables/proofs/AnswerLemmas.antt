@@ -1,11 +1,10 @@
 -- The marks of the last round tell what is too deep and what is too long.
 use Rattle.std.proofs.Common.{◌≡◌, ◌≢◌, ℕ, suc, ◌+◌, ◌<◌, ◌≤◌, true, ◌&&◌, List, [], ◌∷◌, length, Option, Some, None, refl, sym, ap, subst, ◌∙◌, inl, inr, arith, leb, eqb, ◌⊎◌}
-use Rattle.std.proofs.lemmas.Bool.{cond-true, cond-false, cases_Bool, cases_lt, and_parts, eqb-true, eq-eqb, leb-true, true_from_ne_false}
+use Rattle.std.proofs.lemmas.Bool.{cond-true, cond-false, cases_Bool, and_parts, eqb-true, eq-eqb, leb-true}
 use Rattle.std.specs.Cmp.Lexicographic.{pointwise}
 use Rattle.np_ucd.specs.Entries.{Entry, AreRows, IsRow}
 use Rattle.np_code_points.specs.Hangul.{is_syllable}
 use Rattle.np_tables.specs.Versions.{VersionData, entry_at, mapping_in, file_mapping, has_hangul}
-use Rattle.np_tables.specs.Mappings.{has_depth}
 use Rattle.np_tables.specs.inside.FullDecompositions.{full}
 use Rattle.np_tables.specs.inside.Depths.{mark, mapping_mark, row_marks, first_row, is_marked}
 use Rattle.np_tables.specs.Faults.{IsTooDeep, IsTooLong}

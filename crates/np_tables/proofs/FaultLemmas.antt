@@ -15,7 +15,6 @@ use Rattle.np_tables.specs.TableFaults.{place_of, number_of, HasFault, IsBeforeF
 use Rattle.np_tables.specs.inside.FirstFaults.{AreFirsts}
 use Rattle.np_tables.specs.inside.FirstFaults.{sooner, least_fault}
 use Rattle.np_tables.specs.Mappings.{has_depth}
-use Rattle.np_tables.specs.inside.FullDecompositions.{full_of}
 use Rattle.np_tables.specs.Versions.{VersionData, is_assigned, decomposition_mapping}
 use Rattle.np_tables.proofs.FactLemmas.{bounded-at, classes-at, scalars-at, mapped_scalar-at}
 use Rattle.np_tables.proofs.HangulLemmas.{on_where_right}

@@ -1,6 +1,6 @@
 -- The syllables and jamo, counted from 0, and those that are wrong.
-use Rattle.std.proofs.Common.{◌≡◌, ℕ, ◌+◌, ◌-◌, ◌<◌, ◌≤◌, ◌⊎◌, Bool, true, false, ◌||◌, nat_lt, refl, sym, subst, ◌∙◌, arith, inl, inr, le-leb, lt-ltb}
-use Rattle.std.proofs.lemmas.Bool.{cond-true, cond-false, cases_Bool, cases_lt, and_parts, and_from, leb-true, ltb-true, le-ltb, both_ways}
+use Rattle.std.proofs.Common.{◌≡◌, ℕ, ◌+◌, ◌-◌, ◌<◌, ◌≤◌, ◌⊎◌, Bool, true, false, ◌||◌, nat_lt, refl, sym, subst, ◌∙◌, arith, inl, inr, lt-ltb}
+use Rattle.std.proofs.lemmas.Bool.{cond-true, cond-false, cases_lt, le-ltb, both_ways}
 use Rattle.np_code_points.proofs.HangulLemmas.{among_bounds, among_from_bounds}
 use Rattle.np_code_points.specs.Hangul.{is_among, is_syllable}
 use Rattle.np_tables.specs.Faults.{IsHangulWrong}

@@ -17,6 +17,8 @@ pub mod HangulLemmas
 pub mod HangulPlaces
 pub mod MappedLemmas
 pub mod MappingLemmas
+pub mod PageSlotLemmas
+pub mod PageWordLemmas
 pub mod PairLemmas
 pub mod PrimaryLemmas
 pub mod RightLemmas

@@ -1,7 +1,6 @@
 -- Full decomposition: the function gives the one that there is.
 use Rattle.std.proofs.Common.{◌≡◌, ◌≢◌, ℕ, zero, suc, Bool, true, false, List, [], ◌∷◌, ◌++◌, flat_map, refl, sym, ap, subst, ◌∙◌, inl, inr, append_assoc, append-nil}
 use Rattle.std.proofs.lemmas.Bool.{cond-true, cond-false, cases_Bool, and_parts, and_from}
-use Rattle.std.proofs.lemmas.Grind.{flat_map-append}
 use Rattle.std.specs.List.{list_all}
 use Rattle.np_code_points.specs.Steps.{Reaches}
 use Rattle.np_tables.specs.Versions.{VersionData, is_empty, decomposition_kind, decomposition_mapping}

@@ -1,17 +1,17 @@
 -- Primary composites by what the file says.
-use Rattle.std.proofs.Common.{◌≡◌, ℕ, ◌+◌, ◌-◌, ◌/◌, ◌%◌, ◌<◌, ◌≤◌, true, false, not, ◌&&◌, ◌==◌, List, [], ◌∷◌, length, Option, Some, None, refl, sym, ap, ◌∙◌, arith, inl, inr, eqb-true, eq-eqb, le-leb, lt-ltb}
-use Rattle.std.proofs.lemmas.Bool.{cond-true, cond-false, cases_Bool, and_parts, and_from, leb-true, ltb-true, and_right}
+use Rattle.std.proofs.Common.{◌≡◌, ℕ, ◌+◌, ◌<◌, ◌≤◌, true, false, not, ◌&&◌, ◌==◌, List, [], ◌∷◌, length, Option, Some, None, refl, sym, ap, ◌∙◌, arith}
+use Rattle.std.proofs.lemmas.Bool.{cond-true, cond-false, and_parts, leb-true, ltb-true, and_right}
 use Rattle.np_ucd.specs.Listed.{is_listed}
 use Rattle.np_tables.proofs.RowLemmas.{entry_at-row}
 use Rattle.np_ucd.specs.Entries.{Entry, IsRow, AreRows, HasLength}
 use Rattle.np_ucd.specs.declared.rows.MapKind.{MapKind}
 use Rattle.np_ucd.specs.declared.rows.MapKind.TheVariants.{Plain, Canonical, Compatibility}
 use Rattle.np_code_points.specs.Hangul.{is_syllable, syllable_pair}
-use Rattle.np_tables.specs.Versions.{VersionData, entry_at, is_assigned, class_of, file_kind, file_mapping, mapping_in, kind_in, is_canonical, is_empty, is_excluded, decomposition_kind, decomposition_mapping, has_hangul}
+use Rattle.np_tables.specs.Versions.{VersionData, entry_at, class_of, file_kind, file_mapping, mapping_in, kind_in, is_canonical, is_empty, is_excluded, decomposition_kind, decomposition_mapping, has_hangul}
 use Rattle.np_tables.specs.inside.Primaries.{is_starter_pair, is_primary}
 use Rattle.np_tables.specs.inside.Accessors.{is_file_primary}
 use Rattle.np_tables.specs.Composites.{IsPrimary}
-use Rattle.np_tables.proofs.HangulLemmas.{by_arithmetic, decomposition_mapping-on, hangul_parts, head_hangul, shape_of, syllable_row}
+use Rattle.np_tables.proofs.HangulLemmas.{by_arithmetic, decomposition_kind-on, decomposition_mapping-on, hangul_parts, head_hangul, shape_of, syllable_row}
 
 pub primary-file : (v : VersionData) (c : ℕ) → (has_hangul v && is_syllable c) ≡ false → is_file_primary v c ≡ is_primary v c
 unfolding is_primary decomposition_kind decomposition_mapping
@@ -60,13 +60,13 @@ syllable_starter v s on h =
 
 -- a syllable of the arithmetic is a primary composite
 pub primary-syllable : (v : VersionData) (c : ℕ) → AreRows v.entries → (has_hangul v && is_syllable c) ≡ true → IsPrimary v c
-unfolding decomposition_kind is_excluded
+unfolding is_excluded
 primary-syllable v c rows both =
     let halves = and_parts (has_hangul v) (is_syllable c) both in
     let row = hangul_parts v c (syllable_row v c halves.0 halves.1) in
     let pair = syllable_starter v c halves.0 halves.1 in
     record {
-      canonical = cond-true _ Canonical (file_kind v c) both;
+      canonical = decomposition_kind-on v c both;
       first = pair.first;
       second = pair.second;
       pair = decomposition_mapping-on v c both ∙ pair.pair;

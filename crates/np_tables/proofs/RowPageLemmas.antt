@@ -15,13 +15,13 @@ use Rattle.np_tables.proofs.RowLemmas.{at-found, at-row, entry_at-row, entry_at-
 
 -- ---- rows by their places
 
-some_at : (es : List Entry) (k : ℕ) → k < length es → (e : Entry) × (slice_get es k ≡ Some e)
+pub some_at : (es : List Entry) (k : ℕ) → k < length es → (e : Entry) × (slice_get es k ≡ Some e)
 some_at [] k lt = absurd (omega arith)
 some_at (e ∷ es) zero lt = (e, refl)
 some_at (e ∷ es) (suc k) lt = some_at es k (omega arith)
 
 -- each row ends before the next one begins
-ends-rise : (es : List Entry) (i : ℕ) (e f : Entry) → AreRows es → slice_get es i ≡ Some e → slice_get es (suc i) ≡ Some f → e.last < f.first
+pub ends-rise : (es : List Entry) (i : ℕ) (e f : Entry) → AreRows es → slice_get es i ≡ Some e → slice_get es (suc i) ≡ Some f → e.last < f.first
 ends-rise [] i e f rows at next = absurd (none-some e at)
 ends-rise (x ∷ []) zero e f rows at next = absurd (none-some f next)
 ends-rise (x ∷ y ∷ ys) zero e f rows at next =

@@ -1,6 +1,6 @@
 -- The marks of the syllables of the Hangul arithmetic.
-use Rattle.std.proofs.Common.{◌≡◌, ℕ, zero, suc, ◌+◌, ◌-◌, ◌/◌, ◌%◌, ◌<◌, ◌≤◌, true, false, ◌&&◌, [], ◌∷◌, ◌++◌, flat_map, length, refl, sym, ap, ◌∙◌, inl, inr, arith, leb, ◌==◌, cond}
-use Rattle.std.proofs.lemmas.Bool.{cond-true, cond-false, cond_both, cases_Bool, and_parts, and_from, and_left, and_right, leb-true, ltb-true, le-leb, lt-ltb, lt-leb, eqb-true, eqb-false, eq-eqb}
+use Rattle.std.proofs.Common.{◌≡◌, ℕ, zero, suc, ◌+◌, ◌-◌, ◌%◌, ◌≤◌, true, false, [], ◌∷◌, ◌++◌, flat_map, length, refl, sym, ap, ◌∙◌, inl, inr, arith, leb, ◌==◌, cond}
+use Rattle.std.proofs.lemmas.Bool.{cond-true, cond-false, cond_both, cases_Bool, and_from, and_left, le-leb, eqb-true, eqb-false}
 use Rattle.std.specs.List.{list_all}
 use Rattle.np_ucd.specs.Entries.{AreRows}
 use Rattle.np_code_points.specs.Hangul.{is_syllable, syllable_pair}

@@ -1,5 +1,5 @@
 -- What the plain table answers.
-use Rattle.std.proofs.Common.{◌≡◌, ℕ, zero, suc, ◌<◌, Bool, true, false, ◌&&◌, ◌||◌, List, [], ◌∷◌, ◌++◌, length, map, get_or, Some, None, Option, IfSome, IfNone, refl, sym, ap, subst, ◌∙◌, arith, inl, inr, append-nil, if◌then◌else◌, MatchBool}
+use Rattle.std.proofs.Common.{◌≡◌, ℕ, zero, suc, ◌<◌, Bool, true, false, ◌&&◌, List, [], ◌∷◌, length, map, get_or, Some, None, Option, IfSome, IfNone, refl, sym, ap, subst, ◌∙◌, arith, inl, inr}
 use Rattle.std.specs.List.{slice_get}
 use Rattle.std.proofs.lemmas.Bool.{cases_Bool, cond-true, cond-false, or_from, or_left, or_right}
 use Rattle.std.proofs.lemmas.List.{get_or-map}
@@ -8,7 +8,7 @@ use Rattle.np_ucd.specs.Entries.{Entry, AreRows}
 use Rattle.np_code_points.specs.Hangul.{is_syllable, syllable_pair}
 use Rattle.np_tables.specs.Versions.{VersionData, entry_at, file_mapping, mapping_in, is_empty, has_hangul}
 use Rattle.np_tables.specs.Mappings.{is_final, IsLent, IsFullDecomposition}
-use Rattle.np_tables.specs.inside.FullDecompositions.{full_of, table_full}
+use Rattle.np_tables.specs.inside.FullDecompositions.{table_full}
 use Rattle.np_tables.specs.Composites.{IsCompositeOf}
 use Rattle.np_tables.specs.inside.CompositeSearch.{composite}
 use Rattle.np_tables.specs.Conditions.{IsSound}
@@ -66,7 +66,7 @@ entry_in (e ∷ es) zero lt = (e, refl)
 entry_in (e ∷ es) (suc at) lt = entry_in es at (omega arith)
 
 -- a row lends to each of its code points what it lends to its first
-row-shares : (v : VersionData) (compat : Bool) (c at : ℕ) (e : Entry) → AreRows v.entries → slice_get v.entries at ≡ Some e → entry_at v.entries c ≡ Some e → table_full v compat e.first ≡ table_full v compat c
+pub row-shares : (v : VersionData) (compat : Bool) (c at : ℕ) (e : Entry) → AreRows v.entries → slice_get v.entries at ≡ Some e → entry_at v.entries c ≡ Some e → table_full v compat e.first ≡ table_full v compat c
 row-shares v compat c at e rows place found =
     let own = file_mapping-found v e.first e (first-at v.entries at e rows place) in
     let there = file_mapping-found v c e found in

@@ -1,5 +1,5 @@
 -- Code points at which a normal form parts, and those that it leaves as they are (UAX #15, section 9.1).
-use Rattle.std.specs.Prelude.{◌≡◌, ℕ, ◌≤◌, ⊤, Bool, true, List, [], ◌∷◌, MatchBool}
+use Rattle.std.specs.Prelude.{◌≡◌, ℕ, ◌≤◌, ⊤, true, List, [], ◌∷◌, MatchBool}
 use Rattle.np_code_points.specs.declared.forms.Form.{Form}
 use Rattle.np_code_points.specs.Forms.{is_compat, composes}
 use Rattle.np_tables.specs.Composites.{IsCompositeOf}

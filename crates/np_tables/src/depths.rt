@@ -9,6 +9,7 @@ ghost use Rattle.np_tables.specs.Versions.{mapping_in};
 
 use crate::characters::CharacterData;
 use np_code_points::Memory;
+use np_code_points::hangul::{S_BASE, T_COUNT};
 use std::alloc::Global;
 
 /// No depth may be greater.
@@ -177,7 +178,11 @@ fn syllable_mark(round: u32, code: u32) -> u8
     requires { in_block code ≡ true }
     ensures { result ≡ mark_of_syllable round code }
 {
-    let depth = if (code - 0xAC00) % 28 == 0 { 1u8 } else { 2u8 };
+    let depth = if (code - S_BASE) % T_COUNT == 0 {
+        1u8
+    } else {
+        2u8
+    };
     if u32::from(depth) <= round {
         depth + 1
     } else {

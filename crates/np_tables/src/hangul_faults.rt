@@ -25,7 +25,8 @@ fn has_some(characters: &CharacterData) -> bool
 pub fn first_wrong(characters: &CharacterData) -> Option<u32>
     ensures { IsFirst (IsHangulWrong characters.now) result }
 {
-    if !has_some(characters) {
+    // where the arithmetic is on, all of them were found right once
+    if characters.has_hangul() || !has_some(characters) {
         return None;
     }
     for place in 0..HANGUL_COUNT {

@@ -5,23 +5,27 @@ ghost use Rattle.np_tables.specs.Versions.{has_hangul};
 ghost use Rattle.np_tables.specs.inside.HangulRows.{hangul_at as spec_hangul_at, is_right_at};
 
 use crate::row_index::RowIndex;
+use np_code_points::hangul::{L_BASE, L_COUNT, S_BASE, S_COUNT, T_BASE, T_COUNT, V_BASE, V_COUNT};
 
 /// How many syllables and jamo there are.
-pub const HANGUL_COUNT: u32 = 11_239;
+pub const HANGUL_COUNT: u32 = JAMO_COUNT + S_COUNT;
+
+/// How many jamo there are.
+const JAMO_COUNT: u32 = L_COUNT + V_COUNT + T_COUNT - 1;
 
 /// The syllable or jamo at a place, from 0, by code point.
 pub fn hangul_at(place: u32) -> u32
     requires { place < 11239 }
     ensures { result ≡ spec_hangul_at place }
 {
-    if place < 19 {
-        0x1100 + place
-    } else if place < 40 {
-        0x1161 + (place - 19)
-    } else if place < 67 {
-        0x11A8 + (place - 40)
+    if place < L_COUNT {
+        L_BASE + place
+    } else if place < L_COUNT + V_COUNT {
+        V_BASE + (place - L_COUNT)
+    } else if place < JAMO_COUNT {
+        T_BASE + 1 + (place - (L_COUNT + V_COUNT))
     } else {
-        0xAC00 + (place - 67)
+        S_BASE + (place - JAMO_COUNT)
     }
 }
 

@@ -12,6 +12,9 @@ mod hangul_faults;
 mod hangul_rows;
 pub mod laws;
 mod mapped_faults;
+mod page_slots;
+pub mod page_table;
+mod page_words;
 mod pairs;
 mod row_index;
 mod row_pages;
@@ -24,6 +27,7 @@ mod tests;
 pub mod version;
 
 pub use faults::TableFault;
+pub use page_table::PageTable;
 pub use row_table::RowTable;
 pub use tables::NormTable;
 pub use version::Version;

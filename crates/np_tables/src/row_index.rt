@@ -7,15 +7,13 @@ ghost use Rattle.np_tables.specs.inside.RowPages.{AreRowPages};
 
 use crate::row_pages::RowPages;
 use np_code_points::Memory;
+use np_code_points::codes::CODE_POINTS;
 use np_ucd::{Row, Rows};
 use std::alloc::Global;
 use std::marker::Model;
 
-/// The number after the last code point.
-const CODE_POINTS: u32 = 0x110000;
-
 /// The rows of a data file, with the place of the row of each code point.
-#[derive(Drop)]
+#[derive(Debug, Drop)]
 pub struct RowIndex {
     rows: Rows,
     pages: RowPages,
@@ -39,8 +37,7 @@ impl RowIndex {
         ensures value { IfOk result (λ r. r ≡ rows) }
         ensures rows { IfOk result AreRows }
     {
-        // tells that rows are rows
-        let _ = rows.len();
+        rows.are_in_order();
         let pages = RowPages::new(alloc, &rows)?;
         Ok(RowIndex { rows, pages })
     }

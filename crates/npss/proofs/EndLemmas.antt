@@ -1,5 +1,5 @@
 -- From what a job made, or why it was refused, to its end.
-use Rattle.std.proofs.Common.{◌≡◌, ℕ, ◌⊎◌, inl, inr, Bool, List, Option, Result, Ok, Err, IfOk, IfErr, string_bytes, ap}
+use Rattle.std.proofs.Common.{◌≡◌, ℕ, inl, inr, Bool, List, Option, Result, Ok, Err, IfOk, IfErr, string_bytes, ap}
 use Rattle.np_code_points.specs.Watched.{device_of, has_failed}
 use Rattle.np_code_points.specs.declared.watched.Watched.{Watched}
 use Rattle.npss.specs.Ends.{Ends}

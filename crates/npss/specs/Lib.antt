@@ -8,6 +8,7 @@ pub mod NormalForms
 pub mod Statuses
 pub mod Streams
 pub mod Texts
+pub mod Usage
 pub mod Versions
 pub mod Words
 pub mod inside

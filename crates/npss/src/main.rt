@@ -1,27 +1,35 @@
 //! Stabilized Unicode strings over tables that are read from files: the program.
 #![tactic(auto)]
 
+ghost use Rattle.std.specs.Prelude.{◌≡◌};
+ghost use Rattle.npss.specs.Ends.{IsTold};
+ghost use Rattle.npss.specs.Streams.{stream_of};
+ghost use Rattle.npss.specs.Words.{usage_lines};
+ghost use Rattle.npss.specs.Usage.{ShowsUsage};
+
 mod jobs;
 mod opening;
 mod standard;
 mod words;
 
 use jobs::{DONE, JobFault, audit_job, compare_job, key_job, normalize_job, refuse, tell};
+use np_code_points::Form;
 use np_code_points::output::write_out;
 use np_code_points::watched::Watched;
 use opening::open_version;
 use standard::{Standard, take_standard};
 use std::alloc::Global;
-use std::io::{Error, ErrorKind, Read, Write};
+use std::io::{Error, ErrorKind, Write};
 use std::process::ExitCode;
-use std::rt::Files;
-use words::{Job, WordsFault, parse, usage_text};
+use words::{Job, VersionFiles, WordsFault, parse, usage_text};
 
 /// The status of words that ask for nothing that there is.
 const USAGE: u8 = 2;
 
 /// Says how the program is used, where the words ask for nothing that there is.
-fn tell_usage<E: Write>(error: &mut Watched<E>) -> u8 {
+fn tell_usage<E: Write>(error: &mut Watched<E>) -> u8
+    ensures { IsTold (stream_of E.contents error.old error.new) usage_lines × (result ≡ 2) }
+{
     tell(error, usage_text());
     USAGE
 }
@@ -31,99 +39,137 @@ fn show_usage<O: Write, E: Write>(
     alloc: Global,
     output: &mut Watched<O>,
     error: &mut Watched<E>,
-) -> u8 {
+) -> u8
+    ensures { ShowsUsage (stream_of O.contents output.old output.new) (stream_of E.contents error.old error.new) result }
+{
+    error.clear();
     match write_out(output, usage_text().as_bytes()) {
         Ok(()) => DONE,
         Err(_) => refuse(alloc, error, &JobFault::WriteFailed),
     }
 }
 
-/// Opens the files of a job and runs it; an `Err` is the status of a file that can't be opened.
-fn run<R: Files, I: Read, O: Write, E: Write>(
-    rt: &R,
-    alloc: Global,
-    job: Job,
-    streams: &mut Standard<I, O, E>,
-) -> Result<u8, u8>
-where
-    R::File: Drop,
-{
+/// Runs `normalize`; an `Err` is the status of a file that can't be opened.
+fn run_normalize(
+    rt: &HostRuntime,
+    form: Form,
+    files: &VersionFiles,
+    streams: &mut Standard,
+) -> Result<u8, u8> {
+    let alloc = rt.alloc();
     let Standard {
         input,
         output,
         error,
     } = streams;
+    let (mut data, mut exclusions) = open_version(rt, alloc, error, files)?;
+    Ok(normalize_job(
+        alloc,
+        form,
+        &mut data,
+        &mut exclusions,
+        input,
+        output,
+        error,
+    ))
+}
+
+/// Runs `key`; an `Err` is the status of a file that can't be opened.
+fn run_key(
+    rt: &HostRuntime,
+    form: Form,
+    files: &VersionFiles,
+    streams: &mut Standard,
+) -> Result<u8, u8> {
+    let alloc = rt.alloc();
+    let Standard {
+        input,
+        output,
+        error,
+    } = streams;
+    let (mut data, mut exclusions) = open_version(rt, alloc, error, files)?;
+    Ok(key_job(
+        alloc,
+        form,
+        &mut data,
+        &mut exclusions,
+        input,
+        output,
+        error,
+    ))
+}
+
+/// Runs `compare`; an `Err` is the status of a file that can't be opened.
+fn run_compare(
+    rt: &HostRuntime,
+    form: Form,
+    files: &VersionFiles,
+    streams: &mut Standard,
+) -> Result<u8, u8> {
+    let alloc = rt.alloc();
+    let Standard {
+        input,
+        output,
+        error,
+    } = streams;
+    let (mut data, mut exclusions) = open_version(rt, alloc, error, files)?;
+    Ok(compare_job(
+        alloc,
+        form,
+        &mut data,
+        &mut exclusions,
+        input,
+        output,
+        error,
+    ))
+}
+
+/// Runs `audit`; an `Err` is the status of a file that can't be opened.
+fn run_audit(
+    rt: &HostRuntime,
+    old: &VersionFiles,
+    new: &VersionFiles,
+    streams: &mut Standard,
+) -> Result<u8, u8> {
+    let alloc = rt.alloc();
+    let Standard {
+        input: _,
+        output,
+        error,
+    } = streams;
+    let (mut old_data, mut old_exclusions) = open_version(rt, alloc, error, old)?;
+    let (mut data, mut exclusions) = open_version(rt, alloc, error, new)?;
+    Ok(audit_job(
+        alloc,
+        &mut old_data,
+        &mut old_exclusions,
+        &mut data,
+        &mut exclusions,
+        output,
+        error,
+    ))
+}
+
+/// Runs a job; an `Err` is the status of a file that can't be opened.
+fn run(rt: &HostRuntime, job: &Job, streams: &mut Standard) -> Result<u8, u8> {
     match job {
-        Job::Help => Ok(show_usage(alloc, output, error)),
-        Job::Normalize { form, files } => {
-            let (mut data, mut exclusions) = open_version(rt, alloc, error, &files)?;
-            Ok(normalize_job(
-                alloc,
-                form,
-                &mut data,
-                &mut exclusions,
-                input,
-                output,
-                error,
-            ))
-        }
-        Job::Key { form, files } => {
-            let (mut data, mut exclusions) = open_version(rt, alloc, error, &files)?;
-            Ok(key_job(
-                alloc,
-                form,
-                &mut data,
-                &mut exclusions,
-                input,
-                output,
-                error,
-            ))
-        }
-        Job::Compare { form, files } => {
-            let (mut data, mut exclusions) = open_version(rt, alloc, error, &files)?;
-            Ok(compare_job(
-                alloc,
-                form,
-                &mut data,
-                &mut exclusions,
-                input,
-                output,
-                error,
-            ))
-        }
-        Job::Audit { old, new } => {
-            let (mut old_data, mut old_exclusions) = open_version(rt, alloc, error, &old)?;
-            let (mut new_data, mut new_exclusions) = open_version(rt, alloc, error, &new)?;
-            Ok(audit_job(
-                alloc,
-                &mut old_data,
-                &mut old_exclusions,
-                &mut new_data,
-                &mut new_exclusions,
-                output,
-                error,
-            ))
-        }
+        Job::Help => Ok(show_usage(rt.alloc(), &mut streams.output, &mut streams.error)),
+        Job::Normalize { form, files } => run_normalize(rt, *form, files, streams),
+        Job::Key { form, files } => run_key(rt, *form, files, streams),
+        Job::Compare { form, files } => run_compare(rt, *form, files, streams),
+        Job::Audit { old, new } => run_audit(rt, old, new, streams),
     }
 }
 
 /// Does what the words ask for, and answers the status.
-fn run_words<R: Files, I: Read, O: Write, E: Write>(
-    rt: &R,
-    alloc: Global,
-    words: &[String],
-    streams: &mut Standard<I, O, E>,
-) -> u8
-where
-    R::File: Drop,
-{
-    match parse(alloc, words) {
-        Ok(job) => match run(rt, alloc, job, streams) {
+fn run_words(rt: &HostRuntime, words: &[String], streams: &mut Standard) -> u8 {
+    match parse(rt.alloc(), words) {
+        Ok(job) => match run(rt, &job, streams) {
             Ok(status) => status,
             Err(status) => status,
         },
         Err(WordsFault::Usage) => tell_usage(&mut streams.error),
-        Err(WordsFault::Memory) => refuse(alloc, &mut streams.error, &JobFault::Memory),
+        Err(WordsFault::Memory) => refuse(rt.alloc(), &mut streams.error, &JobFault::Memory),
     }
 }
 
@@ -147,7 +193,7 @@ fn main(rt: HostRuntime) -> ExitCode {
         Err(why) => return ExitCode::from(refuse_words(alloc, &mut streams.error, &why)),
     };
     match words.skip(1).collect::<Vec<String>>(alloc) {
-        Ok(words) => ExitCode::from(run_words(&rt, alloc, words.as_slice(), &mut streams)),
+        Ok(words) => ExitCode::from(run_words(&rt, words.as_slice(), &mut streams)),
         Err(_) => ExitCode::from(refuse(alloc, &mut streams.error, &JobFault::Memory)),
     }
 }

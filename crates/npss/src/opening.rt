@@ -1,5 +1,9 @@
 //! The files of a job are opened before any of them is read.
 
+ghost use Rattle.std.specs.Prelude.{◌≡◌, IfOk, IfErr};
+ghost use Rattle.npss.specs.Streams.{stream_of};
+ghost use Rattle.npss.specs.Usage.{IsUnopened};
+
 use crate::jobs::{FAILED, JobFault, refuse, tell};
 use crate::words::VersionFiles;
 use np_code_points::watched::Watched;
@@ -9,7 +13,9 @@ use std::io::Write;
 use std::rt::Files;
 
 /// Says that a file can't be opened.
-fn refuse_file<E: Write>(alloc: Global, error: &mut Watched<E>, name: &str) -> u8 {
+fn refuse_file<E: Write>(alloc: Global, error: &mut Watched<E>, name: &str) -> u8
+    ensures { IsUnopened name.now (stream_of E.contents error.old error.new) result }
+{
     match format!(in alloc; "cannot open {name}\n") {
         Ok(line) => {
             tell(error, line.as_str());
@@ -19,20 +25,31 @@ fn refuse_file<E: Write>(alloc: Global, error: &mut Watched<E>, name: &str) -> u
     }
 }
 
-/// Opens a file; an `Err` is the status that was told.
+/// Opens a file.
+///
+/// # Errors
+///
+/// The status that was told, where it can't be opened.
 pub fn open_file<R: Files, E: Write>(
     rt: &R,
     alloc: Global,
     error: &mut Watched<E>,
     name: &str,
-) -> Result<Watched<R::File>, u8> {
+) -> Result<Watched<R::File>, u8>
+    ensures opened { IfOk result (λ file. error.new ≡ error.old) }
+    ensures told { IfErr result (IsUnopened name.now (stream_of E.contents error.old error.new)) }
+{
     match fs::open(rt, name) {
         Ok(file) => Ok(Watched::new(file)),
         Err(_) => Err(refuse_file(alloc, error, name)),
     }
 }
 
-/// Opens the two files of a version, the data first; an `Err` is the status that was told.
+/// Opens the two files of a version, the data first.
+///
+/// # Errors
+///
+/// The status that was told, where one of them can't be opened.
 pub fn open_version<R: Files, E: Write>(
     rt: &R,
     alloc: Global,

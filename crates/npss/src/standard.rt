@@ -8,15 +8,21 @@ use std::os::fd::{AsFd, AsRawFd, IntoRawFd};
 
 /// The standard streams.
 #[derive(Drop)]
-pub struct Standard<I, O, E> {
-    pub input: Watched<I>,
-    pub output: Watched<O>,
-    pub error: Watched<E>,
+pub struct Standard {
+    pub input: Watched<Stdin>,
+    pub output: Watched<Stdout>,
+    pub error: Watched<Stderr>,
 }
+
+/// What the system says of a descriptor that is not open (`EBADF`).
+const NOT_OPEN: i32 = 9;
 
 /// Whether the program was started with a stream open.
 fn is_open<S: AsFd>(stream: &S) -> bool {
-    stream.as_fd().try_clone_to_owned().is_ok()
+    match stream.as_fd().try_clone_to_owned() {
+        Ok(_) => true,
+        Err(why) => why.raw_os_error() != Some(NOT_OPEN),
+    }
 }
 
 /// Puts a folder in the place of each standard stream that is closed, since the system gives the
@@ -40,9 +46,12 @@ fn fill_closed(rt: &HostRuntime) -> bool {
     true
 }
 
-/// The standard streams, none of whose places a file that is opened later can take; an `Err` is
-/// the status that was told where that can't be had.
-pub fn take_standard(rt: &HostRuntime) -> Result<Standard<Stdin, Stdout, Stderr>, u8> {
+/// The standard streams, none of whose places a file that is opened later can take.
+///
+/// # Errors
+///
+/// The status that was told, where that can't be had.
+pub fn take_standard(rt: &HostRuntime) -> Result<Standard, u8> {
     let filled = fill_closed(rt);
     let mut streams = Standard {
         input: Watched::new(rt.stdin()),

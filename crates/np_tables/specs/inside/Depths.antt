@@ -1,5 +1,5 @@
 -- How deep mappings go and how long full decompositions are, round by round: in round n the depths up to n are known.
-use Rattle.std.specs.Prelude.{◌≡◌, ℕ, zero, suc, ◌+◌, ◌-◌, ◌%◌, ◌≤◌, Bool, true, nat_le, ◌==◌, min, List, [], ◌∷◌, map, flat_map, length, Option, Some, None, if◌then◌else◌}
+use Rattle.std.specs.Prelude.{ℕ, zero, suc, ◌+◌, ◌-◌, ◌%◌, Bool, true, nat_le, ◌==◌, min, List, [], ◌∷◌, map, flat_map, length, Option, Some, None, if◌then◌else◌}
 use Rattle.std.specs.List.{list_all}
 use Rattle.np_ucd.specs.Entries.{Entry}
 use Rattle.np_tables.specs.Versions.{VersionData}

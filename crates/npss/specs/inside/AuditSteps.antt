@@ -1,5 +1,5 @@
 -- The second half of `audit`, where the old version is there.
-use Rattle.std.specs.Prelude.{◌≡◌, ◌⊎◌, ℕ, Bool, List, string_bytes}
+use Rattle.std.specs.Prelude.{◌≡◌, ◌⊎◌, string_bytes}
 use Rattle.np_tables.specs.Versions.{VersionData}
 use Rattle.npss.specs.Audits.{IsAudit}
 use Rattle.npss.specs.Streams.{Stream}

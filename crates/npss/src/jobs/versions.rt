@@ -6,7 +6,7 @@ ghost use Rattle.np_tables.specs.TableFaults.{IsFaultless};
 
 use super::faults::VersionFault;
 use np_code_points::watched::Watched;
-use np_tables::{RowTable, TableFault, Version};
+use np_tables::{PageTable, TableFault, Version};
 use np_ucd::{Exclusions, Rows, read_exclusions, read_rows};
 use std::alloc::Global;
 use std::io::Read;
@@ -60,6 +60,12 @@ fn version_of(
 
 /// Reads the two files of a version, the data first, and builds it. The version has a number, from
 /// 0, which the fault tells.
+///
+/// # Errors
+///
+/// `Data` where the data file is refused, and then the exclusions are not looked at; `Exclusions`
+/// where the exclusions file is; `Tables` where the version has a fault. Want of memory is told as
+/// a fault of what it was wanted for.
 pub fn read_version<R: Read>(
     alloc: Global,
     version: u32,
@@ -76,17 +82,21 @@ pub fn read_version<R: Read>(
 }
 
 /// The same, with the table over the version.
+///
+/// # Errors
+///
+/// As `read_version`; want of memory for the table is a fault of the tables.
 pub fn read_table<R: Read>(
     alloc: Global,
     version: u32,
     data_file: &mut Watched<R>,
     exclusions_file: &mut Watched<R>,
-) -> Result<RowTable, VersionFault>
+) -> Result<PageTable, VersionFault>
     ensures built { IfOk result (WasBuilt (stream_of R.remaining data_file.old data_file.new) (stream_of R.remaining exclusions_file.old exclusions_file.new)) }
     ensures refused { IfErr result (IsVersionFault version (stream_of R.remaining data_file.old data_file.new) (stream_of R.remaining exclusions_file.old exclusions_file.new)) }
 {
     let built = read_version(alloc, version, data_file, exclusions_file)?;
-    match RowTable::new(alloc, built) {
+    match PageTable::new(alloc, built) {
         Ok(table) => Ok(table),
         Err(_) => Err(VersionFault::Tables {
             version,

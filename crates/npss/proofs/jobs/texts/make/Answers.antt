@@ -1,4 +1,4 @@
-use Rattle.std.proofs.Common.{◌≡◌, ℕ, IfOk, string_bytes, sym, subst}
+use Rattle.std.proofs.Common.{IfOk, string_bytes, sym, subst}
 use Rattle.npss.specs.declared.jobs.ending.Made.{Made}
 use Rattle.npss.specs.declared.jobs.texts.TextJob.{TextJob}
 use Rattle.npss.specs.inside.TextJobs.{Makes}
