@@ -86,13 +86,12 @@ impl NormTable for PageTable {
     }
 
     fn pair(&self, a: char, b: char) -> Option<char> {
-        if let Some(syllable) = arithmetic_pair(self.version.characters(), a, b) {
-            return Some(syllable);
+        if word_of(&self.index, &self.words, b).apart {
+            return None;
         }
-        if word_of(&self.index, &self.words, b).second {
-            self.version.pairs().find(a, b)
-        } else {
-            None
+        match arithmetic_pair(self.version.characters(), a, b) {
+            Some(syllable) => Some(syllable),
+            None => self.version.pairs().find(a, b),
         }
     }
 
