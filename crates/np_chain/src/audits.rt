@@ -6,7 +6,6 @@ ghost use Rattle.np_chain.specs.inside.BreakLists.{breaks_of};
 ghost use Rattle.np_chain.specs.Chain.{Extends};
 ghost use Rattle.np_code_points.specs.Hangul.{is_syllable as syllable};
 ghost use Rattle.np_tables.specs.inside.Primaries.{is_primary};
-ghost use Rattle.np_tables.specs.Conditions.{IsSound};
 ghost use Rattle.np_tables.specs.Versions.{class_of, has_hangul, is_assigned};
 ghost use Rattle.std.specs.List.{list_all};
 
@@ -17,13 +16,6 @@ use np_code_points::hangul::is_syllable;
 use np_tables::Version;
 use np_ucd::MapKind;
 use std::alloc::Global;
-
-/// What holds of each version.
-fn know(version: &Version)
-    ensures { IsSound version.now }
-{
-    let _characters = version.characters();
-}
 
 /// Whether two kinds of mapping are the same.
 fn same_kind(a: MapKind, b: MapKind) -> bool
@@ -39,8 +31,8 @@ fn maps_alike(old: &Version, new: &Version, code: u32) -> bool
     requires new { is_assigned new.now code ≡ true }
     ensures { result ≡ alike old.now new.now code }
 {
-    know(old);
-    know(new);
+    old.meets_conditions();
+    new.meets_conditions();
     if is_syllable(code) {
         return true;
     }
@@ -74,7 +66,7 @@ fn maps_by_arithmetic(version: &Version, code: u32) -> bool
 fn parts_assigned(old: &Version, new: &Version, code: u32) -> bool
     ensures { result ≡ has_old_parts old.now new.now code }
 {
-    know(old);
+    old.meets_conditions();
     if maps_by_arithmetic(new, code) {
         return old.has_hangul();
     }
@@ -148,8 +140,8 @@ pub fn audit(alloc: Global, old: &Version, new: &Version) -> Result<Vec<Break>, 
     ensures value { IfOk result (λ breaks. breaks.items ≡ breaks_of old.now new.now) }
     ensures none { IfOk result (λ breaks. (breaks.items ≡ []) ↔ Extends old.now new.now) }
 {
-    know(old);
-    know(new);
+    old.meets_conditions();
+    new.meets_conditions();
     let mut breaks = Vec::new(alloc);
     for code in 0..CODE_POINTS {
         if let Some(kind) = break_at(old, new, code) {
@@ -169,8 +161,8 @@ pub fn extends(old: &Version, new: &Version) -> Result<(), Break>
     ensures extends { IsOk result ↔ Extends old.now new.now }
     ensures first { IfErr result (λ first. IsFirstBreak old.now new.now first) }
 {
-    know(old);
-    know(new);
+    old.meets_conditions();
+    new.meets_conditions();
     for code in 0..CODE_POINTS {
         if let Some(kind) = break_at(old, new, code) {
             return Err(Break { kind, code });

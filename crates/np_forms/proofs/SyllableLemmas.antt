@@ -6,6 +6,7 @@ use Rattle.np_tables.specs.Conditions.{IsSound}
 use Rattle.np_tables.specs.Mappings.{counts, parts, is_final}
 use Rattle.np_tables.specs.inside.FullDecompositions.{full, full_of, table_full}
 use Rattle.np_tables.specs.Versions.{VersionData, is_empty, file_mapping, decomposition_kind, decomposition_mapping, has_hangul}
+use Rattle.np_tables.proofs.FullLemmas.{parts-syllable}
 use Rattle.np_tables.proofs.HangulLemmas.{IsJamo, IsLv, jamo_bare, shape_of}
 use Rattle.np_tables.proofs.MappingLemmas.{is_empty-true, parts-cases, full_of-final, full_of-mapped}
 use Rattle.np_forms.specs.inside.Syllables.{pair_or_self, syllable_parts}
@@ -40,11 +41,6 @@ flat_some f some [] h = cc
 flat_some f some (x ∷ xs) h = omega (arith, some x, length-append (f x) (flat_map f xs))
 
 module _ (v : VersionData) (compat : Bool) where
-  syllable_counts : (s : ℕ) → has_hangul v ≡ true → is_syllable s ≡ true → parts v compat s ≡ syllable_pair s
-  unfolding parts decomposition_kind decomposition_mapping
-  syllable_counts s on h =
-      let both = and_from _ _ on h in cond-true _ _ _ (ap (counts compat) (cond-true _ _ _ both)) ∙ cond-true _ _ _ both
-
   full-some : (n c : ℕ) → 0 < length (full v compat n c)
   unfolding full
   full-some zero c = omega arith
@@ -87,7 +83,7 @@ module _ (v : VersionData) (compat : Bool) where
 
       full_of-pair : (s a b : ℕ) → is_syllable s ≡ true → syllable_pair s ≡ a ∷ b ∷ [] → full_of v compat s ≡ full_of v compat a ++ (full_of v compat b ++ [])
       full_of-pair s a b h pair =
-          let both = syllable_counts s on h ∙ pair in
+          let both = parts-syllable v compat s on h ∙ pair in
           full_of-mapped v compat sound.shallow s (ap is_empty both) ∙ ap (flat_map (full_of v compat)) both
 
       full_of-first : (a : ℕ) → IsJamo a ⊎ IsLv a → full_of v compat a ≡ pair_or_self a

@@ -63,7 +63,7 @@ pub(crate) fn full_decomposition<T: NormTable>(
 ) -> Result<Vec<char>, Memory>
     ensures { IfOk result (λ list. list.items ≡ flat_map (full_of (T.model table.now) compat) (chars text.now)) }
 {
-    table.version();
+    table.meets_conditions();
     let hangul = table.hangul();
     let mut list = Vec::with_capacity(alloc, text.len())?;
     for c in text.chars() {

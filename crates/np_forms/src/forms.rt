@@ -40,7 +40,7 @@ pub fn form<T: NormTable>(
     ensures value { IfOk result (λ t. chars (string_bytes t) ≡ normal_form (T.model table.now) form (chars text.now)) }
     ensures bytes { IfOk result (λ t. string_bytes t ≡ encode_utf8_all (normal_form (T.model table.now) form (chars text.now))) }
 {
-    table.version();
+    table.meets_conditions();
     let mut stream = Stream::new(alloc, table, form);
     let mut out = String::with_capacity(alloc, text.len())?;
     write_text(&mut stream, &mut out, text)?;
@@ -68,7 +68,7 @@ pub fn is_form<T: NormTable>(
 ) -> Result<bool, Memory>
     ensures { IfOk result (λ b. IsTrue b ↔ IsNormalForm (T.model table.now) wanted (chars text.now) (chars text.now)) }
 {
-    table.version();
+    table.meets_conditions();
     let normal = form(alloc, table, wanted, text)?;
     Ok(are_same(normal.as_str(), text))
 }

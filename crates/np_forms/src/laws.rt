@@ -11,7 +11,8 @@ pub fn ordered_form()
 {}
 
 /// Under each version that meets the conditions, a text has exactly one normal form of each kind;
-/// the conditions are met by the version of empty files, and by one with a primary composite.
+/// the conditions are met by the version of empty files, by one with a primary composite, and by one
+/// with the Hangul arithmetic on.
 pub fn one_form()
     ensures only { OneForm }
     ensures value { GivesNormalForm }

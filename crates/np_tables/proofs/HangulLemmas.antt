@@ -4,9 +4,10 @@ use Rattle.std.specs.List.{list_all}
 use Rattle.std.proofs.lemmas.Bool.{cases_Bool, cases_eq, cond-true, cond-false, and_parts, and_from, and_right, or_left, or_right, both_ways}
 use Rattle.np_code_points.specs.Hangul.{is_among, is_syllable, syllable_pair}
 use Rattle.np_code_points.proofs.HangulLemmas.{among_bounds, pair_exists, pair_kinds, pair_of_lv, pair_of_lvt}
+use Rattle.np_ucd.specs.declared.rows.MapKind.TheVariants.{Canonical}
 use Rattle.np_tables.specs.Faults.{IsHangulWrong}
 use Rattle.np_tables.specs.Laws.{HangulOn, HangulByArithmetic}
-use Rattle.np_tables.specs.Versions.{VersionData, all_below, class_of, decomposition_mapping, file_mapping, has_hangul, is_assigned, is_empty, is_hangul, is_hangul_row}
+use Rattle.np_tables.specs.Versions.{VersionData, all_below, class_of, decomposition_kind, decomposition_mapping, file_kind, file_mapping, has_hangul, is_assigned, is_empty, is_hangul, is_hangul_row}
 use Rattle.np_tables.proofs.HangulPlaces.{hangul_bound}
 use Rattle.np_tables.proofs.MappingLemmas.{is_empty-true}
 
@@ -75,6 +76,14 @@ hangul_parts v c h =
     let halves = and_parts (is_assigned v c && class_of v c == 0) _ h in
     let front = and_parts (is_assigned v c) _ halves.0 in
     record { assigned = front.0; class = eqb-true (class_of v c) 0 front.1; mapping = halves.1 }
+
+pub decomposition_kind-on : (v : VersionData) (c : ℕ) → (has_hangul v && is_syllable c) ≡ true → decomposition_kind v c ≡ Canonical
+unfolding decomposition_kind
+decomposition_kind-on v c on = cond-true _ Canonical (file_kind v c) on
+
+pub decomposition_kind-off : (v : VersionData) (c : ℕ) → (has_hangul v && is_syllable c) ≡ false → decomposition_kind v c ≡ file_kind v c
+unfolding decomposition_kind
+decomposition_kind-off v c off = cond-false _ Canonical (file_kind v c) off
 
 pub decomposition_mapping-on : (v : VersionData) (c : ℕ) → (has_hangul v && is_syllable c) ≡ true → decomposition_mapping v c ≡ syllable_pair c
 unfolding decomposition_mapping

@@ -11,7 +11,7 @@ use Rattle.np_tables.specs.Versions.{VersionData, entry_at, class_of, file_kind,
 use Rattle.np_tables.specs.inside.Primaries.{is_starter_pair, is_primary}
 use Rattle.np_tables.specs.inside.Accessors.{is_file_primary}
 use Rattle.np_tables.specs.Composites.{IsPrimary}
-use Rattle.np_tables.proofs.HangulLemmas.{by_arithmetic, decomposition_mapping-on, hangul_parts, head_hangul, shape_of, syllable_row}
+use Rattle.np_tables.proofs.HangulLemmas.{by_arithmetic, decomposition_kind-on, decomposition_mapping-on, hangul_parts, head_hangul, shape_of, syllable_row}
 
 pub primary-file : (v : VersionData) (c : ℕ) → (has_hangul v && is_syllable c) ≡ false → is_file_primary v c ≡ is_primary v c
 unfolding is_primary decomposition_kind decomposition_mapping
@@ -60,13 +60,13 @@ syllable_starter v s on h =
 
 -- a syllable of the arithmetic is a primary composite
 pub primary-syllable : (v : VersionData) (c : ℕ) → AreRows v.entries → (has_hangul v && is_syllable c) ≡ true → IsPrimary v c
-unfolding decomposition_kind is_excluded
+unfolding is_excluded
 primary-syllable v c rows both =
     let halves = and_parts (has_hangul v) (is_syllable c) both in
     let row = hangul_parts v c (syllable_row v c halves.0 halves.1) in
     let pair = syllable_starter v c halves.0 halves.1 in
     record {
-      canonical = cond-true _ Canonical (file_kind v c) both;
+      canonical = decomposition_kind-on v c both;
       first = pair.first;
       second = pair.second;
       pair = decomposition_mapping-on v c both ∙ pair.pair;

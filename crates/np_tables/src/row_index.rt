@@ -37,8 +37,7 @@ impl RowIndex {
         ensures value { IfOk result (λ r. r ≡ rows) }
         ensures rows { IfOk result AreRows }
     {
-        // tells that rows are rows
-        let _ = rows.len();
+        rows.are_in_order();
         let pages = RowPages::new(alloc, &rows)?;
         Ok(RowIndex { rows, pages })
     }

@@ -42,7 +42,7 @@ impl NormTable for RowTable {
     ghost model = { λ t. t };
 
     fn version(&self) -> &Version {
-        let _ = self.version.characters();
+        self.version.meets_conditions();
         &self.version
     }
 

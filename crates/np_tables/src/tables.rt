@@ -31,6 +31,13 @@ pub trait NormTable {
         ensures same { result.now ≡ model self.now }
         ensures sound { IsSound (model self.now) };
 
+    /// Does nothing at run time: the version meets the conditions.
+    final fn meets_conditions(&self)
+        ensures { IsSound (model self.now) }
+    {
+        let _version = self.version();
+    }
+
     /// Whether a code point is assigned.
     fn assigned(&self, c: char) -> bool
         ensures { result ≡ is_assigned (model self.now) c };
@@ -73,5 +80,42 @@ pub trait NormTable {
         // the same
         let _unused = form;
         claim_nothing(text)
+    }
+}
+
+/// A borrowed table answers as the table itself, so that one serves several owners.
+impl<T: NormTable> NormTable for &T {
+    ghost model = { λ t. T.model t.now };
+
+    fn version(&self) -> &Version {
+        (**self).version()
+    }
+
+    fn assigned(&self, c: char) -> bool {
+        (**self).assigned(c)
+    }
+
+    fn class(&self, c: char) -> u8 {
+        (**self).class(c)
+    }
+
+    fn hangul(&self) -> bool {
+        (**self).hangul()
+    }
+
+    fn pair(&self, a: char, b: char) -> Option<char> {
+        (**self).pair(a, b)
+    }
+
+    fn full(&self, c: char, compat: bool) -> &[char] {
+        (**self).full(c, compat)
+    }
+
+    fn is_boundary(&self, form: Form, c: char) -> bool {
+        (**self).is_boundary(form, c)
+    }
+
+    fn staying(&self, form: Form, text: &str) -> usize {
+        (**self).staying(form, text)
     }
 }

@@ -1,9 +1,11 @@
 //! Versions in a row.
 use super::{version_of, want};
 use crate::{Break, BreakKind, Chain, ChainFault};
+use np_code_points::Form;
 use np_code_points::fixtures::{
     S_DATA, S_EXCLUSIONS, V1_DATA, V1_EXCLUSIONS, V2_DATA, V2_EXCLUSIONS,
 };
+use np_forms::{first_unassigned, npss};
 use np_tables::{NormTable, RowTable};
 use std::alloc::Global;
 use std::test::Fail;
@@ -37,6 +39,34 @@ fn is_a_chain(tables: &[RowTable]) -> Result<(), Fail> {
 fn a_chain_extends_at_each_step(rt: HostRuntime) -> Result<(), Fail> {
     let tables = tables_of(rt.alloc(), &[V1, V2])?;
     is_a_chain(tables.as_slice())
+}
+
+/// Fails unless borrowed tables make a chain, which lends them.
+fn wants_borrowed(alloc: Global, first: &RowTable, second: &RowTable) -> Result<(), Fail> {
+    let tables = [first, second];
+    let chain = Chain::check(&tables)?;
+    want(!chain.is_empty(), "not empty")?;
+    want(chain.clone()?.tables().len() == 2, "its tables")?;
+    for (form, text) in [
+        (Form::Nfc, "\u{E2}\u{AC00}"),
+        (Form::Nfd, "a\u{302}\u{1100}\u{1161}"),
+    ] {
+        let made = npss(alloc, chain.last(), form, "a\u{302}\u{AC00}")?;
+        want(made.as_str() == text, text)?;
+    }
+    want(
+        first_unassigned(chain.at(0), "a\u{1DFA}") == Some(1),
+        "not in the first",
+    )
+}
+
+#[test]
+fn a_chain_takes_borrowed_tables(rt: HostRuntime) -> Result<(), Fail> {
+    let tables = tables_of(rt.alloc(), &[V1, V2])?;
+    match tables.as_slice() {
+        [first, second] => wants_borrowed(rt.alloc(), first, second),
+        _ => Err(Fail::new("two tables")),
+    }
 }
 
 #[test]

@@ -9,7 +9,7 @@ returns-in-Some-clause-extends c =
 
 pub returns-clause-extends : goal.returns-clause-extends
 returns-clause-extends c = (
-  λ _. Extends-end c.args.old.now c.args.new.now c.know.ensures c.know-2.ensures c.loop-code.code (omega arith) c.loop-code.invariant,
+  λ _. Extends-end c.args.old.now c.args.new.now c.meets_conditions.ensures c.meets_conditions-2.ensures c.loop-code.code (omega arith) c.loop-code.invariant,
   λ _. refl,
 )
 

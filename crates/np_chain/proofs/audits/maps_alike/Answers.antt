@@ -8,7 +8,7 @@ use Rattle.np_chain.proofs.audits.maps_alike.Goals as goal
 pub returns-then-is_syllable : goal.returns-then-is_syllable
 returns-then-is_syllable c =
     sym
-    (alike-syllable c.args.old.now c.args.new.now c.args.code c.know.ensures c.know-2.ensures c.requires.old c.requires.new
+    (alike-syllable c.args.old.now c.args.new.now c.args.code c.meets_conditions.ensures c.meets_conditions-2.ensures c.requires.old c.requires.new
     (sym c.is_syllable.ensures ∙ c.if-is_syllable.true))
 
 pub returns-then-not-same_kind : goal.returns-then-not-same_kind

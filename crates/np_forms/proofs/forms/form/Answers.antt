@@ -14,11 +14,11 @@ pub returns-clause-value : goal.returns-clause-value
 returns-clause-value g c =
     let v = g.T.NormTable.model c.args.table.now in
     let out = c.write_end.new.out in
-    written_chars v c.version.ensures.sound c.args.form (chars c.args.text.now) (string_bytes out) (IsUtf8-string_bytes out)
+    written_chars v c.meets_conditions.ensures c.args.form (chars c.args.text.now) (string_bytes out) (IsUtf8-string_bytes out)
     (form_written v c.args.form _ _ _ _ _ (chars c.args.text.now) c.new-stream.ensures.version c.new-stream.ensures.form c.in_ok-out.ensures.bytes c.new-stream.ensures.begins c.in_ok-write_text.ensures c.in_ok-write_end.ensures)
 
 pub returns-clause-bytes : goal.returns-clause-bytes
 returns-clause-bytes g c =
     let v = g.T.NormTable.model c.args.table.now in
-    written_bytes v c.version.ensures.sound c.args.form (chars c.args.text.now) (string_bytes c.write_end.new.out)
+    written_bytes v c.meets_conditions.ensures c.args.form (chars c.args.text.now) (string_bytes c.write_end.new.out)
     (form_written v c.args.form _ _ _ _ _ (chars c.args.text.now) c.new-stream.ensures.version c.new-stream.ensures.form c.in_ok-out.ensures.bytes c.new-stream.ensures.begins c.in_ok-write_text.ensures c.in_ok-write_end.ensures)
