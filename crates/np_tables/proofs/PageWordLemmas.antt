@@ -200,20 +200,20 @@ module _ (v : VersionData) (sound : IsSound v) (lists : FullLists) (slots : List
         assigned = assigned-found v c e found;
         slot = record { within = slot.within; lent = λ compat. slot.lent compat ∙ row-shares v compat c k e sound.rows here found };
         apart = λ is a p composite. (
-          let both = and_parts (not (get_or seconds k false)) (not (touches 0x1100 0x11C2 e)) is in
-          elim (cases_Bool (has_hangul v && is_syllable p)) [
-            | inl on ↦
-                let range = second_jamo v a c p on composite in
-                both_ways _ (not-true _ both.1) (and_from _ _ (le-leb e.first 0x11C2 (omega arith)) (le-leb 0x1100 e.last (omega arith)))
-            | inr off ↦
-                let has = file.all a c p composite off in
-                let x : Composite = record { first = a; second = c; code = p } in
-                both_ways _ (not-true _ both.0) (are_seconds.each has.0 x k e has.1 (slice_get-get_or cs has.0 x has.1 ∙ ap Some has.2) here within.0 within.1)
-          ]);
+            let both = and_parts (not (get_or seconds k false)) (not (touches 0x1100 0x11C2 e)) is in
+            elim (cases_Bool (has_hangul v && is_syllable p)) [
+              | inl on ↦
+                  let range = second_jamo v a c p on composite in
+                  both_ways _ (not-true _ both.1) (and_from _ _ (le-leb e.first 0x11C2 (omega arith)) (le-leb 0x1100 e.last (omega arith)))
+              | inr off ↦
+                  let has = file.all a c p composite off in
+                  let x : Composite = record { first = a; second = c; code = p } in
+                  both_ways _ (not-true _ both.0) (are_seconds.each has.0 x k e has.1 (slice_get-get_or cs has.0 x has.1 ∙ ap Some has.2) here within.0 within.1)
+            ]);
         bare = λ is compat. (
-          let both = and_parts (is_empty e.mapping) (not (touches 0xAC00 0xD7A3 e)) is in
-          let apart : is_syllable c ≡ false = no_syllable c e within.0 within.1 (not-true _ both.1) in
-          empty_parts v compat c (and_right (has_hangul v) (is_syllable c) apart) (ap is_empty (file_mapping-found v c e found) ∙ both.0));
+            let both = and_parts (is_empty e.mapping) (not (touches 0xAC00 0xD7A3 e)) is in
+            let apart : is_syllable c ≡ false = no_syllable c e within.0 within.1 (not-true _ both.1) in
+            empty_parts v compat c (and_right (has_hangul v) (is_syllable c) apart) (ap is_empty (file_mapping-found v c e found) ∙ both.0));
       }
 
   word-none : (c : ℕ) → entry_at v.entries c ≡ None → IsWord v lists c no_word
