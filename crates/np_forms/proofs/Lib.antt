@@ -6,6 +6,7 @@ pub mod FormLemmas
 pub mod HeldLemmas
 pub mod InPlaceLemmas
 pub mod KeptLemmas
+pub mod LengthLemmas
 pub mod MachineLemmas
 pub mod OrderLaws
 pub mod OrderLemmas

@@ -28,7 +28,7 @@ const USAGE: u8 = 2;
 
 /// Says how the program is used, where the words ask for nothing that there is.
 fn tell_usage<E: Write>(error: &mut Watched<E>) -> u8
-    ensures { IsTold (stream_of E.contents error.old error.new) usage_lines × (result ≡ USAGE) }
+    ensures { IsTold (stream_of E.contents error.old error.new) usage_lines × (result ≡ 2) }
 {
     tell(error, usage_text());
     USAGE

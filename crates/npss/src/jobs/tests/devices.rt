@@ -150,34 +150,39 @@ fn key_into<O: Write, E: Write>(
     key_job(alloc, Form::Nfc, data, exclusions, input, output, error)
 }
 
-/// Whether `key` of `text` into a writer whose call of this number fails says so, and calls it no
-/// more.
-fn output_fails(alloc: Global, text: &str, call: u64, failure: Failure) -> Result<bool, Fail> {
+/// Whether `key` of `text` into a writer whose last one of so many calls fails says so, and calls
+/// it no more.
+fn output_fails(
+    alloc: Global,
+    text: &str,
+    calls: u64,
+    failure: Failure,
+) -> Result<bool, Fail> {
     let room = Room::new(alloc, 16, 16)?;
-    let mut output = Watched::new(room.failing_at(call, failure));
+    let mut output = Watched::new(room.failing_at(calls.saturating_sub(1), failure));
     let mut error = Watched::new(Vec::new(alloc));
     let status = key_into(alloc, text, &mut output, &mut error);
     let told: Vec<u8> = error.into_inner();
     let is_told = told.as_slice() == b"output: WriteFailed\n".as_slice();
     let failed = output.failed();
-    Ok(status == 5 && is_told && failed && output.into_inner().calls() == call + 1)
+    Ok(status == 5 && is_told && failed && output.into_inner().calls() == calls)
 }
 
 #[test]
 fn a_failed_write_or_flush_is_told(rt: HostRuntime) -> Result<(), Fail> {
     let alloc = rt.alloc();
-    want(output_fails(alloc, "a", 0, Failure::Error)?, "write")?;
+    want(output_fails(alloc, "a", 1, Failure::Error)?, "write")?;
     want(
-        output_fails(alloc, "a", 0, Failure::Interrupted)?,
+        output_fails(alloc, "a", 1, Failure::Interrupted)?,
         "interrupted write",
     )?;
     want(
-        output_fails(alloc, "a", 0, Failure::TakesNothing)?,
+        output_fails(alloc, "a", 1, Failure::TakesNothing)?,
         "write of nothing",
     )?;
-    want(output_fails(alloc, "a", 1, Failure::Error)?, "flush")?;
+    want(output_fails(alloc, "a", 2, Failure::Error)?, "flush")?;
     want(
-        output_fails(alloc, "", 0, Failure::Error)?,
+        output_fails(alloc, "", 1, Failure::Error)?,
         "flush of nothing",
     )
 }
