@@ -2,6 +2,7 @@ pub mod AnswerLemmas
 pub mod BoundaryLemmas
 pub mod ComposeLemmas
 pub mod ComposerLemmas
+pub mod CopyLemmas
 pub mod FormLemmas
 pub mod HeldLemmas
 pub mod InPlaceLemmas

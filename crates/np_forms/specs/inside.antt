@@ -1,6 +1,7 @@
 pub mod CanonicalOrder
 pub mod Composers
 pub mod Composing
+pub mod Copies
 pub mod Held
 pub mod NormalForms
 pub mod Runs

@@ -23,7 +23,7 @@ pub(crate) struct Held {
 }
 
 /// Puts a list in canonical order, and composes it where `composes`.
-fn settle<T: NormTable>(
+pub(crate) fn settle<T: NormTable>(
     alloc: Global,
     table: &T,
     composes: bool,

@@ -4,6 +4,7 @@
 
 mod assigned;
 mod composing;
+mod copying;
 mod decomposing;
 mod equivalence;
 mod forms;

@@ -7,14 +7,14 @@ use np_code_points::Memory;
 use std::marker::Model;
 
 /// The code points from `first` to `last`, both included.
-#[derive(Clone, Copy)]
+#[derive(Clone, Copy, Debug)]
 pub(crate) struct Listing {
     pub first: u32,
     pub last: u32,
 }
 
 /// A set of code points.
-#[derive(Drop)]
+#[derive(Debug, Drop)]
 pub struct Exclusions {
     listings: Vec<Listing>,
 }

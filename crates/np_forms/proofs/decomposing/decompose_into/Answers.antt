@@ -3,7 +3,7 @@ use Rattle.std.proofs.lemmas.Iterator.{YieldsList-from_chars}
 use Rattle.std.proofs.lemmas.Iterator.Consumers.{YieldsList-end}
 use Rattle.std.proofs.lemmas.List.{flat_map_more, map-id}
 use Rattle.np_tables.specs.inside.FullDecompositions.{full_of}
-use Rattle.np_forms.proofs.decomposing.full_decomposition.Goals as goal
+use Rattle.np_forms.proofs.decomposing.decompose_into.Goals as goal
 
 pub loop-c-preserved : goal.loop-c-preserved
 loop-c-preserved g c =
