@@ -14,6 +14,8 @@ pub mod OrderLemmas
 pub mod PendingLemmas
 pub mod PushLemmas
 pub mod RunLemmas
+pub mod RunTextLemmas
+pub mod RunningLemmas
 pub mod SortLemmas
 pub mod StreamLemmas
 pub mod StreamSafeLemmas

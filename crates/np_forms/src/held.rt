@@ -108,7 +108,7 @@ pub(crate) fn finish<T: NormTable>(
     ensures ready { (more : List ℕ) × (held.new.ready.items ≡ held.old.ready.items ++ more) }
 {
     settle(alloc, table, composes, &mut held.pending)?;
-    held.ready.extend_from_slice(&held.pending)?;
+    held.ready.extend_from_slice(held.pending.as_slice())?;
     held.pending.clear();
     Ok(())
 }
