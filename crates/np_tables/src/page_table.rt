@@ -20,7 +20,7 @@ use std::marker::Model;
 ///
 /// It takes some 0.9 MiB beside its version for the files of Unicode 15. Each call takes constant
 /// time, but `pair`, which searches by halves where the second code point is one that composes.
-#[derive(Drop)]
+#[derive(Debug, Drop)]
 pub struct PageTable {
     version: Version,
     /// For each 256 code points the number of their block.

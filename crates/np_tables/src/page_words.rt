@@ -15,7 +15,7 @@ use std::alloc::Global;
 const BLOCK: usize = 256;
 
 /// What stands for a code point. All code points of a row have the same word.
-#[derive(Clone, Copy)]
+#[derive(Clone, Copy, Debug)]
 pub struct Word {
     /// The slot of its full decompositions.
     pub fulls: u32,
