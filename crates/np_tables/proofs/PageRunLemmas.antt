@@ -1,16 +1,13 @@
 -- Runs of code points that stay.
 use Rattle.std.proofs.Common.{◌≡◌, ℕ, ◌-◌, ◌<◌, Bool, true, false, ◌&&◌, ◌||◌, ◌==◌, not, List, [], ◌∷◌, ◌++◌, length, get_or, chars, IsUtf8, encode_utf8, encode_utf8_all, MatchBool, refl, sym, ap, subst, ◌∙◌, arith, append_assoc, append-nil, length-append}
-use Rattle.std.specs.List.{All, list_all}
+use Rattle.std.specs.List.{All}
 use Rattle.std.proofs.lemmas.Bool.{and_from, and_parts, eqb-true, both_ways}
-use Rattle.std.proofs.lemmas.List.{nil_from_length}
 use Rattle.std.proofs.lemmas.List.Elements.{All-push, All-weaker}
-use Rattle.std.proofs.lemmas.Str.{chars-nil, chars_past_char, encodes-append, IsUtf8-past_char}
+use Rattle.std.proofs.lemmas.Str.{chars_past_char, encodes-append, IsUtf8-past_char}
 use Rattle.np_code_points.specs.declared.forms.Form.{Form}
 use Rattle.np_code_points.specs.Forms.{is_compat, composes}
 use Rattle.np_tables.specs.Boundaries.{IsBoundary, Stays, FoldsTo}
-use Rattle.np_tables.specs.Composites.{IsCompositeOf}
-use Rattle.np_tables.specs.Mappings.{is_final, IsFullDecomposition}
-use Rattle.np_tables.specs.Versions.{VersionData, class_of}
+use Rattle.np_tables.specs.Versions.{VersionData}
 use Rattle.np_tables.specs.declared.page_words.Word.{Word}
 use Rattle.np_tables.specs.inside.FullLists.{FullLists}
 use Rattle.np_tables.specs.inside.Hints.{AreStaying}

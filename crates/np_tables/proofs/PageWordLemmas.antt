@@ -7,7 +7,7 @@ use Rattle.std.proofs.Math.Seq.{get_or-append_seam}
 use Rattle.std.proofs.lemmas.Bool.{and_from, and_parts, and_right, cases_Bool, cases_eq, cases_lt, both_ways, le-leb, not-true, or_from}
 use Rattle.std.proofs.lemmas.List.{get_or_append_left, get_or-map, get_or-set_same, get_or-set_other, length-append, length-map, length-set}
 use Rattle.std.proofs.lemmas.Option.{none-some, same_Some, slice_get_within, slice_get-get_or}
-use Rattle.np_code_points.specs.Hangul.{is_syllable, syllable_pair}
+use Rattle.np_code_points.specs.Hangul.{is_syllable}
 use Rattle.np_ucd.specs.Entries.{Entry, AreRows}
 use Rattle.np_tables.specs.Versions.{VersionData, class_of, class_in, entry_at, file_mapping, mapping_in, has_hangul, is_assigned, is_empty}
 use Rattle.std.specs.List.{list_all}
