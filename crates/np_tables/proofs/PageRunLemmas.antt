@@ -66,9 +66,9 @@ module _ (P : ℕ → Type 0) where
         utf8 = IsUtf8-past_char rest later c r.utf8 e;
       }
 
-pub kept-stop : (blocks : List ℕ) (words : List Word) (composing : Bool) (s rest : List ℕ) (n : ℕ) → IsKeptTo (IsKept blocks words composing) s rest → n ≡ length s - length rest → AreKept blocks words composing (chars s) n
+pub kept-stop : (blocks : List ℕ) (words : List Word) (composing : Bool) (s rest : List ℕ) (n : ℕ) → IsKeptTo (IsKept blocks words composing) s rest → n ≡ length s - length rest → AreKept blocks words composing s n
 kept-stop blocks words composing s rest n r is =
-    record { front = r.before; back = chars rest; split = r.text; kept = r.kept; place = omega (arith, is, ap length r.bytes, length-append (encode_utf8_all r.before) rest) }
+    record { front = r.before; back = rest; split = r.bytes; text = r.text; utf8 = r.utf8; kept = r.kept; place = omega (arith, is, ap length r.bytes, length-append (encode_utf8_all r.before) rest) }
 
 pub kept-stays : (v u : VersionData) → u ≡ v → (lists : FullLists) (blocks : List ℕ) (words : List Word) → ArePages u lists blocks words → (form : Form) (text : List ℕ) (n : ℕ) → AreKept blocks words (composes form) text n → AreStaying v form text n
 kept-stays v u same lists blocks words pages form text n are =
@@ -76,6 +76,8 @@ kept-stays v u same lists blocks words pages form text n are =
       front = are.front;
       back = are.back;
       split = are.split;
+      text = are.text;
+      utf8 = are.utf8;
       stay = All-weaker (IsKept blocks words (composes form)) (Stays v form) (λ c is. subst (λ x. Stays x form c) same (word-stays u lists form c (get_or words (word_place blocks c) no_word) (pages.each c is.0) is.1)) are.front are.kept;
       place = are.place;
     }

@@ -1,5 +1,5 @@
 //! Runs of code points that a normal form leaves as they are.
-ghost use Rattle.std.specs.Prelude.{◌≡◌, chars, length, IsTrue};
+ghost use Rattle.std.specs.Prelude.{◌≡◌, length, IsTrue};
 ghost use Rattle.np_tables.specs.inside.PageWords.{AreKept, IsKept, keeps as spec_keeps};
 ghost use Rattle.np_tables.specs.inside.Pages.{AreWithin};
 
@@ -26,7 +26,7 @@ fn is_kept(blocks: &[u16], words: &[Word], composing: bool, c: char) -> bool
 /// How many bytes at the front of a text are code points that stay.
 pub fn kept_front(blocks: &[u16], words: &[Word], composing: bool, text: &str) -> usize
     requires { AreWithin 4352 blocks.now (length words.now) }
-    ensures { AreKept blocks.now words.now composing (chars text.now) result }
+    ensures { AreKept blocks.now words.now composing text.now result }
 {
     let mut iter = text.chars();
     'scan: loop {

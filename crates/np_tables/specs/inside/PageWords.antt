@@ -1,5 +1,5 @@
 -- What a table of pages keeps for a code point.
-use Rattle.std.specs.Prelude.{◌≡◌, ℕ, ◌+◌, ◌<◌, ◌≤◌, ◌&&◌, ◌||◌, ◌==◌, nat_le, not, Bool, true, false, List, [], ◌∷◌, ◌++◌, length, map, slice_get, slice_index, slice_index_or, encode_utf8_all, All, Some}
+use Rattle.std.specs.Prelude.{◌≡◌, ℕ, ◌+◌, ◌<◌, ◌≤◌, ◌&&◌, ◌||◌, ◌==◌, nat_le, not, Bool, true, false, List, [], ◌∷◌, ◌++◌, length, map, slice_get, slice_index, slice_index_or, chars, encode_utf8_all, All, IsUtf8, Some}
 use Rattle.np_ucd.specs.Entries.{Entry}
 use Rattle.np_tables.specs.Versions.{VersionData, class_of, is_assigned, is_empty}
 use Rattle.np_tables.specs.Mappings.{is_final}
@@ -110,9 +110,11 @@ abbrev pub IsKept : List ℕ → List Word → Bool → ℕ → Type 0
 IsKept blocks words composing c = (c < 0x110000) × (keeps composing (slice_index_or words (word_place blocks c) no_word) ≡ true)
 
 -- the words of the code points in the first n bytes of a text say so
-pub record AreKept (blocks : List ℕ) (words : List Word) (composing : Bool) (text : List ℕ) (n : ℕ) : Type 0 where
+pub record AreKept (blocks : List ℕ) (words : List Word) (composing : Bool) (bytes : List ℕ) (n : ℕ) : Type 0 where
   pub front : List ℕ
   pub back : List ℕ
-  pub split : text ≡ front ++ back
+  pub split : bytes ≡ encode_utf8_all front ++ back
+  pub text : chars bytes ≡ front ++ chars back
+  pub utf8 : IsUtf8 back
   pub kept : All (IsKept blocks words composing) front
   pub place : n ≡ length (encode_utf8_all front)

@@ -7,7 +7,7 @@ use Rattle.np_tables.proofs.page_table.PageTableNormTable.staying.Goals as goal
 pub returns : goal.returns
 returns c =
     let fields = c.self.inside in
-    let text = chars c.args.text.now in
+    let text = c.args.text.now in
     let n = c.kept_front.result in
     kept-stays c.args.self.now fields.version c.self.view_is fields.fulls fields.index.items fields.words.items c.self.invariant c.args.form text n
     (subst (λ i. AreKept i fields.words.items (composes c.args.form) text n) c.deref.ensures.value
