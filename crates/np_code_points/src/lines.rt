@@ -155,3 +155,6 @@ impl<'a> Iterator for DataLines<'a> {
         None
     }
 }
+
+#[cfg(test)]
+mod tests;
