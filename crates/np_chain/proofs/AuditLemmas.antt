@@ -4,7 +4,8 @@ use Rattle.std.proofs.lemmas.Bool.{cases_eq, cases_lt}
 use Rattle.std.proofs.lemmas.List.Elements.{All-nil, All-push, Contains-push, Contains-append_left}
 use Rattle.std.proofs.lemmas.List.Quantifiers.{all_pairs_push}
 use Rattle.std.specs.List.{All, AllPairs, Contains}
-use Rattle.np_chain.specs.Breaks.{break_of, AreBreaks, IsFirstBreak, break_list, breaks_below, breaks_of}
+use Rattle.np_chain.specs.Breaks.{break_of, AreBreaks, IsFirstBreak}
+use Rattle.np_chain.specs.inside.BreakLists.{break_list, breaks_below, breaks_of}
 use Rattle.np_chain.specs.Chain.{Extends}
 use Rattle.np_chain.specs.declared.breaks.Break.{Break}
 use Rattle.np_chain.specs.declared.breaks.BreakKind.{BreakKind}

@@ -5,18 +5,20 @@ use Rattle.std.specs.List.{list_all}
 use lib.Utf8.{scalar}
 use Rattle.np_tables.specs.Versions.{VersionData, is_empty, is_assigned, class_of, mapping_of}
 use Rattle.np_ucd.specs.declared.rows.MapKind.{MapKind}
-use Rattle.np_tables.specs.Mappings.{counts, parts, is_final, full, full_of}
-use Rattle.np_forms.specs.Order.{is_reorderable, slide, canonical_order}
+use Rattle.np_tables.specs.Mappings.{counts, parts, is_final}
+use Rattle.np_tables.specs.inside.FullDecompositions.{full, full_of}
+use Rattle.np_forms.specs.Order.{is_reorderable}
+use Rattle.np_forms.specs.inside.CanonicalOrder.{slide, canonical_order}
 use Rattle.np_tables.specs.Composites.{IsCompositeOf}
-use Rattle.np_forms.specs.Composing.{is_free, joined, compose_after, compose, compose_of}
-use Rattle.np_tables.specs.Composites.{composite}
+use Rattle.np_forms.specs.inside.Composing.{is_free, joined, compose_after, compose, compose_of}
+use Rattle.np_tables.specs.inside.CompositeSearch.{composite}
 use Rattle.np_tables.specs.Conditions.{IsSound}
 use Rattle.np_chain.specs.Chain.{Extends}
 use Rattle.np_forms.specs.Assigned.{IsAssigned}
 use Rattle.np_code_points.specs.declared.forms.Form.{Form}
 use Rattle.np_code_points.specs.Forms.{is_compat, composes}
 use Rattle.np_forms.specs.Forms.{IsNormalForm}
-use Rattle.np_forms.specs.NormalForms.{decomposed, ended, normal_form}
+use Rattle.np_forms.specs.inside.NormalForms.{decomposed, ended, normal_form}
 use Rattle.np_chain.specs.Laws.{Stability, Transitivity}
 use Rattle.np_tables.proofs.MappingLemmas.{list_all-append, parts-cases}
 use Rattle.np_forms.proofs.OrderLemmas.{list_all-canonical_order}

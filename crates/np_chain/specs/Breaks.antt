@@ -1,5 +1,5 @@
 -- What a later version breaks of an earlier one. A code point can have a break of six kinds; the least of them counts.
-use Rattle.std.specs.Prelude.{◌≡◌, ℕ, zero, suc, ◌<◌, Bool, true, false, not, ◌&&◌, ◌==◌, bytes_eq, List, [], ◌∷◌, ◌++◌, Option, Some, None, if◌then◌else◌, codes}
+use Rattle.std.specs.Prelude.{◌≡◌, ℕ, ◌<◌, Bool, true, false, not, ◌&&◌, ◌==◌, bytes_eq, List, Option, Some, None, if◌then◌else◌, codes}
 use Rattle.std.specs.List.{list_all, All, AllPairs, Contains}
 use Rattle.np_chain.specs.declared.breaks.Break.{Break}
 use Rattle.np_chain.specs.declared.breaks.BreakKind.{BreakKind}
@@ -83,15 +83,3 @@ pub record AreBreaks (old new : VersionData) (breaks : List Break) : Type 0 wher
 pub record IsFirstBreak (old new : VersionData) (first : Break) : Type 0 where
   pub breaks : break_of old new first.code ≡ Some first.kind
   pub least : (c : ℕ) → c < first.code → break_of old new c ≡ None
-
-abbrev pub break_list : Option BreakKind → ℕ → List Break
-break_list None c = []
-break_list (Some kind) c = record { kind = kind; code = c } ∷ []
-
--- a way to the one list of `AreBreaks`: the breaks of the code points below n
-unfoldable pub breaks_below : VersionData → VersionData → ℕ → List Break
-breaks_below old new zero = []
-breaks_below old new (suc n) = breaks_below old new n ++ break_list (break_of old new n) n
-
-unfoldable pub breaks_of : VersionData → VersionData → List Break
-breaks_of old new = breaks_below old new 0x110000

@@ -2,3 +2,4 @@ pub mod Breaks
 pub mod Chain
 pub mod ChainFaults
 pub mod Laws
+pub mod inside

@@ -1,6 +1,7 @@
 //! A version against an earlier one.
 ghost use Rattle.std.specs.Prelude.{◌≡◌, ◌↔◌, true, ◌&&◌, [], IsOk, IfOk, IfErr};
-ghost use Rattle.np_chain.specs.Breaks.{AreBreaks, IsFirstBreak, break_of, breaks_of, has_old_parts, is_same_kind, maps_alike as alike};
+ghost use Rattle.np_chain.specs.Breaks.{AreBreaks, IsFirstBreak, break_of, has_old_parts, is_same_kind, maps_alike as alike};
+ghost use Rattle.np_chain.specs.inside.BreakLists.{breaks_of};
 ghost use Rattle.np_chain.specs.Chain.{Extends};
 ghost use Rattle.np_code_points.specs.Hangul.{is_syllable as syllable};
 ghost use Rattle.np_tables.specs.Composites.{is_primary};

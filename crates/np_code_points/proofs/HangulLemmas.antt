@@ -1,7 +1,8 @@
 -- Hangul syllables and the pairs that they map to, at any number.
 use Rattle.std.proofs.Common.{◌≡◌, ℕ, ◌+◌, ◌-◌, ◌*◌, ◌/◌, ◌%◌, ◌<◌, ◌≤◌, ◌≢◌, ◌⊎◌, inl, inr, true, List, [], ◌∷◌, get_or, sym, ap, ◌∙◌, arith}
 use Rattle.std.proofs.lemmas.Bool.{and_from, and_parts, cases_eq, eq-eqb, eqb-true, le-leb, leb-true, lt-ltb, ltb-true, ne_eqb}
-use Rattle.np_code_points.specs.Hangul.{is_among, is_syllable, is_leading_consonant, is_vowel, is_trailing_consonant, is_lv_syllable, syllable_pair}
+use Rattle.np_code_points.specs.Hangul.{is_among, is_syllable, syllable_pair}
+use Rattle.np_code_points.specs.inside.HangulParts.{is_leading_consonant, is_vowel, is_trailing_consonant, is_lv_syllable}
 
 -- what the test says
 pub among_bounds : (base count c : ℕ) → is_among base count c ≡ true → (base ≤ c) × (c < base + count)

@@ -9,22 +9,6 @@ is_among base count c = nat_le base c && nat_lt c (base + count)
 abbrev pub is_syllable : ℕ → Bool
 is_syllable = is_among 0xAC00 11172
 
--- LBase 1100, LCount 19
-abbrev pub is_leading_consonant : ℕ → Bool
-is_leading_consonant = is_among 0x1100 19
-
--- VBase 1161, VCount 21
-abbrev pub is_vowel : ℕ → Bool
-is_vowel = is_among 0x1161 21
-
--- TBase 11A7 is none itself, TCount 28
-abbrev pub is_trailing_consonant : ℕ → Bool
-is_trailing_consonant = is_among 0x11A8 27
-
--- a syllable with no trailing consonant
-abbrev pub is_lv_syllable : ℕ → Bool
-is_lv_syllable s = is_syllable s && (s - 0xAC00) % 28 == 0
-
 -- the pair that a syllable maps to: LBase 1100, VBase 1161, TBase 11A7, TCount 28, NCount 588
 unfoldable pub syllable_pair : ℕ → List ℕ
 syllable_pair s =

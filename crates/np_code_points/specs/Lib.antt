@@ -1,8 +1,8 @@
 pub mod Codes
-pub mod Devices
 pub mod Forms
 pub mod Hangul
 pub mod Inputs
 pub mod Steps
 pub mod Text
 pub mod Watched
+pub mod inside

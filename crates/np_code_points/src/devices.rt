@@ -2,7 +2,7 @@
 ghost use Rattle.std.specs.Prelude.{◌≡◌, ◌≢◌, ◌≤◌, Some, None, ℕ, ◌-◌, List, [], IfOk, Ok, true, is_some, length, max, min};
 ghost use Rattle.std.specs.Io.{ReadsAtMost, WritesAtMost};
 ghost use Rattle.std.specs.Io.KnownBytes.{Keeps, ReadConsumes, WriteAppends};
-ghost use Rattle.np_code_points.specs.Devices.{IsNextCall, bytes_left, bytes_taken, endless_call, endless_plan, failure_at, piece_of, piece_taken, reader_call, reader_plan, room_of, writer_call, writer_plan};
+ghost use Rattle.np_code_points.specs.inside.Devices.{IsNextCall, bytes_left, bytes_taken, endless_call, endless_plan, failure_at, piece_of, piece_taken, reader_call, reader_plan, room_of, writer_call, writer_plan};
 ghost use Rattle.np_code_points.specs.Watched.{flush_fails, read_fails, write_fails};
 
 use crate::Memory;

@@ -6,8 +6,8 @@ use Rattle.np_tables.specs.Conditions.{IsSound}
 use Rattle.np_tables.specs.Versions.{VersionData, class_of}
 use Rattle.np_forms.specs.Forms.{IsDecomposed, IsNormalForm, IsEquivalent}
 use Rattle.np_code_points.specs.Forms.{is_compat, composes}
-use Rattle.np_forms.specs.Composing.{compose_of}
-use Rattle.np_forms.specs.NormalForms.{decomposed, ended, normal_form}
+use Rattle.np_forms.specs.inside.Composing.{compose_of}
+use Rattle.np_forms.specs.inside.NormalForms.{decomposed, ended, normal_form}
 use Rattle.np_forms.specs.Order.{is_ordered}
 use Rattle.np_forms.proofs.OrderLemmas.{is_ordered-canonical_order}
 use Rattle.np_forms.proofs.FormLemmas.{IsDecomposed-decomposed, decomposed_is, IsNormalForm-normal_form, normal_form_is}

@@ -3,8 +3,10 @@ use Rattle.std.proofs.Common.{◌≡◌, ℕ, ◌<◌, ◌≤◌, Bool, true, fa
 use Rattle.std.proofs.lemmas.Bool.{cases_Bool, cases_lt, cond-true, cond-false, and_parts, and_from, eqb-false, ne_eqb}
 use Rattle.std.proofs.lemmas.Grind.{flat_map-append}
 use Rattle.std.specs.List.{list_all}
-use Rattle.np_forms.specs.Order.{is_reorderable, is_ordered, canonical_order}
-use Rattle.np_forms.specs.Composing.{is_starter, is_free, joined, compose_after, compose}
+use Rattle.np_forms.specs.Order.{is_reorderable, is_ordered}
+use Rattle.np_forms.specs.inside.CanonicalOrder.{canonical_order}
+use Rattle.np_forms.specs.inside.Composing.{is_free, joined, compose_after, compose}
+use Rattle.np_forms.specs.Starters.{is_starter}
 use Rattle.np_tables.proofs.MappingLemmas.{list_all-append}
 use Rattle.np_tables.proofs.CompositeLemmas.{cases_Option}
 use Rattle.np_forms.proofs.OrderLemmas.{is_reorderable-true, is_ordered-tail, is_ordered-front, is_ordered-back, is_ordered-at_starter, is_ordered-without_mark, canonical_order-behind, canonical_order-over}

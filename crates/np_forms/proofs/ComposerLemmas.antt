@@ -6,9 +6,9 @@ use Rattle.std.proofs.lemmas.List.{get_or_at, set_at}
 use Rattle.std.proofs.lemmas.List.Folds.{list_all-append}
 use Rattle.np_tables.specs.Versions.{VersionData, class_of}
 use Rattle.np_forms.specs.Order.{is_ordered, is_reorderable}
-use Rattle.np_forms.specs.Composing.{is_free, joined, compose_after, compose, compose_of}
-use Rattle.np_tables.specs.Composites.{composite}
-use Rattle.np_forms.specs.Composers.{IsAfterStarter, IsComposing, and_place, pair_with_last}
+use Rattle.np_forms.specs.inside.Composing.{is_free, joined, compose_after, compose, compose_of}
+use Rattle.np_tables.specs.inside.CompositeSearch.{composite}
+use Rattle.np_forms.specs.inside.Composers.{IsAfterStarter, IsComposing, and_place, pair_with_last}
 use Rattle.np_forms.proofs.OrderLemmas.{is_reorderable-false, is_ordered-parts, is_ordered-tail, is_ordered-back}
 use Rattle.np_forms.proofs.ComposeLemmas.{joined-free, joined-blocked, compose_after-nil, compose_after-joined, compose_after-starter, compose_after-kept, compose-nil, compose-starter, compose-mark, is_ordered-remove}
 

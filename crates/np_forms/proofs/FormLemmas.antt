@@ -1,13 +1,13 @@
 -- The relation of the normal form and the function are one.
 use Rattle.std.proofs.Common.{◌≡◌, ℕ, Bool, true, false, List, flat_map, refl, ap, ◌∙◌}
 use Rattle.np_tables.specs.Versions.{VersionData, class_of}
-use Rattle.np_tables.specs.Mappings.{full_of}
-use Rattle.np_forms.specs.Order.{canonical_order}
+use Rattle.np_tables.specs.inside.FullDecompositions.{full_of}
+use Rattle.np_forms.specs.inside.CanonicalOrder.{canonical_order}
 use Rattle.np_tables.specs.Conditions.{IsSound}
 use Rattle.np_code_points.specs.declared.forms.Form.{Form}
 use Rattle.np_code_points.specs.Forms.{is_compat, composes}
 use Rattle.np_forms.specs.Forms.{IsDecomposed, EndsAs, IsNormalForm}
-use Rattle.np_forms.specs.NormalForms.{decomposed, ended, normal_form}
+use Rattle.np_forms.specs.inside.NormalForms.{decomposed, ended, normal_form}
 use Rattle.np_forms.specs.Laws.{OneForm}
 use Rattle.np_tables.proofs.MappingLemmas.{IsFullDecomposition-flat_map, full_decomposition-flat_map}
 use Rattle.np_forms.proofs.OrderLaws.{IsOrderedForm-canonical_order, ordered_form-canonical_order}

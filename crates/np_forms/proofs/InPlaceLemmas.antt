@@ -3,7 +3,7 @@ use Rattle.std.proofs.Common.{◌≡◌, ℕ, suc, ◌+◌, ◌<◌, ◌≤◌, 
 use Rattle.std.proofs.Math.Seq.{drop-cons, take-set-lt}
 use Rattle.std.proofs.lemmas.List.{take_more_set, drop-set-lt, length-take-le}
 use Rattle.np_tables.specs.Versions.{VersionData, class_of}
-use Rattle.np_forms.specs.Composers.{IsAfterStarter, IsComposing, pair_with_last}
+use Rattle.np_forms.specs.inside.Composers.{IsAfterStarter, IsComposing, pair_with_last}
 use Rattle.np_forms.proofs.ComposerLemmas.{push_joins, push_starts, push_keeps}
 
 module _ (v : VersionData) (whole list : List ℕ) (kept at c : ℕ) (starter : Option ℕ) (last : ℕ) (behind : kept ≤ at) (inside : at < length list) (here : c ≡ get_or list at c) where

@@ -8,8 +8,9 @@ use Rattle.np_code_points.specs.Steps.{Reaches, ReachesIn}
 use Rattle.np_tables.specs.Versions.{VersionData, class_of}
 use Rattle.np_forms.specs.Order.{is_reorderable}
 use Rattle.np_forms.specs.Composition.{IsBlocked, IsLastStarter, Joins, Stage, ComposeStep, IsComposed}
-use Rattle.np_forms.specs.Composing.{is_starter, is_free, joined, compose_after, compose, compose_of}
-use Rattle.np_tables.specs.Composites.{composite}
+use Rattle.np_forms.specs.inside.Composing.{is_free, joined, compose_after, compose, compose_of}
+use Rattle.np_forms.specs.Starters.{is_starter}
+use Rattle.np_tables.specs.inside.CompositeSearch.{composite}
 use Rattle.np_tables.specs.Conditions.{IsSound}
 use Rattle.np_code_points.proofs.StepsLemmas.{stays, one_more}
 use Rattle.np_tables.proofs.MappingLemmas.{list_all-append}

@@ -1,6 +1,7 @@
 -- The ordered form: there is one, and only one.
 use Rattle.std.proofs.Common.{◌≡◌, ℕ, List, sym, ap, ◌∙◌}
-use Rattle.np_forms.specs.Order.{canonical_order, Exchanges, IsOrderedForm}
+use Rattle.np_forms.specs.Order.{Exchanges, IsOrderedForm}
+use Rattle.np_forms.specs.inside.CanonicalOrder.{canonical_order}
 use Rattle.np_code_points.proofs.StepsLemmas.{keeps}
 use Rattle.np_forms.proofs.OrderLemmas.{canonical_order-exchange, canonical_order-ordered, is_ordered-canonical_order, reaches_canonical_order}
 

@@ -4,7 +4,8 @@ use Rattle.std.proofs.lemmas.Bool.{cases_Bool, and_parts, and_from, and_cases, a
 use Rattle.std.proofs.lemmas.List.Folds.{list_all-append}
 use Rattle.std.specs.List.{list_all}
 use Rattle.np_code_points.specs.Steps.{Reaches}
-use Rattle.np_forms.specs.Order.{is_reorderable, is_ordered, slide, canonical_order, Exchanges}
+use Rattle.np_forms.specs.Order.{is_reorderable, is_ordered, Exchanges}
+use Rattle.np_forms.specs.inside.CanonicalOrder.{slide, canonical_order}
 use Rattle.np_code_points.proofs.StepsLemmas.{stays_at, one_more, join, keeps, along}
 
 module _ (ccc : ℕ → ℕ) where

@@ -5,14 +5,15 @@ use Rattle.std.proofs.lemmas.List.{take_all, drop_all, take_at, drop_at, length-
 use Rattle.std.specs.List.{list_all}
 use Rattle.np_tables.specs.Versions.{VersionData, class_of}
 use Rattle.np_tables.proofs.MappingLemmas.{list_all-append}
-use Rattle.np_forms.specs.Composing.{is_mark}
-use Rattle.np_forms.specs.Order.{is_ordered, canonical_order}
+use Rattle.np_forms.specs.Starters.{is_non_starter}
+use Rattle.np_forms.specs.Order.{is_ordered}
+use Rattle.np_forms.specs.inside.CanonicalOrder.{canonical_order}
 use Rattle.np_forms.proofs.OrderLemmas.{is_ordered-nil, is_ordered-one, is_ordered-cons, is_ordered-parts, not_reorderable_rising, canonical_order-nil, canonical_order-at_starter, length-canonical_order}
 use Rattle.np_forms.proofs.ComposeLemmas.{not_starter_from}
 
 -- a run of non-starters, of which the last has class `last` (0 where there is none), in canonical order where `ordered`
 pub record IsRunTo (v : VersionData) (run : List ℕ) (last : ℕ) (ordered : Bool) : Type 0 where
-  pub marks : list_all (is_mark v) run ≡ true
+  pub marks : list_all (is_non_starter v) run ≡ true
   pub rises : ordered ≡ true → (is_ordered (class_of v) run ≡ true) × ((c : ℕ) → last ≤ class_of v c → is_ordered (class_of v) (run ++ c ∷ []) ≡ true)
 
 module _ (v : VersionData) where
@@ -33,7 +34,7 @@ module _ (v : VersionData) where
   pub IsRunTo-next : (run : List ℕ) (last : ℕ) (old : Bool) (c : ℕ) (new : Bool) → IsRunTo v run last old → 0 < ccc c → (new ≡ true → (old ≡ true) × (last ≤ ccc c)) → IsRunTo v (run ++ c ∷ []) (ccc c) new
   IsRunTo-next run last old c new r mark stays =
       record {
-        marks = list_all-append (is_mark v) run (c ∷ []) r.marks (and_from _ _ (ap not (not_starter_from ccc c mark)) refl);
+        marks = list_all-append (is_non_starter v) run (c ∷ []) r.marks (and_from _ _ (ap not (not_starter_from ccc c mark)) refl);
         rises = λ h.
             let was = stays h in
             let now = (r.rises was.0).1 c was.1 in

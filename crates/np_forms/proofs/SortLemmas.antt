@@ -7,8 +7,9 @@ use Rattle.std.proofs.lemmas.List.Sorted.{IsNonDecreasingBy-drop}
 use Rattle.std.specs.List.{list_all, filter}
 use Rattle.std.specs.List.Sorted.{IsNonDecreasingBy, IsStableByKey, ties}
 use Rattle.std.specs.Ordering.{nat_cmp, is_lt}
-use Rattle.np_forms.specs.Order.{is_reorderable, is_ordered, canonical_order}
-use Rattle.np_forms.specs.Composing.{is_starter}
+use Rattle.np_forms.specs.Order.{is_reorderable, is_ordered}
+use Rattle.np_forms.specs.inside.CanonicalOrder.{canonical_order}
+use Rattle.np_forms.specs.Starters.{is_starter}
 use Rattle.np_forms.proofs.OrderLemmas.{is_reorderable-true, is_reorderable-false, is_ordered-parts, is_ordered-canonical_order, list_all-canonical_order, canonical_order-keeps}
 use Rattle.np_forms.proofs.ComposeLemmas.{is_starter-false}
 

@@ -5,9 +5,10 @@ use Rattle.std.specs.List.{list_all}
 use Rattle.np_code_points.specs.declared.forms.Form.TheVariants.{Nfkd}
 use Rattle.np_tables.specs.Conditions.{IsSound}
 use Rattle.np_tables.specs.Versions.{VersionData, class_of}
-use Rattle.np_forms.specs.Composing.{is_starter, is_mark}
-use Rattle.np_forms.specs.NormalForms.{decomposed, normal_form}
-use Rattle.np_forms.specs.StreamSafe.{HasRunOver, IsStreamSafe, longest_run}
+use Rattle.np_forms.specs.Starters.{is_starter, is_non_starter}
+use Rattle.np_forms.specs.inside.NormalForms.{decomposed, normal_form}
+use Rattle.np_forms.specs.StreamSafe.{HasRunOver, IsStreamSafe}
+use Rattle.np_forms.specs.inside.Runs.{longest_run}
 use Rattle.np_forms.proofs.ComposeLemmas.{not_starter_from}
 use Rattle.np_forms.proofs.FormLemmas.{IsNormalForm-normal_form, normal_form_is}
 
@@ -16,7 +17,7 @@ record FrontRun (v : VersionData) (n k : ℕ) (xs : List ℕ) : Type 0 where
   run : List ℕ
   after : List ℕ
   split : xs ≡ run ++ after
-  marks : list_all (is_mark v) run ≡ true
+  marks : list_all (is_non_starter v) run ≡ true
   long : n < k + length run
 
 module _ (v : VersionData) where
@@ -59,10 +60,10 @@ module _ (v : VersionData) where
         | inr mark ↦ omega (arith, longest-mark k c (cs ++ rest) mark, longest-behind (suc k) cs rest)
       ]
 
-  longest-front : (k : ℕ) (run rest : List ℕ) → list_all (is_mark v) run ≡ true → k + length run ≤ longest_run ccc k (run ++ rest)
+  longest-front : (k : ℕ) (run rest : List ℕ) → list_all (is_non_starter v) run ≡ true → k + length run ≤ longest_run ccc k (run ++ rest)
   longest-front k [] rest h = omega (arith, longest-least k rest)
   longest-front k (c ∷ cs) rest h =
-      let halves = and_parts (is_mark v c) (list_all (is_mark v) cs) h in
+      let halves = and_parts (is_non_starter v c) (list_all (is_non_starter v) cs) h in
       omega (arith, longest-mark k c (cs ++ rest) (not-true (is_starter ccc c) halves.0), longest-front (suc k) cs rest halves.1)
 
   longest-run : (n : ℕ) (xs : List ℕ) → HasRunOver v n xs → n < longest_run ccc 0 xs

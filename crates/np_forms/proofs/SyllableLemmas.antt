@@ -3,11 +3,12 @@ use Rattle.std.proofs.Common.{◌≡◌, ℕ, zero, suc, ◌+◌, ◌-◌, ◌/�
 use Rattle.std.proofs.lemmas.Bool.{cases_Bool, cond-true, cond-false, and_parts, and_from, and_left, and_right, leb-true, ltb-true, lt-leb, le-leb, lt-ltb, eqb-false, or_from}
 use Rattle.np_code_points.specs.Hangul.{is_syllable, syllable_pair}
 use Rattle.np_tables.specs.Conditions.{IsSound}
-use Rattle.np_tables.specs.Mappings.{counts, parts, is_final, full, full_of, table_full}
+use Rattle.np_tables.specs.Mappings.{counts, parts, is_final}
+use Rattle.np_tables.specs.inside.FullDecompositions.{full, full_of, table_full}
 use Rattle.np_tables.specs.Versions.{VersionData, is_empty, file_mapping, kind_of, mapping_of, has_hangul, all_hangul, all_from, is_hangul_row}
 use Rattle.np_tables.proofs.CompositeLemmas.{all_from-at}
 use Rattle.np_tables.proofs.MappingLemmas.{is_empty-true, parts-cases, full_of-final, full_of-mapped}
-use Rattle.np_forms.specs.Syllables.{pair_or_self, syllable_parts}
+use Rattle.np_forms.specs.inside.Syllables.{pair_or_self, syllable_parts}
 
 -- ---- the numbers of syllables and jamo
 

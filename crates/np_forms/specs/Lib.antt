@@ -1,11 +1,9 @@
 pub mod Assigned
-pub mod Composers
-pub mod Composing
 pub mod Composition
 pub mod Faults
 pub mod Forms
 pub mod Laws
-pub mod NormalForms
 pub mod Order
+pub mod Starters
 pub mod StreamSafe
-pub mod Syllables
+pub mod inside

@@ -1,5 +1,5 @@
 -- Canonical ordering (The Unicode Standard, D107 to D109). `ccc` gives the combining class of a code point.
-use Rattle.std.specs.Prelude.{◌≡◌, ℕ, Bool, true, not, ◌&&◌, nat_lt, List, [], ◌∷◌, ◌++◌, if◌then◌else◌}
+use Rattle.std.specs.Prelude.{◌≡◌, ℕ, Bool, true, not, ◌&&◌, nat_lt, List, [], ◌∷◌, ◌++◌}
 use Rattle.np_code_points.specs.Steps.{Reaches}
 
 -- A before B is a reorderable pair (D108)
@@ -26,13 +26,3 @@ is_ordered ccc (a ∷ b ∷ cs) = not (is_reorderable ccc a b) && is_ordered ccc
 pub record IsOrderedForm (ccc : ℕ → ℕ) (xs ys : List ℕ) : Type 0 where
   pub reached : Reaches (Exchanges ccc) xs ys
   pub ordered : is_ordered ccc ys ≡ true
-
--- c, put before ds, slides over each code point with which it is a reorderable pair, up to the first with which it is none
-unfoldable pub slide : (ℕ → ℕ) → ℕ → List ℕ → List ℕ
-slide ccc c [] = c ∷ []
-slide ccc c (d ∷ ds) = if is_reorderable ccc c d then d ∷ slide ccc c ds else c ∷ d ∷ ds
-
--- a way to the one ordered form: from the last code point to the first, each slides into what follows it
-unfoldable pub canonical_order : (ℕ → ℕ) → List ℕ → List ℕ
-canonical_order ccc [] = []
-canonical_order ccc (c ∷ cs) = slide ccc c (canonical_order ccc cs)

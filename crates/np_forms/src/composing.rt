@@ -1,8 +1,8 @@
 //! Canonical composition in one pass (The Unicode Standard, D117).
 ghost use Rattle.std.specs.Prelude.{◌≡◌, ◌<◌, ◌≤◌, ◌+◌, ℕ, List, true, take, drop, vec_len, IfSome};
 ghost use Rattle.std.specs.Option.{ForSome};
-ghost use Rattle.np_forms.specs.Composers.{IsComposing, pair_with_last as pair_found};
-ghost use Rattle.np_forms.specs.Composing.{compose_of};
+ghost use Rattle.np_forms.specs.inside.Composers.{IsComposing, pair_with_last as pair_found};
+ghost use Rattle.np_forms.specs.inside.Composing.{compose_of};
 ghost use Rattle.np_forms.specs.Order.{is_ordered};
 ghost use Rattle.np_tables.specs.Versions.{class_of};
 
@@ -22,7 +22,7 @@ struct Composer {
 }
 
 /// The place of the last starter and its composite with `c`, where `c` is not blocked from it.
-#[tactic(auto, unfolding(crate::specs::Composers::pair_with_last))]
+#[tactic(auto, unfolding(crate::specs::inside::Composers::pair_with_last))]
 fn pair_with_last<T: NormTable>(
     composer: &Composer,
     table: &T,

@@ -1,9 +1,9 @@
 //! Full decompositions (The Unicode Standard, D68 and D65).
 ghost use Rattle.std.specs.Prelude.{◌≡◌, ◌++◌, [], chars, flat_map, if◌then◌else◌, IfOk, OnOk};
 ghost use Rattle.np_code_points.specs.Hangul.{is_syllable};
-ghost use Rattle.np_forms.specs.Syllables.{syllable_parts};
+ghost use Rattle.np_forms.specs.inside.Syllables.{syllable_parts};
 ghost use Rattle.np_tables.specs.Conditions.{IsSound};
-ghost use Rattle.np_tables.specs.Mappings.{full_of};
+ghost use Rattle.np_tables.specs.inside.FullDecompositions.{full_of};
 ghost use Rattle.np_tables.specs.Versions.{has_hangul};
 
 use np_code_points::Memory;

@@ -1,7 +1,7 @@
 //! The four normalization forms (The Unicode Standard, D118 to D121).
 ghost use Rattle.std.specs.Prelude.{◌≡◌, ◌↔◌, IsTrue, chars, string_bytes, encode_utf8_all, IfOk};
 ghost use Rattle.np_forms.specs.Forms.{IsNormalForm};
-ghost use Rattle.np_forms.specs.NormalForms.{decomposed as decomposed_list, normal_form};
+ghost use Rattle.np_forms.specs.inside.NormalForms.{decomposed as decomposed_list, normal_form};
 
 use crate::composing::compose;
 use crate::decomposing::full_decomposition;

@@ -1,8 +1,9 @@
 //! Canonical ordering (The Unicode Standard, D109).
 ghost use Rattle.std.specs.Prelude.{◌≡◌, ◌≤◌, ◌<◌, ◌++◌, true, length, take, drop, slice_index, IfOk, OnOk, OnErr};
 ghost use Rattle.std.specs.List.{list_all};
-ghost use Rattle.np_forms.specs.Composing.{is_mark};
-ghost use Rattle.np_forms.specs.Order.{canonical_order, is_ordered};
+ghost use Rattle.np_forms.specs.Starters.{is_non_starter};
+ghost use Rattle.np_forms.specs.Order.{is_ordered};
+ghost use Rattle.np_forms.specs.inside.CanonicalOrder.{canonical_order};
 ghost use Rattle.np_tables.specs.Versions.{class_of};
 
 use np_tables::NormTable;
@@ -11,7 +12,7 @@ use std::alloc::{AllocError, Global};
 /// How many non-starters stand at the front, and whether they are in canonical order already.
 fn marks_at_front<T: NormTable>(table: &T, list: &[char]) -> (usize, bool)
     ensures bound { result.0 ≤ length list.now }
-    ensures marks { list_all (is_mark (T.model table.now)) (take result.0 list.now) ≡ true }
+    ensures marks { list_all (is_non_starter (T.model table.now)) (take result.0 list.now) ≡ true }
     ensures starter { result.0 < length list.now → class_of (T.model table.now) (slice_index list.now result.0) ≡ 0 }
     ensures ordered { result.1 ≡ true → is_ordered (class_of (T.model table.now)) (take result.0 list.now) ≡ true }
 {
@@ -32,7 +33,7 @@ fn marks_at_front<T: NormTable>(table: &T, list: &[char]) -> (usize, bool)
 
 /// Puts a run of non-starters in canonical order, by a stable sort.
 fn sort_marks<T: NormTable>(alloc: Global, table: &T, marks: &mut [char]) -> Result<(), AllocError>
-    requires { list_all (is_mark (T.model table.now)) marks.old ≡ true }
+    requires { list_all (is_non_starter (T.model table.now)) marks.old ≡ true }
     ensures ok { OnOk result (marks.new ≡ canonical_order (class_of (T.model table.now)) marks.old) }
     ensures err { OnErr result (marks.new ≡ marks.old) }
 {

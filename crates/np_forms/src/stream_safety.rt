@@ -1,6 +1,7 @@
 //! Stream-safe text (UAX #15, section 13).
 ghost use Rattle.std.specs.Prelude.{◌≡◌, ◌↔◌, ◌<◌, nat_lt, IsTrue, chars, IfOk};
-ghost use Rattle.np_forms.specs.StreamSafe.{IsStreamSafe, longest_run};
+ghost use Rattle.np_forms.specs.StreamSafe.{IsStreamSafe};
+ghost use Rattle.np_forms.specs.inside.Runs.{longest_run};
 ghost use Rattle.np_tables.specs.Versions.{class_of};
 
 use crate::forms::decomposed;

@@ -9,10 +9,11 @@ use Rattle.np_code_points.specs.Hangul.{is_syllable, syllable_pair}
 use Rattle.np_code_points.proofs.HangulLemmas.{pair_injective}
 use Rattle.np_tables.specs.Versions.{VersionData, file_mapping, mapping_of, class_of, has_hangul}
 use Rattle.np_tables.specs.Composites.{is_primary, is_starter_pair, IsCompositeOf}
-use Rattle.np_tables.specs.Faults.{IsAmbiguous, IsFirst}
+use Rattle.np_tables.specs.Faults.{IsAmbiguous}
+use Rattle.np_tables.specs.inside.FirstFaults.{IsFirst}
 use Rattle.np_tables.specs.declared.pairs.Composite.{Composite}
-use Rattle.np_tables.specs.Pairs.{Lists, AreOfFile, AreOrdered}
-use Rattle.np_tables.specs.Suspects.{IsAtMost, least_of, HasSmallerTwin, IsSuspect}
+use Rattle.np_tables.specs.inside.Pairs.{Lists, AreOfFile, AreOrdered}
+use Rattle.np_tables.specs.inside.Suspects.{IsAtMost, least_of, HasSmallerTwin, IsSuspect}
 use Rattle.np_tables.proofs.CompositeLemmas.{primary_parts}
 use Rattle.np_tables.proofs.PrimaryLemmas.{primary-syllable}
 

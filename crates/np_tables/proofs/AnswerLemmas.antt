@@ -5,9 +5,11 @@ use Rattle.std.specs.Cmp.Lexicographic.{pointwise}
 use Rattle.np_ucd.specs.Entries.{Entry, AreRows, IsRow}
 use Rattle.np_code_points.specs.Hangul.{is_syllable}
 use Rattle.np_tables.specs.Versions.{VersionData, entry_at, mapping_in, file_mapping, has_hangul}
-use Rattle.np_tables.specs.Mappings.{has_depth, full_of}
-use Rattle.np_tables.specs.Depths.{mark, mapping_mark, row_marks, first_row, is_marked, AreShort}
-use Rattle.np_tables.specs.Faults.{IsFirst, IsTooDeep, IsTooLong}
+use Rattle.np_tables.specs.Mappings.{has_depth}
+use Rattle.np_tables.specs.inside.FullDecompositions.{full_of}
+use Rattle.np_tables.specs.inside.Depths.{mark, mapping_mark, row_marks, first_row, is_marked, AreShort}
+use Rattle.np_tables.specs.Faults.{IsTooDeep, IsTooLong}
+use Rattle.np_tables.specs.inside.FirstFaults.{IsFirst}
 use Rattle.np_tables.proofs.DepthLemmas.{mark-file, marks-from_rows, settled_rows, mark-zero, mark-more, mark-deep, mark-length}
 use Rattle.np_tables.proofs.FirstLemmas.{IsAt, first_of}
 use Rattle.np_tables.proofs.SyllableLemmas.{depth_two, syllable-bare, mark-syllable, mark-syllable_still, syllable_mark-late}

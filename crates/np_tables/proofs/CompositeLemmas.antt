@@ -6,9 +6,10 @@ use Rattle.np_ucd.specs.Entries.{Entry}
 use Rattle.np_ucd.specs.declared.rows.MapKind.{MapKind}
 use Rattle.np_ucd.specs.declared.rows.MapKind.TheVariants.{Plain, Canonical, Compatibility}
 use Rattle.np_code_points.specs.Hangul.{is_syllable}
-use Rattle.np_tables.specs.Mappings.{counts, parts, full_of}
+use Rattle.np_tables.specs.Mappings.{counts, parts}
+use Rattle.np_tables.specs.inside.FullDecompositions.{full_of}
 use Rattle.np_tables.specs.Composites.{is_starter_pair, is_primary, IsCompositeOf}
-use Rattle.np_tables.specs.Composites.{or_this, least_below, is_pair, composite}
+use Rattle.np_tables.specs.inside.CompositeSearch.{or_this, least_below, is_pair, composite}
 use Rattle.np_tables.specs.Conditions.{IsSound}
 use Rattle.np_tables.proofs.MappingLemmas.{full_of-mapped}
 

@@ -6,7 +6,7 @@ use Rattle.std.proofs.lemmas.List.{drop_all}
 use Rattle.std.proofs.lemmas.Option.{none-some, same_Some}
 use Rattle.np_ucd.specs.Entries.{Entry, IsRow, IsBefore, AreRows}
 use Rattle.np_tables.specs.Counts.{count_below, one_if, assigned_count}
-use Rattle.np_tables.specs.RowPlaces.{lies_in}
+use Rattle.np_tables.specs.inside.RowPlaces.{lies_in}
 use Rattle.np_tables.specs.Versions.{VersionData, entry_at, is_assigned}
 use Rattle.np_tables.proofs.RowLemmas.{entry_at-nil, entry_at-hit, entry_at-miss, out_of, below_out}
 

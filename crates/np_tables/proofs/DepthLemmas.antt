@@ -7,8 +7,9 @@ use Rattle.np_ucd.specs.declared.rows.MapKind.{MapKind}
 use Rattle.np_ucd.specs.declared.rows.MapKind.TheVariants.{Plain, Canonical, Compatibility}
 use Rattle.np_code_points.specs.Hangul.{is_syllable}
 use Rattle.np_tables.specs.Versions.{VersionData, entry_at, kind_in, mapping_in, is_empty, file_kind, file_mapping, has_hangul, kind_of, mapping_of}
-use Rattle.np_tables.specs.Mappings.{counts, parts, is_final, has_depth, full}
-use Rattle.np_tables.specs.Depths.{marked, mark, parts_mark, mapping_mark, row_marks}
+use Rattle.np_tables.specs.Mappings.{counts, parts, is_final, has_depth}
+use Rattle.np_tables.specs.inside.FullDecompositions.{full}
+use Rattle.np_tables.specs.inside.Depths.{marked, mark, parts_mark, mapping_mark, row_marks}
 use Rattle.np_tables.proofs.MappingLemmas.{full-final, full-mapped, full-more, flat_map-same}
 
 -- ---- the mapping that counts for the compatibility decomposition is the mapping of the file

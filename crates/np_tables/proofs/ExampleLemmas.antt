@@ -6,7 +6,8 @@ use Rattle.np_ucd.specs.Entries.{Entry, IsRow, AreRows}
 use Rattle.np_ucd.specs.declared.rows.MapKind.TheVariants.{Canonical}
 use Rattle.np_code_points.specs.Hangul.{is_syllable, syllable_pair}
 use Rattle.np_tables.specs.Versions.{entry_at, is_assigned, class_of, file_kind, file_mapping, mapping_in, is_canonical, is_empty, is_excluded, is_hangul, is_hangul_row, has_hangul, kind_of, mapping_of}
-use Rattle.np_tables.specs.Mappings.{has_depth, full_of}
+use Rattle.np_tables.specs.Mappings.{has_depth}
+use Rattle.np_tables.specs.inside.FullDecompositions.{full_of}
 use Rattle.np_tables.specs.Composites.{is_starter_pair, is_primary, IsCompositeOf}
 use Rattle.np_tables.specs.Conditions.{IsSound}
 use Rattle.np_tables.specs.Examples.{letter, letter_with_ring, ring, with_rows}

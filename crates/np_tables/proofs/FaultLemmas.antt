@@ -9,9 +9,13 @@ use Rattle.np_tables.specs.declared.faults.TableFault.{TableFault}
 use Rattle.np_tables.specs.declared.faults.TableFault.TheVariants.{MapsToUnassigned, TooDeep, TooLong, AmbiguousPair, HangulWrong, Memory}
 use Rattle.np_tables.specs.Composites.{IsCompositeOf}
 use Rattle.np_tables.specs.Conditions.{IsSound}
-use Rattle.np_tables.specs.Faults.{IsMappedToUnassigned, IsTooDeep, IsTooLong, IsAmbiguous, IsHangulWrong, IsFirst, IsLeastOf}
-use Rattle.np_tables.specs.TableFaults.{place_of, number_of, HasFault, IsBeforeFault, IsLeastFault, IsFaultless, AreFirsts, sooner, least_fault}
-use Rattle.np_tables.specs.Mappings.{has_depth, full_of}
+use Rattle.np_tables.specs.Faults.{IsMappedToUnassigned, IsTooDeep, IsTooLong, IsAmbiguous, IsHangulWrong}
+use Rattle.np_tables.specs.inside.FirstFaults.{IsFirst, IsLeastOf}
+use Rattle.np_tables.specs.TableFaults.{place_of, number_of, HasFault, IsBeforeFault, IsLeastFault, IsFaultless}
+use Rattle.np_tables.specs.inside.FirstFaults.{AreFirsts}
+use Rattle.np_tables.specs.inside.FirstFaults.{sooner, least_fault}
+use Rattle.np_tables.specs.Mappings.{has_depth}
+use Rattle.np_tables.specs.inside.FullDecompositions.{full_of}
 use Rattle.np_tables.specs.Versions.{VersionData, is_assigned, mapping_of}
 use Rattle.np_tables.proofs.FactLemmas.{bounded-at, classes-at, scalars-at, mapped_scalar-at}
 use Rattle.np_tables.proofs.HangulPlaces.{on_where_right}

@@ -11,10 +11,10 @@ use Rattle.std.proofs.lemmas.List.Sorted.{IsPermutation-sym, Contains-permutatio
 use Rattle.np_ucd.specs.Entries.{Entry, AreRows}
 use Rattle.np_code_points.specs.Hangul.{is_syllable, syllable_pair}
 use Rattle.np_tables.specs.Versions.{VersionData, entry_at, file_mapping, mapping_of, mapping_in, is_empty, has_hangul}
-use Rattle.np_tables.specs.RowPlaces.{lies_in}
+use Rattle.np_tables.specs.inside.RowPlaces.{lies_in}
 use Rattle.np_tables.specs.Composites.{is_primary, IsCompositeOf}
 use Rattle.np_tables.specs.declared.pairs.Composite.{Composite}
-use Rattle.np_tables.specs.Pairs.{Lists, AreOfFile, pair_in, composites_in}
+use Rattle.np_tables.specs.inside.Pairs.{Lists, AreOfFile, pair_in, composites_in}
 use Rattle.np_tables.proofs.RowLemmas.{entry_at-nil, entry_at-hit, entry_at-miss}
 use Rattle.np_tables.proofs.FileRowLemmas.{row-at, first-at, found-lists, file_mapping-found, mapped-off}
 

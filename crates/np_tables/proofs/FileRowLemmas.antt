@@ -4,7 +4,7 @@ use Rattle.std.specs.List.{slice_get}
 use Rattle.std.proofs.lemmas.Bool.{cases_Bool, and_from, and_parts, and_right, lt-leb, leb-true, both_ways}
 use Rattle.std.proofs.lemmas.Option.{none-some, same_Some}
 use Rattle.np_ucd.specs.Entries.{Entry, IsRow, AreRows}
-use Rattle.np_tables.specs.RowPlaces.{lies_in}
+use Rattle.np_tables.specs.inside.RowPlaces.{lies_in}
 use Rattle.np_tables.specs.Versions.{VersionData, entry_at, file_kind, file_mapping, is_empty, has_hangul, kind_in, mapping_in}
 use Rattle.np_code_points.specs.Hangul.{is_syllable}
 use Rattle.np_tables.proofs.RowLemmas.{entry_at-hit, entry_at-miss, entry_at-nil}

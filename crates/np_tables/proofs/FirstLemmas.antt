@@ -3,8 +3,8 @@ use Rattle.std.proofs.Common.{◌≡◌, ℕ, ◌<◌, ◌≤◌, Bool, true, fa
 use Rattle.std.proofs.lemmas.Bool.{cond-true, cond-false, cases_Bool, and_parts, and_from, and_right, both_ways, leb-true, le-leb, lt-leb}
 use Rattle.np_ucd.specs.Entries.{Entry, AreRows, IsBefore}
 use Rattle.np_tables.specs.Versions.{entry_at}
-use Rattle.np_tables.specs.Depths.{first_row}
-use Rattle.np_tables.specs.Faults.{IsFirst}
+use Rattle.np_tables.specs.inside.Depths.{first_row}
+use Rattle.np_tables.specs.inside.FirstFaults.{IsFirst}
 
 -- ---- the first row that passes
 

@@ -6,7 +6,8 @@ use Rattle.std.proofs.lemmas.Grind.{flat_map-append}
 use Rattle.np_ucd.specs.declared.rows.MapKind.TheVariants.{Canonical}
 use Rattle.np_code_points.specs.Hangul.{is_syllable, syllable_pair}
 use Rattle.np_tables.specs.Versions.{VersionData, is_empty, file_kind, file_mapping, kind_of, mapping_of, has_hangul}
-use Rattle.np_tables.specs.Mappings.{counts, parts, full}
+use Rattle.np_tables.specs.Mappings.{counts, parts}
+use Rattle.np_tables.specs.inside.FullDecompositions.{full}
 
 module _ (v : VersionData) (compat : Bool) where
   pub full-bottom : (n c : ℕ) → n ≡ 0 → full v compat n c ≡ c ∷ []

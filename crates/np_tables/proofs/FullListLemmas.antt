@@ -8,10 +8,11 @@ use Rattle.std.proofs.lemmas.Option.{slice_get_within, get_or_from_slice_get}
 use Rattle.np_ucd.specs.Entries.{Entry}
 use Rattle.np_code_points.specs.Hangul.{is_syllable}
 use Rattle.np_tables.specs.Versions.{VersionData, entry_at, is_empty, file_kind, file_mapping, has_hangul}
-use Rattle.np_tables.specs.Mappings.{counts, is_final, full, full_of, table_full}
+use Rattle.np_tables.specs.Mappings.{counts, is_final}
+use Rattle.np_tables.specs.inside.FullDecompositions.{full, full_of, table_full}
 use Rattle.np_tables.specs.declared.fulls.Part.{Part}
-use Rattle.np_tables.specs.FullParts.{part_of, IsPart, AreParts, IsGrown}
-use Rattle.np_tables.specs.FullLists.{row_full}
+use Rattle.np_tables.specs.inside.FullParts.{part_of, IsPart, AreParts, IsGrown}
+use Rattle.np_tables.specs.inside.FullLists.{row_full}
 use Rattle.np_tables.proofs.FullLemmas.{parts-counted, parts-passed}
 use Rattle.np_tables.proofs.FileRowLemmas.{file_mapping-found, file_kind-found, mapped-off}
 

@@ -4,7 +4,7 @@ use Rattle.std.proofs.lemmas.Bool.{and_from, and_left, and_right, cases_eq}
 use Rattle.np_ucd.specs.Entries.{Entry}
 use Rattle.std.specs.Prelude.{◌&&◌, ◌==◌, Option, Some, None, is_some}
 use Rattle.np_tables.specs.Versions.{VersionData, entry_at, all_from, all_hangul, has_hangul, is_hangul_row, is_assigned, class_of, file_mapping, class_in, mapping_in, is_empty}
-use Rattle.np_tables.specs.HangulRows.{is_right_entry, is_right_at}
+use Rattle.np_tables.specs.inside.HangulRows.{is_right_entry, is_right_at}
 
 right_entry-is : (o : Option Entry) → is_right_entry o ≡ (is_some o && class_in o == 0 && is_empty (mapping_in o))
 right_entry-is None = refl

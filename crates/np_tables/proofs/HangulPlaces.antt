@@ -2,8 +2,9 @@
 use Rattle.std.proofs.Common.{◌≡◌, ℕ, ◌+◌, ◌-◌, ◌<◌, ◌≤◌, ◌⊎◌, Bool, true, false, ◌||◌, nat_lt, refl, sym, subst, zero, suc, ◌∙◌, arith, inl, inr, le-leb, lt-ltb}
 use Rattle.std.proofs.lemmas.Bool.{cond-true, cond-false, cases_Bool, cases_lt, and_parts, and_from, leb-true, ltb-true, le-ltb, both_ways}
 use Rattle.np_code_points.specs.Hangul.{is_among, is_syllable}
-use Rattle.np_tables.specs.Faults.{IsHangulWrong, IsLeastOf}
-use Rattle.np_tables.specs.HangulRows.{HasAssignedHangul, hangul_at}
+use Rattle.np_tables.specs.Faults.{IsHangulWrong}
+use Rattle.np_tables.specs.inside.FirstFaults.{IsLeastOf}
+use Rattle.np_tables.specs.inside.HangulRows.{HasAssignedHangul, hangul_at}
 use Rattle.np_tables.specs.Versions.{VersionData, is_assigned, is_hangul, is_hangul_row, all_from, all_hangul, has_hangul}
 
 among_bounds : (base count c : ℕ) → is_among base count c ≡ true → (base ≤ c) × (c < base + count)

@@ -4,7 +4,8 @@ use Rattle.std.specs.List.{list_all, slice_get}
 use Rattle.std.proofs.lemmas.Bool.{cond-true, cond-false, cases_Bool, cases_lt, and_parts, and_from, both_ways}
 use Rattle.np_ucd.specs.Entries.{Entry, AreRows}
 use Rattle.np_code_points.specs.Hangul.{is_syllable, syllable_pair}
-use Rattle.np_tables.specs.Faults.{IsMappedToUnassigned, IsLeastOf}
+use Rattle.np_tables.specs.Faults.{IsMappedToUnassigned}
+use Rattle.np_tables.specs.inside.FirstFaults.{IsLeastOf}
 use Rattle.np_tables.specs.Versions.{VersionData, entry_at, is_assigned, file_mapping, mapping_in, mapping_of, has_hangul, all_hangul, all_from, is_hangul_row, is_empty}
 use Rattle.np_tables.proofs.CompositeLemmas.{all_from-at, syllable_row}
 use Rattle.np_tables.proofs.HangulPlaces.{Runs, leading_run, vowel_run, trailing_run, syllable_run}

@@ -5,7 +5,8 @@ use Rattle.std.proofs.lemmas.Grind.{flat_map-append}
 use Rattle.std.specs.List.{list_all}
 use Rattle.np_code_points.specs.Steps.{Reaches}
 use Rattle.np_tables.specs.Versions.{VersionData, is_empty, kind_of, mapping_of}
-use Rattle.np_tables.specs.Mappings.{counts, parts, Rewrites, is_final, IsFullDecomposition, has_depth, full, full_of}
+use Rattle.np_tables.specs.Mappings.{counts, parts, Rewrites, is_final, IsFullDecomposition, has_depth}
+use Rattle.np_tables.specs.inside.FullDecompositions.{full, full_of}
 use Rattle.np_code_points.proofs.StepsLemmas.{stays_at, one_more, join, keeps, along}
 
 pub list_all-append : (p : ℕ → Bool) (xs ys : List ℕ) → list_all p xs ≡ true → list_all p ys ≡ true → list_all p (xs ++ ys) ≡ true

@@ -5,7 +5,7 @@ use Rattle.std.proofs.lemmas.Bool.{cases_eq, cases_lt}
 use Rattle.std.proofs.lemmas.Option.{slice_get_within}
 use Rattle.np_ucd.specs.Entries.{Entry, AreRows}
 use Rattle.np_tables.specs.Versions.{entry_at}
-use Rattle.np_tables.specs.RowPlaces.{lies_in, IsMark, AreMarks, AreMarkedRows}
+use Rattle.np_tables.specs.inside.RowPlaces.{lies_in, IsMark, AreMarks, AreMarkedRows}
 use Rattle.np_tables.proofs.RowLemmas.{at-found, none-found, entry_at-row, entry_at-within, out_of, below_out}
 
 zero_mark : (es : List Entry) (c m : ℕ) → m ≡ 0 → IsMark es 0 c m

@@ -10,7 +10,7 @@ use Rattle.std.specs.declared.cmp.Ordering.TheVariants.{Less, Equal}
 use Rattle.std.specs.List.{All, AllWithin}
 use Rattle.std.specs.List.Sorted.{IsPermutation, IsSorted}
 use Rattle.np_tables.specs.declared.pairs.Composite.{Composite}
-use Rattle.np_tables.specs.Pairs.{Lists, pair_rank, rank, IsInRange, AreOrdered}
+use Rattle.np_tables.specs.inside.Pairs.{Lists, pair_rank, rank, IsInRange, AreOrdered}
 
 -- the order of the fields, one after another
 abbrev cmp : Composite → Composite → Ordering

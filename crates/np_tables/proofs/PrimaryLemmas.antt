@@ -9,7 +9,7 @@ use Rattle.np_ucd.specs.declared.rows.MapKind.TheVariants.{Plain, Canonical, Com
 use Rattle.np_code_points.specs.Hangul.{is_syllable, syllable_pair}
 use Rattle.np_tables.specs.Versions.{VersionData, entry_at, is_assigned, class_of, file_kind, file_mapping, mapping_in, kind_in, is_canonical, is_empty, is_excluded, kind_of, mapping_of, has_hangul, all_hangul, all_from, is_hangul_row}
 use Rattle.np_tables.specs.Composites.{is_starter_pair, is_primary}
-use Rattle.np_tables.specs.Accessors.{is_file_primary}
+use Rattle.np_tables.specs.inside.Accessors.{is_file_primary}
 use Rattle.np_tables.proofs.CompositeLemmas.{all_from-at, syllable_row}
 
 pub primary-file : (v : VersionData) (c : ℕ) → (has_hangul v && is_syllable c) ≡ false → is_file_primary v c ≡ is_primary v c

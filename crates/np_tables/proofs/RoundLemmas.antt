@@ -11,8 +11,9 @@ use Rattle.std.proofs.lemmas.Option.{slice_get_cases}
 use Rattle.np_ucd.specs.Entries.{Entry, AreRows}
 use Rattle.np_code_points.specs.Hangul.{is_syllable}
 use Rattle.np_tables.specs.Versions.{VersionData, entry_at, mapping_in, is_empty, has_hangul}
-use Rattle.np_tables.specs.Mappings.{has_depth, full}
-use Rattle.np_tables.specs.Depths.{marked, mark, parts_mark, mapping_mark, row_marks, syllable_depth, syllable_mark, first_row, is_marked}
+use Rattle.np_tables.specs.Mappings.{has_depth}
+use Rattle.np_tables.specs.inside.FullDecompositions.{full}
+use Rattle.np_tables.specs.inside.Depths.{marked, mark, parts_mark, mapping_mark, row_marks, syllable_depth, syllable_mark, first_row, is_marked}
 use Rattle.np_tables.proofs.DepthLemmas.{mark-file, mark-zero, mark-more, mark-length}
 use Rattle.np_tables.proofs.FirstLemmas.{first_row-hit, first_row-miss, first_row-nil}
 

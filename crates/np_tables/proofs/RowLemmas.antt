@@ -5,7 +5,7 @@ use Rattle.std.proofs.lemmas.Bool.{cond-true, cond-false, cases_Bool, and_parts,
 use Rattle.std.proofs.lemmas.Option.{none-some, same_Some}
 use Rattle.np_ucd.specs.Entries.{Entry, IsRow, IsBefore, AreRows}
 use Rattle.np_tables.specs.Versions.{entry_at}
-use Rattle.np_tables.specs.RowPlaces.{lies_in}
+use Rattle.np_tables.specs.inside.RowPlaces.{lies_in}
 
 pub entry_at-nil : (c : ℕ) → entry_at [] c ≡ None
 unfolding entry_at

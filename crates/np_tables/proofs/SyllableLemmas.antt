@@ -5,8 +5,9 @@ use Rattle.std.specs.List.{list_all}
 use Rattle.np_ucd.specs.Entries.{AreRows}
 use Rattle.np_code_points.specs.Hangul.{is_syllable, syllable_pair}
 use Rattle.np_tables.specs.Versions.{VersionData, file_mapping, all_from, all_hangul, has_hangul, is_hangul_row, mapping_of}
-use Rattle.np_tables.specs.Mappings.{has_depth, full}
-use Rattle.np_tables.specs.Depths.{marked, mark, parts_mark, mapping_mark, syllable_depth, syllable_mark}
+use Rattle.np_tables.specs.Mappings.{has_depth}
+use Rattle.np_tables.specs.inside.FullDecompositions.{full}
+use Rattle.np_tables.specs.inside.Depths.{marked, mark, parts_mark, mapping_mark, syllable_depth, syllable_mark}
 use Rattle.np_tables.proofs.CompositeLemmas.{all_from-at, syllable_row}
 use Rattle.np_tables.proofs.MappingLemmas.{is_empty-true}
 use Rattle.np_tables.proofs.DepthLemmas.{bare_depth, bare_full, parts-mapping, suc_depth, suc_full, zero_depth, mark-mapping}

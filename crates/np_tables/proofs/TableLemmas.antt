@@ -7,12 +7,14 @@ use Rattle.std.proofs.lemmas.Option.{get_or_from_slice_get}
 use Rattle.np_ucd.specs.Entries.{Entry, AreRows}
 use Rattle.np_code_points.specs.Hangul.{is_syllable, syllable_pair}
 use Rattle.np_tables.specs.Versions.{VersionData, entry_at, file_mapping, mapping_in, is_empty, has_hangul}
-use Rattle.np_tables.specs.Mappings.{is_final, full_of, table_full, IsLent, IsFullDecomposition}
-use Rattle.np_tables.specs.Composites.{IsCompositeOf, composite}
+use Rattle.np_tables.specs.Mappings.{is_final, IsLent, IsFullDecomposition}
+use Rattle.np_tables.specs.inside.FullDecompositions.{full_of, table_full}
+use Rattle.np_tables.specs.Composites.{IsCompositeOf}
+use Rattle.np_tables.specs.inside.CompositeSearch.{composite}
 use Rattle.np_tables.specs.Conditions.{IsSound}
 use Rattle.np_tables.specs.declared.pairs.Composite.{Composite}
-use Rattle.np_tables.specs.Pairs.{Lists, AreOfFile}
-use Rattle.np_tables.specs.FullLists.{FullLists, of_kind, row_full, AreFulls}
+use Rattle.np_tables.specs.inside.Pairs.{Lists, AreOfFile}
+use Rattle.np_tables.specs.inside.FullLists.{FullLists, of_kind, row_full, AreFulls}
 use Rattle.np_tables.proofs.MappingLemmas.{IsFullDecomposition-flat_map, is_empty-false}
 use Rattle.np_tables.proofs.CompositeLemmas.{cases_Option, composite-some, composite_from}
 use Rattle.np_tables.proofs.PrimaryLemmas.{primary-syllable}

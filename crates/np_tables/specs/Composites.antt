@@ -1,5 +1,5 @@
 -- Primary composites (chapter 3).
-use Rattle.std.specs.Prelude.{◌≡◌, ℕ, zero, suc, Bool, true, false, not, ◌&&◌, ◌==◌, List, [], ◌∷◌, Option, Some, None}
+use Rattle.std.specs.Prelude.{◌≡◌, ℕ, Bool, true, false, not, ◌&&◌, ◌==◌, List, [], ◌∷◌}
 use Rattle.np_tables.specs.Versions.{VersionData, is_canonical, kind_of, mapping_of, class_of, is_excluded}
 
 -- exactly two code points, of which the first is a starter
@@ -17,21 +17,3 @@ is_primary v c = (is_canonical (kind_of v c) && is_starter_pair (class_of v) (ma
 pub record IsCompositeOf (v : VersionData) (a b c : ℕ) : Type 0 where
   pub primary : is_primary v c ≡ true
   pub mapping : mapping_of v c ≡ a ∷ b ∷ []
-
-abbrev pub or_this : Option ℕ → Bool → ℕ → Option ℕ
-or_this (Some k) b n = Some k
-or_this None true n = Some n
-or_this None false n = None
-
--- the least number below n that passes
-unfoldable pub least_below : (ℕ → Bool) → ℕ → Option ℕ
-least_below p zero = None
-least_below p (suc n) = or_this (least_below p n) (p n) n
-
-abbrev pub is_pair : ℕ → ℕ → List ℕ → Bool
-is_pair a b (x ∷ y ∷ []) = x == a && y == b
-is_pair a b _ = false
-
--- the primary composite whose mapping is exactly a and then b
-unfoldable pub composite : VersionData → ℕ → ℕ → Option ℕ
-composite v a b = least_below (λ c. is_primary v c && is_pair a b (mapping_of v c)) 0x110000

@@ -4,7 +4,8 @@ use lib.Utf8.{scalar}
 use Rattle.std.specs.List.{list_all}
 use Rattle.np_ucd.specs.Entries.{AreRows}
 use Rattle.np_tables.specs.Composites.{IsCompositeOf}
-use Rattle.np_tables.specs.Mappings.{has_depth, full_of}
+use Rattle.np_tables.specs.Mappings.{has_depth}
+use Rattle.np_tables.specs.inside.FullDecompositions.{full_of}
 use Rattle.np_tables.specs.Versions.{VersionData, class_of, is_assigned, is_hangul, has_hangul, mapping_of}
 
 pub record IsSound (v : VersionData) : Type 0 where

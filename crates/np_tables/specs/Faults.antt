@@ -1,8 +1,9 @@
 -- What a version may not have: five kinds of faults, each at a code point.
-use Rattle.std.specs.Prelude.{◌≡◌, ℕ, ◌<◌, ◌≤◌, true, false, length, Option, MatchOption}
+use Rattle.std.specs.Prelude.{◌≡◌, ℕ, ◌<◌, true, false, length}
 use Rattle.std.specs.List.{list_all}
 use Rattle.np_tables.specs.Composites.{is_primary}
-use Rattle.np_tables.specs.Mappings.{has_depth, full_of}
+use Rattle.np_tables.specs.Mappings.{has_depth}
+use Rattle.np_tables.specs.inside.FullDecompositions.{full_of}
 use Rattle.np_tables.specs.Versions.{VersionData, is_assigned, is_hangul, is_hangul_row, mapping_of}
 
 -- its mapping holds an unassigned code point
@@ -34,12 +35,3 @@ pub record IsHangulWrong (v : VersionData) (c : ℕ) : Type 0 where
   pub some_hangul : is_hangul some ≡ true
   pub some_assigned : is_assigned v some ≡ true
   pub wrong : is_hangul_row v c ≡ false
-
--- the least number with a property
-pub record IsLeastOf (P : ℕ → Type 0) (c : ℕ) : Type 0 where
-  pub holds : P c
-  pub least : (d : ℕ) → P d → c ≤ d
-
--- the least number with a property, or none where no number has it
-abbrev pub IsFirst : (ℕ → Type 0) → Option ℕ → Type 0
-IsFirst P first = MatchOption first ((c : ℕ) → ¬ P c) (IsLeastOf P)

@@ -1,5 +1,5 @@
 -- Decomposition mappings (chapter 3): one step of rewriting, and the full decomposition.
-use Rattle.std.specs.Prelude.{◌≡◌, ◌≢◌, ℕ, zero, suc, Bool, true, false, ◌&&◌, ◌||◌, List, [], ◌∷◌, ◌++◌, flat_map, if◌then◌else◌, MatchBool}
+use Rattle.std.specs.Prelude.{◌≡◌, ◌≢◌, ℕ, zero, suc, Bool, true, false, ◌&&◌, ◌||◌, List, [], ◌∷◌, ◌++◌, if◌then◌else◌, MatchBool}
 use Rattle.std.specs.List.{list_all}
 use Rattle.np_code_points.specs.Steps.{Reaches}
 use Rattle.np_tables.specs.Versions.{VersionData, is_empty, has_hangul, kind_of, mapping_of}
@@ -38,19 +38,6 @@ pub record IsFullDecomposition (v : VersionData) (compat : Bool) (xs ys : List �
 unfoldable pub has_depth : VersionData → ℕ → ℕ → Bool
 has_depth v zero c = is_empty (mapping_of v c)
 has_depth v (suc n) c = list_all (has_depth v n) (mapping_of v c)
-
--- the full decomposition of a code point whose depth is at most n
-unfoldable pub full : VersionData → Bool → ℕ → ℕ → List ℕ
-full v compat zero c = c ∷ []
-full v compat (suc n) c = if is_final v compat c then c ∷ [] else flat_map (full v compat n) (parts v compat c)
-
--- no version is deeper than 32
-unfoldable pub full_of : VersionData → Bool → ℕ → List ℕ
-full_of v compat c = full v compat 32 c
-
--- what a table lends: the full decomposition, empty where there is none and for a syllable of the arithmetic
-unfoldable pub table_full : VersionData → Bool → ℕ → List ℕ
-table_full v compat c = if is_final v compat c || (has_hangul v && is_syllable c) then [] else full_of v compat c
 
 -- what a table lends for a code point: nothing where no mapping counts or for a syllable of the arithmetic, else its full decomposition
 abbrev pub IsLent : VersionData → Bool → ℕ → List ℕ → Type 0

@@ -1,9 +1,8 @@
 -- The faults as `TableFault` names them, and which of several is told.
-use Rattle.std.specs.Prelude.{◌≡◌, ℕ, ◌<◌, ◌≤◌, ◌⊎◌, List, Option, Some, None, codes, nat_lt, option_map, if◌then◌else◌}
-use Rattle.np_tables.specs.declared.faults.FirstFaults.{FirstFaults}
+use Rattle.std.specs.Prelude.{◌≡◌, ℕ, ◌<◌, ◌≤◌, ◌⊎◌, List, Option, Some, None, codes}
 use Rattle.np_tables.specs.declared.faults.TableFault.{TableFault}
 use Rattle.np_tables.specs.declared.faults.TableFault.TheVariants.{MapsToUnassigned, TooDeep, TooLong, AmbiguousPair, HangulWrong, Memory}
-use Rattle.np_tables.specs.Faults.{IsMappedToUnassigned, IsTooDeep, IsTooLong, IsAmbiguous, IsHangulWrong, IsFirst}
+use Rattle.np_tables.specs.Faults.{IsMappedToUnassigned, IsTooDeep, IsTooLong, IsAmbiguous, IsHangulWrong}
 use Rattle.np_tables.specs.Versions.{VersionData}
 
 abbrev pub name_of : TableFault → List ℕ
@@ -61,22 +60,3 @@ pub record IsLeastFault (v : VersionData) (f : TableFault) : Type 0 where
 -- there is no fault
 abbrev pub IsFaultless : VersionData → Type 0
 IsFaultless v = (f : TableFault) → ¬ (HasFault v f)
-
--- the first, unless the second stands at a smaller code point
-abbrev pub sooner : Option TableFault → Option TableFault → Option TableFault
-sooner None second = second
-sooner (Some f) None = Some f
-sooner (Some f) (Some g) = if nat_lt (place_of g) (place_of f) then Some g else Some f
-
--- of the first fault of each kind the one that is told
-abbrev pub least_fault : FirstFaults → Option TableFault
-least_fault f =
-    sooner (sooner (sooner (sooner (option_map MapsToUnassigned f.mapped) (option_map TooDeep f.deep)) (option_map TooLong f.long)) (option_map AmbiguousPair f.ambiguous)) (option_map HangulWrong f.hangul)
-
--- the first fault of each kind
-pub record AreFirsts (v : VersionData) (f : FirstFaults) : Type 0 where
-  pub mapped : IsFirst (IsMappedToUnassigned v) f.mapped
-  pub deep : IsFirst (IsTooDeep v) f.deep
-  pub long : IsFirst (IsTooLong v) f.long
-  pub ambiguous : IsFirst (IsAmbiguous v) f.ambiguous
-  pub hangul : IsFirst (IsHangulWrong v) f.hangul

@@ -1,8 +1,9 @@
 //! Pairs that two primary composites share.
 ghost use Rattle.std.specs.Prelude.{◌≡◌, ◌↔◌, ℕ, ◌<◌, length, IfSome, IsTrue};
-ghost use Rattle.np_tables.specs.Faults.{IsAmbiguous, IsFirst};
-ghost use Rattle.np_tables.specs.Pairs.{AreOfFile};
-ghost use Rattle.np_tables.specs.Suspects.{HasSmallerTwin, IsAtMost, IsSuspect, least_of};
+ghost use Rattle.np_tables.specs.Faults.{IsAmbiguous};
+ghost use Rattle.np_tables.specs.inside.FirstFaults.{IsFirst};
+ghost use Rattle.np_tables.specs.inside.Pairs.{AreOfFile};
+ghost use Rattle.np_tables.specs.inside.Suspects.{HasSmallerTwin, IsAtMost, IsSuspect, least_of};
 
 use crate::characters::CharacterData;
 use crate::pairs::Pairs;

@@ -4,7 +4,7 @@ ghost use Rattle.np_ucd.specs.Entries.{AreRows};
 ghost use Rattle.np_ucd.specs.RowValues.{entry_of};
 ghost use Rattle.np_tables.specs.Composites.{is_primary, is_starter_pair};
 ghost use Rattle.np_tables.specs.Versions.{VersionData, class_of, entry_at, file_kind, file_mapping, has_hangul, is_assigned, is_canonical as canonical, is_excluded, is_hangul_row};
-ghost use Rattle.np_tables.specs.Accessors.{is_file_primary};
+ghost use Rattle.np_tables.specs.inside.Accessors.{is_file_primary};
 ghost use Rattle.np_ucd.specs.Listed.{is_listed};
 ghost use Rattle.np_code_points.specs.Hangul.{is_syllable as in_block};
 

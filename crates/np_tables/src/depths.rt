@@ -2,8 +2,9 @@
 ghost use Rattle.std.specs.Prelude.{◌≡◌, ◌+◌, ◌<◌, ◌≤◌, ◌&&◌, true, None, length, option_map, slice_get, IfOk};
 ghost use Rattle.np_ucd.specs.Entries.{AreRows};
 ghost use Rattle.np_code_points.specs.Hangul.{is_syllable as in_block};
-ghost use Rattle.np_tables.specs.Depths.{AreShort, first_row, is_marked, mapping_mark, mark, parts_mark as mark_of_parts, row_marks, syllable_mark as mark_of_syllable};
-ghost use Rattle.np_tables.specs.Faults.{IsFirst, IsTooDeep, IsTooLong};
+ghost use Rattle.np_tables.specs.inside.Depths.{AreShort, first_row, is_marked, mapping_mark, mark, parts_mark as mark_of_parts, row_marks, syllable_mark as mark_of_syllable};
+ghost use Rattle.np_tables.specs.Faults.{IsTooDeep, IsTooLong};
+ghost use Rattle.np_tables.specs.inside.FirstFaults.{IsFirst};
 ghost use Rattle.np_tables.specs.Versions.{mapping_in};
 
 use crate::characters::CharacterData;

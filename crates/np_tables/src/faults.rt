@@ -1,6 +1,7 @@
 //! Why a version is refused.
 ghost use Rattle.std.specs.Prelude.{◌≡◌};
-ghost use Rattle.np_tables.specs.TableFaults.{name_of, code_of, place_of, least_fault as spec_least_fault, sooner as spec_sooner};
+ghost use Rattle.np_tables.specs.TableFaults.{name_of, code_of, place_of};
+ghost use Rattle.np_tables.specs.inside.FirstFaults.{least_fault as spec_least_fault, sooner as spec_sooner};
 
 use np_code_points::Memory;
 use thiserror::Error;

@@ -1,6 +1,7 @@
 //! The faults of two data files, of which one is told.
 ghost use Rattle.std.specs.Prelude.{◌≡◌, IfOk, MatchOption};
-ghost use Rattle.np_tables.specs.TableFaults.{AreFirsts, IsFaultless, IsLeastFault};
+ghost use Rattle.np_tables.specs.TableFaults.{IsFaultless, IsLeastFault};
+ghost use Rattle.np_tables.specs.inside.FirstFaults.{AreFirsts};
 
 use crate::ambiguity::first_ambiguous;
 use crate::characters::CharacterData;

@@ -2,9 +2,10 @@
 ghost use Rattle.std.specs.Prelude.{◌≡◌, ◌≢◌, ◌&&◌, ◌++◌, ◌<◌, [], not, length, map, slice_index_or, if◌then◌else◌, IfOk, IsTrue, Some};
 ghost use Rattle.np_ucd.specs.Entries.{IsRow};
 ghost use Rattle.np_ucd.specs.RowValues.{entry_of};
-ghost use Rattle.np_tables.specs.Mappings.{counts, full, table_full};
-ghost use Rattle.np_tables.specs.FullLists.{row_full};
-ghost use Rattle.np_tables.specs.FullParts.{AreParts, IsGrown, part_of};
+ghost use Rattle.np_tables.specs.Mappings.{counts};
+ghost use Rattle.np_tables.specs.inside.FullDecompositions.{full, table_full};
+ghost use Rattle.np_tables.specs.inside.FullLists.{row_full};
+ghost use Rattle.np_tables.specs.inside.FullParts.{AreParts, IsGrown, part_of};
 ghost use Rattle.np_tables.specs.Versions.{entry_at, file_kind, file_mapping, is_empty};
 
 use crate::characters::CharacterData;
@@ -35,11 +36,11 @@ pub struct Fulls {
 
 impl Model for Fulls {
     ghost use Rattle.std.specs.Prelude.{map};
-    ghost use Rattle.np_tables.specs.FullLists.{FullLists};
+    ghost use Rattle.np_tables.specs.inside.FullLists.{FullLists};
 
     ghost Value = { FullLists };
 
-    ghost use Rattle.np_tables.specs.FullParts.{part_of, AreParts};
+    ghost use Rattle.np_tables.specs.inside.FullParts.{part_of, AreParts};
 
     ghost view = { λ a. record { canonical = map (part_of a.codes.items) a.canonical.items; compatible = map (part_of a.codes.items) a.compatible.items } };
 
@@ -47,7 +48,7 @@ impl Model for Fulls {
 }
 
 impl Fulls {
-    ghost use Rattle.np_tables.specs.FullLists.{AreFulls, of_kind};
+    ghost use Rattle.np_tables.specs.inside.FullLists.{AreFulls, of_kind};
 
     /// Those of the rows of a data file.
     pub fn new(alloc: Global, characters: &CharacterData) -> Result<Fulls, Memory>

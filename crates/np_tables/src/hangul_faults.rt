@@ -1,7 +1,8 @@
 //! Syllables and jamo that are not as the Hangul arithmetic wants them.
 ghost use Rattle.std.specs.Prelude.{◌≡◌, ℕ, ◌<◌, true, false};
-ghost use Rattle.np_tables.specs.Faults.{IsFirst, IsHangulWrong};
-ghost use Rattle.np_tables.specs.HangulRows.{HasAssignedHangul, hangul_at as spec_hangul_at};
+ghost use Rattle.np_tables.specs.Faults.{IsHangulWrong};
+ghost use Rattle.np_tables.specs.inside.FirstFaults.{IsFirst};
+ghost use Rattle.np_tables.specs.inside.HangulRows.{HasAssignedHangul, hangul_at as spec_hangul_at};
 ghost use Rattle.np_tables.specs.Versions.{is_assigned, is_hangul};
 
 use crate::characters::CharacterData;

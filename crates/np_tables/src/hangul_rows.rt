@@ -1,7 +1,7 @@
 //! The rows of the Hangul syllables and jamo (The Unicode Standard, section 3.12).
 ghost use Rattle.std.specs.Prelude.{◌≡◌, ◌+◌, ◌≤◌};
 ghost use Rattle.np_tables.specs.Versions.{all_from, all_hangul, entry_at};
-ghost use Rattle.np_tables.specs.HangulRows.{is_right_entry, is_right_at};
+ghost use Rattle.np_tables.specs.inside.HangulRows.{is_right_entry, is_right_at};
 
 use crate::row_index::RowIndex;
 

@@ -1,7 +1,8 @@
 //! Mappings that hold an unassigned code point.
 ghost use Rattle.std.specs.Prelude.{◌≡◌};
 ghost use Rattle.std.specs.List.{list_all};
-ghost use Rattle.np_tables.specs.Faults.{IsFirst, IsMappedToUnassigned};
+ghost use Rattle.np_tables.specs.Faults.{IsMappedToUnassigned};
+ghost use Rattle.np_tables.specs.inside.FirstFaults.{IsFirst};
 ghost use Rattle.np_tables.specs.Versions.{is_assigned};
 
 use crate::characters::CharacterData;

@@ -4,7 +4,7 @@ ghost use Rattle.std.specs.List.{All, AllWithin};
 ghost use Rattle.std.specs.List.Sorted.{IsPermutation};
 ghost use Rattle.np_ucd.specs.Entries.{IsRow};
 ghost use Rattle.np_ucd.specs.RowValues.{entry_of};
-ghost use Rattle.np_tables.specs.Pairs.{AreOfFile, AreOrdered, IsInRange, Lists, composites_in, pair_rank};
+ghost use Rattle.np_tables.specs.inside.Pairs.{AreOfFile, AreOrdered, IsInRange, Lists, composites_in, pair_rank};
 
 use crate::characters::CharacterData;
 use crate::row_places::{mapped_code, row_in};
@@ -50,7 +50,7 @@ impl Model for Pairs {
 
     ghost Value = { List Composite };
 
-    ghost use Rattle.np_tables.specs.Pairs.{AreOrdered};
+    ghost use Rattle.np_tables.specs.inside.Pairs.{AreOrdered};
 
     ghost view = { λ a. a.composites.items };
 

@@ -3,7 +3,7 @@ ghost use Rattle.std.specs.Prelude.{◌≡◌, ℕ, ◌+◌, ◌<◌, ◌≤◌,
 ghost use Rattle.np_ucd.specs.Entries.{AreRows};
 ghost use Rattle.np_ucd.specs.RowValues.{entry_of};
 ghost use Rattle.np_tables.specs.Versions.{entry_at};
-ghost use Rattle.np_tables.specs.RowPlaces.{AreMarks};
+ghost use Rattle.np_tables.specs.inside.RowPlaces.{AreMarks};
 
 use np_code_points::Memory;
 use np_ucd::{Row, Rows};
@@ -24,7 +24,7 @@ pub struct RowIndex {
 impl Model for RowIndex {
     ghost use Rattle.std.specs.Prelude.{List};
     ghost use Rattle.np_ucd.specs.Entries.{Entry};
-    ghost use Rattle.np_tables.specs.RowPlaces.{AreMarkedRows};
+    ghost use Rattle.np_tables.specs.inside.RowPlaces.{AreMarkedRows};
 
     ghost Value = { List Entry };
 

@@ -20,8 +20,8 @@ pub struct RowTable {
 }
 
 impl Model for RowTable {
-    ghost use Rattle.np_tables.specs.FullLists.{AreFulls};
-    ghost use Rattle.np_tables.specs.Pairs.{AreOfFile};
+    ghost use Rattle.np_tables.specs.inside.FullLists.{AreFulls};
+    ghost use Rattle.np_tables.specs.inside.Pairs.{AreOfFile};
     ghost use Rattle.np_tables.specs.Versions.{VersionData};
 
     ghost Value = { VersionData };

@@ -1,8 +1,10 @@
 //! What normalization asks of a version.
 ghost use Rattle.std.specs.Prelude.{◌≡◌, ℕ, List, Bool, Option, IfSome, IfNone};
-ghost use Rattle.np_tables.specs.Composites.{IsCompositeOf, composite};
+ghost use Rattle.np_tables.specs.Composites.{IsCompositeOf};
+ghost use Rattle.np_tables.specs.inside.CompositeSearch.{composite};
 ghost use Rattle.np_tables.specs.Conditions.{IsSound};
-ghost use Rattle.np_tables.specs.Mappings.{IsLent, table_full};
+ghost use Rattle.np_tables.specs.Mappings.{IsLent};
+ghost use Rattle.np_tables.specs.inside.FullDecompositions.{table_full};
 ghost use Rattle.np_tables.specs.Versions.{VersionData, class_of, has_hangul, is_assigned};
 
 use crate::version::Version;

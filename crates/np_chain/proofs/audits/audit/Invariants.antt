@@ -1,5 +1,5 @@
 use Rattle.std.proofs.Common.{◌≡◌}
-use Rattle.np_chain.specs.Breaks.{breaks_below}
+use Rattle.np_chain.specs.inside.BreakLists.{breaks_below}
 use Rattle.np_chain.proofs.audits.audit.Given as goal
 
 abbrev pub invariant-loop-code : goal.invariant-loop-code

@@ -1,6 +1,6 @@
 use Rattle.std.proofs.Common.{subst, take, arith}
 use Rattle.std.proofs.lemmas.List.{drop_all}
-use Rattle.np_forms.specs.Composers.{IsComposing}
+use Rattle.np_forms.specs.inside.Composers.{IsComposing}
 use Rattle.np_forms.proofs.ComposerLemmas.{IsComposing-end}
 use Rattle.np_forms.proofs.composing.compose.Goals as goal
 

@@ -1,5 +1,5 @@
 use Rattle.std.proofs.Common.{◌≡◌, ◌≤◌, take, drop, length}
-use Rattle.np_forms.specs.Composers.{IsComposing}
+use Rattle.np_forms.specs.inside.Composers.{IsComposing}
 use Rattle.np_forms.proofs.composing.compose.Given as goal
 
 abbrev pub invariant-loop-at : goal.invariant-loop-at

@@ -2,7 +2,7 @@ use Rattle.std.proofs.Common.{◌≡◌, ◌<◌, ◌++◌, ◌∷◌, [], true,
 use Rattle.std.proofs.lemmas.Bool.{eqb-false, and_left, and_right}
 use Rattle.np_code_points.specs.Hangul.{is_syllable}
 use Rattle.np_tables.specs.Versions.{has_hangul}
-use Rattle.np_forms.specs.Syllables.{syllable_parts}
+use Rattle.np_forms.specs.inside.Syllables.{syllable_parts}
 use Rattle.np_forms.proofs.SyllableLemmas.{lent_some, lent_none, full_of-syllable}
 use Rattle.np_forms.proofs.decomposing.append.Goals as goal
 use Rattle.np_forms.proofs.decomposing.append.Goals.{else-hangul-via-then-hangul+in_ok-append_syllable+else-branch, else-hangul-via-else-hangul}

@@ -2,7 +2,7 @@ use Rattle.std.proofs.Common.{◌++◌, [], flat_map, sym, ap, ◌∙◌}
 use Rattle.std.proofs.lemmas.Iterator.{YieldsList-from_chars}
 use Rattle.std.proofs.lemmas.Iterator.Consumers.{YieldsList-end}
 use Rattle.std.proofs.lemmas.List.{flat_map_more, map-id}
-use Rattle.np_tables.specs.Mappings.{full_of}
+use Rattle.np_tables.specs.inside.FullDecompositions.{full_of}
 use Rattle.np_forms.proofs.decomposing.full_decomposition.Goals as goal
 
 pub loop-c-preserved : goal.loop-c-preserved

@@ -1,5 +1,5 @@
 use Rattle.std.proofs.Common.{◌≡◌, flat_map}
-use Rattle.np_tables.specs.Mappings.{full_of}
+use Rattle.np_tables.specs.inside.FullDecompositions.{full_of}
 use Rattle.np_forms.proofs.decomposing.full_decomposition.Given as goal
 
 abbrev pub invariant-loop-c : goal.invariant-loop-c

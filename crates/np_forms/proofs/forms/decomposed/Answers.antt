@@ -1,8 +1,8 @@
 use Rattle.std.proofs.Common.{◌≡◌, length, ap, ◌∙◌, arith}
 use Rattle.std.proofs.lemmas.List.{take_at}
 use Rattle.np_tables.specs.Versions.{class_of}
-use Rattle.np_forms.specs.NormalForms.{decomposed}
-use Rattle.np_forms.specs.Order.{canonical_order}
+use Rattle.np_forms.specs.inside.NormalForms.{decomposed}
+use Rattle.np_forms.specs.inside.CanonicalOrder.{canonical_order}
 use Rattle.np_forms.proofs.OrderLemmas.{length-canonical_order}
 use Rattle.np_forms.proofs.forms.decomposed.Goals as goal
 

@@ -1,7 +1,7 @@
 use Rattle.std.proofs.Common.{◌++◌, drop, sym, ap, ◌∙◌, append-nil}
 use Rattle.std.proofs.lemmas.List.{take_all, drop_all}
 use Rattle.np_tables.specs.Versions.{class_of}
-use Rattle.np_forms.specs.Order.{canonical_order}
+use Rattle.np_forms.specs.inside.CanonicalOrder.{canonical_order}
 use Rattle.np_forms.proofs.OrderLemmas.{canonical_order-nil}
 use Rattle.np_forms.proofs.ordering.order.Goals as goal
 

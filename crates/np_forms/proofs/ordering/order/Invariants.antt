@@ -1,6 +1,6 @@
 use Rattle.std.proofs.Common.{◌≡◌, ◌-◌, ◌++◌, length, take, drop}
 use Rattle.np_tables.specs.Versions.{class_of}
-use Rattle.np_forms.specs.Order.{canonical_order}
+use Rattle.np_forms.specs.inside.CanonicalOrder.{canonical_order}
 use Rattle.np_forms.proofs.ordering.order.Given as goal
 
 abbrev pub invariant-runs : goal.invariant-runs

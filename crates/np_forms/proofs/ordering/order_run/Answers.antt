@@ -2,7 +2,8 @@ use Rattle.std.proofs.Common.{◌≡◌, ◌+◌, ◌-◌, ◌<◌, ◌≤◌, �
 use Rattle.std.proofs.lemmas.List.{take_rest, take-append-drop, drop-drop}
 use borrow.Rule.Slice.PartMut.{put_mid}
 use Rattle.np_tables.specs.Versions.{class_of}
-use Rattle.np_forms.specs.Order.{is_ordered, canonical_order}
+use Rattle.np_forms.specs.Order.{is_ordered}
+use Rattle.np_forms.specs.inside.CanonicalOrder.{canonical_order}
 use Rattle.np_forms.proofs.OrderLemmas.{canonical_order-ordered}
 use Rattle.np_forms.proofs.RunLemmas.{order_step}
 use Rattle.np_forms.proofs.ordering.order_run.Goals as goal

@@ -1,7 +1,7 @@
 use Rattle.std.proofs.Common.{◌≡◌, ℕ, ◌+◌, ◌<◌, ◌∷◌, List, nat_lt, length, get_or, drop, sym, ap, ◌∙◌, arith}
 use Rattle.std.proofs.lemmas.List.{drop_more, drop_all}
 use Rattle.np_tables.specs.Versions.{class_of}
-use Rattle.np_forms.specs.StreamSafe.{longest_run}
+use Rattle.np_forms.specs.inside.Runs.{longest_run}
 use Rattle.np_forms.proofs.StreamSafeLemmas.{count-starter, count-mark, count-over, count-end}
 use Rattle.np_forms.proofs.stream_safety.has_long_run.Goals as goal
 use Rattle.np_forms.proofs.stream_safety.has_long_run.Goals.{then-class-eq0, else-class-eq0+else-run-eq-LONGEST}

@@ -1,5 +1,5 @@
 use Rattle.std.proofs.Common.{◌≡◌, ◌≤◌, nat_lt, drop}
-use Rattle.np_forms.specs.StreamSafe.{longest_run}
+use Rattle.np_forms.specs.inside.Runs.{longest_run}
 use Rattle.np_tables.specs.Versions.{class_of}
 use Rattle.np_forms.proofs.stream_safety.has_long_run.Given as goal
 

@@ -1,6 +1,6 @@
 use Rattle.std.proofs.Common.{not, nat_lt, chars, ap, ◌∙◌}
 use Rattle.np_tables.specs.Versions.{class_of}
-use Rattle.np_forms.specs.StreamSafe.{longest_run}
+use Rattle.np_forms.specs.inside.Runs.{longest_run}
 use Rattle.np_forms.proofs.StreamSafeLemmas.{IsStreamSafe-counted}
 use Rattle.np_forms.proofs.stream_safety.is_stream_safe.Goals as goal
 

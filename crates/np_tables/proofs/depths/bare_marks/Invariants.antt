@@ -1,5 +1,5 @@
 use Rattle.std.proofs.Common.{◌≡◌, take}
-use Rattle.np_tables.specs.Depths.{row_marks}
+use Rattle.np_tables.specs.inside.Depths.{row_marks}
 use Rattle.np_tables.proofs.depths.bare_marks.Given as goal
 
 abbrev pub invariant-loop-at : goal.invariant-loop-at

@@ -1,5 +1,6 @@
 use Rattle.std.proofs.Common.{subst}
-use Rattle.np_tables.specs.Faults.{IsFirst, IsTooDeep, IsTooLong}
+use Rattle.np_tables.specs.Faults.{IsTooDeep, IsTooLong}
+use Rattle.np_tables.specs.inside.FirstFaults.{IsFirst}
 use Rattle.np_tables.proofs.AnswerLemmas.{first_too_deep, first_too_long, AreShort-from_none}
 use Rattle.np_tables.proofs.depths.depth_faults.Goals as goal
 

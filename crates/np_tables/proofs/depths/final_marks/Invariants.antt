@@ -1,5 +1,5 @@
 use Rattle.std.proofs.Common.{◌≡◌}
-use Rattle.np_tables.specs.Depths.{row_marks}
+use Rattle.np_tables.specs.inside.Depths.{row_marks}
 use Rattle.np_tables.proofs.depths.final_marks.Given as goal
 
 abbrev pub invariant-loop-round : goal.invariant-loop-round

@@ -1,5 +1,5 @@
 use Rattle.std.proofs.Common.{◌≡◌, drop}
-use Rattle.np_tables.specs.Depths.{first_row, is_marked}
+use Rattle.np_tables.specs.inside.Depths.{first_row, is_marked}
 use Rattle.np_tables.proofs.depths.first_marked.Given as goal
 
 abbrev pub invariant-loop-at : goal.invariant-loop-at

@@ -1,6 +1,6 @@
 use Rattle.std.proofs.Common.{◌≡◌, ◌+◌, ◌<◌, length, ap, ◌∙◌, arith}
 use Rattle.std.specs.List.{slice_get}
-use Rattle.np_tables.specs.Depths.{mapping_mark}
+use Rattle.np_tables.specs.inside.Depths.{mapping_mark}
 use Rattle.np_tables.specs.Versions.{mapping_in}
 use Rattle.np_tables.proofs.RoundLemmas.{row_marks_more, row_marks_all}
 use Rattle.np_tables.proofs.depths.next_marks.Goals as goal

@@ -1,5 +1,5 @@
 use Rattle.std.proofs.Common.{◌≡◌, ◌+◌, ◌<◌, length, take, get_or, sym, ap, subst, ◌∙◌, arith}
-use Rattle.np_tables.specs.Depths.{mark}
+use Rattle.np_tables.specs.inside.Depths.{mark}
 use Rattle.np_tables.proofs.RoundLemmas.{IsSum, part_at, IsSum-more, parts-fail, parts-done}
 use Rattle.np_tables.proofs.depths.parts_mark.Goals as goal
 

@@ -1,5 +1,5 @@
 use Rattle.std.proofs.Common.{◌≡◌, ◌∙◌, sym, arith}
-use Rattle.np_tables.specs.Depths.{syllable_depth}
+use Rattle.np_tables.specs.inside.Depths.{syllable_depth}
 use Rattle.np_tables.proofs.RoundLemmas.{depth_even, depth_odd, mark_shown, mark_hidden}
 use Rattle.np_tables.proofs.depths.syllable_mark.Goals as goal
 use Rattle.np_tables.proofs.depths.syllable_mark.Goals.{then-code-eq0, else-code-eq0}

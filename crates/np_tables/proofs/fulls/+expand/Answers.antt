@@ -1,6 +1,6 @@
 use Rattle.std.proofs.Common.{◌-◌, sym, ◌∙◌, arith}
 use Rattle.std.proofs.lemmas.Result.{IfOk-weaker}
-use Rattle.np_tables.specs.Mappings.{full}
+use Rattle.np_tables.specs.inside.FullDecompositions.{full}
 use Rattle.np_tables.proofs.FullLemmas.{full-bottom, full-kept, full-level, append_piece, append_all, append_two, parts-counted_mapping, nil_from_test, some_from_test}
 use Rattle.np_tables.proofs.fulls.+expand.Goals as goal
 

@@ -1,5 +1,5 @@
 use Rattle.std.proofs.Common.{◌≡◌, ◌++◌, ◌-◌, take, flat_map}
-use Rattle.np_tables.specs.Mappings.{full}
+use Rattle.np_tables.specs.inside.FullDecompositions.{full}
 use Rattle.np_tables.proofs.fulls.+expand.Given as goal
 
 abbrev pub invariant-loop-part : goal.invariant-loop-part

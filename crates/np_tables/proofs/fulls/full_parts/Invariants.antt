@@ -1,4 +1,4 @@
-use Rattle.np_tables.specs.FullParts.{IsGrown}
+use Rattle.np_tables.specs.inside.FullParts.{IsGrown}
 use Rattle.np_tables.proofs.FullListLemmas.{OneMore}
 use Rattle.np_tables.proofs.fulls.full_parts.Given as goal
 

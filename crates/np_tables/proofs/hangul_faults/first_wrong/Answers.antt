@@ -1,5 +1,6 @@
 use Rattle.std.proofs.Common.{◌∙◌, sym, subst, ap, arith}
-use Rattle.np_tables.specs.Faults.{IsHangulWrong, IsLeastOf}
+use Rattle.np_tables.specs.Faults.{IsHangulWrong}
+use Rattle.np_tables.specs.inside.FirstFaults.{IsLeastOf}
 use Rattle.np_tables.specs.Versions.{is_hangul_row}
 use Rattle.np_tables.proofs.HangulPlaces.{first_wrong-some, first_wrong-none}
 use Rattle.np_tables.proofs.hangul_faults.first_wrong.Goals as goal

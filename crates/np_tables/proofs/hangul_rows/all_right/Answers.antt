@@ -1,7 +1,7 @@
 use Rattle.std.proofs.Common.{arith}
 use Rattle.std.proofs.lemmas.Grind.{common_steps}
 use Rattle.np_tables.proofs.HangulLemmas.{all_hangul-is}
-use Rattle.np_tables.specs.HangulRows.{is_right_at}
+use Rattle.np_tables.specs.inside.HangulRows.{is_right_at}
 use Rattle.np_tables.proofs.hangul_rows.all_right.Goals as goal
 
 pub returns-then-are_right-3 : goal.returns-then-are_right-3

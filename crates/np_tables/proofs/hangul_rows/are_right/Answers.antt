@@ -1,5 +1,5 @@
 use Rattle.std.proofs.Common.{sym, ◌∙◌, arith}
-use Rattle.np_tables.specs.HangulRows.{is_right_at}
+use Rattle.np_tables.specs.inside.HangulRows.{is_right_at}
 use Rattle.np_tables.proofs.HangulLemmas.{all_from-none, all_from-more, all_from-fails}
 use Rattle.np_tables.proofs.hangul_rows.are_right.Goals as goal
 

@@ -3,7 +3,7 @@ use Rattle.std.specs.List.{All}
 use Rattle.std.proofs.lemmas.List.Elements.{All-push}
 use Rattle.np_ucd.specs.RowValues.{entry_of}
 use Rattle.np_tables.specs.declared.pairs.Composite.{Composite}
-use Rattle.np_tables.specs.Pairs.{IsInRange, composites_in}
+use Rattle.np_tables.specs.inside.Pairs.{IsInRange, composites_in}
 use Rattle.np_tables.proofs.FileCompositeLemmas.{flat_step, flat_all}
 use Rattle.np_tables.proofs.pairs.file_composites.Goals as goal
 use Rattle.np_tables.proofs.pairs.file_composites.Goals.{in-Some+in_ok-push, in_default}

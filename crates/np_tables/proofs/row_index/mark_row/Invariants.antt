@@ -1,4 +1,4 @@
-use Rattle.np_tables.specs.RowPlaces.{IsMarkedBelow}
+use Rattle.np_tables.specs.inside.RowPlaces.{IsMarkedBelow}
 use Rattle.np_tables.proofs.row_index.mark_row.Given as goal
 
 abbrev pub invariant-loop-code : goal.invariant-loop-code

@@ -1,4 +1,4 @@
-use Rattle.np_tables.specs.RowPlaces.{AreMarks}
+use Rattle.np_tables.specs.inside.RowPlaces.{AreMarks}
 use Rattle.np_tables.proofs.row_index.mark_rows.Given as goal
 
 abbrev pub invariant-loop-at : goal.invariant-loop-at

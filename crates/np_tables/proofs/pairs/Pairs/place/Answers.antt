@@ -1,7 +1,7 @@
 use Rattle.std.proofs.Common.{◌≡◌, ◌+◌, ◌-◌, ◌/◌, List, get_or, subst, arith, inl, inr}
 use Rattle.std.proofs.lemmas.Bool.{cases_lt, both_ways}
 use Rattle.np_tables.specs.declared.pairs.Composite.{Composite}
-use Rattle.np_tables.specs.Pairs.{AreOrdered}
+use Rattle.np_tables.specs.inside.Pairs.{AreOrdered}
 use Rattle.np_tables.proofs.PairLemmas.{before_more, after_more}
 use Rattle.np_tables.proofs.pairs.Pairs.place.Goals as goal
 

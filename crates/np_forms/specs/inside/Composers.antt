@@ -2,8 +2,8 @@
 use Rattle.std.specs.Prelude.{◌≡◌, ℕ, ◌<◌, ◌≤◌, ◌||◌, ◌==◌, nat_lt, slice_index, if◌then◌else◌, true, List, ◌∷◌, ◌++◌, length, Option, Some, None}
 use Rattle.np_tables.specs.Versions.{VersionData, class_of}
 use Rattle.np_forms.specs.Order.{is_ordered}
-use Rattle.np_forms.specs.Composing.{is_free, compose_after, compose}
-use Rattle.np_tables.specs.Composites.{composite}
+use Rattle.np_forms.specs.inside.Composing.{is_free, compose_after, compose}
+use Rattle.np_tables.specs.inside.CompositeSearch.{composite}
 
 -- where the last starter stands, and what was kept after it, of which the last has class `last` (0 where nothing was kept)
 pub record IsAfterStarter (v : VersionData) (whole out : List ℕ) (q last : ℕ) (rest : List ℕ) : Type 0 where

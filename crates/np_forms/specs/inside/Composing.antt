@@ -1,17 +1,10 @@
 -- Canonical composition (The Unicode Standard, D117) as a function of the list. `join` gives the composite of a pair.
-use Rattle.std.specs.Prelude.{ℕ, Bool, true, false, not, ◌==◌, List, [], ◌∷◌, ◌++◌, Option, Some, None, if◌then◌else◌}
+use Rattle.std.specs.Prelude.{ℕ, Bool, true, false, List, [], ◌∷◌, ◌++◌, Option, Some, None, if◌then◌else◌}
 use Rattle.std.specs.List.{list_all}
-use Rattle.np_tables.specs.Composites.{composite}
+use Rattle.np_tables.specs.inside.CompositeSearch.{composite}
 use Rattle.np_forms.specs.Order.{is_reorderable}
 use Rattle.np_tables.specs.Versions.{VersionData, class_of}
-
--- a starter (D107)
-abbrev pub is_starter : (ℕ → ℕ) → ℕ → Bool
-is_starter ccc c = ccc c == 0
-
--- a non-starter
-abbrev pub is_mark : VersionData → ℕ → Bool
-is_mark v m = not (is_starter (class_of v) m)
+use Rattle.np_forms.specs.Starters.{is_starter}
 
 -- nothing in bs blocks c (D115): each has a class above 0 and below that of c, so that c before it would be a reorderable pair
 abbrev pub is_free : (ℕ → ℕ) → List ℕ → ℕ → Bool

@@ -3,7 +3,8 @@ use Rattle.std.specs.Prelude.{◌≡◌, ℕ, zero, suc, ◌+◌, ◌-◌, ◌%�
 use Rattle.std.specs.List.{list_all}
 use Rattle.np_ucd.specs.Entries.{Entry}
 use Rattle.np_tables.specs.Versions.{VersionData}
-use Rattle.np_tables.specs.Mappings.{has_depth, full, full_of}
+use Rattle.np_tables.specs.Mappings.{has_depth}
+use Rattle.np_tables.specs.inside.FullDecompositions.{full, full_of}
 
 -- 0 where some depth is over the round, else the length, with 65 for every length over 64
 abbrev pub marked : Bool → ℕ → ℕ

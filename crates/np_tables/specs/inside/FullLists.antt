@@ -1,7 +1,7 @@
 -- Full decompositions in one flat list.
 use Rattle.std.specs.Prelude.{◌≡◌, ℕ, Bool, true, false, List, map}
 use Rattle.np_ucd.specs.Entries.{Entry}
-use Rattle.np_tables.specs.Mappings.{table_full}
+use Rattle.np_tables.specs.inside.FullDecompositions.{table_full}
 use Rattle.np_tables.specs.Versions.{VersionData}
 
 -- what a table lends for the code point of each row, by the rows' places

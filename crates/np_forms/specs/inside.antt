@@ -1,0 +1,6 @@
+pub mod CanonicalOrder
+pub mod Composers
+pub mod Composing
+pub mod NormalForms
+pub mod Runs
+pub mod Syllables

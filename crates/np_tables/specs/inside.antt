@@ -1,0 +1,11 @@
+pub mod Accessors
+pub mod CompositeSearch
+pub mod Depths
+pub mod FirstFaults
+pub mod FullDecompositions
+pub mod FullLists
+pub mod FullParts
+pub mod HangulRows
+pub mod Pairs
+pub mod RowPlaces
+pub mod Suspects
