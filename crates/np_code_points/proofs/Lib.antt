@@ -1,5 +1,9 @@
 pub mod Bytes
 pub mod CodeLemmas
 pub mod HangulLemmas
+pub mod Elements
+pub mod LineLemmas
+pub mod LineGrammar
+pub mod DataLineGrammar
 pub mod StepsLemmas
 pub mod TextLemmas

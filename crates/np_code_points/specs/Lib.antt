@@ -2,6 +2,7 @@ pub mod Codes
 pub mod Forms
 pub mod Hangul
 pub mod Inputs
+pub mod Lines
 pub mod Steps
 pub mod Text
 pub mod Watched

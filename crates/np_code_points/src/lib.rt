@@ -9,6 +9,7 @@ pub mod fixtures;
 pub mod forms;
 pub mod hangul;
 pub mod input;
+pub mod lines;
 pub mod output;
 pub mod text;
 pub mod watched;

@@ -1,0 +1,157 @@
+//! The lines of a file, as the Unicode Character Database has them (UAX #44, section 4.2).
+ghost use Rattle.std.specs.Prelude.{◌≡◌, ◌<◌, ◌+◌, ◌∷◌, ◌≢◌, ℕ, List, [], length, option_map, MatchOption, Some, None};
+ghost use Rattle.std.specs.List.{list_all};
+ghost use Rattle.np_code_points.specs.Lines.{AreDataLines, AreLines};
+ghost use Rattle.np_code_points.specs.inside.LineCuts.{before_byte, after_byte, data_lines_in, lines_of, without_return as returned, is_blank as blank, is_comment as comment, is_skipped as skipped};
+
+use std::marker::Model;
+
+/// What stands before the first such byte, and what stands behind it where there is one. In time
+/// linear in what stands before it.
+pub fn cut(bytes: &[u8], byte: u8) -> (&[u8], Option<&[u8]>)
+    ensures before { result.0.now ≡ before_byte byte bytes.now }
+    ensures after { option_map (λ rest. rest.now) result.1 ≡ after_byte byte bytes.now }
+{
+    for (at, b) in bytes.iter().enumerate() {
+        if *b == byte {
+            return (&bytes[..at], Some(&bytes[at + 1..]));
+        }
+    }
+    (bytes, None)
+}
+
+/// The first line without its LF, and what is behind it.
+fn cut_line(bytes: &[u8]) -> (&[u8], &[u8])
+    requires { bytes.now ≢ [] }
+    ensures line { lines_of bytes.now ≡ result.0.now ∷ lines_of result.1.now }
+    ensures shorter { length result.1.now < length bytes.now }
+{
+    let (line, rest) = cut(bytes, b'\n');
+    match rest {
+        Some(rest) => (line, rest),
+        None => (line, &[]),
+    }
+}
+
+/// The line without one CR at its end.
+fn without_return(line: &[u8]) -> &[u8]
+    ensures { result.now ≡ returned line.now }
+{
+    let len = line.len();
+    if len > 0 && line[len - 1] == b'\r' {
+        &line[..len - 1]
+    } else {
+        line
+    }
+}
+
+/// Whether the byte is a space or a tab.
+pub fn is_blank(byte: u8) -> bool
+    ensures { result ≡ blank byte }
+{
+    byte == b' ' || byte == b'\t'
+}
+
+/// Whether a line has only spaces and tabs.
+fn are_blank(line: &[u8]) -> bool
+    ensures { result ≡ list_all blank line.now }
+{
+    line.iter().all(|b| is_blank(*b))
+}
+
+/// Whether a line begins with `#`.
+fn is_comment(line: &[u8]) -> bool
+    ensures { result ≡ comment line.now }
+{
+    !line.is_empty() && line[0] == b'#'
+}
+
+/// Whether a line holds no data.
+#[tactic(auto, unfolding(crate::specs::inside::LineCuts::is_skipped))]
+fn is_skipped(line: &[u8]) -> bool
+    ensures { result ≡ skipped line.now }
+{
+    are_blank(line) || is_comment(line)
+}
+
+/// A line that holds data: it is neither blank nor a comment.
+#[derive(Clone, Copy)]
+pub struct DataLine<'a> {
+    /// The number of the line in its file, from 1; blank lines and comments count.
+    pub number: u64,
+    /// The line without its LF, and without one CR at its end.
+    pub text: &'a [u8],
+}
+
+/// The data lines of a file, in their order, each with its number.
+///
+/// LF ends a line, a last line without LF counts as one, and one CR at a line's end is dropped
+/// (UAX #44, section 4.2). Lines of spaces and tabs alone, and those that begin with `#`, are
+/// skipped, but counted. Linear in the file's length; nothing is copied.
+#[derive(Drop)]
+pub struct DataLines<'a> {
+    rest: &'a [u8],
+    passed: u64,
+}
+
+impl<'a> Model for DataLines<'a> {
+    ghost use Rattle.std.specs.Prelude.{◌+◌, ◌<◌, ◌^◌, length};
+    ghost use Rattle.np_code_points.specs.Lines.{Walk};
+    ghost use Rattle.np_code_points.specs.inside.LineCuts.{walk_at};
+
+    ghost Value = { Walk };
+
+    ghost view = { λ a. walk_at a.passed a.rest.now };
+
+    ghost invariant = { λ a. a.passed + length a.rest.now < 2 ^ 64 };
+}
+
+impl<'a> DataLines<'a> {
+    /// The data lines of a file's bytes.
+    pub fn new(bytes: &'a [u8]) -> DataLines<'a>
+        ensures lines { AreDataLines bytes.now result.left }
+        ensures same { result.left ≡ data_lines_in bytes.now }
+        ensures begun { result.passed ≡ 0 }
+        ensures total { (lines : List (List ℕ)) → AreLines bytes.now lines → result.total ≡ length lines }
+    {
+        DataLines {
+            rest: bytes,
+            passed: 0,
+        }
+    }
+
+    /// How many lines were passed, the skipped ones included: once `next` answered `None`, all lines
+    /// of the file.
+    pub fn passed(&self) -> u64
+        ensures { result ≡ self.now.passed }
+    {
+        self.passed
+    }
+}
+
+impl<'a> Iterator for DataLines<'a> {
+    ghost use Rattle.std.specs.Iterator.{item_count};
+    ghost use Rattle.np_code_points.specs.Lines.{Walk, TakesLine};
+
+    type Item = DataLine<'a>;
+
+    ghost next_gives = { TakesLine };
+
+    ghost remaining = { item_count (λ (w : Walk). w.left) };
+
+    fn next(&mut self) -> Option<DataLine<'a>> {
+        while !self.rest.is_empty() {
+            let (line, rest) = cut_line(self.rest);
+            self.rest = rest;
+            self.passed += 1;
+            let text = without_return(line);
+            if !is_skipped(text) {
+                return Some(DataLine {
+                    number: self.passed,
+                    text,
+                });
+            }
+        }
+        None
+    }
+}
