@@ -1,5 +1,5 @@
 -- The lines of a schedule, by their words.
-use Rattle.std.specs.Prelude.{◌≡◌, ℕ, ◌<◌, ◌≤◌, List, [], ◌∷◌, ◌++◌, codes, length, Some, All}
+use Rattle.std.specs.Prelude.{◌≡◌, ℕ, ◌<◌, ◌≤◌, List, [], ◌∷◌, ◌++◌, codes, length, Some}
 use Rattle.np_world.specs.Events.{Event, Accept, Deliver, Upgrade, Save, Restart, Ask}
 use Rattle.np_world.specs.Spelling.{number_value, string_value}
 

@@ -17,3 +17,10 @@ node_of (Upgrade node) = node
 node_of (Save node) = node
 node_of (Restart node) = node
 node_of (Ask node left right) = node
+
+-- the number of versions, the room of each node, the place of each node's first version, and the events
+pub record ScheduleData : Type 0 where
+  pub versions : ℕ
+  pub room : ℕ
+  pub starts : List ℕ
+  pub events : List Event

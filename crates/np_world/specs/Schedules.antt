@@ -1,18 +1,11 @@
 -- Schedules: what the lines of a file say, and the first line that can't stand.
-use Rattle.std.specs.Prelude.{◌≡◌, ℕ, ◌+◌, ◌<◌, ◌≤◌, ◌⊎◌, List, [], ◌∷◌, ◌++◌, length}
+use Rattle.std.specs.Prelude.{◌≡◌, ℕ, ◌+◌, ◌<◌, ◌≤◌, ◌⊎◌, List, [], ◌∷◌, ◌++◌, length, All}
 use Rattle.np_code_points.specs.Lines.{Numbered, AreDataLines, AreLines}
-use Rattle.np_world.specs.Events.{Event, node_of}
+use Rattle.np_world.specs.Events.{Event, ScheduleData, node_of}
 use Rattle.np_world.specs.EventLines.{SaysRoom, SaysNodes, SaysEvent}
 use Rattle.np_world.specs.Spelling.{words_of}
 use Rattle.np_world.specs.declared.schedules.ScheduleFault.{ScheduleFault}
 use Rattle.np_world.specs.declared.schedules.ScheduleFault.TheVariants.{Line, Memory}
-
--- the number of versions, the room of each node, the place of each node's first version, and the events
-pub record ScheduleData : Type 0 where
-  pub versions : ℕ
-  pub room : ℕ
-  pub starts : List ℕ
-  pub events : List Event
 
 -- the most events of a schedule
 abbrev pub most_events : ℕ
@@ -108,6 +101,12 @@ abbrev pub IsFaultOf : List ℕ → ℕ → ScheduleFault → Type 0
 IsFaultOf bytes versions (Line number) = IsFaultyLine bytes versions number
 IsFaultOf bytes versions Memory = Unit {0}
 
--- what holds of every schedule
-pub record IsSound (schedule : ScheduleData) : Type 0 where
-  pub starts : (i index : ℕ) → True
+-- each event names one of so many nodes
+abbrev pub NameNodes : ℕ → List Event → Type 0
+NameNodes nodes events = All (λ event. node_of event < nodes) events
+
+-- what holds of every schedule that was read
+pub record IsStandable (schedule : ScheduleData) : Type 0 where
+  pub room : schedule.room ≤ 65536
+  pub starts : All (λ index. index < schedule.versions) schedule.starts
+  pub events : NameNodes (length schedule.starts) schedule.events

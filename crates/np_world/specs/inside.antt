@@ -1,0 +1,2 @@
+pub mod EventValues
+pub mod Rust
