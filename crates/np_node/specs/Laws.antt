@@ -1,0 +1,76 @@
+-- The laws of nodes, over the definitions alone.
+use Rattle.std.specs.Prelude.{◌≡◌, ℕ, ◌≤◌, List, [], ◌++◌, slice_get, Option, Some, Result, Ok, Err}
+use Rattle.np_chain.specs.Chain.{IsSoundChain}
+use Rattle.np_code_points.specs.declared.forms.Form.{Form}
+use Rattle.np_forms.specs.Assigned.{IsAssigned, IsFirstUnassigned}
+use Rattle.np_node.specs.Images.{Image, image_bytes, IsImage, IsImageFault}
+use Rattle.np_node.specs.Messages.{Message, message_bytes, IsMessage, IsMessageFault}
+use Rattle.np_node.specs.Nodes.{State, IsNode}
+use Rattle.np_node.specs.Restoring.{IsRestoreFault}
+use Rattle.np_node.specs.Strings.{Entry, IsEntry, IsKey}
+use Rattle.np_node.specs.Taking.{AnswersTake}
+use Rattle.np_node.specs.declared.faults.NodeFault.{NodeFault}
+use Rattle.np_node.specs.declared.faults.NodeFault.TheVariants.{Malformed, OtherForm, TooLong, NotUtf8, Unassigned, KeyDiffers, Full, Memory}
+use Rattle.np_node.specs.declared.taking.Taken.{Taken}
+use Rattle.np_tables.specs.Versions.{VersionData}
+use Rattle.std.specs.Prelude.{chars}
+
+-- bytes spell at most one message, and with bytes behind them none at all: no spelling is a proper prefix of another
+abbrev pub SpellsOneMessage : Type 0
+SpellsOneMessage =
+    (bytes more : List ℕ) (m n : Message) → IsMessage bytes m → IsMessage (bytes ++ more) n → (m ≡ n) × (more ≡ [])
+
+-- bytes that are no message have at most one fault place, and a message has none
+abbrev pub HasOneMessageFault : Type 0
+HasOneMessageFault = (bytes : List ℕ) (at : ℕ) → IsMessageFault bytes at
+    → ((m : Message) → ¬ IsMessage bytes m) × ((other : ℕ) → IsMessageFault bytes other → other ≡ at)
+
+-- the same of images
+abbrev pub SpellsOneImage : Type 0
+SpellsOneImage =
+    (bytes more : List ℕ) (i j : Image) → IsImage bytes i → IsImage (bytes ++ more) j → (i ≡ j) × (more ≡ [])
+
+abbrev pub HasOneImageFault : Type 0
+HasOneImageFault = (bytes : List ℕ) (at : ℕ) → IsImageFault bytes at
+    → ((i : Image) → ¬ IsImage bytes i) × ((other : ℕ) → IsImageFault bytes other → other ≡ at)
+
+-- a version of a chain, by its place
+pub record IsIn (vs : List VersionData) (i : ℕ) (v : VersionData) : Type 0 where
+  pub chain : IsSoundChain vs
+  pub here : slice_get vs i ≡ Some v
+
+-- a string that is assigned in two versions of a chain has one key under both
+abbrev pub Exchange : Type 0
+Exchange = (vs : List VersionData) (i j : ℕ) (v w : VersionData) (form : Form) (string key : List ℕ) → IsIn vs i v → IsIn vs j w
+    → IsAssigned v (chars string) → IsAssigned w (chars string) → IsKey v form string key → IsKey w form string key
+
+-- what `take` may answer to a message that `accept` gave: never that it is malformed, of another form, too long, not UTF-8 or
+-- with another key, and that a code point is unassigned only where the receiver's version lacks it
+abbrev pub IsFairAnswer : VersionData → List ℕ → Result Taken NodeFault → Type 0
+IsFairAnswer w string (Ok answer) = Unit {0}
+IsFairAnswer w string (Err (Unassigned at code)) = IsFirstUnassigned w (chars string) at code
+IsFairAnswer w string (Err Full) = Unit {0}
+IsFairAnswer w string (Err Memory) = Unit {0}
+IsFairAnswer w string (Err (Malformed at)) = ⊥
+IsFairAnswer w string (Err OtherForm) = ⊥
+IsFairAnswer w string (Err TooLong) = ⊥
+IsFairAnswer w string (Err (NotUtf8 at)) = ⊥
+IsFairAnswer w string (Err KeyDiffers) = ⊥
+
+-- a message that was made under a version of a chain is taken fairly under every version of it
+abbrev pub FairExchange : Type 0
+FairExchange = (vs : List VersionData) (i j : ℕ) (v : VersionData) (node : State) (entry : Entry) (answer : Result Taken NodeFault)
+    → IsIn vs i v → IsIn vs j node.version → IsEntry v node.form entry
+    → AnswersTake node (message_bytes (record { form = node.form; entry = entry })) answer → IsFairAnswer node.version entry.string answer
+
+-- what holds of a node under a version of a chain holds under each later one, and its image is never refused there, but for
+-- want of memory
+pub record IsSavedAs (node : State) (w : VersionData) : Type 0 where
+  pub holds : IsNode (record node { version = w })
+  pub spelled : IsImage (image_bytes (record { form = node.form; entries = node.entries })) (record { form = node.form; entries = node.entries })
+  pub taken : (entry : Option ℕ) (fault : NodeFault)
+      → IsRestoreFault w node.form node.room (image_bytes (record { form = node.form; entries = node.entries })) entry fault → fault ≡ Memory
+
+abbrev pub Saved : Type 0
+Saved = (vs : List VersionData) (i j : ℕ) (w : VersionData) (node : State) → IsIn vs i node.version → IsIn vs j w → i ≤ j
+    → IsNode node → IsSavedAs node w

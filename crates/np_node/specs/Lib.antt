@@ -1,0 +1,11 @@
+pub mod Accepting
+pub mod Fields
+pub mod Images
+pub mod Laws
+pub mod Messages
+pub mod Names
+pub mod Nodes
+pub mod Restoring
+pub mod Strings
+pub mod Taking
+pub mod inside

@@ -1,0 +1,61 @@
+//! Strings that a host hands to its own node.
+
+use crate::faults::NodeFault;
+use crate::messages::message_of;
+use crate::nodes::Node;
+use crate::strings::short_text;
+use np_code_points::Memory;
+use np_forms::{first_lacking, form};
+use np_tables::NormTable;
+
+/// What `Node::accept` answers.
+#[derive(Debug, PartialEq, Eq, Drop)]
+pub enum Accepted {
+    /// The string was new and is kept now: the message that tells it to others.
+    Kept(Vec<u8>),
+    /// The string was kept already. Nothing changed, and there is nothing to send.
+    Known,
+}
+
+impl<'t, T: NormTable> Node<'t, T> {
+    ghost use Rattle.np_node.specs.Accepting.{AnswersAccept, LeavesAccepted};
+    ghost use Rattle.np_node.specs.Nodes.{state_of};
+
+    /// Keeps a string behind the others, beside its key, and answers the message that tells it.
+    ///
+    /// A string that is kept already costs its check as UTF-8 and one look-up by hash, and no
+    /// memory. A new one costs one normal form and one message, linear in its length.
+    ///
+    /// # Errors
+    ///
+    /// In this order, `Known` and `Kept` coming in their places: `TooLong` for more than 4,096
+    /// bytes; `NotUtf8`; `Unassigned` where the table's version lacks a code point; (`Known`;)
+    /// `Full` where there are as many strings as the room. `Memory` stands in place of `Kept`
+    /// alone. After an error, and after `Known`, the node is as it was.
+    pub fn accept(&mut self, string: &[u8]) -> Result<Accepted, NodeFault>
+        ensures answer { AnswersAccept (state_of T.model self.old) string.now result }
+        ensures node { LeavesAccepted T.model self.old self.new string.now result }
+    {
+        let text = short_text(string)?;
+        if self.kept.contains_key(text) {
+            return Ok(Accepted::Known);
+        }
+        if let Some((at, code)) = first_lacking(self.table, text) {
+            return Err(NodeFault::Unassigned { at, code });
+        }
+        if self.is_full() {
+            return Err(NodeFault::Full);
+        }
+        let message = self.keep_new(text)?;
+        Ok(Accepted::Kept(message))
+    }
+
+    /// Keeps a new string that there is room for, and answers its message.
+    fn keep_new(&mut self, text: &str) -> Result<Vec<u8>, Memory> {
+        let alloc = *self.kept.allocator();
+        let key = form(alloc, self.table, self.form, text)?;
+        let message = message_of(alloc, self.form, text, key.as_str())?;
+        self.keep(text, key)?;
+        Ok(message)
+    }
+}

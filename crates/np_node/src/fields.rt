@@ -1,0 +1,140 @@
+//! The fields of messages and images, read and written.
+
+use np_code_points::{Form, Memory};
+use std::alloc::Global;
+
+/// Bytes that are read field by field, and the place up to which they are read.
+#[derive(Drop)]
+pub(crate) struct Fields<'b> {
+    bytes: &'b [u8],
+    at: usize,
+    ghost within: { at ≤ length bytes.now },
+}
+
+/// A string and its key, as they stand in a message or an image.
+#[derive(Clone, Copy)]
+pub(crate) struct Told<'b> {
+    pub string: &'b [u8],
+    pub key: &'b [u8],
+}
+
+ghost use Rattle.std.specs.Prelude.{◌≤◌, length};
+
+impl<'b> Fields<'b> {
+    ghost use Rattle.std.specs.Prelude.{◌≡◌, ℕ, ◌+◌, ◌^◌, ◌<◌, ◌∷◌, [], IfOk, IfErr, IfSome, IfNone};
+    ghost use Rattle.np_code_points.specs.Forms.{byte_of};
+    ghost use Rattle.np_node.specs.Fields.{entry_bytes, field_bytes, number_bytes, FitsFields, IsEntryFault, IsFieldFault, LacksForm};
+    ghost use Rattle.np_node.specs.inside.Reading.{left_of, told_entry, Passes};
+
+    /// A reader of all of the bytes.
+    pub(crate) fn new(bytes: &'b [u8]) -> Self
+        ensures { (result.bytes.now ≡ bytes.now) × (result.at ≡ 0) }
+    {
+        Fields { bytes, at: 0 }
+    }
+
+    /// How many bytes were read.
+    pub(crate) fn place(&self) -> usize
+        ensures { result ≡ self.now.at }
+    {
+        self.at
+    }
+
+    /// How many bytes are left.
+    pub(crate) fn left(&self) -> usize
+        ensures { result ≡ length (left_of self.now) }
+    {
+        self.bytes.len() - self.at
+    }
+
+    /// The next so many bytes, where there are so many.
+    fn take(&mut self, count: usize) -> Option<&'b [u8]>
+        ensures some { IfSome result (λ xs. Passes self.old self.new xs.now × (length xs.now ≡ count)) }
+        ensures none { IfNone result ((length (left_of self.old) < count) × (self.new ≡ self.old)) }
+    {
+        if self.left() < count {
+            return None;
+        }
+        let bytes = self.bytes;
+        let from = self.at;
+        self.at += count;
+        Some(&bytes[from..from + count])
+    }
+
+    /// Goes over the name, where it is in front.
+    pub(crate) fn skip(&mut self, name: &[u8]) -> bool {
+        if self.left() < name.len() {
+            return false;
+        }
+        match self.take(name.len()) {
+            Some(found) => found == name,
+            None => false,
+        }
+    }
+
+    /// The form whose byte is next.
+    pub(crate) fn form(&mut self) -> Option<Form>
+        ensures some { IfSome result (λ form. Passes self.old self.new (byte_of form ∷ [])) }
+        ensures none { IfNone result (LacksForm (left_of self.old)) }
+    {
+        let byte = self.take(1)?;
+        Form::of_byte(byte[0])
+    }
+
+    /// The next number.
+    pub(crate) fn number(&mut self) -> Option<u32>
+        ensures some { IfSome result (λ n. Passes self.old self.new (number_bytes n)) }
+        ensures none { IfNone result (length (left_of self.old) < 4) }
+    {
+        let bytes = self.take(4)?;
+        Some(u32::from_be_bytes([bytes[0], bytes[1], bytes[2], bytes[3]]))
+    }
+
+    /// The next list of bytes behind its length, or the offset of what is not whole.
+    fn field(&mut self) -> Result<&'b [u8], usize>
+        ensures ok { IfOk result (λ xs. Passes self.old self.new (field_bytes xs.now) × (length xs.now < 2 ^ 32)) }
+        ensures err { IfErr result (λ at. (inner : ℕ) × IsFieldFault (left_of self.old) inner × (at ≡ self.old.at + inner)) }
+    {
+        let at = self.at;
+        let Some(count) = self.number() else {
+            return Err(at);
+        };
+        match self.take(count as usize) {
+            Some(bytes) => Ok(bytes),
+            None => Err(self.at),
+        }
+    }
+
+    /// The next string and its key, or the offset of what is not whole.
+    pub(crate) fn entry(&mut self) -> Result<Told<'b>, usize>
+        ensures ok { IfOk result (λ told. Passes self.old self.new (entry_bytes (told_entry told)) × FitsFields (told_entry told)) }
+        ensures err { IfErr result (λ at. (inner : ℕ) × IsEntryFault (left_of self.old) inner × (at ≡ self.old.at + inner)) }
+    {
+        let string = self.field()?;
+        let key = self.field()?;
+        Ok(Told { string, key })
+    }
+}
+
+ghost use Rattle.std.specs.Prelude.{◌≡◌, ◌++◌, ◌^◌, ◌<◌, OnOk};
+ghost use Rattle.np_node.specs.Fields.{entry_bytes as entry_spelled, field_bytes as field_spelled};
+
+/// Appends a list of bytes behind its length.
+fn push_field(out: &mut Vec<u8>, bytes: &[u8]) -> Result<(), Memory>
+    requires { length bytes.now < 2 ^ 32 }
+    ensures { OnOk result (out.new.items ≡ out.old.items ++ field_spelled bytes.now) }
+{
+    out.extend_from_slice(&(bytes.len() as u32).to_be_bytes())?;
+    out.extend_from_slice(bytes)?;
+    Ok(())
+}
+
+/// Appends a string and its key.
+pub(crate) fn push_entry(out: &mut Vec<u8>, string: &[u8], key: &[u8]) -> Result<(), Memory>
+    requires string { length string.now < 2 ^ 32 }
+    requires key { length key.now < 2 ^ 32 }
+    ensures { OnOk result (out.new.items ≡ out.old.items ++ entry_spelled (record { string = string.now; key = key.now })) }
+{
+    push_field(out, string)?;
+    push_field(out, key)
+}

@@ -1,0 +1,174 @@
+//! The strings that a node keeps, each beside its key.
+ghost use Rattle.std.specs.Prelude.{◌≡◌, ◌↔◌, ◌≤◌, [], length, slice_get, IsOk, IsTrue, IfOk, IfErr, IfSome, IfNone, OnOk, OnErr, OnSome, Contains};
+ghost use Rattle.std.specs.Option.{option_map};
+ghost use Rattle.np_chain.specs.Breaks.{IsFirstBreak};
+ghost use Rattle.np_chain.specs.Chain.{Extends};
+ghost use Rattle.np_code_points.specs.Forms.{is_compat};
+ghost use Rattle.np_forms.specs.Forms.{IsEquivalent};
+ghost use Rattle.np_node.specs.Nodes.{state_of, with_entry, HasPlace, IsKept, IsNode};
+ghost use Rattle.np_node.specs.Strings.{IsKey};
+ghost use Rattle.std.specs.Prelude.{chars, string_bytes};
+
+use indexmap::IndexMap;
+use np_chain::Break;
+use np_code_points::{Form, Memory};
+use np_tables::NormTable;
+use std::alloc::Global;
+use std::marker::Model;
+
+/// The most strings that a node may have room for.
+pub const MOST_ROOM: u32 = 65_536;
+
+/// Strings in the order in which they were kept, each beside its key: its normal form under the
+/// version of a table. Strings are compared by their bytes, so two that are equivalent and unlike
+/// are two entries.
+///
+/// Contracts see the table, the form, the room and the list of entries.
+pub struct Node<'t, T: NormTable> {
+    pub(crate) table: &'t T,
+    pub(crate) form: Form,
+    pub(crate) room: u32,
+    pub(crate) kept: IndexMap<String, String>,
+}
+
+impl<'t, T: NormTable> Model for Node<'t, T> {
+    ghost use Rattle.np_node.specs.Nodes.{NodeState, state_of, IsNode};
+    ghost use Rattle.np_node.specs.inside.Shown.{shown};
+
+    ghost Value = { NodeState T };
+
+    ghost view = { λ a. record { table = a.table.now; form = a.form; room = a.room; entries = shown a.kept.entries } };
+
+    ghost invariant = { λ a. IsNode (record { version = T.model a.table.now; form = a.form; room = a.room; entries = shown a.kept.entries }) };
+}
+
+impl<'t, T: NormTable> Drop for Node<'t, T> {
+    fn drop(self) {
+        let Node {
+            table: _,
+            form: _,
+            room: _,
+            kept: _,
+        } = self;
+    }
+}
+
+impl<'t, T: NormTable> Node<'t, T> {
+    /// A node that keeps nothing yet, with room for `room` strings. It takes no memory.
+    pub fn new(alloc: Global, table: &'t T, form: Form, room: u32) -> Node<'t, T>
+        requires { room ≤ MOST_ROOM }
+        ensures { result ≡ record { table = table.now; form = form; room = room; entries = [] } }
+    {
+        Node {
+            table,
+            form,
+            room,
+            kept: IndexMap::new(alloc),
+        }
+    }
+
+    /// How many strings are kept. Constant time.
+    pub fn len(&self) -> usize
+        ensures count { result ≡ length self.now.entries }
+        ensures node { IsNode (state_of T.model self.now) }
+    {
+        self.kept.len()
+    }
+
+    /// Whether no string is kept.
+    pub fn is_empty(&self) -> bool
+        ensures { IsTrue result ↔ (self.now.entries ≡ []) }
+    {
+        self.kept.is_empty()
+    }
+
+    /// The most strings that may be kept.
+    pub fn room(&self) -> u32
+        ensures { result ≡ self.now.room }
+    {
+        self.room
+    }
+
+    /// The form of the keys.
+    pub fn form(&self) -> Form
+        ensures { result ≡ self.now.form }
+    {
+        self.form
+    }
+
+    /// The table whose version the keys are made under.
+    pub fn table(&self) -> &'t T
+        ensures { result.now ≡ self.now.table }
+    {
+        self.table
+    }
+
+    /// The string and the key of entry number `index`, from 0, in the order in which they were
+    /// kept; none where there is no such entry. Constant time.
+    pub fn entry(&self, index: usize) -> Option<(&str, &str)>
+        ensures { option_map (λ p. record { string = p.0.now; key = p.1.now }) result ≡ slice_get self.now.entries index }
+    {
+        let (string, key) = self.kept.get_index(index)?;
+        Some((string.as_str(), key.as_str()))
+    }
+
+    /// The key of a string that is kept; none where it is not. One look-up by hash.
+    pub fn key_of(&self, string: &str) -> Option<&str>
+        ensures some { IfSome result (λ key. Contains self.now.entries (record { string = string.now; key = key.now })) }
+        ensures key { IfSome result (λ key. IsKey (T.model self.now.table) self.now.form string.now key.now) }
+        ensures none { IfNone result (¬ IsKept self.now.entries string.now) }
+    {
+        let key = self.kept.get(string)?;
+        Some(key.as_str())
+    }
+
+    /// Whether two kept strings are equivalent under the table's version (compatibly, for NFKD and
+    /// NFKC), which their keys tell; none where one of them is not kept. Two look-ups by hash and
+    /// one comparison of bytes.
+    pub fn same(&self, left: &str, right: &str) -> Option<bool>
+        ensures some { IfSome result (λ b. IsTrue b ↔ IsEquivalent (T.model self.now.table) (is_compat self.now.form) (chars left.now) (chars right.now)) }
+        ensures kept { OnSome result (IsKept self.now.entries left.now × IsKept self.now.entries right.now) }
+        ensures none { IfNone result (¬ (IsKept self.now.entries left.now × IsKept self.now.entries right.now)) }
+    {
+        let first = self.key_of(left)?;
+        let second = self.key_of(right)?;
+        Some(first == second)
+    }
+
+    /// Moves to a table whose version extends the present one. Strings and keys stay as they are,
+    /// and no entry is looked at: the time is that of `np_chain::extends`.
+    ///
+    /// # Errors
+    ///
+    /// The first break where the version does not extend the present one. Nothing changes.
+    pub fn upgrade(&mut self, table: &'t T) -> Result<(), Break>
+        ensures extends { IsOk result ↔ Extends (T.model self.old.table) (T.model table.now) }
+        ensures ok { OnOk result (self.new ≡ record self.old { table = table.now }) }
+        ensures broken { IfErr result (λ first. IsFirstBreak (T.model self.old.table) (T.model table.now) first) }
+        ensures err { OnErr result (self.new ≡ self.old) }
+    {
+        np_chain::laws::stability();
+        np_chain::extends(self.table.version(), table.version())?;
+        self.table = table;
+        Ok(())
+    }
+
+    /// Whether there are as many strings as the room.
+    pub(crate) fn is_full(&self) -> bool
+        ensures { IsTrue result ↔ (self.now.room ≤ length self.now.entries) }
+    {
+        self.kept.len() >= self.room as usize
+    }
+
+    /// Keeps a new string beside its key, behind the others.
+    pub(crate) fn keep(&mut self, string: &str, key: String) -> Result<(), Memory>
+        requires place { HasPlace (state_of T.model self.old) string.now }
+        requires key { IsKey (T.model self.old.table) self.old.form string.now (string_bytes key) }
+        ensures ok { OnOk result (self.new ≡ with_entry self.old (record { string = string.now; key = string_bytes key })) }
+        ensures err { OnErr result (self.new ≡ self.old) }
+    {
+        let string = String::from_str(*self.kept.allocator(), string)?;
+        self.kept.insert(string, key)?;
+        Ok(())
+    }
+}

@@ -1,0 +1,81 @@
+//! Nodes from their images.
+ghost use Rattle.std.specs.Prelude.{◌≤◌};
+ghost use Rattle.np_node.specs.Restoring.{AnswersRestore};
+
+use crate::faults::{ImageFault, NodeFault};
+use crate::fields::{Fields, Told};
+use crate::images::{read_head, shape_of};
+use crate::nodes::{MOST_ROOM, Node};
+use crate::taking::Taken;
+use np_code_points::Form;
+use np_tables::NormTable;
+use std::alloc::Global;
+
+/// The refusal of a whole image.
+fn whole(fault: NodeFault) -> ImageFault {
+    ImageFault { entry: None, fault }
+}
+
+impl<'t, T: NormTable> Node<'t, T> {
+    /// The node of an image, under a table, with a form and a room. No key of the image is
+    /// trusted: each is made anew. Linear in the image's length, but for what the forms cost.
+    ///
+    /// # Errors
+    ///
+    /// In this order, with no entry's number: `Malformed` where the bytes are no image;
+    /// `OtherForm`; `Full` where there are more entries than the room. Then for the first entry
+    /// that is wrong, with its number from 0: `TooLong`, `NotUtf8`, `Unassigned`, `KeyDiffers`,
+    /// and `Malformed` at the entry's first byte where an earlier entry has the string. `Memory`
+    /// has no entry's number, and can come in place of anything behind the shape, the form and
+    /// the room.
+    pub fn restore(
+        alloc: Global,
+        table: &'t T,
+        form: Form,
+        room: u32,
+        image: &[u8],
+    ) -> Result<Node<'t, T>, ImageFault>
+        requires { room ≤ MOST_ROOM }
+        ensures { AnswersRestore T.model table.now form room image.now result }
+    {
+        let count = match shape_of(image) {
+            Ok((found, count)) if found == form => count,
+            Ok(_) => return Err(whole(NodeFault::OtherForm)),
+            Err(at) => return Err(whole(NodeFault::Malformed { at })),
+        };
+        if count > room {
+            return Err(whole(NodeFault::Full));
+        }
+        Node::new(alloc, table, form, room).filled(image, count)
+    }
+
+    /// The node with the entries of an image, whose shape is right.
+    fn filled(mut self, image: &[u8], count: u32) -> Result<Node<'t, T>, ImageFault> {
+        let mut fields = Fields::new(image);
+        if let Err(at) = read_head(&mut fields) {
+            return Err(whole(NodeFault::Malformed { at }));
+        }
+        for number in 0..count {
+            let at = fields.place();
+            match fields.entry() {
+                Ok(told) => self.restore_entry(told, number, at)?,
+                Err(at) => return Err(whole(NodeFault::Malformed { at })),
+            }
+        }
+        Ok(self)
+    }
+
+    /// Keeps entry `number`, which begins at `at`.
+    fn restore_entry(&mut self, told: Told<'_>, number: u32, at: usize) -> Result<(), ImageFault> {
+        let fault = match self.take_told(told) {
+            Ok(Taken::Kept) => return Ok(()),
+            Ok(Taken::Known) => NodeFault::Malformed { at },
+            Err(NodeFault::Memory) => return Err(whole(NodeFault::Memory)),
+            Err(fault) => fault,
+        };
+        Err(ImageFault {
+            entry: Some(number),
+            fault,
+        })
+    }
+}
