@@ -21,14 +21,14 @@ pub record Setting : Type 0 where
 
 -- a node: the place of its version in the row, the strings that it keeps, in the order in which it came to keep them, and those
 -- that it saved last
-pub record NodeState : Type 0 where
+pub record MachineNode : Type 0 where
   pub index : ℕ
   pub strings : List (List ℕ)
   pub saved : List (List ℕ)
 
 -- the nodes, and all strings that were ever sent, in that order
 pub record World : Type 0 where
-  pub nodes : List NodeState
+  pub nodes : List MachineNode
   pub sent : List (List ℕ)
 
 -- at the start node I has the version that stands at place I of the list, and nothing is kept, saved or sent
@@ -37,7 +37,7 @@ start indices = record { nodes = map (λ index. record { index = index; strings 
 
 -- what an event meets and leaves: the node that it names, and what was sent
 pub record Scene : Type 0 where
-  pub node : NodeState
+  pub node : MachineNode
   pub sent : List (List ℕ)
 
 -- ---- what an event does
@@ -49,7 +49,7 @@ If condition first second = (condition × first) ⊎ ((¬ condition) × second)
 abbrev pub byte_length : List ℕ → ℕ
 byte_length string = length (encode_utf8_all string)
 
-abbrev pub with_string : NodeState → List ℕ → NodeState
+abbrev pub with_string : MachineNode → List ℕ → MachineNode
 with_string node string = record node { strings = node.strings ++ string ∷ [] }
 
 -- the reply names the first code point that the version lacks, and its place in bytes
@@ -83,6 +83,14 @@ Upgrades setting before reply after =
     ((reply ≡ Version (before.node.index + 1)) × (after ≡ record before { node = record before.node { index = before.node.index + 1 } }))
     ((reply ≡ LastVersion) × (after ≡ before))
 
+-- a node saves what it keeps
+abbrev pub Saves : Scene → Reply → Scene → Type 0
+Saves before reply after = (reply ≡ Saved) × (after ≡ record before { node = record before.node { saved = before.node.strings } })
+
+-- a node loses what it keeps, and has again what it saved last; its version stays
+abbrev pub Restarts : Scene → Reply → Scene → Type 0
+Restarts before reply after = (reply ≡ Restarted) × (after ≡ record before { node = record before.node { strings = before.node.saved } })
+
 -- a node is asked about two strings: are they equivalent under the last version?
 abbrev pub Asks : Setting → VersionData → List ℕ → List ℕ → Scene → Reply → Scene → Type 0
 Asks setting last left right before reply after =
@@ -95,18 +103,16 @@ abbrev pub Does : Setting → VersionData → VersionData → Event → Scene �
 Does setting version last (Accept node string) before reply after = Accepts setting version string before reply after
 Does setting version last (Deliver node message) before reply after = Delivers setting version message before reply after
 Does setting version last (Upgrade node) before reply after = Upgrades setting before reply after
-Does setting version last (Save node) before reply after =
-    (reply ≡ Saved) × (after ≡ record before { node = record before.node { saved = before.node.strings } })
-Does setting version last (Restart node) before reply after =
-    (reply ≡ Restarted) × (after ≡ record before { node = record before.node { strings = before.node.saved } })
+Does setting version last (Save node) before reply after = Saves before reply after
+Does setting version last (Restart node) before reply after = Restarts before reply after
 Does setting version last (Ask node left right) before reply after = Asks setting last left right before reply after
 
 -- ---- one event after another
 
 -- an event and its reply: the node that the event names changes, and no other
 pub record IsStep (setting : Setting) (before : World) (event : Event) (reply : Reply) (after : World) : Type 0 where
-  pub old : NodeState
-  pub new : NodeState
+  pub old : MachineNode
+  pub new : MachineNode
   pub version : VersionData
   pub last : VersionData
   pub named : slice_get before.nodes (node_of event) ≡ Some old

@@ -1,2 +1,3 @@
 pub mod EventValues
+pub mod Mirrors
 pub mod Rust

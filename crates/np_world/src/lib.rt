@@ -3,9 +3,11 @@
 
 mod event_lines;
 mod events;
+mod members;
 mod replies;
 mod schedules;
 mod spelling;
+mod turns;
 
 pub use replies::Reply;
 pub use schedules::ScheduleFault;
