@@ -1,2 +1,4 @@
+pub mod RunLemmas
+pub mod StepLemmas
 pub mod StringLemmas
 pub mod TurnLemmas

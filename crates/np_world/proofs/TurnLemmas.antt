@@ -93,7 +93,7 @@ same_under stability forms v w form sound_v sound_w extends a b is_a is_b =
 abbrev make_state : VersionData → Form → ℕ → List Entry → State
 make_state v form room entries = record { version = v; form = form; room = room; entries = entries }
 
-abbrev make_node : {T : Type 0} → T → Form → ℕ → List Entry → NodeState T
+abbrev pub make_node : {T : Type 0} → T → Form → ℕ → List Entry → NodeState T
 make_node table form room entries = record { table = table; form = form; room = room; entries = entries }
 
 same_node : {T : Type 0} (node : NodeState T) (table : T) (form : Form) (room : ℕ) → node.table ≡ table → node.form ≡ form → node.room ≡ room → node ≡ make_node table form room node.entries

@@ -1,3 +1,4 @@
 pub mod EventValues
 pub mod Mirrors
 pub mod Rust
+pub mod Worlds

@@ -4,10 +4,14 @@
 mod event_lines;
 mod events;
 mod members;
+mod replays;
 mod replies;
+mod report;
 mod schedules;
 mod spelling;
+mod steps;
 mod turns;
 
 pub use replies::Reply;
-pub use schedules::ScheduleFault;
+pub use report::Report;
+pub use schedules::{Schedule, ScheduleFault};

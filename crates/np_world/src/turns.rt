@@ -6,7 +6,7 @@ ghost use Rattle.np_world.specs.inside.Mirrors.{rules_of, setting_of, AreSent, I
 use crate::members::{Common, Member};
 use crate::replies::Reply;
 use np_code_points::Memory;
-use np_node::{Accepted, ImageFault, Node, NodeFault, Taken};
+use np_node::{Accepted, Node, NodeFault, Taken};
 use np_tables::NormTable;
 
 /// The node is given a string, and what it tells is sent.
@@ -67,13 +67,11 @@ pub(crate) fn deliver<T: NormTable>(
         Err(NodeFault::Unassigned { at, code }) => Ok(Reply::Unassigned { at, code }),
         Err(NodeFault::Full) => Ok(Reply::Full),
         Err(NodeFault::Memory) => Err(Memory),
-        Err(
-            NodeFault::TooLong
-            | NodeFault::NotUtf8 { .. }
-            | NodeFault::Malformed { .. }
-            | NodeFault::OtherForm
-            | NodeFault::KeyDiffers,
-        ) => unreachable!(),
+        Err(NodeFault::TooLong) => unreachable!(),
+        Err(NodeFault::NotUtf8 { at: _at }) => unreachable!(),
+        Err(NodeFault::Malformed { at: _at }) => unreachable!(),
+        Err(NodeFault::OtherForm) => unreachable!(),
+        Err(NodeFault::KeyDiffers) => unreachable!(),
     }
 }
 
@@ -111,6 +109,22 @@ pub(crate) fn save<T: NormTable>(
     Ok(Reply::Saved)
 }
 
+/// The one fault that a saved image can meet.
+fn want_of_memory(fault: NodeFault) -> Memory
+    requires { fault ≡ NodeFault.Memory }
+{
+    match fault {
+        NodeFault::Memory => Memory,
+        NodeFault::Malformed { .. } => unreachable!(),
+        NodeFault::OtherForm => unreachable!(),
+        NodeFault::TooLong => unreachable!(),
+        NodeFault::NotUtf8 { .. } => unreachable!(),
+        NodeFault::Unassigned { .. } => unreachable!(),
+        NodeFault::KeyDiffers => unreachable!(),
+        NodeFault::Full => unreachable!(),
+    }
+}
+
 /// The node begins again under its version with what it saved last, or with nothing.
 pub(crate) fn restart<'t, T: NormTable>(
     common: &Common<'_, 't, T>,
@@ -121,33 +135,19 @@ pub(crate) fn restart<'t, T: NormTable>(
         (λ version last. Restarts) member.old messages reply member.new messages) }
 {
     let table = member.node.table();
+    let Some(image) = &member.image else {
+        member.node = Node::new(common.alloc, table, common.form, common.room);
+        return Ok(Reply::Restarted);
+    };
     // An image that a node saved is never refused under its own or a later version.
     np_node::laws::saved();
     np_node::laws::images();
-    let restored = match &member.image {
-        None => Ok(Node::new(common.alloc, table, common.form, common.room)),
-        Some(image) => Node::restore(common.alloc, table, common.form, common.room, image.as_slice()),
-    };
-    match restored {
+    match Node::restore(common.alloc, table, common.form, common.room, image.as_slice()) {
         Ok(node) => {
             member.node = node;
             Ok(Reply::Restarted)
         }
-        Err(ImageFault {
-            entry: _,
-            fault: NodeFault::Memory,
-        }) => Err(Memory),
-        Err(ImageFault {
-            entry: _,
-            fault:
-                NodeFault::TooLong
-                | NodeFault::NotUtf8 { .. }
-                | NodeFault::Unassigned { .. }
-                | NodeFault::Full
-                | NodeFault::Malformed { .. }
-                | NodeFault::OtherForm
-                | NodeFault::KeyDiffers,
-        }) => unreachable!(),
+        Err(refused) => Err(want_of_memory(refused.fault)),
     }
 }
 

@@ -18,7 +18,64 @@ pub take-requires : goal.take-requires
 take-requires g c = ?
 
 pub unreachable-requires : goal.unreachable-requires
-unreachable-requires g c = ?
+unreachable-requires g c =
+    let model = g.T.NormTable.model in
+    let rules = rules_of c.args.common.now in
+    let old = c.args.member.now in
+    let found = get_at c.args.sent.now.items c.args.message c.index-bytes.result.now (omega arith) c.index-bytes.ensures in
+    let same = c.in-Err-TooLong.is ∙ ap Err c.in-Err-TooLong.field-0-is in
+    let answers = subst (λ l. AnswersTake (state_of model old.node) l (Err fault.TooLong)) c.as_slice.ensures.value
+    (take_answers (state_of model old.node) c.as_slice.result.now c.take.result (Err fault.TooLong) same c.take.ensures.answer) in
+    fair model rules old c.requires.ready.twin c.requires.sent.0 (model old.node.table) c.requires.ready.mirrors c.args.message c.index-bytes.result.now old c.args.sent.now.items found c.requires.sent.1 c.messages.ensures.one
+    c.requires.ready.rules_hold c.exchange.ensures.fair (Err fault.TooLong) answers
+
+pub unreachable-requires-in-Err-NotUtf8 : goal.unreachable-requires-in-Err-NotUtf8
+unreachable-requires-in-Err-NotUtf8 g c =
+    let model = g.T.NormTable.model in
+    let rules = rules_of c.args.common.now in
+    let old = c.args.member.now in
+    let found = get_at c.args.sent.now.items c.args.message c.index-bytes.result.now (omega arith) c.index-bytes.ensures in
+    let same = c.in-Err-NotUtf8.is ∙ ap Err c.in-Err-NotUtf8.field-0-is in
+    let answers = subst (λ l. AnswersTake (state_of model old.node) l (Err (fault.NotUtf8 c.in-Err-NotUtf8._at))) c.as_slice.ensures.value
+    (take_answers (state_of model old.node) c.as_slice.result.now c.take.result (Err (fault.NotUtf8 c.in-Err-NotUtf8._at)) same c.take.ensures.answer) in
+    fair model rules old c.requires.ready.twin c.requires.sent.0 (model old.node.table) c.requires.ready.mirrors c.args.message c.index-bytes.result.now old c.args.sent.now.items found c.requires.sent.1 c.messages.ensures.one
+    c.requires.ready.rules_hold c.exchange.ensures.fair (Err (fault.NotUtf8 c.in-Err-NotUtf8._at)) answers
+
+pub unreachable-requires-in-Err-Malformed : goal.unreachable-requires-in-Err-Malformed
+unreachable-requires-in-Err-Malformed g c =
+    let model = g.T.NormTable.model in
+    let rules = rules_of c.args.common.now in
+    let old = c.args.member.now in
+    let found = get_at c.args.sent.now.items c.args.message c.index-bytes.result.now (omega arith) c.index-bytes.ensures in
+    let same = c.in-Err-Malformed.is ∙ ap Err c.in-Err-Malformed.field-0-is in
+    let answers = subst (λ l. AnswersTake (state_of model old.node) l (Err (fault.Malformed c.in-Err-Malformed._at))) c.as_slice.ensures.value
+    (take_answers (state_of model old.node) c.as_slice.result.now c.take.result (Err (fault.Malformed c.in-Err-Malformed._at)) same c.take.ensures.answer) in
+    fair model rules old c.requires.ready.twin c.requires.sent.0 (model old.node.table) c.requires.ready.mirrors c.args.message c.index-bytes.result.now old c.args.sent.now.items found c.requires.sent.1 c.messages.ensures.one
+    c.requires.ready.rules_hold c.exchange.ensures.fair (Err (fault.Malformed c.in-Err-Malformed._at)) answers
+
+pub unreachable-requires-in-Err-OtherForm : goal.unreachable-requires-in-Err-OtherForm
+unreachable-requires-in-Err-OtherForm g c =
+    let model = g.T.NormTable.model in
+    let rules = rules_of c.args.common.now in
+    let old = c.args.member.now in
+    let found = get_at c.args.sent.now.items c.args.message c.index-bytes.result.now (omega arith) c.index-bytes.ensures in
+    let same = c.in-Err-OtherForm.is ∙ ap Err c.in-Err-OtherForm.field-0-is in
+    let answers = subst (λ l. AnswersTake (state_of model old.node) l (Err fault.OtherForm)) c.as_slice.ensures.value
+    (take_answers (state_of model old.node) c.as_slice.result.now c.take.result (Err fault.OtherForm) same c.take.ensures.answer) in
+    fair model rules old c.requires.ready.twin c.requires.sent.0 (model old.node.table) c.requires.ready.mirrors c.args.message c.index-bytes.result.now old c.args.sent.now.items found c.requires.sent.1 c.messages.ensures.one
+    c.requires.ready.rules_hold c.exchange.ensures.fair (Err fault.OtherForm) answers
+
+pub unreachable-requires-in-Err-KeyDiffers : goal.unreachable-requires-in-Err-KeyDiffers
+unreachable-requires-in-Err-KeyDiffers g c =
+    let model = g.T.NormTable.model in
+    let rules = rules_of c.args.common.now in
+    let old = c.args.member.now in
+    let found = get_at c.args.sent.now.items c.args.message c.index-bytes.result.now (omega arith) c.index-bytes.ensures in
+    let same = c.in-Err-KeyDiffers.is ∙ ap Err c.in-Err-KeyDiffers.field-0-is in
+    let answers = subst (λ l. AnswersTake (state_of model old.node) l (Err fault.KeyDiffers)) c.as_slice.ensures.value
+    (take_answers (state_of model old.node) c.as_slice.result.now c.take.result (Err fault.KeyDiffers) same c.take.ensures.answer) in
+    fair model rules old c.requires.ready.twin c.requires.sent.0 (model old.node.table) c.requires.ready.mirrors c.args.message c.index-bytes.result.now old c.args.sent.now.items found c.requires.sent.1 c.messages.ensures.one
+    c.requires.ready.rules_hold c.exchange.ensures.fair (Err fault.KeyDiffers) answers
 
 pub returns-then-message-len : goal.returns-then-message-len
 returns-then-message-len g c = λ node strings version last are mirrors sent here end.

@@ -1,0 +1,64 @@
+-- A run of the machine, event by event.
+use Rattle.std.proofs.Common.{◌≡◌, ℕ, zero, suc, ◌+◌, ◌<◌, ◌≤◌, List, [], ◌∷◌, ◌++◌, length, get_or, map, take, slice_get, refl, sym, ap, subst, ◌∙◌, arith}
+use Rattle.std.proofs.lemmas.List.{length-map, take_more, map-append, get_or-map}
+use Rattle.std.specs.List.{All}
+use Rattle.std.specs.declared.vec.Vec.{Vec}
+use Rattle.std.specs.declared.alloc.Global.{Global}
+use Rattle.np_tables.specs.Versions.{VersionData}
+use Rattle.np_world.specs.Events.{Event, node_of}
+use Rattle.np_world.specs.Schedules.{NameNodes}
+use Rattle.np_world.specs.World.{Setting, MachineNode, World, IsStep, IsRun, start}
+use Rattle.np_world.specs.declared.events.EventLine.{EventLine}
+use Rattle.np_world.specs.declared.members.Member.{Member}
+use Rattle.np_world.specs.declared.replies.Reply.{Reply}
+use Rattle.np_world.specs.inside.Mirrors.{Rules, setting_of, Mirrors, AreRules}
+use Rattle.np_world.specs.inside.Rust.{event_of}
+use Rattle.np_world.specs.inside.Worlds.{AreMirrored, ShowsWorld, IsShown, Steps, Begins, EndsRun}
+
+run-push : (setting : Setting) (before : World) (events : List Event) (replies : List Reply) (between : World) (event : Event) (reply : Reply) (after : World)
+    → IsRun setting before events replies between → IsStep setting between event reply after → IsRun setting before (events ++ event ∷ []) (replies ++ reply ∷ []) after
+run-push setting before [] replies between event reply after run step =
+    (reply, [], after, ap (λ l. l ++ reply ∷ []) run.0, subst (λ w. IsStep setting w event reply after) run.1 step, (refl, refl))
+run-push setting before (e ∷ es) replies between event reply after run step =
+    (run.0, run.1 ++ reply ∷ [], run.2, ap (λ l. l ++ reply ∷ []) run.3, run.4, run-push setting run.2 es run.1 between event reply after run.5 step)
+
+module _ {T : Type 0} (model : T → VersionData) (rules : Rules T) where
+  pub length-mirrored : (members : List (Member T)) (nodes : List MachineNode) → AreMirrored model rules members nodes → length members ≡ length nodes
+  length-mirrored [] [] are = refl
+  length-mirrored (m ∷ ms) (n ∷ ns) are = ap suc (length-mirrored ms ns are.1)
+  length-mirrored [] (n ∷ ns) are = absurd are
+  length-mirrored (m ∷ ms) [] are = absurd are
+
+  pub mirrored-push : (members : List (Member T)) (nodes : List MachineNode) (member : Member T) (node : MachineNode) → AreMirrored model rules members nodes → Mirrors model rules member node → AreMirrored model rules (members ++ member ∷ []) (nodes ++ node ∷ [])
+  mirrored-push [] [] member node are is = (is, tt)
+  mirrored-push (m ∷ ms) (n ∷ ns) member node are is = (are.0, mirrored-push ms ns member node are.1 is)
+  mirrored-push [] (n ∷ ns) member node are is = absurd are
+  mirrored-push (m ∷ ms) [] member node are is = absurd are
+
+  -- nothing happened yet
+  pub ends-nothing : (starts : List ℕ) (events : List EventLine) (members : List (Member T)) → Begins model rules members starts → EndsRun model rules starts (map event_of (take 0 events)) [] members []
+  ends-nothing starts events members begins = record { world = start starts; run = (refl, refl); shows = record { nodes = begins; sent = tt } }
+
+  -- one event more
+  pub ends-more : (starts : List ℕ) (events : List EventLine) (i : ℕ) (d : EventLine) (replies : List Reply) (members new : List (Member T)) (told new_told : List (Vec ℕ Global)) (reply : Reply) → i < length events → AreRules model rules
+      → EndsRun model rules starts (map event_of (take i events)) replies members told → Steps model rules members told (event_of (get_or events i d)) reply new new_told
+      → EndsRun model rules starts (map event_of (take (i + 1) events)) (replies ++ reply ∷ []) new new_told
+  ends-more starts events i d replies members new told new_told reply lt are ends steps =
+      let step = steps ends.world are ends.shows in
+      let more : map event_of (take (i + 1) events) ≡ map event_of (take i events) ++ event_of (get_or events i d) ∷ [] =
+          ap (map event_of) (take_more events i d lt) ∙ map-append event_of (take i events) (get_or events i d ∷ []) in
+      record {
+        world = step.0;
+        run = subst (λ es. IsRun (setting_of model rules) (start starts) es (replies ++ reply ∷ []) step.0) (sym more)
+            (run-push (setting_of model rules) (start starts) (map event_of (take i events)) replies ends.world (event_of (get_or events i d)) reply step.0 ends.run step.1);
+        shows = step.2;
+      }
+
+  pub shown : (starts : List ℕ) (events : List Event) (replies : List Reply) (members : List (Member T)) (told : List (Vec ℕ Global)) → AreRules model rules → EndsRun model rules starts events replies members told → IsShown model rules members told
+  shown starts events replies members told are ends = record { rules_hold = are; world = ends.world; shows = ends.shows }
+
+-- an event names one of the nodes
+pub named_at : (nodes : ℕ) (events : List EventLine) (i : ℕ) (d : EventLine) → NameNodes nodes (map event_of events) → i < length events → node_of (event_of (get_or events i d)) < nodes
+named_at nodes events i d names lt =
+    let there = names i (event_of d) (omega (arith, lt, length-map events event_of)) in
+    subst (λ e. node_of e < nodes) (get_or-map event_of events i d (event_of d) lt) there
