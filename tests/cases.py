@@ -2,16 +2,11 @@
 
 from dataclasses import dataclass
 
-from harness import COMMANDS, FORMS, NORMALIZE_STREAMS
+from harness import ROOT
 from versions import BAD_DATA, BAD_TABLES, EXCLUSIONS, LIMIT, S, V1, V2, good_files
 
-USAGE = (
-    "usage: npss normalize --form FORM DATA EXCL\n"
-    "       npss key --form FORM DATA EXCL\n"
-    "       npss compare --form FORM DATA EXCL\n"
-    "       npss audit OLDDATA OLDEXCL NEWDATA NEWEXCL\n"
-    "       npss replay --form FORM SCHEDULE FILES..\n"
-)
+# The usage text is that of the stored run, which tests/fixtures.py compares with docs/FORMATS.md.
+USAGE = (ROOT / "crates" / "npss" / "stdout").read_text(encoding="utf-8")
 
 # Statuses.
 DIFFERENT, WRONG_WORDS, UNASSIGNED, BAD_TEXT, DEVICE = 1, 2, 3, 4, 5
@@ -19,17 +14,13 @@ DIFFERENT, WRONG_WORDS, UNASSIGNED, BAD_TEXT, DEVICE = 1, 2, 3, 4, 5
 
 @dataclass
 class Case:
-    """One run: its words, its input, and what it has to write and answer.
-
-    With `prefix` standard output may hold any prefix of `out`.
-    """
+    """One run: its words, its input, and what it has to write and answer."""
 
     words: list
     stdin: bytes = b""
     out: bytes = b""
     err: str = ""
     status: int = 0
-    prefix: bool = False
 
     def name(self):
         return f"{' '.join(self.words)} < {self.stdin[:40]!r}"
@@ -71,6 +62,35 @@ FORM_ROWS = [
     (("just-not-too-long.data", "empty"), "nfkd", "0063", " ".join(["0061"] * 64)),
 ]
 
+# Strings at which a wrong definition would be seen: the form or forms under a version, worked out by hand.
+GRAVE = ("composite-of-old-and-new.data", V1[1])
+LAST = ("with-last.data", V1[1])
+WORKED_ROWS = [
+    # the least and the greatest of the pairs
+    (V1, "nfc nfkc", "0041 030A", "00C5"),
+    (V1, "nfc nfkc", "1EA1 0302", "1EAD"),
+    (V1, "nfc nfkc", "0061 0302", "00E2"),
+    # two non-starters of one class of which the first composes
+    (V1, "nfd nfkd", "0061 0302 0301", "0061 0302 0301"),
+    (V1, "nfc nfkc", "0061 0302 0301", "00E2 0301"),
+    # a pair that no version before had, and one that this version excludes
+    (V1, "nfc", "0041 0301", "0041 0301"),
+    (("new-composite.data", "with-00c1.excl"), "nfd nfc", "00C1", "0041 0301"),
+    # a non-starter between two starters that compose
+    (GRAVE, "nfd nfc nfkd nfkc", "1100 0300 1161", "1100 0300 1161"),
+    (GRAVE, "nfc", "AC00 0300 11A8", "AC00 0300 11A8"),
+    # a run of non-starters before a starter that composes with nothing, with a starter before it and without
+    (V1, "nfd nfc nfkd nfkc", "0302 0323 0066", "0323 0302 0066"),
+    (V1, "nfc", "0061 0302 0323 0066 0061", "1EAD 0066 0061"),
+    # the last trailing consonant and the last syllable
+    (V1, "nfc nfkc", "1100 1161 11C2", "AC1B"),
+    (V1, "nfc", "AC00 11C2", "AC1B"),
+    (V1, "nfd", "D7A3", "1112 1175 11C2"),
+    (V1, "nfc", "1112 1175 11C2", "D7A3"),
+    # the last code point
+    (LAST, "nfd nfc nfkd nfkc", "0061 10FFFF 0302", "0061 10FFFF 0302"),
+]
+
 # A version, a form and a string that `normalize` leaves as it is, and the refusal of `key`.
 UNASSIGNED_ROWS = [
     (V1, "nfc", "0041 16D67", "unassigned 16D67 at byte 1"),
@@ -106,6 +126,14 @@ COMPARE_ROWS = [
     ("nfc", b"", "", "input: two lines wanted", BAD_TEXT),
     ("nfc", b"a", "", "input: two lines wanted", BAD_TEXT),
     ("nfc", b"b", "", "input: two lines wanted", BAD_TEXT),
+    # a text and its prefix, either way round
+    ("nfc", b"Aa\nA\n", "different", "", DIFFERENT),
+    ("nfkd", b"A\nAa\n", "different", "", DIFFERENT),
+    # two equal strings that aren't assigned
+    ("nfc", b"b\nb\n", "", "first: unassigned 0062 at byte 0", UNASSIGNED),
+    # a last line with CR, with and without a line end behind it
+    ("nfc", b"a\na\r", "", "second: unassigned 000D at byte 1", UNASSIGNED),
+    ("nfc", b"a\na\r\n", "", "second: unassigned 000D at byte 1", UNASSIGNED),
     ("nfc", b"a\n\n\n", "", "second: unassigned 000A at byte 0", UNASSIGNED),
     ("nfc", b"ab\nb", "", "first: unassigned 0062 at byte 1", UNASSIGNED),
     ("nfc", b"a\nab\n", "", "second: unassigned 0062 at byte 1", UNASSIGNED),
@@ -127,6 +155,17 @@ AUDIT_ROWS = [
     (V1, (V1[0], "empty"), "NowIncluded 0958\n"),
     ((V1[0], "empty"), V1, "NowExcluded 0958\n"),
     (V1, ("other-mapping.data", V1[1]), "MappingChanged FB01\n"),
+    (V1, ("lower-class.data", V1[1]), "ClassChanged 0302\n"),
+    (V1, ("canonical-to-compatibility.data", V1[1]), "MappingChanged 00E2\n"),
+    (V1, ("mapping-of-equal-length.data", V1[1]), "MappingChanged 00E2\n"),
+    (V1, GRAVE, ""),
+    (GRAVE, V1, "Lost 00C0\nLost 0300\n"),
+    (V1, LAST, ""),
+    (LAST, V1, "Lost 10FFFF\n"),
+    (LAST, ("last-with-class.data", V1[1]), "ClassChanged 10FFFF\n"),
+    # more breaks than half a million
+    (("many.data", "empty"), ("empty", "empty"),
+     "".join(f"Lost {code:04X}\n" for code in range(0x20000, 0xA0000))),
 ]
 
 
@@ -141,11 +180,21 @@ def usage_cases():
     wrong = ["--help", "-h", "help", "--version", "help key", "key --help", "key", "nothing", "--",
              "key --form nfx D E", "key --form NFC D E", "key D E", "key --form nfc D",
              "key --form nfc D E F", "key --form nfc --form nfc D E", "audit A B C",
-             "audit A B C D E", "compare --form nfc D", "normalize --form nfc", "replay --form nfc S"]
-    if "replay" not in COMMANDS:
-        wrong.append("replay --form nfc S D E")
+             "audit A B C D E", "audit A B --form nfc C D", "compare --form nfc D", "normalize --form nfc", "replay --form nfc S",
+             # until the command comes
+             "replay --form nfc S D E"]
     for words in wrong:
         yield Case(words.split(), err=USAGE, status=WRONG_WORDS)
+
+
+def word_cases():
+    """Words in other orders: options stand anywhere among the places of a command."""
+    given, wanted = text("0061 0302 0323"), text("1EAD")
+    for words in (["--form", "nfc", *V1], [*V1, "--form", "nfc"], [V1[0], "--form", "nfc", V1[1]],
+                  ["--form=nfc", *V1], ["--form", "nfc", "--", *V1]):
+        yield Case(["key", *words], given, wanted)
+    # one file may be named twice
+    yield Case(["audit", *V1, *V1], out=b"extends\n")
 
 
 def form_cases():
@@ -159,6 +208,17 @@ def form_cases():
         yield refused(["key", "--form", form, *version], refusal, UNASSIGNED, text(given))
 
 
+def worked_cases():
+    """Forms worked out by hand; and a place behind code points that are longer in their form."""
+    for version, forms, given, wanted in WORKED_ROWS:
+        for form in forms.split():
+            for command in ("key", "normalize"):
+                yield Case([command, "--form", form, *version], text(given), text(wanted))
+    words = ["--form", "nfd", *V1]
+    yield refused(["key", *words], "unassigned 0062 at byte 4", UNASSIGNED, text("00C5 00E2 0062"))
+    yield Case(["normalize", *words], text("00C5 00E2 0062"), text("0041 030A 0061 0302 0062"))
+
+
 def input_cases():
     """Input that is not UTF-8 or too large."""
     for given, at in NOT_UTF8:
@@ -166,20 +226,20 @@ def input_cases():
         line = f"input: not UTF-8 at byte {at}"
         yield refused(["key", "--form", "nfc", *V1], line, BAD_TEXT, given)
         yield refused(["compare", "--form", "nfc", *V1], line, BAD_TEXT, given)
-        out = given[:at] if NORMALIZE_STREAMS else b""
-        yield Case(["normalize", "--form", "nfc", *V1], given, out, line + "\n", BAD_TEXT, prefix=True)
+        yield refused(["normalize", "--form", "nfc", *V1], line, BAD_TEXT, given)
     full = b"a" * LIMIT
     yield Case(["key", "--form", "nfc", *V1], full, full)
     yield Case(["normalize", "--form", "nfc", *V1], full, full)
     yield refused(["key", "--form", "nfc", *V1], "input: TooLarge", BAD_TEXT, full + b"a")
     yield refused(["key", "--form", "nfc", *V1], "input: TooLarge", BAD_TEXT, full + b"\xff")
+    # a form that is longer than an input may be
+    rings = text("00C5") * (LIMIT // 2)
+    yield Case(["key", "--form", "nfd", *V1], rings, text("0041 030A") * (LIMIT // 2))
+    yield Case(["normalize", "--form", "nfd", *V1], rings, text("0041 030A") * (LIMIT // 2))
     half = b"a" * (LIMIT // 2 - 1)
     yield Case(["compare", "--form", "nfc", *V1], half + b"\n" + half + b"\n", b"equal\n")
     yield refused(["compare", "--form", "nfc", *V1], "input: TooLarge", BAD_TEXT, full + b"\n")
-    if NORMALIZE_STREAMS:
-        yield Case(["normalize", "--form", "nfc", *V1], full + b"a", full + b"a")
-    else:
-        yield refused(["normalize", "--form", "nfc", *V1], "input: TooLarge", BAD_TEXT, full + b"a")
+    yield refused(["normalize", "--form", "nfc", *V1], "input: TooLarge", BAD_TEXT, full + b"a")
 
 
 def compare_cases():
@@ -244,9 +304,7 @@ def order_cases():
 
 
 def all_cases():
-    """The cases of the commands that exist."""
-    groups = (usage_cases, form_cases, input_cases, compare_cases, audit_cases, file_cases, order_cases)
-    for group in groups:
-        for case in group():
-            if group is usage_cases or case.words[0] in COMMANDS:
-                yield case
+    """All of them."""
+    for group in (usage_cases, word_cases, form_cases, worked_cases, input_cases, compare_cases, audit_cases,
+                  file_cases, order_cases):
+        yield from group()

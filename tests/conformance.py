@@ -20,6 +20,9 @@ import tempfile
 import unicodedata
 from pathlib import Path
 
+# Nothing is written into the tree.
+sys.dont_write_bytecode = True
+
 import ucd
 from harness import FORMS, Tally, built_program, run
 

@@ -3,35 +3,43 @@
 
 The program runs in a folder of its own that holds copies of the fixtures and the files of
 versions.py. Each case of cases.py is one run, judged by its status, standard output and standard
-error. Then come devices that fail, the launcher, and whether every file is as it was. Ends in a line
+error. Then come devices that fail, closed streams (streams.py), bounds on memory (limits.py), the
+launcher (launching.py too), the README's commands, and whether every file is as it was. Ends in a line
 'N passed, M failed'.
 """
 
 import hashlib
 import os
+import re
 import shutil
+import subprocess
 import sys
 import tempfile
 from pathlib import Path
 
+# Nothing is written into the tree.
+sys.dont_write_bytecode = True
+
 from cases import DEVICE, USAGE, WRONG_WORDS, all_cases, text
-from harness import COMMANDS, Tally, run, shown
+from harness import ROOT, Tally, built_program, run, shown
+from launching import check_building
+from limits import check_memory, check_usage
+from streams import check_closed, check_words
 from versions import V1, write_all
 
-FIXTURES = Path(__file__).resolve().parent.parent / "fixtures"
+FIXTURES = ROOT / "fixtures"
 
 
 def check_case(tally, program, folder, case):
     """One run against what it has to answer."""
     status, out, err = run(program, case.words, case.stdin, folder)
-    holds = case.out.startswith(out) if case.prefix else out == case.out
-    tally.check(case.name(), holds and status == case.status and err == case.err.encode(),
+    tally.check(case.name(), (status, out, err) == (case.status, case.out, case.err.encode()),
                 f"got {status} {shown(out)} {shown(err)}, "
                 f"want {case.status} {shown(case.out)} {shown(case.err)}")
 
 
 def device_runs():
-    """One run that writes something, per command that exists: words and input."""
+    """One run that writes something, for each command: words and input."""
     for command in ("key", "normalize", "compare"):
         yield [command, "--form", "nfc", *V1], b"a\na" if command == "compare" else b"a"
     yield ["audit", *V1, *V1], b""
@@ -41,13 +49,12 @@ def check_devices(tally, program, folder):
     """A full output, an input that can't be read, and a full standard error."""
     with open("/dev/full", "wb") as full:
         for words, stdin in device_runs():
-            if words[0] in COMMANDS:
-                got = run(program, words, stdin, folder, stdout=full)
-                tally.same(f"{words[0]} into a full device", got, (DEVICE, b"", b"output: WriteFailed\n"))
+            got = run(program, words, stdin, folder, stdout=full)
+            tally.same(f"{words[0]} into a full device", got, (DEVICE, b"", b"output: WriteFailed\n"))
         status, out, _ = run(program, ["nothing"], b"", folder, stderr=full)
         tally.same("usage into a full device", (status, out), (WRONG_WORDS, b""))
     for words, _ in device_runs():
-        if words[0] in COMMANDS and words[0] != "audit":
+        if words[0] != "audit":
             got = run_on_folder(program, words, folder)
             tally.same(f"{words[0]} from a folder", got, (DEVICE, b"", b"input: ReadFailed\n"))
 
@@ -63,16 +70,28 @@ def run_on_folder(program, words, folder):
 
 def check_launcher(tally, launcher, folder):
     """The launcher keeps the caller's folder and the words, through a symbolic link too."""
+    built_program()
     link = folder / "link"
     link.symlink_to(launcher)
     for way in (launcher, link):
         tally.same(f"{way.name} without words", run(way, [], b"", folder), (0, USAGE.encode(), b""))
-        if "key" in COMMANDS:
-            got = run(way, ["key", "--form", "nfd", *V1], text("0061 0302 0323"), folder)
-            tally.same(f"{way.name} key", got, (0, text("0061 0323 0302"), b""))
+        got = run(way, ["key", "--form", "nfd", *V1], text("0061 0302 0323"), folder)
+        tally.same(f"{way.name} key", got, (0, text("0061 0323 0302"), b""))
         got = run(way, ["key", "a word", "*", ""], b"", folder)
         tally.same(f"{way.name} with odd words", got, (WRONG_WORDS, b"", USAGE.encode()))
     link.unlink()
+
+
+def check_readme(tally):
+    """Each command of the README, by a plain shell, prints what stands below it."""
+    text = (ROOT / "README.md").read_text(encoding="utf-8")
+    for block in re.findall(r"^```\n(\$ .*?)^```$", text, re.DOTALL | re.MULTILINE):
+        for command, wanted in re.findall(r"^\$ (.*)\n((?:(?!\$ ).*\n)*)", block, re.MULTILINE):
+            if "/usr/share/unicode/" in command and not Path("/usr/share/unicode/UnicodeData.txt").exists():
+                print(f"skipped: {command}: the published files are not there")
+                continue
+            done = subprocess.run(["sh", "-c", command], cwd=ROOT, capture_output=True, text=True, check=False)
+            tally.same(f"README: {command}", done.stdout + done.stderr, wanted)
 
 
 def state_of(folder):
@@ -95,8 +114,14 @@ def main():
         for case in all_cases():
             check_case(tally, program, folder, case)
         check_devices(tally, program, folder)
+        check_usage(tally, program, folder)
+        check_closed(tally, program, folder)
+        check_words(tally, program, folder)
+        check_memory(tally, program, folder)
         if len(sys.argv) > 2:
             check_launcher(tally, Path(sys.argv[2]).resolve(), folder)
+            check_building(tally, Path(sys.argv[2]).resolve(), Path(name))
+            check_readme(tally)
         tally.check("files are as they were", state_of(folder) == before, "a file changed")
     tally.finish()
 

@@ -4,13 +4,18 @@
 Those texts are constants of the crates, since a test can't read the repository's files. A constant
 is paired with a file by its name: V1_DATA with v1/UnicodeData.txt, V1_EXCLUSIONS with
 v1/CompositionExclusions.txt, EXCHANGE_SCHEDULE and EXCHANGE_REPORT with scripts/exchange.schedule
-and scripts/exchange.report. Each has to have the other. Ends in a line 'N passed, M failed'.
+and scripts/exchange.report. Each has to have the other. The usage text of docs/FORMATS.md is compared
+with that of the stored run. Ends in a line 'N passed, M failed'.
 """
 
 import re
+import sys
 from pathlib import Path
 
-from harness import COMMANDS, Tally
+# Nothing is written into the tree.
+sys.dont_write_bytecode = True
+
+from harness import Tally
 
 ROOT = Path(__file__).resolve().parent.parent
 FILES = {
@@ -45,20 +50,24 @@ def constants():
     return texts
 
 
-def files():
-    """The texts of the files; scripts count only where the command that runs them exists."""
+def files(wanted):
+    """The texts of the files. Scripts count once a crate has a constant of one."""
     folder = ROOT / "fixtures"
     found = {str(path.relative_to(folder)): path.read_bytes().decode("utf-8")
              for path in sorted(folder.rglob("*")) if path.is_file()}
-    return {name: text for name, text in found.items()
-            if "replay" in COMMANDS or not name.startswith("scripts/")}
+    has_scripts = any(name.startswith("scripts/") for name in wanted)
+    return {name: text for name, text in found.items() if has_scripts or not name.startswith("scripts/")}
 
 
 def main():
     tally = Tally()
-    wanted, got = constants(), files()
+    wanted = constants()
+    got = files(wanted)
     for name in sorted(wanted.keys() | got.keys()):
         tally.same(f"fixtures/{name}", got.get(name), wanted.get(name))
+    usage = (ROOT / "crates" / "npss" / "stdout").read_text(encoding="utf-8")
+    tally.check("docs/FORMATS.md has the usage text",
+                f"\n```\n{usage}```\n" in (ROOT / "docs" / "FORMATS.md").read_text(encoding="utf-8"))
     tally.check("there are fixtures", got, "fixtures/ has no file")
     tally.finish()
 

@@ -1,17 +1,10 @@
-"""What the test scripts share: which commands there are, runs of the program, and the count."""
+"""What the test scripts share: runs of the program, and the count."""
 
 import subprocess
 import sys
 from pathlib import Path
 
 ROOT = Path(__file__).resolve().parent.parent
-
-# The commands that exist now. Cases of another command are left out.
-COMMANDS = ("normalize", "key", "compare", "audit")
-
-# Whether `normalize` takes its input as a stream: then it has no limit that a test could reach, and
-# after a fault of the input a part of the form may have been written.
-NORMALIZE_STREAMS = False
 
 FORMS = ("nfd", "nfc", "nfkd", "nfkc")
 
@@ -22,15 +15,15 @@ def built_program():
     return ROOT / "crates" / "npss" / "out" / "npss" if done.returncode == 0 else None
 
 
-def run(program, words, stdin=b"", folder=None, **streams):
+def run(program, words, stdin=b"", folder=None, **options):
     """The run of the program with these words: its status and what it wrote.
 
-    `stdin` is bytes, or an open file. `streams` may put an open file in the place of `stdout` or
-    `stderr`; what goes there is answered as nothing.
+    `stdin` is bytes, or an open file. `options` are those of `subprocess.run`: they may put an open
+    file in the place of `stdout` or `stderr`; what goes there is answered as nothing.
     """
     given = {"input": stdin} if isinstance(stdin, bytes) else {"stdin": stdin}
     wanted = {"stdout": subprocess.PIPE, "stderr": subprocess.PIPE}
-    wanted.update(streams)
+    wanted.update(options)
     try:
         done = subprocess.run([str(program), *words], cwd=folder, timeout=120, **given, **wanted)
     except subprocess.TimeoutExpired:

@@ -4,11 +4,13 @@ use Rattle.std.proofs.lemmas.Bool.{cases_eq, cases_lt}
 use Rattle.std.proofs.lemmas.List.Elements.{All-nil, All-push, Contains-push, Contains-append_left}
 use Rattle.std.proofs.lemmas.List.Quantifiers.{all_pairs_push}
 use Rattle.std.specs.List.{All, AllPairs, Contains}
-use Rattle.np_chain.specs.Breaks.{break_of, AreBreaks, IsFirstBreak}
+use Rattle.np_chain.specs.Breaks.{AreBreaks, IsFirstBreak}
+use Rattle.np_chain.specs.inside.BreakTests.{break_of}
 use Rattle.np_chain.specs.inside.BreakLists.{break_list, breaks_below, breaks_of}
 use Rattle.np_chain.specs.Chain.{Extends}
 use Rattle.np_chain.specs.declared.breaks.Break.{Break}
 use Rattle.np_chain.specs.declared.breaks.BreakKind.{BreakKind}
+use Rattle.np_chain.proofs.KindLemmas.{break_of-is, break_of-none, break_of-some}
 use Rattle.np_chain.proofs.BreakLemmas.{Extends-from_none, none_from_Extends, past-none}
 use Rattle.np_tables.specs.Conditions.{IsSound}
 use Rattle.np_tables.specs.Versions.{VersionData}
@@ -103,9 +105,10 @@ module _ (old new : VersionData) where
     AreBreaks-below =
         let are = are_below n in
         record {
-          each = are.each;
+          each = λ k d lt. break_of-is old new _ _ (are.each k d lt);
           rises = are.rises;
-          whole = λ c kind h.
+          whole = λ c kind is.
+              let h = break_of-some old new c kind is in
               elim (cases_lt c n) [ inl lt ↦ are.whole c kind lt h | inr le ↦ let none = past c le in cc ];
         }
 
@@ -113,12 +116,12 @@ module _ (old new : VersionData) where
   none_from_nil are c =
       elim (cases_break (break_of old new c)) [
         | inl none ↦ none
-        | inr some ↦ let place = are.whole c some.0 some.1 in let lt = place.1 in absurd (omega arith)
+        | inr some ↦ let place = are.whole c some.0 (break_of-is old new c some.0 some.1) in let lt = place.1 in absurd (omega arith)
       ]
 
   nil_from_none : (breaks : List Break) → AreBreaks old new breaks → ((c : ℕ) → break_of old new c ≡ None) → breaks ≡ []
   nil_from_none [] are none = refl
-  nil_from_none (b ∷ bs) are none = let h = are.each 0 b (omega arith) in let k = none b.code in cc
+  nil_from_none (b ∷ bs) are none = absurd (break_of-none old new b.code (none b.code) b.kind (are.each 0 b (omega arith)).has)
 
   pub nil_exactly : (breaks : List Break) → AreBreaks old new breaks → (breaks ≡ []) ↔ Extends old new
   nil_exactly breaks are = (
@@ -142,4 +145,13 @@ module _ (old new : VersionData) where
         (λ c. elim (cases_lt c n) [ inl lt ↦ none c lt | inr le ↦ past-none old new sound_old sound_new n c end le ])
 
   pub first-refutes : (first : Break) → IsFirstBreak old new first → Extends old new → ⊥
-  first-refutes first is ext = let h = is.breaks in let k = none_from_Extends old new ext first.code in cc
+  first-refutes first is ext = break_of-none old new first.code (none_from_Extends old new ext first.code) first.kind is.breaks.has
+
+  -- the first one that a loop meets
+  pub first_is : (n : ℕ) (kind : BreakKind) → ((c : ℕ) → c < n → break_of old new c ≡ None) → break_of old new n ≡ Some kind → IsFirstBreak old new (broken kind n)
+  first_is n kind none some =
+      record {
+        breaks = break_of-is old new n kind some;
+        least = λ c other h.
+            elim (cases_lt c n) [ inl lt ↦ absurd (break_of-none old new c (none c lt) other h) | inr le ↦ le ];
+      }

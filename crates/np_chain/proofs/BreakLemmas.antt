@@ -2,14 +2,14 @@
 use Rattle.std.proofs.Common.{◌≡◌, ◌≢◌, ℕ, ◌≤◌, Bool, true, false, not, ◌&&◌, ◌==◌, Option, Some, None, refl, sym, ap, ◌∙◌, arith, eqb-true, eq-eqb, if◌then◌else◌}
 use Rattle.std.proofs.lemmas.Bool.{and_parts, and_from, both_ways, false_from_ne_true, ne_eqb}
 use Rattle.std.proofs.lemmas.Slice.Eq.{bytes_eq-Decides}
-use Rattle.np_chain.specs.Breaks.{is_lost, changes_class, is_same_kind, maps_alike, changes_mapping, becomes_excluded, has_old_parts, becomes_included, is_new_composite, break_of}
+use Rattle.np_chain.specs.inside.BreakTests.{is_lost, changes_class, is_same_kind, maps_alike, changes_mapping, becomes_excluded, has_old_parts, becomes_included, is_new_composite, break_of}
 use Rattle.np_chain.specs.Chain.{Extends}
 use Rattle.np_chain.specs.declared.breaks.BreakKind.{BreakKind}
 use Rattle.np_chain.specs.declared.breaks.BreakKind.TheVariants.{Lost, ClassChanged, MappingChanged, NowExcluded, NowIncluded, NewComposite}
-use Rattle.np_tables.specs.Composites.{is_primary}
+use Rattle.np_tables.specs.inside.Primaries.{is_primary}
 use Rattle.np_tables.specs.Conditions.{IsSound}
-use Rattle.np_tables.specs.Versions.{VersionData, is_assigned, class_of, kind_of, mapping_of}
-use Rattle.np_tables.proofs.CompositeLemmas.{primary-assigned}
+use Rattle.np_tables.specs.Versions.{VersionData, is_assigned, class_of, decomposition_kind, decomposition_mapping}
+use Rattle.np_tables.proofs.CompositeLemmas.{primary-assigned, primary-from, primary-test}
 use Rattle.np_ucd.specs.declared.rows.MapKind.{MapKind}
 use Rattle.np_ucd.specs.declared.rows.MapKind.TheVariants.{Plain, Canonical, Compatibility}
 
@@ -107,6 +107,9 @@ by_neither a b same alike p true true h k l = cc
 by_neither a b same alike p true false h k l = rw (h, k) refl
 by_neither a b same alike p false parts h k l = rw (h, k) refl
 
+test-assigned : (v : VersionData) (c : ℕ) → is_primary v c ≡ true → is_assigned v c ≡ true
+test-assigned v c h = primary-assigned v c (primary-from v c h)
+
 module _ (old new : VersionData) (c : ℕ) where
   abbrev Joins : Bool
   Joins = is_primary new c && has_old_parts old new c
@@ -122,6 +125,9 @@ module _ (old new : VersionData) (c : ℕ) where
     pub in_old : is_assigned old c ≡ true
     pub in_new : is_assigned new c ≡ true
     pub class : class_of new c ≡ class_of old c
+
+  pub stays_by : is_assigned old c ≡ true → is_assigned new c ≡ true → class_of new c ≡ class_of old c → Stays
+  stays_by in_old in_new class = record { in_old = in_old; in_new = in_new; class = class }
 
   pub break-maps : Stays → maps_alike old new c ≡ false → break_of old new c ≡ Some MappingChanged
   break-maps s m = break_of-by old new c ∙ by_maps _ _ _ _ _ _ _ s.in_old s.in_new (eq-eqb _ _ s.class) m
@@ -139,7 +145,7 @@ module _ (old new : VersionData) (c : ℕ) where
   break-apart s m p j = break_of-by old new c ∙ by_apart _ _ _ _ _ _ _ s.in_old s.in_new (eq-eqb _ _ s.class) m p j
 
   unassigned-no_primary : is_assigned old c ≡ false → is_primary old c ≡ false
-  unassigned-no_primary h = false_from_ne_true _ (λ p. both_ways _ h (primary-assigned old c p))
+  unassigned-no_primary h = false_from_ne_true _ (λ p. both_ways _ h (test-assigned old c p))
 
   pub break-new : is_assigned old c ≡ false → Joins ≡ true → break_of old new c ≡ Some NewComposite
   break-new h j = break_of-by old new c ∙ by_new _ _ _ _ _ _ _ h (unassigned-no_primary h) j
@@ -166,17 +172,17 @@ same_kind_self Canonical = refl
 same_kind_self Compatibility = refl
 
 module _ (old new : VersionData) where
-  alike-same : (c : ℕ) → maps_alike old new c ≡ true → (kind_of new c ≡ kind_of old c) × (mapping_of new c ≡ mapping_of old c)
+  pub alike-same : (c : ℕ) → maps_alike old new c ≡ true → (decomposition_kind new c ≡ decomposition_kind old c) × (decomposition_mapping new c ≡ decomposition_mapping old c)
   unfolding maps_alike
   alike-same c h =
-      let halves = and_parts (is_same_kind (kind_of new c) (kind_of old c)) _ h in
-      (same_kind-true _ _ halves.0, (bytes_eq-Decides (mapping_of new c) (mapping_of old c)).0 halves.1)
+      let halves = and_parts (is_same_kind (decomposition_kind new c) (decomposition_kind old c)) _ h in
+      (same_kind-true _ _ halves.0, (bytes_eq-Decides (decomposition_mapping new c) (decomposition_mapping old c)).0 halves.1)
 
-  alike_from : (c : ℕ) → kind_of new c ≡ kind_of old c → mapping_of new c ≡ mapping_of old c → maps_alike old new c ≡ true
+  pub alike_from : (c : ℕ) → decomposition_kind new c ≡ decomposition_kind old c → decomposition_mapping new c ≡ decomposition_mapping old c → maps_alike old new c ≡ true
   unfolding maps_alike
   alike_from c k m =
-      and_from _ _ (ap (λ l. is_same_kind l (kind_of old c)) k ∙ same_kind_self (kind_of old c))
-      ((bytes_eq-Decides (mapping_of new c) (mapping_of old c)).1 m)
+      and_from _ _ (ap (λ l. is_same_kind l (decomposition_kind old c)) k ∙ same_kind_self (decomposition_kind old c))
+      ((bytes_eq-Decides (decomposition_mapping new c) (decomposition_mapping old c)).1 m)
 
   abbrev NoBreakAt : ℕ → Type 0
   NoBreakAt c =
@@ -193,34 +199,34 @@ module _ (old new : VersionData) where
             let at = no_break_at c (none c) in
             let same = alike-same c (at.maps h) in
             record { assigned = at.stays h; class = eqb-true _ _ (at.class h); kind = same.0; mapping = same.1 };
-        old_composites = λ c h. (no_break_at c (none c)).old h;
-        new_composites = λ c h parts. (no_break_at c (none c)).new h parts;
+        old_composites = λ c h. primary-from new c ((no_break_at c (none c)).old (primary-test old c h));
+        new_composites = λ c h parts. primary-from old c ((no_break_at c (none c)).new (primary-test new c h) parts);
       }
 
   pub none_from_Extends : Extends old new → (c : ℕ) → break_of old new c ≡ None
   unfolding has_old_parts
   none_from_Extends ext c =
       break_of-by old new c
-      ∙ none_from _ _ _ _ _ _ _ (primary-assigned old c)
+      ∙ none_from _ _ _ _ _ _ _ (test-assigned old c)
       (record {
         stays = λ h. (ext.keeps c h).assigned;
         class = λ h. eq-eqb _ _ (ext.keeps c h).class;
         maps = λ h. let kept = ext.keeps c h in alike_from c kept.kind kept.mapping;
-        old = ext.old_composites c;
-        new = ext.new_composites c;
+        old = λ h. primary-test new c (ext.old_composites c (primary-from old c h));
+        new = λ h parts. primary-test old c (ext.new_composites c (primary-from new c h) parts);
       })
 
   -- a break is at a code point that one of the versions assigns
   unassigned-none : (c : ℕ) → is_assigned old c ≡ false → is_assigned new c ≡ false → break_of old new c ≡ None
   unassigned-none c in_old in_new =
       break_of-by old new c
-      ∙ none_from _ _ _ _ _ _ _ (primary-assigned old c)
+      ∙ none_from _ _ _ _ _ _ _ (test-assigned old c)
       (record {
         stays = λ h. absurd (both_ways _ in_old h);
         class = λ h. absurd (both_ways _ in_old h);
         maps = λ h. absurd (both_ways _ in_old h);
-        old = λ h. absurd (both_ways _ in_old (primary-assigned old c h));
-        new = λ h _. absurd (both_ways _ in_new (primary-assigned new c h));
+        old = λ h. absurd (both_ways _ in_old (test-assigned old c h));
+        new = λ h _. absurd (both_ways _ in_new (test-assigned new c h));
       })
 
   pub past-none : IsSound old → IsSound new → (n c : ℕ) → n ≡ 0x110000 → n ≤ c → break_of old new c ≡ None

@@ -3,7 +3,7 @@ use Rattle.std.proofs.Common.{◌≡◌, ℕ, zero, suc, Bool, true, false, ◌&
 use Rattle.std.proofs.lemmas.Bool.{cond-true, cond-false, cases_Bool, cases_lt, and_parts, and_from}
 use Rattle.std.specs.List.{list_all}
 use lib.Utf8.{scalar}
-use Rattle.np_tables.specs.Versions.{VersionData, is_empty, is_assigned, class_of, mapping_of}
+use Rattle.np_tables.specs.Versions.{VersionData, is_empty, is_assigned, class_of, decomposition_mapping}
 use Rattle.np_ucd.specs.declared.rows.MapKind.{MapKind}
 use Rattle.np_tables.specs.Mappings.{counts, parts, is_final}
 use Rattle.np_tables.specs.inside.FullDecompositions.{full, full_of}
@@ -22,13 +22,13 @@ use Rattle.np_forms.specs.inside.NormalForms.{decomposed, ended, normal_form}
 use Rattle.np_chain.specs.Laws.{Stability, Transitivity}
 use Rattle.np_tables.proofs.MappingLemmas.{list_all-append, parts-cases}
 use Rattle.np_forms.proofs.OrderLemmas.{list_all-canonical_order}
-use Rattle.np_forms.proofs.ComposeLemmas.{list_all-compose, joined-free, compose_after-cases, compose_after-nil, compose_after-joined, compose_after-starter, compose_after-kept, compose-nil, compose-starter, compose-mark}
+use Rattle.np_forms.proofs.ComposeLemmas.{list_all-compose, joined-free, compose_after-cases, compose_after-nil, compose_after-joined, compose_after-starter, compose_after-kept, compose-nil, compose-starter, compose-non_starter}
 use Rattle.np_tables.proofs.CompositeLemmas.{cases_Option, primary-assigned, composite-some, composite_from, composite-none, composite-assigned}
 use Rattle.np_forms.proofs.FormLemmas.{IsNormalForm-normal_form, normal_form_is}
 
 -- ---- within one version: a test that mappings and composites keep holds of the form
 
-module _ (v : VersionData) (p : ℕ → Bool) (maps : (c : ℕ) → p c ≡ true → list_all p (mapping_of v c) ≡ true) (made : (a b c : ℕ) → p a ≡ true → p b ≡ true → IsCompositeOf v a b c → p c ≡ true) where
+module _ (v : VersionData) (p : ℕ → Bool) (maps : (c : ℕ) → p c ≡ true → list_all p (decomposition_mapping v c) ≡ true) (made : (a b c : ℕ) → p a ≡ true → p b ≡ true → IsCompositeOf v a b c → p c ≡ true) where
   kept-flat_map : (f : ℕ → List ℕ) → ((c : ℕ) → p c ≡ true → list_all p (f c) ≡ true) → (xs : List ℕ) → list_all p xs ≡ true → list_all p (flat_map f xs) ≡ true
   kept-flat_map f each [] all = refl
   kept-flat_map f each (x ∷ xs) all =
@@ -75,10 +75,6 @@ module _ (v : VersionData) (sound : IsSound v) where
 
   pub assigned-normal_form : (form : Form) (xs : List ℕ) → IsAssigned v xs → IsAssigned v (normal_form v form xs)
   assigned-normal_form = kept-normal_form v (is_assigned v) (λ c _. sound.maps_to_assigned c) made_assigned
-
-  -- a form of a string is a string
-  pub scalar-normal_form : ((c : ℕ) → list_all scalar (mapping_of v c) ≡ true) → ((c : ℕ) → is_empty (mapping_of v c) ≡ false → scalar c ≡ true) → (form : Form) (xs : List ℕ) → list_all scalar xs ≡ true → list_all scalar (normal_form v form xs) ≡ true
-  scalar-normal_form maps mapped = kept-normal_form v scalar (λ c _. maps c) (λ a b c _ _ is. mapped c (ap is_empty is.mapping))
 
 -- ---- two functions of a code point that agree where a test passes
 
@@ -127,7 +123,7 @@ module _ (p : ℕ → Bool) (f g : ℕ → ℕ) (same : (c : ℕ) → p c ≡ tr
         (λ none first.
         ap (λ l. s ∷ (bs ++ l)) (compose_after-same c [] cs halves.0 refl halves.1)
         ∙ sym (compose_after-starter g k s bs c cs (sym one ∙ none) (omega arith)))
-        (λ none mark.
+        (λ none non_starter.
         compose_after-same s (bs ++ c ∷ []) cs of_s (list_all-append p bs (c ∷ []) of_bs (and_from _ _ halves.0 refl)) halves.1
         ∙ sym (compose_after-kept g k s bs c cs (sym one ∙ none) (omega arith)))
 
@@ -137,8 +133,8 @@ module _ (p : ℕ → Bool) (f g : ℕ → ℕ) (same : (c : ℕ) → p c ≡ tr
         let halves = and_parts (p c) (list_all p cs) all in
         let e = same c halves.0 in
         elim (cases_lt 0 (f c)) [
-          | inl mark ↦
-              compose-mark f j c cs mark ∙ ap (λ l. c ∷ l) (compose-same cs halves.1) ∙ sym (compose-mark g k c cs (omega arith))
+          | inl non_starter ↦
+              compose-non_starter f j c cs non_starter ∙ ap (λ l. c ∷ l) (compose-same cs halves.1) ∙ sym (compose-non_starter g k c cs (omega arith))
           | inr first ↦
               compose-starter f j c cs first ∙ compose_after-same c [] cs halves.0 refl halves.1 ∙ sym (compose-starter g k c cs (omega arith))
         ]
@@ -236,7 +232,7 @@ transitivity a b c first second =
           record { assigned = two.assigned; class = two.class ∙ one.class; kind = two.kind ∙ one.kind; mapping = two.mapping ∙ one.mapping };
       old_composites = λ x h. second.old_composites x (first.old_composites x h);
       new_composites = λ x primary all.
-          let in_b = second.new_composites x primary (list_all-mono (is_assigned a) (is_assigned b) (λ y h. (first.keeps y h).assigned) (mapping_of c x) all) in
+          let in_b = second.new_composites x primary (list_all-mono (is_assigned a) (is_assigned b) (λ y h. (first.keeps y h).assigned) (decomposition_mapping c x) all) in
           let same = (second.keeps x (primary-assigned b x in_b)).mapping in
           first.new_composites x in_b (ap (list_all (is_assigned a)) (sym same) ∙ all);
     }

@@ -1,11 +1,12 @@
 -- The laws of versions in a row, over the definitions alone.
-use Rattle.std.specs.Prelude.{ℕ, List}
+use Rattle.std.specs.Prelude.{◌≡◌, ℕ, true, false, List}
 use Rattle.np_chain.specs.Chain.{Extends}
 use Rattle.np_code_points.specs.declared.forms.Form.{Form}
 use Rattle.np_forms.specs.Assigned.{IsAssigned}
 use Rattle.np_forms.specs.Forms.{IsNormalForm}
 use Rattle.np_tables.specs.Conditions.{IsSound}
-use Rattle.np_tables.specs.Versions.{VersionData}
+use Rattle.np_tables.specs.Examples.{with_rows, with_hangul}
+use Rattle.np_tables.specs.Versions.{VersionData, has_hangul, is_assigned}
 
 -- where b extends a, a text that is assigned in a has one form under both, which is assigned in a
 abbrev pub Stability : Type 0
@@ -16,7 +17,7 @@ Stability =
 abbrev pub Transitivity : Type 0
 Transitivity = (a b c : VersionData) → Extends a b → Extends b c → Extends a c
 
--- where b extends a, the form under b of a text that is assigned in b is its own form under a
-abbrev pub Backward : Type 0
-Backward =
-    (a b : VersionData) (form : Form) (xs ys : List ℕ) → IsSound a → IsSound b → Extends a b → IsAssigned b xs → IsNormalForm b form xs ys → IsNormalForm a form ys ys
+-- the premises on two versions are met by unlike ones: one of three rows, and one that has Hangul syllables and jamo besides
+abbrev pub ExtensionIsMet : Type 0
+ExtensionIsMet =
+    IsSound with_rows × IsSound with_hangul × Extends with_rows with_hangul × (is_assigned with_rows 0xAC00 ≡ false) × (has_hangul with_hangul ≡ true)

@@ -1,1 +1,2 @@
 pub mod BreakLists
+pub mod BreakTests

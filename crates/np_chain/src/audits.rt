@@ -1,30 +1,21 @@
 //! A version against an earlier one.
 ghost use Rattle.std.specs.Prelude.{◌≡◌, ◌↔◌, true, ◌&&◌, [], IsOk, IfOk, IfErr};
-ghost use Rattle.np_chain.specs.Breaks.{AreBreaks, IsFirstBreak, break_of, has_old_parts, is_same_kind, maps_alike as alike};
+ghost use Rattle.np_chain.specs.Breaks.{AreBreaks, IsFirstBreak};
+ghost use Rattle.np_chain.specs.inside.BreakTests.{break_of, has_old_parts, is_same_kind, maps_alike as alike};
 ghost use Rattle.np_chain.specs.inside.BreakLists.{breaks_of};
 ghost use Rattle.np_chain.specs.Chain.{Extends};
 ghost use Rattle.np_code_points.specs.Hangul.{is_syllable as syllable};
-ghost use Rattle.np_tables.specs.Composites.{is_primary};
-ghost use Rattle.np_tables.specs.Conditions.{IsSound};
-ghost use Rattle.np_tables.specs.Versions.{has_hangul, is_assigned};
+ghost use Rattle.np_tables.specs.inside.Primaries.{is_primary};
+ghost use Rattle.np_tables.specs.Versions.{class_of, has_hangul, is_assigned};
 ghost use Rattle.std.specs.List.{list_all};
 
 use crate::breaks::{Break, BreakKind};
 use np_code_points::Memory;
+use np_code_points::codes::CODE_POINTS;
 use np_code_points::hangul::is_syllable;
 use np_tables::Version;
 use np_ucd::MapKind;
 use std::alloc::Global;
-
-/// How many code points there are.
-const CODE_POINTS: u32 = 0x11_0000;
-
-/// What holds of each version.
-fn know(version: &Version)
-    ensures { IsSound version.now }
-{
-    let _characters = version.characters();
-}
 
 /// Whether two kinds of mapping are the same.
 fn same_kind(a: MapKind, b: MapKind) -> bool
@@ -40,8 +31,8 @@ fn maps_alike(old: &Version, new: &Version, code: u32) -> bool
     requires new { is_assigned new.now code ≡ true }
     ensures { result ≡ alike old.now new.now code }
 {
-    know(old);
-    know(new);
+    old.meets_conditions();
+    new.meets_conditions();
     if is_syllable(code) {
         return true;
     }
@@ -75,7 +66,7 @@ fn maps_by_arithmetic(version: &Version, code: u32) -> bool
 fn parts_assigned(old: &Version, new: &Version, code: u32) -> bool
     ensures { result ≡ has_old_parts old.now new.now code }
 {
-    know(old);
+    old.meets_conditions();
     if maps_by_arithmetic(new, code) {
         return old.has_hangul();
     }
@@ -101,6 +92,16 @@ fn break_of_assigned(old: &Version, new: &Version, code: u32) -> Option<BreakKin
     if new.class_of(code) != old.class_of(code) {
         return Some(BreakKind::ClassChanged);
     }
+    break_of_kept(old, new, code)
+}
+
+/// The break of a code point that both versions assign with one class, if it has one.
+fn break_of_kept(old: &Version, new: &Version, code: u32) -> Option<BreakKind>
+    requires old { is_assigned old.now code ≡ true }
+    requires new { is_assigned new.now code ≡ true }
+    requires class { class_of new.now code ≡ class_of old.now code }
+    ensures { result ≡ break_of old.now new.now code }
+{
     if !maps_alike(old, new, code) {
         return Some(BreakKind::MappingChanged);
     }
@@ -139,8 +140,8 @@ pub fn audit(alloc: Global, old: &Version, new: &Version) -> Result<Vec<Break>, 
     ensures value { IfOk result (λ breaks. breaks.items ≡ breaks_of old.now new.now) }
     ensures none { IfOk result (λ breaks. (breaks.items ≡ []) ↔ Extends old.now new.now) }
 {
-    know(old);
-    know(new);
+    old.meets_conditions();
+    new.meets_conditions();
     let mut breaks = Vec::new(alloc);
     for code in 0..CODE_POINTS {
         if let Some(kind) = break_at(old, new, code) {
@@ -160,8 +161,8 @@ pub fn extends(old: &Version, new: &Version) -> Result<(), Break>
     ensures extends { IsOk result ↔ Extends old.now new.now }
     ensures first { IfErr result (λ first. IsFirstBreak old.now new.now first) }
 {
-    know(old);
-    know(new);
+    old.meets_conditions();
+    new.meets_conditions();
     for code in 0..CODE_POINTS {
         if let Some(kind) = break_at(old, new, code) {
             return Err(Break { kind, code });

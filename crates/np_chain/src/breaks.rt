@@ -2,6 +2,8 @@
 ghost use Rattle.std.specs.Prelude.{◌≡◌};
 ghost use Rattle.np_chain.specs.Breaks.{name_of};
 
+use std::fmt;
+
 /// A kind of break. A code point that has several is told with the least, the first in this order.
 #[derive(Clone, Copy, Debug, PartialEq, Eq)]
 pub enum BreakKind {
@@ -44,4 +46,16 @@ pub struct Break {
     pub kind: BreakKind,
     /// The code point.
     pub code: u32,
+}
+
+impl fmt::Display for BreakKind {
+    fn fmt<W: fmt::Write>(&self, f: &mut fmt::Formatter<W>) -> fmt::Result {
+        write!(f, "{}", self.name())
+    }
+}
+
+impl fmt::Display for Break {
+    fn fmt<W: fmt::Write>(&self, f: &mut fmt::Formatter<W>) -> fmt::Result {
+        write!(f, "{} {:04X}", self.kind, self.code)
+    }
 }

@@ -1,5 +1,5 @@
 //! Tables whose versions extend one another in a row.
-ghost use Rattle.std.specs.Prelude.{◌≡◌, ◌↔◌, ◌-◌, ◌<◌, length, map, slice_get, Some, IsOk, IfOk, IfErr};
+ghost use Rattle.std.specs.Prelude.{◌≡◌, ◌↔◌, ◌-◌, ◌<◌, false, length, map, slice_get, Some, IsOk, IfOk, IfErr};
 ghost use Rattle.np_chain.specs.Chain.{IsChain, IsSoundChain, StandsAt};
 ghost use Rattle.np_chain.specs.ChainFaults.{IsFaultOf};
 
@@ -17,12 +17,13 @@ pub enum ChainFault {
     NoVersion,
     /// The version of the table at place `at`, from 0, does not extend the one before. It is the
     /// first such place, and `brk` is its first break.
-    #[error("version {at} does not extend the one before")]
+    #[error("version {at} does not extend the one before: {brk}")]
     Broken { at: usize, brk: Break },
 }
 
-/// At least one table, each of whose versions extends the one before. Contracts see the versions.
-#[derive(Drop)]
+/// At least one table, each of whose versions extends the one before. Contracts see the tables.
+#[derive(Debug, Drop)]
+#[derive_where(Clone)]
 pub struct Chain<'t, T: NormTable> {
     tables: &'t [T],
 }
@@ -51,7 +52,7 @@ impl<'t, T: NormTable> Chain<'t, T> {
         if tables.is_empty() {
             return Err(ChainFault::NoVersion);
         }
-        let _first = tables[0].version();
+        tables[0].meets_conditions();
         for at in 1..tables.len() {
             if let Err(brk) = extends(tables[at - 1].version(), tables[at].version()) {
                 return Err(ChainFault::Broken { at, brk });
@@ -60,13 +61,34 @@ impl<'t, T: NormTable> Chain<'t, T> {
         Ok(Chain { tables })
     }
 
+    /// Does nothing at run time: each version extends the one before, and all meet the conditions.
+    pub fn meets_conditions(&self)
+        ensures { IsSoundChain (map T.model self.now) }
+    {
+        let _ = &self.tables;
+    }
+
     /// How many tables there are, at least 1.
     pub fn len(&self) -> usize
         ensures count { result ≡ length self.now }
         ensures some { 0 < result }
-        ensures chain { IsSoundChain (map T.model self.now) }
     {
         self.tables.len()
+    }
+
+    /// `false`: a chain has at least one table.
+    pub fn is_empty(&self) -> bool
+        ensures { result ≡ false }
+    {
+        false
+    }
+
+    /// The tables, in their order.
+    pub fn tables(&self) -> &'t [T]
+        ensures { result.now ≡ self.now }
+    {
+        let tables = self.tables;
+        &tables[..]
     }
 
     /// The table at a place, from 0: its version extends all before it, and all after it extend it.

@@ -5,6 +5,9 @@ ghost use Rattle.np_code_points.specs.Codes.{code_digits, code_value, hex_digit 
 
 use crate::Memory;
 
+/// How many code points there are: each is below this number (The Unicode Standard, D9 and D10).
+pub const CODE_POINTS: u32 = 0x11_0000;
+
 /// The code point that the bytes stand for: exactly four to six hex digits of either case, with a
 /// value of at most 10FFFF. `None` for all other bytes.
 pub fn code_of(bytes: &[u8]) -> Option<u32>

@@ -1,6 +1,7 @@
 //! Readers and writers for tests, each of which can fail at a call that is told beforehand.
-ghost use Rattle.std.specs.Prelude.{◌≡◌, ◌≢◌, ◌≤◌, Some, None, ℕ, ◌-◌, List, [], IfOk, Ok, true, is_some, length, max, min};
+ghost use Rattle.std.specs.Prelude.{◌≡◌, ◌≢◌, Some, None, ℕ, ◌-◌, ◌≤◌, List, [], IfErr, IfOk, Ok, true, is_some, length, max, min, replicate};
 ghost use Rattle.std.specs.Io.{ReadsAtMost, WritesAtMost};
+ghost use Rattle.std.specs.IoError.{error_kind};
 ghost use Rattle.std.specs.Io.KnownBytes.{Keeps, ReadConsumes, WriteAppends};
 ghost use Rattle.np_code_points.specs.inside.Devices.{IsNextCall, bytes_left, bytes_taken, endless_call, endless_plan, failure_at, piece_of, piece_taken, reader_call, reader_plan, room_of, writer_call, writer_plan};
 ghost use Rattle.np_code_points.specs.Watched.{flush_fails, read_fails, write_fails};
@@ -21,7 +22,10 @@ pub enum Failure {
 }
 
 impl Failure {
-    fn error(self) -> Error {
+    fn error(self) -> Error
+        ensures interrupted { self ≡ Failure.Interrupted → error_kind result ≡ ErrorKind.Interrupted }
+        ensures other { self ≢ Failure.Interrupted → error_kind result ≡ ErrorKind.Other }
+    {
         match self {
             Failure::Interrupted => Error::from(ErrorKind::Interrupted),
             Failure::Error | Failure::TakesNothing => Error::from(ErrorKind::Other),
@@ -30,7 +34,7 @@ impl Failure {
 }
 
 /// The calls so far, and the one that fails.
-#[derive(Clone, Copy, Drop)]
+#[derive(Clone, Copy, Debug, Drop)]
 struct Calls {
     made: u64,
     fails: Option<(u64, Failure)>,
@@ -45,6 +49,14 @@ impl Calls {
             made: 0,
             fails: None,
         }
+    }
+
+    /// How many calls there were.
+    fn count(&self) -> u64
+        ensures { result ≡ self.now.made }
+    {
+        let Calls { made, .. } = self;
+        *made
     }
 
     /// Counts a call, and answers how it fails.
@@ -63,7 +75,7 @@ impl Calls {
 }
 
 /// A reader of `bytes` that gives at most `piece` of them a call, and at least one.
-#[derive(Drop)]
+#[derive(Debug, Drop)]
 pub struct Trickle<'a> {
     bytes: &'a [u8],
     piece: usize,
@@ -101,6 +113,13 @@ impl<'a> Trickle<'a> {
             },
         }
     }
+
+    /// How many reads there were, those that failed among them.
+    pub fn calls(&self) -> u64
+        ensures { result ≡ reader_call self.now }
+    {
+        self.calls.count()
+    }
 }
 
 impl Read for Trickle<'_> {
@@ -109,8 +128,10 @@ impl Read for Trickle<'_> {
     fn read(&mut self, buf: &mut [u8]) -> IoResult<usize>
         ensures bound { ReadsAtMost result buf.new }
         ensures bytes { ReadConsumes (Some (bytes_left self.old)) (Some (bytes_left self.new)) result buf.new }
-        ensures piece { IfOk result (λ n. n ≤ max 1 (piece_of self.old)) }
+        ensures gives { failure_at (reader_call self.old) (reader_plan self.old) ≡ None → result ≡ Ok (min (length (bytes_left self.old)) (min (length buf.old) (max (piece_of self.old) 1))) }
         ensures fails { read_fails result ≡ is_some (failure_at (reader_call self.old) (reader_plan self.old)) }
+        ensures interrupted { failure_at (reader_call self.old) (reader_plan self.old) ≡ Some Failure.Interrupted → IfErr result (λ e. error_kind e ≡ ErrorKind.Interrupted) }
+        ensures other { failure_at (reader_call self.old) (reader_plan self.old) ≡ Some Failure.Error → IfErr result (λ e. error_kind e ≡ ErrorKind.Other) }
         ensures plan { reader_plan self.new ≡ reader_plan self.old }
         ensures counts { IsNextCall (reader_call self.old) (reader_call self.new) }
     {
@@ -123,7 +144,7 @@ impl Read for Trickle<'_> {
 }
 
 /// A reader that never ends: it fills each piece with the letter a.
-#[derive(Drop)]
+#[derive(Debug, Drop)]
 pub struct Endless {
     calls: Calls,
 }
@@ -151,6 +172,13 @@ impl Endless {
             },
         }
     }
+
+    /// How many reads there were, those that failed among them.
+    pub fn calls(&self) -> u64
+        ensures { result ≡ endless_call self.now }
+    {
+        self.calls.count()
+    }
 }
 
 impl Read for Endless {
@@ -158,7 +186,11 @@ impl Read for Endless {
 
     fn read(&mut self, buf: &mut [u8]) -> IoResult<usize>
         ensures bound { ReadsAtMost result buf.new }
+        ensures fills { failure_at (endless_call self.old) (endless_plan self.old) ≡ None → result ≡ Ok (length buf.old) }
+        ensures letters { IfOk result (λ n. buf.new ≡ replicate n 97) }
         ensures fails { read_fails result ≡ is_some (failure_at (endless_call self.old) (endless_plan self.old)) }
+        ensures interrupted { failure_at (endless_call self.old) (endless_plan self.old) ≡ Some Failure.Interrupted → IfErr result (λ e. error_kind e ≡ ErrorKind.Interrupted) }
+        ensures other { failure_at (endless_call self.old) (endless_plan self.old) ≡ Some Failure.Error → IfErr result (λ e. error_kind e ≡ ErrorKind.Other) }
         ensures plan { endless_plan self.new ≡ endless_plan self.old }
         ensures counts { IsNextCall (endless_call self.old) (endless_call self.new) }
     {
@@ -172,7 +204,7 @@ impl Read for Endless {
 
 /// A writer into room that was reserved beforehand, which takes at most `piece` bytes a call.
 /// Where the room is full it takes none. Writes and flushes count as calls alike.
-#[derive(Drop)]
+#[derive(Debug, Drop)]
 pub struct Room {
     bytes: Vec<u8>,
     piece: usize,
@@ -219,6 +251,13 @@ impl Room {
         }
     }
 
+    /// How many writes and flushes there were, those that failed among them.
+    pub fn calls(&self) -> u64
+        ensures { result ≡ writer_call self.now }
+    {
+        self.calls.count()
+    }
+
     /// What was taken.
     pub fn bytes(&self) -> &[u8]
         ensures { result.now ≡ bytes_taken self.now }
@@ -235,6 +274,8 @@ impl Write for Room {
         ensures bytes { WriteAppends (Some (bytes_taken self.old)) (Some (bytes_taken self.new)) result buf.now }
         ensures piece { IfOk result (λ n. n ≤ piece_taken self.old) }
         ensures fails { is_some (failure_at (writer_call self.old) (writer_plan self.old)) ≡ true → buf.now ≢ [] → write_fails result buf.now ≡ true }
+        ensures interrupted { failure_at (writer_call self.old) (writer_plan self.old) ≡ Some Failure.Interrupted → IfErr result (λ e. error_kind e ≡ ErrorKind.Interrupted) }
+        ensures other { failure_at (writer_call self.old) (writer_plan self.old) ≡ Some Failure.Error → IfErr result (λ e. error_kind e ≡ ErrorKind.Other) }
         ensures takes { failure_at (writer_call self.old) (writer_plan self.old) ≡ None → result ≡ Ok (min (min (length buf.now) (piece_taken self.old)) (room_of self.old - length (bytes_taken self.old))) }
         ensures plan { writer_plan self.new ≡ writer_plan self.old }
         ensures counts { IsNextCall (writer_call self.old) (writer_call self.new) }
@@ -255,6 +296,8 @@ impl Write for Room {
     fn flush(&mut self) -> IoResult<()>
         ensures bytes { Keeps (Some (bytes_taken self.old)) (Some (bytes_taken self.new)) }
         ensures fails { flush_fails result ≡ is_some (failure_at (writer_call self.old) (writer_plan self.old)) }
+        ensures interrupted { failure_at (writer_call self.old) (writer_plan self.old) ≡ Some Failure.Interrupted → IfErr result (λ e. error_kind e ≡ ErrorKind.Interrupted) }
+        ensures other { failure_at (writer_call self.old) (writer_plan self.old) ≡ Some Failure.Error → IfErr result (λ e. error_kind e ≡ ErrorKind.Other) }
         ensures plan { writer_plan self.new ≡ writer_plan self.old }
         ensures counts { IsNextCall (writer_call self.old) (writer_call self.new) }
     {

@@ -2,22 +2,30 @@
 ghost use Rattle.std.specs.Prelude.{◌≡◌, ◌+◌, ◌<◌, ◌↔◌, ℕ, true, [], ◌∷◌, IsSome, IfSome, IfNone};
 ghost use Rattle.np_code_points.specs.Hangul.{is_among as among, is_syllable as in_block, syllable_pair};
 
-/// SBase, the first syllable, and SCount, how many there are.
-const S_BASE: u32 = 0xAC00;
+/// SBase, the first syllable.
+pub const S_BASE: u32 = 0xAC00;
 
-const S_COUNT: u32 = 11_172;
-/// LBase, the first leading consonant, and LCount.
-const L_BASE: u32 = 0x1100;
+/// SCount, how many syllables there are.
+pub const S_COUNT: u32 = 11_172;
 
-const L_COUNT: u32 = 19;
-/// VBase, the first vowel, and VCount.
-const V_BASE: u32 = 0x1161;
+/// LBase, the first leading consonant.
+pub const L_BASE: u32 = 0x1100;
 
-const V_COUNT: u32 = 21;
-/// TBase, one before the first trailing consonant, and TCount, one more than there are.
-const T_BASE: u32 = 0x11A7;
+/// LCount, how many leading consonants there are.
+pub const L_COUNT: u32 = 19;
 
-const T_COUNT: u32 = 28;
+/// VBase, the first vowel.
+pub const V_BASE: u32 = 0x1161;
+
+/// VCount, how many vowels there are.
+pub const V_COUNT: u32 = 21;
+
+/// TBase, one before the first trailing consonant.
+pub const T_BASE: u32 = 0x11A7;
+
+/// TCount, one more than there are trailing consonants.
+pub const T_COUNT: u32 = 28;
+
 /// NCount, the syllables of one leading consonant.
 const N_COUNT: u32 = 588;
 

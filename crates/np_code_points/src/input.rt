@@ -19,7 +19,7 @@ const PIECE: usize = 65_536;
 #[derive(Clone, Copy, Debug, PartialEq, Eq, Error)]
 pub enum InputFault {
     /// One byte more than `LIMIT` was read.
-    #[error("too large")]
+    #[error("more than 16,777,216 bytes")]
     TooLarge,
     /// A read answered an error, an interrupted one too.
     #[error("read failed")]

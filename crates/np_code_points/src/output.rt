@@ -5,9 +5,11 @@ ghost use Rattle.np_code_points.specs.Watched.{device_of, has_failed};
 
 use crate::watched::Watched;
 use std::io::Write;
+use thiserror::Error;
 
 /// A writer refused a piece or a flush, or took nothing of a piece.
-#[derive(Clone, Copy, Debug, PartialEq, Eq)]
+#[derive(Clone, Copy, Debug, PartialEq, Eq, Error)]
+#[error("write failed")]
 pub struct WriteFailed;
 
 /// Clears the mark and writes the bytes, with no flush. Nothing is tried twice, and nothing is

@@ -4,14 +4,20 @@ ghost use Rattle.np_code_points.specs.Text.{IsLongestValidPrefix};
 
 use crate::Memory;
 use std::alloc::Global;
+use thiserror::Error;
 
 /// Bytes are not UTF-8: their longest prefix that is UTF-8 has `at` bytes.
-#[derive(Clone, Copy, Debug, PartialEq, Eq)]
+#[derive(Clone, Copy, Debug, PartialEq, Eq, Error)]
+#[error("not UTF-8 at byte {at}")]
 pub struct NotUtf8 {
     pub at: usize,
 }
 
-/// The bytes as a text, where they are UTF-8.
+/// The bytes as a text, where they are UTF-8 (The Unicode Standard, D92). Takes no memory.
+///
+/// # Errors
+///
+/// `NotUtf8` where they are not, with the length of their longest prefix that is.
 pub fn text_of(bytes: &[u8]) -> Result<&str, NotUtf8>
     ensures ok { IfOk result (λ text. text.now ≡ bytes.now) }
     ensures valid { IsOk result ↔ IsUtf8 bytes.now }
@@ -26,7 +32,11 @@ pub fn text_of(bytes: &[u8]) -> Result<&str, NotUtf8>
     }
 }
 
-/// The code points of a text.
+/// The code points of a text, in time linear in its length.
+///
+/// # Errors
+///
+/// `Memory` where room for one code point for each byte of the text is refused.
 pub fn chars_of(alloc: Global, text: &str) -> Result<Vec<char>, Memory>
     ensures { IfOk result (λ v. v.items ≡ chars_in text.now) }
 {
@@ -37,7 +47,11 @@ pub fn chars_of(alloc: Global, text: &str) -> Result<Vec<char>, Memory>
     Ok(found)
 }
 
-/// The text of the code points.
+/// The text of the code points, in time linear in their number.
+///
+/// # Errors
+///
+/// `Memory` where room for the text is refused.
 pub fn string_of(alloc: Global, chars: &[char]) -> Result<String, Memory>
     ensures bytes { IfOk result (λ s. string_bytes s ≡ encode_utf8_all chars.now) }
     ensures same { IfOk result (λ s. chars_in (string_bytes s) ≡ chars.now) }

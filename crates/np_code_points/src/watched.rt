@@ -10,7 +10,7 @@ use std::io::{Read, Result, Write};
 ///
 /// A read, write or flush fails where it answers an error, an interrupted one too, and a write of
 /// a piece that is not empty also where it takes no byte.
-#[derive(Drop)]
+#[derive(Debug, Drop)]
 pub struct Watched<D> {
     device: D,
     failed: bool,

@@ -9,27 +9,27 @@ use Rattle.np_forms.specs.inside.Composing.{is_free, joined, compose_after, comp
 use Rattle.np_forms.specs.Starters.{is_starter}
 use Rattle.np_tables.proofs.MappingLemmas.{list_all-append}
 use Rattle.np_tables.proofs.CompositeLemmas.{cases_Option}
-use Rattle.np_forms.proofs.OrderLemmas.{is_reorderable-true, is_ordered-tail, is_ordered-front, is_ordered-back, is_ordered-at_starter, is_ordered-without_mark, canonical_order-behind, canonical_order-over}
+use Rattle.np_forms.proofs.OrderLemmas.{is_reorderable-true, is_ordered-tail, is_ordered-front, is_ordered-back, is_ordered-at_starter, is_ordered-without_non_starter, canonical_order-behind, canonical_order-over}
 
 module _ (ccc : ℕ → ℕ) where
-  -- what is no starter is a mark
+  -- what is no starter is a non-starter
   pub is_starter-false : (c : ℕ) → is_starter ccc c ≡ false → 0 < ccc c
-  is_starter-false c h = let ne = eqb-false (ccc c) 0 h in elim (cases_lt 0 (ccc c)) [ inl mark ↦ mark | inr low ↦ absurd (ne (omega arith)) ]
+  is_starter-false c h = let ne = eqb-false (ccc c) 0 h in elim (cases_lt 0 (ccc c)) [ inl non_starter ↦ non_starter | inr low ↦ absurd (ne (omega arith)) ]
 
   -- class 0 is a starter
   pub is_starter_from : (c : ℕ) → ccc c ≤ 0 → is_starter ccc c ≡ true
   is_starter_from c low = eq-eqb (ccc c) 0 (omega arith)
 
-  -- a mark is no starter
+  -- a non-starter is no starter
   pub not_starter_from : (c : ℕ) → 0 < ccc c → is_starter ccc c ≡ false
-  not_starter_from c mark = ne_eqb (ccc c) 0 (λ e. omega arith)
+  not_starter_from c non_starter = ne_eqb (ccc c) 0 (λ e. omega arith)
 
   -- an ordered list stays ordered where one that nothing blocks is left out
   pub is_ordered-remove : (bs : List ℕ) (c : ℕ) (cs : List ℕ) → is_free ccc bs c ≡ true → is_ordered ccc (bs ++ c ∷ cs) ≡ true → is_ordered ccc (bs ++ cs) ≡ true
   is_ordered-remove [] c cs free h = is_ordered-tail ccc c cs h
   is_ordered-remove (b ∷ bs) c cs free h =
       let falls = is_reorderable-true ccc c b (and_parts (is_reorderable ccc c b) (is_free ccc bs c) free).0 in
-      is_ordered-without_mark ccc (b ∷ bs) c cs (omega arith) h
+      is_ordered-without_non_starter ccc (b ∷ bs) c cs (omega arith) h
 
 module _ (ccc : ℕ → ℕ) (join : ℕ → ℕ → Option ℕ) where
   -- ---- the composite with the last starter
@@ -74,10 +74,10 @@ module _ (ccc : ℕ → ℕ) (join : ℕ → ℕ → Option ℕ) where
   unfolding compose_after
   compose_after-starter s bs c cs none low = let starter = is_starter_from ccc c low in rw (none, starter, compose_after)
 
-  -- c is a mark that is kept
+  -- c is a non-starter that is kept
   pub compose_after-kept : (s : ℕ) (bs : List ℕ) (c : ℕ) (cs : List ℕ) → joined ccc join s bs c ≡ None → 0 < ccc c → compose_after ccc join s bs (c ∷ cs) ≡ compose_after ccc join s (bs ++ c ∷ []) cs
   unfolding compose_after
-  compose_after-kept s bs c cs none mark = let no_starter = not_starter_from ccc c mark in rw (none, no_starter, compose_after)
+  compose_after-kept s bs c cs none non_starter = let no_starter = not_starter_from ccc c non_starter in rw (none, no_starter, compose_after)
 
   -- nothing composes to nothing
   pub compose-nil : compose ccc join [] ≡ []
@@ -89,30 +89,30 @@ module _ (ccc : ℕ → ℕ) (join : ℕ → ℕ → Option ℕ) where
   unfolding compose
   compose-starter c cs low = let starter = is_starter_from ccc c low in rw (starter, compose)
 
-  -- a mark before the first starter stays
-  pub compose-mark : (c : ℕ) (cs : List ℕ) → 0 < ccc c → compose ccc join (c ∷ cs) ≡ c ∷ compose ccc join cs
+  -- a non-starter before the first starter stays
+  pub compose-non_starter : (c : ℕ) (cs : List ℕ) → 0 < ccc c → compose ccc join (c ∷ cs) ≡ c ∷ compose ccc join cs
   unfolding compose
-  compose-mark c cs mark = let no_starter = not_starter_from ccc c mark in rw (no_starter, compose)
+  compose-non_starter c cs non_starter = let no_starter = not_starter_from ccc c non_starter in rw (no_starter, compose)
 
   -- what holds in each of the three cases
   pub compose_after-cases : (s : ℕ) (bs : List ℕ) (c : ℕ) (cs : List ℕ) (Q : List ℕ → Type 0) → ((p : ℕ) → is_free ccc bs c ≡ true → join s c ≡ Some p → Q (compose_after ccc join p bs cs)) → (joined ccc join s bs c ≡ None → ccc c ≤ 0 → Q (s ∷ (bs ++ compose_after ccc join c [] cs))) → (joined ccc join s bs c ≡ None → 0 < ccc c → Q (compose_after ccc join s (bs ++ c ∷ []) cs)) → Q (compose_after ccc join s bs (c ∷ cs))
-  compose_after-cases s bs c cs Q in_composite in_starter in_mark =
+  compose_after-cases s bs c cs Q in_composite in_starter in_non_starter =
       elim (cases_Option (joined ccc join s bs c)) [
         | inr some ↦
             let both = joined-some s bs c some.0 some.1 in
             subst Q (sym (compose_after-joined s bs c some.0 cs some.1)) (in_composite some.0 both.0 both.1)
         | inl none ↦
             elim (cases_lt 0 (ccc c)) [
-              | inl mark ↦ subst Q (sym (compose_after-kept s bs c cs none mark)) (in_mark none mark)
+              | inl non_starter ↦ subst Q (sym (compose_after-kept s bs c cs none non_starter)) (in_non_starter none non_starter)
               | inr low ↦ subst Q (sym (compose_after-starter s bs c cs none low)) (in_starter none low)
             ]
       ]
 
   -- what holds in both cases
   pub compose-cases : (c : ℕ) (cs : List ℕ) (Q : List ℕ → Type 0) → (ccc c ≤ 0 → Q (compose_after ccc join c [] cs)) → (0 < ccc c → Q (c ∷ compose ccc join cs)) → Q (compose ccc join (c ∷ cs))
-  compose-cases c cs Q in_starter in_mark =
+  compose-cases c cs Q in_starter in_non_starter =
       elim (cases_lt 0 (ccc c)) [
-        | inl mark ↦ subst Q (sym (compose-mark c cs mark)) (in_mark mark)
+        | inl non_starter ↦ subst Q (sym (compose-non_starter c cs non_starter)) (in_non_starter non_starter)
         | inr low ↦ subst Q (sym (compose-starter c cs low)) (in_starter low)
       ]
 
@@ -132,7 +132,7 @@ module _ (ccc : ℕ → ℕ) (join : ℕ → ℕ → Option ℕ) where
       (λ none starts.
       compose_after-starter s bs c (cs ++ x ∷ ys) none starts ∙ ap (λ l. s ∷ (bs ++ l)) (compose_after-at_boundary c [] cs x ys low never)
       ∙ sym (append_assoc (s ∷ bs) (compose_after ccc join c [] cs) end))
-      (λ none mark. compose_after-kept s bs c (cs ++ x ∷ ys) none mark ∙ compose_after-at_boundary s (bs ++ c ∷ []) cs x ys low never)
+      (λ none non_starter. compose_after-kept s bs c (cs ++ x ∷ ys) none non_starter ∙ compose_after-at_boundary s (bs ++ c ∷ []) cs x ys low never)
 
   -- x is the next starter
   compose-at_boundary_of : (xs : List ℕ) (x : ℕ) (ys : List ℕ) → ccc x ≤ 0 → IsNeverSecond x → compose ccc join (xs ++ x ∷ ys) ≡ compose ccc join xs ++ compose_after ccc join x [] ys
@@ -140,7 +140,7 @@ module _ (ccc : ℕ → ℕ) (join : ℕ → ℕ → Option ℕ) where
   compose-at_boundary_of (c ∷ cs) x ys low never =
       compose-cases c cs (λ l. compose ccc join (c ∷ (cs ++ x ∷ ys)) ≡ l ++ compose_after ccc join x [] ys)
       (λ starts. compose-starter c (cs ++ x ∷ ys) starts ∙ compose_after-at_boundary c [] cs x ys low never)
-      (λ mark. compose-mark c (cs ++ x ∷ ys) mark ∙ ap (λ l. c ∷ l) (compose-at_boundary_of cs x ys low never))
+      (λ non_starter. compose-non_starter c (cs ++ x ∷ ys) non_starter ∙ ap (λ l. c ∷ l) (compose-at_boundary_of cs x ys low never))
 
   -- so the parts compose each for itself
   pub compose-at_boundary : (xs : List ℕ) (x : ℕ) (ys : List ℕ) → ccc x ≤ 0 → IsNeverSecond x → compose ccc join (xs ++ x ∷ ys) ≡ compose ccc join xs ++ compose ccc join (x ∷ ys)
@@ -180,7 +180,7 @@ module _ (ccc : ℕ → ℕ) (join : ℕ → ℕ → Option ℕ) where
           let later = decomposed-compose_after c [] cs refl both.1 ∙ ap (λ l. order (l ++ cs)) (itself c both.0) in
           ap (λ l. order (parts_of s ++ l)) (flat_map-append parts_of bs rest ∙ ap (λ l. l ++ flat_map parts_of rest) (flat_map-final bs of_bs))
           ∙ canonical_order-behind ccc (parts_of s) _ _ (canonical_order-behind ccc bs (flat_map parts_of rest) (c ∷ cs) later))
-          (λ none mark.
+          (λ none non_starter.
           decomposed-compose_after s (bs ++ c ∷ []) cs (list_all-append final bs (c ∷ []) of_bs (and_from _ _ both.0 refl)) both.1
           ∙ ap (λ l. order (parts_of s ++ l)) (append_assoc bs (c ∷ []) cs))
 
@@ -191,7 +191,7 @@ module _ (ccc : ℕ → ℕ) (join : ℕ → ℕ → Option ℕ) where
           let both = and_parts (final c) (list_all final cs) all in
           compose-cases c cs (λ l. order (flat_map parts_of l) ≡ order (c ∷ cs))
           (λ low. decomposed-compose_after c [] cs refl both.1 ∙ ap (λ l. order (l ++ cs)) (itself c both.0))
-          (λ mark.
+          (λ non_starter.
           ap (λ l. order (l ++ flat_map parts_of (compose ccc join cs))) (itself c both.0)
           ∙ canonical_order-behind ccc (c ∷ []) _ cs (decomposed-compose cs both.1))
 
@@ -210,7 +210,7 @@ module _ (ccc : ℕ → ℕ) (join : ℕ → ℕ → Option ℕ) where
         (λ none first.
         ap (is_ordered ccc) (sym (append_assoc xs (s ∷ bs) (compose_after ccc join c [] cs)))
         ∙ is_ordered-compose_after (xs ++ s ∷ bs) c [] cs first (ap (is_ordered ccc) (append_assoc xs (s ∷ bs) (c ∷ cs)) ∙ h))
-        (λ none mark. is_ordered-compose_after xs s (bs ++ c ∷ []) cs low (ap (λ l. is_ordered ccc (xs ++ s ∷ l)) (append_assoc bs (c ∷ []) cs) ∙ h))
+        (λ none non_starter. is_ordered-compose_after xs s (bs ++ c ∷ []) cs low (ap (λ l. is_ordered ccc (xs ++ s ∷ l)) (append_assoc bs (c ∷ []) cs) ∙ h))
 
     -- ms was written before
     is_ordered-compose_behind : (ms cs : List ℕ) → is_ordered ccc (ms ++ cs) ≡ true → is_ordered ccc (ms ++ compose ccc join cs) ≡ true
@@ -218,7 +218,7 @@ module _ (ccc : ℕ → ℕ) (join : ℕ → ℕ → Option ℕ) where
     is_ordered-compose_behind ms (c ∷ cs) h =
         compose-cases c cs (λ l. is_ordered ccc (ms ++ l) ≡ true)
         (λ low. is_ordered-compose_after ms c [] cs low h)
-        (λ mark.
+        (λ non_starter.
         ap (is_ordered ccc) (sym (append_assoc ms (c ∷ []) (compose ccc join cs)))
         ∙ is_ordered-compose_behind (ms ++ c ∷ []) cs (ap (is_ordered ccc) (append_assoc ms (c ∷ []) cs) ∙ h))
 
@@ -237,7 +237,7 @@ module _ (ccc : ℕ → ℕ) (join : ℕ → ℕ → Option ℕ) where
         compose_after-cases s bs c cs (λ l. list_all made l ≡ true)
         (λ p free pair. list_all-compose_after p bs cs (joins s c p of_s both.0 pair) of_bs both.1)
         (λ none low. and_from _ _ of_s (list_all-append made bs _ of_bs (list_all-compose_after c [] cs (read c both.0) refl both.1)))
-        (λ none mark. list_all-compose_after s (bs ++ c ∷ []) cs of_s (list_all-append made bs (c ∷ []) of_bs (and_from _ _ (read c both.0) refl)) both.1)
+        (λ none non_starter. list_all-compose_after s (bs ++ c ∷ []) cs of_s (list_all-append made bs (c ∷ []) of_bs (and_from _ _ (read c both.0) refl)) both.1)
 
     -- each code point is read or made
     pub list_all-compose : (cs : List ℕ) → list_all final cs ≡ true → list_all made (compose ccc join cs) ≡ true
@@ -246,4 +246,4 @@ module _ (ccc : ℕ → ℕ) (join : ℕ → ℕ → Option ℕ) where
         let both = and_parts (final c) (list_all final cs) all in
         compose-cases c cs (λ l. list_all made l ≡ true)
         (λ low. list_all-compose_after c [] cs (read c both.0) refl both.1)
-        (λ mark. and_from _ _ (read c both.0) (list_all-compose cs both.1))
+        (λ non_starter. and_from _ _ (read c both.0) (list_all-compose cs both.1))

@@ -10,7 +10,7 @@ use Rattle.np_forms.specs.inside.Composing.{is_free, joined, compose_after, comp
 use Rattle.np_tables.specs.inside.CompositeSearch.{composite}
 use Rattle.np_forms.specs.inside.Composers.{IsAfterStarter, IsComposing, and_place, pair_with_last}
 use Rattle.np_forms.proofs.OrderLemmas.{is_reorderable-false, is_ordered-parts, is_ordered-tail, is_ordered-back}
-use Rattle.np_forms.proofs.ComposeLemmas.{joined-free, joined-blocked, compose_after-nil, compose_after-joined, compose_after-starter, compose_after-kept, compose-nil, compose-starter, compose-mark, is_ordered-remove}
+use Rattle.np_forms.proofs.ComposeLemmas.{joined-free, joined-blocked, compose_after-nil, compose_after-joined, compose_after-starter, compose_after-kept, compose-nil, compose-starter, compose-non_starter, is_ordered-remove}
 
 module _ (v : VersionData) where
   abbrev ccc : ℕ → ℕ
@@ -36,8 +36,8 @@ module _ (v : VersionData) where
 
   pushed : (bs : List ℕ) (last c x : ℕ) → is_free ccc bs x ≡ (last == 0 || nat_lt last (class_of v x)) → last ≤ class_of v c → 0 < class_of v c → is_free ccc (bs ++ c ∷ []) x ≡ (class_of v c == 0 || nat_lt (class_of v c) (class_of v x))
   unfolding is_reorderable
-  pushed bs last c x e up mark =
-      list_all-append (is_reorderable ccc x) bs (c ∷ []) ∙ tests last (class_of v c) (class_of v x) _ e up mark
+  pushed bs last c x e up non_starter =
+      list_all-append (is_reorderable ccc x) bs (c ∷ []) ∙ tests last (class_of v c) (class_of v x) _ e up non_starter
 
   module _ (whole out : List ℕ) (q last c : ℕ) (rest : List ℕ) (a : IsAfterStarter v whole out q last (c ∷ rest)) where
     at_q : get_or out q 0 ≡ a.s
@@ -81,16 +81,16 @@ module _ (v : VersionData) where
         ∙ sym (append_assoc a.done (a.s ∷ a.bs) _) ∙ ap (λ l. l ++ compose_after ccc join c [] rest) (sym a.split)
 
     keeps_after : pair_with_last v out (Some q) last c ≡ None → 0 < class_of v c → IsAfterStarter v whole (out ++ c ∷ []) q (class_of v c) rest
-    keeps_after h mark =
-        let up : last ≤ class_of v c = a.rises c rest a.ordered mark in
+    keeps_after h non_starter =
+        let up : last ≤ class_of v c = a.rises c rest a.ordered non_starter in
         record {
           done = a.done;
           s = a.s;
           bs = a.bs ++ c ∷ [];
           split = ap (λ l. l ++ c ∷ []) a.split ∙ append_assoc a.done (a.s ∷ a.bs) (c ∷ []);
           place = a.place;
-          gives = a.gives ∙ ap (λ l. a.done ++ l) (compose_after-kept ccc join a.s a.bs c rest (apart h) mark);
-          free = λ x. pushed a.bs last c x (a.free x) up mark;
+          gives = a.gives ∙ ap (λ l. a.done ++ l) (compose_after-kept ccc join a.s a.bs c rest (apart h) non_starter);
+          free = λ x. pushed a.bs last c x (a.free x) up non_starter;
           rises = λ d ds ordered positive.
               rising c d (is_ordered-parts ccc c d ds (is_ordered-back ccc a.bs (c ∷ d ∷ ds) (ap (is_ordered ccc) (sym (append_assoc a.bs (c ∷ []) (d ∷ ds))) ∙ ordered))).0 positive;
           ordered = ap (is_ordered ccc) (append_assoc a.bs (c ∷ []) rest) ∙ a.ordered;
@@ -112,12 +112,12 @@ module _ (v : VersionData) where
       first_starter whole out c rest (starts_after whole out q last c rest a h first) (is_ordered-tail ccc c rest (is_ordered-back ccc a.bs (c ∷ rest) a.ordered))
 
   pub push_keeps : (whole out : List ℕ) (starter : Option ℕ) (last c : ℕ) (rest : List ℕ) → pair_with_last v out starter last c ≡ None → 0 < class_of v c → IsComposing v whole out starter last (c ∷ rest) → IsComposing v whole (out ++ c ∷ []) starter (class_of v c) rest
-  push_keeps whole out None last c rest h mark a =
+  push_keeps whole out None last c rest h non_starter a =
       record {
-        gives = a.gives ∙ ap (λ l. out ++ l) (compose-mark ccc join c rest mark) ∙ sym (append_assoc out (c ∷ []) _);
+        gives = a.gives ∙ ap (λ l. out ++ l) (compose-non_starter ccc join c rest non_starter) ∙ sym (append_assoc out (c ∷ []) _);
         ordered = is_ordered-tail ccc c rest a.ordered;
       }
-  push_keeps whole out (Some q) last c rest h mark a = keeps_after whole out q last c rest a h mark
+  push_keeps whole out (Some q) last c rest h non_starter a = keeps_after whole out q last c rest a h non_starter
 
   pub IsComposing-start : (whole : List ℕ) → is_ordered ccc whole ≡ true → IsComposing v whole [] None 0 whole
   IsComposing-start whole ordered = record { gives = refl; ordered = ordered }

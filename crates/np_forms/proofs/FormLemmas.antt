@@ -29,11 +29,11 @@ module _ (v : VersionData) (sound : IsSound v) where
       ordered_form-canonical_order (class_of v) h.full ys h.orders
       ∙ ap (canonical_order (class_of v)) (full_decomposition-flat_map v compat sound.shallow xs h.full h.decomposes)
 
-  EndsAs-ended : (b : Bool) (xs : List ℕ) → EndsAs v b xs (ended v b xs)
+  pub EndsAs-ended : (b : Bool) (xs : List ℕ) → EndsAs v b xs (ended v b xs)
   EndsAs-ended true xs = IsComposed-compose_of v sound xs
   EndsAs-ended false xs = refl
 
-  ended_is : (b : Bool) (xs ys : List ℕ) → EndsAs v b xs ys → ys ≡ ended v b xs
+  pub ended_is : (b : Bool) (xs ys : List ℕ) → EndsAs v b xs ys → ys ≡ ended v b xs
   ended_is true xs ys h = composed-compose_of v sound xs ys h
   ended_is false xs ys h = h
 

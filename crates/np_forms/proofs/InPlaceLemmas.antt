@@ -39,7 +39,7 @@ module _ (v : VersionData) (whole list : List ℕ) (kept at c : ℕ) (starter : 
       (subst (λ q. IsAfterStarter v whole (take kept list ++ c ∷ []) q 0 (drop (at + 1) list)) stands step))
 
   pub in_place_keeps : pair_with_last v (take kept list) starter last c ≡ None → 0 < class_of v c → before → IsComposing v whole (take (kept + 1) (set list kept c)) starter (class_of v c) (drop (at + 1) (set list kept c))
-  in_place_keeps none mark a =
-      let step = push_keeps v whole (take kept list) starter last c (drop (at + 1) list) none mark (reads a) in
+  in_place_keeps none non_starter a =
+      let step = push_keeps v whole (take kept list) starter last c (drop (at + 1) list) none non_starter (reads a) in
       subst (λ l. IsComposing v whole l starter (class_of v c) (drop (at + 1) (set list kept c))) (sym more)
       (subst (IsComposing v whole (take kept list ++ c ∷ []) starter (class_of v c)) (sym (left kept c behind)) step)

@@ -15,8 +15,8 @@ use Rattle.np_tables.specs.Conditions.{IsSound}
 use Rattle.np_code_points.proofs.StepsLemmas.{stays, one_more}
 use Rattle.np_tables.proofs.MappingLemmas.{list_all-append}
 use Rattle.np_forms.proofs.OrderLemmas.{is_reorderable-false, not_reorderable_starter, not_reorderable_rising}
-use Rattle.np_forms.proofs.ComposeLemmas.{not_starter_from, joined-some, joined-free, compose_after-nil, compose_after-joined, compose_after-starter, compose_after-kept, compose-nil, compose-starter, compose-mark}
-use Rattle.np_tables.proofs.CompositeLemmas.{cases_Option, primary_parts, composite-some, composite-none}
+use Rattle.np_forms.proofs.ComposeLemmas.{not_starter_from, joined-some, joined-free, compose_after-nil, compose_after-joined, compose_after-starter, compose_after-kept, compose-nil, compose-starter, compose-non_starter}
+use Rattle.np_tables.proofs.CompositeLemmas.{cases_Option, composite-some, composite-none}
 
 -- ---- tests along a list, by index
 
@@ -53,8 +53,8 @@ module _ (v : VersionData) (sound : IsSound v) where
   abbrev join : ℕ → ℕ → Option ℕ
   join = composite v
 
-  abbrev are_marks : List ℕ → Bool
-  are_marks bs = list_all (λ b. not (is_starter ccc b)) bs
+  abbrev are_non_starters : List ℕ → Bool
+  are_non_starters bs = list_all (λ b. not (is_starter ccc b)) bs
 
   module _ (done : List ℕ) (s : ℕ) (bs : List ℕ) (c : ℕ) (cs : List ℕ) where
     abbrev shown : List ℕ
@@ -85,13 +85,13 @@ module _ (v : VersionData) (sound : IsSound v) where
     p_within : p < length shown
     p_within = omega (arith, length-append done (s ∷ (bs ++ c ∷ cs)), length-append bs (c ∷ cs))
 
-    module _ (starter : class_of v s ≤ 0) (marks : are_marks bs ≡ true) where
+    module _ (starter : class_of v s ≤ 0) (non_starters : are_non_starters bs ≡ true) where
       last_starter : IsLastStarter v shown p q
       last_starter =
           record {
             below = omega arith;
             starter = ap ccc at_q ∙ omega arith;
-            greatest = between (λ x. class_of v x ≢ 0) (λ j lt e. eqb-false (ccc (get_or bs j 0)) 0 (not-true _ (list_all-at (λ b. not (is_starter ccc b)) bs j marks lt)) e);
+            greatest = between (λ x. class_of v x ≢ 0) (λ j lt e. eqb-false (ccc (get_or bs j 0)) 0 (not-true _ (list_all-at (λ b. not (is_starter ccc b)) bs j non_starters lt)) e);
           }
 
       last_starter_is : (q' : ℕ) → IsLastStarter v shown p q' → q' ≡ q
@@ -170,30 +170,30 @@ module _ (v : VersionData) (sound : IsSound v) where
   at_stage xs n ys = Halts v (record { text = xs; place = n }) ys
 
   -- from a last starter on
-  run_after : (done : List ℕ) (s : ℕ) (bs cs : List ℕ) → class_of v s ≤ 0 → are_marks bs ≡ true → at_stage (done ++ s ∷ (bs ++ cs)) (length done + suc (length bs)) (done ++ compose_after ccc join s bs cs)
-  run_after done s bs [] starter marks =
+  run_after : (done : List ℕ) (s : ℕ) (bs cs : List ℕ) → class_of v s ≤ 0 → are_non_starters bs ≡ true → at_stage (done ++ s ∷ (bs ++ cs)) (length done + suc (length bs)) (done ++ compose_after ccc join s bs cs)
+  run_after done s bs [] starter non_starters =
       let same : done ++ s ∷ (bs ++ []) ≡ done ++ compose_after ccc join s bs [] =
       ap (λ l. done ++ s ∷ l) (append-nil bs) ∙ ap (λ l. done ++ l) (sym (compose_after-nil ccc join s bs)) in
       let size : length (done ++ s ∷ (bs ++ [])) ≤ length done + suc (length bs) = omega (arith, length-append done (s ∷ (bs ++ [])), length-append bs []) in
       subst (λ l. at_stage (done ++ s ∷ (bs ++ [])) (length done + suc (length bs)) l) same
       (record { place = length done + suc (length bs); reached = stays (ComposeStep v) _; ended = size })
-  run_after done s bs (c ∷ cs) starter marks =
+  run_after done s bs (c ∷ cs) starter non_starters =
       let here = done ++ s ∷ (bs ++ c ∷ cs) in
       let place = length done + suc (length bs) in
       elim (cases_Option (joined ccc join s bs c)) [
         | inl none ↦
             elim (cases_lt 0 (class_of v c)) [
-              | inl mark ↦
-                  subst (λ l. at_stage here place (done ++ l)) (sym (compose_after-kept ccc join s bs c cs none mark))
-                  (halts_after_step _ _ _ (step_on done s bs c cs starter marks none)
+              | inl non_starter ↦
+                  subst (λ l. at_stage here place (done ++ l)) (sym (compose_after-kept ccc join s bs c cs none non_starter))
+                  (halts_after_step _ _ _ (step_on done s bs c cs starter non_starters none)
                   (subst (λ l. at_stage (done ++ s ∷ l) (place + 1) (done ++ compose_after ccc join s (bs ++ c ∷ []) cs)) (append_assoc bs (c ∷ []) cs)
                   (let size : length done + suc (length (bs ++ c ∷ [])) ≡ place + 1 = omega (arith, length-append bs (c ∷ [])) in
                   subst (λ n. at_stage (done ++ s ∷ ((bs ++ c ∷ []) ++ cs)) n (done ++ compose_after ccc join s (bs ++ c ∷ []) cs)) size
                   (run_after done s (bs ++ c ∷ []) cs starter
-                  (list_all-append (λ b. not (is_starter ccc b)) bs (c ∷ []) marks (and_from _ _ (not_from_false _ (not_starter_from ccc c mark)) refl))))))
+                  (list_all-append (λ b. not (is_starter ccc b)) bs (c ∷ []) non_starters (and_from _ _ (not_from_false _ (not_starter_from ccc c non_starter)) refl))))))
               | inr starts ↦
                   subst (λ l. at_stage here place (done ++ l)) (sym (compose_after-starter ccc join s bs c cs none starts))
-                  (halts_after_step _ _ _ (step_on done s bs c cs starter marks none)
+                  (halts_after_step _ _ _ (step_on done s bs c cs starter non_starters none)
                   (subst (λ l. at_stage l (place + 1) (done ++ s ∷ (bs ++ compose_after ccc join c [] cs))) (append_assoc done (s ∷ bs) (c ∷ cs))
                   (subst (λ l. at_stage ((done ++ s ∷ bs) ++ c ∷ cs) (place + 1) l) (append_assoc done (s ∷ bs) (compose_after ccc join c [] cs))
                   (let size : length (done ++ s ∷ bs) + 1 ≡ place + 1 = omega (arith, length-append done (s ∷ bs)) in
@@ -203,33 +203,33 @@ module _ (v : VersionData) (sound : IsSound v) where
         | inr some ↦
             let is = composite-some v s c some.0 (joined-some ccc join s bs c some.0 some.1).1 in
             subst (λ l. at_stage here place (done ++ l)) (sym (compose_after-joined ccc join s bs c some.0 cs some.1))
-            (halts_after_step _ _ _ (step_in done s bs c cs starter marks some.0 some.1)
-            (run_after done some.0 bs cs (let e = (primary_parts v some.0 is.primary).starter in omega arith) marks))
+            (halts_after_step _ _ _ (step_in done s bs c cs starter non_starters some.0 some.1)
+            (run_after done some.0 bs cs (let e = is.primary.starter in omega arith) non_starters))
       ]
 
   -- no starter yet
-  no_starter : (ms cs : List ℕ) → are_marks ms ≡ true → (q k : ℕ) → ¬ Joins v (ms ++ cs) (length ms) q k
-  no_starter ms cs marks q k j =
-      eqb-false (ccc (get_or ms q 0)) 0 (not-true _ (list_all-at (λ b. not (is_starter ccc b)) ms q marks j.seek.below))
+  no_starter : (ms cs : List ℕ) → are_non_starters ms ≡ true → (q k : ℕ) → ¬ Joins v (ms ++ cs) (length ms) q k
+  no_starter ms cs non_starters q k j =
+      eqb-false (ccc (get_or ms q 0)) 0 (not-true _ (list_all-at (λ b. not (is_starter ccc b)) ms q non_starters j.seek.below))
       (sym (ap ccc (get_or_append_left ms cs 0 q j.seek.below)) ∙ j.seek.starter)
 
-  run_before : (ms cs : List ℕ) → are_marks ms ≡ true → at_stage (ms ++ cs) (length ms) (ms ++ compose ccc join cs)
-  run_before ms [] marks =
+  run_before : (ms cs : List ℕ) → are_non_starters ms ≡ true → at_stage (ms ++ cs) (length ms) (ms ++ compose ccc join cs)
+  run_before ms [] non_starters =
       let same : ms ++ [] ≡ ms ++ compose ccc join [] = ap (λ l. ms ++ l) (sym (compose-nil ccc join)) in
       subst (λ l. at_stage (ms ++ []) (length ms) l) same
       (record { place = length ms; reached = stays (ComposeStep v) _; ended = omega (arith, length-append ms []) })
-  run_before ms (c ∷ cs) marks =
+  run_before ms (c ∷ cs) non_starters =
       let step : ComposeStep v (record { text = ms ++ c ∷ cs; place = length ms }) (record { text = ms ++ c ∷ cs; place = length ms + 1 }) =
-      (omega (arith, length-append ms (c ∷ cs)), inr (record { none = no_starter ms (c ∷ cs) marks; text = refl; place = refl })) in
+      (omega (arith, length-append ms (c ∷ cs)), inr (record { none = no_starter ms (c ∷ cs) non_starters; text = refl; place = refl })) in
       elim (cases_lt 0 (class_of v c)) [
-        | inl mark ↦
-            subst (λ l. at_stage (ms ++ c ∷ cs) (length ms) (ms ++ l)) (sym (compose-mark ccc join c cs mark))
+        | inl non_starter ↦
+            subst (λ l. at_stage (ms ++ c ∷ cs) (length ms) (ms ++ l)) (sym (compose-non_starter ccc join c cs non_starter))
             (halts_after_step _ _ _ step
             (subst (λ l. at_stage l (length ms + 1) (ms ++ c ∷ compose ccc join cs)) (append_assoc ms (c ∷ []) cs)
             (subst (λ l. at_stage ((ms ++ c ∷ []) ++ cs) (length ms + 1) l) (append_assoc ms (c ∷ []) (compose ccc join cs))
             (let size : length (ms ++ c ∷ []) ≡ length ms + 1 = omega (arith, length-append ms (c ∷ [])) in
             subst (λ n. at_stage ((ms ++ c ∷ []) ++ cs) n ((ms ++ c ∷ []) ++ compose ccc join cs)) size
-            (run_before (ms ++ c ∷ []) cs (list_all-append (λ b. not (is_starter ccc b)) ms (c ∷ []) marks (and_from _ _ (not_from_false _ (not_starter_from ccc c mark)) refl)))))))
+            (run_before (ms ++ c ∷ []) cs (list_all-append (λ b. not (is_starter ccc b)) ms (c ∷ []) non_starters (and_from _ _ (not_from_false _ (not_starter_from ccc c non_starter)) refl)))))))
         | inr starts ↦
             subst (λ l. at_stage (ms ++ c ∷ cs) (length ms) (ms ++ l)) (sym (compose-starter ccc join c cs starts))
             (halts_after_step _ _ _ step (run_after ms c [] cs starts refl))
@@ -240,9 +240,9 @@ module _ (v : VersionData) (sound : IsSound v) where
       subst (λ l. at_stage [] 1 l) (sym (compose-nil ccc join)) (record { place = 1; reached = stays (ComposeStep v) _; ended = omega arith })
   run_from_one (x ∷ xs) =
       elim (cases_lt 0 (class_of v x)) [
-        | inl mark ↦
-            subst (λ l. at_stage (x ∷ xs) 1 l) (sym (compose-mark ccc join x xs mark))
-            (run_before (x ∷ []) xs (and_from _ _ (not_from_false _ (not_starter_from ccc x mark)) refl))
+        | inl non_starter ↦
+            subst (λ l. at_stage (x ∷ xs) 1 l) (sym (compose-non_starter ccc join x xs non_starter))
+            (run_before (x ∷ []) xs (and_from _ _ (not_from_false _ (not_starter_from ccc x non_starter)) refl))
         | inr starts ↦
             subst (λ l. at_stage (x ∷ xs) 1 l) (sym (compose-starter ccc join x xs starts)) (run_after [] x [] xs starts refl)
       ]

@@ -1,5 +1,6 @@
 -- The ordered form: there is one, and only one.
 use Rattle.std.proofs.Common.{◌≡◌, ℕ, List, sym, ap, ◌∙◌}
+use Rattle.np_forms.specs.Laws.{OneOrderedForm}
 use Rattle.np_forms.specs.Order.{Exchanges, IsOrderedForm}
 use Rattle.np_forms.specs.inside.CanonicalOrder.{canonical_order}
 use Rattle.np_code_points.proofs.StepsLemmas.{keeps}
@@ -16,3 +17,7 @@ module _ (ccc : ℕ → ℕ) where
 
   pub IsOrderedForm-canonical_order : (xs : List ℕ) → IsOrderedForm ccc xs (canonical_order ccc xs)
   IsOrderedForm-canonical_order xs = record { reached = reaches_canonical_order ccc xs; ordered = is_ordered-canonical_order ccc xs }
+
+pub one_ordered_form : OneOrderedForm
+one_ordered_form ccc xs =
+    record { list = canonical_order ccc xs; is = IsOrderedForm-canonical_order ccc xs; only = λ ys h. ordered_form-canonical_order ccc xs ys h }

@@ -11,7 +11,7 @@ use Rattle.np_code_points.proofs.StepsLemmas.{stays_at, one_more, join, keeps, a
 module _ (ccc : ℕ → ℕ) where
   -- ---- reorderable pairs
 
-  -- the second is a mark, of a lower class than the first
+  -- the second is a non-starter, of a lower class than the first
   pub is_reorderable-true : (a b : ℕ) → is_reorderable ccc a b ≡ true → (0 < ccc b) × (ccc b < ccc a)
   unfolding is_reorderable
   is_reorderable-true a b h =
@@ -26,7 +26,7 @@ module _ (ccc : ℕ → ℕ) where
   -- a pair, from the two classes
   pub is_reorderable_from : (a b : ℕ) → 0 < ccc b → ccc b < ccc a → is_reorderable ccc a b ≡ true
   unfolding is_reorderable
-  is_reorderable_from a b mark falls = and_from _ _ (lt-ltb 0 (ccc b) mark) (lt-ltb (ccc b) (ccc a) falls)
+  is_reorderable_from a b non_starter falls = and_from _ _ (lt-ltb 0 (ccc b) non_starter) (lt-ltb (ccc b) (ccc a) falls)
 
   -- no pair ends in a starter
   pub not_reorderable_starter : (a b : ℕ) → ccc b ≤ 0 → is_reorderable ccc a b ≡ false
@@ -49,9 +49,9 @@ module _ (ccc : ℕ → ℕ) where
       let further = is_reorderable-true b c second in
       is_reorderable_from a c further.0 (omega arith)
 
-  -- a mark may be left out between two that do not go down
+  -- a non-starter may be left out between two that do not go down
   not_reorderable_over : (a m b : ℕ) → 0 < ccc m → is_reorderable ccc a m ≡ false → is_reorderable ccc m b ≡ false → is_reorderable ccc a b ≡ false
-  not_reorderable_over a m b mark first second =
+  not_reorderable_over a m b non_starter first second =
       elim (is_reorderable-false m b second) [
         | inl low ↦ not_reorderable_starter a b low
         | inr rises ↦ elim (is_reorderable-false a m first) [ inl none ↦ absurd (omega arith) | inr before ↦ not_reorderable_rising a b (omega arith) ]
@@ -104,16 +104,16 @@ module _ (ccc : ℕ → ℕ) where
   is_ordered-at_starter (x ∷ z ∷ xs) s ys low front back =
       let both = is_ordered-parts x z xs front in is_ordered-cons x z (xs ++ s ∷ ys) both.0 (is_ordered-at_starter (z ∷ xs) s ys low both.1 back)
 
-  -- a mark may be left out
-  pub is_ordered-without_mark : (xs : List ℕ) (m : ℕ) (ys : List ℕ) → 0 < ccc m → is_ordered ccc (xs ++ m ∷ ys) ≡ true → is_ordered ccc (xs ++ ys) ≡ true
-  is_ordered-without_mark [] m ys mark h = is_ordered-tail m ys h
-  is_ordered-without_mark (x ∷ []) m [] mark h = is_ordered-one x
-  is_ordered-without_mark (x ∷ []) m (y ∷ ys) mark h =
+  -- a non-starter may be left out
+  pub is_ordered-without_non_starter : (xs : List ℕ) (m : ℕ) (ys : List ℕ) → 0 < ccc m → is_ordered ccc (xs ++ m ∷ ys) ≡ true → is_ordered ccc (xs ++ ys) ≡ true
+  is_ordered-without_non_starter [] m ys non_starter h = is_ordered-tail m ys h
+  is_ordered-without_non_starter (x ∷ []) m [] non_starter h = is_ordered-one x
+  is_ordered-without_non_starter (x ∷ []) m (y ∷ ys) non_starter h =
       let first = is_ordered-parts x m (y ∷ ys) h in
       let second = is_ordered-parts m y ys first.1 in
-      is_ordered-cons x y ys (not_reorderable_over x m y mark first.0 second.0) second.1
-  is_ordered-without_mark (x ∷ z ∷ xs) m ys mark h =
-      let both = is_ordered-parts x z (xs ++ m ∷ ys) h in is_ordered-cons x z (xs ++ ys) both.0 (is_ordered-without_mark (z ∷ xs) m ys mark both.1)
+      is_ordered-cons x y ys (not_reorderable_over x m y non_starter first.0 second.0) second.1
+  is_ordered-without_non_starter (x ∷ z ∷ xs) m ys non_starter h =
+      let both = is_ordered-parts x z (xs ++ m ∷ ys) h in is_ordered-cons x z (xs ++ ys) both.0 (is_ordered-without_non_starter (z ∷ xs) m ys non_starter both.1)
 
   -- ---- sliding
 

@@ -13,7 +13,7 @@ use Rattle.np_forms.proofs.ComposeLemmas.{not_starter_from}
 
 -- a run of non-starters, of which the last has class `last` (0 where there is none), in canonical order where `ordered`
 pub record IsRunTo (v : VersionData) (run : List ℕ) (last : ℕ) (ordered : Bool) : Type 0 where
-  pub marks : list_all (is_non_starter v) run ≡ true
+  pub non_starters : list_all (is_non_starter v) run ≡ true
   pub rises : ordered ≡ true → (is_ordered (class_of v) run ≡ true) × ((c : ℕ) → last ≤ class_of v c → is_ordered (class_of v) (run ++ c ∷ []) ≡ true)
 
 module _ (v : VersionData) where
@@ -29,12 +29,12 @@ module _ (v : VersionData) where
       is_ordered-cons ccc a b ((bs ++ c ∷ []) ++ d ∷ []) both.0 (is_ordered-more (b ∷ bs) c d both.1 le)
 
   pub IsRunTo-start : IsRunTo v [] 0 true
-  IsRunTo-start = record { marks = refl; rises = λ h. (is_ordered-nil ccc, λ c _. is_ordered-one ccc c) }
+  IsRunTo-start = record { non_starters = refl; rises = λ h. (is_ordered-nil ccc, λ c _. is_ordered-one ccc c) }
 
   pub IsRunTo-next : (run : List ℕ) (last : ℕ) (old : Bool) (c : ℕ) (new : Bool) → IsRunTo v run last old → 0 < ccc c → (new ≡ true → (old ≡ true) × (last ≤ ccc c)) → IsRunTo v (run ++ c ∷ []) (ccc c) new
-  IsRunTo-next run last old c new r mark stays =
+  IsRunTo-next run last old c new r non_starter stays =
       record {
-        marks = list_all-append (is_non_starter v) run (c ∷ []) r.marks (and_from _ _ (ap not (not_starter_from ccc c mark)) refl);
+        non_starters = list_all-append (is_non_starter v) run (c ∷ []) r.non_starters (and_from _ _ (ap not (not_starter_from ccc c non_starter)) refl);
         rises = λ h.
             let was = stays h in
             let now = (r.rises was.0).1 c was.1 in
@@ -42,21 +42,21 @@ module _ (v : VersionData) where
       }
 
   -- a run was put in order, and what follows it is empty or begins with a starter
-  run_done : (done marks sorted tail : List ℕ) (k : ℕ) → sorted ≡ canonical_order ccc marks → (0 < length tail → ccc (get_or tail 0 0) ≡ 0) → k ≡ length done + (length marks + 1) → done ++ canonical_order ccc (marks ++ tail) ≡ take k (done ++ (sorted ++ tail)) ++ canonical_order ccc (drop k (done ++ (sorted ++ tail)))
-  run_done done marks sorted [] k order starter place =
-      let same : length sorted ≡ length marks = ap length order ∙ length-canonical_order ccc marks in
+  run_done : (done non_starters sorted tail : List ℕ) (k : ℕ) → sorted ≡ canonical_order ccc non_starters → (0 < length tail → ccc (get_or tail 0 0) ≡ 0) → k ≡ length done + (length non_starters + 1) → done ++ canonical_order ccc (non_starters ++ tail) ≡ take k (done ++ (sorted ++ tail)) ++ canonical_order ccc (drop k (done ++ (sorted ++ tail)))
+  run_done done non_starters sorted [] k order starter place =
+      let same : length sorted ≡ length non_starters = ap length order ∙ length-canonical_order ccc non_starters in
       let whole = done ++ (sorted ++ []) in
       let fits : length whole ≤ k = omega (arith, place, same, length-append done (sorted ++ []), length-append sorted []) in
-      ap (λ l. done ++ l) (ap (canonical_order ccc) (append-nil marks) ∙ sym order ∙ sym (append-nil sorted))
+      ap (λ l. done ++ l) (ap (canonical_order ccc) (append-nil non_starters) ∙ sym order ∙ sym (append-nil sorted))
       ∙ sym (append-nil whole) ∙ ap (λ l. whole ++ l) (sym (canonical_order-nil ccc))
       ∙ ap (λ l. l ++ canonical_order ccc []) (sym (take_all k whole fits)) ∙ ap (λ l. take k whole ++ canonical_order ccc l) (sym (drop_all k whole fits))
-  run_done done marks sorted (s ∷ more) k order starter place =
-      let same : length sorted ≡ length marks = ap length order ∙ length-canonical_order ccc marks in
+  run_done done non_starters sorted (s ∷ more) k order starter place =
+      let same : length sorted ≡ length non_starters = ap length order ∙ length-canonical_order ccc non_starters in
       let front = done ++ (sorted ++ s ∷ []) in
       let shown : done ++ (sorted ++ s ∷ more) ≡ front ++ more = ap (λ l. done ++ l) (sym (append_assoc sorted (s ∷ []) more)) ∙ sym (append_assoc done (sorted ++ s ∷ []) more) in
       let long : length front ≡ k = omega (arith, place, same, length-append done (sorted ++ s ∷ []), length-append sorted (s ∷ [])) in
       let low : ccc s ≤ 0 = omega (arith, starter (omega arith)) in
-      ap (λ l. done ++ l) (canonical_order-at_starter ccc marks s more low ∙ ap (λ l. l ++ s ∷ canonical_order ccc more) (sym order) ∙ sym (append_assoc sorted (s ∷ []) (canonical_order ccc more)))
+      ap (λ l. done ++ l) (canonical_order-at_starter ccc non_starters s more low ∙ ap (λ l. l ++ s ∷ canonical_order ccc more) (sym order) ∙ sym (append_assoc sorted (s ∷ []) (canonical_order ccc more)))
       ∙ sym (append_assoc done (sorted ++ s ∷ []) (canonical_order ccc more))
       ∙ ap (λ l. l ++ canonical_order ccc more) (sym (take_at front more k long)) ∙ ap (λ l. take k (front ++ more) ++ canonical_order ccc l) (sym (drop_at front more k long))
       ∙ ap (λ l. take k l ++ canonical_order ccc (drop k l)) (sym shown)

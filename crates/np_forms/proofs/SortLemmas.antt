@@ -1,4 +1,4 @@
--- A stable sort of marks by their classes puts them in canonical order.
+-- A stable sort of non-starters by their classes puts them in canonical order.
 use Rattle.std.proofs.Common.{◌≡◌, ℕ, ◌<◌, ◌≤◌, Bool, true, not, ◌&&◌, ◌==◌, List, [], ◌∷◌, ◌++◌, refl, sym, ap, ap₂, ◌∙◌, arith, inl, inr, eqb-true, eq-eqb}
 use Rattle.std.proofs.lemmas.Bool.{cases_Bool, cases_order, cond-true, cond-false, and_parts, not-true, ne_eqb}
 use Rattle.std.proofs.lemmas.Bool.Decides.{nat_tests}
@@ -38,14 +38,14 @@ module _ (ccc : ℕ → ℕ) where
   Rises-non_decreasing (c ∷ []) h = tt
   Rises-non_decreasing (c ∷ d ∷ ds) h = (h 0 1 0 (omega arith) (omega arith), Rises-non_decreasing (d ∷ ds) (IsNonDecreasingBy-drop ccc 1 (c ∷ d ∷ ds) h))
 
-  -- ordered marks rise
+  -- ordered non-starters rise
   Rises-ordered : (cs : List ℕ) → is_ordered ccc cs ≡ true → list_all (λ c. not (is_starter ccc c)) cs ≡ true → Rises cs
-  Rises-ordered [] h marks = tt
-  Rises-ordered (c ∷ []) h marks = tt
-  Rises-ordered (c ∷ d ∷ ds) h marks =
+  Rises-ordered [] h non_starters = tt
+  Rises-ordered (c ∷ []) h non_starters = tt
+  Rises-ordered (c ∷ d ∷ ds) h non_starters =
       let both = is_ordered-parts ccc c d ds h in
-      let later = (and_parts (not (is_starter ccc c)) (list_all (λ m. not (is_starter ccc m)) (d ∷ ds)) marks).1 in
-      let mark = is_starter-false ccc d (not-true _ (and_parts (not (is_starter ccc d)) (list_all (λ m. not (is_starter ccc m)) ds) later).0) in
+      let later = (and_parts (not (is_starter ccc c)) (list_all (λ m. not (is_starter ccc m)) (d ∷ ds)) non_starters).1 in
+      let non_starter = is_starter-false ccc d (not-true _ (and_parts (not (is_starter ccc d)) (list_all (λ m. not (is_starter ccc m)) ds) later).0) in
       (elim (is_reorderable-false ccc c d both.0) [ inl low ↦ absurd (omega arith) | inr up ↦ up ], Rises-ordered (d ∷ ds) both.1 later)
 
   -- ---- lists that rise and are alike are one
@@ -121,9 +121,9 @@ module _ (ccc : ℕ → ℕ) where
       let agree : (y : ℕ) → tied y ≡ same_class x y = λ y. ties_is (ccc x) (ccc y) in
       sym (filter_agree tied (same_class x) agree ys) ∙ stable x ∙ filter_agree tied (same_class x) agree xs
 
-  -- so a stable sort of marks gives their canonical order
+  -- so a stable sort of non-starters gives their canonical order
   pub canonical_order-from_sort : (xs ys : List ℕ) → list_all (λ c. not (is_starter ccc c)) xs ≡ true → IsNonDecreasingBy ccc ys → IsStableByKey ccc nat_cmp xs ys → ys ≡ canonical_order ccc xs
-  canonical_order-from_sort xs ys marks rises stable =
+  canonical_order-from_sort xs ys non_starters rises stable =
       one_list ys (canonical_order ccc xs) (Rises-non_decreasing ys rises)
-      (Rises-ordered (canonical_order ccc xs) (is_ordered-canonical_order ccc xs) (list_all-canonical_order ccc (λ c. not (is_starter ccc c)) xs marks))
+      (Rises-ordered (canonical_order ccc xs) (is_ordered-canonical_order ccc xs) (list_all-canonical_order ccc (λ c. not (is_starter ccc c)) xs non_starters))
       (λ x. AreAlike-stable xs ys stable x ∙ sym (AreAlike-canonical_order xs x))

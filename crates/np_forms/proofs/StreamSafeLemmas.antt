@@ -12,12 +12,12 @@ use Rattle.np_forms.specs.inside.Runs.{longest_run}
 use Rattle.np_forms.proofs.ComposeLemmas.{not_starter_from}
 use Rattle.np_forms.proofs.FormLemmas.{IsNormalForm-normal_form, normal_form_is}
 
--- all of `xs` up to `after` is marks, and with the k before them they are more than n
+-- all of `xs` up to `after` is non-starters, and with the k before them they are more than n
 record FrontRun (v : VersionData) (n k : ℕ) (xs : List ℕ) : Type 0 where
   run : List ℕ
   after : List ℕ
   split : xs ≡ run ++ after
-  marks : list_all (is_non_starter v) run ≡ true
+  non_starters : list_all (is_non_starter v) run ≡ true
   long : n < k + length run
 
 module _ (v : VersionData) where
@@ -32,16 +32,16 @@ module _ (v : VersionData) where
   unfolding longest_run
   longest-starter n c cs h = cond-true _ _ _ h
 
-  pub longest-mark : (n c : ℕ) (cs : List ℕ) → is_starter ccc c ≡ false → longest_run ccc n (c ∷ cs) ≡ longest_run ccc (suc n) cs
+  pub longest-non_starter : (n c : ℕ) (cs : List ℕ) → is_starter ccc c ≡ false → longest_run ccc n (c ∷ cs) ≡ longest_run ccc (suc n) cs
   unfolding longest_run
-  longest-mark n c cs h = cond-false _ _ _ h
+  longest-non_starter n c cs h = cond-false _ _ _ h
 
   pub longest-least : (n : ℕ) (cs : List ℕ) → n ≤ longest_run ccc n cs
   longest-least n [] = omega (arith, longest-nil n)
   longest-least n (c ∷ cs) =
       elim (cases_Bool (is_starter ccc c)) [
         | inl starter ↦ omega (arith, longest-starter n c cs starter)
-        | inr mark ↦ omega (arith, longest-mark n c cs mark, longest-least (suc n) cs)
+        | inr non_starter ↦ omega (arith, longest-non_starter n c cs non_starter, longest-least (suc n) cs)
       ]
 
   longest-mono : (j k : ℕ) (cs : List ℕ) → j ≤ k → longest_run ccc j cs ≤ longest_run ccc k cs
@@ -49,7 +49,7 @@ module _ (v : VersionData) where
   longest-mono j k (c ∷ cs) h =
       elim (cases_Bool (is_starter ccc c)) [
         | inl starter ↦ omega (arith, longest-starter j c cs starter, longest-starter k c cs starter)
-        | inr mark ↦ omega (arith, longest-mark j c cs mark, longest-mark k c cs mark, longest-mono (suc j) (suc k) cs (omega arith))
+        | inr non_starter ↦ omega (arith, longest-non_starter j c cs non_starter, longest-non_starter k c cs non_starter, longest-mono (suc j) (suc k) cs (omega arith))
       ]
 
   longest-behind : (k : ℕ) (before rest : List ℕ) → longest_run ccc 0 rest ≤ longest_run ccc k (before ++ rest)
@@ -57,47 +57,47 @@ module _ (v : VersionData) where
   longest-behind k (c ∷ cs) rest =
       elim (cases_Bool (is_starter ccc c)) [
         | inl starter ↦ omega (arith, longest-starter k c (cs ++ rest) starter, longest-behind 0 cs rest)
-        | inr mark ↦ omega (arith, longest-mark k c (cs ++ rest) mark, longest-behind (suc k) cs rest)
+        | inr non_starter ↦ omega (arith, longest-non_starter k c (cs ++ rest) non_starter, longest-behind (suc k) cs rest)
       ]
 
   longest-front : (k : ℕ) (run rest : List ℕ) → list_all (is_non_starter v) run ≡ true → k + length run ≤ longest_run ccc k (run ++ rest)
   longest-front k [] rest h = omega (arith, longest-least k rest)
   longest-front k (c ∷ cs) rest h =
       let halves = and_parts (is_non_starter v c) (list_all (is_non_starter v) cs) h in
-      omega (arith, longest-mark k c (cs ++ rest) (not-true (is_starter ccc c) halves.0), longest-front (suc k) cs rest halves.1)
+      omega (arith, longest-non_starter k c (cs ++ rest) (not-true (is_starter ccc c) halves.0), longest-front (suc k) cs rest halves.1)
 
   longest-run : (n : ℕ) (xs : List ℕ) → HasRunOver v n xs → n < longest_run ccc 0 xs
   longest-run n xs h =
       let behind = longest-behind 0 h.before (h.run ++ h.after) in
-      let front = longest-front 0 h.run h.after h.marks in
+      let front = longest-front 0 h.run h.after h.non_starters in
       omega (arith, behind, front, h.long, ap (longest_run ccc 0) h.split)
 
   shifted : (n c : ℕ) (cs : List ℕ) → HasRunOver v n cs → HasRunOver v n (c ∷ cs)
-  shifted n c cs h = record { before = c ∷ h.before; run = h.run; after = h.after; split = ap (λ l. c ∷ l) h.split; marks = h.marks; long = h.long }
+  shifted n c cs h = record { before = c ∷ h.before; run = h.run; after = h.after; split = ap (λ l. c ∷ l) h.split; non_starters = h.non_starters; long = h.long }
 
   front_is_run : (n : ℕ) (xs : List ℕ) → FrontRun v n 0 xs → HasRunOver v n xs
-  front_is_run n xs h = record { before = []; run = h.run; after = h.after; split = h.split; marks = h.marks; long = omega (arith, h.long) }
+  front_is_run n xs h = record { before = []; run = h.run; after = h.after; split = h.split; non_starters = h.non_starters; long = omega (arith, h.long) }
 
   run_of : (n k : ℕ) (xs : List ℕ) → n < longest_run ccc k xs → HasRunOver v n xs ⊎ FrontRun v n k xs
-  run_of n k [] h = inr (record { run = []; after = []; split = refl; marks = refl; long = omega (arith, longest-nil k) })
+  run_of n k [] h = inr (record { run = []; after = []; split = refl; non_starters = refl; long = omega (arith, longest-nil k) })
   run_of n k (c ∷ cs) h =
       elim (cases_Bool (is_starter ccc c)) [
         | inl starter ↦
             elim (cases_Bool (nat_lt n k)) [
-              | inl now ↦ inr (record { run = []; after = c ∷ cs; split = refl; marks = refl; long = omega (arith, ltb-true n k now) })
+              | inl now ↦ inr (record { run = []; after = c ∷ cs; split = refl; non_starters = refl; long = omega (arith, ltb-true n k now) })
               | inr later ↦
                   let rest : n < longest_run ccc 0 cs = omega (arith, ltb-false n k later, longest-starter k c cs starter) in
                   elim (run_of n 0 cs rest) [ inl some ↦ inl (shifted n c cs some) | inr front ↦ inl (shifted n c cs (front_is_run n cs front)) ]
             ]
-        | inr mark ↦
-            let rest : n < longest_run ccc (suc k) cs = omega (arith, longest-mark k c cs mark) in
+        | inr non_starter ↦
+            let rest : n < longest_run ccc (suc k) cs = omega (arith, longest-non_starter k c cs non_starter) in
             elim (run_of n (suc k) cs rest) [
               | inl some ↦ inl (shifted n c cs some)
               | inr front ↦ inr (record {
                 run = c ∷ front.run;
                 after = front.after;
                 split = ap (λ l. c ∷ l) front.split;
-                marks = and_from _ _ (ap not mark) front.marks;
+                non_starters = and_from _ _ (ap not non_starter) front.non_starters;
                 long = omega (arith, front.long);
               })
             ]
@@ -118,13 +118,13 @@ module _ (v : VersionData) where
         | inr short ↦ le-ltb 30 _ (omega (arith, ltb-false 30 _ short)) ∙ sym short
       ]
 
-  pub count-mark : (n c : ℕ) (cs : List ℕ) → 0 < class_of v c → nat_lt 30 (longest_run ccc n (c ∷ cs)) ≡ nat_lt 30 (longest_run ccc (n + 1) cs)
-  count-mark n c cs mark =
+  pub count-non_starter : (n c : ℕ) (cs : List ℕ) → 0 < class_of v c → nat_lt 30 (longest_run ccc n (c ∷ cs)) ≡ nat_lt 30 (longest_run ccc (n + 1) cs)
+  count-non_starter n c cs non_starter =
       let same : suc n ≡ n + 1 = omega arith in
-      ap (nat_lt 30) (longest-mark n c cs (not_starter_from ccc c mark) ∙ ap (λ k. longest_run ccc k cs) same)
+      ap (nat_lt 30) (longest-non_starter n c cs (not_starter_from ccc c non_starter) ∙ ap (λ k. longest_run ccc k cs) same)
 
   pub count-over : (n c : ℕ) (cs : List ℕ) → n ≡ 30 → 0 < class_of v c → nat_lt 30 (longest_run ccc n (c ∷ cs)) ≡ true
-  count-over n c cs full mark = count-mark n c cs mark ∙ lt-ltb 30 _ (omega (arith, longest-least (n + 1) cs))
+  count-over n c cs full non_starter = count-non_starter n c cs non_starter ∙ lt-ltb 30 _ (omega (arith, longest-least (n + 1) cs))
 
   pub count-end : (n : ℕ) → n ≤ 30 → nat_lt 30 (longest_run ccc n []) ≡ false
   count-end n few = le-ltb 30 _ (omega (arith, longest-nil n))

@@ -1,4 +1,5 @@
 pub mod Assigned
+pub mod Boundaries
 pub mod Composition
 pub mod Faults
 pub mod Forms
@@ -6,4 +7,6 @@ pub mod Laws
 pub mod Order
 pub mod Starters
 pub mod StreamSafe
+pub mod StreamLaws
+pub mod Streams
 pub mod inside

@@ -12,7 +12,7 @@ pub record HasRunOver (v : VersionData) (n : ℕ) (xs : List ℕ) : Type 0 where
   pub run : List ℕ
   pub after : List ℕ
   pub split : xs ≡ before ++ (run ++ after)
-  pub marks : list_all (is_non_starter v) run ≡ true
+  pub non_starters : list_all (is_non_starter v) run ≡ true
   pub long : n < length run
 
 -- the NFKD form holds no run of more than 30 non-starters

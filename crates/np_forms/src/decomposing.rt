@@ -31,7 +31,7 @@ fn append_syllable(list: &mut Vec<char>, c: char) -> Result<bool, Memory>
 }
 
 /// Appends the full decomposition of a code point.
-fn append<T: NormTable>(
+pub(crate) fn append<T: NormTable>(
     list: &mut Vec<char>,
     table: &T,
     hangul: bool,
@@ -63,7 +63,7 @@ pub(crate) fn full_decomposition<T: NormTable>(
 ) -> Result<Vec<char>, Memory>
     ensures { IfOk result (λ list. list.items ≡ flat_map (full_of (T.model table.now) compat) (chars text.now)) }
 {
-    table.version();
+    table.meets_conditions();
     let hangul = table.hangul();
     let mut list = Vec::with_capacity(alloc, text.len())?;
     for c in text.chars() {

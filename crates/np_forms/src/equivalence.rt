@@ -28,7 +28,7 @@ pub fn equivalent<T: NormTable>(
 ) -> Result<bool, Memory>
     ensures { IfOk result (λ b. IsTrue b ↔ IsEquivalent (T.model table.now) compat (chars left.now) (chars right.now)) }
 {
-    table.version();
+    table.meets_conditions();
     let left_list = decomposed(alloc, table, compat, left)?;
     let right_list = decomposed(alloc, table, compat, right)?;
     Ok(are_same(&left_list, &right_list))

@@ -3,10 +3,10 @@ ghost use Rattle.std.specs.Prelude.{◌≡◌, ◌↔◌, IsTrue, chars, string_
 ghost use Rattle.np_forms.specs.Forms.{IsNormalForm};
 ghost use Rattle.np_forms.specs.inside.NormalForms.{decomposed as decomposed_list, normal_form};
 
-use crate::composing::compose;
 use crate::decomposing::full_decomposition;
 use crate::ordering::order;
-use np_code_points::text::string_of;
+use crate::streams::Stream;
+use crate::written::{write_end, write_text};
 use np_code_points::{Form, Memory};
 use np_tables::NormTable;
 use std::alloc::Global;
@@ -25,23 +25,6 @@ pub(crate) fn decomposed<T: NormTable>(
     Ok(list)
 }
 
-/// The code points of the normal form of a text.
-fn normalized<T: NormTable>(
-    alloc: Global,
-    table: &T,
-    form: Form,
-    text: &str,
-) -> Result<Vec<char>, Memory>
-    ensures { IfOk result (λ list. list.items ≡ normal_form (T.model table.now) form (chars text.now)) }
-{
-    let list = decomposed(alloc, table, form.compat(), text)?;
-    if form.composes() {
-        Ok(compose(table, list))
-    } else {
-        Ok(list)
-    }
-}
-
 /// The normal form of a text, whether or not its code points are assigned.
 ///
 /// # Errors
@@ -57,9 +40,12 @@ pub fn form<T: NormTable>(
     ensures value { IfOk result (λ t. chars (string_bytes t) ≡ normal_form (T.model table.now) form (chars text.now)) }
     ensures bytes { IfOk result (λ t. string_bytes t ≡ encode_utf8_all (normal_form (T.model table.now) form (chars text.now))) }
 {
-    table.version();
-    let list = normalized(alloc, table, form, text)?;
-    string_of(alloc, &list)
+    table.meets_conditions();
+    let mut stream = Stream::new(alloc, table, form);
+    let mut out = String::with_capacity(alloc, text.len())?;
+    write_text(&mut stream, &mut out, text)?;
+    write_end(&mut stream, &mut out)?;
+    Ok(out)
 }
 
 /// Whether two texts have the same bytes.
@@ -82,7 +68,7 @@ pub fn is_form<T: NormTable>(
 ) -> Result<bool, Memory>
     ensures { IfOk result (λ b. IsTrue b ↔ IsNormalForm (T.model table.now) wanted (chars text.now) (chars text.now)) }
 {
-    table.version();
+    table.meets_conditions();
     let normal = form(alloc, table, wanted, text)?;
     Ok(are_same(normal.as_str(), text))
 }

@@ -1,9 +1,33 @@
 //! The laws of the forms, over the definitions alone.
-ghost use Rattle.np_forms.specs.Laws.{OneForm, PremisesAreMet};
+ghost use Rattle.np_forms.specs.Boundaries.{Parting, Staying};
+ghost use Rattle.np_forms.specs.Laws.{OneForm, OneOrderedForm, PremisesAreMet};
+ghost use Rattle.np_forms.specs.StreamLaws.{OneMore};
+ghost use Rattle.np_forms.specs.inside.NormalForms.{GivesNormalForm};
+
+/// Whatever gives the combining classes, a list has exactly one ordered form (The Unicode Standard,
+/// D109).
+pub fn ordered_form()
+    ensures { OneOrderedForm }
+{}
 
 /// Under each version that meets the conditions, a text has exactly one normal form of each kind;
-/// the conditions are met by the version of empty files, and by one with a primary composite.
+/// the conditions are met by the version of empty files, by one with a primary composite, and by one
+/// with the Hangul arithmetic on.
 pub fn one_form()
     ensures only { OneForm }
+    ensures value { GivesNormalForm }
     ensures met { PremisesAreMet }
+{}
+
+/// One more code point of a text changes its normal form from the last starter on alone.
+pub fn one_more()
+    ensures { OneMore }
+{}
+
+/// A normal form parts before a code point whose full decomposition begins with a starter that goes
+/// into nothing (UAX #15, section 9.1): the form of the whole is that of what stands before it and
+/// that of the rest. A code point that stays is its own form; so it stays as it is before a boundary.
+pub fn boundary()
+    ensures parts { Parting }
+    ensures stays { Staying }
 {}

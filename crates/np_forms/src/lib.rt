@@ -7,15 +7,19 @@ mod composing;
 mod decomposing;
 mod equivalence;
 mod forms;
+mod held;
 pub mod laws;
 mod ordering;
 mod stabilized;
 mod stream_safety;
+mod streams;
 #[cfg(test)]
 mod tests;
+mod written;
 
 pub use assigned::{first_lacking, first_unassigned};
 pub use equivalence::equivalent;
 pub use forms::{form, is_form};
 pub use stabilized::{NpssFault, npss};
 pub use stream_safety::is_stream_safe;
+pub use streams::Stream;

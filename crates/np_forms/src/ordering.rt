@@ -10,9 +10,9 @@ use np_tables::NormTable;
 use std::alloc::{AllocError, Global};
 
 /// How many non-starters stand at the front, and whether they are in canonical order already.
-fn marks_at_front<T: NormTable>(table: &T, list: &[char]) -> (usize, bool)
+fn non_starters_at_front<T: NormTable>(table: &T, list: &[char]) -> (usize, bool)
     ensures bound { result.0 ≤ length list.now }
-    ensures marks { list_all (is_non_starter (T.model table.now)) (take result.0 list.now) ≡ true }
+    ensures non_starters { list_all (is_non_starter (T.model table.now)) (take result.0 list.now) ≡ true }
     ensures starter { result.0 < length list.now → class_of (T.model table.now) (slice_index list.now result.0) ≡ 0 }
     ensures ordered { result.1 ≡ true → is_ordered (class_of (T.model table.now)) (take result.0 list.now) ≡ true }
 {
@@ -31,13 +31,25 @@ fn marks_at_front<T: NormTable>(table: &T, list: &[char]) -> (usize, bool)
     (list.len(), ordered)
 }
 
-/// Puts a run of non-starters in canonical order, by a stable sort.
-fn sort_marks<T: NormTable>(alloc: Global, table: &T, marks: &mut [char]) -> Result<(), AllocError>
-    requires { list_all (is_non_starter (T.model table.now)) marks.old ≡ true }
-    ensures ok { OnOk result (marks.new ≡ canonical_order (class_of (T.model table.now)) marks.old) }
-    ensures err { OnErr result (marks.new ≡ marks.old) }
+/// Whether a list holds non-starters alone.
+pub(crate) fn are_non_starters<T: NormTable>(table: &T, list: &[char]) -> bool
+    ensures { result ≡ true → list_all (is_non_starter (T.model table.now)) list.now ≡ true }
 {
-    marks.sort_by_key(alloc, |c| table.class(*c))
+    let (count, _) = non_starters_at_front(table, list);
+    count == list.len()
+}
+
+/// Puts a run of non-starters in canonical order, by a stable sort.
+fn sort_non_starters<T: NormTable>(
+    alloc: Global,
+    table: &T,
+    non_starters: &mut [char],
+) -> Result<(), AllocError>
+    requires { list_all (is_non_starter (T.model table.now)) non_starters.old ≡ true }
+    ensures ok { OnOk result (non_starters.new ≡ canonical_order (class_of (T.model table.now)) non_starters.old) }
+    ensures err { OnErr result (non_starters.new ≡ non_starters.old) }
+{
+    non_starters.sort_by_key(alloc, |c| table.class(*c))
 }
 
 /// Puts the run of non-starters that begins at `at` in canonical order, and answers the place
@@ -53,9 +65,9 @@ fn order_run<T: NormTable>(
     ensures ordered { IfOk result (λ next. take at list.old ++ canonical_order (class_of (T.model table.now)) (drop at list.old)
         ≡ take next list.new ++ canonical_order (class_of (T.model table.now)) (drop next list.new)) }
 {
-    let (count, ordered) = marks_at_front(table, &list[at..]);
+    let (count, ordered) = non_starters_at_front(table, &list[at..]);
     if !ordered {
-        sort_marks(alloc, table, &mut list[at..at + count])?;
+        sort_non_starters(alloc, table, &mut list[at..at + count])?;
     }
     Ok(at + count + 1)
 }

@@ -16,7 +16,7 @@ use thiserror::Error;
 #[derive(Clone, Copy, Debug, PartialEq, Eq, Drop, Error)]
 pub enum NpssFault {
     /// A code point is not assigned in the version used.
-    #[error("an unassigned code point")]
+    #[error("unassigned {:04X} at byte {at}", u32::from(*code))]
     Unassigned {
         /// The byte place, from 0, of the first such code point.
         at: usize,

@@ -37,7 +37,7 @@ fn has_long_run<T: NormTable>(table: &T, list: &[char]) -> bool
 pub fn is_stream_safe<T: NormTable>(alloc: Global, table: &T, text: &str) -> Result<bool, Memory>
     ensures { IfOk result (λ b. IsTrue b ↔ IsStreamSafe (T.model table.now) (chars text.now)) }
 {
-    table.version();
+    table.meets_conditions();
     let nfkd = decomposed(alloc, table, true, text)?;
     Ok(!has_long_run(table, &nfkd))
 }

@@ -1,0 +1,10 @@
+pub mod FieldLemmas
+pub mod ImageLemmas
+pub mod KeyLemmas
+pub mod ListLemmas
+pub mod MessageLemmas
+pub mod NodeLemmas
+pub mod ReadingLemmas
+pub mod EntryLemmas
+pub mod FillLemmas
+pub mod LawLemmas

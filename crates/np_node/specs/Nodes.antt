@@ -2,6 +2,7 @@
 use Rattle.std.specs.Prelude.{◌≡◌, ◌≢◌, ℕ, ◌≤◌, ◌<◌, List, [], ◌∷◌, ◌++◌, length, map, All, AllPairs, Contains}
 use Rattle.np_code_points.specs.declared.forms.Form.{Form}
 use Rattle.np_node.specs.Strings.{Entry, IsEntry, IsKeepable}
+use Rattle.np_tables.specs.Conditions.{IsSound}
 use Rattle.np_tables.specs.Versions.{VersionData}
 
 -- the table, the form, the most entries, and the entries in the order in which they were kept
@@ -33,9 +34,10 @@ IsKept entries string = Contains (strings_of entries) string
 abbrev pub AreUnlike : List Entry → Type 0
 AreUnlike entries = AllPairs (λ a b. a ≢ b) (strings_of entries)
 
--- what holds of every node: each string may be kept under the table's version and stands beside its key, no string stands
+-- what holds of every node: its version meets the conditions, each string may be kept under the table's version and stands beside its key, no string stands
 -- twice, and there are at most as many entries as the room, which is at most 65,536
 pub record IsNode (node : State) : Type 0 where
+  pub sound : IsSound node.version
   pub entries : All (IsEntry node.version node.form) node.entries
   pub unlike : AreUnlike node.entries
   pub fits : length node.entries ≤ node.room

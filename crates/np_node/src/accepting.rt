@@ -3,9 +3,8 @@
 use crate::faults::NodeFault;
 use crate::messages::message_of;
 use crate::nodes::Node;
-use crate::strings::short_text;
+use crate::strings::{check_assigned, key_for, short_text};
 use np_code_points::Memory;
-use np_forms::{first_lacking, form};
 use np_tables::NormTable;
 
 /// What `Node::accept` answers.
@@ -18,8 +17,10 @@ pub enum Accepted {
 }
 
 impl<'t, T: NormTable> Node<'t, T> {
-    ghost use Rattle.np_node.specs.Accepting.{AnswersAccept, LeavesAccepted};
-    ghost use Rattle.np_node.specs.Nodes.{state_of};
+    ghost use Rattle.std.specs.Prelude.{◌≡◌, ◌≤◌, length, IfOk, OnErr};
+    ghost use Rattle.np_node.specs.Accepting.{AnswersAccept, KeepsAndTells, LeavesAccepted};
+    ghost use Rattle.np_node.specs.Nodes.{state_of, HasPlace, IsKept};
+    ghost use Rattle.np_node.specs.Strings.{most_bytes};
 
     /// Keeps a string behind the others, beside its key, and answers the message that tells it.
     ///
@@ -36,13 +37,21 @@ impl<'t, T: NormTable> Node<'t, T> {
         ensures answer { AnswersAccept (state_of T.model self.old) string.now result }
         ensures node { LeavesAccepted T.model self.old self.new string.now result }
     {
-        let text = short_text(string)?;
-        if self.kept.contains_key(text) {
-            return Ok(Accepted::Known);
+        match short_text(string) {
+            Ok(text) if self.kept.key_of(text).is_some() => Ok(Accepted::Known),
+            Ok(text) => self.accept_new(text),
+            Err(fault) => Err(fault),
         }
-        if let Some((at, code)) = first_lacking(self.table, text) {
-            return Err(NodeFault::Unassigned { at, code });
-        }
+    }
+
+    /// Keeps a string that is not kept yet.
+    fn accept_new(&mut self, text: &str) -> Result<Accepted, NodeFault>
+        requires short { length text.now ≤ most_bytes }
+        requires absent { ¬ IsKept self.old.entries text.now }
+        ensures answer { AnswersAccept (state_of T.model self.old) text.now result }
+        ensures node { LeavesAccepted T.model self.old self.new text.now result }
+    {
+        check_assigned(self.table, text)?;
         if self.is_full() {
             return Err(NodeFault::Full);
         }
@@ -51,9 +60,13 @@ impl<'t, T: NormTable> Node<'t, T> {
     }
 
     /// Keeps a new string that there is room for, and answers its message.
-    fn keep_new(&mut self, text: &str) -> Result<Vec<u8>, Memory> {
-        let alloc = *self.kept.allocator();
-        let key = form(alloc, self.table, self.form, text)?;
+    fn keep_new(&mut self, text: &str) -> Result<Vec<u8>, Memory>
+        requires { HasPlace (state_of T.model self.old) text.now }
+        ensures ok { IfOk result (λ message. KeepsAndTells T.model self.old self.new text.now message.items) }
+        ensures err { OnErr result (self.new ≡ self.old) }
+    {
+        let alloc = self.kept.allocator();
+        let key = key_for(alloc, self.table, self.form, text)?;
         let message = message_of(alloc, self.form, text, key.as_str())?;
         self.keep(text, key)?;
         Ok(message)

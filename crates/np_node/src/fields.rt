@@ -18,13 +18,20 @@ pub(crate) struct Told<'b> {
     pub key: &'b [u8],
 }
 
-ghost use Rattle.std.specs.Prelude.{◌≤◌, length};
+ghost use Rattle.std.specs.Prelude.{◌≤◌, ◌≡◌, ◌↔◌, length, IsTrue};
+
+/// Whether the bytes are the same.
+pub(crate) fn same_bytes(left: &[u8], right: &[u8]) -> bool
+    ensures { IsTrue result ↔ (left.now ≡ right.now) }
+{
+    left == right
+}
 
 impl<'b> Fields<'b> {
     ghost use Rattle.std.specs.Prelude.{◌≡◌, ℕ, ◌+◌, ◌^◌, ◌<◌, ◌∷◌, [], IfOk, IfErr, IfSome, IfNone};
     ghost use Rattle.np_code_points.specs.Forms.{byte_of};
     ghost use Rattle.np_node.specs.Fields.{entry_bytes, field_bytes, number_bytes, FitsFields, IsEntryFault, IsFieldFault, LacksForm};
-    ghost use Rattle.np_node.specs.inside.Reading.{left_of, told_entry, Passes};
+    ghost use Rattle.np_node.specs.inside.Reading.{left_of, told_entry, Passes, Skips};
 
     /// A reader of all of the bytes.
     pub(crate) fn new(bytes: &'b [u8]) -> Self
@@ -62,12 +69,14 @@ impl<'b> Fields<'b> {
     }
 
     /// Goes over the name, where it is in front.
-    pub(crate) fn skip(&mut self, name: &[u8]) -> bool {
+    pub(crate) fn skip(&mut self, name: &[u8]) -> bool
+        ensures { Skips self.old self.new name.now result }
+    {
         if self.left() < name.len() {
             return false;
         }
         match self.take(name.len()) {
-            Some(found) => found == name,
+            Some(found) => same_bytes(found, name),
             None => false,
         }
     }
@@ -83,7 +92,7 @@ impl<'b> Fields<'b> {
 
     /// The next number.
     pub(crate) fn number(&mut self) -> Option<u32>
-        ensures some { IfSome result (λ n. Passes self.old self.new (number_bytes n)) }
+        ensures some { IfSome result (λ n. Passes self.old self.new (number_bytes n) × (n < 2 ^ 32)) }
         ensures none { IfNone result (length (left_of self.old) < 4) }
     {
         let bytes = self.take(4)?;
@@ -111,25 +120,38 @@ impl<'b> Fields<'b> {
         ensures err { IfErr result (λ at. (inner : ℕ) × IsEntryFault (left_of self.old) inner × (at ≡ self.old.at + inner)) }
     {
         let string = self.field()?;
-        let key = self.field()?;
-        Ok(Told { string, key })
+        match self.field() {
+            Ok(key) => Ok(Told { string, key }),
+            Err(at) => Err(at),
+        }
     }
 }
 
-ghost use Rattle.std.specs.Prelude.{◌≡◌, ◌++◌, ◌^◌, ◌<◌, OnOk};
-ghost use Rattle.np_node.specs.Fields.{entry_bytes as entry_spelled, field_bytes as field_spelled};
+ghost use Rattle.std.specs.Prelude.{◌++◌, ◌^◌, ◌<◌, OnOk};
+ghost use Rattle.np_node.specs.Fields.{entry_bytes as entry_spelled, field_bytes as field_spelled, number_bytes as number_spelled};
+
+/// Appends a number.
+#[tactic(auto, unfolding(crate::specs::Fields::number_bytes))]
+pub(crate) fn push_number(out: &mut Vec<u8>, number: u32) -> Result<(), Memory>
+    ensures { OnOk result (out.new.items ≡ out.old.items ++ number_spelled number) }
+{
+    out.extend_from_slice(&number.to_be_bytes())?;
+    Ok(())
+}
 
 /// Appends a list of bytes behind its length.
+#[tactic(auto, using(crate::proofs::ListLemmas::joined), unfolding(crate::specs::Fields::field_bytes))]
 fn push_field(out: &mut Vec<u8>, bytes: &[u8]) -> Result<(), Memory>
     requires { length bytes.now < 2 ^ 32 }
     ensures { OnOk result (out.new.items ≡ out.old.items ++ field_spelled bytes.now) }
 {
-    out.extend_from_slice(&(bytes.len() as u32).to_be_bytes())?;
+    push_number(out, bytes.len() as u32)?;
     out.extend_from_slice(bytes)?;
     Ok(())
 }
 
 /// Appends a string and its key.
+#[tactic(auto, using(crate::proofs::ListLemmas::joined), unfolding(crate::specs::Fields::entry_bytes))]
 pub(crate) fn push_entry(out: &mut Vec<u8>, string: &[u8], key: &[u8]) -> Result<(), Memory>
     requires string { length string.now < 2 ^ 32 }
     requires key { length key.now < 2 ^ 32 }

@@ -3,6 +3,7 @@
 #![tactic(auto)]
 
 pub mod accepting;
+mod entries;
 pub mod faults;
 mod fields;
 mod images;

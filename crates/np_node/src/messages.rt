@@ -8,6 +8,7 @@ use np_code_points::{Form, Memory};
 use std::alloc::Global;
 
 /// The message of a string and its key.
+#[tactic(auto, unfolding(crate::specs::Messages::message_bytes))]
 pub(crate) fn message_of(
     alloc: Global,
     form: Form,

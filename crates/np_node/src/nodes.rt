@@ -9,7 +9,8 @@ ghost use Rattle.np_node.specs.Nodes.{state_of, with_entry, HasPlace, IsKept, Is
 ghost use Rattle.np_node.specs.Strings.{IsKey};
 ghost use Rattle.std.specs.Prelude.{chars, string_bytes};
 
-use indexmap::IndexMap;
+use crate::entries::Entries;
+use crate::fields::same_bytes;
 use np_chain::Break;
 use np_code_points::{Form, Memory};
 use np_tables::NormTable;
@@ -28,18 +29,17 @@ pub struct Node<'t, T: NormTable> {
     pub(crate) table: &'t T,
     pub(crate) form: Form,
     pub(crate) room: u32,
-    pub(crate) kept: IndexMap<String, String>,
+    pub(crate) kept: Entries,
 }
 
 impl<'t, T: NormTable> Model for Node<'t, T> {
     ghost use Rattle.np_node.specs.Nodes.{NodeState, state_of, IsNode};
-    ghost use Rattle.np_node.specs.inside.Shown.{shown};
 
     ghost Value = { NodeState T };
 
-    ghost view = { λ a. record { table = a.table.now; form = a.form; room = a.room; entries = shown a.kept.entries } };
+    ghost view = { λ a. record { table = a.table.now; form = a.form; room = a.room; entries = a.kept } };
 
-    ghost invariant = { λ a. IsNode (record { version = T.model a.table.now; form = a.form; room = a.room; entries = shown a.kept.entries }) };
+    ghost invariant = { λ a. IsNode (record { version = T.model a.table.now; form = a.form; room = a.room; entries = a.kept }) };
 }
 
 impl<'t, T: NormTable> Drop for Node<'t, T> {
@@ -59,11 +59,12 @@ impl<'t, T: NormTable> Node<'t, T> {
         requires { room ≤ MOST_ROOM }
         ensures { result ≡ record { table = table.now; form = form; room = room; entries = [] } }
     {
+        let _sound = table.version();
         Node {
             table,
             form,
             room,
-            kept: IndexMap::new(alloc),
+            kept: Entries::new(alloc),
         }
     }
 
@@ -79,7 +80,7 @@ impl<'t, T: NormTable> Node<'t, T> {
     pub fn is_empty(&self) -> bool
         ensures { IsTrue result ↔ (self.now.entries ≡ []) }
     {
-        self.kept.is_empty()
+        self.kept.len() == 0
     }
 
     /// The most strings that may be kept.
@@ -108,8 +109,7 @@ impl<'t, T: NormTable> Node<'t, T> {
     pub fn entry(&self, index: usize) -> Option<(&str, &str)>
         ensures { option_map (λ p. record { string = p.0.now; key = p.1.now }) result ≡ slice_get self.now.entries index }
     {
-        let (string, key) = self.kept.get_index(index)?;
-        Some((string.as_str(), key.as_str()))
+        self.kept.get(index)
     }
 
     /// The key of a string that is kept; none where it is not. One look-up by hash.
@@ -118,8 +118,7 @@ impl<'t, T: NormTable> Node<'t, T> {
         ensures key { IfSome result (λ key. IsKey (T.model self.now.table) self.now.form string.now key.now) }
         ensures none { IfNone result (¬ IsKept self.now.entries string.now) }
     {
-        let key = self.kept.get(string)?;
-        Some(key.as_str())
+        self.kept.key_of(string)
     }
 
     /// Whether two kept strings are equivalent under the table's version (compatibly, for NFKD and
@@ -130,9 +129,10 @@ impl<'t, T: NormTable> Node<'t, T> {
         ensures kept { OnSome result (IsKept self.now.entries left.now × IsKept self.now.entries right.now) }
         ensures none { IfNone result (¬ (IsKept self.now.entries left.now × IsKept self.now.entries right.now)) }
     {
+        let _node = &self.table;
         let first = self.key_of(left)?;
         let second = self.key_of(right)?;
-        Some(first == second)
+        Some(same_bytes(first.as_bytes(), second.as_bytes()))
     }
 
     /// Moves to a table whose version extends the present one. Strings and keys stay as they are,
@@ -167,8 +167,6 @@ impl<'t, T: NormTable> Node<'t, T> {
         ensures ok { OnOk result (self.new ≡ with_entry self.old (record { string = string.now; key = string_bytes key })) }
         ensures err { OnErr result (self.new ≡ self.old) }
     {
-        let string = String::from_str(*self.kept.allocator(), string)?;
-        self.kept.insert(string, key)?;
-        Ok(())
+        self.kept.push(string, key)
     }
 }

@@ -1,5 +1,5 @@
 //! Nodes from their images.
-ghost use Rattle.std.specs.Prelude.{◌≤◌};
+ghost use Rattle.std.specs.Prelude.{◌≡◌, ◌≤◌, None};
 ghost use Rattle.np_node.specs.Restoring.{AnswersRestore};
 
 use crate::faults::{ImageFault, NodeFault};
@@ -12,11 +12,19 @@ use np_tables::NormTable;
 use std::alloc::Global;
 
 /// The refusal of a whole image.
-fn whole(fault: NodeFault) -> ImageFault {
+fn whole(fault: NodeFault) -> ImageFault
+    ensures { (result.entry ≡ None) × (result.fault ≡ fault) }
+{
     ImageFault { entry: None, fault }
 }
 
 impl<'t, T: NormTable> Node<'t, T> {
+    ghost use Rattle.std.specs.Prelude.{◌≡◌, ◌<◌, [], length, IfErr, OnOk};
+    ghost use Rattle.np_node.specs.Nodes.{state_of, with_entry, IsKept};
+    ghost use Rattle.np_node.specs.Strings.{IsEntry};
+    ghost use Rattle.np_node.specs.inside.Reading.{told_entry};
+    ghost use Rattle.np_node.specs.inside.Shapes.{HasShape, IsEntryRefusal};
+
     /// The node of an image, under a table, with a form and a room. No key of the image is
     /// trusted: each is made anew. Linear in the image's length, but for what the forms cost.
     ///
@@ -49,24 +57,38 @@ impl<'t, T: NormTable> Node<'t, T> {
         Node::new(alloc, table, form, room).filled(image, count)
     }
 
-    /// The node with the entries of an image, whose shape is right.
-    fn filled(mut self, image: &[u8], count: u32) -> Result<Node<'t, T>, ImageFault> {
+    /// The empty node with the entries of an image.
+    fn filled(mut self, image: &[u8], count: u32) -> Result<Node<'t, T>, ImageFault>
+        requires empty { self.entries ≡ [] }
+        requires shape { HasShape image.now self.form count }
+        requires room { count ≤ self.room }
+        ensures { AnswersRestore T.model self.entry.table self.entry.form self.entry.room image.now result }
+    {
         let mut fields = Fields::new(image);
         if let Err(at) = read_head(&mut fields) {
             return Err(whole(NodeFault::Malformed { at }));
         }
         for number in 0..count {
             let at = fields.place();
-            match fields.entry() {
-                Ok(told) => self.restore_entry(told, number, at)?,
+            let told = match fields.entry() {
+                Ok(told) => told,
                 Err(at) => return Err(whole(NodeFault::Malformed { at })),
+            };
+            if let Err(refused) = self.restore_entry(told, number, at) {
+                return Err(refused);
             }
         }
         Ok(self)
     }
 
     /// Keeps entry `number`, which begins at `at`.
-    fn restore_entry(&mut self, told: Told<'_>, number: u32, at: usize) -> Result<(), ImageFault> {
+    fn restore_entry(&mut self, told: Told<'_>, number: u32, at: usize) -> Result<(), ImageFault>
+        requires { length self.old.entries < self.old.room }
+        ensures ok { OnOk result (IsEntry (T.model self.old.table) self.old.form (told_entry told.entry)) }
+        ensures new { OnOk result (¬ IsKept self.old.entries (told_entry told.entry).string) }
+        ensures node { OnOk result (self.new ≡ with_entry self.old (told_entry told.entry)) }
+        ensures err { IfErr result (IsEntryRefusal (state_of T.model self.old) (told_entry told.entry) number at) }
+    {
         let fault = match self.take_told(told) {
             Ok(Taken::Kept) => return Ok(()),
             Ok(Taken::Known) => NodeFault::Malformed { at },

@@ -1,10 +1,14 @@
-//! Strings that may be kept.
-ghost use Rattle.std.specs.Prelude.{◌≡◌, ◌≤◌, length, IfOk, IfErr};
-ghost use Rattle.np_node.specs.Strings.{most_bytes, IsStringFault};
+//! Strings that may be kept, and their keys.
+ghost use Rattle.std.specs.Prelude.{◌≡◌, ◌≤◌, ◌<◌, ◌^◌, length, string_bytes, IfOk, IfErr, OnOk};
+ghost use Rattle.np_node.specs.Strings.{most_bytes, IsKeepable, IsKey, IsStringFault};
 ghost use Rattle.np_tables.specs.Versions.{VersionData};
 
 use crate::faults::NodeFault;
 use np_code_points::text::text_of;
+use np_code_points::{Form, Memory};
+use np_forms::{first_lacking, form as form_of};
+use np_tables::NormTable;
+use std::alloc::Global;
 
 /// The most bytes of a string.
 pub(crate) const LIMIT: usize = 4096;
@@ -22,4 +26,31 @@ pub(crate) fn short_text(string: &[u8]) -> Result<&str, NodeFault>
         Ok(text) => Ok(text),
         Err(fault) => Err(NodeFault::NotUtf8 { at: fault.at }),
     }
+}
+
+/// Refuses a text of which a code point is not assigned.
+pub(crate) fn check_assigned<T: NormTable>(table: &T, text: &str) -> Result<(), NodeFault>
+    requires { length text.now ≤ most_bytes }
+    ensures ok { OnOk result (IsKeepable (T.model table.now) text.now) }
+    ensures fault { IfErr result (IsStringFault (T.model table.now) text.now) }
+{
+    match first_lacking(table, text) {
+        Some((at, code)) => Err(NodeFault::Unassigned { at, code }),
+        None => Ok(()),
+    }
+}
+
+/// The key of a text.
+pub(crate) fn key_for<T: NormTable>(
+    alloc: Global,
+    table: &T,
+    form: Form,
+    text: &str,
+) -> Result<String, Memory>
+    requires { length text.now ≤ most_bytes }
+    ensures key { IfOk result (λ key. IsKey (T.model table.now) form text.now (string_bytes key)) }
+    ensures size { IfOk result (λ key. length (string_bytes key) < 2 ^ 32) }
+{
+    let _sound = table.version();
+    form_of(alloc, table, form, text)
 }

@@ -1,11 +1,10 @@
 //! Messages of other nodes.
 
 use crate::faults::NodeFault;
-use crate::fields::Told;
+use crate::fields::{Told, same_bytes};
 use crate::messages::read_message;
 use crate::nodes::Node;
-use crate::strings::short_text;
-use np_forms::{first_lacking, form};
+use crate::strings::{check_assigned, key_for, short_text};
 use np_tables::NormTable;
 
 /// What `Node::take` answers.
@@ -18,7 +17,9 @@ pub enum Taken {
 }
 
 impl<'t, T: NormTable> Node<'t, T> {
-    ghost use Rattle.np_node.specs.Nodes.{state_of};
+    ghost use Rattle.std.specs.Prelude.{◌≤◌, length};
+    ghost use Rattle.np_node.specs.Nodes.{state_of, IsKept};
+    ghost use Rattle.np_node.specs.Strings.{most_bytes};
     ghost use Rattle.np_node.specs.Taking.{AnswersEntry, AnswersTake, LeavesEntry, LeavesTaken};
     ghost use Rattle.np_node.specs.inside.Reading.{told_entry};
 
@@ -50,21 +51,27 @@ impl<'t, T: NormTable> Node<'t, T> {
         ensures answer { AnswersEntry (state_of T.model self.old) (told_entry told.entry) result }
         ensures node { LeavesEntry self.old self.new (told_entry told.entry) result }
     {
-        let text = short_text(told.string)?;
-        match self.kept.get(text) {
-            Some(key) if key.as_bytes() == told.key => Ok(Taken::Known),
+        let text = match short_text(told.string) {
+            Ok(text) => text,
+            Err(fault) => return Err(fault),
+        };
+        match self.kept.key_of(text) {
+            Some(key) if same_bytes(key.as_bytes(), told.key) => Ok(Taken::Known),
             Some(_) => Err(NodeFault::KeyDiffers),
             None => self.take_new(text, told.key),
         }
     }
 
-    /// Keeps a new string, where the key that came with it is right.
-    fn take_new(&mut self, text: &str, told: &[u8]) -> Result<Taken, NodeFault> {
-        if let Some((at, code)) = first_lacking(self.table, text) {
-            return Err(NodeFault::Unassigned { at, code });
-        }
-        let key = form(*self.kept.allocator(), self.table, self.form, text)?;
-        if key.as_bytes() != told {
+    /// Keeps a string that is not kept yet, where the key that came with it is right.
+    fn take_new(&mut self, text: &str, told: &[u8]) -> Result<Taken, NodeFault>
+        requires short { length text.now ≤ most_bytes }
+        requires absent { ¬ IsKept self.old.entries text.now }
+        ensures answer { AnswersEntry (state_of T.model self.old) (record { string = text.now; key = told.now }) result }
+        ensures node { LeavesEntry self.old self.new (record { string = text.now; key = told.now }) result }
+    {
+        check_assigned(self.table, text)?;
+        let key = key_for(self.kept.allocator(), self.table, self.form, text)?;
+        if !same_bytes(key.as_bytes(), told) {
             return Err(NodeFault::KeyDiffers);
         }
         if self.is_full() {

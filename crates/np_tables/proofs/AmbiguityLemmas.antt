@@ -1,20 +1,20 @@
 -- Pairs that two primary composites share.
 use Rattle.std.proofs.Common.{◌≡◌, ℕ, zero, suc, ◌+◌, ◌-◌, ◌<◌, ◌≤◌, max, min, true, ◌&&◌, List, [], ◌∷◌, length, get_or, Some, None, Option, IfSome, refl, sym, ap, subst, ◌∙◌, arith, inl, inr}
 use Rattle.std.specs.List.{slice_get}
-use Rattle.std.proofs.lemmas.Bool.{cases_Bool, cases_lt, cases_order, and_parts, both_ways, cond-true}
+use Rattle.std.proofs.lemmas.Bool.{cases_Bool, cases_lt, cases_order, and_parts, both_ways}
 use Rattle.std.proofs.lemmas.Option.{same_Some, slice_get_within, get_or_from_slice_get, slice_get-get_or}
 use Rattle.std.proofs.lemmas.List.{get_or_default}
 use Rattle.np_ucd.specs.Entries.{AreRows}
 use Rattle.np_code_points.specs.Hangul.{is_syllable, syllable_pair}
 use Rattle.np_code_points.proofs.HangulLemmas.{pair_injective}
-use Rattle.np_tables.specs.Versions.{VersionData, file_mapping, mapping_of, class_of, has_hangul}
-use Rattle.np_tables.specs.Composites.{is_primary, is_starter_pair, IsCompositeOf}
+use Rattle.np_tables.specs.Versions.{VersionData, has_hangul}
+use Rattle.np_tables.specs.Composites.{IsCompositeOf}
 use Rattle.np_tables.specs.Faults.{IsAmbiguous}
 use Rattle.np_tables.specs.inside.FirstFaults.{IsFirst}
 use Rattle.np_tables.specs.declared.pairs.Composite.{Composite}
 use Rattle.np_tables.specs.inside.Pairs.{Lists, AreOfFile, AreOrdered}
 use Rattle.np_tables.specs.inside.Suspects.{IsAtMost, least_of, HasSmallerTwin, IsSuspect}
-use Rattle.np_tables.proofs.CompositeLemmas.{primary_parts}
+use Rattle.np_tables.proofs.HangulLemmas.{decomposition_mapping-on}
 use Rattle.np_tables.proofs.PrimaryLemmas.{primary-syllable}
 
 -- ---- the lesser of two
@@ -42,19 +42,6 @@ least_has P (Some a) None p q = p
 least_has P (Some a) (Some b) p q = min_cases P a b p q
 
 -- ---- pairs
-
-pair_of : (ccc : ℕ → ℕ) (xs : List ℕ) → is_starter_pair ccc xs ≡ true → (a : ℕ) × (b : ℕ) × (xs ≡ a ∷ b ∷ [])
-pair_of ccc [] h = cc
-pair_of ccc (a ∷ []) h = cc
-pair_of ccc (a ∷ b ∷ []) h = (a, b, refl)
-pair_of ccc (a ∷ b ∷ c ∷ cs) h = cc
-
-pub primary_pair : (v : VersionData) (c : ℕ) → is_primary v c ≡ true → (a : ℕ) × (b : ℕ) × (mapping_of v c ≡ a ∷ b ∷ [])
-primary_pair v c h = pair_of (class_of v) (mapping_of v c) (primary_parts v c h).pair
-
-pub mapping_of-on : (v : VersionData) (c : ℕ) → (has_hangul v && is_syllable c) ≡ true → mapping_of v c ≡ syllable_pair c
-unfolding mapping_of
-mapping_of-on v c on = cond-true _ (syllable_pair c) (file_mapping v c) on
 
 same_max : (s c : ℕ) → s < c → c ≡ max s c
 same_max s c h = omega arith
@@ -157,23 +144,23 @@ module _ (v : VersionData) (cs : List Composite) where
 
       pub found : (c : ℕ) → IsAmbiguous v c → Found c
       found c h =
-          let pair = primary_pair v c h.primary in
-          let a = pair.0 in
-          let b = pair.1 in
-          let here : IsCompositeOf v a b c = record { primary = h.primary; mapping = pair.2 } in
-          let there : IsCompositeOf v a b h.other = record { primary = h.other_primary; mapping = h.same ∙ pair.2 } in
+          let pair = h.primary.pair in
+          let a = h.primary.first in
+          let b = h.primary.second in
+          let here : IsCompositeOf v a b c = record { primary = h.primary; mapping = pair } in
+          let there : IsCompositeOf v a b h.other = record { primary = h.other_primary; mapping = h.same ∙ pair } in
           elim (cases_Bool (has_hangul v && is_syllable c)) [
             | inl on ↦
-                let own : syllable_pair c ≡ a ∷ b ∷ [] = sym (mapping_of-on v c on) ∙ pair.2 in
+                let own : syllable_pair c ≡ a ∷ b ∷ [] = sym (decomposition_mapping-on v c on) ∙ pair in
                 elim (cases_Bool (has_hangul v && is_syllable h.other)) [
                   | inl other_on ↦
-                      let same = pair_injective h.other c (and_parts _ _ other_on).1 (and_parts _ _ on).1 (sym (mapping_of-on v h.other other_on) ∙ there.mapping ∙ sym own) in
+                      let same = pair_injective h.other c (and_parts _ _ other_on).1 (and_parts _ _ on).1 (sym (decomposition_mapping-on v h.other other_on) ∙ there.mapping ∙ sym own) in
                       let less = h.smaller in
                       absurd (omega arith)
                   | inr other_off ↦ let less = h.smaller in beside a b c c h.other on own (file.all a b h.other there other_off) (omega arith)
                 ]
             | inr off ↦ elim (cases_Bool (has_hangul v && is_syllable h.other)) [
-              | inl other_on ↦ beside a b h.other c c other_on (sym (mapping_of-on v h.other other_on) ∙ there.mapping) (file.all a b c here off) (same_max h.other c h.smaller)
+              | inl other_on ↦ beside a b h.other c c other_on (sym (decomposition_mapping-on v h.other other_on) ∙ there.mapping) (file.all a b c here off) (same_max h.other c h.smaller)
               | inr other_off ↦ twins a b h.other c (file.all a b h.other there other_off) (file.all a b c here off) h.smaller
             ]
           ]
@@ -208,7 +195,7 @@ module _ (v : VersionData) (cs : List Composite) where
         let composite = file.composites here.first here.second here.code lists in
         let off = file.no_syllables here.first here.second here.code lists in
         let primary = primary-syllable v s rows on in
-        let same = mapping_of-on v s on ∙ pair ∙ sym composite.mapping in
+        let same = decomposition_mapping-on v s on ∙ pair ∙ sym composite.mapping in
         elim (cases_order s here.code) [
           | inl equal ↦ absurd (both_ways _ off (sym (ap (λ c. has_hangul v && is_syllable c) equal) ∙ on))
           | inr other ↦ elim other [

@@ -1,15 +1,15 @@
 -- The marks of the last round tell what is too deep and what is too long.
 use Rattle.std.proofs.Common.{◌≡◌, ◌≢◌, ℕ, suc, ◌+◌, ◌<◌, ◌≤◌, true, ◌&&◌, List, [], ◌∷◌, length, Option, Some, None, refl, sym, ap, subst, ◌∙◌, inl, inr, arith, leb, eqb, ◌⊎◌}
-use Rattle.std.proofs.lemmas.Bool.{cond-true, cond-false, cases_Bool, cases_lt, and_parts, eqb-true, eq-eqb, leb-true, true_from_ne_false}
+use Rattle.std.proofs.lemmas.Bool.{cond-true, cond-false, cases_Bool, and_parts, eqb-true, eq-eqb, leb-true}
 use Rattle.std.specs.Cmp.Lexicographic.{pointwise}
 use Rattle.np_ucd.specs.Entries.{Entry, AreRows, IsRow}
 use Rattle.np_code_points.specs.Hangul.{is_syllable}
 use Rattle.np_tables.specs.Versions.{VersionData, entry_at, mapping_in, file_mapping, has_hangul}
-use Rattle.np_tables.specs.Mappings.{has_depth}
-use Rattle.np_tables.specs.inside.FullDecompositions.{full_of}
-use Rattle.np_tables.specs.inside.Depths.{mark, mapping_mark, row_marks, first_row, is_marked, AreShort}
+use Rattle.np_tables.specs.inside.FullDecompositions.{full}
+use Rattle.np_tables.specs.inside.Depths.{mark, mapping_mark, row_marks, first_row, is_marked}
 use Rattle.np_tables.specs.Faults.{IsTooDeep, IsTooLong}
 use Rattle.np_tables.specs.inside.FirstFaults.{IsFirst}
+use Rattle.np_tables.proofs.MappingLemmas.{decomposes_full, full-only}
 use Rattle.np_tables.proofs.DepthLemmas.{mark-file, marks-from_rows, settled_rows, mark-zero, mark-more, mark-deep, mark-length}
 use Rattle.np_tables.proofs.FirstLemmas.{IsAt, first_of}
 use Rattle.np_tables.proofs.SyllableLemmas.{depth_two, syllable-bare, mark-syllable, mark-syllable_still, syllable_mark-late}
@@ -124,16 +124,15 @@ mark-too_deep : (v : VersionData) (c : ℕ) → IsTooDeep v c → mark v 32 c �
 mark-too_deep v c is = mark-deep v 32 c is.deep
 
 too_long-mark : (v : VersionData) (c : ℕ) → mark v 32 c ≡ 65 → IsTooLong v c
-unfolding full_of
 too_long-mark v c h =
     let shallow = mark-more v 32 c (omega arith) in
     let length_is = mark-length v 32 c shallow in
-    record { shallow = shallow; long = omega arith }
+    record { shallow = shallow; full = full v true 32 c; decomposes = decomposes_full v true 32 c shallow; long = omega arith }
 
 mark-too_long : (v : VersionData) (c : ℕ) → IsTooLong v c → mark v 32 c ≡ 65
-unfolding full_of
 mark-too_long v c is =
     let length_is = mark-length v 32 c is.shallow in
+    let same = ap length (full-only v true 32 c is.full is.shallow is.decomposes) in
     let long = is.long in
     omega arith
 
@@ -149,17 +148,3 @@ module _ (v : VersionData) (rows : AreRows v.entries) where
       subst (IsFirst (IsTooLong v)) (sym h)
       (IsFirst-along _ (IsTooLong v) (too_long-mark v) (mark-too_long v) _
       (first_marked v rows 32 65 (omega arith) (record { no_bare = λ h. absurd (omega arith); no_syllable = inr (omega arith) })))
-
--- ---- with neither fault
-
-pub AreShort-from_none : (v : VersionData) → IsFirst (IsTooDeep v) None → IsFirst (IsTooLong v) None → AreShort v
-AreShort-from_none v deep long =
-    let shallow = λ (c : ℕ). true_from_ne_false (has_depth v 32 c) (λ h. deep c (record { deep = h })) in
-    record {
-      shallow = shallow;
-      short = λ c.
-          elim (cases_lt 64 (length (full_of v true c))) [
-            | inl over ↦ absurd (long c (record { shallow = shallow c; long = over }))
-            | inr within ↦ within
-          ];
-    }

@@ -1,14 +1,17 @@
 -- The composite of a pair, and what it decomposes to.
-use Rattle.std.proofs.Common.{◌≡◌, ℕ, zero, suc, ◌+◌, ◌-◌, ◌<◌, ◌⊎◌, Bool, true, false, not, ◌&&◌, ◌==◌, List, [], ◌∷◌, ◌++◌, flat_map, Option, Some, None, is_some, refl, sym, ap, ◌∙◌, arith, inl, inr, eqb-true, eq-eqb, append-nil}
-use Rattle.std.proofs.lemmas.Bool.{cond-true, cond-false, cases_Bool, cases_eq, and_parts, and_from, leb-true, ltb-true, both_ways}
-use Rattle.np_tables.specs.Versions.{VersionData, entry_at, is_assigned, class_of, file_mapping, mapping_in, is_canonical, is_empty, is_excluded, kind_of, mapping_of, has_hangul, all_hangul, all_from, is_hangul_row}
+use Rattle.std.proofs.Common.{◌≡◌, ℕ, zero, suc, ◌<◌, ◌⊎◌, Bool, true, false, not, ◌&&◌, ◌==◌, List, [], ◌∷◌, ◌++◌, flat_map, Option, Some, None, is_some, IsTrue, ◌↔◌, refl, sym, ap, ◌∙◌, arith, inl, inr, eqb-true, eq-eqb, append-nil}
+use Rattle.std.proofs.lemmas.Bool.{cond-true, cond-false, cases_Bool, cases_eq, and_parts, and_from, both_ways}
+use Rattle.np_tables.specs.Versions.{VersionData, entry_at, is_assigned, class_of, file_mapping, mapping_in, is_canonical, is_empty, is_excluded, decomposition_kind, decomposition_mapping, has_hangul}
 use Rattle.np_ucd.specs.Entries.{Entry}
 use Rattle.np_ucd.specs.declared.rows.MapKind.{MapKind}
 use Rattle.np_ucd.specs.declared.rows.MapKind.TheVariants.{Plain, Canonical, Compatibility}
 use Rattle.np_code_points.specs.Hangul.{is_syllable}
 use Rattle.np_tables.specs.Mappings.{counts, parts}
 use Rattle.np_tables.specs.inside.FullDecompositions.{full_of}
-use Rattle.np_tables.specs.Composites.{is_starter_pair, is_primary, IsCompositeOf}
+use Rattle.np_tables.specs.Composites.{IsPrimary, IsCompositeOf}
+use Rattle.np_tables.proofs.HangulLemmas.{hangul_parts, syllable_row}
+use Rattle.np_code_points.proofs.HangulLemmas.{first_same}
+use Rattle.np_tables.specs.inside.Primaries.{is_starter_pair, is_primary}
 use Rattle.np_tables.specs.inside.CompositeSearch.{or_this, least_below, is_pair, composite}
 use Rattle.np_tables.specs.Conditions.{IsSound}
 use Rattle.np_tables.proofs.MappingLemmas.{full_of-mapped}
@@ -63,32 +66,6 @@ is_pair_from a b xs e = ap (is_pair a b) e ∙ and_from _ _ (eq-eqb a a refl) (e
 
 -- ---- a code point with a mapping is assigned
 
-pub all_from-at : (p : ℕ → Bool) (base n k : ℕ) → all_from p base n ≡ true → k < n → p (base + k) ≡ true
-unfolding all_from
-all_from-at p base zero k h lt = absurd (omega arith)
-all_from-at p base (suc n) k h lt =
-    let halves = and_parts (p (base + n)) (all_from p base n) h in
-    elim (cases_eq k n) [
-      | inl same ↦ ap (λ j. p (base + j)) same ∙ halves.0
-      | inr other ↦ all_from-at p base n k halves.1 (omega arith)
-    ]
-
-pub syllable_row : (v : VersionData) (c : ℕ) → has_hangul v ≡ true → is_syllable c ≡ true → is_hangul_row v c ≡ true
-unfolding has_hangul all_hangul
-syllable_row v c on h =
-    let p = is_hangul_row v in
-    let last = (and_parts (all_from p 0x1100 19 && all_from p 0x1161 21 && all_from p 0x11A8 27) (all_from p 0xAC00 11172) on).1 in
-    let range = and_parts _ _ h in
-    let low = leb-true 0xAC00 c range.0 in
-    let high = ltb-true c (0xAC00 + 11172) range.1 in
-    let at = all_from-at p 0xAC00 11172 (c - 0xAC00) last (omega arith) in
-    let same : 0xAC00 + (c - 0xAC00) ≡ c = omega arith in
-    sym (ap p same) ∙ at
-
-hangul_row-assigned : (v : VersionData) (c : ℕ) → is_hangul_row v c ≡ true → is_assigned v c ≡ true
-unfolding is_hangul_row
-hangul_row-assigned v c h = (and_parts (is_assigned v c) _ (and_parts (is_assigned v c && class_of v c == 0) _ h).0).0
-
 mapped_in : (o : Option Entry) → is_empty (mapping_in o) ≡ false → is_some o ≡ true
 mapped_in None h = cc
 mapped_in (Some e) h = refl
@@ -97,67 +74,97 @@ file_mapped-assigned : (v : VersionData) (c : ℕ) → is_empty (file_mapping v 
 unfolding file_mapping is_assigned
 file_mapped-assigned v c h = mapped_in (entry_at v.entries c) h
 
-pub mapped-assigned : (v : VersionData) (c : ℕ) → is_empty (mapping_of v c) ≡ false → is_assigned v c ≡ true
-unfolding mapping_of
+pub mapped-assigned : (v : VersionData) (c : ℕ) → is_empty (decomposition_mapping v c) ≡ false → is_assigned v c ≡ true
+unfolding decomposition_mapping
 mapped-assigned v c h =
     elim (cases_Bool (has_hangul v && is_syllable c)) [
       | inl hangul ↦
           let halves = and_parts (has_hangul v) (is_syllable c) hangul in
-          hangul_row-assigned v c (syllable_row v c halves.0 halves.1)
+          (hangul_parts v c (syllable_row v c halves.0 halves.1)).assigned
       | inr other ↦ file_mapped-assigned v c (sym (ap is_empty (cond-false _ _ _ other)) ∙ h)
     ]
 
 -- ---- primary composites
 
-pub record PrimaryParts (v : VersionData) (c : ℕ) : Type 0 where
-  pub canonical : is_canonical (kind_of v c) ≡ true
-  pub pair : is_starter_pair (class_of v) (mapping_of v c) ≡ true
-  pub starter : class_of v c ≡ 0
+canonical_only : (kind : MapKind) → is_canonical kind ≡ true → kind ≡ Canonical
+canonical_only Plain h = cc
+canonical_only Canonical h = refl
+canonical_only Compatibility h = cc
 
-pub primary_parts : (v : VersionData) (c : ℕ) → is_primary v c ≡ true → PrimaryParts v c
+-- a pair of which the first is a starter
+record StarterPair (ccc : ℕ → ℕ) (xs : List ℕ) : Type 0 where
+  first : ℕ
+  second : ℕ
+  pair : xs ≡ first ∷ second ∷ []
+  starter : ccc first ≡ 0
+
+starter_pair : (ccc : ℕ → ℕ) (xs : List ℕ) → is_starter_pair ccc xs ≡ true → StarterPair ccc xs
+starter_pair ccc [] h = cc
+starter_pair ccc (a ∷ []) h = cc
+starter_pair ccc (a ∷ b ∷ []) h = record { first = a; second = b; pair = refl; starter = eqb-true (ccc a) 0 h }
+starter_pair ccc (a ∷ b ∷ c ∷ cs) h = cc
+
+not_so : (b : Bool) → not b ≡ true → b ≡ false
+not_so true h = cc
+not_so false h = refl
+
+-- the relation and the test
+pub primary-from : (v : VersionData) (c : ℕ) → is_primary v c ≡ true → IsPrimary v c
 unfolding is_primary
-primary_parts v c h =
-    let halves = and_parts (is_canonical (kind_of v c) && is_starter_pair (class_of v) (mapping_of v c)) _ h in
-    let front = and_parts (is_canonical (kind_of v c)) _ halves.0 in
+primary-from v c h =
+    let halves = and_parts (is_canonical (decomposition_kind v c) && is_starter_pair (class_of v) (decomposition_mapping v c)) _ h in
+    let front = and_parts (is_canonical (decomposition_kind v c)) _ halves.0 in
     let back = and_parts (not (is_excluded v c)) _ halves.1 in
-    record { canonical = front.0; pair = front.1; starter = eqb-true (class_of v c) 0 back.1 }
+    let pair = starter_pair (class_of v) (decomposition_mapping v c) front.1 in
+    record {
+      canonical = canonical_only _ front.0;
+      first = pair.first;
+      second = pair.second;
+      pair = pair.pair;
+      starter = eqb-true (class_of v c) 0 back.1;
+      first_starter = pair.starter;
+      included = not_so _ back.0;
+    }
 
-counts_canonical : (compat : Bool) (kind : MapKind) → is_canonical kind ≡ true → counts compat kind ≡ true
-counts_canonical compat Plain h = cc
-counts_canonical compat Canonical h = refl
-counts_canonical compat Compatibility h = cc
+pub primary-test : (v : VersionData) (c : ℕ) → IsPrimary v c → is_primary v c ≡ true
+unfolding is_primary
+primary-test v c is =
+    and_from _ _
+    (and_from _ _ (ap is_canonical is.canonical) (ap (is_starter_pair (class_of v)) is.pair ∙ eq-eqb (class_of v is.first) 0 is.first_starter))
+    (and_from _ _ (ap not is.included) (eq-eqb (class_of v c) 0 is.starter))
+
+-- what a call that makes the test answers
+pub primary-decides : (v : VersionData) (c : ℕ) (b : Bool) → b ≡ is_primary v c → IsTrue b ↔ IsPrimary v c
+primary-decides v c b is =
+    (λ h. primary-from v c (sym is ∙ h), λ h. is ∙ primary-test v c h)
 
 pub composite_parts : (v : VersionData) (compat : Bool) (a b c : ℕ) → IsCompositeOf v a b c → parts v compat c ≡ a ∷ b ∷ []
 unfolding parts
 composite_parts v compat a b c h =
-    cond-true _ _ _ (counts_canonical compat (kind_of v c) (primary_parts v c h.primary).canonical) ∙ h.mapping
+    cond-true _ _ _ (ap (counts compat) h.primary.canonical) ∙ h.mapping
 
 pub composite_first : (v : VersionData) (a b c : ℕ) → IsCompositeOf v a b c → class_of v a ≡ 0
 composite_first v a b c h =
-    eqb-true (class_of v a) 0 (sym (ap (is_starter_pair (class_of v)) h.mapping) ∙ (primary_parts v c h.primary).pair)
+    sym (ap (class_of v) (first_same h.primary.first h.primary.second a b (sym h.primary.pair ∙ h.mapping))) ∙ h.primary.first_starter
 
 pub composite-assigned : (v : VersionData) (a b c : ℕ) → IsCompositeOf v a b c → is_assigned v c ≡ true
 composite-assigned v a b c h = mapped-assigned v c (ap is_empty h.mapping)
 
-starter_pair-mapped : (ccc : ℕ → ℕ) (xs : List ℕ) → is_starter_pair ccc xs ≡ true → is_empty xs ≡ false
-starter_pair-mapped ccc [] h = cc
-starter_pair-mapped ccc (x ∷ xs) h = refl
-
-pub primary-assigned : (v : VersionData) (c : ℕ) → is_primary v c ≡ true → is_assigned v c ≡ true
-primary-assigned v c h = mapped-assigned v c (starter_pair-mapped (class_of v) (mapping_of v c) (primary_parts v c h).pair)
+pub primary-assigned : (v : VersionData) (c : ℕ) → IsPrimary v c → is_assigned v c ≡ true
+primary-assigned v c h = mapped-assigned v c (ap is_empty h.pair)
 
 pub composite-some : (v : VersionData) (a b c : ℕ) → composite v a b ≡ Some c → IsCompositeOf v a b c
 unfolding composite
 composite-some v a b c h =
-    let halves = and_parts (is_primary v c) (is_pair a b (mapping_of v c)) (least_below-some _ 0x110000 c h) in
-    record { primary = halves.0; mapping = is_pair-true a b (mapping_of v c) halves.1 }
+    let halves = and_parts (is_primary v c) (is_pair a b (decomposition_mapping v c)) (least_below-some _ 0x110000 c h) in
+    record { primary = primary-from v c halves.0; mapping = is_pair-true a b (decomposition_mapping v c) halves.1 }
 
 module _ (v : VersionData) (sound : IsSound v) where
   pub composite-none : (a b c : ℕ) → composite v a b ≡ None → ¬ IsCompositeOf v a b c
   unfolding composite
   composite-none a b c h is =
       both_ways _ (least_below-none _ 0x110000 c h (sound.bounded c (composite-assigned v a b c is)))
-      (and_from _ _ is.primary (is_pair_from a b (mapping_of v c) is.mapping))
+      (and_from _ _ (primary-test v c is.primary) (is_pair_from a b (decomposition_mapping v c) is.mapping))
 
   pub composite_from : (a b c : ℕ) → IsCompositeOf v a b c → composite v a b ≡ Some c
   composite_from a b c is =
@@ -173,4 +180,4 @@ module _ (v : VersionData) (sound : IsSound v) where
       ∙ ap (λ l. full_of v compat a ++ l) (append-nil (full_of v compat b))
 
   pub composite-starter : (a b c : ℕ) → composite v a b ≡ Some c → class_of v c ≡ 0
-  composite-starter a b c h = (primary_parts v c (composite-some v a b c h).primary).starter
+  composite-starter a b c h = (composite-some v a b c h).primary.starter

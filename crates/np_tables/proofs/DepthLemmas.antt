@@ -6,7 +6,7 @@ use Rattle.np_ucd.specs.Entries.{Entry, AreRows, HasLength}
 use Rattle.np_ucd.specs.declared.rows.MapKind.{MapKind}
 use Rattle.np_ucd.specs.declared.rows.MapKind.TheVariants.{Plain, Canonical, Compatibility}
 use Rattle.np_code_points.specs.Hangul.{is_syllable}
-use Rattle.np_tables.specs.Versions.{VersionData, entry_at, kind_in, mapping_in, is_empty, file_kind, file_mapping, has_hangul, kind_of, mapping_of}
+use Rattle.np_tables.specs.Versions.{VersionData, entry_at, kind_in, mapping_in, is_empty, file_kind, file_mapping, has_hangul, decomposition_kind, decomposition_mapping}
 use Rattle.np_tables.specs.Mappings.{counts, parts, is_final, has_depth}
 use Rattle.np_tables.specs.inside.FullDecompositions.{full}
 use Rattle.np_tables.specs.inside.Depths.{marked, mark, parts_mark, mapping_mark, row_marks}
@@ -37,18 +37,18 @@ module _ (v : VersionData) (rows : AreRows v.entries) where
   unfolding file_kind file_mapping
   file_plain c h = plain_none _ _ (entry_at-fits v.entries c rows) h
 
-  plain : (c : ℕ) → counts true (kind_of v c) ≡ false → mapping_of v c ≡ []
-  unfolding kind_of mapping_of
+  plain : (c : ℕ) → counts true (decomposition_kind v c) ≡ false → decomposition_mapping v c ≡ []
+  unfolding decomposition_kind decomposition_mapping
   plain c h =
       elim (cases_Bool (has_hangul v && is_syllable c)) [
         | inl hangul ↦ absurd (both_ways _ h (ap (counts true) (cond-true _ _ _ hangul)))
         | inr other ↦ cond-false _ _ _ other ∙ file_plain c (sym (ap (counts true) (cond-false _ _ _ other)) ∙ h)
       ]
 
-  pub parts-mapping : (c : ℕ) → parts v true c ≡ mapping_of v c
+  pub parts-mapping : (c : ℕ) → parts v true c ≡ decomposition_mapping v c
   unfolding parts
   parts-mapping c =
-      elim (cases_Bool (counts true (kind_of v c))) [
+      elim (cases_Bool (counts true (decomposition_kind v c))) [
         | inl on ↦ cond-true _ _ _ on
         | inr off ↦ cond-false _ _ _ off ∙ sym (plain c off)
       ]
@@ -56,7 +56,7 @@ module _ (v : VersionData) (rows : AreRows v.entries) where
 -- ---- the mark of a code point from that of its mapping
 
 module _ (v : VersionData) where
-  pub bare_depth : (n c : ℕ) → mapping_of v c ≡ [] → has_depth v n c ≡ true
+  pub bare_depth : (n c : ℕ) → decomposition_mapping v c ≡ [] → has_depth v n c ≡ true
   unfolding has_depth
   bare_depth zero c e = ap is_empty e
   bare_depth (suc n) c e = ap (list_all (has_depth v n)) e
@@ -64,18 +64,18 @@ module _ (v : VersionData) where
   pub bare_full : (n c : ℕ) → parts v true c ≡ [] → full v true n c ≡ c ∷ []
   bare_full n c e = full-final v true n c (ap is_empty e)
 
-  pub zero_depth : (c x : ℕ) (xs : List ℕ) → mapping_of v c ≡ x ∷ xs → has_depth v zero c ≡ false
+  pub zero_depth : (c x : ℕ) (xs : List ℕ) → decomposition_mapping v c ≡ x ∷ xs → has_depth v zero c ≡ false
   unfolding has_depth
   zero_depth c x xs e = ap is_empty e
 
-  pub suc_depth : (n c : ℕ) (xs : List ℕ) → mapping_of v c ≡ xs → has_depth v (suc n) c ≡ list_all (has_depth v n) xs
+  pub suc_depth : (n c : ℕ) (xs : List ℕ) → decomposition_mapping v c ≡ xs → has_depth v (suc n) c ≡ list_all (has_depth v n) xs
   unfolding has_depth
   suc_depth n c xs e = ap (list_all (has_depth v n)) e
 
   pub suc_full : (n c x : ℕ) (xs : List ℕ) → parts v true c ≡ x ∷ xs → full v true (suc n) c ≡ flat_map (full v true n) (x ∷ xs)
   suc_full n c x xs e = full-mapped v true n c (ap is_empty e) ∙ ap (flat_map (full v true n)) e
 
-  mark-at : (n c : ℕ) (xs : List ℕ) → mapping_of v c ≡ xs → parts v true c ≡ xs → mark v n c ≡ mapping_mark v n xs
+  mark-at : (n c : ℕ) (xs : List ℕ) → decomposition_mapping v c ≡ xs → parts v true c ≡ xs → mark v n c ≡ mapping_mark v n xs
   unfolding mark mapping_mark parts_mark
   mark-at n c [] e p = ap (λ b. marked b (length (full v true n c))) (bare_depth n c e) ∙ ap (λ l. marked true (length l)) (bare_full n c p)
   mark-at zero c (x ∷ xs) e p = ap (λ b. marked b (length (full v true zero c))) (zero_depth c x xs e)
@@ -83,15 +83,15 @@ module _ (v : VersionData) where
       ap (λ b. marked b (length (full v true (suc n) c))) (suc_depth n c (x ∷ xs) e)
       ∙ ap (λ l. marked (list_all (has_depth v n) (x ∷ xs)) (length l)) (suc_full n c x xs p)
 
-pub mark-mapping : (v : VersionData) → AreRows v.entries → (n c : ℕ) → mark v n c ≡ mapping_mark v n (mapping_of v c)
-mark-mapping v rows n c = mark-at v n c (mapping_of v c) refl (parts-mapping v rows c)
+pub mark-mapping : (v : VersionData) → AreRows v.entries → (n c : ℕ) → mark v n c ≡ mapping_mark v n (decomposition_mapping v c)
+mark-mapping v rows n c = mark-at v n c (decomposition_mapping v c) refl (parts-mapping v rows c)
 
-pub mapping_of-file : (v : VersionData) (c : ℕ) → (has_hangul v && is_syllable c) ≡ false → mapping_of v c ≡ mapping_in (entry_at v.entries c)
-unfolding mapping_of file_mapping
-mapping_of-file v c other = cond-false _ _ _ other
+pub decomposition_mapping-file : (v : VersionData) (c : ℕ) → (has_hangul v && is_syllable c) ≡ false → decomposition_mapping v c ≡ mapping_in (entry_at v.entries c)
+unfolding decomposition_mapping file_mapping
+decomposition_mapping-file v c other = cond-false _ _ _ other
 
 pub mark-file : (v : VersionData) → AreRows v.entries → (n c : ℕ) → (has_hangul v && is_syllable c) ≡ false → mark v n c ≡ mapping_mark v n (mapping_in (entry_at v.entries c))
-mark-file v rows n c other = mark-mapping v rows n c ∙ ap (mapping_mark v n) (mapping_of-file v c other)
+mark-file v rows n c other = mark-mapping v rows n c ∙ ap (mapping_mark v n) (decomposition_mapping-file v c other)
 
 -- ---- a mark is 0 exactly where the depth is over the round
 
@@ -162,7 +162,7 @@ list_all-same p q same (x ∷ xs) = ap (λ b. b && list_all p xs) (same x) ∙ a
 module _ (v : VersionData) (n : ℕ) (still : (c : ℕ) → mark v (suc n) c ≡ mark v n c) where
   depth_step : (m : ℕ) → ((c : ℕ) → has_depth v m c ≡ has_depth v n c) → (c : ℕ) → has_depth v (suc m) c ≡ has_depth v n c
   depth_step m before c =
-      suc_depth v m c _ refl ∙ list_all-same (has_depth v m) (has_depth v n) before (mapping_of v c) ∙ sym (suc_depth v n c _ refl)
+      suc_depth v m c _ refl ∙ list_all-same (has_depth v m) (has_depth v n) before (decomposition_mapping v c) ∙ sym (suc_depth v n c _ refl)
       ∙ same_depth v (suc n) n c (still c)
 
   settled_depth : (m : ℕ) → n ≤ m → (c : ℕ) → has_depth v m c ≡ has_depth v n c

@@ -1,23 +1,23 @@
 -- The version of empty files meets the conditions, so the laws are not vacuous.
-use Rattle.std.proofs.Common.{◌≡◌, ℕ, true, false, [], length, refl, ap, arith, inl, inr}
+use Rattle.std.proofs.Common.{◌≡◌, ℕ, true, false, [], length, refl, ap, ◌∙◌, arith, inl, inr}
 use Rattle.std.proofs.lemmas.Bool.{cases_Bool, both_ways}
 use Rattle.std.specs.List.{list_all}
-use Rattle.np_tables.specs.Versions.{entry_at, is_assigned, is_empty, mapping_of}
+use Rattle.np_tables.specs.Versions.{entry_at, is_assigned, is_empty, decomposition_mapping}
 use Rattle.np_tables.specs.Mappings.{has_depth}
 use Rattle.np_tables.specs.Conditions.{IsSound}
 use Rattle.np_tables.specs.Examples.{without_rows}
 use Rattle.np_tables.proofs.FactLemmas.{classes-at, scalars-at, mapped_scalar-at}
-use Rattle.np_tables.proofs.MappingLemmas.{is_empty-true, full_of-final, parts-cases}
+use Rattle.np_tables.proofs.MappingLemmas.{is_empty-true, full_of-final, full_of-only, parts-cases}
 use Rattle.np_tables.proofs.CompositeLemmas.{mapped-assigned, composite-assigned}
 
 lacks : (c : ℕ) → is_assigned without_rows c ≡ false
 unfolding is_assigned entry_at
 lacks c = refl
 
-no_mapping : (c : ℕ) → mapping_of without_rows c ≡ []
+no_mapping : (c : ℕ) → decomposition_mapping without_rows c ≡ []
 no_mapping c =
-    is_empty-true (mapping_of without_rows c)
-    (elim (cases_Bool (is_empty (mapping_of without_rows c))) [ inl none ↦ none | inr some ↦ absurd (both_ways _ (lacks c) (mapped-assigned without_rows c some)) ])
+    is_empty-true (decomposition_mapping without_rows c)
+    (elim (cases_Bool (is_empty (decomposition_mapping without_rows c))) [ inl none ↦ none | inr some ↦ absurd (both_ways _ (lacks c) (mapped-assigned without_rows c some)) ])
 
 shallow : (c : ℕ) → has_depth without_rows 32 c ≡ true
 unfolding has_depth
@@ -33,9 +33,9 @@ IsSound-without_rows =
       mapped_scalar = λ c. mapped_scalar-at without_rows c tt;
       maps_to_assigned = λ c. ap (list_all (is_assigned without_rows)) (no_mapping c);
       shallow = shallow;
-      short = λ c.
+      short = λ c ys is.
           let final = parts-cases without_rows true (λ l. is_empty l ≡ true) refl c (ap is_empty (no_mapping c)) in
-          let e = ap length (full_of-final without_rows true shallow c final) in omega arith;
+          let e = ap length (full_of-only without_rows true shallow c ys is ∙ full_of-final without_rows true shallow c final) in omega arith;
       unlike = λ a b c d h k. absurd (both_ways _ (lacks c) (composite-assigned without_rows a b c h));
       hangul = λ c among h. absurd (both_ways _ (lacks c) h);
     }

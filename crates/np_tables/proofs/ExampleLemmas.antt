@@ -1,29 +1,26 @@
--- A version with a starter, a mark and their primary composite meets the conditions, so the laws speak of versions with rows too.
-use Rattle.std.proofs.Common.{◌≡◌, ℕ, ◌<◌, ◌≤◌, true, false, ◌&&◌, nat_le, List, [], ◌∷◌, ◌++◌, flat_map, length, Option, Some, None, is_some, refl, sym, ap, subst, ◌∙◌, arith, inl, inr}
-use Rattle.std.proofs.lemmas.Bool.{cond-true, cond-false, cases_Bool, and_parts, and_left, and_from, leb-true, both_ways}
-use Rattle.std.specs.List.{list_all}
+-- Versions with a starter, a non-starter, their primary composite and further rows without mappings meet the conditions: one
+-- with these three alone, and one with the Hangul arithmetic on. So the laws speak of versions with rows too.
+use Rattle.std.proofs.Common.{◌≡◌, ℕ, ◌+◌, ◌<◌, ◌≤◌, true, false, ◌&&◌, ◌==◌, nat_le, List, [], ◌∷◌, ◌++◌, flat_map, length, Option, Some, None, is_some, refl, sym, ap, subst, ◌∙◌, arith, inl, inr}
+use Rattle.std.specs.List.{list_all, slice_get}
+use Rattle.std.proofs.lemmas.Bool.{cond-true, cond-false, cases_Bool, and_parts, and_left, and_right, and_from, leb-true, both_ways}
 use Rattle.np_ucd.specs.Entries.{Entry, IsRow, AreRows}
-use Rattle.np_ucd.specs.declared.rows.MapKind.TheVariants.{Canonical}
+use Rattle.np_ucd.specs.declared.rows.MapKind.TheVariants.{Plain, Canonical}
 use Rattle.np_code_points.specs.Hangul.{is_syllable, syllable_pair}
-use Rattle.np_tables.specs.Versions.{entry_at, is_assigned, class_of, file_kind, file_mapping, mapping_in, is_canonical, is_empty, is_excluded, is_hangul, is_hangul_row, has_hangul, kind_of, mapping_of}
+use Rattle.np_code_points.proofs.HangulLemmas.{first_same, pair_injective}
+use Rattle.np_tables.specs.Versions.{VersionData, entry_at, is_assigned, class_of, class_in, file_kind, file_mapping, mapping_in, is_empty, is_excluded, is_hangul, is_hangul_row, has_hangul, decomposition_kind, decomposition_mapping}
 use Rattle.np_tables.specs.Mappings.{has_depth}
 use Rattle.np_tables.specs.inside.FullDecompositions.{full_of}
-use Rattle.np_tables.specs.Composites.{is_starter_pair, is_primary, IsCompositeOf}
+use Rattle.np_tables.specs.Composites.{IsPrimary, IsCompositeOf}
 use Rattle.np_tables.specs.Conditions.{IsSound}
-use Rattle.np_tables.specs.Examples.{letter, letter_with_ring, ring, with_rows}
-use Rattle.np_tables.proofs.FactLemmas.{classes-at, scalars-at, mapped_scalar-at}
-use Rattle.np_tables.proofs.MappingLemmas.{full_of-final, full_of-mapped, parts-cases}
-use Rattle.np_tables.proofs.CompositeLemmas.{syllable_row, composite_parts}
-
--- ---- the rows
-
-rows : AreRows with_rows.entries
-rows =
-    let letter_is : IsRow letter = record { rises = omega arith; bounded = omega arith; class = omega arith; fits = refl; scalars = refl; alone = λ h. refl; mapped_scalar = λ h. refl } in
-    let letter_with_ring_is : IsRow letter_with_ring =
-    record { rises = omega arith; bounded = omega arith; class = omega arith; fits = (omega arith, omega arith); scalars = refl; alone = λ h. refl; mapped_scalar = λ h. refl } in
-    let ring_is : IsRow ring = record { rises = omega arith; bounded = omega arith; class = omega arith; fits = refl; scalars = refl; alone = λ h. refl; mapped_scalar = λ h. refl } in
-    (letter_is, omega arith, (letter_with_ring_is, omega arith, (ring_is, tt, tt)))
+use Rattle.np_tables.specs.Examples.{letter, letter_with_ring, ring, with_rows, leading_consonants, vowels, trailing_consonants, syllables, with_hangul}
+use Rattle.np_tables.proofs.CompositeLemmas.{composite_parts}
+use Rattle.np_tables.proofs.DepthLemmas.{bare_depth, mark-length, mark-more, suc_depth}
+use Rattle.np_tables.proofs.FactLemmas.{bounded-at, classes-at, scalars-at, mapped_scalar-at}
+use Rattle.np_tables.proofs.HangulLemmas.{decomposition_kind-off, decomposition_mapping-off, decomposition_mapping-on, has_hangul-from, head_hangul, pair_assigned, shape_of}
+use Rattle.np_tables.proofs.HangulPlaces.{hangul_runs, Runs}
+use Rattle.np_tables.proofs.MappingLemmas.{full_of-final, full_of-mapped, full_of-only, parts-cases}
+use Rattle.np_tables.proofs.RowLemmas.{at-found}
+use Rattle.np_tables.proofs.SyllableLemmas.{depth_two, mark-syllable, syllable_mark-late}
 
 -- a row of one code point, or one of the rows behind it
 at_row : (P : ℕ → Option Entry → Type 0) (e : Entry) (es : List Entry) (c : ℕ) → e.first ≡ e.last → P e.first (Some e) → P c (entry_at es c) → P c (entry_at (e ∷ es) c)
@@ -39,126 +36,277 @@ at_row P e es c alone here behind =
       | inr outside ↦ subst (P c) (sym (cond-false _ _ _ outside)) behind
     ]
 
--- a code point lies in none of the rows, or is that of one of the three
-by_row : (P : ℕ → Option Entry → Type 0) → ((c : ℕ) → P c None) → P 0x41 (Some letter) → P 0xC5 (Some letter_with_ring) → P 0x30A (Some ring) → (c : ℕ) → P c (entry_at with_rows.entries c)
+abbrev AreBare : List Entry → Type 0
+AreBare [] = Unit {0}
+AreBare (e ∷ es) = (e.mapping ≡ []) × AreBare es
+
+bare_in : (es : List Entry) → AreBare es → (c : ℕ) → mapping_in (entry_at es c) ≡ []
 unfolding entry_at
-by_row P none at_letter at_both at_ring c =
-    at_row P letter (letter_with_ring ∷ ring ∷ []) c refl at_letter (at_row P letter_with_ring (ring ∷ []) c refl at_both (at_row P ring [] c refl at_ring (none c)))
+bare_in [] bare c = refl
+bare_in (e ∷ es) bare c =
+    elim (cases_Bool (nat_le e.first c && nat_le c e.last)) [
+      | inl within ↦ ap mapping_in (cond-true _ _ _ within) ∙ bare.0
+      | inr outside ↦ ap mapping_in (cond-false _ _ _ outside) ∙ bare_in es bare.1 c
+    ]
 
--- ---- the arithmetic is off, since no syllable is assigned
+letter_is : IsRow letter
+letter_is = record { rises = omega arith; bounded = omega arith; class = omega arith; fits = refl; scalars = refl; alone = λ h. refl; mapped_scalar = λ h. refl }
 
-lacks_syllable : is_hangul_row with_rows 0xAC00 ≡ false
-unfolding is_hangul_row is_assigned class_of file_mapping entry_at
-lacks_syllable = refl
+letter_with_ring_is : IsRow letter_with_ring
+letter_with_ring_is =
+    record { rises = omega arith; bounded = omega arith; class = omega arith; fits = (omega arith, omega arith); scalars = refl; alone = λ h. refl; mapped_scalar = λ h. refl }
 
-off : has_hangul with_rows ≡ false
-off = elim (cases_Bool (has_hangul with_rows)) [ inl on ↦ absurd (both_ways _ lacks_syllable (syllable_row with_rows 0xAC00 on refl)) | inr is_off ↦ is_off ]
+ring_is : IsRow ring
+ring_is = record { rises = omega arith; bounded = omega arith; class = omega arith; fits = refl; scalars = refl; alone = λ h. refl; mapped_scalar = λ h. refl }
 
-off_at : (c : ℕ) → (has_hangul with_rows && is_syllable c) ≡ false
-off_at c = and_left _ (is_syllable c) off
+module _ (more : List Entry) where
+  abbrev version : VersionData
+  version = record { entries = letter ∷ letter_with_ring ∷ ring ∷ more; exclusions = [] }
 
-mapping_is : (c : ℕ) → mapping_of with_rows c ≡ mapping_in (entry_at with_rows.entries c)
-unfolding mapping_of file_mapping
-mapping_is c = cond-false _ (syllable_pair c) _ (off_at c)
+  -- ---- what the three rows say
 
--- ---- what each row says
+  off_at : (c : ℕ) → is_syllable c ≡ false → (has_hangul version && is_syllable c) ≡ false
+  off_at c h = and_right (has_hangul version) _ h
 
-letter_mapping : mapping_of with_rows 0x41 ≡ []
-unfolding entry_at
-letter_mapping = mapping_is 0x41
+  pub letter_mapping : decomposition_mapping version 0x41 ≡ []
+  unfolding file_mapping entry_at
+  letter_mapping = decomposition_mapping-off version 0x41 (off_at 0x41 refl)
 
-ring_mapping : mapping_of with_rows 0x30A ≡ []
-unfolding entry_at
-ring_mapping = mapping_is 0x30A
+  pub ring_mapping : decomposition_mapping version 0x30A ≡ []
+  unfolding file_mapping entry_at
+  ring_mapping = decomposition_mapping-off version 0x30A (off_at 0x30A refl)
 
-pub class_of-ring : class_of with_rows 0x30A ≡ 230
-unfolding class_of entry_at
-class_of-ring = refl
+  pub pair_mapping : decomposition_mapping version 0xC5 ≡ 0x41 ∷ 0x30A ∷ []
+  unfolding file_mapping entry_at
+  pair_mapping = decomposition_mapping-off version 0xC5 (off_at 0xC5 refl)
 
-pair_mapping : mapping_of with_rows 0xC5 ≡ 0x41 ∷ 0x30A ∷ []
-unfolding entry_at
-pair_mapping = mapping_is 0xC5
+  pub letter_kind : decomposition_kind version 0x41 ≡ Plain
+  unfolding file_kind entry_at
+  letter_kind = decomposition_kind-off version 0x41 (off_at 0x41 refl)
 
-pair_kind : kind_of with_rows 0xC5 ≡ Canonical
-unfolding kind_of file_kind entry_at
-pair_kind = cond-false _ Canonical _ (off_at 0xC5)
+  pub ring_kind : decomposition_kind version 0x30A ≡ Plain
+  unfolding file_kind entry_at
+  ring_kind = decomposition_kind-off version 0x30A (off_at 0x30A refl)
 
-pair_primary : is_primary with_rows 0xC5 ≡ true
-unfolding is_primary class_of is_excluded entry_at
-pair_primary =
-    let canonical = ap is_canonical pair_kind in
-    let starters = ap (is_starter_pair (class_of with_rows)) pair_mapping in
-    and_from _ _ (and_from _ _ canonical starters) refl
+  pub pair_kind : decomposition_kind version 0xC5 ≡ Canonical
+  unfolding file_kind entry_at
+  pair_kind = decomposition_kind-off version 0xC5 (off_at 0xC5 refl)
 
-pub IsCompositeOf-with_rows : IsCompositeOf with_rows 0x41 0x30A 0xC5
-IsCompositeOf-with_rows = record { primary = pair_primary; mapping = pair_mapping }
+  pub pair_primary : IsPrimary version 0xC5
+  unfolding class_of is_excluded entry_at
+  pair_primary =
+      record { canonical = pair_kind; first = 0x41; second = 0x30A; pair = pair_mapping; starter = refl; first_starter = refl; included = refl }
 
--- ---- the conditions
+  -- all three are assigned, and with what class
+  pub record ThreeCodes : Type 0 where
+    pub letter : (is_assigned version 0x41 ≡ true) × (class_of version 0x41 ≡ 0)
+    pub pair : (is_assigned version 0xC5 ≡ true) × (class_of version 0xC5 ≡ 0)
+    pub ring : (is_assigned version 0x30A ≡ true) × (class_of version 0x30A ≡ 230)
 
-bounded : (c : ℕ) → is_assigned with_rows c ≡ true → c < 0x110000
-unfolding is_assigned
-bounded = by_row (λ c o. is_some o ≡ true → c < 0x110000) (λ c h. cc) (λ h. omega arith) (λ h. omega arith) (λ h. omega arith)
+  pub three_codes : ThreeCodes
+  unfolding is_assigned class_of entry_at
+  three_codes = record { letter = (refl, refl); pair = (refl, refl); ring = (refl, refl) }
 
-parts_assigned : list_all (is_assigned with_rows) (0x41 ∷ 0x30A ∷ []) ≡ true
+  parts_assigned : list_all (is_assigned version) (0x41 ∷ 0x30A ∷ []) ≡ true
+  unfolding is_assigned entry_at
+  parts_assigned = refl
+
+  module _ (rows : AreRows version.entries) (bare : AreBare more) (hangul : (c : ℕ) → is_hangul c ≡ true → is_assigned version c ≡ true → has_hangul version ≡ true) where
+    -- ---- a code point maps to its pair as a syllable, to the one pair of the rows, or to nothing
+
+    in_file : (P : ℕ → List ℕ → Type 0) → P 0xC5 (0x41 ∷ 0x30A ∷ []) → ((c : ℕ) → P c []) → (c : ℕ) → P c (mapping_in (entry_at version.entries c))
+    in_file P pair none c =
+        let Q : ℕ → Option Entry → Type 0 = λ d o. P d (mapping_in o) in
+        at_row Q letter (letter_with_ring ∷ ring ∷ more) c refl (none 0x41)
+        (at_row Q letter_with_ring (ring ∷ more) c refl pair
+        (at_row Q ring more c refl (none 0x30A) (subst (P c) (sym (bare_in more bare c)) (none c))))
+
+    pub by_mapping : (P : ℕ → List ℕ → Type 0) → ((c : ℕ) → (has_hangul version && is_syllable c) ≡ true → P c (syllable_pair c)) → P 0xC5 (0x41 ∷ 0x30A ∷ []) → ((c : ℕ) → P c []) → (c : ℕ) → P c (decomposition_mapping version c)
+    unfolding file_mapping
+    by_mapping P syllable pair none c =
+        elim (cases_Bool (has_hangul version && is_syllable c)) [
+          | inl on ↦ subst (P c) (sym (decomposition_mapping-on version c on)) (syllable c on)
+          | inr off ↦ subst (P c) (sym (decomposition_mapping-off version c off)) (in_file P pair none c)
+        ]
+
+    -- ---- the conditions
+
+    maps_to_assigned : (c : ℕ) → list_all (is_assigned version) (decomposition_mapping version c) ≡ true
+    maps_to_assigned =
+        by_mapping (λ _ m. list_all (is_assigned version) m ≡ true)
+        (λ c on. let halves = and_parts _ _ on in pair_assigned version c halves.0 halves.1) parts_assigned (λ _. refl)
+
+    abbrev HasMark : ℕ → Type 0
+    HasMark c = (has_depth version 32 c ≡ true) × (length (full_of version true c) ≤ 64)
+
+    of_syllable : (c : ℕ) → (has_hangul version && is_syllable c) ≡ true → HasMark c
+    unfolding full_of
+    of_syllable c on =
+        let halves = and_parts _ _ on in
+        let mark_is = mark-syllable version rows halves.0 32 c halves.1 ∙ syllable_mark-late 32 c (omega arith) in
+        let two = depth_two c in
+        let shallow = mark-more version 32 c (omega arith) in
+        let length_is = mark-length version 32 c shallow in
+        (shallow, omega arith)
+
+    parts_shallow : list_all (has_depth version 31) (0x41 ∷ 0x30A ∷ []) ≡ true
+    parts_shallow = and_from _ _ (bare_depth version 31 0x41 letter_mapping) (and_from _ _ (bare_depth version 31 0x30A ring_mapping) refl)
+
+    shallow : (c : ℕ) → has_depth version 32 c ≡ true
+    shallow c =
+        by_mapping (λ d m. decomposition_mapping version d ≡ m → has_depth version 32 d ≡ true)
+        (λ d on _. (of_syllable d on).0) (λ e. suc_depth version 31 0xC5 _ e ∙ parts_shallow) (λ d e. bare_depth version 32 d e) c refl
+
+    final_full : (c : ℕ) → decomposition_mapping version c ≡ [] → full_of version true c ≡ c ∷ []
+    final_full c none = full_of-final version true shallow c (parts-cases version true (λ l. is_empty l ≡ true) refl c (ap is_empty none))
+
+    pub composite_is : IsCompositeOf version 0x41 0x30A 0xC5
+    composite_is = record { primary = pair_primary; mapping = pair_mapping }
+
+    pair_full : full_of version true 0xC5 ≡ 0x41 ∷ 0x30A ∷ []
+    pair_full =
+        let parts_are = composite_parts version true 0x41 0x30A 0xC5 composite_is in
+        full_of-mapped version true shallow 0xC5 (ap is_empty parts_are) ∙ ap (flat_map (full_of version true)) parts_are
+        ∙ ap (λ l. l ++ (full_of version true 0x30A ++ [])) (final_full 0x41 letter_mapping) ∙ ap (λ l. 0x41 ∷ (l ++ [])) (final_full 0x30A ring_mapping)
+
+    short : (c : ℕ) → length (full_of version true c) ≤ 64
+    short c =
+        by_mapping (λ d m. decomposition_mapping version d ≡ m → length (full_of version true d) ≤ 64)
+        (λ d on _. (of_syllable d on).1) (λ _. let e = ap length pair_full in omega arith) (λ d none. let e = ap length (final_full d none) in omega arith) c refl
+
+    -- but for syllables there is one composite
+    pub pair_alone : (a b c : ℕ) → IsCompositeOf version a b c → (has_hangul version && is_syllable c) ≡ false → c ≡ 0xC5
+    pair_alone a b c is off =
+        by_mapping (λ d m. m ≡ a ∷ b ∷ [] → (has_hangul version && is_syllable d) ≡ false → d ≡ 0xC5)
+        (λ d on _ none. absurd (both_ways _ none on)) (λ _ _. refl) (λ _ e _. cc) c is.mapping off
+
+    -- a syllable has another pair
+    letter_alone : (s a b : ℕ) → (has_hangul version && is_syllable s) ≡ true → IsCompositeOf version a b s → IsCompositeOf version a b 0xC5 → ⊥
+    letter_alone s a b on is pair =
+        let shape = shape_of s (and_parts _ _ on).1 in
+        let from_syllable = first_same a b shape.first shape.second (sym is.mapping ∙ decomposition_mapping-on version s on ∙ shape.pair) in
+        let from_pair = first_same a b 0x41 0x30A (sym pair.mapping ∙ pair_mapping) in
+        both_ways (is_hangul 0x41) refl (ap is_hangul (sym from_pair ∙ from_syllable) ∙ head_hangul shape.first shape.head)
+
+    unlike : (a b c d : ℕ) → IsCompositeOf version a b c → IsCompositeOf version a b d → c ≡ d
+    unlike a b c d one two =
+        elim (cases_Bool (has_hangul version && is_syllable c)) [
+          | inl on ↦ elim (cases_Bool (has_hangul version && is_syllable d)) [
+            | inl too ↦
+                pair_injective c d (and_parts _ _ on).1 (and_parts _ _ too).1
+                (sym (decomposition_mapping-on version c on) ∙ one.mapping ∙ sym two.mapping ∙ decomposition_mapping-on version d too)
+            | inr off ↦ absurd (letter_alone c a b on one (subst (IsCompositeOf version a b) (pair_alone a b d two off) two))
+          ]
+          | inr off ↦ elim (cases_Bool (has_hangul version && is_syllable d)) [
+            | inl on ↦ absurd (letter_alone d a b on two (subst (IsCompositeOf version a b) (pair_alone a b c one off) one))
+            | inr too ↦ pair_alone a b c one off ∙ sym (pair_alone a b d two too)
+          ]
+        ]
+
+    pub is_sound : IsSound version
+    is_sound =
+        record {
+          rows = rows;
+          bounded = λ c h. bounded-at version c rows h;
+          classes = λ c. classes-at version c rows;
+          scalars = λ c. scalars-at version c rows;
+          mapped_scalar = λ c h. mapped_scalar-at version c rows h;
+          maps_to_assigned = maps_to_assigned;
+          shallow = shallow;
+          short = λ c ys is. (let e = ap length (full_of-only version true shallow c ys is) in let le = short c in omega arith);
+          unlike = unlike;
+          hangul = hangul;
+        }
+
+-- ---- the three rows alone
+
+-- what lies in a row is one of the three
+pub assigned_code : (P : ℕ → Type 0) → P 0x41 → P 0xC5 → P 0x30A → (c : ℕ) → is_assigned with_rows c ≡ true → P c
 unfolding is_assigned entry_at
-parts_assigned = refl
+assigned_code P at_letter at_pair at_ring c =
+    let Q : ℕ → Option Entry → Type 0 = λ d o. is_some o ≡ true → P d in
+    at_row Q letter (letter_with_ring ∷ ring ∷ []) c refl (λ _. at_letter)
+    (at_row Q letter_with_ring (ring ∷ []) c refl (λ _. at_pair) (at_row Q ring [] c refl (λ _. at_ring) (λ h. cc)))
 
-maps_to_assigned : (c : ℕ) → list_all (is_assigned with_rows) (mapping_of with_rows c) ≡ true
-maps_to_assigned c =
-    ap (list_all (is_assigned with_rows)) (mapping_is c)
-    ∙ by_row (λ _ o. list_all (is_assigned with_rows) (mapping_in o) ≡ true) (λ _. refl) refl parts_assigned refl c
+pub syllable_lacks : is_assigned with_rows 0xAC00 ≡ false
+unfolding is_assigned entry_at
+syllable_lacks = refl
 
-parts_shallow : list_all (has_depth with_rows 31) (0x41 ∷ 0x30A ∷ []) ≡ true
-unfolding has_depth
-parts_shallow =
-    let parts_of = list_all (has_depth with_rows 30) in
-    and_from _ _ (ap parts_of letter_mapping) (and_from _ _ (ap parts_of ring_mapping) refl)
+rows_alone : AreRows with_rows.entries
+rows_alone = (letter_is, omega arith, (letter_with_ring_is, omega arith, (ring_is, tt, tt)))
 
-shallow : (c : ℕ) → has_depth with_rows 32 c ≡ true
-unfolding has_depth
-shallow c =
-    ap (list_all (has_depth with_rows 31)) (mapping_is c)
-    ∙ by_row (λ _ o. list_all (has_depth with_rows 31) (mapping_in o) ≡ true) (λ _. refl) refl parts_shallow refl c
-
-final_full : (c : ℕ) → mapping_of with_rows c ≡ [] → full_of with_rows true c ≡ c ∷ []
-final_full c none = full_of-final with_rows true shallow c (parts-cases with_rows true (λ l. is_empty l ≡ true) refl c (ap is_empty none))
-
-pair_full : full_of with_rows true 0xC5 ≡ 0x41 ∷ 0x30A ∷ []
-pair_full =
-    let parts_are = composite_parts with_rows true 0x41 0x30A 0xC5 IsCompositeOf-with_rows in
-    let front = final_full 0x41 letter_mapping in
-    let back = final_full 0x30A ring_mapping in
-    full_of-mapped with_rows true shallow 0xC5 (ap is_empty parts_are) ∙ ap (flat_map (full_of with_rows true)) parts_are
-    ∙ ap (λ l. l ++ (full_of with_rows true 0x30A ++ [])) front ∙ ap (λ l. 0x41 ∷ (l ++ [])) back
-
-one_long : (c : ℕ) → mapping_of with_rows c ≡ [] → length (full_of with_rows true c) ≤ 64
-one_long c none = let e = ap length (final_full c none) in omega arith
-
-short : (c : ℕ) → length (full_of with_rows true c) ≤ 64
-short c =
-    by_row (λ d o. mapping_of with_rows d ≡ mapping_in o → length (full_of with_rows true d) ≤ 64)
-    one_long (one_long 0x41) (λ _. let e = ap length pair_full in omega arith) (one_long 0x30A) c (mapping_is c)
-
-pair_alone : (a b c : ℕ) → IsCompositeOf with_rows a b c → c ≡ 0xC5
-pair_alone a b c is =
-    by_row (λ d o. mapping_in o ≡ a ∷ b ∷ [] → d ≡ 0xC5) (λ _ e. cc) (λ e. cc) (λ _. refl) (λ e. cc) c (sym (mapping_is c) ∙ is.mapping)
-
-no_hangul : (c : ℕ) → is_hangul c ≡ true → is_assigned with_rows c ≡ true → has_hangul with_rows ≡ true
-unfolding is_assigned
-no_hangul c among h =
-    by_row (λ d o. is_hangul d ≡ true → is_some o ≡ true → has_hangul with_rows ≡ true) (λ _ _ e. cc) (λ e _. cc) (λ e _. cc) (λ e _. cc) c among h
+pub no_hangul : (c : ℕ) → is_hangul c ≡ true → is_assigned with_rows c ≡ true → ⊥
+no_hangul c among h = assigned_code (λ d. is_hangul d ≡ true → ⊥) (λ e. cc) (λ e. cc) (λ e. cc) c h among
 
 pub IsSound-with_rows : IsSound with_rows
-IsSound-with_rows =
-    record {
-      rows = rows;
-      bounded = bounded;
-      classes = λ c. classes-at with_rows c rows;
-      scalars = λ c. scalars-at with_rows c rows;
-      mapped_scalar = λ c. mapped_scalar-at with_rows c rows;
-      maps_to_assigned = maps_to_assigned;
-      shallow = shallow;
-      short = short;
-      unlike = λ a b c d h k. pair_alone a b c h ∙ sym (pair_alone a b d k);
-      hangul = no_hangul;
-    }
+IsSound-with_rows = is_sound [] rows_alone tt (λ c among h. absurd (no_hangul c among h))
+
+pub pair_alone-with_rows : (a b c : ℕ) → IsCompositeOf with_rows a b c → (has_hangul with_rows && is_syllable c) ≡ false → c ≡ 0xC5
+pair_alone-with_rows = pair_alone [] rows_alone tt (λ c among h. absurd (no_hangul c among h))
+
+pub class_of-ring : class_of with_rows 0x30A ≡ 230
+class_of-ring = (three_codes []).ring.1
+
+pub IsCompositeOf-with_rows : IsCompositeOf with_rows 0x41 0x30A 0xC5
+IsCompositeOf-with_rows = composite_is [] rows_alone tt (λ c among h. absurd (no_hangul c among h))
+
+-- ---- with the Hangul arithmetic
+
+abbrev pub hangul_rows : List Entry
+hangul_rows = leading_consonants ∷ vowels ∷ trailing_consonants ∷ syllables ∷ []
+
+leading_is : IsRow leading_consonants
+leading_is = record { rises = omega arith; bounded = omega arith; class = omega arith; fits = refl; scalars = refl; alone = λ h. absurd (h refl); mapped_scalar = λ h. refl }
+
+vowels_is : IsRow vowels
+vowels_is = record { rises = omega arith; bounded = omega arith; class = omega arith; fits = refl; scalars = refl; alone = λ h. absurd (h refl); mapped_scalar = λ h. refl }
+
+trailing_is : IsRow trailing_consonants
+trailing_is = record { rises = omega arith; bounded = omega arith; class = omega arith; fits = refl; scalars = refl; alone = λ h. absurd (h refl); mapped_scalar = λ h. refl }
+
+syllables_is : IsRow syllables
+syllables_is = record { rises = omega arith; bounded = omega arith; class = omega arith; fits = refl; scalars = refl; alone = λ h. absurd (h refl); mapped_scalar = λ h. refl }
+
+rows_hangul : AreRows with_hangul.entries
+rows_hangul = (
+  letter_is,
+  omega arith,
+  (
+    letter_with_ring_is,
+    omega arith,
+    (
+      ring_is,
+      omega arith,
+      (leading_is, omega arith, (vowels_is, omega arith, (trailing_is, omega arith, (syllables_is, tt, tt)))),
+    ),
+  ),
+)
+
+-- a code point of a row of class 0 without a mapping is as the arithmetic wants it
+row_at : (i : ℕ) (e : Entry) (c : ℕ) → slice_get with_hangul.entries i ≡ Some e → e.class ≡ 0 → e.mapping ≡ [] → e.first ≤ c → c ≤ e.last → is_hangul_row with_hangul c ≡ true
+unfolding is_hangul_row is_assigned class_of file_mapping
+row_at i e c at class bare low high =
+    let found : entry_at with_hangul.entries c ≡ Some e = sym (at-found with_hangul.entries i c e rows_hangul at low high) ∙ at in
+    ap (λ (o : Option Entry). is_some o && class_in o == 0 && is_empty (mapping_in o)) found
+    ∙ ap (λ (n : ℕ). n == 0 && is_empty e.mapping) class ∙ ap is_empty bare
+
+pub hangul_on_with : has_hangul with_hangul ≡ true
+unfolding Runs
+hangul_on_with =
+    has_hangul-from with_hangul
+    (λ c h. elim (hangul_runs c h) [
+      | inl l ↦ row_at 3 leading_consonants c refl refl refl l.0 (omega arith)
+      | inr rest ↦ elim rest [
+        | inl v ↦ row_at 4 vowels c refl refl refl v.0 (omega arith)
+        | inr rest ↦ elim rest [
+          | inl t ↦ row_at 5 trailing_consonants c refl refl refl t.0 (omega arith)
+          | inr s ↦ row_at 6 syllables c refl refl refl s.0 (omega arith)
+        ]
+      ]
+    ])
+
+pub IsSound-with_hangul : IsSound with_hangul
+IsSound-with_hangul = is_sound hangul_rows rows_hangul (refl, (refl, (refl, (refl, tt)))) (λ _ _ _. hangul_on_with)
+
+pub pair_alone-with_hangul : (a b c : ℕ) → IsCompositeOf with_hangul a b c → (has_hangul with_hangul && is_syllable c) ≡ false → c ≡ 0xC5
+pair_alone-with_hangul = pair_alone hangul_rows rows_hangul (refl, (refl, (refl, (refl, tt)))) (λ _ _ _. hangul_on_with)

@@ -1,11 +1,12 @@
 -- What holds of each code point because the rows are those of a data file.
-use Rattle.std.proofs.Common.{◌≡◌, ◌≢◌, ℕ, ◌+◌, ◌-◌, ◌/◌, ◌%◌, ◌<◌, ◌≤◌, true, ◌&&◌, ◌==◌, [], ◌∷◌, Option, Some, None, is_some, refl, sym, ap, ◌∙◌, arith, inl, inr, lt-ltb}
+use Rattle.std.proofs.Common.{◌≡◌, ◌≢◌, ℕ, ◌<◌, ◌≤◌, true, ◌&&◌, [], Option, Some, None, is_some, refl, sym, ap, ◌∙◌, arith, inl, inr, lt-ltb}
 use lib.Utf8.{scalar}
 use Rattle.std.specs.List.{list_all}
 use Rattle.std.proofs.lemmas.Bool.{cond-true, cond-false, cases_Bool, and_parts, and_from}
 use Rattle.np_ucd.specs.Entries.{Entry, IsRow, AreRows}
 use Rattle.np_code_points.specs.Hangul.{is_syllable, syllable_pair}
-use Rattle.np_tables.specs.Versions.{VersionData, entry_at, is_assigned, class_of, class_in, file_mapping, mapping_in, mapping_of, has_hangul}
+use Rattle.np_tables.specs.Versions.{VersionData, entry_at, is_assigned, class_of, class_in, file_mapping, mapping_in, decomposition_mapping, has_hangul}
+use Rattle.np_code_points.proofs.HangulLemmas.{pair_exists, pair_small}
 use Rattle.np_tables.proofs.PrimaryLemmas.{syllable_bounds}
 use Rattle.np_tables.proofs.RowLemmas.{entry_at-row, entry_at-within}
 
@@ -33,22 +34,13 @@ scalar_low : (n : ℕ) → n < 0xD800 → scalar n ≡ true
 scalar_low n h = cond-true _ _ _ (lt-ltb n 0xD800 h)
 
 scalars_pair : (c : ℕ) → is_syllable c ≡ true → list_all scalar (syllable_pair c) ≡ true
-unfolding syllable_pair
 scalars_pair c h =
-    let index = c - 0xAC00 in
-    let bounds = syllable_bounds c h in
-    let both : (a b : ℕ) → a < 0xD800 → b < 0xD800 → list_all scalar (a ∷ b ∷ []) ≡ true = λ a b la lb. and_from _ _ (scalar_low a la) (and_from _ _ (scalar_low b lb) refl) in
-    let leading = 0x1100 + index / 588 in
-    let vowel = 0x1161 + index % 588 / 28 in
-    let base = c - index % 28 in
-    let trailing = 0x11A7 + index % 28 in
-    elim (cases_Bool (index % 28 == 0)) [
-      | inl lv ↦ ap (list_all scalar) (cond-true (index % 28 == 0) (leading ∷ vowel ∷ []) (base ∷ trailing ∷ []) lv) ∙ both leading vowel (omega arith) (omega arith)
-      | inr lvt ↦ ap (list_all scalar) (cond-false (index % 28 == 0) (leading ∷ vowel ∷ []) (base ∷ trailing ∷ []) lvt) ∙ both base trailing (omega arith) (omega arith)
-    ]
+    let pair = pair_exists c in
+    let small = pair_small c pair.0 pair.1 h pair.2 in
+    ap (list_all scalar) pair.2 ∙ and_from _ _ (scalar_low pair.0 small.0) (and_from _ _ (scalar_low pair.1 small.1) refl)
 
-pub scalars-at : (v : VersionData) (c : ℕ) → AreRows v.entries → list_all scalar (mapping_of v c) ≡ true
-unfolding mapping_of file_mapping
+pub scalars-at : (v : VersionData) (c : ℕ) → AreRows v.entries → list_all scalar (decomposition_mapping v c) ≡ true
+unfolding decomposition_mapping file_mapping
 scalars-at v c rows =
     elim (cases_Bool (has_hangul v && is_syllable c)) [
       | inl on ↦ ap (list_all scalar) (cond-true _ (syllable_pair c) (file_mapping v c) on) ∙ scalars_pair c (and_parts _ _ on).1
@@ -66,8 +58,8 @@ mapped_in_row (Some e) c row within h =
     let same : e.first ≡ c = omega arith in
     ap scalar (sym same) ∙ is.mapped_scalar h
 
-pub mapped_scalar-at : (v : VersionData) (c : ℕ) → AreRows v.entries → mapping_of v c ≢ [] → scalar c ≡ true
-unfolding mapping_of file_mapping
+pub mapped_scalar-at : (v : VersionData) (c : ℕ) → AreRows v.entries → decomposition_mapping v c ≢ [] → scalar c ≡ true
+unfolding decomposition_mapping file_mapping
 mapped_scalar-at v c rows h =
     elim (cases_Bool (has_hangul v && is_syllable c)) [
       | inl on ↦ (let bounds = syllable_bounds c (and_parts _ _ on).1 in scalar_low c (omega arith))

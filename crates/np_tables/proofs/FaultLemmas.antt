@@ -15,10 +15,9 @@ use Rattle.np_tables.specs.TableFaults.{place_of, number_of, HasFault, IsBeforeF
 use Rattle.np_tables.specs.inside.FirstFaults.{AreFirsts}
 use Rattle.np_tables.specs.inside.FirstFaults.{sooner, least_fault}
 use Rattle.np_tables.specs.Mappings.{has_depth}
-use Rattle.np_tables.specs.inside.FullDecompositions.{full_of}
-use Rattle.np_tables.specs.Versions.{VersionData, is_assigned, mapping_of}
+use Rattle.np_tables.specs.Versions.{VersionData, is_assigned, decomposition_mapping}
 use Rattle.np_tables.proofs.FactLemmas.{bounded-at, classes-at, scalars-at, mapped_scalar-at}
-use Rattle.np_tables.proofs.HangulPlaces.{on_where_right}
+use Rattle.np_tables.proofs.HangulLemmas.{on_where_right}
 
 -- ---- a version without faults meets the conditions
 
@@ -38,13 +37,13 @@ sound-faultless v rows none =
       classes = λ c. classes-at v c rows;
       scalars = λ c. scalars-at v c rows;
       mapped_scalar = λ c h. mapped_scalar-at v c rows h;
-      maps_to_assigned = λ c. elim (cases_Bool (list_all (is_assigned v) (mapping_of v c))) [
+      maps_to_assigned = λ c. elim (cases_Bool (list_all (is_assigned v) (decomposition_mapping v c))) [
         | inl ok ↦ ok
         | inr lacks ↦ absurd (none (MapsToUnassigned c) (record { lacks = lacks }))
       ];
       shallow = shallow;
-      short = λ c. elim (cases_lt 64 (length (full_of v true c))) [
-        | inl long ↦ absurd (none (TooLong c) (record { shallow = shallow c; long = long }))
+      short = λ c full is. elim (cases_lt 64 (length full)) [
+        | inl long ↦ absurd (none (TooLong c) (record { shallow = shallow c; full = full; decomposes = is; long = long }))
         | inr ok ↦ ok
       ];
       unlike = λ a b c d hc hd. elim (cases_order c d) [

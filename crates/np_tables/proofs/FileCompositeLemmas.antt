@@ -2,19 +2,22 @@
 use Rattle.std.proofs.Common.{◌≡◌, ◌≢◌, ℕ, zero, suc, ◌+◌, ◌<◌, ◌≤◌, Bool, true, false, ◌&&◌, List, [], ◌∷◌, ◌++◌, length, flat_map, Some, None, Option, refl, sym, ap, subst, ◌∙◌, arith, inl, inr, slice_index_or, take, append-nil}
 use Rattle.std.specs.List.{Contains, slice_get}
 use Rattle.std.specs.List.Sorted.{IsPermutation}
-use Rattle.std.proofs.lemmas.Bool.{cond-false, cases_Bool}
+use Rattle.std.proofs.lemmas.Bool.{cases_Bool}
 use Rattle.std.proofs.lemmas.Option.{none-some, same_Some, slice_get_within, get_or_from_slice_get}
 use Rattle.std.proofs.lemmas.List.{take_more, take_all}
 use Rattle.std.proofs.lemmas.Grind.{flat_map-append}
 use Rattle.std.proofs.lemmas.List.Elements.{Contains-append_cases, Contains-append_left, Contains-append_right}
 use Rattle.std.proofs.lemmas.List.Sorted.{IsPermutation-sym, Contains-permutation}
 use Rattle.np_ucd.specs.Entries.{Entry, AreRows}
-use Rattle.np_code_points.specs.Hangul.{is_syllable, syllable_pair}
-use Rattle.np_tables.specs.Versions.{VersionData, entry_at, file_mapping, mapping_of, mapping_in, is_empty, has_hangul}
+use Rattle.np_code_points.specs.Hangul.{is_syllable}
+use Rattle.np_tables.specs.Versions.{VersionData, entry_at, file_mapping, decomposition_mapping, mapping_in, is_empty, has_hangul}
 use Rattle.np_tables.specs.inside.RowPlaces.{lies_in}
-use Rattle.np_tables.specs.Composites.{is_primary, IsCompositeOf}
+use Rattle.np_tables.specs.Composites.{IsCompositeOf}
+use Rattle.np_tables.specs.inside.Primaries.{is_primary}
 use Rattle.np_tables.specs.declared.pairs.Composite.{Composite}
 use Rattle.np_tables.specs.inside.Pairs.{Lists, AreOfFile, pair_in, composites_in}
+use Rattle.np_tables.proofs.CompositeLemmas.{primary-from, primary-test}
+use Rattle.np_tables.proofs.HangulLemmas.{decomposition_mapping-off}
 use Rattle.np_tables.proofs.RowLemmas.{entry_at-nil, entry_at-hit, entry_at-miss}
 use Rattle.np_tables.proofs.FileRowLemmas.{row-at, first-at, found-lists, file_mapping-found, mapped-off}
 
@@ -78,10 +81,6 @@ to_row primary c a b mapping passes pair =
     let here : Contains (x ∷ []) x = (zero, omega arith, refl) in
     subst (λ p. Contains (pair_in p c mapping) x) (sym passes) (subst (λ m. Contains (pair_in true c m) x) (sym pair) here)
 
-mapping_of-off : (v : VersionData) (c : ℕ) → (has_hangul v && is_syllable c) ≡ false → mapping_of v c ≡ file_mapping v c
-unfolding mapping_of
-mapping_of-off v c off = cond-false _ (syllable_pair c) (file_mapping v c) off
-
 row_of : (o : Option Entry) → is_empty (mapping_in o) ≡ false → (e : Entry) × (o ≡ Some e)
 row_of None h = cc
 row_of (Some e) h = (e, refl)
@@ -97,7 +96,7 @@ is_pair-some xs a b h none = cc
 
 module _ (v : VersionData) (rows : AreRows v.entries) where
   record RowGives (x : Composite) : Type 0 where
-    code_pair : mapping_of v x.code ≡ x.first ∷ x.second ∷ []
+    code_pair : decomposition_mapping v x.code ≡ x.first ∷ x.second ∷ []
     primary : is_primary v x.code ≡ true
     off : (has_hangul v && is_syllable x.code) ≡ false
 
@@ -109,14 +108,14 @@ module _ (v : VersionData) (rows : AreRows v.entries) where
       let mapping : file_mapping v e.first ≡ x.first ∷ x.second ∷ [] = file_mapping-found v e.first e (first-at v.entries at.0 e rows at.2) ∙ r.pair in
       let off = mapped-off v e.first (ap is_empty mapping) in
       record {
-        code_pair = ap (mapping_of v) r.code ∙ mapping_of-off v e.first off ∙ mapping;
+        code_pair = ap (decomposition_mapping v) r.code ∙ decomposition_mapping-off v e.first off ∙ mapping;
         primary = ap (is_primary v) r.code ∙ r.passes;
         off = ap (λ c. has_hangul v && is_syllable c) r.code ∙ off;
       }
 
   row_has : (a b c : ℕ) → IsCompositeOf v a b c → (has_hangul v && is_syllable c) ≡ false → Lists (flat_map (composites_in v) v.entries) a b c
   row_has a b c is off =
-      let mapping : file_mapping v c ≡ a ∷ b ∷ [] = sym (mapping_of-off v c off) ∙ is.mapping in
+      let mapping : file_mapping v c ≡ a ∷ b ∷ [] = sym (decomposition_mapping-off v c off) ∙ is.mapping in
       let found = mapped_row v c (ap is_empty mapping) in
       let e = found.0 in
       let place = found-place v.entries c e found.1 in
@@ -124,7 +123,7 @@ module _ (v : VersionData) (rows : AreRows v.entries) where
       let alone = (row-at v.entries place.0 e rows place.1).alone (is_pair-some e.mapping a b here) in
       let lists = found-lists v.entries c e found.1 in
       let same : e.first ≡ c = omega arith in
-      let has = to_row (is_primary v e.first) e.first a b e.mapping (ap (is_primary v) same ∙ is.primary) here in
+      let has = to_row (is_primary v e.first) e.first a b e.mapping (ap (is_primary v) same ∙ primary-test v c is.primary) here in
       flat-has (composites_in v) v.entries _ place.0 e place.1 (subst (λ k. Contains (pair_in (is_primary v e.first) e.first e.mapping) (record { first = a; second = b; code = k })) same has)
 
   pub AreOfFile-from : (xs cs : List Composite) → xs ≡ flat_map (composites_in v) v.entries → IsPermutation xs cs → AreOfFile v cs
@@ -132,7 +131,7 @@ module _ (v : VersionData) (rows : AreRows v.entries) where
       let back : (x : Composite) → Contains cs x → Contains (flat_map (composites_in v) v.entries) x =
       λ x h. subst (λ l. Contains l x) is (Contains-permutation cs xs x (IsPermutation-sym xs cs moved) h) in
       record {
-        composites = λ a b c h. let r = row_gives _ (back _ h) in record { primary = r.primary; mapping = r.code_pair };
+        composites = λ a b c h. let r = row_gives _ (back _ h) in record { primary = primary-from v c r.primary; mapping = r.code_pair };
         no_syllables = λ a b c h. (row_gives _ (back _ h)).off;
         all = λ a b c h off. Contains-permutation xs cs _ moved (subst (λ l. Contains l (record { first = a; second = b; code = c })) (sym is) (row_has a b c h off));
       }

@@ -8,8 +8,7 @@ use Rattle.np_tables.specs.inside.RowPlaces.{lies_in}
 use Rattle.np_tables.specs.Versions.{VersionData, entry_at, file_kind, file_mapping, is_empty, has_hangul, kind_in, mapping_in}
 use Rattle.np_code_points.specs.Hangul.{is_syllable}
 use Rattle.np_tables.proofs.RowLemmas.{entry_at-hit, entry_at-miss, entry_at-nil}
-use Rattle.np_tables.proofs.CompositeLemmas.{syllable_row}
-use Rattle.np_tables.proofs.PrimaryLemmas.{hangul_parts}
+use Rattle.np_tables.proofs.HangulLemmas.{hangul_parts, syllable_row}
 
 pub row-at : (es : List Entry) (i : ℕ) (e : Entry) → AreRows es → slice_get es i ≡ Some e → IsRow e
 row-at [] i e rows h = absurd (none-some e h)

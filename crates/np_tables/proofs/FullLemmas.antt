@@ -5,7 +5,7 @@ use Rattle.std.proofs.lemmas.List.{take_more, take_all, get_or_read}
 use Rattle.std.proofs.lemmas.Grind.{flat_map-append}
 use Rattle.np_ucd.specs.declared.rows.MapKind.TheVariants.{Canonical}
 use Rattle.np_code_points.specs.Hangul.{is_syllable, syllable_pair}
-use Rattle.np_tables.specs.Versions.{VersionData, is_empty, file_kind, file_mapping, kind_of, mapping_of, has_hangul}
+use Rattle.np_tables.specs.Versions.{VersionData, is_empty, file_kind, file_mapping, decomposition_kind, decomposition_mapping, has_hangul}
 use Rattle.np_tables.specs.Mappings.{counts, parts}
 use Rattle.np_tables.specs.inside.FullDecompositions.{full}
 
@@ -30,19 +30,19 @@ module _ (v : VersionData) (compat : Bool) where
   -- ---- the mapping that counts
 
   pub parts-syllable : (c : ℕ) → has_hangul v ≡ true → is_syllable c ≡ true → parts v compat c ≡ syllable_pair c
-  unfolding parts kind_of mapping_of
+  unfolding parts decomposition_kind decomposition_mapping
   parts-syllable c on h =
       let both = and_from _ _ on h in
-      let kind : kind_of v c ≡ Canonical = cond-true _ Canonical (file_kind v c) both in
-      let mapping : mapping_of v c ≡ syllable_pair c = cond-true _ (syllable_pair c) (file_mapping v c) both in
-      ap (λ k. if counts compat k then mapping_of v c else []) kind ∙ mapping
+      let kind : decomposition_kind v c ≡ Canonical = cond-true _ Canonical (file_kind v c) both in
+      let mapping : decomposition_mapping v c ≡ syllable_pair c = cond-true _ (syllable_pair c) (file_mapping v c) both in
+      ap (λ k. if counts compat k then decomposition_mapping v c else []) kind ∙ mapping
 
   pub parts-file : (c : ℕ) → (has_hangul v && is_syllable c) ≡ false → parts v compat c ≡ (if counts compat (file_kind v c) then file_mapping v c else [])
-  unfolding parts kind_of mapping_of
+  unfolding parts decomposition_kind decomposition_mapping
   parts-file c off =
-      let kind : kind_of v c ≡ file_kind v c = cond-false _ Canonical (file_kind v c) off in
-      let mapping : mapping_of v c ≡ file_mapping v c = cond-false _ (syllable_pair c) (file_mapping v c) off in
-      ap (λ k. if counts compat k then mapping_of v c else []) kind ∙ ap (λ m. if counts compat (file_kind v c) then m else []) mapping
+      let kind : decomposition_kind v c ≡ file_kind v c = cond-false _ Canonical (file_kind v c) off in
+      let mapping : decomposition_mapping v c ≡ file_mapping v c = cond-false _ (syllable_pair c) (file_mapping v c) off in
+      ap (λ k. if counts compat k then decomposition_mapping v c else []) kind ∙ ap (λ m. if counts compat (file_kind v c) then m else []) mapping
 
   pub parts-counted : (c : ℕ) → (has_hangul v && is_syllable c) ≡ false → counts compat (file_kind v c) ≡ true → parts v compat c ≡ file_mapping v c
   parts-counted c off on = parts-file c off ∙ cond-true _ _ _ on

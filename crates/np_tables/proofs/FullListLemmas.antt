@@ -67,7 +67,7 @@ module _ (v : VersionData) (compat : Bool) where
 
 -- ---- parts of a flat list
 
-part_of-grown : (old more : List ℕ) (p : Part) → IsPart (length old) p → part_of (old ++ more) p ≡ part_of old p
+pub part_of-grown : (old more : List ℕ) (p : Part) → IsPart (length old) p → part_of (old ++ more) p ≡ part_of old p
 part_of-grown old more p is =
     let fits : p.end - p.start ≤ length (drop p.start old) = omega (arith, length-drop p.start old) in
     ap (take (p.end - p.start)) (drop-append-le p.start old more (omega arith)) ∙ take-append-le (p.end - p.start) (drop p.start old) more fits
@@ -82,7 +82,7 @@ parts-grown old more (p ∷ ps) all =
 pub AreParts-grown : (old more : List ℕ) (ps : List Part) → AreParts old ps → AreParts (old ++ more) ps
 AreParts-grown old more ps all = All-weaker (IsPart (length old)) (IsPart (length (old ++ more))) (λ p is. (is.0, omega (arith, length-append old more))) ps all
 
-part_of-new : (old more : List ℕ) (p : Part) → p.start ≡ length old → p.end ≡ length (old ++ more) → part_of (old ++ more) p ≡ more
+pub part_of-new : (old more : List ℕ) (p : Part) → p.start ≡ length old → p.end ≡ length (old ++ more) → part_of (old ++ more) p ≡ more
 part_of-new old more p start end =
     let size : length more ≤ p.end - p.start = omega (arith, length-append old more) in
     ap (take (p.end - p.start)) (drop_at old more p.start (sym start)) ∙ take_all (p.end - p.start) more size

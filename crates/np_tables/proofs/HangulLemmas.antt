@@ -1,57 +1,227 @@
--- A test that holds of each syllable and jamo.
-use Rattle.std.proofs.Common.{◌≡◌, ℕ, zero, suc, ◌+◌, ◌<◌, true, false, Bool, inl, inr, refl, sym, ap, ◌∙◌, arith}
-use Rattle.std.proofs.lemmas.Bool.{and_from, and_left, and_right, cases_eq}
-use Rattle.np_ucd.specs.Entries.{Entry}
-use Rattle.std.specs.Prelude.{◌&&◌, ◌==◌, Option, Some, None, is_some}
-use Rattle.np_tables.specs.Versions.{VersionData, entry_at, all_from, all_hangul, has_hangul, is_hangul_row, is_assigned, class_of, file_mapping, class_in, mapping_in, is_empty}
-use Rattle.np_tables.specs.inside.HangulRows.{is_right_entry, is_right_at}
+-- The Hangul arithmetic: on exactly where each syllable and jamo is as it wants it, and what it then makes of each.
+use Rattle.std.proofs.Common.{◌≡◌, ◌≢◌, ℕ, zero, suc, ◌+◌, ◌-◌, ◌/◌, ◌%◌, ◌<◌, ◌≤◌, ◌⊎◌, Bool, true, false, not, ◌&&◌, ◌||◌, ◌==◌, [], ◌∷◌, refl, sym, ap, ◌∙◌, arith, inl, inr, eqb-true}
+use Rattle.std.specs.List.{list_all}
+use Rattle.std.proofs.lemmas.Bool.{cases_Bool, cases_eq, cond-true, cond-false, and_parts, and_from, and_right, or_left, or_right, both_ways}
+use Rattle.np_code_points.specs.Hangul.{is_among, is_syllable, syllable_pair}
+use Rattle.np_code_points.proofs.HangulLemmas.{among_bounds, pair_exists, pair_kinds, pair_of_lv, pair_of_lvt}
+use Rattle.np_ucd.specs.declared.rows.MapKind.TheVariants.{Canonical}
+use Rattle.np_tables.specs.Faults.{IsHangulWrong}
+use Rattle.np_tables.specs.Laws.{HangulOn, HangulByArithmetic}
+use Rattle.np_tables.specs.Versions.{VersionData, all_below, class_of, decomposition_kind, decomposition_mapping, file_kind, file_mapping, has_hangul, is_assigned, is_empty, is_hangul, is_hangul_row}
+use Rattle.np_tables.proofs.HangulPlaces.{hangul_bound}
+use Rattle.np_tables.proofs.MappingLemmas.{is_empty-true}
 
-right_entry-is : (o : Option Entry) → is_right_entry o ≡ (is_some o && class_in o == 0 && is_empty (mapping_in o))
-right_entry-is None = refl
-right_entry-is (Some e) = refl
+-- ---- a test of each number below a bound
 
-pub right-is : (v : VersionData) (c : ℕ) → is_right_at v.entries c ≡ is_hangul_row v c
-unfolding is_right_at is_hangul_row is_assigned class_of file_mapping
-right-is v c = right_entry-is (entry_at v.entries c)
-
-all_from-same : (p q : ℕ → Bool) → ((c : ℕ) → p c ≡ q c) → (base n : ℕ) → all_from p base n ≡ all_from q base n
-unfolding all_from
-all_from-same p q same base zero = refl
-all_from-same p q same base (suc n) =
-    let here = same (base + n) in let rest = all_from-same p q same base n in cc
-
-pub has_hangul-is : (v : VersionData) → all_hangul (is_right_at v.entries) ≡ has_hangul v
-unfolding has_hangul all_hangul
-has_hangul-is v =
-    let p = is_right_at v.entries in
-    let q = is_hangul_row v in
-    let a = all_from-same p q (right-is v) 0x1100 19 in
-    let b = all_from-same p q (right-is v) 0x1161 21 in
-    let c = all_from-same p q (right-is v) 0x11A8 27 in
-    let d = all_from-same p q (right-is v) 0xAC00 11172 in
-    cc
-
-pub all_from-none : (p : ℕ → Bool) (base : ℕ) → all_from p base 0 ≡ true
-unfolding all_from
-all_from-none p base = refl
-
-all_from-suc : (p : ℕ → Bool) (base n : ℕ) → p (base + n) ≡ true → all_from p base n ≡ true → all_from p base (suc n) ≡ true
-unfolding all_from
-all_from-suc p base n here rest = and_from _ _ here rest
-
-pub all_from-more : (p : ℕ → Bool) (base n : ℕ) → p (base + n) ≡ true → all_from p base n ≡ true → all_from p base (n + 1) ≡ true
-all_from-more p base n here rest =
-    let same : n + 1 ≡ suc n = omega arith in ap (all_from p base) same ∙ all_from-suc p base n here rest
-
-pub all_from-fails : (p : ℕ → Bool) (base n k : ℕ) → k < n → p (base + k) ≡ false → all_from p base n ≡ false
-unfolding all_from
-all_from-fails p base zero k lt h = absurd (omega arith)
-all_from-fails p base (suc n) k lt h =
-    elim (cases_eq k n) [
-      | inl same ↦ and_left _ _ (sym (ap (λ j. p (base + j)) same) ∙ h)
-      | inr other ↦ and_right (p (base + n)) _ (all_from-fails p base n k (omega arith) h)
+all_below-at : (p : ℕ → Bool) (n c : ℕ) → all_below p n ≡ true → c < n → p c ≡ true
+unfolding all_below
+all_below-at p zero c h lt = absurd (omega arith)
+all_below-at p (suc n) c h lt =
+    let halves = and_parts (p n) (all_below p n) h in
+    elim (cases_eq c n) [
+      | inl same ↦ ap p same ∙ halves.0
+      | inr other ↦ all_below-at p n c halves.1 (omega arith)
     ]
 
-pub all_hangul-is : (p : ℕ → Bool) → all_hangul p ≡ (all_from p 0x1100 19 && all_from p 0x1161 21 && all_from p 0x11A8 27 && all_from p 0xAC00 11172)
-unfolding all_hangul
-all_hangul-is p = refl
+all_below-from : (p : ℕ → Bool) (n : ℕ) → ((c : ℕ) → p c ≡ true) → all_below p n ≡ true
+unfolding all_below
+all_below-from p zero each = refl
+all_below-from p (suc n) each = and_from _ _ (each n) (all_below-from p n each)
+
+-- ---- where it is on
+
+then_so : (a b : Bool) → (not a || b) ≡ true → a ≡ true → b ≡ true
+then_so true b h is = h
+then_so false b h is = cc
+
+so_from : (a b : Bool) → (a ≡ true → b ≡ true) → (not a || b) ≡ true
+so_from true b h = h refl
+so_from false b h = refl
+
+pub has_hangul-at : (v : VersionData) → has_hangul v ≡ true → (c : ℕ) → is_hangul c ≡ true → is_hangul_row v c ≡ true
+unfolding has_hangul
+has_hangul-at v on c h =
+    then_so (is_hangul c) (is_hangul_row v c) (all_below-at (λ d. not (is_hangul d) || is_hangul_row v d) 0x110000 c on (hangul_bound c h)) h
+
+pub has_hangul-from : (v : VersionData) → ((c : ℕ) → is_hangul c ≡ true → is_hangul_row v c ≡ true) → has_hangul v ≡ true
+unfolding has_hangul
+has_hangul-from v each = all_below-from (λ d. not (is_hangul d) || is_hangul_row v d) 0x110000 (λ c. so_from (is_hangul c) (is_hangul_row v c) (each c))
+
+pub has_hangul-fails : (v : VersionData) (c : ℕ) → is_hangul c ≡ true → is_hangul_row v c ≡ false → has_hangul v ≡ false
+has_hangul-fails v c h wrong =
+    elim (cases_Bool (has_hangul v)) [ inl on ↦ absurd (both_ways _ wrong (has_hangul-at v on c h)) | inr off ↦ off ]
+
+pub hangul_on : HangulOn
+hangul_on v = (has_hangul-at v, has_hangul-from v)
+
+-- where none is wrong and one is assigned, the arithmetic is on
+pub on_where_right : (v : VersionData) → ((c : ℕ) → ¬ (IsHangulWrong v c)) → (c : ℕ) → is_hangul c ≡ true → is_assigned v c ≡ true → has_hangul v ≡ true
+on_where_right v none c h assigned =
+    has_hangul-from v (λ d hangul.
+    elim (cases_Bool (is_hangul_row v d)) [
+      | inl row ↦ row
+      | inr wrong ↦ absurd (none d (record { hangul = hangul; some = c; some_hangul = h; some_assigned = assigned; wrong = wrong }))
+    ])
+
+-- ---- what it makes of each syllable and jamo
+
+pub record HangulParts (v : VersionData) (c : ℕ) : Type 0 where
+  pub assigned : is_assigned v c ≡ true
+  pub class : class_of v c ≡ 0
+  pub mapping : is_empty (file_mapping v c) ≡ true
+
+pub hangul_parts : (v : VersionData) (c : ℕ) → is_hangul_row v c ≡ true → HangulParts v c
+unfolding is_hangul_row
+hangul_parts v c h =
+    let halves = and_parts (is_assigned v c && class_of v c == 0) _ h in
+    let front = and_parts (is_assigned v c) _ halves.0 in
+    record { assigned = front.0; class = eqb-true (class_of v c) 0 front.1; mapping = halves.1 }
+
+pub decomposition_kind-on : (v : VersionData) (c : ℕ) → (has_hangul v && is_syllable c) ≡ true → decomposition_kind v c ≡ Canonical
+unfolding decomposition_kind
+decomposition_kind-on v c on = cond-true _ Canonical (file_kind v c) on
+
+pub decomposition_kind-off : (v : VersionData) (c : ℕ) → (has_hangul v && is_syllable c) ≡ false → decomposition_kind v c ≡ file_kind v c
+unfolding decomposition_kind
+decomposition_kind-off v c off = cond-false _ Canonical (file_kind v c) off
+
+pub decomposition_mapping-on : (v : VersionData) (c : ℕ) → (has_hangul v && is_syllable c) ≡ true → decomposition_mapping v c ≡ syllable_pair c
+unfolding decomposition_mapping
+decomposition_mapping-on v c on = cond-true _ (syllable_pair c) (file_mapping v c) on
+
+pub decomposition_mapping-off : (v : VersionData) (c : ℕ) → (has_hangul v && is_syllable c) ≡ false → decomposition_mapping v c ≡ file_mapping v c
+unfolding decomposition_mapping
+decomposition_mapping-off v c off = cond-false _ (syllable_pair c) (file_mapping v c) off
+
+pub by_arithmetic : HangulByArithmetic
+by_arithmetic v on c h =
+    let row = hangul_parts v c (has_hangul-at v on c h) in
+    record {
+      assigned = row.assigned;
+      class = row.class;
+      mapping = elim (cases_Bool (is_syllable c)) [
+        | inl syllable ↦ decomposition_mapping-on v c (and_from _ _ on syllable) ∙ sym (cond-true _ _ _ syllable)
+        | inr jamo ↦ decomposition_mapping-off v c (and_right (has_hangul v) _ jamo) ∙ is_empty-true _ row.mapping ∙ sym (cond-false _ _ _ jamo)
+      ];
+    }
+
+-- ---- syllables and jamo
+
+leading_hangul : (c : ℕ) → is_among 0x1100 19 c ≡ true → is_hangul c ≡ true
+leading_hangul c h =
+    or_left (is_among 0x1100 19 c || is_among 0x1161 21 c || is_among 0x11A8 27 c) (is_syllable c)
+    (or_left (is_among 0x1100 19 c || is_among 0x1161 21 c) (is_among 0x11A8 27 c) (or_left (is_among 0x1100 19 c) (is_among 0x1161 21 c) h))
+
+vowel_hangul : (c : ℕ) → is_among 0x1161 21 c ≡ true → is_hangul c ≡ true
+vowel_hangul c h =
+    or_left (is_among 0x1100 19 c || is_among 0x1161 21 c || is_among 0x11A8 27 c) (is_syllable c)
+    (or_left (is_among 0x1100 19 c || is_among 0x1161 21 c) (is_among 0x11A8 27 c) (or_right (is_among 0x1100 19 c) (is_among 0x1161 21 c) h))
+
+trailing_hangul : (c : ℕ) → is_among 0x11A8 27 c ≡ true → is_hangul c ≡ true
+trailing_hangul c h =
+    or_left (is_among 0x1100 19 c || is_among 0x1161 21 c || is_among 0x11A8 27 c) (is_syllable c)
+    (or_right (is_among 0x1100 19 c || is_among 0x1161 21 c) (is_among 0x11A8 27 c) h)
+
+pub syllable_hangul : (c : ℕ) → is_syllable c ≡ true → is_hangul c ≡ true
+syllable_hangul c h = or_right (is_among 0x1100 19 c || is_among 0x1161 21 c || is_among 0x11A8 27 c) (is_syllable c) h
+
+pub syllable_row : (v : VersionData) (c : ℕ) → has_hangul v ≡ true → is_syllable c ≡ true → is_hangul_row v c ≡ true
+syllable_row v c on h = has_hangul-at v on c (syllable_hangul c h)
+
+no_syllable : (base count c : ℕ) → base + count ≤ 0xAC00 → is_among base count c ≡ true → is_syllable c ≡ false
+no_syllable base count c low h =
+    elim (cases_Bool (is_syllable c)) [
+      | inl syllable ↦ let a = among_bounds base count c h in let b = among_bounds 0xAC00 11172 c syllable in absurd (omega arith)
+      | inr other ↦ other
+    ]
+
+pub record IsJamo (c : ℕ) : Type 0 where
+  pub hangul : is_hangul c ≡ true
+  pub single : is_syllable c ≡ false
+
+leading_jamo : (c : ℕ) → is_among 0x1100 19 c ≡ true → IsJamo c
+leading_jamo c h = record { hangul = leading_hangul c h; single = no_syllable 0x1100 19 c (omega arith) h }
+
+vowel_jamo : (c : ℕ) → is_among 0x1161 21 c ≡ true → IsJamo c
+vowel_jamo c h = record { hangul = vowel_hangul c h; single = no_syllable 0x1161 21 c (omega arith) h }
+
+trailing_jamo : (c : ℕ) → is_among 0x11A8 27 c ≡ true → IsJamo c
+trailing_jamo c h = record { hangul = trailing_hangul c h; single = no_syllable 0x11A8 27 c (omega arith) h }
+
+pub jamo_bare : (v : VersionData) (c : ℕ) → has_hangul v ≡ true → IsJamo c → decomposition_mapping v c ≡ []
+jamo_bare v c on jamo = (by_arithmetic v on c jamo.hangul).mapping ∙ cond-false _ _ _ jamo.single
+
+-- ---- the pair of a syllable
+
+-- a syllable of two jamo
+pub record IsLv (s : ℕ) : Type 0 where
+  pub syllable : is_syllable s ≡ true
+  pub leading : ℕ
+  pub vowel : ℕ
+  pub pair : syllable_pair s ≡ leading ∷ vowel ∷ []
+  pub first : IsJamo leading
+  pub second : IsJamo vowel
+
+-- two jamo, or a syllable of two jamo and a third
+pub record PairShape (s : ℕ) : Type 0 where
+  pub first : ℕ
+  pub second : ℕ
+  pub pair : syllable_pair s ≡ first ∷ second ∷ []
+  pub head : IsJamo first ⊎ IsLv first
+  pub tail : IsJamo second
+
+pub lv_shape : (s : ℕ) → is_syllable s ≡ true → (s - 0xAC00) % 28 ≡ 0 → IsLv s
+lv_shape s h even =
+    let pair = pair_of_lv s even in
+    elim (pair_kinds s _ _ h pair) [
+      | inl lv ↦ record { syllable = h; leading = _; vowel = _; pair = pair; first = leading_jamo _ lv.0; second = vowel_jamo _ lv.1 }
+      | inr lvt ↦
+          let leading : ℕ = 0x1100 + (s - 0xAC00) / 588 in
+          let low = (among_bounds 0xAC00 11172 leading (and_parts (is_syllable leading) _ lvt.0).0).0 in
+          let range = among_bounds 0xAC00 11172 s h in
+          absurd (omega (arith, low, range))
+    ]
+
+-- a syllable with a trailing consonant
+pub record IsLvt (s : ℕ) : Type 0 where
+  pub base : ℕ
+  pub last : ℕ
+  pub pair : syllable_pair s ≡ base ∷ last ∷ []
+  pub front : IsLv base
+  pub back : IsJamo last
+
+pub lvt_shape : (s : ℕ) → is_syllable s ≡ true → (s - 0xAC00) % 28 ≢ 0 → IsLvt s
+lvt_shape s h odd =
+    let pair = pair_of_lvt s odd in
+    elim (pair_kinds s _ _ h pair) [
+      | inr lvt ↦
+          let front = and_parts (is_syllable (s - (s - 0xAC00) % 28)) _ lvt.0 in
+          record { base = _; last = _; pair = pair; front = lv_shape _ front.0 (eqb-true _ 0 front.1); back = trailing_jamo _ lvt.1 }
+      | inl lv ↦
+          let range = among_bounds 0xAC00 11172 s h in
+          let a = among_bounds 0x1100 19 (s - (s - 0xAC00) % 28) lv.0 in
+          absurd (omega (arith, range, a))
+    ]
+
+pub shape_of : (s : ℕ) → is_syllable s ≡ true → PairShape s
+shape_of s h =
+    let pair = pair_exists s in
+    elim (pair_kinds s pair.0 pair.1 h pair.2) [
+      | inl lv ↦ record { first = pair.0; second = pair.1; pair = pair.2; head = inl (leading_jamo pair.0 lv.0); tail = vowel_jamo pair.1 lv.1 }
+      | inr lvt ↦
+          let front = and_parts (is_syllable pair.0) _ lvt.0 in
+          record { first = pair.0; second = pair.1; pair = pair.2; head = inr (lv_shape pair.0 front.0 (eqb-true _ 0 front.1)); tail = trailing_jamo pair.1 lvt.1 }
+    ]
+
+pub head_hangul : (c : ℕ) → IsJamo c ⊎ IsLv c → is_hangul c ≡ true
+head_hangul c (inl jamo) = jamo.hangul
+head_hangul c (inr lv) = syllable_hangul c lv.syllable
+
+-- both parts of a pair are syllables or jamo
+pub pair_all : (p : ℕ → Bool) → ((c : ℕ) → is_hangul c ≡ true → p c ≡ true) → (s : ℕ) → is_syllable s ≡ true → list_all p (syllable_pair s) ≡ true
+pair_all p each s h =
+    let shape = shape_of s h in
+    ap (list_all p) shape.pair ∙ and_from _ _ (each shape.first (head_hangul shape.first shape.head)) (and_from _ _ (each shape.second shape.tail.hangul) refl)
+
+pub pair_assigned : (v : VersionData) (s : ℕ) → has_hangul v ≡ true → is_syllable s ≡ true → list_all (is_assigned v) (syllable_pair s) ≡ true
+pair_assigned v s on h = pair_all (is_assigned v) (λ c hangul. (by_arithmetic v on c hangul).assigned) s h

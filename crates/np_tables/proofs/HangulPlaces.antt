@@ -1,17 +1,12 @@
 -- The syllables and jamo, counted from 0, and those that are wrong.
-use Rattle.std.proofs.Common.{◌≡◌, ℕ, ◌+◌, ◌-◌, ◌<◌, ◌≤◌, ◌⊎◌, Bool, true, false, ◌||◌, nat_lt, refl, sym, subst, zero, suc, ◌∙◌, arith, inl, inr, le-leb, lt-ltb}
-use Rattle.std.proofs.lemmas.Bool.{cond-true, cond-false, cases_Bool, cases_lt, and_parts, and_from, leb-true, ltb-true, le-ltb, both_ways}
+use Rattle.std.proofs.Common.{◌≡◌, ℕ, ◌+◌, ◌-◌, ◌<◌, ◌≤◌, ◌⊎◌, Bool, true, false, ◌||◌, nat_lt, refl, sym, subst, ◌∙◌, arith, inl, inr, lt-ltb}
+use Rattle.std.proofs.lemmas.Bool.{cond-true, cond-false, cases_lt, le-ltb, both_ways}
+use Rattle.np_code_points.proofs.HangulLemmas.{among_bounds, among_from_bounds}
 use Rattle.np_code_points.specs.Hangul.{is_among, is_syllable}
 use Rattle.np_tables.specs.Faults.{IsHangulWrong}
 use Rattle.np_tables.specs.inside.FirstFaults.{IsLeastOf}
 use Rattle.np_tables.specs.inside.HangulRows.{HasAssignedHangul, hangul_at}
-use Rattle.np_tables.specs.Versions.{VersionData, is_assigned, is_hangul, is_hangul_row, all_from, all_hangul, has_hangul}
-
-among_bounds : (base count c : ℕ) → is_among base count c ≡ true → (base ≤ c) × (c < base + count)
-among_bounds base count c h = let range = and_parts _ _ h in (leb-true base c range.0, ltb-true c (base + count) range.1)
-
-among_from : (base count c : ℕ) → base ≤ c → c < base + count → is_among base count c ≡ true
-among_from base count c low high = and_from _ _ (le-leb base c low) (lt-ltb c (base + count) high)
+use Rattle.np_tables.specs.Versions.{VersionData, is_assigned, is_hangul, is_hangul_row}
 
 -- the four runs of code points
 unfoldable pub Runs : ℕ → Type 0
@@ -47,31 +42,26 @@ pub runs_hangul : (c : ℕ) → Runs c → is_hangul c ≡ true
 unfolding Runs
 runs_hangul c runs =
     elim runs [
-      | inl l ↦ or_left (is_among 0x1100 19 c || is_among 0x1161 21 c || is_among 0x11A8 27 c) (is_syllable c) (or_left (is_among 0x1100 19 c || is_among 0x1161 21 c) _ (or_left (is_among 0x1100 19 c) _ (among_from 0x1100 19 c l.0 (omega arith))))
+      | inl l ↦ or_left (is_among 0x1100 19 c || is_among 0x1161 21 c || is_among 0x11A8 27 c) (is_syllable c) (or_left (is_among 0x1100 19 c || is_among 0x1161 21 c) _ (or_left (is_among 0x1100 19 c) _ (among_from_bounds 0x1100 19 c l.0 (omega arith))))
       | inr rest ↦ elim rest [
-        | inl v ↦ or_left (is_among 0x1100 19 c || is_among 0x1161 21 c || is_among 0x11A8 27 c) (is_syllable c) (or_left (is_among 0x1100 19 c || is_among 0x1161 21 c) _ (or_right (is_among 0x1100 19 c) _ (among_from 0x1161 21 c v.0 (omega arith))))
+        | inl v ↦ or_left (is_among 0x1100 19 c || is_among 0x1161 21 c || is_among 0x11A8 27 c) (is_syllable c) (or_left (is_among 0x1100 19 c || is_among 0x1161 21 c) _ (or_right (is_among 0x1100 19 c) _ (among_from_bounds 0x1161 21 c v.0 (omega arith))))
         | inr rest ↦ elim rest [
-          | inl t ↦ or_left (is_among 0x1100 19 c || is_among 0x1161 21 c || is_among 0x11A8 27 c) (is_syllable c) (or_right (is_among 0x1100 19 c || is_among 0x1161 21 c) _ (among_from 0x11A8 27 c t.0 (omega arith)))
-          | inr s ↦ or_right (is_among 0x1100 19 c || is_among 0x1161 21 c || is_among 0x11A8 27 c) (is_syllable c) (among_from 0xAC00 11172 c s.0 (omega arith))
+          | inl t ↦ or_left (is_among 0x1100 19 c || is_among 0x1161 21 c || is_among 0x11A8 27 c) (is_syllable c) (or_right (is_among 0x1100 19 c || is_among 0x1161 21 c) _ (among_from_bounds 0x11A8 27 c t.0 (omega arith)))
+          | inr s ↦ or_right (is_among 0x1100 19 c || is_among 0x1161 21 c || is_among 0x11A8 27 c) (is_syllable c) (among_from_bounds 0xAC00 11172 c s.0 (omega arith))
         ]
       ]
     ]
 
-pub leading_run : (k : ℕ) → k < 19 → Runs (0x1100 + k)
+pub hangul_bound : (c : ℕ) → is_hangul c ≡ true → c < 0x110000
 unfolding Runs
-leading_run k lt = inl (omega arith, omega arith)
-
-pub vowel_run : (k : ℕ) → k < 21 → Runs (0x1161 + k)
-unfolding Runs
-vowel_run k lt = inr (inl (omega arith, omega arith))
-
-pub trailing_run : (k : ℕ) → k < 27 → Runs (0x11A8 + k)
-unfolding Runs
-trailing_run k lt = inr (inr (inl (omega arith, omega arith)))
-
-pub syllable_run : (k : ℕ) → k < 11172 → Runs (0xAC00 + k)
-unfolding Runs
-syllable_run k lt = inr (inr (inr (omega arith, omega arith)))
+hangul_bound c h =
+    elim (hangul_runs c h) [
+      | inl l ↦ omega arith
+      | inr rest ↦ elim rest [
+        | inl v ↦ omega arith
+        | inr rest ↦ elim rest [ inl t ↦ omega arith | inr s ↦ omega arith ]
+      ]
+    ]
 
 -- what a place stands for
 unfoldable pub Stands : ℕ → ℕ → Type 0
@@ -163,24 +153,3 @@ lacking v all c h = each_hangul (λ d. is_assigned v d ≡ false) all c h
 
 pub having : (v : VersionData) (i : ℕ) → i < 11239 → is_assigned v (hangul_at i) ≡ true → HasAssignedHangul v
 having v i lt h = record { some = hangul_at i; some_hangul = hangul_at-hangul i lt; some_assigned = h }
-
-all_from-from : (p : ℕ → Bool) (base n : ℕ) → ((k : ℕ) → k < n → p (base + k) ≡ true) → all_from p base n ≡ true
-unfolding all_from
-all_from-from p base zero all = refl
-all_from-from p base (suc n) all = and_from _ _ (all n (omega arith)) (all_from-from p base n (λ k lt. all k (omega arith)))
-
--- where none is wrong and one is assigned, the arithmetic is on
-pub on_where_right : (v : VersionData) → ((c : ℕ) → ¬ (IsHangulWrong v c)) → (c : ℕ) → is_hangul c ≡ true → is_assigned v c ≡ true → has_hangul v ≡ true
-unfolding has_hangul all_hangul
-on_where_right v none c h assigned =
-    let p = is_hangul_row v in
-    let right : (d : ℕ) → Runs d → p d ≡ true = λ d runs.
-    elim (cases_Bool (p d)) [
-      | inl row ↦ row
-      | inr wrong ↦ absurd (none d (record { hangul = runs_hangul d runs; some = c; some_hangul = h; some_assigned = assigned; wrong = wrong }))
-    ] in
-    and_from _ _
-    (and_from _ _
-    (and_from _ _ (all_from-from p 0x1100 19 (λ k lt. right (0x1100 + k) (leading_run k lt))) (all_from-from p 0x1161 21 (λ k lt. right (0x1161 + k) (vowel_run k lt))))
-    (all_from-from p 0x11A8 27 (λ k lt. right (0x11A8 + k) (trailing_run k lt))))
-    (all_from-from p 0xAC00 11172 (λ k lt. right (0xAC00 + k) (syllable_run k lt)))

@@ -17,10 +17,14 @@ pub mod HangulLemmas
 pub mod HangulPlaces
 pub mod MappedLemmas
 pub mod MappingLemmas
-pub mod MarkLemmas
+pub mod PageSlotLemmas
+pub mod PageWordLemmas
 pub mod PairLemmas
 pub mod PrimaryLemmas
+pub mod RightLemmas
 pub mod RoundLemmas
 pub mod RowLemmas
+pub mod RowPageLemmas
 pub mod SyllableLemmas
 pub mod TableLemmas
+pub mod UniqueLemmas

@@ -1,22 +1,20 @@
--- Full decomposition: there is one, and only one.
+-- Full decomposition: the function gives the one that there is.
 use Rattle.std.proofs.Common.{◌≡◌, ◌≢◌, ℕ, zero, suc, Bool, true, false, List, [], ◌∷◌, ◌++◌, flat_map, refl, sym, ap, subst, ◌∙◌, inl, inr, append_assoc, append-nil}
 use Rattle.std.proofs.lemmas.Bool.{cond-true, cond-false, cases_Bool, and_parts, and_from}
-use Rattle.std.proofs.lemmas.Grind.{flat_map-append}
 use Rattle.std.specs.List.{list_all}
 use Rattle.np_code_points.specs.Steps.{Reaches}
-use Rattle.np_tables.specs.Versions.{VersionData, is_empty, kind_of, mapping_of}
+use Rattle.np_tables.specs.Versions.{VersionData, is_empty, decomposition_kind, decomposition_mapping}
 use Rattle.np_tables.specs.Mappings.{counts, parts, Rewrites, is_final, IsFullDecomposition, has_depth}
 use Rattle.np_tables.specs.inside.FullDecompositions.{full, full_of}
-use Rattle.np_code_points.proofs.StepsLemmas.{stays_at, one_more, join, keeps, along}
+use Rattle.np_code_points.proofs.StepsLemmas.{stays, stays_at, one_more, join, along}
+use Rattle.np_tables.proofs.UniqueLemmas.{at_most_one}
+pub use Rattle.np_tables.proofs.UniqueLemmas.{is_empty-true}
+use Rattle.np_tables.specs.Laws.{SomeDecomposition}
 
 pub list_all-append : (p : ℕ → Bool) (xs ys : List ℕ) → list_all p xs ≡ true → list_all p ys ≡ true → list_all p (xs ++ ys) ≡ true
 list_all-append p [] ys front back = back
 list_all-append p (x ∷ xs) ys front back =
     let halves = and_parts (p x) (list_all p xs) front in and_from _ _ halves.0 (list_all-append p xs ys halves.1 back)
-
-pub is_empty-true : (xs : List ℕ) → is_empty xs ≡ true → xs ≡ []
-is_empty-true [] h = refl
-is_empty-true (x ∷ xs) h = cc
 
 pub is_empty-false : (xs : List ℕ) → is_empty xs ≡ false → xs ≢ []
 is_empty-false [] h e = cc
@@ -28,10 +26,10 @@ is_empty_from (x ∷ xs) h = refl
 
 module _ (v : VersionData) (compat : Bool) where
   -- what counts is the mapping
-  pub parts-cases : (P : List ℕ → Type 0) → P [] → (c : ℕ) → P (mapping_of v c) → P (parts v compat c)
+  pub parts-cases : (P : List ℕ → Type 0) → P [] → (c : ℕ) → P (decomposition_mapping v c) → P (parts v compat c)
   unfolding parts
   parts-cases P none c some =
-      elim (cases_Bool (counts compat (kind_of v c))) [
+      elim (cases_Bool (counts compat (decomposition_kind v c))) [
         | inl on ↦ subst P (sym (cond-true _ _ _ on)) some
         | inr off ↦ subst P (sym (cond-false _ _ _ off)) none
       ]
@@ -135,6 +133,21 @@ module _ (v : VersionData) (compat : Bool) where
             (leads_flat_map (full v compat n) (has_depth v n) (leads_full n) (parts v compat c) (depth_parts n c h)))
       ]
 
+  -- the function gives what rewriting reaches, where nothing is deeper than the fuel
+  pub decomposes_flat : (n : ℕ) (xs : List ℕ) → list_all (has_depth v n) xs ≡ true → IsFullDecomposition v compat xs (flat_map (full v compat n) xs)
+  decomposes_flat n xs h =
+      record {
+        reached = leads_flat_map (full v compat n) (has_depth v n) (leads_full n) xs h;
+        final = final-flat_map (full v compat n) (has_depth v n) (is_final v compat) (final-full n) xs h;
+      }
+
+  pub decomposes_full : (n c : ℕ) → has_depth v n c ≡ true → IsFullDecomposition v compat (c ∷ []) (full v compat n c)
+  decomposes_full n c h = record { reached = leads_full n c h; final = final-full n c h }
+
+  -- and nothing else
+  pub full-only : (n c : ℕ) (ys : List ℕ) → has_depth v n c ≡ true → IsFullDecomposition v compat (c ∷ []) ys → ys ≡ full v compat n c
+  full-only n c ys h is = at_most_one v compat (c ∷ []) ys (full v compat n c) is (decomposes_full n c h)
+
   -- ---- where no code point is too deep
 
   module _ (shallow : (c : ℕ) → has_depth v 32 c ≡ true) where
@@ -146,42 +159,30 @@ module _ (v : VersionData) (compat : Bool) where
     unfolding full_of
     full_of-mapped c h = sym (full-more 32 c (shallow c)) ∙ full-mapped 32 c h
 
-    pub final-full_of : (c : ℕ) → list_all (is_final v compat) (full_of v compat c) ≡ true
+    pub full_of-only : (c : ℕ) (ys : List ℕ) → IsFullDecomposition v compat (c ∷ []) ys → ys ≡ full_of v compat c
     unfolding full_of
-    final-full_of c = final-full 32 c (shallow c)
+    full_of-only c ys h = full-only 32 c ys (shallow c) h
 
-    leads_full_of : (c : ℕ) → Leads (c ∷ []) (full_of v compat c)
+    pub IsFullDecomposition-full_of : (c : ℕ) → IsFullDecomposition v compat (c ∷ []) (full_of v compat c)
     unfolding full_of
-    leads_full_of c = leads_full 32 c (shallow c)
+    IsFullDecomposition-full_of c = decomposes_full 32 c (shallow c)
 
-    all_any : (xs : List ℕ) → list_all (λ _. true) xs ≡ true
-    all_any [] = refl
-    all_any (x ∷ xs) = all_any xs
-
-    pub final-decomposed : (xs : List ℕ) → list_all (is_final v compat) (flat_map (full_of v compat) xs) ≡ true
-    final-decomposed xs = final-flat_map (full_of v compat) (λ _. true) (is_final v compat) (λ c _. final-full_of c) xs (all_any xs)
+    all_shallow : (xs : List ℕ) → list_all (has_depth v 32) xs ≡ true
+    all_shallow [] = refl
+    all_shallow (x ∷ xs) = and_from _ _ (shallow x) (all_shallow xs)
 
     pub IsFullDecomposition-flat_map : (xs : List ℕ) → IsFullDecomposition v compat xs (flat_map (full_of v compat) xs)
-    IsFullDecomposition-flat_map xs =
-        record {
-          reached = leads_flat_map (full_of v compat) (λ _. true) (λ c _. leads_full_of c) xs (all_any xs);
-          final = final-decomposed xs;
-        }
+    unfolding full_of
+    IsFullDecomposition-flat_map xs = decomposes_flat 32 xs (all_shallow xs)
 
-    rewrite_keeps : (xs ys : List ℕ) → Rewrites v compat xs ys → flat_map (full_of v compat) xs ≡ flat_map (full_of v compat) ys
-    rewrite_keeps xs ys r =
-        let f = full_of v compat in
-        ap (flat_map f) r.old ∙ flat_map-append f r.before (r.code ∷ r.after)
-        ∙ ap (λ l. flat_map f r.before ++ (l ++ flat_map f r.after)) (full_of-mapped r.code (is_empty_from _ r.maps))
-        ∙ ap (λ l. flat_map f r.before ++ l) (sym (flat_map-append f (parts v compat r.code) r.after))
-        ∙ sym (flat_map-append f r.before _) ∙ ap (flat_map f) (sym r.new)
-
-    pub flat_map-final : (xs : List ℕ) → list_all (is_final v compat) xs ≡ true → flat_map (full_of v compat) xs ≡ xs
-    flat_map-final [] h = refl
-    flat_map-final (x ∷ xs) h =
-        let halves = and_parts (is_final v compat x) (list_all (is_final v compat) xs) h in
-        ap (λ l. l ++ flat_map (full_of v compat) xs) (full_of-final x halves.0) ∙ ap (λ l. x ∷ l) (flat_map-final xs halves.1)
+    pub final-decomposed : (xs : List ℕ) → list_all (is_final v compat) (flat_map (full_of v compat) xs) ≡ true
+    final-decomposed xs = (IsFullDecomposition-flat_map xs).final
 
     pub full_decomposition-flat_map : (xs ys : List ℕ) → IsFullDecomposition v compat xs ys → ys ≡ flat_map (full_of v compat) xs
-    full_decomposition-flat_map xs ys h =
-        sym (keeps (Rewrites v compat) (flat_map (full_of v compat)) rewrite_keeps xs ys h.reached ∙ flat_map-final ys h.final)
+    full_decomposition-flat_map xs ys h = at_most_one v compat xs ys (flat_map (full_of v compat) xs) h (IsFullDecomposition-flat_map xs)
+
+    pub flat_map-final : (xs : List ℕ) → list_all (is_final v compat) xs ≡ true → flat_map (full_of v compat) xs ≡ xs
+    flat_map-final xs h = sym (full_decomposition-flat_map xs xs (record { reached = stays (Rewrites v compat) xs; final = h }))
+
+pub some_decomposition : SomeDecomposition
+some_decomposition v compat n xs h = record { list = flat_map (full v compat n) xs; is = decomposes_flat v compat n xs h }

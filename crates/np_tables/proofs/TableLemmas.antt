@@ -1,33 +1,33 @@
 -- What the plain table answers.
-use Rattle.std.proofs.Common.{◌≡◌, ℕ, zero, suc, ◌<◌, Bool, true, false, ◌&&◌, ◌||◌, List, [], ◌∷◌, ◌++◌, length, map, get_or, Some, None, Option, IfSome, IfNone, refl, sym, ap, subst, ◌∙◌, arith, inl, inr, append-nil, if◌then◌else◌, MatchBool}
+use Rattle.std.proofs.Common.{◌≡◌, ℕ, zero, suc, ◌<◌, Bool, true, false, ◌&&◌, List, [], ◌∷◌, length, map, get_or, Some, None, Option, IfSome, IfNone, refl, sym, ap, subst, ◌∙◌, arith, inl, inr}
 use Rattle.std.specs.List.{slice_get}
-use Rattle.std.proofs.lemmas.Bool.{cases_Bool, cond-true, cond-false}
+use Rattle.std.proofs.lemmas.Bool.{cases_Bool, cond-true, cond-false, or_from, or_left, or_right}
 use Rattle.std.proofs.lemmas.List.{get_or-map}
 use Rattle.std.proofs.lemmas.Option.{get_or_from_slice_get}
 use Rattle.np_ucd.specs.Entries.{Entry, AreRows}
 use Rattle.np_code_points.specs.Hangul.{is_syllable, syllable_pair}
 use Rattle.np_tables.specs.Versions.{VersionData, entry_at, file_mapping, mapping_in, is_empty, has_hangul}
 use Rattle.np_tables.specs.Mappings.{is_final, IsLent, IsFullDecomposition}
-use Rattle.np_tables.specs.inside.FullDecompositions.{full_of, table_full}
+use Rattle.np_tables.specs.inside.FullDecompositions.{table_full}
 use Rattle.np_tables.specs.Composites.{IsCompositeOf}
 use Rattle.np_tables.specs.inside.CompositeSearch.{composite}
 use Rattle.np_tables.specs.Conditions.{IsSound}
 use Rattle.np_tables.specs.declared.pairs.Composite.{Composite}
 use Rattle.np_tables.specs.inside.Pairs.{Lists, AreOfFile}
 use Rattle.np_tables.specs.inside.FullLists.{FullLists, of_kind, row_full, AreFulls}
-use Rattle.np_tables.proofs.MappingLemmas.{IsFullDecomposition-flat_map, is_empty-false}
+use Rattle.np_tables.proofs.MappingLemmas.{IsFullDecomposition-full_of, is_empty-false}
 use Rattle.np_tables.proofs.CompositeLemmas.{cases_Option, composite-some, composite_from}
 use Rattle.np_tables.proofs.PrimaryLemmas.{primary-syllable}
 use Rattle.np_tables.proofs.FileRowLemmas.{row-at, first-at, found-lists, file_mapping-found}
 use Rattle.np_tables.proofs.FullListLemmas.{lent-outside}
-use Rattle.np_tables.proofs.AmbiguityLemmas.{mapping_of-on}
+use Rattle.np_tables.proofs.HangulLemmas.{decomposition_mapping-on}
 
 -- ---- pairs
 
 pub pair-syllable : (v w : VersionData) → w ≡ v → AreRows v.entries → (a b s : ℕ) → (has_hangul w && is_syllable s) ≡ true → syllable_pair s ≡ a ∷ b ∷ [] → IsCompositeOf v a b s
 pair-syllable v w same rows a b s on pair =
     let on_v = subst (λ x. (has_hangul x && is_syllable s) ≡ true) same on in
-    record { primary = primary-syllable v s rows on_v; mapping = mapping_of-on v s on_v ∙ pair }
+    record { primary = primary-syllable v s rows on_v; mapping = decomposition_mapping-on v s on_v ∙ pair }
 
 pub pair-found : (v u : VersionData) → u ≡ v → (cs : List Composite) → AreOfFile u cs → (a b : ℕ) (r : Option ℕ) → IfSome r (Lists cs a b) → IfSome r (IsCompositeOf v a b)
 pair-found v u same cs file a b None h = h
@@ -37,7 +37,7 @@ not_here : (v w u : VersionData) → w ≡ v → u ≡ v → (cs : List Composit
     ((s : ℕ) → (has_hangul w && is_syllable s) ≡ true → ¬ (syllable_pair s ≡ a ∷ b ∷ [])) → ((code : ℕ) → ¬ Lists cs a b code) → (c : ℕ) → ¬ IsCompositeOf v a b c
 not_here v w u same same_u cs file a b none lists c is =
     elim (cases_Bool (has_hangul v && is_syllable c)) [
-      | inl on ↦ none c (subst (λ x. (has_hangul x && is_syllable c) ≡ true) (sym same) on) (sym (mapping_of-on v c on) ∙ is.mapping)
+      | inl on ↦ none c (subst (λ x. (has_hangul x && is_syllable c) ≡ true) (sym same) on) (sym (decomposition_mapping-on v c on) ∙ is.mapping)
       | inr off ↦ lists c (file.all a b c (subst (λ x. IsCompositeOf x a b c) (sym same_u) is) (subst (λ x. (has_hangul x && is_syllable c) ≡ false) (sym same_u) off))
     ]
 
@@ -66,7 +66,7 @@ entry_in (e ∷ es) zero lt = (e, refl)
 entry_in (e ∷ es) (suc at) lt = entry_in es at (omega arith)
 
 -- a row lends to each of its code points what it lends to its first
-row-shares : (v : VersionData) (compat : Bool) (c at : ℕ) (e : Entry) → AreRows v.entries → slice_get v.entries at ≡ Some e → entry_at v.entries c ≡ Some e → table_full v compat e.first ≡ table_full v compat c
+pub row-shares : (v : VersionData) (compat : Bool) (c at : ℕ) (e : Entry) → AreRows v.entries → slice_get v.entries at ≡ Some e → entry_at v.entries c ≡ Some e → table_full v compat e.first ≡ table_full v compat c
 row-shares v compat c at e rows place found =
     let own = file_mapping-found v e.first e (first-at v.entries at e rows place) in
     let there = file_mapping-found v c e found in
@@ -97,15 +97,14 @@ full-none v compat c h = sym (lent-outside v compat c (no_mapping (entry_at v.en
 pub IsLent-table_full : (v : VersionData) (compat : Bool) (c : ℕ) → IsSound v → IsLent v compat c (table_full v compat c)
 unfolding table_full
 IsLent-table_full v compat c sound =
-    let none : Bool = is_final v compat c || (has_hangul v && is_syllable c) in
-    let lent : List ℕ = if none then [] else full_of v compat c in
-    let Q : Bool → Type 0 = λ t. MatchBool t (lent ≡ []) (IsFullDecomposition v compat (c ∷ []) lent) in
-    elim (cases_Bool none) [
-      | inl holds ↦ subst Q (sym holds) (cond-true _ _ _ holds)
-      | inr fails ↦
-          let whole : full_of v compat c ++ [] ≡ lent = append-nil (full_of v compat c) ∙ sym (cond-false _ _ _ fails) in
-          subst Q (sym fails) (subst (IsFullDecomposition v compat (c ∷ [])) whole (IsFullDecomposition-flat_map v compat sound.shallow (c ∷ [])))
-    ]
+    let by_hangul : Bool = has_hangul v && is_syllable c in
+    record {
+      final = λ h. cond-true _ _ _ (or_left (is_final v compat c) by_hangul h);
+      syllable = λ h. cond-true _ _ _ (or_right (is_final v compat c) by_hangul h);
+      full = λ h k.
+          subst (IsFullDecomposition v compat (c ∷ [])) (sym (cond-false _ _ _ (or_from (is_final v compat c) by_hangul h k)))
+          (IsFullDecomposition-full_of v compat sound.shallow c);
+    }
 
 -- the same over a version that is this one
 pub full-some : (v w u : VersionData) (compat : Bool) (c d at : ℕ) (lists : FullLists) → w ≡ u → u ≡ v → d ≡ c → IsSound u → AreFulls u lists → at < length w.entries → slice_get w.entries at ≡ entry_at w.entries d →

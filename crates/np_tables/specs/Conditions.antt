@@ -1,12 +1,11 @@
 -- What holds of each version that was built.
-use Rattle.std.specs.Prelude.{◌≡◌, ◌≢◌, ℕ, ◌<◌, ◌≤◌, true, [], length}
+use Rattle.std.specs.Prelude.{◌≡◌, ◌≢◌, ℕ, ◌<◌, ◌≤◌, true, List, [], ◌∷◌, length}
 use lib.Utf8.{scalar}
 use Rattle.std.specs.List.{list_all}
 use Rattle.np_ucd.specs.Entries.{AreRows}
 use Rattle.np_tables.specs.Composites.{IsCompositeOf}
-use Rattle.np_tables.specs.Mappings.{has_depth}
-use Rattle.np_tables.specs.inside.FullDecompositions.{full_of}
-use Rattle.np_tables.specs.Versions.{VersionData, class_of, is_assigned, is_hangul, has_hangul, mapping_of}
+use Rattle.np_tables.specs.Mappings.{IsFullDecomposition, has_depth}
+use Rattle.np_tables.specs.Versions.{VersionData, class_of, is_assigned, is_hangul, has_hangul, decomposition_mapping}
 
 pub record IsSound (v : VersionData) : Type 0 where
   -- the rows are those of a data file
@@ -16,15 +15,15 @@ pub record IsSound (v : VersionData) : Type 0 where
   -- 255 is no combining class
   pub classes : (c : ℕ) → class_of v c ≤ 254
   -- a mapping holds no surrogate
-  pub scalars : (c : ℕ) → list_all scalar (mapping_of v c) ≡ true
+  pub scalars : (c : ℕ) → list_all scalar (decomposition_mapping v c) ≡ true
   -- no surrogate has a mapping
-  pub mapped_scalar : (c : ℕ) → mapping_of v c ≢ [] → scalar c ≡ true
+  pub mapped_scalar : (c : ℕ) → decomposition_mapping v c ≢ [] → scalar c ≡ true
   -- a mapping holds assigned code points alone
-  pub maps_to_assigned : (c : ℕ) → list_all (is_assigned v) (mapping_of v c) ≡ true
+  pub maps_to_assigned : (c : ℕ) → list_all (is_assigned v) (decomposition_mapping v c) ≡ true
   -- no code point is deeper than 32
   pub shallow : (c : ℕ) → has_depth v 32 c ≡ true
   -- no full compatibility decomposition is longer than 64
-  pub short : (c : ℕ) → length (full_of v true c) ≤ 64
+  pub short : (c : ℕ) (full : List ℕ) → IsFullDecomposition v true (c ∷ []) full → length full ≤ 64
   -- a pair has one primary composite at most
   pub unlike : (a b c d : ℕ) → IsCompositeOf v a b c → IsCompositeOf v a b d → c ≡ d
   -- where a syllable or a jamo is assigned, the arithmetic is on

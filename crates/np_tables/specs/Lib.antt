@@ -1,8 +1,10 @@
+pub mod Boundaries
 pub mod Composites
 pub mod Conditions
 pub mod Counts
 pub mod Examples
 pub mod Faults
+pub mod Laws
 pub mod Mappings
 pub mod TableFaults
 pub mod Versions

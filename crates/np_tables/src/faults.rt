@@ -11,20 +11,20 @@ use thiserror::Error;
 #[derive(Clone, Copy, Debug, PartialEq, Eq, Error)]
 pub enum TableFault {
     /// The code point has a mapping that holds an unassigned code point.
-    #[error("{code}: maps to an unassigned code point")]
+    #[error("{code:04X} has a mapping that holds an unassigned code point")]
     MapsToUnassigned { code: u32 },
     /// The mappings of the code point and of its parts lead deeper than 32, or round in a circle.
-    #[error("{code}: too deep")]
+    #[error("{code:04X} has mappings that lead deeper than 32, or in a circle")]
     TooDeep { code: u32 },
     /// The full compatibility decomposition of the code point has more than 64 code points.
-    #[error("{code}: too long")]
+    #[error("{code:04X} has a full decomposition of more than 64 code points")]
     TooLong { code: u32 },
     /// The code point is a primary composite with the same mapping as a smaller one.
-    #[error("{code}: an ambiguous pair")]
+    #[error("{code:04X} has the pair of a smaller primary composite")]
     AmbiguousPair { code: u32 },
     /// Some Hangul syllable or jamo is assigned, and the code point is one that is unassigned, of
     /// non-zero class, or has a mapping in the file.
-    #[error("{code}: a wrong syllable or jamo")]
+    #[error("{code:04X} is Hangul that is not as its arithmetic has it")]
     HangulWrong { code: u32 },
     /// Memory ran out.
     #[error("out of memory")]

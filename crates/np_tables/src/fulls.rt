@@ -21,17 +21,19 @@ const DEPTH: usize = 32;
 
 /// A part of a flat list: from the place `start` up to the place `end`.
 #[derive(Clone, Copy)]
-struct Part {
-    start: usize,
-    end: usize,
+pub struct Part {
+    /// The place of its first code point.
+    pub start: usize,
+    /// The place behind its last one.
+    pub end: usize,
 }
 
 /// What a table lends for the code point of each row, in one flat list.
 #[derive(Drop)]
 pub struct Fulls {
-    codes: Vec<char>,
-    canonical: Vec<Part>,
-    compatible: Vec<Part>,
+    pub(crate) codes: Vec<char>,
+    pub(crate) canonical: Vec<Part>,
+    pub(crate) compatible: Vec<Part>,
 }
 
 impl Model for Fulls {
@@ -139,7 +141,7 @@ fn is_lent(row: &Row, compat: bool) -> bool
 }
 
 /// Appends what a table lends for the code point of a row.
-fn push_full(
+pub fn push_full(
     characters: &CharacterData,
     compat: bool,
     row: &Row,

@@ -1,9 +1,33 @@
 //! The rows of the Hangul syllables and jamo (The Unicode Standard, section 3.12).
-ghost use Rattle.std.specs.Prelude.{◌≡◌, ◌+◌, ◌≤◌};
-ghost use Rattle.np_tables.specs.Versions.{all_from, all_hangul, entry_at};
-ghost use Rattle.np_tables.specs.inside.HangulRows.{is_right_entry, is_right_at};
+ghost use Rattle.std.specs.Prelude.{◌≡◌, ◌<◌, List};
+ghost use Rattle.np_ucd.specs.Listed.{Span};
+ghost use Rattle.np_tables.specs.Versions.{has_hangul};
+ghost use Rattle.np_tables.specs.inside.HangulRows.{hangul_at as spec_hangul_at, is_right_at};
 
 use crate::row_index::RowIndex;
+use np_code_points::hangul::{L_BASE, L_COUNT, S_BASE, S_COUNT, T_BASE, T_COUNT, V_BASE, V_COUNT};
+
+/// How many syllables and jamo there are.
+pub const HANGUL_COUNT: u32 = JAMO_COUNT + S_COUNT;
+
+/// How many jamo there are.
+const JAMO_COUNT: u32 = L_COUNT + V_COUNT + T_COUNT - 1;
+
+/// The syllable or jamo at a place, from 0, by code point.
+pub fn hangul_at(place: u32) -> u32
+    requires { place < 11239 }
+    ensures { result ≡ spec_hangul_at place }
+{
+    if place < L_COUNT {
+        L_BASE + place
+    } else if place < L_COUNT + V_COUNT {
+        V_BASE + (place - L_COUNT)
+    } else if place < JAMO_COUNT {
+        T_BASE + 1 + (place - (L_COUNT + V_COUNT))
+    } else {
+        S_BASE + (place - JAMO_COUNT)
+    }
+}
 
 /// Whether a code point is assigned, of class 0 and without a mapping.
 fn is_right(rows: &RowIndex, code: u32) -> bool
@@ -15,25 +39,15 @@ fn is_right(rows: &RowIndex, code: u32) -> bool
     }
 }
 
-/// Whether the `count` code points from `base` on are all right.
-fn are_right(rows: &RowIndex, base: u32, count: u32) -> bool
-    requires { base + count ≤ 0x110000 }
-    ensures { result ≡ all_from (is_right_at rows.now) base count }
+/// Whether all syllables and jamo are assigned, of class 0 and without a mapping, which no
+/// exclusion changes.
+pub fn all_right(rows: &RowIndex) -> bool
+    ensures { (spans : List Span) → result ≡ has_hangul (record { entries = rows.now; exclusions = spans }) }
 {
-    for i in 0..count {
-        if !is_right(rows, base + i) {
+    for place in 0..HANGUL_COUNT {
+        if !is_right(rows, hangul_at(place)) {
             return false;
         }
     }
     true
-}
-
-/// Whether all syllables and jamo are assigned, of class 0 and without a mapping.
-pub fn all_right(rows: &RowIndex) -> bool
-    ensures { result ≡ all_hangul (is_right_at rows.now) }
-{
-    are_right(rows, 0x1100, 19)
-        && are_right(rows, 0x1161, 21)
-        && are_right(rows, 0x11A8, 27)
-        && are_right(rows, 0xAC00, 11172)
 }

@@ -62,7 +62,7 @@ impl Pairs {
     pub fn new(alloc: Global, characters: &CharacterData) -> Result<Pairs, Memory>
         ensures { IfOk result (AreOfFile characters.now) }
     {
-        let _ = characters.len();
+        characters.are_in_order();
         let composites = file_composites(alloc, characters)?;
         Ok(Pairs::of_composites(composites))
     }

@@ -1,82 +1,34 @@
 //! Rows, and the row in which each code point lies.
-ghost use Rattle.std.specs.Prelude.{◌≡◌, ℕ, ◌+◌, ◌<◌, ◌≤◌, length, option_map, slice_get, slice_index, IfOk, IfSome, IfNone, None};
+ghost use Rattle.std.specs.Prelude.{◌≡◌, ◌<◌, length, option_map, slice_get, IfOk, IfSome, IfNone, None};
 ghost use Rattle.np_ucd.specs.Entries.{AreRows};
 ghost use Rattle.np_ucd.specs.RowValues.{entry_of};
 ghost use Rattle.np_tables.specs.Versions.{entry_at};
-ghost use Rattle.np_tables.specs.inside.RowPlaces.{AreMarks};
+ghost use Rattle.np_tables.specs.inside.RowPages.{AreRowPages};
 
+use crate::row_pages::RowPages;
 use np_code_points::Memory;
+use np_code_points::codes::CODE_POINTS;
 use np_ucd::{Row, Rows};
 use std::alloc::Global;
 use std::marker::Model;
-
-/// How many code points there are.
-const CODE_POINTS: usize = 0x110000;
 
 /// The rows of a data file, with the place of the row of each code point.
 #[derive(Drop)]
 pub struct RowIndex {
     rows: Rows,
-    /// For each code point 1 plus the place of its row, 0 where it has none.
-    marks: Vec<u32>,
+    pages: RowPages,
 }
 
 impl Model for RowIndex {
     ghost use Rattle.std.specs.Prelude.{List};
     ghost use Rattle.np_ucd.specs.Entries.{Entry};
-    ghost use Rattle.np_tables.specs.inside.RowPlaces.{AreMarkedRows};
+    ghost use Rattle.np_tables.specs.inside.RowPages.{ArePagedRows};
 
     ghost Value = { List Entry };
 
     ghost view = { λ a. a.rows };
 
-    ghost invariant = { λ a. AreMarkedRows a.rows a.marks.items };
-}
-
-/// So many zeros.
-fn zeros(alloc: Global, count: usize) -> Result<Vec<u32>, Memory>
-    ensures size { IfOk result (λ v. length v.items ≡ count) }
-    ensures zero { IfOk result (λ v. (c : ℕ) → slice_index v.items c ≡ 0) }
-{
-    match vec![in alloc; 0; count] {
-        Ok(marks) => Ok(marks),
-        Err(_) => Err(Memory),
-    }
-}
-
-/// Writes a mark at each place from `first` to `last`.
-fn mark_row(marks: &mut [u32], first: u32, last: u32, mark: u32)
-    requires rise { first ≤ last }
-    requires within { last < length marks.old }
-    ensures inside { (c : ℕ) → first ≤ c → c ≤ last → slice_index marks.new c ≡ mark }
-    ensures below { (c : ℕ) → c < first → slice_index marks.new c ≡ slice_index marks.old c }
-    ensures above { (c : ℕ) → last < c → slice_index marks.new c ≡ slice_index marks.old c }
-{
-    for code in first as usize..last as usize + 1 {
-        marks[code] = mark;
-    }
-}
-
-/// Marks the code points of the row at a place.
-fn mark_place(rows: &Rows, marks: &mut [u32], at: usize)
-    requires { AreMarks rows.now at marks.old }
-    ensures { AreMarks rows.now (at + 1) marks.new }
-{
-    if let Some(row) = rows.get(at) {
-        let _ = rows.len();
-        mark_row(marks, row.first, row.last, at as u32 + 1);
-    }
-}
-
-/// Marks the code points of all rows.
-fn mark_rows(rows: &Rows, marks: &mut [u32])
-    requires size { length marks.old ≡ 0x110000 }
-    requires zero { (c : ℕ) → slice_index marks.old c ≡ 0 }
-    ensures { AreMarks rows.now (length rows.now) marks.new }
-{
-    for at in 0..rows.len() {
-        mark_place(rows, marks, at);
-    }
+    ghost invariant = { λ a. ArePagedRows a.rows a.pages.index.items a.pages.numbers.items };
 }
 
 impl RowIndex {
@@ -85,10 +37,16 @@ impl RowIndex {
         ensures value { IfOk result (λ r. r ≡ rows) }
         ensures rows { IfOk result AreRows }
     {
-        let _ = rows.len();
-        let mut marks = zeros(alloc, CODE_POINTS)?;
-        mark_rows(&rows, &mut marks);
-        Ok(RowIndex { rows, marks })
+        rows.are_in_order();
+        let pages = RowPages::new(alloc, &rows)?;
+        Ok(RowIndex { rows, pages })
+    }
+
+    /// The row numbers of all code points.
+    pub fn pages(&self) -> &RowPages
+        ensures { AreRowPages self.now result.now.index.items result.now.numbers.items }
+    {
+        &self.pages
     }
 
     /// How many rows there are.
@@ -112,9 +70,15 @@ impl RowIndex {
         ensures within { IfSome result (λ at. at < length self.now) }
         ensures row { IfSome result (λ at. slice_get self.now at ≡ entry_at self.now code) }
     {
-        match self.marks.get(code as usize) {
-            Some(mark) if *mark > 0 => Some(*mark as usize - 1),
-            _ => None,
+        let pages = &self.pages;
+        if code >= CODE_POINTS {
+            return None;
+        }
+        let number = pages.number_of(code);
+        if number == 0 {
+            None
+        } else {
+            Some(number as usize - 1)
         }
     }
 

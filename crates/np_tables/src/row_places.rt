@@ -14,7 +14,7 @@ pub fn row_in(characters: &CharacterData, at: usize) -> &Row
     ensures row { IsRow (entry_of result.now) }
     ensures first { entry_at characters.now.entries result.now.first ≡ Some (entry_of result.now) }
 {
-    let _ = characters.len();
+    characters.are_in_order();
     match characters.row(at) {
         Some(row) => row,
         None => unreachable!(),

@@ -2,7 +2,6 @@
 ghost use Rattle.std.specs.Prelude.{◌≡◌, IfOk};
 
 use crate::fulls::Fulls;
-use crate::pairs::Pairs;
 use crate::syllables::arithmetic_pair;
 use crate::tables::NormTable;
 use crate::version::Version;
@@ -15,20 +14,18 @@ use std::marker::Model;
 #[derive(Drop)]
 pub struct RowTable {
     version: Version,
-    pairs: Pairs,
     fulls: Fulls,
 }
 
 impl Model for RowTable {
     ghost use Rattle.np_tables.specs.inside.FullLists.{AreFulls};
-    ghost use Rattle.np_tables.specs.inside.Pairs.{AreOfFile};
     ghost use Rattle.np_tables.specs.Versions.{VersionData};
 
     ghost Value = { VersionData };
 
     ghost view = { λ a. a.version };
 
-    ghost invariant = { λ a. AreOfFile a.version a.pairs × AreFulls a.version a.fulls };
+    ghost invariant = { λ a. AreFulls a.version a.fulls };
 }
 
 impl RowTable {
@@ -36,13 +33,8 @@ impl RowTable {
     pub fn new(alloc: Global, version: Version) -> Result<RowTable, Memory>
         ensures { IfOk result (λ t. t ≡ version) }
     {
-        let pairs = Pairs::new(alloc, version.characters())?;
         let fulls = Fulls::new(alloc, version.characters())?;
-        Ok(RowTable {
-            version,
-            pairs,
-            fulls,
-        })
+        Ok(RowTable { version, fulls })
     }
 }
 
@@ -50,7 +42,7 @@ impl NormTable for RowTable {
     ghost model = { λ t. t };
 
     fn version(&self) -> &Version {
-        let _ = self.version.characters();
+        self.version.meets_conditions();
         &self.version
     }
 
@@ -69,7 +61,7 @@ impl NormTable for RowTable {
     fn pair(&self, a: char, b: char) -> Option<char> {
         match arithmetic_pair(self.version.characters(), a, b) {
             Some(syllable) => Some(syllable),
-            None => self.pairs.find(a, b),
+            None => self.version.pairs().find(a, b),
         }
     }
 

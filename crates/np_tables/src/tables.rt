@@ -1,13 +1,25 @@
 //! What normalization asks of a version.
-ghost use Rattle.std.specs.Prelude.{◌≡◌, ℕ, List, Bool, Option, IfSome, IfNone};
+ghost use Rattle.std.specs.Prelude.{◌≡◌, ℕ, List, Bool, Option, IfSome, IfNone, IsTrue, chars};
+ghost use Rattle.np_code_points.specs.declared.forms.Form.{Form};
+ghost use Rattle.np_tables.specs.Boundaries.{IsBoundary};
 ghost use Rattle.np_tables.specs.Composites.{IsCompositeOf};
 ghost use Rattle.np_tables.specs.inside.CompositeSearch.{composite};
 ghost use Rattle.np_tables.specs.Conditions.{IsSound};
 ghost use Rattle.np_tables.specs.Mappings.{IsLent};
+ghost use Rattle.np_tables.specs.inside.Hints.{AreStaying};
 ghost use Rattle.np_tables.specs.inside.FullDecompositions.{table_full};
 ghost use Rattle.np_tables.specs.Versions.{VersionData, class_of, has_hangul, is_assigned};
 
 use crate::version::Version;
+use np_code_points::Form;
+
+/// No byte at the front of a text, whose code points stay whatever the version and the form are.
+fn claim_nothing(text: &str) -> usize
+    ensures { (v : VersionData) (form : Form) → AreStaying v form (chars text.now) result }
+{
+    let _unused = text;
+    0
+}
 
 /// A table of a version: each answer is a function of the version.
 pub trait NormTable {
@@ -18,6 +30,13 @@ pub trait NormTable {
     fn version(&self) -> &Version
         ensures same { result.now ≡ model self.now }
         ensures sound { IsSound (model self.now) };
+
+    /// Does nothing at run time: the version meets the conditions.
+    final fn meets_conditions(&self)
+        ensures { IsSound (model self.now) }
+    {
+        let _version = self.version();
+    }
 
     /// Whether a code point is assigned.
     fn assigned(&self, c: char) -> bool
@@ -42,4 +61,61 @@ pub trait NormTable {
     fn full(&self, c: char, compat: bool) -> &[char]
         ensures lent { IsLent (model self.now) compat c result.now }
         ensures value { result.now ≡ table_full (model self.now) compat c };
+
+    /// Whether a normal form is known to part before a code point (UAX #15, section 9.1). A table
+    /// may answer `false` of one at which it does.
+    fn is_boundary(&self, form: Form, c: char) -> bool
+        ensures { IsTrue result → IsBoundary (model self.now) form c }
+    {
+        // nothing is claimed of either, so that a plain table need not know
+        let _unused = (form, c);
+        false
+    }
+
+    /// How many bytes at the front of a text are code points that a form is known to leave as they
+    /// are (UAX #15, section 9.1). A table may answer less, down to 0.
+    fn staying(&self, form: Form, text: &str) -> usize
+        ensures { AreStaying (model self.now) form (chars text.now) result }
+    {
+        // the same
+        let _unused = form;
+        claim_nothing(text)
+    }
+}
+
+/// A borrowed table answers as the table itself, so that one serves several owners.
+impl<T: NormTable> NormTable for &T {
+    ghost model = { λ t. T.model t.now };
+
+    fn version(&self) -> &Version {
+        (**self).version()
+    }
+
+    fn assigned(&self, c: char) -> bool {
+        (**self).assigned(c)
+    }
+
+    fn class(&self, c: char) -> u8 {
+        (**self).class(c)
+    }
+
+    fn hangul(&self) -> bool {
+        (**self).hangul()
+    }
+
+    fn pair(&self, a: char, b: char) -> Option<char> {
+        (**self).pair(a, b)
+    }
+
+    fn full(&self, c: char, compat: bool) -> &[char] {
+        (**self).full(c, compat)
+    }
+
+    fn is_boundary(&self, form: Form, c: char) -> bool {
+        (**self).is_boundary(form, c)
+    }
+
+    fn staying(&self, form: Form, text: &str) -> usize {
+        (**self).staying(form, text)
+    }
 }

@@ -1,11 +1,13 @@
 //! Worked examples.
 use crate::{NormTable, RowTable, TableFault, Version};
+use np_code_points::codes::write_code;
 use np_code_points::fixtures::{
     S_DATA, S_EXCLUSIONS, V1_DATA, V1_EXCLUSIONS, V2_DATA, V2_EXCLUSIONS,
 };
 use np_code_points::watched::Watched;
 use np_ucd::{MapKind, read_exclusions, read_rows};
 use std::alloc::{AllocError, Global};
+use std::process::Abort;
 use std::test::Fail;
 
 /// The version of two texts, which have the form of data files.
@@ -40,18 +42,25 @@ fn edited(alloc: Global, text: &str, line: &str, lines: &str) -> Result<String, 
     Ok(edited)
 }
 
-#[test]
-fn code_points_are_counted(rt: HostRuntime) -> Result<(), Fail> {
-    let alloc = rt.alloc();
-    assert_eq!(rt; version(alloc, "", "")?.count(), 0);
-    assert_eq!(rt; version(alloc, V1_DATA, V1_EXCLUSIONS)?.count(), 17_660);
-    assert_eq!(rt; version(alloc, V2_DATA, V2_EXCLUSIONS)?.count(), 17_666);
-    Ok(())
+/// Fails with these words where the fact does not hold.
+fn want(holds: bool, what: &str) -> Result<(), Fail> {
+    if holds { Ok(()) } else { Err(Fail::new(what)) }
+}
+
+fn count_of(alloc: Global, data: &str, exclusions: &str) -> Result<u32, TableFault> {
+    Ok(version(alloc, data, exclusions)?.count())
 }
 
 #[test]
-fn a_version_tells_what_the_files_say(rt: HostRuntime) -> Result<(), Fail> {
-    let v1 = version(rt.alloc(), V1_DATA, V1_EXCLUSIONS)?;
+fn code_points_are_counted(rt: HostRuntime) -> Result<(), Fail> {
+    let alloc = rt.alloc();
+    assert_eq!(rt; count_of(alloc, "", "")?, 0);
+    assert_eq!(rt; count_of(alloc, V1_DATA, V1_EXCLUSIONS)?, 17_660);
+    assert_eq!(rt; count_of(alloc, V2_DATA, V2_EXCLUSIONS)?, 17_666);
+    Ok(())
+}
+
+fn tells_its_files(rt: &impl Abort, v1: &Version) {
     assert!(rt; v1.assigned_code(0xE001) && !v1.assigned_code(0x16D67));
     assert_eq!(rt; v1.class_of(0x323), 220);
     assert_eq!(rt; v1.class_of(0x110000), 0);
@@ -60,84 +69,89 @@ fn a_version_tells_what_the_files_say(rt: HostRuntime) -> Result<(), Fail> {
     assert_eq!(rt; v1.mapping_of(0x1EAD), ['\u{1EA1}', '\u{302}'].as_slice());
     assert!(rt; v1.is_excluded(0x958) && !v1.is_excluded(0xC5));
     assert!(rt; v1.has_hangul());
+}
+
+#[test]
+fn a_version_tells_what_the_files_say(rt: HostRuntime) -> Result<(), Fail> {
+    let v1 = version(rt.alloc(), V1_DATA, V1_EXCLUSIONS)?;
+    tells_its_files(&rt, &v1);
     Ok(())
+}
+
+fn has_composites(rt: &impl Abort, v1: &Version) {
+    // a pair, a syllable of two parts and one of three
+    assert!(rt; v1.is_primary(0xC5) && v1.is_primary(0xAC00) && v1.is_primary(0xAC01));
+    // a singleton, a pair that begins with a non-starter, an exclusion, a compatibility mapping
+    assert!(rt; !v1.is_primary(0x212B) && !v1.is_primary(0x344));
+    assert!(rt; !v1.is_primary(0x958) && !v1.is_primary(0xFB01));
+}
+
+fn has_no_syllables(rt: &impl Abort, s: &Version) {
+    assert!(rt; !s.has_hangul() && !s.is_primary(0xAC00) && s.is_primary(0xF000));
 }
 
 #[test]
 fn composites_are_told_apart(rt: HostRuntime) -> Result<(), Fail> {
     let v1 = version(rt.alloc(), V1_DATA, V1_EXCLUSIONS)?;
-    // a pair, a syllable of two parts and one of three
-    assert!(rt; v1.is_primary(0xC5) && v1.is_primary(0xAC00) && v1.is_primary(0xAC01));
-    // a singleton, a pair that begins with a mark, an exclusion, a compatibility mapping
-    assert!(rt; !v1.is_primary(0x212B) && !v1.is_primary(0x344));
-    assert!(rt; !v1.is_primary(0x958) && !v1.is_primary(0xFB01));
-    let s = version(rt.alloc(), S_DATA, S_EXCLUSIONS)?;
-    assert!(rt; !s.has_hangul() && !s.is_primary(0xAC00) && s.is_primary(0xF000));
+    has_composites(&rt, &v1);
     Ok(())
 }
 
 #[test]
-fn a_starter_that_maps_to_marks_is_no_composite(rt: HostRuntime) -> Result<(), Fail> {
+fn syllables_need_their_jamo(rt: HostRuntime) -> Result<(), Fail> {
+    let s = version(rt.alloc(), S_DATA, S_EXCLUSIONS)?;
+    has_no_syllables(&rt, &s);
+    Ok(())
+}
+
+#[test]
+fn a_starter_that_maps_to_non_starters_is_no_composite(rt: HostRuntime) -> Result<(), Fail> {
     let data = "\
 0F71;X;Mn;129;L;;;;;N;;;;;
 0F72;X;Mn;130;L;;;;;N;;;;;
 0F73;X;Mn;0;L;0F71 0F72;;;;N;;;;;
 ";
-    let marks = version(rt.alloc(), data, "")?;
-    assert_eq!(rt; marks.class_of(0xF73), 0);
-    assert!(rt; !marks.is_primary(0xF73));
+    let starter = version(rt.alloc(), data, "")?;
+    assert_eq!(rt; starter.class_of(0xF73), 0);
+    assert!(rt; !starter.is_primary(0xF73));
     Ok(())
+}
+
+/// The fault of the first fixture with other lines in place of one.
+fn fault_of_edit(alloc: Global, line: &str, lines: &str) -> Result<Option<TableFault>, AllocError> {
+    let data = edited(alloc, V1_DATA, line, lines)?;
+    Ok(fault(alloc, &data, V1_EXCLUSIONS))
 }
 
 #[test]
 fn faults_are_told(rt: HostRuntime) -> Result<(), Fail> {
-    let alloc = rt.alloc();
-    let lacks = edited(alloc, V1_DATA, "030A;X;Mn;230;L;;;;;N;;;;;", "")?;
-    assert_eq!(rt;
-        fault(alloc, &lacks, V1_EXCLUSIONS),
-        Some(TableFault::MapsToUnassigned { code: 0xC5 })
-    );
-    let circle = edited(
-        alloc,
-        V1_DATA,
+    let lacks = fault_of_edit(rt.alloc(), "030A;X;Mn;230;L;;;;;N;;;;;", "")?;
+    assert!(rt; lacks == Some(TableFault::MapsToUnassigned { code: 0xC5 }));
+    let circle = fault_of_edit(
+        rt.alloc(),
         "0041;X;Lu;0;L;;;;;N;;;;;",
         "0041;X;Lu;0;L;0041;;;;N;;;;;\n",
     )?;
-    assert_eq!(rt;
-        fault(alloc, &circle, V1_EXCLUSIONS),
-        Some(TableFault::TooDeep { code: 0x41 })
-    );
-    let twins = edited(
-        alloc,
-        V1_DATA,
+    assert!(rt; circle == Some(TableFault::TooDeep { code: 0x41 }));
+    let twins = fault_of_edit(
+        rt.alloc(),
         "00C5;X;Lu;0;L;0041 030A;;;;N;;;;;",
         "00C4;X;Lu;0;L;0041 030A;;;;N;;;;;\n00C5;X;Lu;0;L;0041 030A;;;;N;;;;;\n",
     )?;
-    assert_eq!(rt;
-        fault(alloc, &twins, V1_EXCLUSIONS),
-        Some(TableFault::AmbiguousPair { code: 0xC5 })
-    );
+    assert!(rt; twins == Some(TableFault::AmbiguousPair { code: 0xC5 }));
     Ok(())
 }
 
 #[test]
 fn jamo_and_syllables_come_whole(rt: HostRuntime) -> Result<(), Fail> {
-    let alloc = rt.alloc();
-    let short = edited(
-        alloc,
-        V1_DATA,
+    let short = fault_of_edit(
+        rt.alloc(),
         "11C2;<R, Last>;Lo;0;L;;;;;N;;;;;",
         "11C1;<R, Last>;Lo;0;L;;;;;N;;;;;\n",
     )?;
-    assert_eq!(rt;
-        fault(alloc, &short, V1_EXCLUSIONS),
-        Some(TableFault::HangulWrong { code: 0x11C2 })
-    );
+    assert!(rt; short == Some(TableFault::HangulWrong { code: 0x11C2 }));
     let lone = "1100;X;Lo;0;L;;;;;N;;;;;";
-    assert_eq!(rt;
-        fault(alloc, lone, ""),
-        Some(TableFault::HangulWrong { code: 0x1101 })
-    );
+    assert!(rt; fault(rt.alloc(), lone, "") == Some(TableFault::HangulWrong { code: 0x1101 }));
     Ok(())
 }
 
@@ -164,6 +178,25 @@ fn a_long_decomposition_is_told(rt: HostRuntime) -> Result<(), Fail> {
     Ok(())
 }
 
+/// Fails unless the fault is told in these words.
+fn wants_words(alloc: Global, fault: TableFault, words: &str) -> Result<(), Fail> {
+    let told = format!(in alloc; "{fault}")?;
+    want(told.as_str() == words, words)
+}
+
+#[test]
+fn faults_are_told_in_words(rt: HostRuntime) -> Result<(), Fail> {
+    let deep = "0041 has mappings that lead deeper than 32, or in a circle";
+    wants_words(rt.alloc(), TableFault::TooDeep { code: 0x41 }, deep)?;
+    let twin = "16D69 has the pair of a smaller primary composite";
+    wants_words(
+        rt.alloc(),
+        TableFault::AmbiguousPair { code: 0x16D69 },
+        twin,
+    )?;
+    wants_words(rt.alloc(), TableFault::Memory, "out of memory")
+}
+
 #[test]
 fn faults_have_names_and_code_points(rt: HostRuntime) -> Result<(), Fail> {
     assert_eq!(rt; TableFault::TooDeep { code: 0x41 }.name(), "TooDeep");
@@ -172,16 +205,93 @@ fn faults_have_names_and_code_points(rt: HostRuntime) -> Result<(), Fail> {
     Ok(())
 }
 
-#[test]
-fn a_table_answers_by_its_version(rt: HostRuntime) -> Result<(), Fail> {
-    let v1 = version(rt.alloc(), V1_DATA, V1_EXCLUSIONS)?;
-    let table = RowTable::new(rt.alloc(), v1)?;
+fn answers_pairs(rt: &impl Abort, table: &RowTable) {
     assert_eq!(rt; table.version().count(), 17_660);
     assert_eq!(rt; table.class('\u{302}'), 230);
     assert!(rt; table.hangul() && table.assigned('\u{212B}') && !table.assigned('\u{16D67}'));
     assert_eq!(rt; table.pair('\u{1EA1}', '\u{302}'), Some('\u{1EAD}'));
     assert_eq!(rt; table.pair('\u{AC00}', '\u{11A8}'), Some('\u{AC01}'));
     assert_eq!(rt; table.pair('\u{915}', '\u{93C}'), None);
+}
+
+// The pairs of the first fixture, from the least to the greatest, and neighbours that are none.
+const PAIRS: [(char, char, Option<char>); 10] = [
+    ('\u{41}', '\u{30A}', Some('\u{C5}')),
+    ('\u{61}', '\u{302}', Some('\u{E2}')),
+    ('\u{61}', '\u{323}', Some('\u{1EA1}')),
+    ('\u{1EA1}', '\u{302}', Some('\u{1EAD}')),
+    ('\u{40}', '\u{30A}', None),
+    ('\u{41}', '\u{308}', None),
+    ('\u{61}', '\u{30A}', None),
+    ('\u{1EA1}', '\u{323}', None),
+    ('\u{212B}', '\u{302}', None),
+    ('\u{10FFFF}', '\u{10FFFF}', None),
+];
+
+fn has_pairs(table: &RowTable, rows: &[(char, char, Option<char>)]) -> Result<(), Fail> {
+    for (first, second, composite) in rows {
+        want(table.pair(*first, *second) == *composite, "a pair")?;
+    }
+    Ok(())
+}
+
+#[test]
+fn each_pair_is_found_and_no_other(rt: HostRuntime) -> Result<(), Fail> {
+    let table = table_of(rt.alloc(), V1_DATA, V1_EXCLUSIONS)?;
+    has_pairs(&table, &PAIRS)
+}
+
+const LAST: &str = "0061;X;Ll;0;L;;;;;N;;;;;\n10FFFF;X;Co;7;L;<compat> 0061;;;;N;;;;;\n";
+
+fn answers_the_last(table: &RowTable) -> Result<(), Fail> {
+    want(table.version().count() == 2, "two are assigned")?;
+    want(table.assigned('\u{10FFFF}'), "the last is assigned")?;
+    want(!table.assigned('\u{10FFFE}'), "the one before is not")?;
+    want(table.class('\u{10FFFF}') == 7, "the last has its class")?;
+    want(
+        table.full('\u{10FFFF}', true) == ['a'].as_slice(),
+        "and its mapping",
+    )
+}
+
+#[test]
+fn the_last_code_point_is_one_like_others(rt: HostRuntime) -> Result<(), Fail> {
+    let table = table_of(rt.alloc(), LAST, "")?;
+    answers_the_last(&table)
+}
+
+const MANY: u32 = 70_000;
+
+/// A data file of 0061 and `MANY` code points from 20000 on, which map to it for compatibility.
+fn many_rows(alloc: Global) -> Result<String, Fail> {
+    let mut data = String::new(alloc);
+    data.push_str("0061;X;Ll;0;L;;;;;N;;;;;\n")?;
+    for place in 0..MANY {
+        write_code(&mut data, 0x20000 + place)?;
+        data.push_str(";X;Lo;0;L;<compat> 0061;;;;N;;;;;\n")?;
+    }
+    Ok(data)
+}
+
+fn answers_many(table: &RowTable) -> Result<(), Fail> {
+    want(table.version().count() == MANY + 1, "all are assigned")?;
+    // 20000 and 69,999 more
+    let last = '\u{3116F}';
+    want(
+        table.full(last, true) == ['a'].as_slice(),
+        "the last one maps",
+    )?;
+    want(!table.assigned('\u{31170}'), "none is behind it")
+}
+
+#[test]
+fn many_rows_have_memory(rt: HostRuntime) -> Result<(), Fail> {
+    let data = many_rows(rt.alloc())?;
+    let table = table_of(rt.alloc(), data.as_str(), "")?;
+    answers_many(&table)
+}
+
+fn answers_fulls(rt: &impl Abort, table: &RowTable) {
     assert_eq!(rt;
         table.full('\u{1EAD}', false),
         ['\u{61}', '\u{323}', '\u{302}'].as_slice()
@@ -191,20 +301,44 @@ fn a_table_answers_by_its_version(rt: HostRuntime) -> Result<(), Fail> {
         ['\u{66}', '\u{69}'].as_slice()
     );
     assert_eq!(rt; table.full('\u{FB01}', false), [].as_slice());
-    Ok(())
+}
+
+/// A table of the version that two texts give.
+fn table_of(alloc: Global, data: &str, exclusions: &str) -> Result<RowTable, Fail> {
+    let version = version(alloc, data, exclusions)?;
+    Ok(RowTable::new(alloc, version)?)
 }
 
 #[test]
-fn syllables_go_by_arithmetic(rt: HostRuntime) -> Result<(), Fail> {
-    let v1 = version(rt.alloc(), V1_DATA, V1_EXCLUSIONS)?;
-    let table = RowTable::new(rt.alloc(), v1)?;
+fn a_table_answers_by_its_version(rt: HostRuntime) -> Result<(), Fail> {
+    let table = table_of(rt.alloc(), V1_DATA, V1_EXCLUSIONS)?;
+    answers_pairs(&rt, &table);
+    answers_fulls(&rt, &table);
+    Ok(())
+}
+
+fn answers_syllables(rt: &impl Abort, table: &RowTable) {
     // 11A7 is no trailing consonant
     assert_eq!(rt; table.pair('\u{AC00}', '\u{11A7}'), None);
     assert_eq!(rt; table.pair('\u{1112}', '\u{1175}'), Some('\u{D788}'));
     assert_eq!(rt; table.full('\u{AC01}', false), [].as_slice());
-    let s = version(rt.alloc(), S_DATA, S_EXCLUSIONS)?;
-    let off = RowTable::new(rt.alloc(), s)?;
+}
+
+fn answers_no_syllables(rt: &impl Abort, off: &RowTable) {
     assert!(rt; !off.hangul());
     assert_eq!(rt; off.pair('\u{1100}', '\u{1161}'), None);
+}
+
+#[test]
+fn syllables_go_by_arithmetic(rt: HostRuntime) -> Result<(), Fail> {
+    let table = table_of(rt.alloc(), V1_DATA, V1_EXCLUSIONS)?;
+    answers_syllables(&rt, &table);
+    Ok(())
+}
+
+#[test]
+fn no_syllable_goes_by_arithmetic_where_the_jamo_lack(rt: HostRuntime) -> Result<(), Fail> {
+    let off = table_of(rt.alloc(), S_DATA, S_EXCLUSIONS)?;
+    answers_no_syllables(&rt, &off);
     Ok(())
 }

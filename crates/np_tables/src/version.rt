@@ -1,9 +1,11 @@
 //! Versions of the character tables (UAX #44).
-ghost use Rattle.std.specs.Prelude.{◌≡◌, ◌⊎◌, IfOk, OnOk, IfErr};
+ghost use Rattle.std.specs.Prelude.{◌≡◌, ◌↔◌, ◌⊎◌, IfOk, OnOk, IfErr, IsTrue};
 ghost use Rattle.np_tables.specs.TableFaults.{IsFaultless, IsLeastFault};
 ghost use Rattle.np_tables.specs.declared.faults.TableFault.TheVariants.{Memory as OutOfMemory};
-ghost use Rattle.np_tables.specs.Composites.{is_primary};
+ghost use Rattle.np_tables.specs.Composites.{IsPrimary};
+ghost use Rattle.np_tables.specs.inside.Primaries.{is_primary};
 ghost use Rattle.np_tables.specs.Conditions.{IsSound};
+ghost use Rattle.np_tables.specs.inside.Pairs.{AreOfFile};
 ghost use Rattle.np_tables.specs.Counts.{assigned_count};
 ghost use Rattle.np_tables.specs.Versions.{class_of, file_kind, file_mapping, has_hangul, is_assigned, is_excluded};
 
@@ -11,6 +13,7 @@ use crate::characters::CharacterData;
 use crate::counts::assigned_count as count_of;
 use crate::faults::TableFault;
 use crate::first_faults::fault_of;
+use crate::pairs::Pairs;
 use np_ucd::{Exclusions, MapKind, Rows};
 use std::alloc::Global;
 use std::marker::Model;
@@ -21,6 +24,7 @@ use std::marker::Model;
 #[derive(Drop)]
 pub struct Version {
     characters: CharacterData,
+    pairs: Pairs,
     count: u32,
 }
 
@@ -29,12 +33,13 @@ impl Model for Version {
     ghost use Rattle.np_tables.specs.Conditions.{IsSound};
     ghost use Rattle.np_tables.specs.Counts.{assigned_count};
     ghost use Rattle.np_tables.specs.Versions.{VersionData};
+    ghost use Rattle.np_tables.specs.inside.Pairs.{AreOfFile};
 
     ghost Value = { VersionData };
 
     ghost view = { λ a. a.characters };
 
-    ghost invariant = { λ a. IsSound a.characters × (a.count ≡ assigned_count a.characters) };
+    ghost invariant = { λ a. IsSound a.characters × AreOfFile a.characters a.pairs × (a.count ≡ assigned_count a.characters) };
 }
 
 impl Version {
@@ -47,20 +52,33 @@ impl Version {
         ensures fault { IfErr result (λ f. (f ≡ OutOfMemory) ⊎ IsLeastFault (record { entries = rows; exclusions = exclusions }) f) }
     {
         let characters = CharacterData::new(alloc, rows, exclusions)?;
-        match fault_of(alloc, &characters)? {
+        let pairs = Pairs::new(alloc, &characters)?;
+        match fault_of(alloc, &characters, &pairs)? {
             Some(fault) => Err(fault),
-            None => Ok(Version::of_faultless(characters)),
+            None => Ok(Version::of_faultless(characters, pairs)),
         }
     }
 
     /// The version of these characters.
-    fn of_faultless(characters: CharacterData) -> Version
-        requires { IsFaultless characters }
+    fn of_faultless(characters: CharacterData, pairs: Pairs) -> Version
+        requires faultless { IsFaultless characters }
+        requires pairs { AreOfFile characters pairs }
         ensures { result ≡ characters }
     {
-        let _ = characters.len();
+        characters.are_in_order();
         let count = count_of(&characters);
-        Version { characters, count }
+        Version {
+            characters,
+            pairs,
+            count,
+        }
+    }
+
+    /// Does nothing at run time: the version meets the conditions, as each that was built does.
+    pub fn meets_conditions(&self)
+        ensures { IsSound self.now }
+    {
+        let _ = &self.characters;
     }
 
     /// What the two files say of each code point.
@@ -69,6 +87,13 @@ impl Version {
         ensures sound { IsSound self.now }
     {
         &self.characters
+    }
+
+    /// The primary composites of the data file, in the order of their pairs.
+    pub(crate) fn pairs(&self) -> &Pairs
+        ensures { AreOfFile self.now result.now }
+    {
+        &self.pairs
     }
 
     /// Whether a code point is assigned: listed, alone or inside a range.
@@ -109,7 +134,8 @@ impl Version {
     /// Whether a code point is a primary composite (The Unicode Standard, D114): syllables are,
     /// where the Hangul arithmetic is on.
     pub fn is_primary(&self, code: u32) -> bool
-        ensures { result ≡ is_primary self.now code }
+        ensures primary { IsTrue result ↔ IsPrimary self.now code }
+        ensures value { result ≡ is_primary self.now code }
     {
         self.characters.is_primary(code)
     }

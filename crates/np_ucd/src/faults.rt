@@ -9,40 +9,40 @@ use thiserror::Error;
 #[derive(Clone, Copy, Debug, PartialEq, Eq, Error)]
 pub enum UcdFault {
     /// A record has not exactly 15 fields.
-    #[error("line {line}: not 15 fields")]
+    #[error("line {line}: not exactly 15 fields")]
     FieldCount { line: u64 },
     /// A code point is not 4 to 6 hexadecimal digits of at most 10FFFF.
-    #[error("line {line}: no code point")]
+    #[error("line {line}: not 4 to 6 hexadecimal digits of at most 10FFFF")]
     BadCode { line: u64 },
     /// A code point is not greater than that of the record before.
-    #[error("line {line}: out of order")]
+    #[error("line {line}: the code point is not above the one before")]
     OutOfOrder { line: u64 },
     /// A category is not two ASCII letters, or is `Cn`.
-    #[error("line {line}: no category")]
+    #[error("line {line}: the category is not two letters, or is Cn")]
     BadCategory { line: u64 },
     /// A combining class is not 1 to 3 digits of at most 254.
-    #[error("line {line}: no combining class")]
+    #[error("line {line}: the combining class is not 1 to 3 digits of at most 254")]
     BadClass { line: u64 },
     /// A mapping can't be read, or is a surrogate's.
-    #[error("line {line}: no mapping")]
+    #[error("line {line}: the mapping cannot be read")]
     BadMapping { line: u64 },
     /// A range has a first record and no last one.
-    #[error("line {line}: a range is left open")]
+    #[error("line {line}: a range has a first record and no last one")]
     RangeOpen { line: u64 },
     /// A range has a last record and no first one.
-    #[error("line {line}: a range has no first record")]
+    #[error("line {line}: a range has a last record and no first one")]
     RangeLone { line: u64 },
     /// The two records of a range differ in category or class.
-    #[error("line {line}: a range's records differ")]
+    #[error("line {line}: the two records of a range differ in category or class")]
     RangeDiffers { line: u64 },
     /// A record of a range has a mapping.
-    #[error("line {line}: a range has a mapping")]
+    #[error("line {line}: a record of a range has a mapping")]
     RangeMaps { line: u64 },
     /// The file has more than 16,777,216 bytes.
-    #[error("more than 16777216 bytes")]
+    #[error("more than 16,777,216 bytes")]
     TooLarge,
     /// The device failed at a read.
-    #[error("a read failed")]
+    #[error("read failed")]
     ReadFailed,
     /// Memory ran out.
     #[error("out of memory")]

@@ -61,6 +61,13 @@ impl Rows {
         Rows { rows }
     }
 
+    /// Does nothing at run time: the rows are those of a data file, in their order.
+    pub fn are_in_order(&self)
+        ensures { AreRows self.now }
+    {
+        let _ = &self.rows;
+    }
+
     /// How many rows there are.
     pub fn len(&self) -> usize
         ensures count { result ≡ length self.now }

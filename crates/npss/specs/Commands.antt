@@ -1,5 +1,5 @@
 -- The commands, options and places of the command line, as `clap` reads them.
-use Rattle.std.specs.Prelude.{ℕ, true, Some, codes}
+use Rattle.std.specs.Prelude.{true, Some, codes}
 use Rattle.clap.specs.Words.{App, Rule, Text, new_app, new_rule, with_rule, with_subcommand}
 use Rattle.clap.specs.declared.builder.action.ArgAction.TheVariants.{Set}
 
@@ -11,21 +11,21 @@ form_rule = record (new_rule (codes "form")) {
   action = Some Set;
 }
 
--- n files
-abbrev pub files_rule : ℕ → Rule
-files_rule n = record (new_rule (codes "files")) {
-  range = Some (record { start_inclusive = n; end_inclusive = n });
-  required = true;
-  action = Some Set;
-}
+-- a file
+abbrev pub file_rule : Text → Rule
+file_rule name = record (new_rule name) { required = true; action = Some Set }
+
+-- the two files of a version
+abbrev pub with_files : App → Text → Text → App
+with_files a data_file exclusions_file = with_rule (with_rule a (file_rule data_file)) (file_rule exclusions_file)
 
 -- NAME --form FORM DATA EXCL
 abbrev pub text_app : Text → App
-text_app name = with_rule (with_rule (new_app name) form_rule) (files_rule 2)
+text_app name = with_files (with_rule (new_app name) form_rule) (codes "DATA") (codes "EXCL")
 
 -- audit OLDDATA OLDEXCL NEWDATA NEWEXCL
 abbrev pub audit_app : App
-audit_app = with_rule (new_app (codes "audit")) (files_rule 4)
+audit_app = with_files (with_files (new_app (codes "audit")) (codes "OLDDATA") (codes "OLDEXCL")) (codes "NEWDATA") (codes "NEWEXCL")
 
 -- the words begin with a command
 abbrev pub with_settings : App → App

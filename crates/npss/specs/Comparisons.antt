@@ -1,14 +1,15 @@
 -- How `compare` ends.
-use Rattle.std.specs.Prelude.{◌≡◌, ◌≢◌, ℕ, ◌<◌, ◌⊎◌, ◌↔◌, Bool, true, false, List, [], ◌∷◌, ◌++◌, length, slice_index, IsTrue, Result, Ok, Err, chars, codes, if◌then◌else◌}
+use Rattle.std.specs.Prelude.{◌≡◌, ◌≢◌, ℕ, ◌<◌, ◌⊎◌, ◌↔◌, Bool, List, [], ◌∷◌, ◌++◌, length, slice_index, IsTrue, chars, codes, if◌then◌else◌}
 use Rattle.np_code_points.specs.Forms.{is_compat}
 use Rattle.np_code_points.specs.declared.forms.Form.{Form}
 use Rattle.np_forms.specs.Assigned.{IsAssigned, IsFirstUnassigned}
 use Rattle.np_forms.specs.Forms.{IsEquivalent}
 use Rattle.np_tables.specs.Versions.{VersionData}
-use Rattle.npss.specs.Ends.{Streams, HasText, IsEarlyFault}
-use Rattle.npss.specs.Statuses.{JobFault}
-use Rattle.npss.specs.Streams.{IsUntouched, WasWritten, WasCutShort}
-use Rattle.npss.specs.declared.jobs.faults.JobFault.TheVariants.{TwoLinesWanted, FirstUnassigned, SecondUnassigned, WriteFailed, Memory}
+use Rattle.npss.specs.Ends.{Ends}
+use Rattle.npss.specs.Streams.{Stream}
+use Rattle.npss.specs.Texts.{TextReaders, MakesOfText, RefusesText}
+use Rattle.npss.specs.declared.jobs.faults.TextFault.{TextFault}
+use Rattle.npss.specs.declared.jobs.faults.TextFault.TheVariants.{TwoLinesWanted, FirstUnassigned, SecondUnassigned, Memory}
 
 -- no LF (10) is among the bytes
 abbrev pub HasNoFeed : List ℕ → Type 0
@@ -25,70 +26,36 @@ pub record AreTwoLines (bytes first second : List ℕ) : Type 0 where
   pub least : HasNoFeed first
   pub last : IsWithoutLastFeed rest second
 
--- the two strings of the input
-pub record HasStrings (s : Streams) (v : VersionData) (first second : List ℕ) : Type 0 where
-  pub bytes : List ℕ
-  pub text : HasText s v bytes
-  pub lines : AreTwoLines bytes first second
-
 abbrev pub answer_text : Bool → List ℕ
-answer_text equal = if equal then codes "equal\n" else codes "different\n"
+answer_text is_yes = if is_yes then codes "equal\n" else codes "different\n"
 
--- whether both strings are equivalent, of which each is assigned
-pub record Compares (s : Streams) (form : Form) (equal : Bool) (P : List ℕ → Type 0) : Type 0 where
-  pub v : VersionData
-  pub first : List ℕ
-  pub second : List ℕ
-  pub strings : HasStrings s v first second
+-- whether two strings are equivalent, canonically, or compatibly for NFKD and NFKC, of which each is assigned
+pub record IsComparison (form : Form) (v : VersionData) (first second : List ℕ) (is_yes : Bool) : Type 0 where
   pub first_assigned : IsAssigned v (chars first)
   pub second_assigned : IsAssigned v (chars second)
-  pub answer : IsTrue equal ↔ IsEquivalent v (is_compat form) (chars first) (chars second)
-  pub writes : P (answer_text equal)
+  pub answer : IsTrue is_yes ↔ IsEquivalent v (is_compat form) (chars first) (chars second)
 
--- the input has no LF
-pub record HasOneLine (s : Streams) : Type 0 where
-  pub v : VersionData
-  pub bytes : List ℕ
-  pub text : HasText s v bytes
-  pub feeds : HasNoFeed bytes
-  pub output : IsUntouched s.output
+-- the first string's first unassigned code point; the second's, where the first is assigned; or memory ran out, where both are
+abbrev pub LacksComparison : VersionData → List ℕ → List ℕ → TextFault → Type 0
+LacksComparison v first second fault =
+    ((at : ℕ) × (code : ℕ) × (fault ≡ FirstUnassigned at code) × IsFirstUnassigned v (chars first) at code)
+    ⊎ (((at : ℕ) × (code : ℕ) × (fault ≡ SecondUnassigned at code) × IsAssigned v (chars first) × IsFirstUnassigned v (chars second) at code)
+    ⊎ ((fault ≡ Memory) × IsAssigned v (chars first) × IsAssigned v (chars second)))
 
--- the first string's first unassigned code point
-pub record LacksFirst (s : Streams) (at code : ℕ) : Type 0 where
-  pub v : VersionData
+-- the comparison of the two lines of a text
+pub record IsAnswer (form : Form) (v : VersionData) (text : List ℕ) (is_yes : Bool) (bytes : List ℕ) : Type 0 where
   pub first : List ℕ
   pub second : List ℕ
-  pub strings : HasStrings s v first second
-  pub lacks : IsFirstUnassigned v (chars first) at code
-  pub output : IsUntouched s.output
+  pub lines : AreTwoLines text first second
+  pub is : IsComparison form v first second is_yes
+  pub bytes_are : bytes ≡ answer_text is_yes
 
--- the second string's, where the first is assigned
-pub record LacksSecond (s : Streams) (at code : ℕ) : Type 0 where
-  pub v : VersionData
-  pub first : List ℕ
-  pub second : List ℕ
-  pub strings : HasStrings s v first second
-  pub assigned : IsAssigned v (chars first)
-  pub lacks : IsFirstUnassigned v (chars second) at code
-  pub output : IsUntouched s.output
+-- the text has no LF, or its two lines can't be compared
+abbrev pub LacksAnswer : VersionData → List ℕ → TextFault → Type 0
+LacksAnswer v text fault =
+    ((fault ≡ TwoLinesWanted) × HasNoFeed text)
+    ⊎ ((first : List ℕ) × (second : List ℕ) × AreTwoLines text first second × LacksComparison v first second fault)
 
--- `compare`: whether both strings are equivalent, canonically, or compatibly for NFKD and NFKC
-abbrev pub CompareEnds : Form → Streams → Result Bool JobFault → Type 0
-CompareEnds form s (Ok equal) = Compares s form equal (WasWritten s.output)
-CompareEnds form s (Err WriteFailed) = (equal : Bool) × Compares s form equal (WasCutShort s.output)
-CompareEnds form s (Err TwoLinesWanted) = HasOneLine s
-CompareEnds form s (Err (FirstUnassigned at code)) = LacksFirst s at code
-CompareEnds form s (Err (SecondUnassigned at code)) = LacksSecond s at code
-CompareEnds form s (Err fault) = IsEarlyFault s fault
-
--- the comparison of two texts, alone
-pub record IsComparison (v : VersionData) (form : Form) (first second : List ℕ) (equal : Bool) : Type 0 where
-  pub first_assigned : IsAssigned v first
-  pub second_assigned : IsAssigned v second
-  pub answer : IsTrue equal ↔ IsEquivalent v (is_compat form) first second
-
-abbrev pub IsComparisonFault : VersionData → List ℕ → List ℕ → JobFault → Type 0
-IsComparisonFault v first second (FirstUnassigned at code) = IsFirstUnassigned v first at code
-IsComparisonFault v first second (SecondUnassigned at code) = IsAssigned v first × IsFirstUnassigned v second at code
-IsComparisonFault v first second Memory = Unit {0}
-IsComparisonFault v first second _ = ⊥
+-- `compare`: whether the two lines of the input are equivalent
+abbrev pub CompareEnds : Form → TextReaders → Stream → Stream → ℕ → Type 0
+CompareEnds form readers output error status = Ends (MakesOfText (IsAnswer form) readers) (RefusesText LacksAnswer readers) output error status

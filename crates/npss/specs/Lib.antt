@@ -2,7 +2,13 @@ pub mod Audits
 pub mod Commands
 pub mod Comparisons
 pub mod Ends
+pub mod Keys
+pub mod Lines
+pub mod NormalForms
 pub mod Statuses
 pub mod Streams
+pub mod Texts
+pub mod Usage
 pub mod Versions
 pub mod Words
+pub mod inside

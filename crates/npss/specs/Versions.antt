@@ -1,79 +1,73 @@
 -- How a job reads the two files of a version, and builds it.
-use Rattle.std.specs.Prelude.{◌≡◌, ℕ, List, Option, Some, None}
+use Rattle.std.specs.Prelude.{◌≡◌, ◌↔◌, ◌⊎◌, ℕ, true, List, Option, None}
 use Rattle.np_tables.specs.TableFaults.{IsFaultless, IsLeastFault}
 use Rattle.np_tables.specs.Versions.{VersionData}
 use Rattle.np_tables.specs.declared.faults.TableFault.{TableFault}
-use Rattle.np_ucd.specs.Files.{first_fault, rows_in}
-use Rattle.np_ucd.specs.Listed.{is_listed}
+use Rattle.np_tables.specs.declared.faults.TableFault.TheVariants.{Memory}
+use Rattle.np_ucd.specs.Entries.{Entry}
 use Rattle.np_ucd.specs.Exclusions.{exclusions_fault, spans_in}
+use Rattle.np_ucd.specs.Files.{first_fault, rows_in}
+use Rattle.np_ucd.specs.Listed.{Span, is_listed}
+use Rattle.np_ucd.specs.Reading.{IsRefused}
 use Rattle.np_ucd.specs.declared.faults.UcdFault.{UcdFault}
-use Rattle.np_ucd.specs.declared.faults.UcdFault.TheVariants.{TooLarge as FileTooLarge, ReadFailed as FileReadFailed, Memory as FileMemory}
-use Rattle.npss.specs.Statuses.{JobFault}
-use Rattle.npss.specs.Streams.{Stream, IsUntouched, WasRead, WasTooLarge, HasFailed}
-use Rattle.npss.specs.declared.jobs.faults.JobFault.TheVariants.{Data, Exclusions, Tables, Input, NotUtf8, TwoLinesWanted, Unassigned, FirstUnassigned, SecondUnassigned, WriteFailed, Memory}
+use Rattle.np_ucd.specs.declared.faults.UcdFault.TheVariants.{ReadFailed}
+use Rattle.npss.specs.Streams.{Stream, IsUntouched, WasRead}
+use Rattle.npss.specs.declared.jobs.faults.VersionFault.{VersionFault}
+use Rattle.npss.specs.declared.jobs.faults.VersionFault.TheVariants.{Data, Exclusions, Tables}
 
 -- the data file was read, has no fault, and has these rows
-pub record HasRows (rows_file : Stream) (v : VersionData) : Type 0 where
+pub record HasRows (data_file : Stream) (rows : List Entry) : Type 0 where
   pub bytes : List ℕ
-  pub read : WasRead rows_file bytes
+  pub read : WasRead data_file bytes
   pub faultless : first_fault bytes ≡ None
-  pub rows : v.entries ≡ rows_in bytes
+  pub are : rows ≡ rows_in bytes
 
 -- the exclusions file was read, has no fault, and lists these code points
-pub record HasExclusions (listed_file : Stream) (v : VersionData) : Type 0 where
+pub record HasExclusions (exclusions_file : Stream) (exclusions : List Span) : Type 0 where
   pub bytes : List ℕ
-  pub read : WasRead listed_file bytes
+  pub read : WasRead exclusions_file bytes
   pub faultless : exclusions_fault bytes ≡ None
-  pub same : (c : ℕ) → is_listed v.exclusions c ≡ is_listed (spans_in bytes) c
+  pub same : (c : ℕ) → is_listed exclusions c ≡ is_listed (spans_in bytes) c
 
 -- the two files make this version
-pub record WasBuilt (rows_file listed_file : Stream) (v : VersionData) : Type 0 where
-  pub rows : HasRows rows_file v
-  pub listed : HasExclusions listed_file v
+pub record WasBuilt (data_file exclusions_file : Stream) (v : VersionData) : Type 0 where
+  pub rows : HasRows data_file v.entries
+  pub listed : HasExclusions exclusions_file v.exclusions
   pub faultless : IsFaultless v
 
--- why a file was refused: at its first fault, where it was read
-abbrev pub WasRefused : (List ℕ → Option UcdFault) → Stream → UcdFault → Type 0
-WasRefused fault_in file FileTooLarge = WasTooLarge file
-WasRefused fault_in file FileReadFailed = HasFailed file
-WasRefused fault_in file FileMemory = ⊥
-WasRefused fault_in file fault = (bytes : List ℕ) × WasRead file bytes × (fault_in bytes ≡ Some fault)
+-- why a file was refused: at its first fault, where it was read whole; else it was read in part, and the device failed exactly where that is the reason
+pub record WasRefused (fault_in : List ℕ → Option UcdFault) (file : Stream) (fault : UcdFault) : Type 0 where
+  pub how : IsRefused fault_in file.before file.after fault
+  pub failed : (fault ≡ ReadFailed) ↔ (file.failed ≡ true)
 
--- the tables that the two files make have this fault, the least one
-pub record HasTableFault (rows_file listed_file : Stream) (fault : TableFault) : Type 0 where
+-- the data file was refused
+pub record IsDataFault (number : ℕ) (data_file : Stream) (fault : VersionFault) : Type 0 where
+  pub file_fault : UcdFault
+  pub is : fault ≡ Data number file_fault
+  pub refused : WasRefused first_fault data_file file_fault
+
+-- the exclusions file was refused
+pub record IsExclusionsFault (number : ℕ) (exclusions_file : Stream) (fault : VersionFault) : Type 0 where
+  pub file_fault : UcdFault
+  pub is : fault ≡ Exclusions number file_fault
+  pub refused : WasRefused exclusions_fault exclusions_file file_fault
+
+-- the tables have this fault, the least one, or memory ran out
+pub record IsTablesFault (number : ℕ) (v : VersionData) (fault : VersionFault) : Type 0 where
+  pub table_fault : TableFault
+  pub is : fault ≡ Tables number table_fault
+  pub refused : (table_fault ≡ Memory) ⊎ IsLeastFault v table_fault
+
+-- the tables that the two files make were refused
+pub record HasTablesFault (number : ℕ) (data_file exclusions_file : Stream) (fault : VersionFault) : Type 0 where
   pub v : VersionData
-  pub rows : HasRows rows_file v
-  pub listed : HasExclusions listed_file v
-  pub least : IsLeastFault v fault
+  pub rows : HasRows data_file v.entries
+  pub listed : HasExclusions exclusions_file v.exclusions
+  pub tables : IsTablesFault number v fault
 
 -- why no version came of the two files: the data file first, then the exclusions, then the tables
-abbrev pub IsVersionFault : ℕ → Stream → Stream → JobFault → Type 0
-IsVersionFault number rows_file listed_file (Data version fault) =
-    (version ≡ number) × WasRefused first_fault rows_file fault × IsUntouched listed_file
-IsVersionFault number rows_file listed_file (Exclusions version fault) =
-    (version ≡ number) × ((v : VersionData) × HasRows rows_file v) × WasRefused exclusions_fault listed_file fault
-IsVersionFault number rows_file listed_file (Tables version fault) = (version ≡ number) × HasTableFault rows_file listed_file fault
-IsVersionFault number rows_file listed_file (Input fault) = ⊥
-IsVersionFault number rows_file listed_file (NotUtf8 at) = ⊥
-IsVersionFault number rows_file listed_file TwoLinesWanted = ⊥
-IsVersionFault number rows_file listed_file (Unassigned at code) = ⊥
-IsVersionFault number rows_file listed_file (FirstUnassigned at code) = ⊥
-IsVersionFault number rows_file listed_file (SecondUnassigned at code) = ⊥
-IsVersionFault number rows_file listed_file WriteFailed = ⊥
-IsVersionFault number rows_file listed_file Memory = Unit {0}
-
--- the same of the data file alone, of the exclusions file alone, and of the tables alone
-abbrev pub IsDataFault : ℕ → Stream → JobFault → Type 0
-IsDataFault number rows_file (Data version fault) = (version ≡ number) × WasRefused first_fault rows_file fault
-IsDataFault number rows_file Memory = Unit {0}
-IsDataFault number rows_file _ = ⊥
-
-abbrev pub IsExclusionsFault : ℕ → Stream → JobFault → Type 0
-IsExclusionsFault number listed_file (Exclusions version fault) = (version ≡ number) × WasRefused exclusions_fault listed_file fault
-IsExclusionsFault number listed_file Memory = Unit {0}
-IsExclusionsFault number listed_file _ = ⊥
-
-abbrev pub IsBuildFault : ℕ → VersionData → JobFault → Type 0
-IsBuildFault number v (Tables version fault) = (version ≡ number) × IsLeastFault v fault
-IsBuildFault number v Memory = Unit {0}
-IsBuildFault number v _ = ⊥
+abbrev pub IsVersionFault : ℕ → Stream → Stream → VersionFault → Type 0
+IsVersionFault number data_file exclusions_file fault =
+    (IsDataFault number data_file fault × IsUntouched exclusions_file)
+    ⊎ ((((rows : List Entry) × HasRows data_file rows) × IsExclusionsFault number exclusions_file fault)
+    ⊎ HasTablesFault number data_file exclusions_file fault)

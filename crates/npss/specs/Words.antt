@@ -1,11 +1,12 @@
 -- What words ask for, by `clap`'s reading of them.
-use Rattle.std.specs.Prelude.{◌≡◌, ℕ, ⊤, ◌==◌, List, [], ◌∷◌, ◌++◌, length, map, option_map, option_and_then, string_bytes, Option, Some, None, codes, if◌then◌else◌}
+use Rattle.std.specs.Prelude.{List, [], ◌∷◌, ◌++◌, option_map, option_and_then, string_bytes, Option, Some, None, codes, if◌then◌else◌}
 use Rattle.std.specs.Str.{bytes_eq}
 use Rattle.np_code_points.specs.declared.forms.Form.{Form}
 use Rattle.np_code_points.specs.Forms.{form_named}
 use Rattle.npss.specs.declared.words.Job.{Job}
+use Rattle.npss.specs.declared.words.VersionFiles.{VersionFiles}
 use Rattle.npss.specs.declared.words.Job.TheVariants.{Help, Normalize, Key, Compare, Audit}
-use Rattle.clap.specs.Words.{Kinds, Row, Text, all_of, fault_of, first_of, subcommand_of}
+use Rattle.clap.specs.Words.{Kinds, Row, Text, fault_of, first_of, subcommand_of}
 use Rattle.npss.specs.Commands.{program_app}
 
 -- how the program is used, a line per command
@@ -22,42 +23,39 @@ pub record Asked : Type 0 where
   pub form : Option Form
   pub files : List Text
 
+-- the names of the two files of a version, in the order of the words
+abbrev pub names_of : VersionFiles → List Text
+names_of files = string_bytes files.data_file ∷ (string_bytes files.exclusions_file ∷ [])
+
 -- what a job does; help is no command
 abbrev pub asked_of : Job → Asked
 asked_of Help = record { command = []; form = None; files = [] }
-asked_of (Normalize form files) = record { command = codes "normalize"; form = Some form; files = map string_bytes files.items }
-asked_of (Key form files) = record { command = codes "key"; form = Some form; files = map string_bytes files.items }
-asked_of (Compare form files) = record { command = codes "compare"; form = Some form; files = map string_bytes files.items }
-asked_of (Audit files) = record { command = codes "audit"; form = None; files = map string_bytes files.items }
-
--- a job has as many files as its command wants
-abbrev pub HasItsFiles : Job → Type 0
-HasItsFiles Help = ⊤
-HasItsFiles (Normalize form files) = length files.items ≡ 2
-HasItsFiles (Key form files) = length files.items ≡ 2
-HasItsFiles (Compare form files) = length files.items ≡ 2
-HasItsFiles (Audit files) = length files.items ≡ 4
+asked_of (Normalize form files) = record { command = codes "normalize"; form = Some form; files = names_of files }
+asked_of (Key form files) = record { command = codes "key"; form = Some form; files = names_of files }
+asked_of (Compare form files) = record { command = codes "compare"; form = Some form; files = names_of files }
+asked_of (Audit old new) = record { command = codes "audit"; form = None; files = names_of old ++ names_of new }
 
 -- the form that the value of --form names
 abbrev pub form_of : List Row → Option Form
 form_of rows = option_and_then form_named (first_of (codes "form") rows)
 
-abbrev pub if_so_many : ℕ → List Text → Option (List Text)
-if_so_many count files = if length files == count then Some files else None
-
--- the values of the places, where they are so many
-abbrev pub files_of : ℕ → List Row → Option (List Text)
-files_of count rows = option_and_then (if_so_many count) (all_of (codes "files") rows)
+-- the values of two places, where both have one
+abbrev pub files_of : Text → Text → List Row → Option (List Text)
+files_of data_place exclusions_place rows = option_and_then (λ data_file.
+    option_map (λ exclusions_file. data_file ∷ (exclusions_file ∷ [])) (first_of exclusions_place rows))
+    (first_of data_place rows)
 
 -- a command with a form and two files
 abbrev pub text_asked : Text → List Row → Option Asked
 text_asked command rows = option_and_then (λ form.
-    option_map (λ files. record { command = command; form = Some form; files = files }) (files_of 2 rows))
+    option_map (λ files. record { command = command; form = Some form; files = files }) (files_of (codes "DATA") (codes "EXCL") rows))
     (form_of rows)
 
 -- the comparison of two versions, four files
 abbrev pub audit_asked : List Row → Option Asked
-audit_asked rows = option_map (λ files. record { command = codes "audit"; form = None; files = files }) (files_of 4 rows)
+audit_asked rows = option_and_then (λ old.
+    option_map (λ new. record { command = codes "audit"; form = None; files = old ++ new }) (files_of (codes "NEWDATA") (codes "NEWEXCL") rows))
+    (files_of (codes "OLDDATA") (codes "OLDEXCL") rows)
 
 -- what the command of this name asks for, by what is read behind it
 abbrev pub asked_in : Text → List Row → Option Asked

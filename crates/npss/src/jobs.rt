@@ -1,11 +1,20 @@
 //! What each command does, over any readers and writers.
 
-pub mod audit;
-pub mod compare;
-pub mod faults;
-pub mod key;
-pub mod normalize;
+mod audit;
+mod compare;
+mod ending;
+mod faults;
+mod key;
+mod lines;
+mod normalize;
 #[cfg(test)]
 mod tests;
-pub mod texts;
-pub mod versions;
+mod texts;
+mod versions;
+
+pub use audit::audit_job;
+pub use compare::compare_job;
+pub use ending::{DONE, refuse, tell};
+pub use faults::{FAILED, JobFault};
+pub use key::key_job;
+pub use normalize::normalize_job;

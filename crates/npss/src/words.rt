@@ -1,50 +1,64 @@
 //! What a command line asks for.
-ghost use Rattle.std.specs.Prelude.{◌≡◌, ◌≢◌, length, codes, [], IfOk, Some, None, Err, map, option_map, string_bytes};
-ghost use Rattle.clap.specs.Words.{Text, all_of, found_of, kind_of, rows_of, subcommand_rows_of};
-ghost use Rattle.npss.specs.Words.{HasItsFiles, asked_among, asked_by, asked_in, asked_of, asked_unless, files_of, form_of, text_asked, usage_lines};
+ghost use Rattle.std.specs.Prelude.{◌≡◌, ◌≢◌, ◌∷◌, [], codes, IfOk, Some, None, Err, map, string_bytes};
+ghost use Rattle.clap.specs.Words.{Text, first_of, found_of, kind_of, rows_of, subcommand_rows_of};
+ghost use Rattle.npss.specs.Words.{asked_among, asked_by, asked_in, asked_of, asked_unless, audit_asked, files_of, form_of, names_of, text_asked};
 
 mod command;
+#[cfg(test)]
+mod tests;
+mod usage;
 
 use clap::error::ErrorKind;
 use clap::{ArgMatches, Error};
 use command::matches_in;
 use np_code_points::Form;
-use std::alloc::{AllocError, Global};
+use std::alloc::Global;
+use thiserror::Error as Fault;
+pub use usage::usage_text;
+
+/// The names of the two files of a version.
+#[derive(Debug, Drop, PartialEq, Eq)]
+pub struct VersionFiles {
+    pub data_file: String,
+    pub exclusions_file: String,
+}
 
 /// What is to be done. Files are in the order of the words.
-#[derive(Debug, Drop)]
+#[derive(Debug, Drop, PartialEq, Eq)]
 pub enum Job {
     /// The usage text is asked for.
     Help,
-    /// The form of a text: data file, exclusions file.
-    Normalize { form: Form, files: Vec<String> },
-    /// The key of a text: data file, exclusions file.
-    Key { form: Form, files: Vec<String> },
-    /// Whether two strings are equivalent: data file, exclusions file.
-    Compare { form: Form, files: Vec<String> },
-    /// The breaks between two versions: the old one's two files, the new one's two files.
-    Audit { files: Vec<String> },
+    /// The form of a text.
+    Normalize {
+        form: Form,
+        files: VersionFiles,
+    },
+    /// The key of a text.
+    Key {
+        form: Form,
+        files: VersionFiles,
+    },
+    /// Whether two strings are equivalent.
+    Compare {
+        form: Form,
+        files: VersionFiles,
+    },
+    /// The breaks between two versions.
+    Audit {
+        old: VersionFiles,
+        new: VersionFiles,
+    },
 }
 
 /// Why words give no job.
-#[derive(Clone, Copy, Debug, PartialEq, Eq)]
+#[derive(Clone, Copy, Debug, PartialEq, Eq, Drop, Fault)]
 pub enum WordsFault {
     /// The words ask for nothing that there is, or for help.
+    #[error("the words ask for nothing that there is")]
     Usage,
     /// Memory ran out.
+    #[error("out of memory")]
     Memory,
-}
-
-/// How the program is used: a line per command, each with its line end.
-pub fn usage_text() -> &'static str
-    ensures { result.now ≡ usage_lines }
-{
-    "usage: npss normalize --form FORM DATA EXCL
-       npss key --form FORM DATA EXCL
-       npss compare --form FORM DATA EXCL
-       npss audit OLDDATA OLDEXCL NEWDATA NEWEXCL
-       npss replay --form FORM SCHEDULE FILES..
-"
 }
 
 /// The fault of the words that `clap` refuses so.
@@ -70,17 +84,6 @@ fn matches_or_fault<'a>(alloc: Global, words: &'a [String]) -> Result<ArgMatches
     }
 }
 
-/// The texts, copied.
-fn copied(alloc: Global, texts: &[&str]) -> Result<Vec<String>, AllocError>
-    ensures { IfOk result (λ v. map string_bytes v.items ≡ map (λ s. s.now) texts.now) }
-{
-    let mut all = Vec::new(alloc);
-    for text in texts {
-        all.push(String::from_str(alloc, text)?)?;
-    }
-    Ok(all)
-}
-
 /// The form that the words name.
 #[tactic(auto, using(crate::proofs::MatchLemmas::first_value_in_rows))]
 fn form_in(found: &ArgMatches<'_>) -> Option<Form>
@@ -89,48 +92,66 @@ fn form_in(found: &ArgMatches<'_>) -> Option<Form>
     Form::of_name(found.get_str("form")?)
 }
 
-/// The values of the places, in their order.
-#[tactic(auto, using(crate::proofs::MatchLemmas::raw_values_in_rows))]
-fn places_in<'a, 'b>(found: &'b ArgMatches<'a>) -> Option<&'b [&'a str]>
-    ensures { option_map (λ s. map (λ v. v.now) s.now) result ≡ all_of (codes "files") (rows_of (found_of found.now)) }
+/// The file that the words name at this place.
+#[tactic(auto, using(crate::proofs::MatchLemmas::first_value_in_rows))]
+fn file_in(alloc: Global, found: &ArgMatches<'_>, place: &str) -> Result<String, WordsFault>
+    ensures ok { IfOk result (λ name. first_of place.now (rows_of (found_of found.now)) ≡ Some (string_bytes name)) }
+    ensures usage { result ≡ Err WordsFault.Usage → first_of place.now (rows_of (found_of found.now)) ≡ None }
 {
-    found.get_strs("files")
-}
-
-/// The files that the words name, which have to be so many.
-fn files_in(alloc: Global, found: &ArgMatches<'_>, count: usize) -> Result<Vec<String>, WordsFault>
-    ensures ok { IfOk result (λ v. files_of count (rows_of (found_of found.now)) ≡ Some (map string_bytes v.items)) }
-    ensures count { IfOk result (λ v. length v.items ≡ count) }
-    ensures usage { result ≡ Err WordsFault.Usage → files_of count (rows_of (found_of found.now)) ≡ None }
-{
-    let Some(places) = places_in(found) else {
+    let Some(name) = found.get_str(place) else {
         return Err(WordsFault::Usage);
     };
-    if places.len() != count {
-        return Err(WordsFault::Usage);
+    match String::from_str(alloc, name) {
+        Ok(name) => Ok(name),
+        Err(_) => Err(WordsFault::Memory),
     }
-    copied(alloc, places).map_err(|_| WordsFault::Memory)
+}
+
+/// The two files of a version that the words name at these places.
+fn files_in(
+    alloc: Global,
+    found: &ArgMatches<'_>,
+    data_place: &str,
+    exclusions_place: &str,
+) -> Result<VersionFiles, WordsFault>
+    ensures ok { IfOk result (λ files. files_of data_place.now exclusions_place.now (rows_of (found_of found.now)) ≡ Some (names_of files)) }
+    ensures usage { result ≡ Err WordsFault.Usage → files_of data_place.now exclusions_place.now (rows_of (found_of found.now)) ≡ None }
+{
+    let data_file = file_in(alloc, found, data_place)?;
+    let exclusions_file = file_in(alloc, found, exclusions_place)?;
+    Ok(VersionFiles {
+        data_file,
+        exclusions_file,
+    })
 }
 
 /// The form and the two files of a command on text.
-fn form_and_files(alloc: Global, found: &ArgMatches<'_>) -> Result<(Form, Vec<String>), WordsFault>
-    ensures ok { IfOk result (λ p. (form_of (rows_of (found_of found.now)) ≡ Some p.0)
-        × (files_of 2 (rows_of (found_of found.now)) ≡ Some (map string_bytes p.1.items))) }
-    ensures count { IfOk result (λ p. length p.1.items ≡ 2) }
+fn form_and_files(alloc: Global, found: &ArgMatches<'_>) -> Result<(Form, VersionFiles), WordsFault>
+    ensures ok { IfOk result (λ p. (c : Text) → text_asked c (rows_of (found_of found.now)) ≡ Some (record { command = c; form = Some p.0; files = names_of p.1 })) }
     ensures usage { result ≡ Err WordsFault.Usage → (c : Text) → text_asked c (rows_of (found_of found.now)) ≡ None }
 {
     let Some(form) = form_in(found) else {
         return Err(WordsFault::Usage);
     };
-    let files = files_in(alloc, found, 2)?;
+    let files = files_in(alloc, found, "DATA", "EXCL")?;
     Ok((form, files))
+}
+
+/// The audit that the words ask for.
+fn audit_in(alloc: Global, found: &ArgMatches<'_>) -> Result<Job, WordsFault>
+    ensures ok { IfOk result (λ job. audit_asked (rows_of (found_of found.now)) ≡ Some (asked_of job)) }
+    ensures command { IfOk result (λ job. job ≢ Job.Help) }
+    ensures usage { result ≡ Err WordsFault.Usage → audit_asked (rows_of (found_of found.now)) ≡ None }
+{
+    let old = files_in(alloc, found, "OLDDATA", "OLDEXCL")?;
+    let new = files_in(alloc, found, "NEWDATA", "NEWEXCL")?;
+    Ok(Job::Audit { old, new })
 }
 
 /// The job of the command of this name.
 fn job_from(alloc: Global, name: &str, found: &ArgMatches<'_>) -> Result<Job, WordsFault>
     ensures ok { IfOk result (λ job. asked_in name.now (rows_of (found_of found.now)) ≡ Some (asked_of job)) }
     ensures command { IfOk result (λ job. job ≢ Job.Help) }
-    ensures files { IfOk result HasItsFiles }
     ensures usage { result ≡ Err WordsFault.Usage → asked_in name.now (rows_of (found_of found.now)) ≡ None }
 {
     match name {
@@ -146,10 +167,7 @@ fn job_from(alloc: Global, name: &str, found: &ArgMatches<'_>) -> Result<Job, Wo
             let (form, files) = form_and_files(alloc, found)?;
             Ok(Job::Compare { form, files })
         }
-        "audit" => {
-            let files = files_in(alloc, found, 4)?;
-            Ok(Job::Audit { files })
-        }
+        "audit" => audit_in(alloc, found),
         _ => Err(WordsFault::Usage),
     }
 }
@@ -158,7 +176,6 @@ fn job_from(alloc: Global, name: &str, found: &ArgMatches<'_>) -> Result<Job, Wo
 fn parse_some(alloc: Global, words: &[String]) -> Result<Job, WordsFault>
     ensures ok { IfOk result (λ job. asked_among (map string_bytes words.now) ≡ Some (asked_of job)) }
     ensures command { IfOk result (λ job. job ≢ Job.Help) }
-    ensures files { IfOk result HasItsFiles }
     ensures usage { result ≡ Err WordsFault.Usage → asked_among (map string_bytes words.now) ≡ None }
 {
     let matches = matches_or_fault(alloc, words)?;
@@ -169,150 +186,19 @@ fn parse_some(alloc: Global, words: &[String]) -> Result<Job, WordsFault>
 }
 
 /// The job that the words, without the program's name, ask for. No words ask for help; other words
-/// for what `clap` reads in them. `Usage` where they ask for nothing that there is: an unknown
-/// command or form, a wrong number of files, a request for help.
+/// for what `clap` reads in them.
+///
+/// # Errors
+///
+/// `Usage` where they ask for nothing that there is: an unknown command or form, a wrong number of
+/// files, a request for help. `Memory` where memory ran out.
 pub fn parse(alloc: Global, words: &[String]) -> Result<Job, WordsFault>
     ensures ok { IfOk result (λ job. asked_by (map string_bytes words.now) ≡ Some (asked_of job)) }
     ensures help { IfOk result (λ job. job ≡ Job.Help → words.now ≡ []) }
-    ensures files { IfOk result HasItsFiles }
     ensures usage { result ≡ Err WordsFault.Usage → asked_by (map string_bytes words.now) ≡ None }
 {
     match words {
         [] => Ok(Job::Help),
         _ => parse_some(alloc, words),
-    }
-}
-
-#[cfg(test)]
-mod tests {
-    use super::*;
-    use std::test::Fail;
-
-    /// What the words, divided by spaces, are read as.
-    fn read(alloc: Global, text: &str) -> Result<String, AllocError> {
-        let mut words = Vec::new(alloc);
-        for word in text.split_whitespace() {
-            words.push(String::from_str(alloc, word)?)?;
-        }
-        match parse(alloc, words.as_slice()) {
-            Ok(job) => format!(in alloc; "{job:?}"),
-            Err(fault) => format!(in alloc; "{fault:?}"),
-        }
-    }
-
-    #[test]
-    fn reads_words_that_name_a_job(rt: HostRuntime) -> Result<(), Fail> {
-        let alloc = rt.alloc();
-        let table = [
-            ("", "Help"),
-            (
-                "key --form nfd D E",
-                r#"Key { form: Nfd, files: ["D", "E"] }"#,
-            ),
-            (
-                "key --form nfc D E",
-                r#"Key { form: Nfc, files: ["D", "E"] }"#,
-            ),
-            (
-                "key --form nfkd D E",
-                r#"Key { form: Nfkd, files: ["D", "E"] }"#,
-            ),
-            (
-                "key --form nfkc D E",
-                r#"Key { form: Nfkc, files: ["D", "E"] }"#,
-            ),
-            (
-                "key --form=nfc D E",
-                r#"Key { form: Nfc, files: ["D", "E"] }"#,
-            ),
-            (
-                "key D E --form nfd",
-                r#"Key { form: Nfd, files: ["D", "E"] }"#,
-            ),
-            (
-                "key --form nfc -- -D E",
-                r#"Key { form: Nfc, files: ["-D", "E"] }"#,
-            ),
-            (
-                "normalize --form nfkc D E",
-                r#"Normalize { form: Nfkc, files: ["D", "E"] }"#,
-            ),
-            (
-                "compare --form nfd D E",
-                r#"Compare { form: Nfd, files: ["D", "E"] }"#,
-            ),
-            ("audit A B C D", r#"Audit { files: ["A", "B", "C", "D"] }"#),
-            (
-                "audit -- A B C -D",
-                r#"Audit { files: ["A", "B", "C", "-D"] }"#,
-            ),
-        ];
-        for (text, want) in table {
-            assert_eq!(rt; read(alloc, text)?.as_str(), want, "at {text}");
-        }
-        Ok(())
-    }
-
-    #[test]
-    fn refuses_every_other_word(rt: HostRuntime) -> Result<(), Fail> {
-        let alloc = rt.alloc();
-        let table = [
-            "--help",
-            "-h",
-            "--version",
-            "help",
-            "help key",
-            "key --help",
-            "key --form nfc --help D E",
-            "nothing",
-            "Key --form nfc D E",
-            "--",
-            "--form nfc key D E",
-            "key --form nfx D E",
-            "key --form NFC D E",
-            "key --form= D E",
-            "key D E",
-            "key --form nfc --form nfc D E",
-            "key --form nfc",
-            "key --form nfc D",
-            "key D --form nfd E",
-            "key --form nfc D E F",
-            "key --form nfc --unknown D E",
-            "compare --form nfc D",
-            "normalize D E",
-            "audit A B C",
-            "audit A B C D E",
-            "audit --form nfc A B C D",
-            "replay --form nfc S D E",
-        ];
-        for text in table {
-            assert_eq!(rt; read(alloc, text)?.as_str(), "Usage", "at {text}");
-        }
-        Ok(())
-    }
-
-    #[test]
-    fn tells_the_usage(rt: HostRuntime) -> Result<(), Fail> {
-        let mut lines = usage_text().split('\n');
-        assert_eq!(rt;
-            lines.next(),
-            Some("usage: npss normalize --form FORM DATA EXCL")
-        );
-        assert_eq!(rt; lines.next(), Some("       npss key --form FORM DATA EXCL"));
-        assert_eq!(rt;
-            lines.next(),
-            Some("       npss compare --form FORM DATA EXCL")
-        );
-        assert_eq!(rt;
-            lines.next(),
-            Some("       npss audit OLDDATA OLDEXCL NEWDATA NEWEXCL")
-        );
-        assert_eq!(rt;
-            lines.next(),
-            Some("       npss replay --form FORM SCHEDULE FILES..")
-        );
-        assert_eq!(rt; lines.next(), Some(""));
-        assert_eq!(rt; lines.next(), None);
-        Ok(())
     }
 }

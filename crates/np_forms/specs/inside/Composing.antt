@@ -14,7 +14,7 @@ is_free ccc bs c = list_all (is_reorderable ccc c) bs
 unfoldable pub joined : (ℕ → ℕ) → (ℕ → ℕ → Option ℕ) → ℕ → List ℕ → ℕ → Option ℕ
 joined ccc join s bs c = if is_free ccc bs c then join s c else None
 
--- the composition of cs behind the last starter s and bs, the marks that were kept after it
+-- the composition of cs behind the last starter s and bs, the non-starters that were kept after it
 unfoldable pub compose_after : (ℕ → ℕ) → (ℕ → ℕ → Option ℕ) → ℕ → List ℕ → List ℕ → List ℕ
 compose_after ccc join s bs [] = s ∷ bs
 compose_after ccc join s bs (c ∷ cs) =

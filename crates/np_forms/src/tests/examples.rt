@@ -1,25 +1,26 @@
 //! What each call answers on worked examples.
-use super::table_of;
-use crate::{NpssFault, equivalent, first_unassigned, form, is_form, is_stream_safe, npss};
+use super::{table_of, want, wants_form};
+use crate::{NpssFault, equivalent, first_unassigned, is_form, is_stream_safe, npss};
 use np_code_points::fixtures::{
     S_DATA, S_EXCLUSIONS, V1_DATA, V1_EXCLUSIONS, V2_DATA, V2_EXCLUSIONS,
 };
 use np_code_points::{Form, Memory};
+use np_tables::RowTable;
 use std::alloc::Global;
 use std::test::Fail;
 
-/// `a` and then `count` times `mark`.
-fn marked(alloc: Global, mark: char, count: u32) -> Result<String, Memory> {
+/// `before` and then `count` times `c`.
+fn repeated(alloc: Global, before: &str, c: char, count: u32) -> Result<String, Memory> {
     let mut text = String::new(alloc);
-    text.push('a')?;
+    text.push_str(before)?;
     for _ in 0..count {
-        text.push(mark)?;
+        text.push(c)?;
     }
     Ok(text)
 }
 
 // (text, NFD, NFC)
-const CANONICAL: [(&str, &str, &str); 13] = [
+const CANONICAL: [(&str, &str, &str); 27] = [
     ("", "", ""),
     ("\u{61}\u{302}\u{323}", "\u{61}\u{323}\u{302}", "\u{1EAD}"),
     ("\u{212B}", "\u{41}\u{30A}", "\u{C5}"),
@@ -53,95 +54,292 @@ const CANONICAL: [(&str, &str, &str); 13] = [
         "\u{1100}\u{1161}\u{11A8}\u{11A8}",
         "\u{AC01}\u{11A8}",
     ),
+    // the least and the greatest of the pairs, and neighbours of pairs that are none
+    ("\u{C5}", "\u{41}\u{30A}", "\u{C5}"),
+    ("\u{1EA1}\u{302}", "\u{61}\u{323}\u{302}", "\u{1EAD}"),
+    ("\u{61}\u{302}", "\u{61}\u{302}", "\u{E2}"),
+    ("\u{41}\u{301}", "\u{41}\u{301}", "\u{41}\u{301}"),
+    ("\u{61}\u{30A}", "\u{61}\u{30A}", "\u{61}\u{30A}"),
+    // the first of two non-starters of one class composes, and the second then stands behind it
+    (
+        "\u{61}\u{302}\u{301}",
+        "\u{61}\u{302}\u{301}",
+        "\u{E2}\u{301}",
+    ),
+    // a non-starter between two starters that would compose
+    (
+        "\u{1100}\u{301}\u{1161}",
+        "\u{1100}\u{301}\u{1161}",
+        "\u{1100}\u{301}\u{1161}",
+    ),
+    (
+        "\u{AC00}\u{301}\u{11A8}",
+        "\u{1100}\u{1161}\u{301}\u{11A8}",
+        "\u{AC00}\u{301}\u{11A8}",
+    ),
+    // non-starters with no starter before them, and a starter that composes with nothing behind
+    ("\u{302}\u{323}", "\u{323}\u{302}", "\u{323}\u{302}"),
+    (
+        "\u{302}\u{323}\u{66}",
+        "\u{323}\u{302}\u{66}",
+        "\u{323}\u{302}\u{66}",
+    ),
+    (
+        "\u{61}\u{302}\u{323}\u{66}\u{61}",
+        "\u{61}\u{323}\u{302}\u{66}\u{61}",
+        "\u{1EAD}\u{66}\u{61}",
+    ),
+    // the last trailing consonant, and the last syllable
+    ("\u{AC00}\u{11C2}", "\u{1100}\u{1161}\u{11C2}", "\u{AC1B}"),
+    ("\u{D788}\u{11C2}", "\u{1112}\u{1175}\u{11C2}", "\u{D7A3}"),
+    (
+        "\u{1112}\u{1161}\u{11AB}",
+        "\u{1112}\u{1161}\u{11AB}",
+        "\u{D55C}",
+    ),
 ];
+
+/// Fails unless the stabilized form of `text` is `normal`.
+fn wants_npss(
+    alloc: Global,
+    table: &RowTable,
+    wanted: Form,
+    text: &str,
+    normal: &str,
+) -> Result<(), Fail> {
+    let made = npss(alloc, table, wanted, text)?;
+    want(made.as_str() == normal, text)
+}
+
+/// Fails unless `text` is refused for this code point.
+fn wants_refusal(
+    alloc: Global,
+    table: &RowTable,
+    wanted: Form,
+    text: &str,
+    fault: NpssFault,
+) -> Result<(), Fail> {
+    want(npss(alloc, table, wanted, text).err() == Some(fault), text)
+}
+
+/// Fails unless the texts are equivalent.
+fn wants_equivalent(
+    alloc: Global,
+    table: &RowTable,
+    compat: bool,
+    left: &str,
+    right: &str,
+) -> Result<(), Fail> {
+    want(equivalent(alloc, table, compat, left, right)?, left)
+}
+
+fn canonical(alloc: Global, table: &RowTable, rows: &[(&str, &str, &str)]) -> Result<(), Fail> {
+    for (text, nfd, nfc) in rows {
+        wants_form(alloc, table, Form::Nfd, text, nfd)?;
+        wants_npss(alloc, table, Form::Nfc, text, nfc)?;
+        wants_equivalent(alloc, table, false, nfd, nfc)?;
+    }
+    Ok(())
+}
+
+fn told_from_others(alloc: Global, table: &RowTable) -> Result<(), Fail> {
+    want(is_form(alloc, table, Form::Nfc, "\u{1EAD}")?, "is NFC")?;
+    want(!is_form(alloc, table, Form::Nfd, "\u{1EAD}")?, "is not NFD")?;
+    // as long as its form, and not its form
+    let turned = "\u{61}\u{302}\u{323}";
+    want(!is_form(alloc, table, Form::Nfd, turned)?, "is not ordered")?;
+    let ordered = "\u{61}\u{323}\u{302}";
+    want(is_form(alloc, table, Form::Nfd, ordered)?, "is ordered")
+}
+
+#[test]
+fn a_text_is_told_from_others_of_its_length(rt: HostRuntime) -> Result<(), Fail> {
+    let table = table_of(rt.alloc(), V1_DATA, V1_EXCLUSIONS)?;
+    told_from_others(rt.alloc(), &table)
+}
+
+fn prefixes(alloc: Global, table: &RowTable) -> Result<(), Fail> {
+    want(
+        !equivalent(alloc, table, false, "\u{61}\u{302}", "\u{61}")?,
+        "a text and its prefix",
+    )?;
+    want(
+        !equivalent(alloc, table, true, "", "\u{66}")?,
+        "the empty text",
+    )?;
+    // neither is assigned: equivalence asks for no more than the forms
+    wants_equivalent(alloc, table, false, "\u{16D6A}", "\u{16D6A}")
+}
+
+#[test]
+fn a_text_is_not_equivalent_with_its_prefix(rt: HostRuntime) -> Result<(), Fail> {
+    let table = table_of(rt.alloc(), V1_DATA, V1_EXCLUSIONS)?;
+    prefixes(rt.alloc(), &table)
+}
 
 #[test]
 fn canonical_forms(rt: HostRuntime) -> Result<(), Fail> {
     let table = table_of(rt.alloc(), V1_DATA, V1_EXCLUSIONS)?;
-    for (text, nfd, nfc) in CANONICAL {
-        let decomposed = form(rt.alloc(), &table, Form::Nfd, text)?;
-        assert_eq!(rt; decomposed.as_str(), nfd);
-        let composed = npss(rt.alloc(), &table, Form::Nfc, text)?;
-        assert_eq!(rt; composed.as_str(), nfc);
-        assert!(rt; equivalent(rt.alloc(), &table, false, nfd, nfc)?);
-    }
-    assert!(rt; is_form(rt.alloc(), &table, Form::Nfc, "\u{1EAD}")?);
-    assert!(rt; !is_form(rt.alloc(), &table, Form::Nfd, "\u{1EAD}")?);
-    Ok(())
+    canonical(rt.alloc(), &table, &CANONICAL)
+}
+
+fn ligature(alloc: Global, table: &RowTable) -> Result<(), Fail> {
+    wants_form(alloc, table, Form::Nfkd, "\u{FB01}", "fi")?;
+    wants_form(alloc, table, Form::Nfkc, "\u{FB01}", "fi")?;
+    wants_equivalent(alloc, table, true, "\u{FB01}", "fi")?;
+    want(
+        !equivalent(alloc, table, false, "\u{FB01}", "fi")?,
+        "canonical",
+    )
 }
 
 #[test]
 fn a_ligature_is_compatible_with_its_letters(rt: HostRuntime) -> Result<(), Fail> {
     let table = table_of(rt.alloc(), V1_DATA, V1_EXCLUSIONS)?;
-    for wanted in [Form::Nfkd, Form::Nfkc] {
-        let text = form(rt.alloc(), &table, wanted, "\u{FB01}")?;
-        assert_eq!(rt; text.as_str(), "fi");
-    }
-    assert!(rt; !equivalent(rt.alloc(), &table, false, "\u{FB01}", "fi")?);
-    assert!(rt; equivalent(rt.alloc(), &table, true, "\u{FB01}", "fi")?);
-    Ok(())
+    ligature(rt.alloc(), &table)
+}
+
+#[test]
+fn a_refusal_is_told_in_words(rt: HostRuntime) -> Result<(), Fail> {
+    let code = '\u{C5}';
+    let told = format!(in rt.alloc(); "{}", NpssFault::Unassigned { at: 12, code })?;
+    want(told.as_str() == "unassigned 00C5 at byte 12", "a refusal")
+}
+
+fn lacks_kirat_rai(alloc: Global, v1: &RowTable) -> Result<(), Fail> {
+    let text = "\u{41}\u{16D67}";
+    let fault = NpssFault::Unassigned {
+        at: 1,
+        code: '\u{16D67}',
+    };
+    wants_refusal(alloc, v1, Form::Nfc, text, fault)?;
+    wants_form(alloc, v1, Form::Nfd, "\u{16D6A}", "\u{16D6A}")?;
+    // the place counts in the text, whose first code point is longer in its form
+    let behind = NpssFault::Unassigned { at: 2, code: 'b' };
+    wants_refusal(alloc, v1, Form::Nfd, "\u{C5}b", behind)?;
+    let last = NpssFault::Unassigned {
+        at: 1,
+        code: '\u{10FFFF}',
+    };
+    wants_refusal(alloc, v1, Form::Nfkc, "A\u{10FFFF}", last)?;
+    want(first_unassigned(v1, text) == Some(1), "at the second byte")?;
+    want(
+        first_unassigned(v1, "\u{E000}").is_none(),
+        "private use is assigned",
+    )
+}
+
+fn has_kirat_rai(alloc: Global, v2: &RowTable) -> Result<(), Fail> {
+    let text = "\u{41}\u{16D67}";
+    wants_npss(alloc, v2, Form::Nfc, text, text)?;
+    want(
+        first_unassigned(v2, "\u{FFFE}") == Some(0),
+        "a noncharacter",
+    )
 }
 
 #[test]
 fn unassigned_code_points_are_refused(rt: HostRuntime) -> Result<(), Fail> {
     let v1 = table_of(rt.alloc(), V1_DATA, V1_EXCLUSIONS)?;
+    lacks_kirat_rai(rt.alloc(), &v1)
+}
+
+#[test]
+fn code_points_assigned_later_are_taken(rt: HostRuntime) -> Result<(), Fail> {
     let v2 = table_of(rt.alloc(), V2_DATA, V2_EXCLUSIONS)?;
-    assert_eq!(rt; first_unassigned(&v1, "\u{41}\u{16D67}"), Some(1));
-    let fault = npss(rt.alloc(), &v1, Form::Nfc, "\u{41}\u{16D67}").err();
-    assert_eq!(rt;
-        fault,
-        Some(NpssFault::Unassigned {
-            at: 1,
-            code: '\u{16D67}'
-        })
-    );
-    let kept = npss(rt.alloc(), &v2, Form::Nfc, "\u{41}\u{16D67}")?;
-    assert_eq!(rt; kept.as_str(), "\u{41}\u{16D67}");
-    assert_eq!(rt; first_unassigned(&v2, "\u{FFFE}"), Some(0));
-    assert_eq!(rt; first_unassigned(&v1, "\u{E000}"), None);
-    let passed = form(rt.alloc(), &v1, Form::Nfd, "\u{16D6A}")?;
-    assert_eq!(rt; passed.as_str(), "\u{16D6A}");
-    Ok(())
+    has_kirat_rai(rt.alloc(), &v2)
+}
+
+/// Fails unless a text of more than 2 MiB has a form of 3 bytes for each 2 of its own.
+fn grows(alloc: Global, table: &RowTable) -> Result<(), Fail> {
+    let text = repeated(alloc, "", '\u{C5}', 1_048_577)?;
+    let made = npss(alloc, table, Form::Nfd, text.as_str())?;
+    want(made.len() == 3_145_731, "the form's bytes")?;
+    want(
+        is_form(alloc, table, Form::Nfd, made.as_str())?,
+        "is its own form",
+    )?;
+    wants_equivalent(alloc, table, false, text.as_str(), made.as_str())?;
+    want(
+        is_stream_safe(alloc, table, text.as_str())?,
+        "is stream-safe",
+    )
+}
+
+#[test]
+fn long_texts_have_memory(rt: HostRuntime) -> Result<(), Fail> {
+    let table = table_of(rt.alloc(), V1_DATA, V1_EXCLUSIONS)?;
+    grows(rt.alloc(), &table)
+}
+
+fn starters(alloc: Global, table: &RowTable) -> Result<(), Fail> {
+    let three = "\u{16D67}\u{16D67}\u{16D67}";
+    wants_form(alloc, table, Form::Nfc, three, "\u{16D68}\u{16D67}")?;
+    let nested = "\u{16D63}\u{16D67}\u{16D67}";
+    wants_form(alloc, table, Form::Nfc, nested, "\u{16D6A}")
 }
 
 #[test]
 fn starters_compose_from_the_left(rt: HostRuntime) -> Result<(), Fail> {
     let table = table_of(rt.alloc(), V2_DATA, V2_EXCLUSIONS)?;
-    let three = form(rt.alloc(), &table, Form::Nfc, "\u{16D67}\u{16D67}\u{16D67}")?;
-    assert_eq!(rt; three.as_str(), "\u{16D68}\u{16D67}");
-    let nested = form(rt.alloc(), &table, Form::Nfc, "\u{16D63}\u{16D67}\u{16D67}")?;
-    assert_eq!(rt; nested.as_str(), "\u{16D6A}");
-    Ok(())
+    starters(rt.alloc(), &table)
+}
+
+fn passed_non_starters(alloc: Global, table: &RowTable) -> Result<(), Fail> {
+    wants_form(
+        alloc,
+        table,
+        Form::Nfc,
+        "\u{41}\u{323}\u{30A}",
+        "\u{C5}\u{323}",
+    )?;
+    wants_form(alloc, table, Form::Nfc, "\u{F000}", "\u{C5}\u{323}")?;
+    wants_form(alloc, table, Form::Nfc, "\u{C5}\u{323}", "\u{C5}\u{323}")?;
+    wants_form(alloc, table, Form::Nfd, "\u{AC00}", "\u{AC00}")?;
+    let fault = NpssFault::Unassigned {
+        at: 0,
+        code: '\u{AC00}',
+    };
+    wants_refusal(alloc, table, Form::Nfd, "\u{AC00}", fault)
 }
 
 #[test]
-fn passed_marks_are_not_visited_again(rt: HostRuntime) -> Result<(), Fail> {
+fn passed_non_starters_are_not_visited_again(rt: HostRuntime) -> Result<(), Fail> {
     let table = table_of(rt.alloc(), S_DATA, S_EXCLUSIONS)?;
-    for text in ["\u{41}\u{323}\u{30A}", "\u{F000}"] {
-        let composed = form(rt.alloc(), &table, Form::Nfc, text)?;
-        assert_eq!(rt; composed.as_str(), "\u{C5}\u{323}");
+    passed_non_starters(rt.alloc(), &table)
+}
+
+// (what stands before, the code point, how many of it are stream-safe)
+const SAFE: [(&str, char, u32); 4] = [
+    ("a", '\u{302}', 30),
+    ("a", '\u{344}', 15),
+    ("", '\u{302}', 30),
+    ("a\u{302}a", '\u{323}', 30),
+];
+
+/// Fails unless `count` times `c` behind `before` is stream-safe, or is not, as told.
+fn wants_safe(
+    alloc: Global,
+    table: &RowTable,
+    before: &str,
+    c: char,
+    count: u32,
+    safe: bool,
+) -> Result<(), Fail> {
+    let text = repeated(alloc, before, c, count)?;
+    want(is_stream_safe(alloc, table, text.as_str())? == safe, before)
+}
+
+fn stream_safe(alloc: Global, table: &RowTable, rows: &[(&str, char, u32)]) -> Result<(), Fail> {
+    for (before, c, most) in rows {
+        wants_safe(alloc, table, before, *c, *most, true)?;
+        wants_safe(alloc, table, before, *c, most.saturating_add(1), false)?;
     }
-    let syllable = form(rt.alloc(), &table, Form::Nfd, "\u{AC00}")?;
-    assert_eq!(rt; syllable.as_str(), "\u{AC00}");
-    let fault = npss(rt.alloc(), &table, Form::Nfd, "\u{AC00}").err();
-    assert_eq!(rt;
-        fault,
-        Some(NpssFault::Unassigned {
-            at: 0,
-            code: '\u{AC00}'
-        })
-    );
     Ok(())
 }
 
 #[test]
 fn thirty_non_starters_are_stream_safe(rt: HostRuntime) -> Result<(), Fail> {
     let table = table_of(rt.alloc(), V1_DATA, V1_EXCLUSIONS)?;
-    for (mark, most) in [('\u{302}', 30), ('\u{344}', 15)] {
-        let safe = marked(rt.alloc(), mark, most)?;
-        assert!(rt; is_stream_safe(rt.alloc(), &table, safe.as_str())?);
-        let over = marked(rt.alloc(), mark, most + 1)?;
-        assert!(rt; !is_stream_safe(rt.alloc(), &table, over.as_str())?);
-    }
-    Ok(())
+    stream_safe(rt.alloc(), &table, &SAFE)
 }

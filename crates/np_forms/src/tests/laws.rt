@@ -1,5 +1,5 @@
 //! The laws on worked examples: a form is its own form, and a later version keeps it.
-use super::table_of;
+use super::{table_of, want, wants_form};
 use crate::form;
 use np_code_points::Form;
 use np_code_points::fixtures::{
@@ -29,7 +29,7 @@ const KEPT: [&str; 14] = [
     "\u{AC01}\u{11A8}",
 ];
 
-// Texts of the second fixture and of the one whose composites skip a mark.
+// Texts of the second fixture and of the one whose composite spans a non-starter.
 const OTHERS: [&str; 4] = [
     "\u{16D67}\u{16D67}\u{16D67}",
     "\u{16D63}\u{16D67}\u{16D67}",
@@ -37,56 +37,67 @@ const OTHERS: [&str; 4] = [
     "\u{F000}",
 ];
 
-/// Whether the form of each text's form is that form.
-fn keeps_forms(alloc: Global, table: &RowTable, texts: &[&str]) -> Result<bool, Fail> {
+/// Fails unless the form of the form of `text` is that form.
+fn wants_itself(alloc: Global, table: &RowTable, wanted: Form, text: &str) -> Result<(), Fail> {
+    let once = form(alloc, table, wanted, text)?;
+    wants_form(alloc, table, wanted, once.as_str(), once.as_str())
+}
+
+/// Fails unless both tables give `text` one form.
+fn wants_same(
+    alloc: Global,
+    first: &RowTable,
+    second: &RowTable,
+    wanted: Form,
+    text: &str,
+) -> Result<(), Fail> {
+    let earlier = form(alloc, first, wanted, text)?;
+    wants_form(alloc, second, wanted, text, earlier.as_str())
+}
+
+fn keeps_forms(alloc: Global, table: &RowTable, texts: &[&str]) -> Result<(), Fail> {
     for text in texts {
         for wanted in FORMS {
-            let once = form(alloc, table, wanted, text)?;
-            let twice = form(alloc, table, wanted, once.as_str())?;
-            if once.as_str() != twice.as_str() {
-                return Ok(false);
-            }
+            wants_itself(alloc, table, wanted, text)?;
         }
     }
-    Ok(true)
+    Ok(())
+}
+
+fn keeps_of(alloc: Global, data: &str, exclusions: &str) -> Result<(), Fail> {
+    let table = table_of(alloc, data, exclusions)?;
+    keeps_forms(alloc, &table, &KEPT)?;
+    keeps_forms(alloc, &table, &OTHERS)
 }
 
 #[test]
 fn a_form_is_its_own_form(rt: HostRuntime) -> Result<(), Fail> {
-    let alloc = rt.alloc();
-    for (data, exclusions) in [
-        (V1_DATA, V1_EXCLUSIONS),
-        (V2_DATA, V2_EXCLUSIONS),
-        (S_DATA, S_EXCLUSIONS),
-    ] {
-        let table = table_of(alloc, data, exclusions)?;
-        assert!(rt; keeps_forms(alloc, &table, &KEPT)?);
-        assert!(rt; keeps_forms(alloc, &table, &OTHERS)?);
-    }
-    Ok(())
+    keeps_of(rt.alloc(), V1_DATA, V1_EXCLUSIONS)?;
+    keeps_of(rt.alloc(), V2_DATA, V2_EXCLUSIONS)?;
+    keeps_of(rt.alloc(), S_DATA, S_EXCLUSIONS)
 }
 
-#[test]
-fn a_later_version_gives_the_same_forms(rt: HostRuntime) -> Result<(), Fail> {
-    let alloc = rt.alloc();
-    let first = table_of(alloc, V1_DATA, V1_EXCLUSIONS)?;
-    let second = table_of(alloc, V2_DATA, V2_EXCLUSIONS)?;
-    for text in KEPT {
+fn are_same(
+    alloc: Global,
+    first: &RowTable,
+    second: &RowTable,
+    texts: &[&str],
+) -> Result<(), Fail> {
+    for text in texts {
         for wanted in FORMS {
-            let earlier = form(alloc, &first, wanted, text)?;
-            let later = form(alloc, &second, wanted, text)?;
-            assert_eq!(rt; earlier.as_str(), later.as_str());
+            wants_same(alloc, first, second, wanted, text)?;
         }
     }
     Ok(())
 }
 
+fn second_as(alloc: Global, first: &RowTable) -> Result<(), Fail> {
+    let second = table_of(alloc, V2_DATA, V2_EXCLUSIONS)?;
+    are_same(alloc, first, &second, &KEPT)
+}
+
 #[test]
-fn a_composite_past_a_passed_mark_stays_apart(rt: HostRuntime) -> Result<(), Fail> {
-    let table = table_of(rt.alloc(), S_DATA, S_EXCLUSIONS)?;
-    let once = form(rt.alloc(), &table, Form::Nfc, "\u{F000}")?;
-    assert_eq!(rt; once.as_str(), "\u{C5}\u{323}");
-    let twice = form(rt.alloc(), &table, Form::Nfc, once.as_str())?;
-    assert_eq!(rt; twice.as_str(), "\u{C5}\u{323}");
-    Ok(())
+fn a_later_version_gives_the_same_forms(rt: HostRuntime) -> Result<(), Fail> {
+    let first = table_of(rt.alloc(), V1_DATA, V1_EXCLUSIONS)?;
+    second_as(rt.alloc(), &first)
 }

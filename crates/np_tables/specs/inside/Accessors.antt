@@ -1,6 +1,6 @@
 -- What is read of the file alone.
 use Rattle.std.specs.Prelude.{ℕ, Bool, not, ◌&&◌, ◌==◌}
-use Rattle.np_tables.specs.Composites.{is_starter_pair}
+use Rattle.np_tables.specs.inside.Primaries.{is_starter_pair}
 use Rattle.np_tables.specs.Versions.{VersionData, class_of, file_kind, file_mapping, is_canonical, is_excluded}
 
 -- a primary composite by its mapping in the file

@@ -1,7 +1,7 @@
 -- The primary composite of a pair as a function: the least code point that is one.
 use Rattle.std.specs.Prelude.{ℕ, zero, suc, Bool, true, false, ◌&&◌, ◌==◌, List, [], ◌∷◌, Option, Some, None}
-use Rattle.np_tables.specs.Versions.{VersionData, mapping_of}
-use Rattle.np_tables.specs.Composites.{is_primary}
+use Rattle.np_tables.specs.Versions.{VersionData, decomposition_mapping}
+use Rattle.np_tables.specs.inside.Primaries.{is_primary}
 
 abbrev pub or_this : Option ℕ → Bool → ℕ → Option ℕ
 or_this (Some k) b n = Some k
@@ -19,4 +19,4 @@ is_pair a b _ = false
 
 -- the primary composite whose mapping is exactly a and then b
 unfoldable pub composite : VersionData → ℕ → ℕ → Option ℕ
-composite v a b = least_below (λ c. is_primary v c && is_pair a b (mapping_of v c)) 0x110000
+composite v a b = least_below (λ c. is_primary v c && is_pair a b (decomposition_mapping v c)) 0x110000

@@ -1,10 +1,10 @@
 -- How deep mappings go and how long full decompositions are, round by round: in round n the depths up to n are known.
-use Rattle.std.specs.Prelude.{◌≡◌, ℕ, zero, suc, ◌+◌, ◌-◌, ◌%◌, ◌≤◌, Bool, true, nat_le, ◌==◌, min, List, [], ◌∷◌, map, flat_map, length, Option, Some, None, if◌then◌else◌}
+use Rattle.std.specs.Prelude.{ℕ, zero, suc, ◌+◌, ◌-◌, ◌%◌, Bool, true, nat_le, ◌==◌, min, List, [], ◌∷◌, map, flat_map, length, Option, Some, None, if◌then◌else◌}
 use Rattle.std.specs.List.{list_all}
 use Rattle.np_ucd.specs.Entries.{Entry}
 use Rattle.np_tables.specs.Versions.{VersionData}
 use Rattle.np_tables.specs.Mappings.{has_depth}
-use Rattle.np_tables.specs.inside.FullDecompositions.{full, full_of}
+use Rattle.np_tables.specs.inside.FullDecompositions.{full}
 
 -- 0 where some depth is over the round, else the length, with 65 for every length over 64
 abbrev pub marked : Bool → ℕ → ℕ
@@ -44,8 +44,3 @@ first_row p (e ∷ es) = if p e then Some e.first else first_row p es
 -- whether a row has this mark in round n
 abbrev pub is_marked : VersionData → ℕ → ℕ → Entry → Bool
 is_marked v n m e = mapping_mark v n e.mapping == m
-
--- no code point is deeper than 32, and no full compatibility decomposition is longer than 64
-pub record AreShort (v : VersionData) : Type 0 where
-  pub shallow : (c : ℕ) → has_depth v 32 c ≡ true
-  pub short : (c : ℕ) → length (full_of v true c) ≤ 64

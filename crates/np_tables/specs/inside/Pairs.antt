@@ -4,7 +4,8 @@ use Rattle.std.specs.List.{All, Contains}
 use Rattle.std.specs.List.Sorted.{IsNonDecreasingBy}
 use Rattle.np_ucd.specs.Entries.{Entry}
 use Rattle.np_code_points.specs.Hangul.{is_syllable}
-use Rattle.np_tables.specs.Composites.{IsCompositeOf, is_primary}
+use Rattle.np_tables.specs.Composites.{IsCompositeOf}
+use Rattle.np_tables.specs.inside.Primaries.{is_primary}
 use Rattle.np_tables.specs.Versions.{VersionData, has_hangul}
 use Rattle.np_tables.specs.declared.pairs.Composite.{Composite}
 

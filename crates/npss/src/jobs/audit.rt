@@ -1,12 +1,11 @@
 //! The command `audit`: what a later version breaks of an earlier one.
 ghost use Rattle.std.specs.Prelude.{◌≡◌, ◌++◌, IfOk, IfErr, string_bytes};
-ghost use Rattle.np_chain.specs.Breaks.{AreBreaks};
-ghost use Rattle.npss.specs.Audits.{AuditEnds, audit_text, break_line};
-ghost use Rattle.npss.specs.Statuses.{Answers};
+ghost use Rattle.npss.specs.Audits.{AuditEnds, IsAudit, MakesAudit, RefusesAudit, audit_text, break_line};
 ghost use Rattle.npss.specs.Streams.{stream_of};
+ghost use Rattle.npss.specs.inside.AuditSteps.{LacksAgainst, MakesAgainst};
 
-use super::faults::{DIFFERENT, DONE, JobFault, refuse};
-use super::texts::write_output;
+use super::ending::{Made, finish};
+use super::faults::JobFault;
 use super::versions::read_version;
 use np_chain::{Break, audit};
 use np_code_points::Memory;
@@ -15,17 +14,6 @@ use np_code_points::watched::Watched;
 use np_tables::Version;
 use std::alloc::Global;
 use std::io::{Read, Write};
-
-/// All that the new version breaks of the old one.
-fn breaks_between(alloc: Global, old: &Version, new: &Version) -> Result<Vec<Break>, JobFault>
-    ensures breaks { IfOk result (λ breaks. AreBreaks old.now new.now breaks.items) }
-    ensures refused { IfErr result (λ fault. fault ≡ JobFault.Memory) }
-{
-    match audit(alloc, old, new) {
-        Ok(breaks) => Ok(breaks),
-        Err(_) => Err(JobFault::Memory),
-    }
-}
 
 /// Adds the line of a break.
 fn write_break(text: &mut String, found: &Break) -> Result<(), Memory>
@@ -52,77 +40,89 @@ fn lines_of(alloc: Global, breaks: &[Break]) -> Result<String, Memory>
     Ok(text)
 }
 
-/// The same, as the job refuses it.
-fn text_of_breaks(alloc: Global, breaks: &[Break]) -> Result<String, JobFault>
-    ensures text { IfOk result (λ text. string_bytes text ≡ audit_text breaks.now) }
-    ensures refused { IfErr result (λ fault. fault ≡ JobFault.Memory) }
+/// All that the new version breaks of the old one, as text, and whether that is nothing.
+fn make_audit(alloc: Global, old: &Version, new: &Version) -> Result<Made, Memory>
+    ensures { IfOk result (λ m. IsAudit old.now new.now m.is_yes (string_bytes m.text)) }
 {
-    match lines_of(alloc, breaks) {
-        Ok(text) => Ok(text),
+    let breaks = audit(alloc, old, new)?;
+    let text = lines_of(alloc, breaks.as_slice())?;
+    Ok(Made {
+        text,
+        is_yes: breaks.is_empty(),
+    })
+}
+
+/// Reads the new version, and audits it against the old one.
+fn made_against<F: Read>(
+    alloc: Global,
+    old: &Version,
+    new_data_file: &mut Watched<F>,
+    new_exclusions_file: &mut Watched<F>,
+) -> Result<Made, JobFault>
+    ensures made { IfOk result (MakesAgainst old.now
+        (stream_of F.remaining new_data_file.old new_data_file.new) (stream_of F.remaining new_exclusions_file.old new_exclusions_file.new)) }
+    ensures refused { IfErr result (LacksAgainst
+        (stream_of F.remaining new_data_file.old new_data_file.new) (stream_of F.remaining new_exclusions_file.old new_exclusions_file.new)) }
+{
+    let new = read_version(alloc, 1, new_data_file, new_exclusions_file)?;
+    match make_audit(alloc, old, &new) {
+        Ok(made) => Ok(made),
         Err(_) => Err(JobFault::Memory),
     }
 }
 
-/// The job, but for what it says of a refusal.
-fn run_audit<F: Read, O: Write>(
+/// Reads both versions, and audits the new one against the old one.
+fn made_of_versions<F: Read>(
     alloc: Global,
-    old_data: &mut Watched<F>,
-    old_exclusions: &mut Watched<F>,
-    new_data: &mut Watched<F>,
-    new_exclusions: &mut Watched<F>,
-    output: &mut Watched<O>,
-) -> Result<bool, JobFault>
-    ensures { AuditEnds (record {
-      old_rows = stream_of F.remaining old_data.old old_data.new;
-      old_listed = stream_of F.remaining old_exclusions.old old_exclusions.new;
-      new_rows = stream_of F.remaining new_data.old new_data.new;
-      new_listed = stream_of F.remaining new_exclusions.old new_exclusions.new;
-      output = stream_of O.contents output.old output.new;
-    }) result }
+    old_data_file: &mut Watched<F>,
+    old_exclusions_file: &mut Watched<F>,
+    new_data_file: &mut Watched<F>,
+    new_exclusions_file: &mut Watched<F>,
+) -> Result<Made, JobFault>
+    ensures made { IfOk result (λ m. MakesAudit (record {
+      old_data_file = stream_of F.remaining old_data_file.old old_data_file.new;
+      old_exclusions_file = stream_of F.remaining old_exclusions_file.old old_exclusions_file.new;
+      new_data_file = stream_of F.remaining new_data_file.old new_data_file.new;
+      new_exclusions_file = stream_of F.remaining new_exclusions_file.old new_exclusions_file.new;
+    }) m.is_yes (string_bytes m.text)) }
+    ensures refused { IfErr result (RefusesAudit (record {
+      old_data_file = stream_of F.remaining old_data_file.old old_data_file.new;
+      old_exclusions_file = stream_of F.remaining old_exclusions_file.old old_exclusions_file.new;
+      new_data_file = stream_of F.remaining new_data_file.old new_data_file.new;
+      new_exclusions_file = stream_of F.remaining new_exclusions_file.old new_exclusions_file.new;
+    })) }
 {
-    new_data.clear();
-    new_exclusions.clear();
-    output.clear();
-    let old = read_version(alloc, 0, old_data, old_exclusions)?;
-    let new = read_version(alloc, 1, new_data, new_exclusions)?;
-    let breaks = breaks_between(alloc, &old, &new)?;
-    let text = text_of_breaks(alloc, breaks.as_slice())?;
-    match write_output(output, text.as_bytes()) {
-        Ok(()) => Ok(breaks.is_empty()),
-        Err(fault) => Err(fault),
-    }
+    new_data_file.clear();
+    new_exclusions_file.clear();
+    let old = read_version(alloc, 0, old_data_file, old_exclusions_file)?;
+    made_against(alloc, &old, new_data_file, new_exclusions_file)
 }
 
 /// Writes what the new version breaks of the old one, a line for each code point that has a break,
 /// or `extends`. Answers the status, 0 where the new version extends the old one and 1 where it
-/// does not; a refusal is told in a line on `error`.
+/// does not; a refusal is told in a line on `error`, and leaves the output as it was.
 pub fn audit_job<F: Read, O: Write, E: Write>(
     alloc: Global,
-    old_data: &mut Watched<F>,
-    old_exclusions: &mut Watched<F>,
-    new_data: &mut Watched<F>,
-    new_exclusions: &mut Watched<F>,
+    old_data_file: &mut Watched<F>,
+    old_exclusions_file: &mut Watched<F>,
+    new_data_file: &mut Watched<F>,
+    new_exclusions_file: &mut Watched<F>,
     output: &mut Watched<O>,
     error: &mut Watched<E>,
 ) -> u8
-    ensures { Answers result (AuditEnds (record {
-      old_rows = stream_of F.remaining old_data.old old_data.new;
-      old_listed = stream_of F.remaining old_exclusions.old old_exclusions.new;
-      new_rows = stream_of F.remaining new_data.old new_data.new;
-      new_listed = stream_of F.remaining new_exclusions.old new_exclusions.new;
-      output = stream_of O.contents output.old output.new;
-    })) }
+    ensures { AuditEnds (record {
+      old_data_file = stream_of F.remaining old_data_file.old old_data_file.new;
+      old_exclusions_file = stream_of F.remaining old_exclusions_file.old old_exclusions_file.new;
+      new_data_file = stream_of F.remaining new_data_file.old new_data_file.new;
+      new_exclusions_file = stream_of F.remaining new_exclusions_file.old new_exclusions_file.new;
+    }) (stream_of O.contents output.old output.new) (stream_of E.contents error.old error.new) result }
 {
-    match run_audit(
+    let made = made_of_versions(
         alloc,
-        old_data,
-        old_exclusions,
-        new_data,
-        new_exclusions,
-        output,
-    ) {
-        Ok(true) => DONE,
-        Ok(false) => DIFFERENT,
-        Err(fault) => refuse(alloc, error, &fault),
-    }
+        old_data_file,
+        old_exclusions_file,
+        new_data_file,
+        new_exclusions_file,
+    );
+    finish(alloc, output, error, made)
 }

@@ -1,83 +1,133 @@
-//! Why a job is refused, and what it then says.
-ghost use Rattle.std.specs.Prelude.{◌≡◌, ◌⊎◌, false, is_some};
-ghost use Rattle.npss.specs.Statuses.{file_status as file_status_lem, input_status as input_status_lem, is_told_freely, status_of, tables_status as tables_status_lem};
+//! Why a job is refused, and the status of each refusal.
+ghost use Rattle.std.specs.Prelude.{◌≡◌};
+ghost use Rattle.npss.specs.Statuses.{file_status, input_status, status_of, tables_status, text_status, version_status};
+ghost use Rattle.npss.specs.inside.Groups.{of_text, of_version};
 
-use np_code_points::Memory;
-use np_code_points::codes::write_code;
 use np_code_points::input::InputFault;
-use np_code_points::output::write_out;
-use np_code_points::watched::Watched;
 use np_tables::TableFault;
 use np_ucd::UcdFault;
-use std::alloc::{AllocError, Global};
-use std::io::Write;
+use thiserror::Error;
 
-/// The status of a job that is done.
-pub const DONE: u8 = 0;
-
-/// The status of a job whose answer is no.
-pub const DIFFERENT: u8 = 1;
-
-/// Bad data, text or schedule.
-const BAD: u8 = 4;
-
-/// A device failed, or a file can't be opened.
-pub const FAILED: u8 = 5;
-
-/// Memory ran out.
-const MEMORY: u8 = 6;
-
-/// A code point is not assigned.
+/// The status of a code point that is not assigned.
 const UNASSIGNED: u8 = 3;
 
-/// Why a job is refused. Versions are numbered from 0, places are bytes from 0.
-#[derive(Clone, Copy, Debug, PartialEq, Eq)]
-pub enum JobFault {
-    /// The data file of a version.
+/// The status of bad data or text.
+const BAD: u8 = 4;
+
+/// The status of a device that failed, or a file that can't be opened.
+pub const FAILED: u8 = 5;
+
+/// The status of want of memory.
+pub const MEMORY: u8 = 6;
+
+/// Why no version came of two files. Versions are numbered from 0.
+#[derive(Clone, Copy, Debug, PartialEq, Eq, Drop, Error)]
+pub enum VersionFault {
+    /// The data file was not read, or has a fault.
+    #[error("version {version} data: {fault}")]
     Data { version: u32, fault: UcdFault },
-    /// The exclusions file of a version.
+    /// The exclusions file was not read, or has a fault.
+    #[error("version {version} exclusions: {fault}")]
     Exclusions { version: u32, fault: UcdFault },
-    /// The tables that both files of a version make.
+    /// The tables that both files make have a fault.
+    #[error("version {version} tables: {fault}")]
     Tables { version: u32, fault: TableFault },
+}
+
+/// Why a text is not answered. Places are bytes from 0.
+#[derive(Clone, Copy, Debug, PartialEq, Eq, Drop, Error)]
+pub enum TextFault {
     /// The input was not read whole.
+    #[error("input: {fault}")]
     Input { fault: InputFault },
     /// The input is no UTF-8; its longest valid prefix has this length.
+    #[error("input: not UTF-8 at byte {at}")]
     NotUtf8 { at: usize },
     /// The input has no line end between two strings.
+    #[error("input: two lines wanted")]
     TwoLinesWanted,
     /// The first unassigned code point of the input.
+    #[error("unassigned {code:?} at byte {at}")]
     Unassigned { at: usize, code: char },
     /// The first unassigned code point of the first string.
+    #[error("first: unassigned {code:?} at byte {at}")]
     FirstUnassigned { at: usize, code: char },
     /// The first unassigned code point of the second string.
+    #[error("second: unassigned {code:?} at byte {at}")]
     SecondUnassigned { at: usize, code: char },
-    /// A write or the flush of the output failed.
-    WriteFailed,
-    /// Memory ran out.
+    /// Memory ran out after the text was read.
+    #[error("out of memory")]
     Memory,
 }
 
-fn file_status(fault: &UcdFault) -> u8
-    ensures { result ≡ file_status_lem fault.now }
+/// Why a job is refused.
+#[derive(Clone, Copy, Debug, PartialEq, Eq, Drop, Error)]
+pub enum JobFault {
+    /// The two files of a version make none.
+    #[error("{fault}")]
+    Version { fault: VersionFault },
+    /// The text of the input is not answered.
+    #[error("{fault}")]
+    Text { fault: TextFault },
+    /// A write or the flush of the output failed.
+    #[error("output: write failed")]
+    WriteFailed,
+    /// Memory ran out, where no other fault says of what.
+    #[error("out of memory")]
+    Memory,
+}
+
+impl From<VersionFault> for JobFault {
+    ghost from_gives = { λ fault e. e ≡ of_version fault };
+
+    fn from(fault: VersionFault) -> JobFault {
+        JobFault::Version { fault }
+    }
+}
+
+impl From<TextFault> for JobFault {
+    ghost from_gives = { λ fault e. e ≡ of_text fault };
+
+    fn from(fault: TextFault) -> JobFault {
+        JobFault::Text { fault }
+    }
+}
+
+fn status_of_file(fault: &UcdFault) -> u8
+    ensures { result ≡ file_status fault.now }
 {
     match fault {
+        UcdFault::FieldCount { .. }
+        | UcdFault::BadCode { .. }
+        | UcdFault::OutOfOrder { .. }
+        | UcdFault::BadCategory { .. }
+        | UcdFault::BadClass { .. }
+        | UcdFault::BadMapping { .. }
+        | UcdFault::RangeOpen { .. }
+        | UcdFault::RangeLone { .. }
+        | UcdFault::RangeDiffers { .. }
+        | UcdFault::RangeMaps { .. }
+        | UcdFault::TooLarge => BAD,
         UcdFault::ReadFailed => FAILED,
         UcdFault::Memory => MEMORY,
-        _ => BAD,
     }
 }
 
-fn tables_status(fault: &TableFault) -> u8
-    ensures { result ≡ tables_status_lem fault.now }
+fn status_of_tables(fault: &TableFault) -> u8
+    ensures { result ≡ tables_status fault.now }
 {
     match fault {
+        TableFault::MapsToUnassigned { .. }
+        | TableFault::TooDeep { .. }
+        | TableFault::TooLong { .. }
+        | TableFault::AmbiguousPair { .. }
+        | TableFault::HangulWrong { .. } => BAD,
         TableFault::Memory => MEMORY,
-        _ => BAD,
     }
 }
 
-fn input_status(fault: &InputFault) -> u8
-    ensures { result ≡ input_status_lem fault.now }
+fn status_of_input(fault: &InputFault) -> u8
+    ensures { result ≡ input_status fault.now }
 {
     match fault {
         InputFault::TooLarge => BAD,
@@ -86,113 +136,45 @@ fn input_status(fault: &InputFault) -> u8
     }
 }
 
+impl VersionFault {
+    /// The status of the refusal.
+    pub fn status(&self) -> u8
+        ensures { result ≡ version_status self.now }
+    {
+        match self {
+            VersionFault::Data { version: _, fault } => status_of_file(fault),
+            VersionFault::Exclusions { version: _, fault } => status_of_file(fault),
+            VersionFault::Tables { version: _, fault } => status_of_tables(fault),
+        }
+    }
+}
+
+impl TextFault {
+    /// The status of the refusal.
+    pub fn status(&self) -> u8
+        ensures { result ≡ text_status self.now }
+    {
+        match self {
+            TextFault::Input { fault } => status_of_input(fault),
+            TextFault::NotUtf8 { .. } | TextFault::TwoLinesWanted => BAD,
+            TextFault::Unassigned { .. }
+            | TextFault::FirstUnassigned { .. }
+            | TextFault::SecondUnassigned { .. } => UNASSIGNED,
+            TextFault::Memory => MEMORY,
+        }
+    }
+}
+
 impl JobFault {
-    /// The status of a refusal.
+    /// The status of the refusal.
     pub fn status(&self) -> u8
         ensures { result ≡ status_of self.now }
     {
         match self {
-            JobFault::Data { version: _, fault } => file_status(fault),
-            JobFault::Exclusions { version: _, fault } => file_status(fault),
-            JobFault::Tables { version: _, fault } => tables_status(fault),
-            JobFault::Input { fault } => input_status(fault),
-            JobFault::NotUtf8 { .. } | JobFault::TwoLinesWanted => BAD,
-            JobFault::Unassigned { .. }
-            | JobFault::FirstUnassigned { .. }
-            | JobFault::SecondUnassigned { .. } => UNASSIGNED,
+            JobFault::Version { fault } => fault.status(),
+            JobFault::Text { fault } => fault.status(),
             JobFault::WriteFailed => FAILED,
             JobFault::Memory => MEMORY,
-        }
-    }
-}
-
-/// The line on a file of a version.
-fn file_line(
-    alloc: Global,
-    version: u32,
-    file: &str,
-    fault: &UcdFault,
-) -> Result<String, AllocError> {
-    let name = fault.name();
-    match fault.line() {
-        Some(line) => format!(in alloc; "version {version} {file}: line {line}: {name}\n"),
-        None => format!(in alloc; "version {version} {file}: {name}\n"),
-    }
-}
-
-/// The line on the tables of a version.
-fn tables_line(alloc: Global, version: u32, fault: &TableFault) -> Result<String, Memory> {
-    let name = fault.name();
-    let mut line = format!(in alloc; "version {version} tables: {name} ")?;
-    write_code(&mut line, fault.code().unwrap_or(0))?;
-    line.push_str("\n")?;
-    Ok(line)
-}
-
-/// The line on an unassigned code point, where `head` says of which text.
-fn unassigned_line(alloc: Global, head: &str, at: usize, code: char) -> Result<String, Memory> {
-    let mut line = format!(in alloc; "{head}unassigned ")?;
-    write_code(&mut line, u32::from(code))?;
-    write!(line, " at byte {at}\n")?;
-    Ok(line)
-}
-
-/// The line on a fault that needs memory to be told.
-fn line_of(alloc: Global, fault: &JobFault) -> Result<String, Memory> {
-    match fault {
-        JobFault::Data { version, fault } => Ok(file_line(alloc, *version, "data", fault)?),
-        JobFault::Exclusions { version, fault } => {
-            Ok(file_line(alloc, *version, "exclusions", fault)?)
-        }
-        JobFault::Tables { version, fault } => tables_line(alloc, *version, fault),
-        JobFault::NotUtf8 { at } => Ok(format!(in alloc; "input: not UTF-8 at byte {at}\n")?),
-        JobFault::Unassigned { at, code } => unassigned_line(alloc, "", *at, *code),
-        JobFault::FirstUnassigned { at, code } => unassigned_line(alloc, "first: ", *at, *code),
-        JobFault::SecondUnassigned { at, code } => unassigned_line(alloc, "second: ", *at, *code),
-        _ => Err(Memory),
-    }
-}
-
-/// The line on a fault that needs no memory to be told.
-fn fixed_line(fault: &JobFault) -> Option<&'static str>
-    ensures { is_some result ≡ is_told_freely fault.now }
-{
-    match fault {
-        JobFault::Input {
-            fault: InputFault::TooLarge,
-        } => Some("input: TooLarge\n"),
-        JobFault::Input {
-            fault: InputFault::ReadFailed,
-        } => Some("input: ReadFailed\n"),
-        JobFault::TwoLinesWanted => Some("input: two lines wanted\n"),
-        JobFault::WriteFailed => Some("output: WriteFailed\n"),
-        JobFault::Memory => Some("out of memory\n"),
-        _ => None,
-    }
-}
-
-/// Writes a line. What then fails changes nothing.
-fn tell<E: Write>(error: &mut Watched<E>, line: &str) {
-    let _ = write_out(error, line.as_bytes());
-}
-
-/// Tells a refusal in a line, and answers its status; that of want of memory where the line has no
-/// room.
-pub fn refuse<E: Write>(alloc: Global, error: &mut Watched<E>, fault: &JobFault) -> u8
-    ensures { (result ≡ status_of fault.now) ⊎ ((result ≡ MEMORY) × (is_told_freely fault.now ≡ false)) }
-{
-    if let Some(line) = fixed_line(fault) {
-        tell(error, line);
-        return fault.status();
-    }
-    match line_of(alloc, fault) {
-        Ok(line) => {
-            tell(error, line.as_str());
-            fault.status()
-        }
-        Err(_) => {
-            tell(error, "out of memory\n");
-            MEMORY
         }
     }
 }

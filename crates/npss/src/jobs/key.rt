@@ -1,12 +1,11 @@
 //! The command `key`: stabilized strings (UAX #15 section 12).
-ghost use Rattle.std.specs.Prelude.{◌≡◌, IfOk, IfErr, chars, string_bytes};
-ghost use Rattle.npss.specs.Ends.{IsKeyFault, IsKeyOf, KeyEnds};
-ghost use Rattle.npss.specs.Statuses.{Finishes};
+ghost use Rattle.std.specs.Prelude.{◌≡◌, IfOk, IfErr, string_bytes};
+ghost use Rattle.npss.specs.Keys.{IsKey, KeyEnds, LacksKey};
 ghost use Rattle.npss.specs.Streams.{stream_of};
 
-use super::faults::{DONE, JobFault, refuse};
-use super::texts::{read_input, text_in, write_output};
-use super::versions::read_table;
+use super::ending::{Made, finish};
+use super::faults::TextFault;
+use super::texts::{TextJob, made_of_text};
 use np_code_points::Form;
 use np_code_points::watched::Watched;
 use np_forms::{NpssFault, npss};
@@ -15,68 +14,43 @@ use std::alloc::Global;
 use std::io::{Read, Write};
 
 /// The stabilized string of a text.
-fn key_of<T: NormTable>(
+pub(super) fn make_key<T: NormTable>(
     alloc: Global,
-    table: &T,
     form: Form,
+    table: &T,
     text: &str,
-) -> Result<String, JobFault>
-    ensures key { IfOk result (λ key. IsKeyOf (T.model table.now) form (chars text.now) (string_bytes key)) }
-    ensures refused { IfErr result (IsKeyFault (T.model table.now) (chars text.now)) }
+) -> Result<Made, TextFault>
+    ensures key { IfOk result (λ m. IsKey form (T.model table.now) text.now m.is_yes (string_bytes m.text)) }
+    ensures refused { IfErr result (LacksKey (T.model table.now) text.now) }
 {
     match npss(alloc, table, form, text) {
-        Ok(key) => Ok(key),
-        Err(NpssFault::Unassigned { at, code }) => Err(JobFault::Unassigned { at, code }),
-        Err(NpssFault::Memory) => Err(JobFault::Memory),
+        Ok(key) => Ok(Made {
+            text: key,
+            is_yes: true,
+        }),
+        Err(NpssFault::Unassigned { at, code }) => Err(TextFault::Unassigned { at, code }),
+        Err(NpssFault::Memory) => Err(TextFault::Memory),
     }
-}
-
-/// The job, but for what it says of a refusal.
-fn run_key<F: Read, I: Read, O: Write>(
-    alloc: Global,
-    form: Form,
-    data_file: &mut Watched<F>,
-    exclusions: &mut Watched<F>,
-    input: &mut Watched<I>,
-    output: &mut Watched<O>,
-) -> Result<(), JobFault>
-    ensures { KeyEnds form (record {
-      rows = stream_of F.remaining data_file.old data_file.new;
-      listed = stream_of F.remaining exclusions.old exclusions.new;
-      input = stream_of I.remaining input.old input.new;
-      output = stream_of O.contents output.old output.new;
-    }) result }
-{
-    input.clear();
-    output.clear();
-    let table = read_table(alloc, 0, data_file, exclusions)?;
-    let bytes = read_input(alloc, input)?;
-    let text = text_in(bytes.as_slice())?;
-    let key = key_of(alloc, &table, form, text)?;
-    write_output(output, key.as_bytes())
 }
 
 /// Writes the stabilized string of the input, a text, to the output: its normal form under the
 /// version of the two files, with nothing added. Answers the status; a refusal is told in a line
-/// on `error`, and an unassigned code point leaves the output as it was.
+/// on `error`, and leaves the output as it was.
 pub fn key_job<F: Read, I: Read, O: Write, E: Write>(
     alloc: Global,
     form: Form,
     data_file: &mut Watched<F>,
-    exclusions: &mut Watched<F>,
+    exclusions_file: &mut Watched<F>,
     input: &mut Watched<I>,
     output: &mut Watched<O>,
     error: &mut Watched<E>,
 ) -> u8
-    ensures { Finishes result (KeyEnds form (record {
-      rows = stream_of F.remaining data_file.old data_file.new;
-      listed = stream_of F.remaining exclusions.old exclusions.new;
+    ensures { KeyEnds form (record {
+      data_file = stream_of F.remaining data_file.old data_file.new;
+      exclusions_file = stream_of F.remaining exclusions_file.old exclusions_file.new;
       input = stream_of I.remaining input.old input.new;
-      output = stream_of O.contents output.old output.new;
-    })) }
+    }) (stream_of O.contents output.old output.new) (stream_of E.contents error.old error.new) result }
 {
-    match run_key(alloc, form, data_file, exclusions, input, output) {
-        Ok(()) => DONE,
-        Err(fault) => refuse(alloc, error, &fault),
-    }
+    let made = made_of_text(alloc, TextJob::Key, form, data_file, exclusions_file, input);
+    finish(alloc, output, error, made)
 }

@@ -1,77 +1,60 @@
 //! The two files of a version, read and built.
-ghost use Rattle.std.specs.Prelude.{◌≡◌, ℕ, List, None, IfOk, IfErr};
-ghost use Rattle.np_ucd.specs.Files.{first_fault, rows_in};
-ghost use Rattle.np_ucd.specs.Exclusions.{exclusions_fault, spans_in};
-ghost use Rattle.np_ucd.specs.Listed.{is_listed};
-ghost use Rattle.npss.specs.Streams.{WasRead, stream_of};
-ghost use Rattle.npss.specs.Versions.{IsBuildFault, IsDataFault, IsExclusionsFault, IsVersionFault, WasBuilt};
+ghost use Rattle.std.specs.Prelude.{◌≡◌, ◌⊎◌, IfOk, IfErr};
+ghost use Rattle.npss.specs.Streams.{stream_of};
+ghost use Rattle.npss.specs.Versions.{HasExclusions, HasRows, IsDataFault, IsExclusionsFault, IsTablesFault, IsVersionFault, WasBuilt};
 ghost use Rattle.np_tables.specs.TableFaults.{IsFaultless};
 
-use super::faults::JobFault;
+use super::faults::VersionFault;
 use np_code_points::watched::Watched;
-use np_tables::{RowTable, TableFault, Version};
-use np_ucd::{Exclusions, Rows, UcdFault, read_exclusions, read_rows};
+use np_tables::{PageTable, TableFault, Version};
+use np_ucd::{Exclusions, Rows, read_exclusions, read_rows};
 use std::alloc::Global;
 use std::io::Read;
 
 /// The rows of a data file.
 fn rows_of<R: Read>(
     alloc: Global,
-    number: u32,
+    version: u32,
     data_file: &mut Watched<R>,
-) -> Result<Rows, JobFault>
-    ensures rows { IfOk result (λ rows. (bytes : List ℕ) × WasRead (stream_of R.remaining data_file.old data_file.new) bytes
-        × (first_fault bytes ≡ None) × (rows ≡ rows_in bytes)) }
-    ensures refused { IfErr result (IsDataFault number (stream_of R.remaining data_file.old data_file.new)) }
+) -> Result<Rows, VersionFault>
+    ensures rows { IfOk result (HasRows (stream_of R.remaining data_file.old data_file.new)) }
+    ensures refused { IfErr result (IsDataFault version (stream_of R.remaining data_file.old data_file.new)) }
 {
     match read_rows(alloc, data_file) {
         Ok(rows) => Ok(rows),
-        Err(UcdFault::Memory) => Err(JobFault::Memory),
-        Err(fault) => Err(JobFault::Data {
-            version: number,
-            fault,
-        }),
+        Err(fault) => Err(VersionFault::Data { version, fault }),
     }
 }
 
 /// The code points that an exclusions file lists.
 fn exclusions_of<R: Read>(
     alloc: Global,
-    number: u32,
-    exclusions: &mut Watched<R>,
-) -> Result<Exclusions, JobFault>
-    ensures listed { IfOk result (λ e. (bytes : List ℕ) × WasRead (stream_of R.remaining exclusions.old exclusions.new) bytes
-        × (exclusions_fault bytes ≡ None) × ((c : ℕ) → is_listed e c ≡ is_listed (spans_in bytes) c)) }
-    ensures refused { IfErr result (IsExclusionsFault number (stream_of R.remaining exclusions.old exclusions.new)) }
+    version: u32,
+    exclusions_file: &mut Watched<R>,
+) -> Result<Exclusions, VersionFault>
+    ensures listed { IfOk result (HasExclusions (stream_of R.remaining exclusions_file.old exclusions_file.new)) }
+    ensures refused { IfErr result (IsExclusionsFault version (stream_of R.remaining exclusions_file.old exclusions_file.new)) }
 {
-    match read_exclusions(alloc, exclusions) {
+    match read_exclusions(alloc, exclusions_file) {
         Ok(listed) => Ok(listed),
-        Err(UcdFault::Memory) => Err(JobFault::Memory),
-        Err(fault) => Err(JobFault::Exclusions {
-            version: number,
-            fault,
-        }),
+        Err(fault) => Err(VersionFault::Exclusions { version, fault }),
     }
 }
 
 /// The version of rows and exclusions.
 fn version_of(
     alloc: Global,
-    number: u32,
+    version: u32,
     rows: Rows,
     exclusions: Exclusions,
-) -> Result<Version, JobFault>
+) -> Result<Version, VersionFault>
     ensures version { IfOk result (λ v. v ≡ record { entries = rows; exclusions = exclusions }) }
     ensures faultless { IfOk result IsFaultless }
-    ensures refused { IfErr result (IsBuildFault number (record { entries = rows; exclusions = exclusions })) }
+    ensures refused { IfErr result (IsTablesFault version (record { entries = rows; exclusions = exclusions })) }
 {
     match Version::build(alloc, rows, exclusions) {
         Ok(built) => Ok(built),
-        Err(TableFault::Memory) => Err(JobFault::Memory),
-        Err(fault) => Err(JobFault::Tables {
-            version: number,
-            fault,
-        }),
+        Err(fault) => Err(VersionFault::Tables { version, fault }),
     }
 }
 
@@ -79,34 +62,35 @@ fn version_of(
 /// 0, which the fault tells.
 pub fn read_version<R: Read>(
     alloc: Global,
-    number: u32,
+    version: u32,
     data_file: &mut Watched<R>,
-    exclusions: &mut Watched<R>,
-) -> Result<Version, JobFault>
-    ensures built { IfOk result (WasBuilt (stream_of R.remaining data_file.old data_file.new) (stream_of R.remaining exclusions.old exclusions.new)) }
-    ensures refused { IfErr result (IsVersionFault number (stream_of R.remaining data_file.old data_file.new) (stream_of R.remaining exclusions.old exclusions.new)) }
+    exclusions_file: &mut Watched<R>,
+) -> Result<Version, VersionFault>
+    ensures built { IfOk result (WasBuilt (stream_of R.remaining data_file.old data_file.new) (stream_of R.remaining exclusions_file.old exclusions_file.new)) }
+    ensures refused { IfErr result (IsVersionFault version (stream_of R.remaining data_file.old data_file.new) (stream_of R.remaining exclusions_file.old exclusions_file.new)) }
 {
-    exclusions.clear();
-    let rows = rows_of(alloc, number, data_file)?;
-    match exclusions_of(alloc, number, exclusions) {
-        Ok(listed) => version_of(alloc, number, rows, listed),
-        Err(fault) => Err(fault),
-    }
+    exclusions_file.clear();
+    let rows = rows_of(alloc, version, data_file)?;
+    let exclusions = exclusions_of(alloc, version, exclusions_file)?;
+    version_of(alloc, version, rows, exclusions)
 }
 
 /// The same, with the table over the version.
 pub fn read_table<R: Read>(
     alloc: Global,
-    number: u32,
+    version: u32,
     data_file: &mut Watched<R>,
-    exclusions: &mut Watched<R>,
-) -> Result<RowTable, JobFault>
-    ensures built { IfOk result (WasBuilt (stream_of R.remaining data_file.old data_file.new) (stream_of R.remaining exclusions.old exclusions.new)) }
-    ensures refused { IfErr result (IsVersionFault number (stream_of R.remaining data_file.old data_file.new) (stream_of R.remaining exclusions.old exclusions.new)) }
+    exclusions_file: &mut Watched<R>,
+) -> Result<PageTable, VersionFault>
+    ensures built { IfOk result (WasBuilt (stream_of R.remaining data_file.old data_file.new) (stream_of R.remaining exclusions_file.old exclusions_file.new)) }
+    ensures refused { IfErr result (IsVersionFault version (stream_of R.remaining data_file.old data_file.new) (stream_of R.remaining exclusions_file.old exclusions_file.new)) }
 {
-    let version = read_version(alloc, number, data_file, exclusions)?;
-    match RowTable::new(alloc, version) {
+    let built = read_version(alloc, version, data_file, exclusions_file)?;
+    match PageTable::new(alloc, built) {
         Ok(table) => Ok(table),
-        Err(_) => Err(JobFault::Memory),
+        Err(_) => Err(VersionFault::Tables {
+            version,
+            fault: TableFault::Memory,
+        }),
     }
 }

@@ -2,7 +2,7 @@
 ghost use Rattle.std.specs.Prelude.{◌≡◌, IfOk, false, map, string_bytes};
 ghost use Rattle.clap.specs.Words.{FailsBy, app_of, fault_of, rule_of, subcommand_of, subcommand_rows_of, with_subcommand};
 ghost use Rattle.clap.specs.declared.builder.command.Command.TheViews.{out-Command as fields_of};
-ghost use Rattle.npss.specs.Commands.{audit_app, files_rule, form_rule, text_app, texts_app, program_app};
+ghost use Rattle.npss.specs.Commands.{audit_app, file_rule, form_rule, text_app, texts_app, program_app, with_files};
 
 use clap::{Arg, ArgAction, ArgMatches, Command, Error};
 use std::alloc::{AllocError, Global};
@@ -18,25 +18,37 @@ fn form_arg<'a>(alloc: Global) -> Arg<'a>
         .action(ArgAction::Set)
 }
 
-/// The places of so many files.
-fn files_arg<'a>(alloc: Global, count: usize) -> Arg<'a>
-    ensures rule { rule_of result ≡ files_rule count }
+/// The place of a file, by its name in the usage text.
+fn file_arg<'a>(alloc: Global, name: &'a str) -> Arg<'a>
+    ensures rule { rule_of result ≡ file_rule name.entry.now }
     ensures local { result.global ≡ false }
 {
-    Arg::new(alloc, "files")
-        .num_args(count)
-        .required(true)
-        .action(ArgAction::Set)
+    Arg::new(alloc, name).required(true).action(ArgAction::Set)
 }
 
-/// A command that makes a form of its input under one version.
+/// The command with the places of a version's two files.
+fn with_files<'a>(
+    alloc: Global,
+    command: Command<'a>,
+    data_file: &'a str,
+    exclusions_file: &'a str,
+) -> Result<Command<'a>, AllocError>
+    requires { (fields_of command).has_globals ≡ false }
+    ensures app { IfOk result (λ c. app_of c ≡ with_files (app_of command.entry) data_file.entry.now exclusions_file.entry.now) }
+    ensures local { IfOk result (λ c. (fields_of c).has_globals ≡ false) }
+{
+    command
+        .arg(file_arg(alloc, data_file))?
+        .arg(file_arg(alloc, exclusions_file))
+}
+
+/// A command on one text under one version.
 fn text_command<'a>(alloc: Global, name: &'a str) -> Result<Command<'a>, AllocError>
     ensures app { IfOk result (λ c. app_of c ≡ text_app name.entry.now) }
     ensures local { IfOk result (λ c. (fields_of c).has_globals ≡ false) }
 {
-    Command::new(alloc, name)
-        .arg(form_arg(alloc))?
-        .arg(files_arg(alloc, 2))
+    let command = Command::new(alloc, name).arg(form_arg(alloc))?;
+    with_files(alloc, command, "DATA", "EXCL")
 }
 
 /// The command that compares two versions.
@@ -44,7 +56,8 @@ fn audit_command<'a>(alloc: Global) -> Result<Command<'a>, AllocError>
     ensures app { IfOk result (λ c. app_of c ≡ audit_app) }
     ensures local { IfOk result (λ c. (fields_of c).has_globals ≡ false) }
 {
-    Command::new(alloc, "audit").arg(files_arg(alloc, 4))
+    let command = with_files(alloc, Command::new(alloc, "audit"), "OLDDATA", "OLDEXCL")?;
+    with_files(alloc, command, "NEWDATA", "NEWEXCL")
 }
 
 /// The program with one more command.

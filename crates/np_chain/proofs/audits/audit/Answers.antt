@@ -20,13 +20,13 @@ loop-code-preserved c =
 pub returns-clause-breaks : goal.returns-clause-breaks
 returns-clause-breaks c =
     subst (AreBreaks c.args.old.now c.args.new.now) (sym c.loop-code.invariant)
-    (AreBreaks-end c.args.old.now c.args.new.now c.know.ensures c.know-2.ensures c.loop-code.code (omega arith))
+    (AreBreaks-end c.args.old.now c.args.new.now c.meets_conditions.ensures c.meets_conditions-2.ensures c.loop-code.code (omega arith))
 
 pub returns-clause-value : goal.returns-clause-value
-returns-clause-value c = c.loop-code.invariant ∙ breaks_of-end c.args.old.now c.args.new.now c.know.ensures c.know-2.ensures c.loop-code.code (omega arith)
+returns-clause-value c = c.loop-code.invariant ∙ breaks_of-end c.args.old.now c.args.new.now c.meets_conditions.ensures c.meets_conditions-2.ensures c.loop-code.code (omega arith)
 
 pub returns-clause-none : goal.returns-clause-none
 returns-clause-none c =
     nil_exactly c.args.old.now c.args.new.now c.loop-code.breaks.items
     (subst (AreBreaks c.args.old.now c.args.new.now) (sym c.loop-code.invariant)
-    (AreBreaks-end c.args.old.now c.args.new.now c.know.ensures c.know-2.ensures c.loop-code.code (omega arith)))
+    (AreBreaks-end c.args.old.now c.args.new.now c.meets_conditions.ensures c.meets_conditions-2.ensures c.loop-code.code (omega arith)))

@@ -1,5 +1,5 @@
-use Rattle.std.proofs.Common.{refl, arith}
-use Rattle.np_chain.proofs.AuditLemmas.{Extends-end}
+use Rattle.std.proofs.Common.{refl, sym, arith}
+use Rattle.np_chain.proofs.AuditLemmas.{Extends-end, first_is}
 use Rattle.np_chain.proofs.BreakLemmas.{none_from_Extends}
 use Rattle.np_chain.proofs.audits.extends.Goals as goal
 
@@ -9,6 +9,10 @@ returns-in-Some-clause-extends c =
 
 pub returns-clause-extends : goal.returns-clause-extends
 returns-clause-extends c = (
-  λ _. Extends-end c.args.old.now c.args.new.now c.know.ensures c.know-2.ensures c.loop-code.code (omega arith) c.loop-code.invariant,
+  λ _. Extends-end c.args.old.now c.args.new.now c.meets_conditions.ensures c.meets_conditions-2.ensures c.loop-code.code (omega arith) c.loop-code.invariant,
   λ _. refl,
 )
+
+pub returns-in-Some-clause-first : goal.returns-in-Some-clause-first
+returns-in-Some-clause-first c =
+    first_is c.args.old.now c.args.new.now c.loop-code.code c.in-Some.kind c.loop-code.invariant (sym c.in-Some.ensures)

@@ -1,5 +1,5 @@
 use Rattle.std.proofs.Common.{◌≡◌, ℕ, ◌<◌, None}
-use Rattle.np_chain.specs.Breaks.{break_of}
+use Rattle.np_chain.specs.inside.BreakTests.{break_of}
 use Rattle.np_chain.proofs.audits.extends.Given as goal
 
 abbrev pub invariant-loop-code : goal.invariant-loop-code

@@ -1,14 +1,14 @@
 use Rattle.std.proofs.Common.{◌∙◌, sym, ap₂}
 use Rattle.std.proofs.lemmas.Bool.{and_left}
 use Rattle.std.specs.Prelude.{bytes_eq}
-use Rattle.np_chain.specs.Breaks.{is_same_kind}
+use Rattle.np_chain.specs.inside.BreakTests.{is_same_kind}
 use Rattle.np_chain.proofs.SyllableLemmas.{alike-syllable, alike-listed, alike-when}
 use Rattle.np_chain.proofs.audits.maps_alike.Goals as goal
 
 pub returns-then-is_syllable : goal.returns-then-is_syllable
 returns-then-is_syllable c =
     sym
-    (alike-syllable c.args.old.now c.args.new.now c.args.code c.know.ensures c.know-2.ensures c.requires.old c.requires.new
+    (alike-syllable c.args.old.now c.args.new.now c.args.code c.meets_conditions.ensures c.meets_conditions-2.ensures c.requires.old c.requires.new
     (sym c.is_syllable.ensures ∙ c.if-is_syllable.true))
 
 pub returns-then-not-same_kind : goal.returns-then-not-same_kind

@@ -8,7 +8,7 @@ use Rattle.np_chain.proofs.audits.parts_assigned.Goals as goal
 pub returns-then-maps_by_arithmetic : goal.returns-then-maps_by_arithmetic
 returns-then-maps_by_arithmetic c =
     let halves = and_parts _ _ (sym c.maps_by_arithmetic.ensures ∙ c.if-maps_by_arithmetic.true) in
-    c.has_hangul.ensures ∙ old_parts-syllable c.args.old.now c.args.new.now c.args.code c.know.ensures halves.1 halves.0
+    c.has_hangul.ensures ∙ old_parts-syllable c.args.old.now c.args.new.now c.args.code c.meets_conditions.ensures halves.1 halves.0
 
 pub returns : goal.returns
 returns c =

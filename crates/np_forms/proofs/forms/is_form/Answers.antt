@@ -6,5 +6,5 @@ pub returns : goal.returns
 returns g c =
     let shown = c.as_str.ensures.value in
     let same = c.are_same.ensures in
-    is_form-bytes (g.T.NormTable.model c.args.table.now) c.version.ensures.sound c.args.wanted c.args.text.now (string_bytes c.in_ok-normal.normal) c.are_same.result c.utf8.text
+    is_form-bytes (g.T.NormTable.model c.args.table.now) c.meets_conditions.ensures c.args.wanted c.args.text.now (string_bytes c.in_ok-normal.normal) c.are_same.result c.utf8.text
     c.in_ok-normal.ensures.bytes c.in_ok-normal.ensures.value (λ h. sym shown ∙ same.0 h, λ e. same.1 (shown ∙ e))

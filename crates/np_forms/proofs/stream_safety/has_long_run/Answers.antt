@@ -2,7 +2,7 @@ use Rattle.std.proofs.Common.{◌≡◌, ℕ, ◌+◌, ◌<◌, ◌∷◌, List,
 use Rattle.std.proofs.lemmas.List.{drop_more, drop_all}
 use Rattle.np_tables.specs.Versions.{class_of}
 use Rattle.np_forms.specs.inside.Runs.{longest_run}
-use Rattle.np_forms.proofs.StreamSafeLemmas.{count-starter, count-mark, count-over, count-end}
+use Rattle.np_forms.proofs.StreamSafeLemmas.{count-starter, count-non_starter, count-over, count-end}
 use Rattle.np_forms.proofs.stream_safety.has_long_run.Goals as goal
 use Rattle.np_forms.proofs.stream_safety.has_long_run.Goals.{then-class-eq0, else-class-eq0+else-run-eq-LONGEST}
 
@@ -15,8 +15,8 @@ returns-then-run-eq-LONGEST g c =
     let list = c.args.list.now in
     let i = c.loop-c.c-index in
     let x = c.c-item.result in
-    let mark : 0 < class_of v x = omega (arith, c.class.ensures, c.if-class-eq0.false) in
-    sym (count-over v c.loop-c.run x (drop (i + 1) list) c.if-run-eq-LONGEST.true mark)
+    let non_starter : 0 < class_of v x = omega (arith, c.class.ensures, c.if-class-eq0.false) in
+    sym (count-over v c.loop-c.run x (drop (i + 1) list) c.if-run-eq-LONGEST.true non_starter)
     ∙ ap (λ l. nat_lt 30 (longest_run (class_of v) c.loop-c.run l)) (sym (shown list i x c.loop-c-test.true c.c-item.is)) ∙ c.loop-c.invariant.same
 
 pub loop-c-preserved : goal.loop-c-preserved
@@ -36,10 +36,10 @@ loop-c-preserved g c =
                 ∙ sym (count-starter v c.loop-c.run x rest c.loop-c.invariant.few (sym c.class.ensures ∙ w.if-class-eq0.true)) ∙ was;
           }
       | else-class-eq0+else-run-eq-LONGEST w ↦
-          let mark : 0 < ccc x = omega (arith, c.class.ensures, w.if-class-eq0.false) in
+          let non_starter : 0 < ccc x = omega (arith, c.class.ensures, w.if-class-eq0.false) in
           record {
             few = omega (arith, w.run-is, w.if-run-eq-LONGEST.false, c.loop-c.invariant.few);
-            same = ap (λ n. nat_lt 30 (longest_run ccc n rest)) w.run-is ∙ sym (count-mark v c.loop-c.run x rest mark) ∙ was;
+            same = ap (λ n. nat_lt 30 (longest_run ccc n rest)) w.run-is ∙ sym (count-non_starter v c.loop-c.run x rest non_starter) ∙ was;
           }
     ]
 

@@ -19,5 +19,5 @@ loop-place-preserved c =
 
 pub returns : goal.returns
 returns c =
-    first_of_places c.args.characters.now c.args.pairs.now c.len-place-end.ensures.order c.len.ensures.rows c.requires c.loop-place.first c.loop-place.invariant.ambiguous
+    first_of_places c.args.characters.now c.args.pairs.now c.len-place-end.ensures.order c.are_in_order.ensures c.requires c.loop-place.first c.loop-place.invariant.ambiguous
     (λ k x lt suspect. c.loop-place.invariant.least k x (omega arith) suspect)

@@ -10,7 +10,7 @@ returns-then-has_smaller_twin-clause-ambiguous c =
 pub returns-in-Some-clause-ambiguous : goal.returns-in-Some-clause-ambiguous
 returns-in-Some-clause-ambiguous c =
     let greater : c.max.result ≡ max c.in-Some.syllable c.at-here.result.code = c.max.ensures ∙ ap (λ x. max x c.from-in-Some-2.result) c.from-in-Some.ensures ∙ ap (max c.in-Some.syllable) c.from-in-Some-2.ensures in
-    beside_ambiguous c.args.characters.now c.args.pairs.now c.requires.of_file c.args.place c.max.result c.in-Some.syllable c.at-here.result c.len.ensures.rows c.at-here.ensures.place c.in-Some.ensures.some c.in-Some.ensures.pair greater
+    beside_ambiguous c.args.characters.now c.args.pairs.now c.requires.of_file c.args.place c.max.result c.in-Some.syllable c.at-here.result c.are_in_order.ensures c.at-here.ensures.place c.in-Some.ensures.some c.in-Some.ensures.pair greater
 
 pub returns-in-Some-clause-least : goal.returns-in-Some-clause-least
 returns-in-Some-clause-least c =

@@ -1,7 +1,4 @@
-use Rattle.std.proofs.Common.{subst}
-use Rattle.np_tables.specs.Faults.{IsTooDeep, IsTooLong}
-use Rattle.np_tables.specs.inside.FirstFaults.{IsFirst}
-use Rattle.np_tables.proofs.AnswerLemmas.{first_too_deep, first_too_long, AreShort-from_none}
+use Rattle.np_tables.proofs.AnswerLemmas.{first_too_deep, first_too_long}
 use Rattle.np_tables.proofs.depths.depth_faults.Goals as goal
 
 pub returns-clause-too_deep : goal.returns-clause-too_deep
@@ -9,9 +6,3 @@ returns-clause-too_deep c = first_too_deep c.args.characters.now c.final_marks.e
 
 pub returns-clause-too_long : goal.returns-clause-too_long
 returns-clause-too_long c = first_too_long c.args.characters.now c.final_marks.ensures.rows c.first_marked-2.result c.first_marked-2.ensures
-
-pub returns-clause-short : goal.returns-clause-short
-returns-clause-short c = λ deep long.
-    AreShort-from_none c.args.characters.now
-    (subst (IsFirst (IsTooDeep c.args.characters.now)) deep (returns-clause-too_deep c))
-    (subst (IsFirst (IsTooLong c.args.characters.now)) long (returns-clause-too_long c))

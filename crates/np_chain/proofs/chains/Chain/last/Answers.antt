@@ -1,4 +1,4 @@
-use Rattle.std.proofs.Common.{◌≡◌, ◌-◌, ℕ, map, length, refl, ap, sym, subst}
+use Rattle.std.proofs.Common.{◌-◌, ℕ, map, refl, ap, sym, subst}
 use Rattle.np_chain.specs.Chain.{StandsAt}
 use Rattle.np_chain.proofs.ChainLemmas.{last-stands, mapped-length}
 use Rattle.np_chain.proofs.chains.Chain.last.Goals as goal

@@ -1,12 +1,5 @@
-use Rattle.std.proofs.Common.{arith}
-use Rattle.std.proofs.lemmas.Grind.{common_steps}
-use Rattle.np_tables.proofs.MarkLemmas.{mark-zero, mark-past}
+use Rattle.np_tables.proofs.RowPageLemmas.{past_code_points}
 use Rattle.np_tables.proofs.row_index.RowIndex.place_of.Goals as goal
 
-pub returns-in_default-clause-none : goal.returns-in_default-clause-none
-returns-in_default-clause-none c =
-    let zero = mark-zero c.self.inside.rows c.self.inside.marks.items c.args.code c.self.invariant in grind (arith, common_steps)
-
-pub returns-in_default-2-clause-none : goal.returns-in_default-2-clause-none
-returns-in_default-2-clause-none c =
-    let past = mark-past c.self.inside.rows c.self.inside.marks.items c.args.code c.self.invariant in grind (arith, common_steps)
+pub returns-then-code-ge-CODE_POINTS-clause-none : goal.returns-then-code-ge-CODE_POINTS-clause-none
+returns-then-code-ge-CODE_POINTS-clause-none c = rw (← c.self.view_is) (past_code_points c.self.inside.rows c.args.code c.self.invariant.rows c.if-code-ge-CODE_POINTS.true)

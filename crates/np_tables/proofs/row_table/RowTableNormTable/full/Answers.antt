@@ -7,7 +7,7 @@ pub returns-in-Some-clause-value : goal.returns-in-Some-clause-value
 returns-in-Some-clause-value c =
     c.lent.ensures
     ∙ full-some c.args.self.now c.characters.result.now c.self.inside.version c.args.compat c.args.c c.from.result c.in-Some.place c.self.inside.fulls c.characters.ensures.same c.self.view_is c.from.ensures
-    c.characters.ensures.sound c.self.invariant.1 c.in-Some.ensures.within c.in-Some.ensures.row
+    c.characters.ensures.sound c.self.invariant c.in-Some.ensures.within c.in-Some.ensures.row
 
 pub returns-in-Some-clause-lent : goal.returns-in-Some-clause-lent
 returns-in-Some-clause-lent c =

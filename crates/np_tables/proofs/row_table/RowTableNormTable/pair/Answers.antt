@@ -17,17 +17,17 @@ returns-in-Some-clause-value c =
 
 pub returns-in-None-clause-some : goal.returns-in-None-clause-some
 returns-in-None-clause-some c =
-    pair-found c.args.self.now c.self.inside.version c.self.view_is c.self.inside.pairs c.self.invariant.0 c.args.a c.args.b c.find.result c.find.ensures.some
+    pair-found c.args.self.now c.self.inside.version c.self.view_is c.pairs.result.now c.pairs.ensures c.args.a c.args.b c.find.result c.find.ensures.some
 
 pub returns-in-None-clause-none : goal.returns-in-None-clause-none
 returns-in-None-clause-none c =
-    pair-none c.args.self.now c.characters.result.now c.self.inside.version (c.characters.ensures.same ∙ c.self.view_is) c.self.view_is c.self.inside.pairs c.self.invariant.0 c.args.a c.args.b
+    pair-none c.args.self.now c.characters.result.now c.self.inside.version (c.characters.ensures.same ∙ c.self.view_is) c.self.view_is c.pairs.result.now c.pairs.ensures c.args.a c.args.b
     c.in-None.ensures.none c.find.result c.find.ensures.none
 
 pub returns-in-None-clause-value : goal.returns-in-None-clause-value
 returns-in-None-clause-value c =
     let sound = subst (λ v. IsSound v) c.self.view_is c.characters.ensures.sound in
     pair-value c.args.self.now sound c.args.a c.args.b c.find.result
-    (pair-found c.args.self.now c.self.inside.version c.self.view_is c.self.inside.pairs c.self.invariant.0 c.args.a c.args.b c.find.result c.find.ensures.some)
-    (pair-none c.args.self.now c.characters.result.now c.self.inside.version (c.characters.ensures.same ∙ c.self.view_is) c.self.view_is c.self.inside.pairs c.self.invariant.0 c.args.a c.args.b
+    (pair-found c.args.self.now c.self.inside.version c.self.view_is c.pairs.result.now c.pairs.ensures c.args.a c.args.b c.find.result c.find.ensures.some)
+    (pair-none c.args.self.now c.characters.result.now c.self.inside.version (c.characters.ensures.same ∙ c.self.view_is) c.self.view_is c.pairs.result.now c.pairs.ensures c.args.a c.args.b
     c.in-None.ensures.none c.find.result c.find.ensures.none)

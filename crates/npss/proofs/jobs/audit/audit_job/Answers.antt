@@ -1,6 +1,7 @@
-use Rattle.npss.proofs.EndLemmas.{audit_untold, refused_answer}
+use Rattle.npss.specs.Audits.{MakesAudit, RefusesAudit}
+use Rattle.npss.proofs.EndLemmas.{ends}
 use Rattle.npss.proofs.jobs.audit.audit_job.Goals as goal
 
-pub returns-in-Err : goal.returns-in-Err
-returns-in-Err g c =
-    refused_answer _ c.in-Err.fault _ c.in-Err.ensures (audit_untold _ c.in-Err.fault c.in-Err.ensures) c.refuse.ensures
+pub returns : goal.returns
+returns g c =
+    ends (MakesAudit _) (RefusesAudit _) c.made_of_versions-made.result _ _ c.finish.result c.made_of_versions-made.ensures.made c.made_of_versions-made.ensures.refused c.finish.ensures

@@ -1,6 +1,8 @@
-use Rattle.npss.proofs.EndLemmas.{key_untold, refused}
+use Rattle.npss.specs.Keys.{IsKey, LacksKey}
+use Rattle.npss.specs.Texts.{MakesOfText, RefusesText}
+use Rattle.npss.proofs.EndLemmas.{ends}
 use Rattle.npss.proofs.jobs.key.key_job.Goals as goal
 
-pub returns-in-Err : goal.returns-in-Err
-returns-in-Err g c =
-    refused _ c.in-Err.fault _ c.in-Err.ensures (key_untold c.args.form _ c.in-Err.fault c.in-Err.ensures) c.refuse.ensures
+pub returns : goal.returns
+returns g c =
+    ends (MakesOfText (IsKey c.args.form) _) (RefusesText LacksKey _) c.made_of_text-made.result _ _ c.finish.result c.made_of_text-made.ensures.made c.made_of_text-made.ensures.refused c.finish.ensures

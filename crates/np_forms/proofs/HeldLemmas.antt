@@ -1,0 +1,227 @@
+-- The state of a stream, which each code point of the full decomposition carries on.
+use Rattle.std.proofs.Common.{◌≡◌, ℕ, ◌+◌, ◌<◌, ◌≤◌, ◌⊎◌, Bool, true, false, List, [], ◌∷◌, ◌++◌, length, flat_map, Some, None, refl, sym, ap, subst, ◌∙◌, arith, inl, inr, append_assoc, append-nil}
+use Rattle.std.proofs.lemmas.Bool.{and_from, and_parts, cases_lt, not-true, not_from_false}
+use Rattle.std.proofs.lemmas.Grind.{flat_map-append}
+use Rattle.std.specs.List.{list_all}
+use Rattle.np_code_points.specs.Forms.{is_compat, composes}
+use Rattle.np_code_points.specs.declared.forms.Form.{Form}
+use Rattle.np_tables.specs.Conditions.{IsSound}
+use Rattle.np_tables.specs.Versions.{VersionData, class_of}
+use Rattle.np_tables.specs.inside.CompositeSearch.{composite}
+use Rattle.np_tables.specs.inside.FullDecompositions.{full_of}
+use Rattle.np_tables.proofs.MappingLemmas.{list_all-append, IsFullDecomposition-flat_map, full_decomposition-flat_map}
+use Rattle.np_forms.specs.Forms.{EndsAs, IsNormalForm}
+use Rattle.np_forms.specs.Starters.{is_non_starter}
+use Rattle.np_forms.specs.StreamSafe.{HasRunOver}
+use Rattle.np_forms.specs.Streams.{BeginsAtLastStarter, HasNoStarter, IsCutAtLastStarter, IsOrderedAndComposed, IsHeldBack, IsStreaming}
+use Rattle.np_forms.specs.inside.CanonicalOrder.{canonical_order}
+use Rattle.np_forms.specs.inside.Composing.{compose}
+use Rattle.np_forms.specs.inside.Held.{Shape, no_starter, starter, IsHeld, Advances}
+use Rattle.np_forms.specs.inside.NormalForms.{decomposed, ended, normal_form}
+use Rattle.np_forms.proofs.OrderLaws.{ordered_form-canonical_order, IsOrderedForm-canonical_order}
+use Rattle.np_forms.proofs.OrderLemmas.{list_all-canonical_order}
+use Rattle.np_forms.proofs.ComposeLemmas.{is_starter-false, not_starter_from, compose-nil}
+use Rattle.np_forms.proofs.FormLemmas.{EndsAs-ended, ended_is, IsNormalForm-normal_form}
+use Rattle.np_forms.proofs.StreamLemmas.{compose_of_is, IsLastRun, last_after, non_starter_or_starter}
+use Rattle.np_forms.proofs.PendingLemmas.{order_starter, composed_starter, compose-non_starters}
+
+module _ (v : VersionData) (sound : IsSound v) where
+  pub held_start : (e : Bool) → IsHeld v e [] [] []
+  held_start e = record { front = []; non_starters = []; split = refl; all = refl; shape = no_starter []; goes_on = λ zs. refl }
+
+  shape_non_starter : (out ms pending : List ℕ) (d : ℕ) → Shape v out ms pending → Shape v out (ms ++ d ∷ []) (pending ++ d ∷ [])
+  shape_non_starter out ms pending d (no_starter ns) = no_starter (ns ++ d ∷ [])
+  shape_non_starter out ms pending d (starter before s ns low) = starter before s (ns ++ d ∷ []) low
+
+  -- a non-starter is held back too
+  pub held_non_starter : (e : Bool) (ds out pending : List ℕ) (d : ℕ) → 0 < class_of v d → IsHeld v e ds out pending → IsHeld v e (ds ++ d ∷ []) out (pending ++ d ∷ [])
+  held_non_starter e ds out pending d non_starter h =
+      record {
+        front = h.front;
+        non_starters = h.non_starters ++ d ∷ [];
+        split = ap (λ l. l ++ d ∷ []) h.split ∙ append_assoc h.front h.non_starters (d ∷ []);
+        all = list_all-append (is_non_starter v) h.non_starters (d ∷ []) h.all (and_from _ _ (not_from_false _ (not_starter_from (class_of v) d non_starter)) refl);
+        shape = shape_non_starter out h.non_starters pending d h.shape;
+        goes_on = λ zs.
+            ap (λ l. ended v e (canonical_order (class_of v) l)) (append_assoc ds (d ∷ []) zs) ∙ h.goes_on (d ∷ zs)
+            ∙ ap (λ l. out ++ ended v e (canonical_order (class_of v) l)) (sym (append_assoc pending (d ∷ []) zs));
+      }
+
+  -- non-starters alone are held back too
+  held_all : (e : Bool) (ds out pending ms : List ℕ) → list_all (is_non_starter v) ms ≡ true → IsHeld v e ds out pending → IsHeld v e (ds ++ ms) out (pending ++ ms)
+  held_all e ds out pending [] all h = subst (λ l. IsHeld v e l out (pending ++ [])) (sym (append-nil ds)) (subst (λ l. IsHeld v e ds out l) (sym (append-nil pending)) h)
+  held_all e ds out pending (m ∷ ms) all h =
+      let both = and_parts (is_non_starter v m) (list_all (is_non_starter v) ms) all in
+      let next = held_all e (ds ++ m ∷ []) out (pending ++ m ∷ []) ms both.1 (held_non_starter e ds out pending m (is_starter-false (class_of v) m (not-true _ both.0)) h) in
+      subst (λ l. IsHeld v e l out (pending ++ m ∷ ms)) (append_assoc ds (m ∷ []) ms)
+      (subst (λ l. IsHeld v e ((ds ++ m ∷ []) ++ ms) out l) (append_assoc pending (m ∷ []) ms) next)
+
+  -- a starter takes the place of what was held back, which is ready
+  pub held_flush : (e : Bool) (ds out pending : List ℕ) (d : ℕ) → class_of v d ≤ 0 → IsHeld v e ds out pending → ((zs : List ℕ) → ended v e (canonical_order (class_of v) (pending ++ d ∷ zs)) ≡ ended v e (canonical_order (class_of v) pending) ++ ended v e (canonical_order (class_of v) (d ∷ zs))) → IsHeld v e (ds ++ d ∷ []) (out ++ ended v e (canonical_order (class_of v) pending)) (d ∷ [])
+  held_flush e ds out pending d low h parts =
+      record {
+        front = ds ++ d ∷ [];
+        non_starters = [];
+        split = sym (append-nil (ds ++ d ∷ []));
+        all = refl;
+        shape = starter _ d [] low;
+        goes_on = λ zs.
+            ap (λ l. ended v e (canonical_order (class_of v) l)) (append_assoc ds (d ∷ []) zs) ∙ h.goes_on (d ∷ zs)
+            ∙ ap (λ l. out ++ l) (parts zs) ∙ sym (append_assoc out _ _);
+      }
+
+  -- or goes into the starter that was held back alone
+  pub held_join : (e : Bool) (ds out pending : List ℕ) (d p : ℕ) → class_of v p ≤ 0 → IsHeld v e ds out pending → ((zs : List ℕ) → ended v e (canonical_order (class_of v) (pending ++ d ∷ zs)) ≡ ended v e (canonical_order (class_of v) (p ∷ zs))) → IsHeld v e (ds ++ d ∷ []) out (p ∷ [])
+  held_join e ds out pending d p low h joins =
+      record {
+        front = ds ++ d ∷ [];
+        non_starters = [];
+        split = sym (append-nil (ds ++ d ∷ []));
+        all = refl;
+        shape = starter out p [] low;
+        goes_on = λ zs.
+            ap (λ l. ended v e (canonical_order (class_of v) l)) (append_assoc ds (d ∷ []) zs) ∙ h.goes_on (d ∷ zs) ∙ ap (λ l. out ++ l) (joins zs);
+      }
+
+  pub Advances-start : (e : Bool) (ready pending : List ℕ) → Advances v e [] ready pending ready pending
+  Advances-start e ready pending =
+      record {
+        more = [];
+        ready_is = sym (append-nil ready);
+        carries = λ ds out h. subst (λ l. IsHeld v e l (out ++ []) pending) (sym (append-nil ds)) (subst (λ l. IsHeld v e ds l pending) (sym (append-nil out)) h);
+      }
+
+  -- nothing became ready
+  pub Advances-kept : (e : Bool) (parts ready pending after : List ℕ) → ((ds out : List ℕ) → IsHeld v e ds out pending → IsHeld v e (ds ++ parts) out after) → Advances v e parts ready pending ready after
+  Advances-kept e parts ready pending after carries =
+      record {
+        more = [];
+        ready_is = sym (append-nil ready);
+        carries = λ ds out h. subst (λ l. IsHeld v e (ds ++ parts) l after) (sym (append-nil out)) (carries ds out h);
+      }
+
+  pub Advances-non_starters : (e : Bool) (ready pending parts : List ℕ) → list_all (is_non_starter v) parts ≡ true → Advances v e parts ready pending ready (pending ++ parts)
+  Advances-non_starters e ready pending parts all = Advances-kept e parts ready pending (pending ++ parts) (λ ds out h. held_all e ds out pending parts all h)
+
+  pub Advances-next : (e : Bool) (parts new r₀ p₀ r₁ p₁ r₂ p₂ : List ℕ) → Advances v e parts r₀ p₀ r₁ p₁ → Advances v e new r₁ p₁ r₂ p₂ → Advances v e (parts ++ new) r₀ p₀ r₂ p₂
+  Advances-next e parts new r₀ p₀ r₁ p₁ r₂ p₂ a b =
+      record {
+        more = a.more ++ b.more;
+        ready_is = b.ready_is ∙ ap (λ l. l ++ b.more) a.ready_is ∙ append_assoc r₀ a.more b.more;
+        carries = λ ds out h.
+            subst (λ l. IsHeld v e l (out ++ (a.more ++ b.more)) p₂) (append_assoc ds parts new)
+            (subst (λ l. IsHeld v e ((ds ++ parts) ++ new) l p₂) (append_assoc out a.more b.more) (b.carries (ds ++ parts) (out ++ a.more) (a.carries ds out h)));
+      }
+
+  few_held : (out ms pending : List ℕ) → Shape v out ms pending → length pending ≤ 1 + length ms
+  few_held out ms pending (no_starter ns) = omega arith
+  few_held out ms pending (starter before s ns low) = omega arith
+
+  pub non_starters_ended : (e : Bool) (ms : List ℕ) → list_all (is_non_starter v) ms ≡ true → ended v e (canonical_order (class_of v) ms) ≡ canonical_order (class_of v) ms
+  non_starters_ended false ms h = refl
+  non_starters_ended true ms h =
+      let sorted = list_all-canonical_order (class_of v) (is_non_starter v) ms h in
+      compose_of_is v sound _ ∙ ap (compose (class_of v) (composite v)) (sym (append-nil _)) ∙ compose-non_starters v sound _ [] sorted
+      ∙ ap (λ l. canonical_order (class_of v) ms ++ l) (compose-nil (class_of v) (composite v)) ∙ append-nil _
+
+  starter_ended : (e : Bool) (s : ℕ) (ms : List ℕ) → class_of v s ≤ 0 → list_all (is_non_starter v) ms ≡ true → IsLastRun v sound (ended v e (canonical_order (class_of v) (s ∷ ms)))
+  starter_ended false s ms low h =
+      record { head = s; non_starters = canonical_order (class_of v) ms; split = order_starter v sound s ms low; starter = omega arith; all = list_all-canonical_order (class_of v) (is_non_starter v) ms h }
+  starter_ended true s ms low h =
+      let sorted = list_all-canonical_order (class_of v) (is_non_starter v) ms h in
+      let e = compose_of_is v sound _ ∙ composed_starter v sound s ms low in
+      elim (last_after v sound s [] (canonical_order (class_of v) ms) low refl) [
+        | inl whole ↦ subst (IsLastRun v sound) (sym e) whole
+        | inr part ↦
+            let low_first = part.starter in
+            absurd (non_starter_or_starter v sound part.first part.front part.rest (omega arith) (ap (list_all (is_non_starter v)) (sym part.split) ∙ sorted))
+      ]
+
+  cut_held : (e : Bool) (out ms pending : List ℕ) → list_all (is_non_starter v) ms ≡ true → Shape v out ms pending → IsCutAtLastStarter v out (ended v e (canonical_order (class_of v) pending))
+  cut_held e out ms pending all (no_starter ns) =
+      inr (record { nothing = refl; non_starters = ap (list_all (is_non_starter v)) (non_starters_ended e ns all) ∙ list_all-canonical_order (class_of v) (is_non_starter v) ns all })
+  cut_held e out ms pending all (starter before s ns low) =
+      let r = starter_ended e s ns low all in inl (record { s = r.head; ms = r.non_starters; split = r.split; starter = r.starter; non_starters = r.all })
+
+  -- ---- the relation of the definitions
+
+  ordered_value : (form : Form) (xs ys : List ℕ) → IsOrderedAndComposed v form xs ys → ys ≡ ended v (composes form) (canonical_order (class_of v) xs)
+  ordered_value form xs ys h =
+      ended_is v sound (composes form) h.ordered ys h.ends ∙ ap (ended v (composes form)) (ordered_form-canonical_order (class_of v) xs h.ordered h.orders)
+
+  value_ordered : (form : Form) (xs : List ℕ) → IsOrderedAndComposed v form xs (ended v (composes form) (canonical_order (class_of v) xs))
+  value_ordered form xs =
+      record { ordered = canonical_order (class_of v) xs; orders = IsOrderedForm-canonical_order (class_of v) xs; ends = EndsAs-ended v sound (composes form) (canonical_order (class_of v) xs) }
+
+  shape_behind : (out ms pending : List ℕ) → Shape v out ms pending → ((out ≡ []) × (pending ≡ ms)) ⊎ ((s : ℕ) × (class_of v s ≡ 0) × (pending ≡ s ∷ ms))
+  shape_behind out ms pending (no_starter ns) = inl (refl, refl)
+  shape_behind out ms pending (starter before s ns low) = inr (s, omega arith, refl)
+
+  behind_shape : (out ms pending : List ℕ) → ((out ≡ []) × (pending ≡ ms)) ⊎ ((s : ℕ) × (class_of v s ≡ 0) × (pending ≡ s ∷ ms)) → Shape v out ms pending
+  behind_shape out ms pending h =
+      elim h [
+        | inl none ↦ subst (λ l. Shape v l ms pending) (sym none.0) (subst (λ l. Shape v [] ms l) (sym none.1) (no_starter ms))
+        | inr some ↦ subst (λ l. Shape v out ms l) (sym some.2) (starter out some.0 ms (let z = some.1 in omega arith))
+      ]
+
+  -- the state of the stream that has read the whole decomposition
+  pub IsStreaming-held : (form : Form) (fed out pending : List ℕ) → IsHeld v (composes form) (flat_map (full_of v (is_compat form)) fed) out pending → IsStreaming v form fed out pending
+  unfolding normal_form decomposed
+  IsStreaming-held form fed out pending h =
+      let ds = flat_map (full_of v (is_compat form)) fed in
+      let e = composes form in
+      let whole : normal_form v form fed ≡ out ++ ended v e (canonical_order (class_of v) pending) =
+      ap (λ l. ended v e (canonical_order (class_of v) l)) (sym (append-nil ds)) ∙ h.goes_on []
+      ∙ ap (λ l. out ++ ended v e (canonical_order (class_of v) l)) (append-nil pending) in
+      record {
+        full = ds;
+        decomposes = IsFullDecomposition-flat_map v (is_compat form) sound.shallow fed;
+        held_back = record { front = h.front; run = h.non_starters; split = h.split; non_starters = h.all; behind = shape_behind out h.non_starters pending h.shape };
+        goes_on = λ more ys of_ys.
+            subst (IsOrderedAndComposed v form (ds ++ more)) (h.goes_on more ∙ ap (λ l. out ++ l) (sym (ordered_value form (pending ++ more) ys of_ys))) (value_ordered form (ds ++ more));
+        held = ended v e (canonical_order (class_of v) pending);
+        holds = value_ordered form pending;
+        whole = subst (IsNormalForm v form fed) whole (IsNormalForm-normal_form v sound form fed);
+        cut = cut_held e out h.non_starters pending h.all h.shape;
+        few = λ n short.
+            elim (cases_lt n (length h.non_starters)) [
+              | inl long ↦ absurd (short (record { before = h.front; run = h.non_starters; after = []; split = h.split ∙ ap (λ l. h.front ++ l) (sym (append-nil h.non_starters)); non_starters = h.all; long = long }))
+              | inr fits ↦ (let most = few_held out h.non_starters pending h.shape in omega arith)
+            ];
+      }
+
+  pub held_streaming : (form : Form) (fed out pending : List ℕ) → IsStreaming v form fed out pending → IsHeld v (composes form) (flat_map (full_of v (is_compat form)) fed) out pending
+  held_streaming form fed out pending s =
+      let ds = flat_map (full_of v (is_compat form)) fed in
+      let e = composes form in
+      let same : s.full ≡ ds = full_decomposition-flat_map v (is_compat form) sound.shallow fed s.full s.decomposes in
+      record {
+        front = s.held_back.front;
+        non_starters = s.held_back.run;
+        split = sym same ∙ s.held_back.split;
+        all = s.held_back.non_starters;
+        shape = behind_shape out s.held_back.run pending s.held_back.behind;
+        goes_on = λ zs.
+            ap (λ l. ended v e (canonical_order (class_of v) (l ++ zs))) (sym same)
+            ∙ sym (ordered_value form (s.full ++ zs) _ (s.goes_on zs _ (value_ordered form (pending ++ zs))));
+      }
+
+  pub IsStreaming-start : (form : Form) → IsStreaming v form [] [] []
+  IsStreaming-start form = IsStreaming-held form [] [] [] (held_start (composes form))
+
+  -- what one more code point of the text does
+  pub Advances-streams : (form : Form) (compat e : Bool) (c : ℕ) (parts ready pending ready_after pending_after : List ℕ) → compat ≡ is_compat form → e ≡ composes form → parts ≡ full_of v compat c → (a : Advances v e parts ready pending ready_after pending_after) → (fed out : List ℕ) → IsStreaming v form fed out pending → IsStreaming v form (fed ++ c ∷ []) (out ++ a.more) pending_after
+  Advances-streams form compat e c parts ready pending ready_after pending_after kind comp of_c a fed out s =
+      let each = full_of v (is_compat form) in
+      let h = subst (λ b. IsHeld v b (flat_map each fed) out pending) (sym comp) (held_streaming form fed out pending s) in
+      let later = a.carries (flat_map each fed) out h in
+      let more : flat_map each fed ++ parts ≡ flat_map each (fed ++ c ∷ []) =
+      ap (λ l. flat_map each fed ++ l) (of_c ∙ ap (λ b. full_of v b c) kind ∙ sym (append-nil (each c))) ∙ sym (flat_map-append each fed (c ∷ [])) in
+      IsStreaming-held form (fed ++ c ∷ []) (out ++ a.more) pending_after
+      (subst (λ l. IsHeld v (composes form) l (out ++ a.more) pending_after) more (subst (λ b. IsHeld v b (flat_map each fed ++ parts) (out ++ a.more) pending_after) comp later))
+
+  -- what the end of the text does
+  pub whole_streams : (form : Form) (e : Bool) (pending fed out : List ℕ) → e ≡ composes form → IsStreaming v form fed out pending → IsNormalForm v form fed (out ++ ended v e (canonical_order (class_of v) pending))
+  whole_streams form e pending fed out comp s =
+      subst (λ l. IsNormalForm v form fed (out ++ l))
+      (ordered_value form pending s.held s.holds ∙ ap (λ b. ended v b (canonical_order (class_of v) pending)) (sym comp)) s.whole

@@ -1,0 +1,294 @@
+-- More text changes a normal form from its last starter on alone.
+use Rattle.std.proofs.Common.{◌≡◌, ℕ, ◌<◌, ◌≤◌, ◌⊎◌, Bool, true, false, List, [], ◌∷◌, ◌++◌, flat_map, Option, refl, sym, ap, ap₂, subst, ◌∙◌, arith, inl, inr, append_assoc}
+use Rattle.std.proofs.lemmas.Bool.{cases_lt, and_parts, and_from, not-true, not_from_false, eqb-false}
+use Rattle.std.proofs.lemmas.Grind.{flat_map-append}
+use Rattle.std.specs.List.{list_all}
+use Rattle.np_tables.specs.Versions.{VersionData, class_of}
+use Rattle.np_tables.specs.Mappings.{is_final}
+use Rattle.np_tables.specs.inside.FullDecompositions.{full_of}
+use Rattle.np_forms.specs.Order.{is_ordered}
+use Rattle.np_forms.specs.inside.CanonicalOrder.{canonical_order}
+use Rattle.np_tables.specs.inside.CompositeSearch.{composite}
+use Rattle.np_forms.specs.inside.Composing.{joined, compose_after, compose, compose_of}
+use Rattle.np_tables.specs.Conditions.{IsSound}
+use Rattle.np_code_points.specs.declared.forms.Form.{Form}
+use Rattle.np_code_points.specs.Forms.{is_compat, composes}
+use Rattle.np_forms.specs.inside.NormalForms.{decomposed, ended, normal_form}
+use Rattle.np_forms.specs.Starters.{is_non_starter}
+use Rattle.np_forms.specs.Forms.{IsNormalForm}
+use Rattle.np_forms.specs.Streams.{BeginsAtLastStarter, HasNoStarter}
+use Rattle.np_forms.specs.StreamLaws.{OneMore}
+use Rattle.np_tables.proofs.MappingLemmas.{list_all-append}
+use Rattle.np_forms.proofs.OrderLemmas.{canonical_order-front, canonical_order-at_starter, canonical_order-ordered, is_ordered-front, is_ordered-back}
+use Rattle.np_forms.proofs.ComposeLemmas.{not_starter_from, compose_after-nil, compose_after-joined, compose_after-starter, compose_after-kept, compose-nil, compose-starter, compose-non_starter, joined-some}
+use Rattle.np_tables.proofs.CompositeLemmas.{cases_Option, composite-starter}
+use Rattle.np_forms.proofs.FormLemmas.{IsNormalForm-normal_form, normal_form_is}
+use Rattle.np_forms.proofs.KeptLemmas.{is_ordered-decomposed, all_final, decomposed-final, decomposed-composed, decomposed-normal_form}
+
+pub list_all-front : (p : ℕ → Bool) (xs ys : List ℕ) → list_all p (xs ++ ys) ≡ true → list_all p xs ≡ true
+list_all-front p [] ys h = refl
+list_all-front p (x ∷ xs) ys h = let halves = and_parts (p x) (list_all p (xs ++ ys)) h in and_from _ _ halves.0 (list_all-front p xs ys halves.1)
+
+pub list_all-back : (p : ℕ → Bool) (xs ys : List ℕ) → list_all p (xs ++ ys) ≡ true → list_all p ys ≡ true
+list_all-back p [] ys h = h
+list_all-back p (x ∷ xs) ys h = list_all-back p xs ys (and_parts (p x) (list_all p (xs ++ ys)) h).1
+
+module _ (v : VersionData) (sound : IsSound v) where
+  abbrev ccc : ℕ → ℕ
+  ccc = class_of v
+
+  abbrev join : ℕ → ℕ → Option ℕ
+  join = composite v
+
+  non_starter_from : (c : ℕ) → 0 < class_of v c → is_non_starter v c ≡ true
+  non_starter_from c h = not_from_false _ (not_starter_from ccc c h)
+
+  -- ---- the last starter that composition writes
+
+  -- a starter and non-starters
+  pub record IsLastRun (ys : List ℕ) : Type 0 where
+    pub head : ℕ
+    pub non_starters : List ℕ
+    pub split : ys ≡ head ∷ non_starters
+    pub starter : class_of v head ≡ 0
+    pub all : list_all (is_non_starter v) non_starters ≡ true
+
+  -- what comes out last comes from `rest` on, whatever follows
+  pub record LastAfter (s : ℕ) (bs cs : List ℕ) : Type 0 where
+    pub front : List ℕ
+    pub first : ℕ
+    pub rest : List ℕ
+    pub out : List ℕ
+    pub split : cs ≡ front ++ first ∷ rest
+    pub starter : class_of v first ≤ 0
+    pub goes_on : (zs : List ℕ) → compose_after ccc join s bs (front ++ first ∷ zs) ≡ out ++ compose_after ccc join first [] zs
+    pub last : IsLastRun (compose_after ccc join first [] rest)
+
+  pub last_after : (s : ℕ) (bs cs : List ℕ) → class_of v s ≤ 0 → list_all (is_non_starter v) bs ≡ true → IsLastRun (compose_after ccc join s bs cs) ⊎ LastAfter s bs cs
+  last_after s bs [] starter non_starters =
+      inl (record { head = s; non_starters = bs; split = compose_after-nil ccc join s bs; starter = omega arith; all = non_starters })
+  last_after s bs (c ∷ cs) starter non_starters =
+      elim (cases_Option (joined ccc join s bs c)) [
+        | inr some ↦
+            let goes = λ (zs : List ℕ). compose_after-joined ccc join s bs c some.0 zs some.1 in
+            let both = (joined-some ccc join s bs c some.0 some.1).1 in
+            elim (last_after some.0 bs cs (let e = composite-starter v sound s c some.0 both in omega arith) non_starters) [
+              | inl whole ↦ inl (subst IsLastRun (sym (goes cs)) whole)
+              | inr part ↦
+                  inr (record {
+                    front = c ∷ part.front;
+                    first = part.first;
+                    rest = part.rest;
+                    out = part.out;
+                    split = ap (λ l. c ∷ l) part.split;
+                    starter = part.starter;
+                    goes_on = λ zs. goes (part.front ++ part.first ∷ zs) ∙ part.goes_on zs;
+                    last = part.last;
+                  })
+            ]
+        | inl none ↦
+            elim (cases_lt 0 (class_of v c)) [
+              | inl non_starter ↦
+                  let goes = λ (zs : List ℕ). compose_after-kept ccc join s bs c zs none non_starter in
+                  elim (last_after s (bs ++ c ∷ []) cs starter (list_all-append (is_non_starter v) bs (c ∷ []) non_starters (and_from _ _ (non_starter_from c non_starter) refl))) [
+                    | inl whole ↦ inl (subst IsLastRun (sym (goes cs)) whole)
+                    | inr part ↦
+                        inr (record {
+                          front = c ∷ part.front;
+                          first = part.first;
+                          rest = part.rest;
+                          out = part.out;
+                          split = ap (λ l. c ∷ l) part.split;
+                          starter = part.starter;
+                          goes_on = λ zs. goes (part.front ++ part.first ∷ zs) ∙ part.goes_on zs;
+                          last = part.last;
+                        })
+                  ]
+              | inr starts ↦
+                  let goes = λ (zs : List ℕ). compose_after-starter ccc join s bs c zs none starts in
+                  elim (last_after c [] cs starts refl) [
+                    | inl whole ↦
+                        inr (record {
+                          front = [];
+                          first = c;
+                          rest = cs;
+                          out = s ∷ bs;
+                          split = refl;
+                          starter = starts;
+                          goes_on = goes;
+                          last = whole;
+                        })
+                    | inr part ↦
+                        inr (record {
+                          front = c ∷ part.front;
+                          first = part.first;
+                          rest = part.rest;
+                          out = s ∷ (bs ++ part.out);
+                          split = ap (λ l. c ∷ l) part.split;
+                          starter = part.starter;
+                          goes_on = λ zs.
+                              goes (part.front ++ part.first ∷ zs) ∙ ap (λ l. s ∷ (bs ++ l)) (part.goes_on zs)
+                              ∙ ap (λ l. s ∷ l) (sym (append_assoc bs part.out _));
+                          last = part.last;
+                        })
+                  ]
+            ]
+      ]
+
+  record LastPart (ds : List ℕ) : Type 0 where
+    front : List ℕ
+    first : ℕ
+    rest : List ℕ
+    out : List ℕ
+    split : ds ≡ front ++ first ∷ rest
+    starter : class_of v first ≤ 0
+    goes_on : (zs : List ℕ) → compose ccc join (front ++ first ∷ zs) ≡ out ++ compose_after ccc join first [] zs
+    last : IsLastRun (compose_after ccc join first [] rest)
+
+  last_part : (ds : List ℕ) → (list_all (is_non_starter v) (compose ccc join ds) ≡ true) ⊎ LastPart ds
+  last_part [] = inl (ap (list_all (is_non_starter v)) (compose-nil ccc join))
+  last_part (c ∷ cs) =
+      elim (cases_lt 0 (class_of v c)) [
+        | inl non_starter ↦
+            let goes = λ (zs : List ℕ). compose-non_starter ccc join c zs non_starter in
+            elim (last_part cs) [
+              | inl none ↦ inl (ap (list_all (is_non_starter v)) (goes cs) ∙ and_from _ _ (non_starter_from c non_starter) none)
+              | inr part ↦
+                  inr (record {
+                    front = c ∷ part.front;
+                    first = part.first;
+                    rest = part.rest;
+                    out = c ∷ part.out;
+                    split = ap (λ l. c ∷ l) part.split;
+                    starter = part.starter;
+                    goes_on = λ zs. goes (part.front ++ part.first ∷ zs) ∙ ap (λ l. c ∷ l) (part.goes_on zs);
+                    last = part.last;
+                  })
+            ]
+        | inr starts ↦
+            let goes = λ (zs : List ℕ). compose-starter ccc join c zs starts in
+            elim (last_after c [] cs starts refl) [
+              | inl whole ↦
+                  inr (record { front = []; first = c; rest = cs; out = []; split = refl; starter = starts; goes_on = goes; last = whole })
+              | inr part ↦
+                  inr (record {
+                    front = c ∷ part.front;
+                    first = part.first;
+                    rest = part.rest;
+                    out = part.out;
+                    split = ap (λ l. c ∷ l) part.split;
+                    starter = part.starter;
+                    goes_on = λ zs. goes (part.front ++ part.first ∷ zs) ∙ part.goes_on zs;
+                    last = part.last;
+                  })
+            ]
+      ]
+
+  -- ---- the last starter is one place
+
+  pub non_starter_or_starter : (s : ℕ) (xs : List ℕ) (ms : List ℕ) → class_of v s ≡ 0 → list_all (is_non_starter v) (xs ++ s ∷ ms) ≡ true → ⊥
+  non_starter_or_starter s xs ms starter h =
+      eqb-false (ccc s) 0 (not-true _ (and_parts (is_non_starter v s) (list_all (is_non_starter v) ms) (list_all-back (is_non_starter v) xs (s ∷ ms) h)).0) starter
+
+  one_last : (xs ys : List ℕ) (s t : ℕ) (ms ns : List ℕ) → xs ++ s ∷ ms ≡ ys ++ t ∷ ns → class_of v s ≡ 0 → class_of v t ≡ 0 → list_all (is_non_starter v) ms ≡ true → list_all (is_non_starter v) ns ≡ true → (xs ≡ ys) × (s ∷ ms ≡ t ∷ ns)
+  one_last [] [] s t ms ns e of_s of_t all_m all_n = (refl, e)
+  one_last [] (y ∷ ys) s t ms ns e of_s of_t all_m all_n =
+      let rest : ms ≡ ys ++ t ∷ ns = cc in absurd (non_starter_or_starter t ys ns of_t (sym (ap (list_all (is_non_starter v)) rest) ∙ all_m))
+  one_last (x ∷ xs) [] s t ms ns e of_s of_t all_m all_n =
+      let rest : xs ++ s ∷ ms ≡ ns = cc in absurd (non_starter_or_starter s xs ms of_s (ap (list_all (is_non_starter v)) rest ∙ all_n))
+  one_last (x ∷ xs) (y ∷ ys) s t ms ns e of_s of_t all_m all_n =
+      let rest : xs ++ s ∷ ms ≡ ys ++ t ∷ ns = cc in
+      let head : x ≡ y = cc in
+      let later = one_last xs ys s t ms ns rest of_s of_t all_m all_n in
+      (ap₂ (λ z zs. z ∷ zs) head later.0, later.1)
+
+  -- ---- a first part may be normalized first
+
+  pub decomposed-front : (compat : Bool) (xs zs : List ℕ) → decomposed v compat (xs ++ zs) ≡ canonical_order ccc (decomposed v compat xs ++ flat_map (full_of v compat) zs)
+  unfolding decomposed
+  decomposed-front compat xs zs =
+      ap (canonical_order ccc) (flat_map-append (full_of v compat) xs zs) ∙ sym (canonical_order-front ccc (flat_map (full_of v compat) xs) (flat_map (full_of v compat) zs))
+
+  pub normal_form-front : (form : Form) (xs zs : List ℕ) → normal_form v form (normal_form v form xs ++ zs) ≡ normal_form v form (xs ++ zs)
+  unfolding normal_form
+  normal_form-front form xs zs =
+      let compat = is_compat form in
+      ap (ended v (composes form))
+      (decomposed-front compat (ended v (composes form) (decomposed v compat xs)) zs
+      ∙ ap (λ l. canonical_order ccc (l ++ flat_map (full_of v compat) zs)) (decomposed-normal_form v sound form xs)
+      ∙ sym (decomposed-front compat xs zs))
+
+  -- a starter in an ordered text parts the order of what follows
+  order_parts : (xs : List ℕ) (s : ℕ) (ms zs : List ℕ) → is_ordered ccc (xs ++ s ∷ ms) ≡ true → class_of v s ≤ 0 → canonical_order ccc ((xs ++ s ∷ ms) ++ zs) ≡ xs ++ s ∷ canonical_order ccc (ms ++ zs)
+  order_parts xs s ms zs ordered starter =
+      ap (canonical_order ccc) (append_assoc xs (s ∷ ms) zs) ∙ canonical_order-at_starter ccc xs s (ms ++ zs) starter
+      ∙ ap (λ l. l ++ s ∷ canonical_order ccc (ms ++ zs)) (canonical_order-ordered ccc xs (is_ordered-front ccc xs (s ∷ ms) ordered))
+
+  pub compose_of_is : (xs : List ℕ) → compose_of v xs ≡ compose ccc join xs
+  unfolding compose_of
+  compose_of_is xs = refl
+
+  more_composed : (compat : Bool) (ds x : List ℕ) (s : ℕ) (ms fs : List ℕ) → is_ordered ccc ds ≡ true → list_all (is_final v compat) ds ≡ true → compose ccc join ds ≡ x ++ s ∷ ms → class_of v s ≡ 0 → list_all (is_non_starter v) ms ≡ true → (part : LastPart ds) → compose ccc join (canonical_order ccc (ds ++ fs)) ≡ x ++ compose ccc join (canonical_order ccc (decomposed v compat (s ∷ ms) ++ fs))
+  more_composed compat ds x s ms fs ordered final is starter non_starters part =
+      let tail = part.first ∷ part.rest in
+      let ends = sym (ap (λ l. part.out ++ l) part.last.split) ∙ sym (ap (compose ccc join) part.split ∙ part.goes_on part.rest) ∙ is in
+      let same = one_last part.out x part.last.head s part.last.non_starters ms ends part.last.starter starter part.last.all non_starters in
+      let ordered_is = ap (is_ordered ccc) (sym part.split) ∙ ordered in
+      let final_is = ap (list_all (is_final v compat)) (sym part.split) ∙ final in
+      let ordered_tail = is_ordered-back ccc part.front tail ordered_is in
+      let final_tail = list_all-back (is_final v compat) part.front tail final_is in
+      let later = canonical_order ccc (part.rest ++ fs) in
+      let composed_tail = compose_of_is tail ∙ compose-starter ccc join part.first part.rest part.starter ∙ part.last.split ∙ same.1 in
+      let left = ap (compose ccc join) (ap (λ l. canonical_order ccc (l ++ fs)) part.split ∙ order_parts part.front part.first part.rest fs ordered_is part.starter)
+      ∙ part.goes_on later ∙ ap (λ l. l ++ compose_after ccc join part.first [] later) same.0 in
+      let of_tail : decomposed v compat (s ∷ ms) ≡ tail =
+      ap (decomposed v compat) (sym composed_tail) ∙ decomposed-composed v sound compat tail final_tail ordered_tail in
+      let right = ap (λ l. compose ccc join (canonical_order ccc (l ++ fs))) of_tail
+      ∙ ap (compose ccc join) (order_parts [] part.first part.rest fs ordered_tail part.starter) ∙ compose-starter ccc join part.first later part.starter in
+      left ∙ ap (λ l. x ++ l) (sym right)
+
+  -- the form ends as `ended e` of the decomposition ds
+  more_text : (e compat : Bool) (ds x : List ℕ) (s : ℕ) (ms fs : List ℕ) → is_ordered ccc ds ≡ true → list_all (is_final v compat) ds ≡ true → ended v e ds ≡ x ++ s ∷ ms → class_of v s ≡ 0 → list_all (is_non_starter v) ms ≡ true → ended v e (canonical_order ccc (ds ++ fs)) ≡ x ++ ended v e (canonical_order ccc (decomposed v compat (s ∷ ms) ++ fs))
+  more_text false compat ds x s ms fs ordered final is starter non_starters =
+      let ordered_is = ap (is_ordered ccc) (sym is) ∙ ordered in
+      let final_is = ap (list_all (is_final v compat)) (sym is) ∙ final in
+      let low : class_of v s ≤ 0 = omega arith in
+      ap (λ l. canonical_order ccc (l ++ fs)) is ∙ order_parts x s ms fs ordered_is low
+      ∙ ap (λ l. x ++ l) (sym (ap (λ l. canonical_order ccc (l ++ fs)) (decomposed-final v sound compat (s ∷ ms) (list_all-back (is_final v compat) x (s ∷ ms) final_is) (is_ordered-back ccc x (s ∷ ms) ordered_is))
+      ∙ order_parts [] s ms fs (is_ordered-back ccc x (s ∷ ms) ordered_is) low))
+  more_text true compat ds x s ms fs ordered final is starter non_starters =
+      let is_composed = sym (compose_of_is ds) ∙ is in
+      compose_of_is _
+      ∙ elim (last_part ds) [
+        | inl none ↦ absurd (non_starter_or_starter s x ms starter (ap (list_all (is_non_starter v)) (sym is_composed) ∙ none))
+        | inr part ↦ more_composed compat ds x s ms fs ordered final is_composed starter non_starters part
+      ]
+      ∙ ap (λ l. x ++ l) (sym (compose_of_is _))
+
+  -- for any text that follows
+  pub more : (form : Form) (xs x y zs : List ℕ) → normal_form v form xs ≡ x ++ y → BeginsAtLastStarter v x y → normal_form v form (xs ++ zs) ≡ x ++ normal_form v form (y ++ zs)
+  unfolding normal_form
+  more form xs x y zs is begins =
+      let compat = is_compat form in
+      let fs = flat_map (full_of v compat) zs in
+      ap (ended v (composes form)) (decomposed-front compat xs zs)
+      ∙ more_text (composes form) compat (decomposed v compat xs) x begins.s begins.ms fs (is_ordered-decomposed v sound compat xs) (all_final v sound compat xs) (is ∙ ap (λ l. x ++ l) begins.split) begins.starter begins.non_starters
+      ∙ ap (λ l. x ++ l)
+      (ap (λ l. ended v (composes form) (canonical_order ccc (decomposed v compat l ++ fs))) (sym begins.split)
+      ∙ ap (ended v (composes form)) (sym (decomposed-front compat y zs)))
+
+  pub more_behind_non_starters : (form : Form) (xs x y zs : List ℕ) → normal_form v form xs ≡ x ++ y → HasNoStarter v x y → normal_form v form (xs ++ zs) ≡ x ++ normal_form v form (y ++ zs)
+  more_behind_non_starters form xs x y zs is none =
+      let all : normal_form v form xs ≡ y = is ∙ ap (λ l. l ++ y) none.nothing in
+      sym (normal_form-front form xs zs) ∙ ap (λ l. normal_form v form (l ++ zs)) all ∙ ap (λ l. l ++ normal_form v form (y ++ zs)) (sym none.nothing)
+
+pub one_more : OneMore
+one_more v form text x y z c sound is where_y of_y =
+    let value = normal_form_is v sound form (y ++ c ∷ []) z of_y in
+    let is_value = sym (normal_form_is v sound form text (x ++ y) is) in
+    let step : normal_form v form (text ++ c ∷ []) ≡ x ++ normal_form v form (y ++ c ∷ []) =
+    elim where_y [
+      | inl begins ↦ more v sound form text x y (c ∷ []) is_value begins
+      | inr none ↦ more_behind_non_starters v sound form text x y (c ∷ []) is_value none
+    ] in
+    subst (IsNormalForm v form (text ++ c ∷ [])) (step ∙ ap (λ l. x ++ l) (sym value)) (IsNormalForm-normal_form v sound form (text ++ c ∷ []))

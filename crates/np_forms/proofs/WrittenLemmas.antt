@@ -1,0 +1,89 @@
+-- A stream whose ready code points are moved to the end of a text.
+use Rattle.std.proofs.Common.{◌≡◌, ℕ, List, [], ◌∷◌, ◌++◌, IsUtf8, chars, encode_utf8_all, refl, sym, ap, subst, ◌∙◌, append_assoc, append-nil}
+use Rattle.std.proofs.lemmas.Str.{encodes-append, chars_from_encodes}
+use Rattle.np_code_points.specs.declared.forms.Form.{Form}
+use Rattle.np_tables.specs.Conditions.{IsSound}
+use Rattle.np_tables.specs.Versions.{VersionData}
+use Rattle.np_forms.specs.Forms.{IsNormalForm}
+use Rattle.np_forms.specs.Streams.{IsStreaming, StreamState, TakesIn, Finishes}
+use Rattle.np_forms.specs.inside.NormalForms.{normal_form}
+use Rattle.np_forms.specs.inside.Written.{Writes, WritesEnd}
+use Rattle.np_forms.proofs.FormLemmas.{normal_form_is}
+
+-- a stream under the version and the form of another state
+same_streaming : (a b : StreamState) (fed out pending : List ℕ) → b.version ≡ a.version → b.form ≡ a.form → IsStreaming a.version a.form fed out pending → IsStreaming b.version b.form fed out pending
+same_streaming a b fed out pending version form s =
+    subst (λ v. IsStreaming v b.form fed out pending) (sym version) (subst (λ f. IsStreaming a.version f fed out pending) (sym form) s)
+
+pub Writes-start : (s : StreamState) (bytes : List ℕ) → s.ready ≡ [] → Writes s s bytes bytes []
+Writes-start s bytes empty =
+    record {
+      more = [];
+      written = sym (append-nil bytes);
+      version = refl;
+      form = refl;
+      moved = empty;
+      carries = λ fed out h.
+          subst (λ l. IsStreaming s.version s.form l (out ++ []) s.pending) (sym (append-nil fed)) (subst (λ l. IsStreaming s.version s.form fed l s.pending) (sym (append-nil out)) h);
+    }
+
+pub Writes-fed : (old mid : StreamState) (before after : List ℕ) (c : ℕ) → old.ready ≡ [] → TakesIn old mid c → after ≡ before ++ encode_utf8_all mid.ready → Writes old (record mid { ready = [] }) before after (c ∷ [])
+Writes-fed old mid before after c empty t is =
+    record {
+      more = t.more;
+      written = is ∙ ap (λ l. before ++ encode_utf8_all l) (t.ready ∙ ap (λ l. l ++ t.more) empty);
+      version = t.version;
+      form = t.form;
+      moved = refl;
+      carries = t.carries;
+    }
+
+pub WritesEnd-finished : (old mid : StreamState) (before after : List ℕ) → old.ready ≡ [] → Finishes old mid → after ≡ before ++ encode_utf8_all mid.ready → WritesEnd old before after
+WritesEnd-finished old mid before after empty f is =
+    record { more = f.more; written = is ∙ ap (λ l. before ++ encode_utf8_all l) (f.ready ∙ ap (λ l. l ++ f.more) empty); whole = f.whole }
+
+more_bytes : (x y z xs ys : List ℕ) → y ≡ x ++ encode_utf8_all xs → z ≡ y ++ encode_utf8_all ys → z ≡ x ++ encode_utf8_all (xs ++ ys)
+more_bytes x y z xs ys of_y of_z =
+    of_z ∙ ap (λ l. l ++ encode_utf8_all ys) of_y ∙ append_assoc x (encode_utf8_all xs) (encode_utf8_all ys) ∙ ap (λ l. x ++ l) (sym (encodes-append xs ys))
+
+pub Writes-next : (a b c : StreamState) (x y z text next : List ℕ) → Writes a b x y text → Writes b c y z next → Writes a c x z (text ++ next)
+Writes-next a b c x y z text next first second =
+    record {
+      more = first.more ++ second.more;
+      written = more_bytes x y z first.more second.more first.written second.written;
+      version = second.version ∙ first.version;
+      form = second.form ∙ first.form;
+      moved = second.moved;
+      carries = λ fed out h.
+          let mid = same_streaming a b (fed ++ text) (out ++ first.more) b.pending first.version first.form (first.carries fed out h) in
+          let last = same_streaming b a ((fed ++ text) ++ next) ((out ++ first.more) ++ second.more) c.pending (sym first.version) (sym first.form) (second.carries (fed ++ text) (out ++ first.more) mid) in
+          subst (λ l. IsStreaming a.version a.form l (out ++ (first.more ++ second.more)) c.pending) (append_assoc fed text next)
+          (subst (λ l. IsStreaming a.version a.form ((fed ++ text) ++ next) l c.pending) (append_assoc out first.more second.more) last);
+    }
+
+-- the bytes of a normal form
+pub record IsWrittenForm (v : VersionData) (form : Form) (text bytes : List ℕ) : Type 0 where
+  pub list : List ℕ
+  pub is : IsNormalForm v form text list
+  pub bytes_is : bytes ≡ encode_utf8_all list
+
+pub form_written : (v : VersionData) (form : Form) (a b : StreamState) (x y z text : List ℕ) → a.version ≡ v → a.form ≡ form → x ≡ [] → IsStreaming v form [] [] a.pending → Writes a b x y text → WritesEnd b y z → IsWrittenForm v form text z
+form_written v form a b x y z text version same nothing begins w e =
+    let start = subst (λ u. IsStreaming u a.form [] [] a.pending) (sym version) (subst (λ f. IsStreaming v f [] [] a.pending) (sym same) begins) in
+    let mid = same_streaming a b text w.more b.pending w.version w.form (w.carries [] [] start) in
+    let whole = e.whole text w.more mid in
+    record {
+      list = w.more ++ e.more;
+      is = subst (λ u. IsNormalForm u form text (w.more ++ e.more)) (w.version ∙ version) (subst (λ f. IsNormalForm b.version f text (w.more ++ e.more)) (w.form ∙ same) whole);
+      bytes_is = more_bytes x y z w.more e.more w.written e.written ∙ ap (λ l. l ++ encode_utf8_all (w.more ++ e.more)) nothing;
+    }
+
+-- by the function
+pub written_bytes : (v : VersionData) (sound : IsSound v) (form : Form) (text bytes : List ℕ) → IsWrittenForm v form text bytes → bytes ≡ encode_utf8_all (normal_form v form text)
+written_bytes v sound form text bytes w = w.bytes_is ∙ ap encode_utf8_all (normal_form_is v sound form text w.list w.is)
+
+pub written_chars : (v : VersionData) (sound : IsSound v) (form : Form) (text bytes : List ℕ) → IsUtf8 bytes → IsWrittenForm v form text bytes → chars bytes ≡ normal_form v form text
+written_chars v sound form text bytes utf8 w = sym (chars_from_encodes w.list bytes utf8 (sym w.bytes_is)) ∙ normal_form_is v sound form text w.list w.is
+
+pub written_form : (v : VersionData) (form : Form) (text bytes : List ℕ) → IsUtf8 bytes → IsWrittenForm v form text bytes → IsNormalForm v form text (chars bytes)
+written_form v form text bytes utf8 w = subst (IsNormalForm v form text) (chars_from_encodes w.list bytes utf8 (sym w.bytes_is)) w.is

@@ -1,0 +1,27 @@
+use Rattle.std.proofs.Common.{◌≡◌, ◌++◌, ◌+◌, ◌∷◌, [], List, take, subst, sym, ◌∙◌, ap}
+use Rattle.std.proofs.lemmas.List.{take_all, take_more}
+use Rattle.np_forms.specs.inside.Held.{Advances}
+use Rattle.np_forms.proofs.HeldLemmas.{Advances-start, Advances-next}
+use Rattle.np_forms.proofs.held.push_all.Goals as goal
+
+pub loop-d-init : goal.loop-d-init
+loop-d-init g c = Advances-start (g.T.NormTable.model c.args.table.now) c.requires c.args.composes c.args.held.now.ready.items c.args.held.now.pending.items
+
+pub loop-d-preserved : goal.loop-d-preserved
+loop-d-preserved g c =
+    let v = g.T.NormTable.model c.args.table.now in
+    let parts = c.args.parts.now in
+    let i = c.loop-d.d-index in
+    let d = c.d-item.result in
+    let more : take (i + 1) parts ≡ take i parts ++ d ∷ [] = take_more parts i d c.loop-d-test.true ∙ ap (λ x. take i parts ++ x ∷ []) (sym c.d-item.is) in
+    subst (λ l. Advances v c.args.composes l c.args.held.now.ready.items c.args.held.now.pending.items c.push.new.held.ready.items c.push.new.held.pending.items) (sym more)
+    (Advances-next v c.requires c.args.composes (take i parts) (d ∷ []) _ _ _ _ _ _ c.loop-d.invariant c.in_ok-push.ensures.ok)
+
+pub returns : goal.returns
+returns g c =
+    let v = g.T.NormTable.model c.args.table.now in
+    let done = c.loop-d.invariant in
+    record {
+      ok = subst (λ l. Advances v c.args.composes l c.args.held.now.ready.items c.args.held.now.pending.items c.loop-d.held.ready.items c.loop-d.held.pending.items) (take_all c.loop-d.d-index c.args.parts.now c.loop-d-test.false) done;
+      ready = (done.more, done.ready_is);
+    }

@@ -1,0 +1,8 @@
+use Rattle.np_forms.proofs.BoundaryLemmas.{parting, staying}
+use Rattle.np_forms.proofs.laws.boundary.Goals as goal
+
+pub returns-clause-parts : goal.returns-clause-parts
+returns-clause-parts c = parting
+
+pub returns-clause-stays : goal.returns-clause-stays
+returns-clause-stays c = staying

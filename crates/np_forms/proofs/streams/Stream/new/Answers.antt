@@ -1,0 +1,9 @@
+use Rattle.std.proofs.Common.{[], subst, sym}
+use Rattle.np_forms.specs.Streams.{IsStreaming}
+use Rattle.np_forms.proofs.HeldLemmas.{IsStreaming-start}
+use Rattle.np_forms.proofs.streams.Stream.new.Goals as goal
+
+pub returns-clause-begins : goal.returns-clause-begins
+returns-clause-begins g c =
+    let v = g.T.NormTable.model c.args.table.now in
+    subst (IsStreaming v c.args.form [] []) (sym c.new-2.ensures.items) (IsStreaming-start v c.version.ensures.sound c.args.form)

@@ -1,0 +1,17 @@
+-- Where a normal form parts, and what it leaves as it is (UAX #15, section 9.1).
+use Rattle.std.specs.Prelude.{ℕ, List, [], ◌∷◌, ◌++◌}
+use Rattle.np_code_points.specs.declared.forms.Form.{Form}
+use Rattle.np_forms.specs.Forms.{IsNormalForm}
+use Rattle.np_tables.specs.Boundaries.{IsBoundary, Stays}
+use Rattle.np_tables.specs.Conditions.{IsSound}
+use Rattle.np_tables.specs.Versions.{VersionData}
+
+-- before a boundary the form parts: what stands before it and what begins with it have their forms each for itself
+abbrev pub Parting : Type 0
+Parting =
+    (v : VersionData) (form : Form) (xs : List ℕ) (c : ℕ) (ys before after : List ℕ) → IsSound v → IsBoundary v form c →
+    IsNormalForm v form xs before → IsNormalForm v form (c ∷ ys) after → IsNormalForm v form (xs ++ c ∷ ys) (before ++ after)
+
+-- a code point that stays is its own form
+abbrev pub Staying : Type 0
+Staying = (v : VersionData) (form : Form) (c : ℕ) → IsSound v → Stays v form c → IsNormalForm v form (c ∷ []) (c ∷ [])

@@ -1,0 +1,149 @@
+//! Text that comes code point by code point, and its normal form as it becomes ready (The Unicode
+//! Standard, D118 to D121).
+ghost use Rattle.std.specs.Prelude.{◌≡◌, [], length, OnErr, OnOk};
+ghost use Rattle.np_forms.specs.Streams.{IsStreaming, StreamState, TakesIn, Finishes};
+
+use crate::decomposing::append;
+use crate::held::{Held, finish, push_all};
+use crate::ordering::are_non_starters;
+use np_code_points::{Form, Memory};
+use np_tables::NormTable;
+use std::alloc::Global;
+use std::marker::Model;
+use std::mem::swap;
+
+/// Makes a list the copy of another.
+fn copy_to(list: &mut Vec<char>, from: &[char]) -> Result<(), Memory>
+    ensures { OnOk result (list.new.items ≡ from.now) }
+{
+    list.clear();
+    list.extend_from_slice(from)?;
+    Ok(())
+}
+
+/// The normal form of a text that comes code point by code point. What is ready is the form of the
+/// text so far, cut before its last starter, which what follows may still change.
+///
+/// At most 1 code point is pending, and the longest run of non-starters so far: 31 for stream-safe
+/// text under a compatibility form. Each code point takes constant time, a run of non-starters of
+/// length n besides one stable sort of it.
+#[derive(Drop)]
+pub struct Stream<'t, T: NormTable> {
+    table: &'t T,
+    form: Form,
+    alloc: Global,
+    held: Held,
+    parts: Vec<char>,
+    kept: Vec<char>,
+}
+
+impl<'t, T: NormTable> Model for Stream<'t, T> {
+    ghost use Rattle.np_forms.specs.Streams.{StreamState};
+
+    ghost Value = { StreamState };
+
+    ghost view = { λ a. record { version = T.model a.table.now; form = a.form; ready = a.held.ready.items; pending = a.held.pending.items } };
+}
+
+impl<'t, T: NormTable> Stream<'t, T> {
+    /// A stream at the begin of a text.
+    pub fn new(alloc: Global, table: &'t T, form: Form) -> Self
+        ensures version { result.version ≡ T.model table.now }
+        ensures form { result.form ≡ form }
+        ensures ready { result.ready ≡ [] }
+        ensures begins { IsStreaming (T.model table.now) form [] [] result.pending }
+    {
+        table.version();
+        Stream {
+            table,
+            form,
+            alloc,
+            held: Held {
+                ready: Vec::new(alloc),
+                pending: Vec::new(alloc),
+            },
+            parts: Vec::new(alloc),
+            kept: Vec::new(alloc),
+        }
+    }
+
+    /// Takes in the next code point of the text.
+    ///
+    /// # Errors
+    ///
+    /// `Memory` where memory ran out; then the stream is as it was.
+    pub fn feed(&mut self, c: char) -> Result<(), Memory>
+        ensures ok { OnOk result (TakesIn self.old self.new c) }
+        ensures err { OnErr result (self.new ≡ self.old) }
+    {
+        self.table.version();
+        let hangul = self.table.hangul();
+        self.parts.clear();
+        append(&mut self.parts, self.table, hangul, self.form.compat(), c)?;
+        if are_non_starters(self.table, &self.parts) {
+            self.held.pending.extend_from_slice(&self.parts)?;
+            return Ok(());
+        }
+        copy_to(&mut self.kept, &self.held.pending)?;
+        let ready = self.held.ready.len();
+        let composes = self.form.composes();
+        match push_all(
+            self.alloc,
+            self.table,
+            composes,
+            &mut self.held,
+            &self.parts,
+        ) {
+            Ok(()) => Ok(()),
+            Err(fault) => {
+                self.held.ready.truncate(ready);
+                swap(&mut self.held.pending, &mut self.kept);
+                Err(fault)
+            }
+        }
+    }
+
+    /// What became ready since `new` or the last `clear_ready`.
+    pub fn ready(&self) -> &[char]
+        ensures { result.now ≡ self.now.ready }
+    {
+        &self.held.ready
+    }
+
+    /// Empties what is ready.
+    pub fn clear_ready(&mut self)
+        ensures { self.new ≡ record self.old { ready = [] } }
+    {
+        self.held.ready.clear();
+    }
+
+    /// How many code points are held back.
+    pub fn pending_len(&self) -> usize
+        ensures { result ≡ length self.now.pending }
+    {
+        self.held.pending.len()
+    }
+
+    /// Ends the text: the rest of its normal form is ready, and nothing is pending. What is fed
+    /// later is a new text behind it.
+    ///
+    /// # Errors
+    ///
+    /// `Memory` where memory ran out; then the stream is as it was.
+    pub fn finish(&mut self) -> Result<(), Memory>
+        ensures ok { OnOk result (Finishes self.old self.new) }
+        ensures err { OnErr result (self.new ≡ self.old) }
+    {
+        self.table.version();
+        copy_to(&mut self.kept, &self.held.pending)?;
+        let ready = self.held.ready.len();
+        match finish(self.alloc, self.table, self.form.composes(), &mut self.held) {
+            Ok(()) => Ok(()),
+            Err(fault) => {
+                self.held.ready.truncate(ready);
+                swap(&mut self.held.pending, &mut self.kept);
+                Err(fault)
+            }
+        }
+    }
+}

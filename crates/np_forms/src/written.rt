@@ -1,0 +1,69 @@
+//! Texts written as a stream gives them.
+ghost use Rattle.std.specs.Prelude.{◌≡◌, ◌++◌, ◌∷◌, [], chars as chars_in, string_bytes, encode_utf8_all, OnOk};
+ghost use Rattle.np_forms.specs.inside.Written.{Writes, WritesEnd};
+
+use crate::streams::Stream;
+use np_code_points::Memory;
+use np_tables::NormTable;
+
+/// Writes code points to the end of a text.
+fn append_chars(out: &mut String, chars: &[char]) -> Result<(), Memory>
+    ensures { OnOk result (string_bytes out.new ≡ string_bytes out.old ++ encode_utf8_all chars.now) }
+{
+    for c in chars {
+        out.push(*c)?;
+    }
+    Ok(())
+}
+
+/// Moves what is ready to the end of a text.
+fn take_ready<T: NormTable>(stream: &mut Stream<'_, T>, out: &mut String) -> Result<(), Memory>
+    ensures stream { OnOk result (stream.new ≡ record stream.old { ready = [] }) }
+    ensures bytes { OnOk result (string_bytes out.new ≡ string_bytes out.old ++ encode_utf8_all stream.old.ready) }
+{
+    append_chars(out, stream.ready())?;
+    stream.clear_ready();
+    Ok(())
+}
+
+/// Feeds a code point, and writes what became ready.
+fn write_char<T: NormTable>(
+    stream: &mut Stream<'_, T>,
+    out: &mut String,
+    c: char,
+) -> Result<(), Memory>
+    requires { stream.old.ready ≡ [] }
+    ensures { OnOk result (Writes stream.old stream.new (string_bytes out.old) (string_bytes out.new) (c ∷ [])) }
+{
+    stream.feed(c)?;
+    take_ready(stream, out)?;
+    Ok(())
+}
+
+/// Feeds a text, and writes what became ready.
+pub(crate) fn write_text<T: NormTable>(
+    stream: &mut Stream<'_, T>,
+    out: &mut String,
+    text: &str,
+) -> Result<(), Memory>
+    requires { stream.old.ready ≡ [] }
+    ensures { OnOk result (Writes stream.old stream.new (string_bytes out.old) (string_bytes out.new) (chars_in text.now)) }
+{
+    for c in text.chars() {
+        write_char(stream, out, c)?;
+    }
+    Ok(())
+}
+
+/// Ends the text, and writes the rest of its normal form.
+pub(crate) fn write_end<T: NormTable>(
+    stream: &mut Stream<'_, T>,
+    out: &mut String,
+) -> Result<(), Memory>
+    requires { stream.old.ready ≡ [] }
+    ensures { OnOk result (WritesEnd stream.old (string_bytes out.old) (string_bytes out.new)) }
+{
+    stream.finish()?;
+    take_ready(stream, out)?;
+    Ok(())
+}

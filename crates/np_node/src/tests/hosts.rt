@@ -1,0 +1,40 @@
+//! A host's loop: what it sends, saves and moves is its own affair.
+use super::{table_of, want};
+use crate::{Accepted, Node};
+use np_code_points::Form;
+use np_code_points::fixtures::{V1_DATA, V1_EXCLUSIONS, V2_DATA, V2_EXCLUSIONS};
+use np_tables::RowTable;
+use std::alloc::Global;
+use std::test::Fail;
+
+/// Two nodes of unlike versions hear of one another's names, and one restarts.
+fn host(alloc: Global, old: &RowTable, new: &RowTable) -> Result<(), Fail> {
+    let mut home = Node::new(alloc, old, Form::Nfc, 1000);
+    let mut away = Node::new(alloc, new, Form::Nfc, 1000);
+    let mut sent = Vec::new(alloc);
+    for name in ["fa", "a\u{302}", "\u{E2}", "fa"] {
+        if let Accepted::Kept(message) = home.accept(name.as_bytes())? {
+            sent.push(message)?;
+        }
+    }
+    for message in &sent {
+        away.take(message)?;
+    }
+    let saved = home.image()?;
+    home.upgrade(new)?;
+    let again = Node::restore(alloc, new, Form::Nfc, 1000, &saved)?;
+    want(again.len() == home.len(), "as many names as before")?;
+    want(again.same("a\u{302}", "\u{E2}") == Some(true), "one name")?;
+    want(away.same("a\u{302}", "\u{E2}") == Some(true), "there too")
+}
+
+fn host_of(alloc: Global, old: &RowTable) -> Result<(), Fail> {
+    let new = table_of(alloc, V2_DATA, V2_EXCLUSIONS)?;
+    host(alloc, old, &new)
+}
+
+#[test]
+fn nodes_of_unlike_versions_agree(rt: HostRuntime) -> Result<(), Fail> {
+    let old = table_of(rt.alloc(), V1_DATA, V1_EXCLUSIONS)?;
+    host_of(rt.alloc(), &old)
+}

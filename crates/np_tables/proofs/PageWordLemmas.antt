@@ -1,0 +1,213 @@
+-- Words of code points, by rows and by blocks.
+use Rattle.std.proofs.Common.{◌≡◌, ℕ, suc, ◌+◌, ◌-◌, ◌/◌, ◌<◌, Bool, true, false, ◌&&◌, List, [], ◌∷◌, ◌++◌, length, get_or, set, slice_index, Some, None, sym, ap, subst, ◌∙◌, arith, inl, inr}
+use Rattle.std.specs.List.{slice_get}
+use Rattle.std.specs.Option.{is_some}
+use Rattle.std.proofs.Math.Nat.{mod-lt}
+use Rattle.std.proofs.Math.Seq.{get_or-append_seam}
+use Rattle.std.proofs.lemmas.Bool.{and_parts, cases_Bool, cases_eq, cases_lt, both_ways}
+use Rattle.std.proofs.lemmas.List.{get_or_append_left, get_or-map, get_or-set_same, get_or-set_other, length-append, length-map, length-set}
+use Rattle.std.proofs.lemmas.Option.{none-some, same_Some, slice_get_within, slice_get-get_or}
+use Rattle.np_code_points.specs.Hangul.{is_syllable, syllable_pair}
+use Rattle.np_ucd.specs.Entries.{Entry, AreRows}
+use Rattle.np_tables.specs.Versions.{VersionData, class_of, class_in, entry_at, has_hangul, is_assigned}
+use Rattle.std.specs.List.{list_all}
+use Rattle.np_tables.specs.Conditions.{IsSound}
+use Rattle.np_tables.specs.Composites.{IsCompositeOf}
+use Rattle.np_tables.specs.declared.page_words.Word.{Word}
+use Rattle.np_tables.specs.declared.pairs.Composite.{Composite}
+use Rattle.np_tables.specs.inside.FullDecompositions.{table_full}
+use Rattle.np_tables.specs.inside.FullLists.{FullLists, of_kind}
+use Rattle.np_tables.specs.inside.Pages.{word_place}
+use Rattle.np_tables.specs.inside.Pairs.{AreOfFile}
+use Rattle.np_tables.specs.inside.RowPages.{AreRowPages, IsRowNumber}
+use Rattle.np_tables.specs.inside.PageWords.{AreRowWords, AreSecondRows, AreSlots, IsWord, ArePages, no_word, row_word, paged_words}
+use Rattle.np_tables.proofs.HangulLemmas.{decomposition_mapping-on}
+use Rattle.np_tables.proofs.RowLemmas.{at-found, at-row, entry_at-within, firsts-le}
+use Rattle.np_tables.proofs.RowPageLemmas.{ends-rise, some_at}
+use Rattle.np_tables.proofs.TableLemmas.{row-shares, full-none}
+
+-- ---- rows that have second parts
+
+-- a row has one place
+early : (es : List Entry) (i j : ℕ) (e f : Entry) → AreRows es → slice_get es i ≡ Some e → slice_get es j ≡ Some f → i < j → e.last < f.first
+early es i j e f rows at bt lt =
+    let w = slice_get_within es j f bt in
+    let next = some_at es (suc i) (omega arith) in
+    let rise = ends-rise es i e next.0 rows at next.1 in
+    let le = firsts-le es (suc i) j next.0 f rows next.1 bt (omega arith) in
+    omega arith
+
+same_place : (es : List Entry) (i j : ℕ) (e : Entry) → AreRows es → slice_get es i ≡ Some e → slice_get es j ≡ Some e → i ≡ j
+same_place es i j e rows at bt =
+    let up = (at-row es i e rows at).rises in
+    elim (cases_lt i j) [
+      | inl less ↦ (let bad = early es i j e e rows at bt less in absurd (omega arith))
+      | inr other ↦ elim (cases_lt j i) [
+        | inl more ↦ (let bad = early es j i e e rows bt at more in absurd (omega arith))
+        | inr this ↦ omega arith
+      ]
+    ]
+
+pub seconds-none : (es : List Entry) (cs : List Composite) (seconds : List Bool) → length seconds ≡ length es → AreSecondRows es cs 0 seconds
+seconds-none es cs seconds size = record { size = size; each = λ j x k e lt. absurd (omega arith) }
+
+-- the place of the next one's second part is marked
+pub seconds-more : (es : List Entry) (cs : List Composite) (count at : ℕ) (seconds : List Bool) (here : Composite) → AreRows es → AreSecondRows es cs count seconds → slice_get cs count ≡ Some here → at < length es → slice_get es at ≡ entry_at es here.second →
+    AreSecondRows es cs (count + 1) (set seconds at true)
+seconds-more es cs count at seconds here rows so_far is lt found =
+    let size = so_far.size in
+    let fits : at < length seconds = omega arith in
+    record {
+      size = length-set seconds at true ∙ size;
+      each = λ j x k e less jt kt low high. elim (cases_eq k at) [
+        | inl same ↦ ap (λ n. get_or (set seconds at true) n false) same ∙ get_or-set_same seconds at true false fits
+        | inr other ↦ elim (cases_lt j count) [
+          | inl early_one ↦ get_or-set_other seconds at k true false other ∙ so_far.each j x k e early_one jt kt low high
+          | inr this ↦
+              let there : count ≡ j = omega arith in
+              let own : here ≡ x = same_Some here x (sym is ∙ ap (slice_get cs) there ∙ jt) in
+              let second : here.second ≡ x.second = ap (λ (y : Composite). y.second) own in
+              let at_too : slice_get es at ≡ Some e = found ∙ ap (entry_at es) second ∙ sym (at-found es k x.second e rows kt low high) ∙ kt in
+              absurd (other (same_place es k at e rows kt at_too))
+        ]
+      ];
+    }
+
+-- it has no row
+pub seconds-past : (es : List Entry) (cs : List Composite) (count : ℕ) (seconds : List Bool) (here : Composite) → AreRows es → AreSecondRows es cs count seconds → slice_get cs count ≡ Some here → entry_at es here.second ≡ None →
+    AreSecondRows es cs (count + 1) seconds
+seconds-past es cs count seconds here rows so_far is none =
+    record {
+      size = so_far.size;
+      each = λ j x k e less jt kt low high. elim (cases_lt j count) [
+        | inl early_one ↦ so_far.each j x k e early_one jt kt low high
+        | inr this ↦
+            let there : count ≡ j = omega arith in
+            let own : here ≡ x = same_Some here x (sym is ∙ ap (slice_get cs) there ∙ jt) in
+            let second : here.second ≡ x.second = ap (λ (y : Composite). y.second) own in
+            absurd (none-some e (sym none ∙ ap (entry_at es) second ∙ sym (at-found es k x.second e rows kt low high) ∙ kt))
+      ];
+    }
+
+-- ---- words by rows
+
+pub words-none : (es : List Entry) (slots : List ℕ) (seconds : List Bool) (words : List Word) → words ≡ no_word ∷ [] → AreRowWords es slots seconds 0 words
+words-none es slots seconds words is =
+    record { size = ap length is; none = ap (λ l. get_or l 0 no_word) is; each = λ k e lt. absurd (omega arith) }
+
+pub words-more : (es : List Entry) (slots : List ℕ) (seconds : List Bool) (count : ℕ) (words : List Word) (word : Word) (here : Entry) → AreRowWords es slots seconds count words → slice_get es count ≡ Some here →
+    word ≡ row_word here (slice_index slots count) (get_or seconds count false) → AreRowWords es slots seconds (count + 1) (words ++ word ∷ [])
+words-more es slots seconds count words word here so_far is own =
+    let size = so_far.size in
+    record {
+      size = (let grown = length-append words (word ∷ []) in omega arith);
+      none = get_or_append_left words (word ∷ []) no_word 0 (omega arith) ∙ so_far.none;
+      each = λ k e lt h. elim (cases_lt k count) [
+        | inl less ↦ get_or_append_left words (word ∷ []) no_word (k + 1) (omega arith) ∙ so_far.each k e less h
+        | inr past ↦
+            let there : count ≡ k = omega arith in
+            let place : length words ≡ k + 1 = omega arith in
+            let same : here ≡ e = same_Some here e (sym is ∙ ap (slice_get es) there ∙ h) in
+            sym (ap (λ n. get_or (words ++ word ∷ []) n no_word) place) ∙ get_or-append_seam words word [] no_word ∙ own
+            ∙ ap (λ n. row_word here (slice_index slots n) (get_or seconds n false)) there
+            ∙ ap (λ (x : Entry). row_word x (slice_index slots k) (get_or seconds k false)) same
+      ];
+    }
+
+-- ---- words by code points
+
+-- the second part of a composite is assigned
+second_assigned : (v : VersionData) → IsSound v → (a b p : ℕ) → IsCompositeOf v a b p → is_assigned v b ≡ true
+second_assigned v sound a b p is =
+    let all = sym (ap (list_all (is_assigned v)) is.mapping) ∙ sound.maps_to_assigned p in
+    (and_parts (is_assigned v b) true (and_parts (is_assigned v a) (is_assigned v b && true) all).1).0
+
+class-found : (v : VersionData) (c : ℕ) (e : Entry) → entry_at v.entries c ≡ Some e → e.class ≡ class_of v c
+unfolding class_of
+class-found v c e h = sym (ap class_in h)
+
+class-none : (v : VersionData) (c : ℕ) → entry_at v.entries c ≡ None → 0 ≡ class_of v c
+unfolding class_of
+class-none v c h = sym (ap class_in h)
+
+assigned-found : (v : VersionData) (c : ℕ) (e : Entry) → entry_at v.entries c ≡ Some e → true ≡ is_assigned v c
+unfolding is_assigned
+assigned-found v c e h = sym (ap is_some h)
+
+assigned-none : (v : VersionData) (c : ℕ) → entry_at v.entries c ≡ None → false ≡ is_assigned v c
+unfolding is_assigned
+assigned-none v c h = sym (ap is_some h)
+
+module _ (v : VersionData) (sound : IsSound v) (lists : FullLists) (slots : List ℕ) (are_slots : AreSlots v (length v.entries) lists slots)
+    (cs : List Composite) (file : AreOfFile v cs) (seconds : List Bool) (are_seconds : AreSecondRows v.entries cs (length cs) seconds)
+    (words : List Word) (are_words : AreRowWords v.entries slots seconds (length v.entries) words) where
+  -- of a code point that a row has
+  word-some : (c k : ℕ) (e : Entry) → slice_get v.entries k ≡ Some e → entry_at v.entries c ≡ Some e → IsWord v lists c (row_word e (slice_index slots k) (get_or seconds k false))
+  word-some c k e here found =
+      let lt = slice_get_within v.entries k e here in
+      let slot = are_slots.each k e lt here in
+      let within = entry_at-within v.entries c e found in
+      record {
+        class = class-found v c e found;
+        assigned = assigned-found v c e found;
+        slot = record { within = slot.within; lent = λ compat. slot.lent compat ∙ row-shares v compat c k e sound.rows here found };
+        second = λ a p is off. (
+            let has = file.all a c p is off in
+            let x : Composite = record { first = a; second = c; code = p } in
+            are_seconds.each has.0 x k e has.1 (slice_get-get_or cs has.0 x has.1 ∙ ap Some has.2) here within.0 within.1);
+      }
+
+  word-none : (c : ℕ) → entry_at v.entries c ≡ None → IsWord v lists c no_word
+  word-none c none =
+      record {
+        class = class-none v c none;
+        assigned = assigned-none v c none;
+        slot = record { within = are_slots.some; lent = λ compat. are_slots.none compat ∙ full-none v compat c none };
+        second = λ a p is off. absurd (both_ways _ (sym (assigned-none v c none)) (second_assigned v sound a c p is));
+      }
+
+  word-number : (c number : ℕ) → IsRowNumber v.entries c number → IsWord v lists c (get_or words number no_word)
+  word-number c number is =
+      elim (cases_lt 0 number) [
+        | inl some ↦
+            let back : number ≡ number - 1 + 1 = omega arith in
+            let here = some_at v.entries (number - 1) (is.within some) in
+            let read = ap (λ n. get_or words n no_word) back ∙ are_words.each (number - 1) here.0 (is.within some) here.1 in
+            subst (IsWord v lists c) (sym read) (word-some c (number - 1) here.0 here.1 (sym (is.row some) ∙ here.1))
+        | inr none ↦
+            let zero_is : number ≡ 0 = omega arith in
+            let read = ap (λ n. get_or words n no_word) zero_is ∙ are_words.none in
+            subst (IsWord v lists c) (sym read) (word-none c (is.none zero_is))
+      ]
+
+  pub pages-from : (blocks numbers index : List ℕ) (paged : List Word) → AreRowPages v.entries blocks numbers → index ≡ blocks → paged ≡ paged_words words numbers → ArePages v lists index paged
+  unfolding word_place
+  pages-from blocks numbers index paged pages same is =
+      let size : length (paged_words words numbers) ≡ length numbers = length-map numbers (λ n. get_or words n no_word) in
+      subst (λ i. ArePages v lists i paged) (sym same) (subst (ArePages v lists blocks) (sym is) (record {
+        sound = sound;
+        within = record { size = pages.within.size; each = λ k lt. (let le = pages.within.each k lt in omega arith) };
+        each = λ c lt. (
+            let low = mod-lt c {m = 256} (omega arith) in
+            let le = pages.within.each (c / 256) (omega arith) in
+            let place : word_place blocks c < length numbers = omega arith in
+            subst (IsWord v lists c) (sym (get_or-map (λ n. get_or words n no_word) numbers (word_place blocks c) 0 no_word place)) (word-number c (slice_index numbers (word_place blocks c)) (pages.each c lt)));
+      }))
+
+-- ---- what is read
+
+pub full-read : (v u : VersionData) → u ≡ v → (lists : FullLists) (blocks : List ℕ) (words : List Word) → ArePages u lists blocks words → (c : ℕ) → c < 0x110000 → (w : Word) → w ≡ get_or words (word_place blocks c) no_word →
+    (compat : Bool) (lent : List ℕ) → lent ≡ get_or (of_kind compat lists) w.fulls [] → lent ≡ table_full v compat c
+full-read v u same lists blocks words pages c lt w is compat lent read =
+    let word = subst (IsWord u lists c) (sym is) (pages.each c lt) in
+    read ∙ word.slot.lent compat ∙ ap (λ x. table_full x compat c) same
+
+-- the second code point is the second part of no primary composite of the file
+pub pair-apart : (v w u : VersionData) → w ≡ v → u ≡ v → (lists : FullLists) (blocks : List ℕ) (words : List Word) → ArePages u lists blocks words → (a b : ℕ) → b < 0x110000 →
+    ((s : ℕ) → (has_hangul w && is_syllable s) ≡ true → ¬ (syllable_pair s ≡ a ∷ b ∷ [])) → (word : Word) → word ≡ get_or words (word_place blocks b) no_word → word.second ≡ false → (c : ℕ) → ¬ IsCompositeOf v a b c
+pair-apart v w u same same_u lists blocks words pages a b lt none word is apart c composite =
+    let own = subst (λ x. IsWord x lists b word) same_u (subst (IsWord u lists b) (sym is) (pages.each b lt)) in
+    elim (cases_Bool (has_hangul v && is_syllable c)) [
+      | inl on ↦ none c (subst (λ x. (has_hangul x && is_syllable c) ≡ true) (sym same) on) (sym (decomposition_mapping-on v c on) ∙ composite.mapping)
+      | inr off ↦ both_ways _ apart (own.second a c composite off)
+    ]

@@ -1,0 +1,284 @@
+-- The row of each code point, block by block.
+use Rattle.std.proofs.Common.{◌≡◌, ℕ, zero, suc, ◌+◌, ◌-◌, ◌*◌, ◌/◌, ◌%◌, ◌<◌, ◌≤◌, ◌⊎◌, List, [], ◌∷◌, ◌++◌, length, slice_index, Option, Some, None, refl, sym, ap, subst, ◌∙◌, arith, inl, inr}
+use Rattle.std.specs.List.{slice_get}
+use Rattle.std.proofs.Math.Nat.{div-add-mod, mod-lt}
+use Rattle.std.proofs.lemmas.Bool.{cases_lt}
+use Rattle.std.proofs.lemmas.List.{get_or_append_left, length-append}
+use Rattle.std.proofs.Math.Seq.{get_or-append_seam}
+use Rattle.std.proofs.lemmas.Option.{none-some, same_Some, slice_get_within}
+use Rattle.np_ucd.specs.Entries.{Entry, AreRows}
+use Rattle.np_tables.specs.Versions.{entry_at}
+use Rattle.np_tables.specs.inside.Pages.{word_place}
+use Rattle.np_tables.specs.inside.RowPlaces.{lies_in}
+use Rattle.np_tables.specs.inside.RowPages.{ArePagedRows, IsRowNumber, IsRowBlock, AreRowPages, IsNextRow, AreFirstPages, AreBegun, ArePushed, HasNoRow, GoesOn}
+use Rattle.np_tables.proofs.RowLemmas.{at-found, at-row, entry_at-row, entry_at-within, none-found, firsts-le, out_of, below_out}
+
+-- ---- rows by their places
+
+pub some_at : (es : List Entry) (k : ℕ) → k < length es → (e : Entry) × (slice_get es k ≡ Some e)
+some_at [] k lt = absurd (omega arith)
+some_at (e ∷ es) zero lt = (e, refl)
+some_at (e ∷ es) (suc k) lt = some_at es k (omega arith)
+
+-- each row ends before the next one begins
+pub ends-rise : (es : List Entry) (i : ℕ) (e f : Entry) → AreRows es → slice_get es i ≡ Some e → slice_get es (suc i) ≡ Some f → e.last < f.first
+ends-rise [] i e f rows at next = absurd (none-some e at)
+ends-rise (x ∷ []) zero e f rows at next = absurd (none-some f next)
+ends-rise (x ∷ y ∷ ys) zero e f rows at next =
+    let one : x.last ≡ e.last = ap (λ (r : Entry). r.last) (same_Some x e at) in
+    let two : y.first ≡ f.first = ap (λ (r : Entry). r.first) (same_Some y f next) in
+    let up = rows.1 in
+    omega arith
+ends-rise (x ∷ xs) (suc i) e f rows at next = ends-rise xs i e f rows.2 at next
+
+-- ---- the next row
+
+-- it begins behind the code point, so no row has it
+none_before : (es : List Entry) (at c : ℕ) → AreRows es → IsNextRow es at c → ((e : Entry) → slice_get es at ≡ Some e → c < e.first) → entry_at es c ≡ None
+none_before es at c rows next behind =
+    none-found es c (λ k lt.
+    let here = some_at es k lt in
+    ap (λ o. lies_in o c) here.1 ∙ elim (cases_lt k at) [
+      | inl low ↦ out_of here.0 c (next.past k here.0 low here.1)
+      | inr high ↦
+          let there = some_at es at (omega arith) in
+          let le = firsts-le es at k there.0 here.0 rows there.1 here.1 high in
+          let b = behind there.0 there.1 in
+          below_out here.0 c (omega arith)
+    ])
+
+pub none_behind : (es : List Entry) (at c : ℕ) (e : Entry) → AreRows es → IsNextRow es at c → slice_get es at ≡ Some e → c < e.first → entry_at es c ≡ None
+none_behind es at c e rows next here less =
+    none_before es at c rows next (λ f h. (let same : e.first ≡ f.first = ap (λ (r : Entry). r.first) (same_Some e f (sym here ∙ h)) in omega arith))
+
+pub none_left : (es : List Entry) (at c : ℕ) → AreRows es → IsNextRow es at c → slice_get es at ≡ None → entry_at es c ≡ None
+none_left es at c rows next none = none_before es at c rows next (λ e h. absurd (none-some e (sym none ∙ h)))
+
+pub number-none : (es : List Entry) (c number : ℕ) → entry_at es c ≡ None → number ≡ 0 → IsRowNumber es c number
+number-none es c number none is =
+    record { none = λ _. none; within = λ lt. absurd (omega arith); row = λ lt. absurd (omega arith) }
+
+pub number-some : (es : List Entry) (at c number : ℕ) (e : Entry) → AreRows es → slice_get es at ≡ Some e → e.first ≤ c → c ≤ e.last → number ≡ at + 1 → IsRowNumber es c number
+number-some es at c number e rows here low high is =
+    let same : number - 1 ≡ at = omega arith in
+    record {
+      none = λ z. absurd (omega arith);
+      within = λ lt. let w = slice_get_within es at e here in omega arith;
+      row = λ lt. ap (slice_get es) same ∙ at-found es at c e rows here low high;
+    }
+
+-- a code point in the same row has the same number
+pub number-same : (es : List Entry) (c d number : ℕ) → entry_at es d ≡ entry_at es c → IsRowNumber es c number → IsRowNumber es d number
+number-same es c d number same is =
+    record { none = λ z. same ∙ is.none z; within = is.within; row = λ lt. is.row lt ∙ sym same }
+
+-- the next row of a code point is that of a later one which it doesn't end before
+next-later : (es : List Entry) (at c d : ℕ) → IsNextRow es at c → c ≤ d → ((e : Entry) → slice_get es at ≡ Some e → d ≤ e.last) → IsNextRow es at d
+next-later es at c d next le here =
+    record { past = λ k e lt h. (let past = next.past k e lt h in omega arith); here = here }
+
+pub next-within : (es : List Entry) (at c d : ℕ) (e : Entry) → IsNextRow es at c → slice_get es at ≡ Some e → c ≤ d → d ≤ e.last → IsNextRow es at d
+next-within es at c d e next here le high =
+    next-later es at c d next le (λ f h. (let same : e.last ≡ f.last = ap (λ (r : Entry). r.last) (same_Some e f (sym here ∙ h)) in omega arith))
+
+pub next-left : (es : List Entry) (at c d : ℕ) → IsNextRow es at c → slice_get es at ≡ None → c ≤ d → IsNextRow es at d
+next-left es at c d next none le = next-later es at c d next le (λ e h. absurd (none-some e (sym none ∙ h)))
+
+pub next-behind : (es : List Entry) (at c : ℕ) (e : Entry) → AreRows es → IsNextRow es at c → slice_get es at ≡ Some e → e.last ≡ c → IsNextRow es (at + 1) (c + 1)
+next-behind es at c e rows next here end =
+    let after : suc at ≡ at + 1 = omega arith in
+    record {
+      past = λ k f lt h. elim (cases_lt k at) [
+        | inl low ↦ let past = next.past k f low h in omega arith
+        | inr high ↦
+            let same : at ≡ k = omega arith in
+            let one : e.last ≡ f.last = ap (λ (r : Entry). r.last) (same_Some e f (sym here ∙ ap (slice_get es) same ∙ h)) in
+            omega arith
+      ];
+      here = λ f h. (
+          let rise = ends-rise es at e f rows here (ap (slice_get es) after ∙ h) in
+          let s = slice_get_within es (at + 1) f h in
+          let own = (at-row es (at + 1) f rows h).rises in
+          omega arith);
+    }
+
+-- ---- what serves 256 code points
+
+pub no_row-left : (es : List Entry) (at first : ℕ) → AreRows es → IsNextRow es at first → slice_get es at ≡ None → HasNoRow es at first
+no_row-left es at first rows next none =
+    record {
+      next = next-left es at first (first + 256) next none (omega arith);
+      none = λ low lt. none_left es at (first + low) rows (next-left es at first (first + low) next none (omega arith)) none;
+    }
+
+pub no_row-behind : (es : List Entry) (at first : ℕ) (e : Entry) → AreRows es → IsNextRow es at first → slice_get es at ≡ Some e → first + 256 ≤ e.first → HasNoRow es at first
+no_row-behind es at first e rows next here le =
+    let up = (at-row es at e rows here).rises in
+    record {
+      next = next-within es at first (first + 256) e next here (omega arith) (omega arith);
+      none = λ low lt. none_behind es at (first + low) e rows (next-within es at first (first + low) e next here (omega arith) (omega arith)) here (omega arith);
+    }
+
+pub goes_on-within : (es : List Entry) (at first : ℕ) (e : Entry) → AreRows es → IsNextRow es at first → slice_get es at ≡ Some e → e.first + 256 ≤ first → first + 256 ≤ e.last → GoesOn es at first
+goes_on-within es at first e rows next here low high =
+    record {
+      next = next-within es at first (first + 256) e next here (omega arith) high;
+      before = omega arith;
+      same = λ i lt. sym (at-found es at (first + i) e rows here (omega arith) (omega arith)) ∙ at-found es at (first - 256 + i) e rows here (omega arith) (omega arith);
+    }
+
+-- ---- pages that grow
+
+-- one row number more
+pub pushed-more : (es : List Entry) (first count : ℕ) (old numbers : List ℕ) (at number to : ℕ) → ArePushed es first count old numbers at → IsRowNumber es (first + count) number → IsNextRow es to (first + count + 1) →
+    ArePushed es first (count + 1) old (numbers ++ number ∷ []) to
+pushed-more es first count old numbers at number to so_far is next =
+    let size = so_far.size in
+    let grown : length (numbers ++ number ∷ []) ≡ length numbers + 1 = length-append numbers (number ∷ []) in
+    record {
+      next = subst (IsNextRow es to) (omega arith) next;
+      size = omega arith;
+      kept = λ k lt. get_or_append_left numbers (number ∷ []) 0 k (omega arith) ∙ so_far.kept k lt;
+      each = λ low lt. elim (cases_lt low count) [
+        | inl less ↦ subst (IsRowNumber es (first + low)) (sym (get_or_append_left numbers (number ∷ []) 0 (length old + low) (omega arith))) (so_far.each low less)
+        | inr more ↦
+            let here : low ≡ count = omega arith in
+            let place : length numbers ≡ length old + low = omega arith in
+            let read : slice_index (numbers ++ number ∷ []) (length old + low) ≡ number = sym (ap (slice_index (numbers ++ number ∷ [])) place) ∙ get_or-append_seam numbers number [] 0 in
+            subst (IsRowNumber es (first + low)) (sym read) (subst (λ n. IsRowNumber es (first + n) number) (sym here) is)
+      ];
+    }
+
+pub pushed-none : (es : List Entry) (first : ℕ) (old : List ℕ) (at : ℕ) → IsNextRow es at first → ArePushed es first 0 old old at
+pushed-none es first old at next =
+    record { next = subst (IsNextRow es at) (omega arith) next; size = omega arith; kept = λ k lt. refl; each = λ low lt. absurd (omega arith) }
+
+-- numbers that begin with the earlier ones
+record AreKept (old new : List ℕ) : Type 0 where
+  count : ℕ
+  fits : length new ≡ length old + count * 256
+  few : count ≤ 1
+  same : (k : ℕ) → k < length old → slice_index new k ≡ slice_index old k
+
+-- one block number more
+begun-more : (es : List Entry) (blocks old new : List ℕ) (block at : ℕ) → AreFirstPages es blocks old → AreKept old new → block * 256 + 256 ≤ length new → IsRowBlock es new block (length blocks * 256) → IsNextRow es at (length blocks * 256 + 256) →
+    AreBegun es (blocks ++ block ∷ []) new at
+begun-more es blocks old new block at pages kept fits is next =
+    let grown : length (blocks ++ block ∷ []) ≡ length blocks + 1 = length-append blocks (block ∷ []) in
+    let some = pages.counted.some in
+    let few = pages.counted.fits in
+    let long = pages.counted.length in
+    let more = kept.fits in
+    let at_most = kept.few in
+    record {
+      pages = record {
+        counted = record { count = pages.counted.count + kept.count; some = omega arith; fits = omega arith; length = omega arith };
+        none = λ low lt. kept.same low (omega arith) ∙ pages.none low lt;
+        within = λ k lt. elim (cases_lt k (length blocks)) [
+          | inl less ↦
+              let same = get_or_append_left blocks (block ∷ []) 0 k less in
+              let le = pages.within k less in
+              omega arith
+          | inr past ↦
+              let place : length blocks ≡ k = omega arith in
+              let same : slice_index (blocks ++ block ∷ []) k ≡ block = sym (ap (slice_index (blocks ++ block ∷ [])) place) ∙ get_or-append_seam blocks block [] 0 in
+              omega arith
+        ];
+        each = λ k lt low less. elim (cases_lt k (length blocks)) [
+          | inl early ↦
+              let le = pages.within k early in
+              let number = sym (get_or_append_left blocks (block ∷ []) 0 k early) in
+              subst (λ b. IsRowNumber es (k * 256 + low) (slice_index new (b * 256 + low))) number
+              (subst (IsRowNumber es (k * 256 + low)) (sym (kept.same (slice_index blocks k * 256 + low) (omega arith))) (pages.each k early low less))
+          | inr past ↦
+              let place : length blocks ≡ k = omega arith in
+              let same : slice_index (blocks ++ block ∷ []) k ≡ block = sym (ap (slice_index (blocks ++ block ∷ [])) place) ∙ get_or-append_seam blocks block [] 0 in
+              subst (λ b. IsRowNumber es (k * 256 + low) (slice_index new (b * 256 + low))) (sym same)
+              (subst (λ n. IsRowNumber es (n * 256 + low) (slice_index new (block * 256 + low))) place (is low less))
+        ];
+      };
+      next = subst (IsNextRow es at) (omega arith) next;
+    }
+
+kept-all : (numbers : List ℕ) → AreKept numbers numbers
+kept-all numbers = record { count = 0; fits = omega arith; few = omega arith; same = λ k lt. refl }
+
+-- a block number that serves, where no row has the code points
+pub begun-empty : (es : List Entry) (blocks numbers : List ℕ) (at : ℕ) → AreBegun es blocks numbers at → HasNoRow es at (length blocks * 256) → AreBegun es (blocks ++ 0 ∷ []) numbers at
+begun-empty es blocks numbers at begun has =
+    let some = begun.pages.counted.some in
+    let long = begun.pages.counted.length in
+    begun-more es blocks numbers numbers 0 at begun.pages (kept-all numbers) (omega arith)
+    (λ low lt. number-none es (length blocks * 256 + low) (slice_index numbers (0 * 256 + low)) (has.none low lt) (ap (slice_index numbers) (omega arith) ∙ begun.pages.none low lt))
+    has.next
+
+-- one that serves twice, in the midst of a range
+pub begun-again : (es : List Entry) (blocks numbers : List ℕ) (at block : ℕ) → AreBegun es blocks numbers at → GoesOn es at (length blocks * 256) → block ≡ slice_index blocks (length blocks - 1) → AreBegun es (blocks ++ block ∷ []) numbers at
+begun-again es blocks numbers at block begun goes is =
+    let before = goes.before in
+    let last : length blocks - 1 < length blocks = omega arith in
+    let fits = begun.pages.within (length blocks - 1) last in
+    begun-more es blocks numbers numbers block at begun.pages (kept-all numbers) (omega arith)
+    (λ low lt.
+    number-same es (length blocks * 256 - 256 + low) (length blocks * 256 + low) (slice_index numbers (block * 256 + low)) (goes.same low lt)
+    (subst (λ n. IsRowNumber es n (slice_index numbers (block * 256 + low))) (omega arith)
+    (subst (λ b. IsRowNumber es ((length blocks - 1) * 256 + low) (slice_index numbers (b * 256 + low))) (sym is) (begun.pages.each (length blocks - 1) last low lt))))
+    goes.next
+
+-- a new block
+pub begun-block : (es : List Entry) (blocks old new : List ℕ) (at to block : ℕ) → AreBegun es blocks old at → ArePushed es (length blocks * 256) 256 old new to → block * 256 ≡ length old → AreBegun es (blocks ++ block ∷ []) new to
+begun-block es blocks old new at to block begun pushed is =
+    let size = pushed.size in
+    begun-more es blocks old new block to begun.pages (record { count = 1; fits = omega arith; few = omega arith; same = pushed.kept }) (omega arith)
+    (λ low lt. subst (λ n. IsRowNumber es (length blocks * 256 + low) (slice_index new (n + low))) (sym is) (pushed.each low lt))
+    pushed.next
+
+-- before the first block number
+pub begun-none : (es : List Entry) (blocks numbers : List ℕ) → length blocks ≡ 0 → length numbers ≡ 256 → ((k : ℕ) → slice_index numbers k ≡ 0) → AreBegun es blocks numbers 0
+begun-none es blocks numbers no_blocks one zeros =
+    record {
+      pages = record {
+        counted = record { count = 1; some = omega arith; fits = omega arith; length = omega arith };
+        none = λ low lt. zeros low;
+        within = λ k lt. absurd (omega arith);
+        each = λ k lt. absurd (omega arith);
+      };
+      next = record { past = λ k e lt h. absurd (omega arith); here = λ e h. omega arith };
+    }
+
+-- as many blocks as there are
+pub block_count : (es : List Entry) (blocks numbers : List ℕ) (at : ℕ) → AreBegun es blocks numbers at → (length numbers / 256 * 256 ≡ length numbers) × (length numbers / 256 ≤ length blocks + 1)
+block_count es blocks numbers at begun =
+    let long = begun.pages.counted.length in
+    let few = begun.pages.counted.fits in
+    (omega arith, omega arith)
+
+-- all block numbers are there
+pub pages-all : (es : List Entry) (blocks numbers : List ℕ) (at : ℕ) → AreBegun es blocks numbers at → length blocks ≡ 4352 → AreRowPages es blocks numbers
+unfolding word_place
+pages-all es blocks numbers at begun size =
+    record {
+      within = record { size = size; each = λ k lt. begun.pages.within k (omega arith) };
+      each = λ c lt. (
+          let whole = div-add-mod c 256 in
+          let low = mod-lt c {m = 256} (omega arith) in
+          let same : c / 256 * 256 + c % 256 ≡ c = omega arith in
+          subst (λ n. IsRowNumber es n (slice_index numbers (slice_index blocks (c / 256) * 256 + c % 256))) same (begun.pages.each (c / 256) (omega arith) (c % 256) low));
+    }
+
+-- ---- what is read
+
+cases_Entry : (o : Option Entry) → (o ≡ None) ⊎ ((e : Entry) × (o ≡ Some e))
+cases_Entry None = inl refl
+cases_Entry (Some e) = inr (e, refl)
+
+-- no row has a number past the code points
+pub past_code_points : (es : List Entry) (c : ℕ) → AreRows es → 0x110000 ≤ c → entry_at es c ≡ None
+past_code_points es c rows h =
+    elim (cases_Entry (entry_at es c)) [
+      | inl none ↦ none
+      | inr some ↦ (let bound = (entry_at-row es c some.0 rows some.1).bounded in let within = entry_at-within es c some.0 some.1 in absurd (omega arith))
+    ]
+
+pub paged-number : (es : List Entry) (blocks numbers : List ℕ) (c number : ℕ) → ArePagedRows es blocks numbers → c < 0x110000 → number ≡ slice_index numbers (word_place blocks c) → IsRowNumber es c number
+paged-number es blocks numbers c number are lt is = subst (IsRowNumber es c) (sym is) (are.pages.each c lt)

@@ -1,0 +1,17 @@
+use Rattle.std.proofs.Common.{sym, arith}
+use Rattle.std.proofs.lemmas.Bool.{leb-true}
+use Rattle.np_ucd.specs.RowValues.{entry_of}
+use Rattle.np_tables.proofs.RowLemmas.{at-row}
+use Rattle.np_tables.proofs.RowPageLemmas.{goes_on-within}
+use Rattle.np_tables.proofs.row_pages.goes_on.Goals as goal
+
+pub overflow_add-row : goal.overflow_add-row
+overflow_add-row c =
+    let row = at-row c.args.rows.now c.args.at (entry_of c.in-Some.row.now) c.requires.rows (sym c.in-Some.ensures.row) in
+    let up = row.rises in
+    let bound = row.bounded in
+    omega arith
+
+pub returns-then-row-first : goal.returns-then-row-first
+returns-then-row-first c = λ is.
+    goes_on-within c.args.rows.now c.args.at c.args.first (entry_of c.in-Some.row.now) c.requires.rows c.requires.next (sym c.in-Some.ensures.row) c.if-row-first.true (leb-true _ _ is)

@@ -1,0 +1,87 @@
+-- What a table of pages keeps for a code point.
+use Rattle.std.specs.Prelude.{◌≡◌, ℕ, ◌+◌, ◌<◌, ◌≤◌, ◌&&◌, Bool, true, false, List, [], ◌∷◌, ◌++◌, length, map, slice_get, slice_index, slice_index_or, Some}
+use Rattle.np_code_points.specs.Hangul.{is_syllable}
+use Rattle.np_ucd.specs.Entries.{Entry}
+use Rattle.np_tables.specs.Versions.{VersionData, class_of, has_hangul, is_assigned}
+use Rattle.np_tables.specs.Composites.{IsCompositeOf}
+use Rattle.np_tables.specs.Conditions.{IsSound}
+use Rattle.np_tables.specs.declared.fulls.Part.{Part}
+use Rattle.np_tables.specs.declared.page_words.Word.{Word}
+use Rattle.np_tables.specs.declared.pairs.Composite.{Composite}
+use Rattle.np_tables.specs.inside.FullDecompositions.{table_full}
+use Rattle.np_tables.specs.inside.FullLists.{FullLists, of_kind}
+use Rattle.np_tables.specs.inside.FullParts.{AreParts, part_of}
+use Rattle.np_tables.specs.inside.Pages.{AreWithin, word_place}
+
+-- ---- slots of full decompositions
+
+abbrev pub lists_of : List ℕ → List Part → List Part → FullLists
+lists_of codes canonical compatible = record { canonical = map (part_of codes) canonical; compatible = map (part_of codes) compatible }
+
+-- one slot more, which has what a table lends for a code point
+pub record IsSlotPushed (v : VersionData) (c : ℕ) (old_codes : List ℕ) (old_canonical old_compatible : List Part) (codes : List ℕ) (canonical compatible : List Part) : Type 0 where
+  pub canonical_within : AreParts codes canonical
+  pub compatible_within : AreParts codes compatible
+  pub canonical_grown : map (part_of codes) canonical ≡ map (part_of old_codes) old_canonical ++ table_full v false c ∷ []
+  pub compatible_grown : map (part_of codes) compatible ≡ map (part_of old_codes) old_compatible ++ table_full v true c ∷ []
+
+-- what a table lends for a code point stands in this slot, of either kind
+pub record IsSlot (v : VersionData) (lists : FullLists) (c slot : ℕ) : Type 0 where
+  pub within : (compat : Bool) → slot < length (of_kind compat lists)
+  pub lent : (compat : Bool) → slice_index_or (of_kind compat lists) slot [] ≡ table_full v compat c
+
+-- the slots of the first `count` rows
+pub record AreSlots (v : VersionData) (count : ℕ) (lists : FullLists) (slots : List ℕ) : Type 0 where
+  pub size : length slots ≡ count
+  pub none : (compat : Bool) → slice_index_or (of_kind compat lists) 0 [] ≡ []
+  pub some : (compat : Bool) → 0 < length (of_kind compat lists)
+  pub each : (k : ℕ) (e : Entry) → k < count → slice_get v.entries k ≡ Some e → IsSlot v lists e.first (slice_index slots k)
+
+-- the same while the lists grow
+pub record AreSlotsSoFar (v : VersionData) (count : ℕ) (codes : List ℕ) (canonical compatible : List Part) (slots : List ℕ) : Type 0 where
+  pub canonical_within : AreParts codes canonical
+  pub compatible_within : AreParts codes compatible
+  pub both : length canonical ≡ length compatible
+  pub few : length canonical ≤ count + 1
+  pub are_slots : AreSlots v count (lists_of codes canonical compatible) slots
+
+-- ---- rows that have second parts of composites
+
+-- of the first `count` composites
+pub record AreSecondRows (es : List Entry) (cs : List Composite) (count : ℕ) (seconds : List Bool) : Type 0 where
+  pub size : length seconds ≡ length es
+  pub each : (j : ℕ) (x : Composite) (k : ℕ) (e : Entry) → j < count → slice_get cs j ≡ Some x → slice_get es k ≡ Some e → e.first ≤ x.second → x.second ≤ e.last → slice_index_or seconds k false ≡ true
+
+-- ---- words
+
+-- the word of a code point that no row has
+abbrev pub no_word : Word
+no_word = record { fulls = 0; class = 0; assigned = false; second = false }
+
+-- the word of a row
+abbrev pub row_word : Entry → ℕ → Bool → Word
+row_word e slot second = record { fulls = slot; class = e.class; assigned = true; second = second }
+
+-- `no_word`, and behind it the words of the first `count` rows
+pub record AreRowWords (es : List Entry) (slots : List ℕ) (seconds : List Bool) (count : ℕ) (words : List Word) : Type 0 where
+  pub size : length words ≡ count + 1
+  pub none : slice_index_or words 0 no_word ≡ no_word
+  pub each : (k : ℕ) (e : Entry) → k < count → slice_get es k ≡ Some e → slice_index_or words (k + 1) no_word ≡ row_word e (slice_index slots k) (slice_index_or seconds k false)
+
+-- the words of all blocks, by the row numbers that stand there
+abbrev pub paged_words : List Word → List ℕ → List Word
+paged_words words numbers = map (λ n. slice_index_or words n no_word) numbers
+
+-- what a word tells of its code point
+pub record IsWord (v : VersionData) (lists : FullLists) (c : ℕ) (w : Word) : Type 0 where
+  pub class : w.class ≡ class_of v c
+  pub assigned : w.assigned ≡ is_assigned v c
+  pub slot : IsSlot v lists c w.fulls
+  -- a primary composite that isn't a syllable of the arithmetic has a second part whose word says so
+  pub second : (a p : ℕ) → IsCompositeOf v a c p → (has_hangul v && is_syllable p) ≡ false → w.second ≡ true
+
+-- the word of each code point of a version that meets the conditions
+pub record ArePages (v : VersionData) (lists : FullLists) (blocks : List ℕ) (words : List Word) : Type 0 where
+  pub sound : IsSound v
+  pub within : AreWithin 4352 blocks (length words)
+  pub each : (c : ℕ) → c < 0x110000 → IsWord v lists c (slice_index_or words (word_place blocks c) no_word)

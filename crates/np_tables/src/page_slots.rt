@@ -1,0 +1,84 @@
+//! The full decompositions of the code points that have a mapping, in one flat list.
+ghost use Rattle.std.specs.Prelude.{◌≡◌, ◌++◌, ◌∷◌, [], ◌≢◌, length, map, IfOk, IsTrue, Some};
+ghost use Rattle.std.specs.List.{slice_range};
+ghost use Rattle.np_ucd.specs.Entries.{IsRow};
+ghost use Rattle.np_ucd.specs.RowValues.{entry_of};
+ghost use Rattle.np_tables.specs.Versions.{entry_at};
+ghost use Rattle.np_tables.specs.inside.FullDecompositions.{table_full};
+ghost use Rattle.np_tables.specs.inside.FullParts.{AreParts, IsPart, part_of};
+ghost use Rattle.np_tables.specs.inside.PageWords.{AreSlots, IsSlotPushed};
+
+use crate::characters::CharacterData;
+use crate::fulls::{Fulls, Part, push_full};
+use crate::row_places::row_in;
+use np_code_points::Memory;
+use np_ucd::Row;
+use std::alloc::Global;
+
+/// Whether two parts of a flat list are the same.
+fn are_same(codes: &[char], one: Part, two: Part) -> bool
+    requires one { IsPart (length codes.now) one }
+    requires two { IsPart (length codes.now) two }
+    ensures { IsTrue result → part_of codes.now one ≡ part_of codes.now two }
+{
+    codes[one.start..one.end] == codes[two.start..two.end]
+}
+
+/// Appends what a table lends for the code point of a row, once where the two kinds are the same.
+fn push_row(
+    characters: &CharacterData,
+    row: &Row,
+    codes: &mut Vec<char>,
+    canonical: &mut Vec<Part>,
+    compatible: &mut Vec<Part>,
+) -> Result<(), Memory>
+    requires row { IsRow (entry_of row.now) }
+    requires first { entry_at characters.now.entries row.now.first ≡ Some (entry_of row.now) }
+    requires canonical { AreParts codes.old.items canonical.old.items }
+    requires compatible { AreParts codes.old.items compatible.old.items }
+    ensures { IfOk result (λ _. IsSlotPushed characters.now row.now.first codes.old.items canonical.old.items compatible.old.items codes.new.items canonical.new.items compatible.new.items) }
+{
+    let start = codes.len();
+    push_full(characters, false, row, codes)?;
+    let middle = codes.len();
+    push_full(characters, true, row, codes)?;
+    let end = codes.len();
+    let one = Part { start, end: middle };
+    let two = Part { start: middle, end };
+    canonical.push(one)?;
+    if are_same(codes, one, two) {
+        codes.truncate(middle);
+        compatible.push(one)?;
+    } else {
+        compatible.push(two)?;
+    }
+    Ok(())
+}
+
+/// What a table lends for the code points of the rows that have a mapping, and for each row the
+/// slot where that stands: slot 0, which is empty, for those without a mapping.
+pub fn slots_of(alloc: Global, characters: &CharacterData) -> Result<(Fulls, Vec<u32>), Memory>
+    ensures { IfOk result (λ r. AreSlots characters.now (length characters.now.entries) r.0 r.1.items) }
+{
+    let none = Part { start: 0, end: 0 };
+    let mut codes = Vec::new(alloc);
+    let mut canonical = vec![in alloc; none]?;
+    let mut compatible = vec![in alloc; none]?;
+    let mut slots = Vec::with_capacity(alloc, characters.len())?;
+    for at in 0..characters.len() {
+        let row = row_in(characters, at);
+        let slot = canonical.len() as u32;
+        if row.mapping.is_empty() {
+            slots.push(0)?;
+        } else {
+            push_row(characters, row, &mut codes, &mut canonical, &mut compatible)?;
+            slots.push(slot)?;
+        }
+    }
+    let fulls = Fulls {
+        codes,
+        canonical,
+        compatible,
+    };
+    Ok((fulls, slots))
+}

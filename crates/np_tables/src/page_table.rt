@@ -1,0 +1,103 @@
+//! The table of pages: one word for each code point in blocks of 256, one flat list of full
+//! decompositions, and one sorted list of pairs.
+ghost use Rattle.std.specs.Prelude.{◌≡◌, IfOk};
+
+use crate::fulls::Fulls;
+use crate::page_slots::slots_of;
+use crate::page_words::{Word, page_words, row_words, second_rows, word_of};
+use crate::syllables::arithmetic_pair;
+use crate::tables::NormTable;
+use crate::version::Version;
+use np_code_points::Memory;
+use std::alloc::Global;
+use std::marker::Model;
+
+/// The fast table. A code point's block is found by its number divided by 256; blocks without an
+/// assigned code point are one shared block, and blocks in the midst of a range another. Its word
+/// tells the class, whether it is assigned, whether it can be the second part of a pair, and where
+/// its full decompositions stand, which are shared where both kinds are the same.
+///
+/// It takes some 0.9 MiB beside its version for the files of Unicode 15. Each call takes constant
+/// time, but `pair`, which searches by halves where the second code point is one that composes.
+#[derive(Drop)]
+pub struct PageTable {
+    version: Version,
+    /// For each 256 code points the number of their block.
+    index: Vec<u16>,
+    /// The words, block by block.
+    words: Vec<Word>,
+    fulls: Fulls,
+}
+
+impl Model for PageTable {
+    ghost use Rattle.np_tables.specs.inside.PageWords.{ArePages};
+    ghost use Rattle.np_tables.specs.Versions.{VersionData};
+
+    ghost Value = { VersionData };
+
+    ghost view = { λ a. a.version };
+
+    ghost invariant = { λ a. ArePages a.version a.fulls a.index.items a.words.items };
+}
+
+impl PageTable {
+    /// The table of a version. Time and memory are linear in its rows and blocks.
+    ///
+    /// # Errors
+    ///
+    /// `Memory` where memory ran out; the version is given up then.
+    pub fn new(alloc: Global, version: Version) -> Result<PageTable, Memory>
+        ensures { IfOk result (λ t. t ≡ version) }
+    {
+        let characters = version.characters();
+        let pages = characters.pages();
+        let (fulls, slots) = slots_of(alloc, characters)?;
+        let seconds = second_rows(alloc, characters, version.pairs())?;
+        let rows = row_words(alloc, characters, &slots, &seconds)?;
+        let words = page_words(alloc, &rows, &pages.numbers)?;
+        let mut index = Vec::with_capacity(alloc, pages.index.len())?;
+        index.extend_from_slice(&pages.index)?;
+        Ok(PageTable {
+            version,
+            index,
+            words,
+            fulls,
+        })
+    }
+}
+
+impl NormTable for PageTable {
+    ghost model = { λ t. t };
+
+    fn version(&self) -> &Version {
+        &self.version
+    }
+
+    fn assigned(&self, c: char) -> bool {
+        word_of(&self.index, &self.words, c).assigned
+    }
+
+    fn class(&self, c: char) -> u8 {
+        word_of(&self.index, &self.words, c).class
+    }
+
+    fn hangul(&self) -> bool {
+        self.version.has_hangul()
+    }
+
+    fn pair(&self, a: char, b: char) -> Option<char> {
+        if let Some(syllable) = arithmetic_pair(self.version.characters(), a, b) {
+            return Some(syllable);
+        }
+        if word_of(&self.index, &self.words, b).second {
+            self.version.pairs().find(a, b)
+        } else {
+            None
+        }
+    }
+
+    fn full(&self, c: char, compat: bool) -> &[char] {
+        let slot = word_of(&self.index, &self.words, c).fulls;
+        self.fulls.lent(slot as usize, compat)
+    }
+}

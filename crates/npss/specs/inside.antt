@@ -1,0 +1,4 @@
+pub mod AuditSteps
+pub mod Endings
+pub mod Groups
+pub mod TextJobs

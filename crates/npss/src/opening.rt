@@ -1,0 +1,57 @@
+//! The files of a job are opened before any of them is read.
+
+ghost use Rattle.std.specs.Prelude.{◌≡◌, IfOk, IfErr};
+ghost use Rattle.npss.specs.Streams.{stream_of};
+ghost use Rattle.npss.specs.Usage.{IsUnopened};
+
+use crate::jobs::{FAILED, JobFault, refuse, tell};
+use crate::words::VersionFiles;
+use np_code_points::watched::Watched;
+use std::alloc::Global;
+use std::fs;
+use std::io::Write;
+use std::rt::Files;
+
+/// Says that a file can't be opened.
+fn refuse_file<E: Write>(alloc: Global, error: &mut Watched<E>, name: &str) -> u8
+    ensures { IsUnopened name.now (stream_of E.contents error.old error.new) result }
+{
+    match format!(in alloc; "cannot open {name}\n") {
+        Ok(line) => {
+            tell(error, line.as_str());
+            FAILED
+        }
+        Err(_) => refuse(alloc, error, &JobFault::Memory),
+    }
+}
+
+/// Opens a file; an `Err` is the status that was told.
+pub fn open_file<R: Files, E: Write>(
+    rt: &R,
+    alloc: Global,
+    error: &mut Watched<E>,
+    name: &str,
+) -> Result<Watched<R::File>, u8>
+    ensures opened { IfOk result (λ file. error.new ≡ error.old) }
+    ensures told { IfErr result (IsUnopened name.now (stream_of E.contents error.old error.new)) }
+{
+    match fs::open(rt, name) {
+        Ok(file) => Ok(Watched::new(file)),
+        Err(_) => Err(refuse_file(alloc, error, name)),
+    }
+}
+
+/// Opens the two files of a version, the data first; an `Err` is the status that was told.
+pub fn open_version<R: Files, E: Write>(
+    rt: &R,
+    alloc: Global,
+    error: &mut Watched<E>,
+    files: &VersionFiles,
+) -> Result<(Watched<R::File>, Watched<R::File>), u8>
+where
+    R::File: Drop,
+{
+    let data = open_file(rt, alloc, error, files.data_file.as_str())?;
+    let exclusions = open_file(rt, alloc, error, files.exclusions_file.as_str())?;
+    Ok((data, exclusions))
+}

@@ -1,0 +1,113 @@
+//! Which words name a job.
+use super::parse;
+use std::alloc::{AllocError, Global};
+use std::test::Fail;
+
+/// What the words, divided by spaces, are read as.
+fn read(alloc: Global, text: &str) -> Result<String, AllocError> {
+    let mut words = Vec::new(alloc);
+    for word in text.split_whitespace() {
+        words.push(String::from_str(alloc, word)?)?;
+    }
+    match parse(alloc, words.as_slice()) {
+        Ok(job) => format!(in alloc; "{job:?}"),
+        Err(fault) => format!(in alloc; "{fault:?}"),
+    }
+}
+
+#[test]
+fn reads_words_that_name_a_job(rt: HostRuntime) -> Result<(), Fail> {
+    let alloc = rt.alloc();
+    let table = [
+        ("", "Help"),
+        (
+            "key --form nfd D E",
+            r#"Key { form: Nfd, files: VersionFiles { data_file: "D", exclusions_file: "E" } }"#,
+        ),
+        (
+            "key --form nfc D E",
+            r#"Key { form: Nfc, files: VersionFiles { data_file: "D", exclusions_file: "E" } }"#,
+        ),
+        (
+            "key --form nfkd D E",
+            r#"Key { form: Nfkd, files: VersionFiles { data_file: "D", exclusions_file: "E" } }"#,
+        ),
+        (
+            "key --form nfkc D E",
+            r#"Key { form: Nfkc, files: VersionFiles { data_file: "D", exclusions_file: "E" } }"#,
+        ),
+        (
+            "key --form=nfc D E",
+            r#"Key { form: Nfc, files: VersionFiles { data_file: "D", exclusions_file: "E" } }"#,
+        ),
+        (
+            "key D E --form nfd",
+            r#"Key { form: Nfd, files: VersionFiles { data_file: "D", exclusions_file: "E" } }"#,
+        ),
+        (
+            "key D --form nfd E",
+            r#"Key { form: Nfd, files: VersionFiles { data_file: "D", exclusions_file: "E" } }"#,
+        ),
+        (
+            "key --form nfc -- -D E",
+            r#"Key { form: Nfc, files: VersionFiles { data_file: "-D", exclusions_file: "E" } }"#,
+        ),
+        (
+            "normalize --form nfkc D E",
+            r#"Normalize { form: Nfkc, files: VersionFiles { data_file: "D", exclusions_file: "E" } }"#,
+        ),
+        (
+            "compare --form nfd D E",
+            r#"Compare { form: Nfd, files: VersionFiles { data_file: "D", exclusions_file: "E" } }"#,
+        ),
+        (
+            "audit A B C D",
+            r#"Audit { old: VersionFiles { data_file: "A", exclusions_file: "B" }, new: VersionFiles { data_file: "C", exclusions_file: "D" } }"#,
+        ),
+        (
+            "audit -- A B C -D",
+            r#"Audit { old: VersionFiles { data_file: "A", exclusions_file: "B" }, new: VersionFiles { data_file: "C", exclusions_file: "-D" } }"#,
+        ),
+    ];
+    for (text, want) in table {
+        assert_eq!(rt; read(alloc, text)?.as_str(), want, "at {text}");
+    }
+    Ok(())
+}
+
+#[test]
+fn refuses_every_other_word(rt: HostRuntime) -> Result<(), Fail> {
+    let alloc = rt.alloc();
+    let table = [
+        "--help",
+        "-h",
+        "--version",
+        "help",
+        "help key",
+        "key --help",
+        "key --form nfc --help D E",
+        "nothing",
+        "Key --form nfc D E",
+        "--",
+        "--form nfc key D E",
+        "key --form nfx D E",
+        "key --form NFC D E",
+        "key --form= D E",
+        "key D E",
+        "key --form nfc --form nfc D E",
+        "key --form nfc",
+        "key --form nfc D",
+        "key --form nfc D E F",
+        "key --form nfc --unknown D E",
+        "compare --form nfc D",
+        "normalize D E",
+        "audit A B C",
+        "audit A B C D E",
+        "audit --form nfc A B C D",
+        "replay --form nfc S D E",
+    ];
+    for text in table {
+        assert_eq!(rt; read(alloc, text)?.as_str(), "Usage", "at {text}");
+    }
+    Ok(())
+}

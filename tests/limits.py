@@ -1,0 +1,64 @@
+"""Runs of the program under a bound on its memory, and into devices that take nothing.
+
+Under each bound a run ends as it does with ample memory, or with the status and the line for want of
+memory and no output; or the C library can't start it at all. Both of the first two have to come.
+"""
+
+import resource
+
+from cases import DEVICE, text
+from harness import run, shown
+from versions import V1
+
+MEMORY = 6
+WANT = (MEMORY, b"", b"out of memory\n")
+
+# The bounds on the address space, in KiB: the least at which a program that needs the C library alone starts,
+# and the greatest, at which each of these runs has ample memory.
+BOUNDS = range(1536, 16384, 160)
+
+# Words of this length are copied by the program before it knows what they ask for.
+LONG = 120_000
+
+
+def bounded_runs():
+    """Words, input and the answer with ample memory."""
+    given = text("0061 0302 0323")
+    yield ["key", "--form", "nfc", *V1], given, (0, text("1EAD"), b"")
+    yield ["normalize", "--form", "nfd", *V1], given, (0, text("0061 0323 0302"), b"")
+    yield ["compare", "--form", "nfc", *V1], given + b"\n" + given, (0, b"equal\n", b"")
+    yield ["audit", *V1, *V1], b"", (0, b"extends\n", b"")
+    yield (["key", "--form", "nfc", "d" * LONG, "e" * LONG], b"",
+           (DEVICE, b"", b"cannot open " + b"d" * LONG + b"\n"))
+
+
+def under(kibibytes):
+    """Sets the bound, in the program's own process."""
+    def bound():
+        resource.setrlimit(resource.RLIMIT_AS, (kibibytes * 1024, kibibytes * 1024))
+    return bound
+
+
+def started(got):
+    """Whether the loader could start the program: else it is killed, or the loader tells why."""
+    status, _, err = got
+    return status is not None and status >= 0 and (status != 127 or b"error while loading" not in err)
+
+
+def check_memory(tally, program, folder):
+    """Each run under each bound."""
+    for words, stdin, ample in bounded_runs():
+        name = " ".join(word[:20] for word in words)
+        runs = [(bound, run(program, words, stdin, folder, preexec_fn=under(bound))) for bound in BOUNDS]
+        ends = [(bound, got) for bound, got in runs if started(got)]
+        wrong = [(bound, got) for bound, got in ends if got not in (WANT, ample)]
+        tally.check(f"{name} under a bound on memory", not wrong, f"got {shown(wrong[:1])}")
+        tally.check(f"{name} wants memory", WANT in (got for _, got in ends), "no bound was too small")
+        tally.check(f"{name} has memory", ample in (got for _, got in ends), "no bound was large enough")
+
+
+def check_usage(tally, program, folder):
+    """The usage text into a device that takes nothing, asked for and not."""
+    with open("/dev/full", "wb") as full:
+        got = run(program, [], b"", folder, stdout=full)
+        tally.same("no words into a full device", got, (DEVICE, b"", b"output: WriteFailed\n"))
