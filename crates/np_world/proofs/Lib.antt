@@ -1,3 +1,4 @@
+pub mod ReportLemmas
 pub mod RunLemmas
 pub mod StepLemmas
 pub mod StringLemmas

@@ -1,13 +1,16 @@
 -- A run of the machine, event by event.
-use Rattle.std.proofs.Common.{◌≡◌, ℕ, zero, suc, ◌+◌, ◌<◌, ◌≤◌, List, [], ◌∷◌, ◌++◌, length, get_or, map, take, slice_get, refl, sym, ap, subst, ◌∙◌, arith}
+use Rattle.std.proofs.Common.{◌≡◌, ℕ, zero, suc, ◌+◌, ◌<◌, ◌≤◌, List, [], ◌∷◌, ◌++◌, length, get_or, map, take, slice_get, None, Some, refl, sym, ap, subst, ◌∙◌, arith}
 use Rattle.std.proofs.lemmas.List.{length-map, take_more, map-append, get_or-map}
 use Rattle.std.specs.List.{All}
+use Rattle.std.specs.Prelude.{slice_set}
 use Rattle.std.specs.declared.vec.Vec.{Vec}
 use Rattle.std.specs.declared.alloc.Global.{Global}
+use Rattle.np_chain.specs.Chain.{StandsAt}
+use Rattle.np_node.specs.Nodes.{NodeState}
 use Rattle.np_tables.specs.Versions.{VersionData}
 use Rattle.np_world.specs.Events.{Event, node_of}
 use Rattle.np_world.specs.Schedules.{NameNodes}
-use Rattle.np_world.specs.World.{Setting, MachineNode, World, IsStep, IsRun, start}
+use Rattle.np_world.specs.World.{Setting, MachineNode, World, IsStep, IsRun, first_node, start}
 use Rattle.np_world.specs.declared.events.EventLine.{EventLine}
 use Rattle.np_world.specs.declared.members.Member.{Member}
 use Rattle.np_world.specs.declared.replies.Reply.{Reply}
@@ -40,19 +43,62 @@ module _ {T : Type 0} (model : T → VersionData) (rules : Rules T) where
   ends-nothing starts events members begins = record { world = start starts; run = (refl, refl); shows = record { nodes = begins; sent = tt } }
 
   -- one event more
-  pub ends-more : (starts : List ℕ) (events : List EventLine) (i : ℕ) (d : EventLine) (replies : List Reply) (members new : List (Member T)) (told new_told : List (Vec ℕ Global)) (reply : Reply) → i < length events → AreRules model rules
-      → EndsRun model rules starts (map event_of (take i events)) replies members told → Steps model rules members told (event_of (get_or events i d)) reply new new_told
-      → EndsRun model rules starts (map event_of (take (i + 1) events)) (replies ++ reply ∷ []) new new_told
-  ends-more starts events i d replies members new told new_told reply lt are ends steps =
+  pub ends-more : (starts : List ℕ) (events : List EventLine) (i : ℕ) (event : EventLine) (replies : List Reply) (members new : List (Member T)) (told new_told : List (Vec ℕ Global)) (reply : Reply) (more_replies : List Reply) → i < length events
+      → more_replies ≡ replies ++ reply ∷ [] → event ≡ get_or events i event → AreRules model rules
+      → EndsRun model rules starts (map event_of (take i events)) replies members told → Steps model rules members told (event_of event) reply new new_told
+      → EndsRun model rules starts (map event_of (take (i + 1) events)) more_replies new new_told
+  ends-more starts events i event replies members new told new_told reply more_replies lt pushed here are ends steps =
       let step = steps ends.world are ends.shows in
-      let more : map event_of (take (i + 1) events) ≡ map event_of (take i events) ++ event_of (get_or events i d) ∷ [] =
-          ap (map event_of) (take_more events i d lt) ∙ map-append event_of (take i events) (get_or events i d ∷ []) in
+      let more : map event_of (take (i + 1) events) ≡ map event_of (take i events) ++ event_of event ∷ [] =
+          ap (map event_of) (take_more events i event lt) ∙ map-append event_of (take i events) (get_or events i event ∷ []) ∙ ap (λ e. map event_of (take i events) ++ event_of e ∷ []) (sym here) in
       record {
         world = step.0;
-        run = subst (λ es. IsRun (setting_of model rules) (start starts) es (replies ++ reply ∷ []) step.0) (sym more)
-            (run-push (setting_of model rules) (start starts) (map event_of (take i events)) replies ends.world (event_of (get_or events i d)) reply step.0 ends.run step.1);
+        run = subst (λ rs. IsRun (setting_of model rules) (start starts) (map event_of (take (i + 1) events)) rs step.0) (sym pushed)
+            (subst (λ es. IsRun (setting_of model rules) (start starts) es (replies ++ reply ∷ []) step.0) (sym more)
+            (run-push (setting_of model rules) (start starts) (map event_of (take i events)) replies ends.world (event_of event) reply step.0 ends.run step.1));
         shows = step.2;
       }
+
+  -- the nodes stay as many as there were
+  pub length-set : (nodes : List MachineNode) (k : ℕ) (node : MachineNode) → length (slice_set nodes k node) ≡ length nodes
+  length-set [] k node = refl
+  length-set (n ∷ ns) zero node = refl
+  length-set (n ∷ ns) (suc k) node = ap suc (length-set ns k node)
+
+  pub length-run : (setting : Setting) (before : World) (events : List Event) (replies : List Reply) (after : World) → IsRun setting before events replies after → length after.nodes ≡ length before.nodes
+  length-run setting before [] replies after run = ap (λ w. length w.nodes) run.1
+  length-run setting before (e ∷ es) replies after run =
+      length-run setting run.2 es run.1 after run.5 ∙ ap length run.4.nodes ∙ length-set before.nodes (node_of e) run.4.new
+
+  pub count_ends : (starts : List ℕ) (events : List Event) (replies : List Reply) (members : List (Member T)) (told : List (Vec ℕ Global)) → EndsRun model rules starts events replies members told → length members ≡ length starts
+  count_ends starts events replies members told ends =
+      length-mirrored members ends.world.nodes ends.shows.nodes
+      ∙ length-run (setting_of model rules) (start starts) events replies ends.world ends.run
+      ∙ length-map starts first_node
+
+  -- ---- the nodes at the start
+
+  pub new_mirrors : (index : ℕ) (table : T) (node : NodeState T) → AreRules model rules → slice_get rules.tables index ≡ Some table → StandsAt (map model rules.tables) index (model table)
+      → node ≡ record { table = table; form = rules.form; room = rules.room; entries = [] } → Mirrors model rules (record { index = index; node = node; image = None }) (first_node index)
+  new_mirrors index table node are here stands is =
+      subst (λ n. Mirrors model rules (record { index = index; node = n; image = None }) (first_node index)) (sym is)
+      (record {
+        index = refl;
+        table = here;
+        form = refl;
+        room = refl;
+        node = record { sound = stands.sound; entries = λ k d lt. absurd (omega arith); unlike = λ i j d lt within. absurd (omega arith); fits = omega arith; room = are.room };
+        strings = refl;
+        saved = refl;
+      })
+
+  pub begins-more : (members more : List (Member T)) (starts : List ℕ) (i : ℕ) (member : Member T) → i < length starts → more ≡ members ++ member ∷ [] → Begins model rules members (take i starts)
+      → Mirrors model rules member (first_node (get_or starts i 0)) → Begins model rules more (take (i + 1) starts)
+  begins-more members more starts i member lt pushed begins is =
+      let grown : (start (take (i + 1) starts)).nodes ≡ (start (take i starts)).nodes ++ first_node (get_or starts i 0) ∷ [] =
+          ap (map first_node) (take_more starts i 0 lt) ∙ map-append first_node (take i starts) (get_or starts i 0 ∷ []) in
+      subst (λ l. AreMirrored model rules l (start (take (i + 1) starts)).nodes) (sym pushed)
+      (subst (AreMirrored model rules (members ++ member ∷ [])) (sym grown) (mirrored-push members (start (take i starts)).nodes member (first_node (get_or starts i 0)) begins is))
 
   pub shown : (starts : List ℕ) (events : List Event) (replies : List Reply) (members : List (Member T)) (told : List (Vec ℕ Global)) → AreRules model rules → EndsRun model rules starts events replies members told → IsShown model rules members told
   shown starts events replies members told are ends = record { rules_hold = are; world = ends.world; shows = ends.shows }

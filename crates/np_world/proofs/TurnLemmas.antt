@@ -15,6 +15,7 @@ use Rattle.np_code_points.specs.declared.forms.Form.{Form}
 use Rattle.np_forms.specs.Assigned.{IsAssigned, IsFirstUnassigned}
 use Rattle.np_forms.specs.Forms.{IsEquivalent}
 use Rattle.np_forms.specs.Laws.{SameForms}
+use Rattle.np_node.proofs.KeyLemmas.{fits-entry}
 use Rattle.np_node.specs.Accepting.{AnswersAccept, LeavesAccepted, KeepsAndTells}
 use Rattle.np_node.specs.Images.{Image, image_bytes, IsImage}
 use Rattle.np_node.specs.Laws.{FairExchange, IsFairAnswer, Saved, IsSavedAs, SpellsOneImage, SpellsOneMessage}
@@ -239,7 +240,7 @@ module _ {T : Type 0} (model : T → VersionData) (rules : Rules T) (old : Membe
             version = model old.node.table;
             here = table_here;
             is = subst (λ f. IsEntry (model old.node.table) f e) m.form (record { keepable = keepable; key = tells.is_key });
-            message = subst (λ f. IsMessage message.items (record { form = f; entry = e })) m.form tells.message_is;
+            message = subst (λ f. IsMessage message.items (record { form = f; entry = e })) m.form (record { fits = fits-entry (model old.node.table) m.node.sound old.node.form e (record { keepable = keepable; key = tells.is_key }); spelling = tells.spelling });
             text = refl;
           } in
       record {
@@ -497,7 +498,7 @@ module _ {T : Type 0} (model : T → VersionData) (rules : Rules T) (old : Membe
         string = sym (get_or-map (λ (x : Entry). x.string) old.node.entries kept.0 e bytes within) ∙ kept.2;
       }
 
-  equivalent_last : AreRules model rules → Stability → SameForms → slice_get (map model rules.tables) (length rules.tables - 1) ≡ Some last → (left right : List ℕ) → IsKept old.node.entries left → IsKept old.node.entries right
+  pub equivalent_last : AreRules model rules → Stability → SameForms → slice_get (map model rules.tables) (length rules.tables - 1) ≡ Some last → (left right : List ℕ) → IsKept old.node.entries left → IsKept old.node.entries right
       → IsEquivalent (model old.node.table) (is_compat old.node.form) (chars left) (chars right) ↔ IsEquivalent last (is_compat rules.form) (chars left) (chars right)
   equivalent_last are stability same end left right one other =
       let vs = map model rules.tables in

@@ -31,9 +31,17 @@ IsLast setting v = slice_get setting.versions (length setting.versions - 1) ≡ 
 abbrev pub AreKeysUnder : VersionData → Form → List Entry → Type 0
 AreKeysUnder v form entries = All (λ e. IsKey v form e.string e.key) entries
 
--- the entries have exactly these strings, in order
-abbrev pub HaveStrings : List Entry → List (List ℕ) → Type 0
-HaveStrings entries strings = map chars (strings_of entries) ≡ strings
+-- the strings of entries in order, as code points
+abbrev pub texts_in : List Entry → List (List ℕ)
+texts_in entries = map chars (strings_of entries)
+
+-- the node has the table of its place in the chain, the form and the room
+pub record IsNodeOf {T : Type 0} (tables : List T) (form : Form) (room : ℕ) (index : Option ℕ) (node : NodeState T) : Type 0 where
+  pub place : ℕ
+  pub index_is : index ≡ Some place
+  pub table_is : slice_get tables place ≡ Some node.table
+  pub form_is : node.form ≡ form
+  pub room_is : node.room ≡ room
 
 -- the message of a string with its key under a version
 pub record IsMessageUnder (v : VersionData) (form : Form) (string bytes : List ℕ) : Type 0 where
@@ -45,7 +53,7 @@ pub record IsMessageUnder (v : VersionData) (form : Form) (string bytes : List �
 -- the image of a list of strings, each beside its key under a version
 pub record IsImageUnder (v : VersionData) (form : Form) (strings : List (List ℕ)) (bytes : List ℕ) : Type 0 where
   pub entries : List Entry
-  pub texts : HaveStrings entries strings
+  pub texts : texts_in entries ≡ strings
   pub keys : AreKeysUnder v form entries
   pub spelling : bytes ≡ image_bytes (record { form = form; entries = entries })
 

@@ -32,8 +32,11 @@ pub record World : Type 0 where
   pub sent : List (List ℕ)
 
 -- at the start node I has the version that stands at place I of the list, and nothing is kept, saved or sent
+abbrev pub first_node : ℕ → MachineNode
+first_node index = record { index = index; strings = []; saved = [] }
+
 abbrev pub start : List ℕ → World
-start indices = record { nodes = map (λ index. record { index = index; strings = []; saved = [] }) indices; sent = [] }
+start indices = record { nodes = map first_node indices; sent = [] }
 
 -- what an event meets and leaves: the node that it names, and what was sent
 pub record Scene : Type 0 where

@@ -1,4 +1,5 @@
 pub mod EventValues
 pub mod Mirrors
+pub mod Played
 pub mod Rust
 pub mod Worlds

@@ -12,6 +12,7 @@ mod spelling;
 mod steps;
 mod turns;
 
+pub use replays::replay;
 pub use replies::Reply;
 pub use report::Report;
 pub use schedules::{Schedule, ScheduleFault};

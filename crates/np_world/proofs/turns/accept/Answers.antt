@@ -7,9 +7,6 @@ use Rattle.np_world.specs.inside.Mirrors.{rules_of}
 use Rattle.np_world.proofs.TurnLemmas.{at_text, at_version, accept_answers, accept_leaves, same_member, accepts-kept, accepts-known, accepts-full, accepts-too_long, accepts-unassigned}
 use Rattle.np_world.proofs.turns.accept.Goals as goal
 
-pub accept-requires : goal.accept-requires
-accept-requires g c = ?
-
 pub returns-in-Ok-Known : goal.returns-in-Ok-Known
 returns-in-Ok-Known g c = λ node strings version last are mirrors sent here end.
     let model = g.T.NormTable.model in

@@ -5,9 +5,6 @@ use Rattle.np_world.specs.inside.Mirrors.{rules_of}
 use Rattle.np_world.proofs.TurnLemmas.{at_version, asks-none, asks-equal, asks-different}
 use Rattle.np_world.proofs.turns.ask.Goals as goal
 
-pub same-requires : goal.same-requires
-same-requires g c = ?
-
 pub returns-in-None : goal.returns-in-None
 returns-in-None g c = λ messages node strings version last are mirrors sent here end.
     let model = g.T.NormTable.model in

@@ -8,15 +8,6 @@ use Rattle.np_world.specs.inside.Mirrors.{rules_of}
 use Rattle.np_world.proofs.TurnLemmas.{at_version, get_at, take_answers, take_leaves, same_member, delivers-none, delivers-kept, delivers-known, delivers-full, delivers-unassigned, fair}
 use Rattle.np_world.proofs.turns.deliver.Goals as goal
 
-pub exchange-requires : goal.exchange-requires
-exchange-requires g c = ?
-
-pub messages-requires : goal.messages-requires
-messages-requires g c = ?
-
-pub take-requires : goal.take-requires
-take-requires g c = ?
-
 pub unreachable-requires : goal.unreachable-requires
 unreachable-requires g c =
     let model = g.T.NormTable.model in

@@ -5,15 +5,6 @@ use Rattle.np_world.specs.inside.Mirrors.{rules_of}
 use Rattle.np_world.proofs.TurnLemmas.{at_version, make_node, refused_for_memory, restarts-empty, restarts-saved}
 use Rattle.np_world.proofs.turns.restart.Goals as goal
 
-pub saved-requires : goal.saved-requires
-saved-requires g c = ?
-
-pub images-requires : goal.images-requires
-images-requires g c = ?
-
-pub restore-requires-clause-stub : goal.restore-requires-clause-stub
-restore-requires-clause-stub g c = ?
-
 pub returns-in_default : goal.returns-in_default
 returns-in_default g c = λ messages node strings version last are mirrors sent here end.
     let model = g.T.NormTable.model in

@@ -4,9 +4,6 @@ use Rattle.np_world.specs.inside.Mirrors.{rules_of}
 use Rattle.np_world.proofs.TurnLemmas.{at_version, saves}
 use Rattle.np_world.proofs.turns.save.Goals as goal
 
-pub image-requires : goal.image-requires
-image-requires g c = ?
-
 pub returns : goal.returns
 returns g c = λ messages node strings version last are mirrors sent here end.
     let model = g.T.NormTable.model in

@@ -6,12 +6,6 @@ use Rattle.np_world.specs.inside.Mirrors.{rules_of}
 use Rattle.np_world.proofs.TurnLemmas.{at_version, next_extends, stays_last, upgrades}
 use Rattle.np_world.proofs.turns.upgrade.Goals as goal
 
-pub saved-requires : goal.saved-requires
-saved-requires g c = ?
-
-pub upgrade-requires : goal.upgrade-requires
-upgrade-requires g c = ?
-
 pub unwrap-requires : goal.unwrap-requires
 unwrap-requires g c =
     let model = g.T.NormTable.model in
