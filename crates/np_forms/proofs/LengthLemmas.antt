@@ -17,7 +17,7 @@ use Rattle.np_tables.proofs.MappingLemmas.{is_empty-false, full-final, full-mapp
 use Rattle.np_tables.specs.inside.CompositeSearch.{composite}
 use Rattle.np_tables.specs.Conditions.{IsSound}
 use Rattle.np_tables.specs.Mappings.{counts, parts, Rewrites, is_final, IsFullDecomposition}
-use Rattle.np_tables.specs.Versions.{VersionData, class_of, kind_of}
+use Rattle.np_tables.specs.Versions.{VersionData, class_of, decomposition_kind}
 use Rattle.np_tables.specs.inside.FullDecompositions.{full, full_of}
 use Rattle.np_ucd.specs.declared.rows.MapKind.{MapKind}
 use Rattle.np_ucd.specs.declared.rows.MapKind.TheVariants.{Plain, Canonical, Compatibility}
@@ -66,8 +66,8 @@ module _ (v : VersionData) where
   parts-more : (c : ℕ) → parts v false c ≢ [] → parts v true c ≡ parts v false c
   unfolding parts
   parts-more c some =
-      elim (cases_Bool (counts false (kind_of v c))) [
-        | inl on ↦ cond-true _ _ _ (counts-more (kind_of v c) on) ∙ sym (cond-true _ _ _ on)
+      elim (cases_Bool (counts false (decomposition_kind v c))) [
+        | inl on ↦ cond-true _ _ _ (counts-more (decomposition_kind v c) on) ∙ sym (cond-true _ _ _ on)
         | inr off ↦ absurd (some (cond-false _ _ _ off))
       ]
 
@@ -103,10 +103,15 @@ module _ (v : VersionData) where
         ap (flat_map (full_of v true)) (sym (append-nil (full_of v false c)))
         ∙ full_decomposition-flat_map v true shallow (c ∷ []) _ is ∙ append-nil (full_of v true c)
 
+    short-compatible : (c : ℕ) → length (full_of v true c) ≤ 64
+    short-compatible c =
+        let whole = sound.short c (flat_map (full_of v true) (c ∷ [])) (IsFullDecomposition-flat_map v true sound.shallow (c ∷ [])) in
+        omega (arith, whole, ap length (append-nil (full_of v true c)))
+
     short : (compat : Bool) (c : ℕ) → length (full_of v compat c) ≤ 64
-    short true c = sound.short c
+    short true c = short-compatible c
     short false c =
-        omega (arith, sound.short c, ap length (further c), length-flat_map-some (full_of v true) (length-full_of true) (full_of v false c))
+        omega (arith, short-compatible c, ap length (further c), length-flat_map-some (full_of v true) (length-full_of true) (full_of v false c))
 
     length-decomposed : (compat : Bool) (xs : List ℕ) → length (decomposed v compat xs) ≤ 64 * length xs
     unfolding decomposed

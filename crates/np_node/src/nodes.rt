@@ -80,7 +80,7 @@ impl<'t, T: NormTable> Node<'t, T> {
     pub fn is_empty(&self) -> bool
         ensures { IsTrue result ↔ (self.now.entries ≡ []) }
     {
-        self.kept.len() == 0
+        self.len() == 0
     }
 
     /// The most strings that may be kept.
@@ -157,7 +157,7 @@ impl<'t, T: NormTable> Node<'t, T> {
     pub(crate) fn is_full(&self) -> bool
         ensures { IsTrue result ↔ (self.now.room ≤ length self.now.entries) }
     {
-        self.kept.len() >= self.room as usize
+        self.len() >= self.room as usize
     }
 
     /// Keeps a new string beside its key, behind the others.
