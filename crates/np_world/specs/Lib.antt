@@ -1,8 +1,6 @@
-pub mod EventLines
 pub mod Events
 pub mod Reports
 pub mod Runs
 pub mod Schedules
-pub mod Spelling
 pub mod World
 pub mod inside

@@ -1,4 +1,3 @@
-pub mod EventValues
 pub mod Mirrors
 pub mod Played
 pub mod Rust

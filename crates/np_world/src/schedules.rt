@@ -5,19 +5,6 @@ ghost use Rattle.np_world.specs.Schedules.{IsStandable};
 
 use crate::events::EventLine;
 use std::marker::Model;
-use thiserror::Error;
-
-/// Why bytes are no schedule.
-#[derive(Clone, Copy, Debug, PartialEq, Eq, Error)]
-pub enum ScheduleFault {
-    /// The first line that can't stand, by its number, from 1. A line that is missing has the
-    /// number behind the last.
-    #[error("line {line} can't stand")]
-    Line { line: u64 },
-    /// Memory ran out.
-    #[error("out of memory")]
-    Memory,
-}
 
 /// What happens to some nodes over a chain of versions: the room of each node, the place of each
 /// node's first version, and the events in their order.
