@@ -1,5 +1,5 @@
 -- What a report that mirrors the machine's run says.
-use Rattle.std.proofs.Common.{◌≡◌, ℕ, zero, suc, ◌-◌, ◌<◌, ◌≤◌, ◌⊎◌, ◌↔◌, List, [], ◌∷◌, length, map, slice_get, Option, Some, None, refl, sym, ap, subst, ◌∙◌, arith, inl, inr}
+use Rattle.std.proofs.Common.{◌≡◌, ℕ, zero, suc, ◌-◌, ◌<◌, ◌≤◌, ◌⊎◌, ◌↔◌, List, [], ◌∷◌, length, get_or, map, slice_get, Option, Some, None, refl, sym, ap, subst, ◌∙◌, arith, inl, inr}
 use Rattle.std.proofs.lemmas.List.{length-map}
 use Rattle.std.proofs.lemmas.Option.{slice_get_within}
 use Rattle.std.specs.Option.{option_map, option_and_then}
@@ -128,7 +128,8 @@ module _ {T : Type 0} (model : T → VersionData) (tables : List T) (form : Form
     keys_are = if_node (λ node. AreKeysUnder last form node.entries) (λ member node m k d lt.
         let here = table_here model rules member node [] last m in
         let entry = m.node.entries k d lt in
-        last_key member.index (model member.node.table) here _ _ entry.keepable (subst (λ f. IsKey (model member.node.table) f _ _) m.form entry.key))
+        let e = get_or member.node.entries k d in
+        last_key member.index (model member.node.table) here e.string e.key entry.keepable (subst (λ f. IsKey (model member.node.table) f e.string e.key) m.form entry.key))
 
     pub tells_alike : (i : ℕ) → IfSome (node_at report i) (λ node. TellsOf (model node.table) last form node.entries)
     tells_alike = if_node (λ node. TellsOf (model node.table) last form node.entries) (λ member node m left right one other.
@@ -154,7 +155,10 @@ module _ {T : Type 0} (model : T → VersionData) (tables : List T) (form : Form
         record {
           entries = has.entries;
           texts = sym has.strings;
-          keys = λ k d lt. let entry = has.node.entries k d lt in last_key member.index (model member.node.table) here _ _ entry.keepable entry.key;
+          keys = λ k d lt.
+              let entry = has.node.entries k d lt in
+              let e = get_or has.entries k d in
+              last_key member.index (model member.node.table) here e.string e.key entry.keepable entry.key;
           spelling = has.spelling;
         }
 

@@ -8,13 +8,16 @@ use Rattle.std.specs.declared.alloc.Global.{Global}
 use Rattle.np_chain.specs.Chain.{StandsAt}
 use Rattle.np_node.specs.Nodes.{NodeState}
 use Rattle.np_tables.specs.Versions.{VersionData}
-use Rattle.np_world.specs.Events.{Event, node_of}
-use Rattle.np_world.specs.Schedules.{NameNodes}
+use Rattle.np_code_points.specs.declared.forms.Form.{Form}
+use Rattle.np_world.specs.Events.{Event, ScheduleData, node_of}
+use Rattle.np_world.specs.Schedules.{IsStandable, NameNodes}
 use Rattle.np_world.specs.World.{Setting, MachineNode, World, IsStep, IsRun, first_node, start}
 use Rattle.np_world.specs.declared.events.EventLine.{EventLine}
 use Rattle.np_world.specs.declared.members.Member.{Member}
 use Rattle.np_world.specs.declared.replies.Reply.{Reply}
 use Rattle.np_world.specs.inside.Mirrors.{Rules, setting_of, Mirrors, AreRules}
+use Rattle.np_world.specs.declared.report.Report.{Report}
+use Rattle.np_world.specs.inside.Played.{IsPlayed, rules_over}
 use Rattle.np_world.specs.inside.Rust.{event_of}
 use Rattle.np_world.specs.inside.Worlds.{AreMirrored, ShowsWorld, IsShown, Steps, Begins, EndsRun}
 
@@ -50,7 +53,7 @@ module _ {T : Type 0} (model : T → VersionData) (rules : Rules T) where
   ends-more starts events i event replies members new told new_told reply more_replies lt pushed here are ends steps =
       let step = steps ends.world are ends.shows in
       let more : map event_of (take (i + 1) events) ≡ map event_of (take i events) ++ event_of event ∷ [] =
-          ap (map event_of) (take_more events i event lt) ∙ map-append event_of (take i events) (get_or events i event ∷ []) ∙ ap (λ e. map event_of (take i events) ++ event_of e ∷ []) (sym here) in
+      ap (map event_of) (take_more events i event lt) ∙ map-append event_of (take i events) (get_or events i event ∷ []) ∙ ap (λ e. map event_of (take i events) ++ event_of e ∷ []) (sym here) in
       record {
         world = step.0;
         run = subst (λ rs. IsRun (setting_of model rules) (start starts) (map event_of (take (i + 1) events)) rs step.0) (sym pushed)
@@ -96,7 +99,7 @@ module _ {T : Type 0} (model : T → VersionData) (rules : Rules T) where
       → Mirrors model rules member (first_node (get_or starts i 0)) → Begins model rules more (take (i + 1) starts)
   begins-more members more starts i member lt pushed begins is =
       let grown : (start (take (i + 1) starts)).nodes ≡ (start (take i starts)).nodes ++ first_node (get_or starts i 0) ∷ [] =
-          ap (map first_node) (take_more starts i 0 lt) ∙ map-append first_node (take i starts) (get_or starts i 0 ∷ []) in
+      ap (map first_node) (take_more starts i 0 lt) ∙ map-append first_node (take i starts) (get_or starts i 0 ∷ []) in
       subst (λ l. AreMirrored model rules l (start (take (i + 1) starts)).nodes) (sym pushed)
       (subst (AreMirrored model rules (members ++ member ∷ [])) (sym grown) (mirrored-push members (start (take i starts)).nodes member (first_node (get_or starts i 0)) begins is))
 
@@ -108,3 +111,23 @@ pub named_at : (nodes : ℕ) (events : List EventLine) (i : ℕ) (d : EventLine)
 named_at nodes events i d names lt =
     let there = names i (event_of d) (omega (arith, lt, length-map events event_of)) in
     subst (λ e. node_of e < nodes) (get_or-map event_of events i d (event_of d) lt) there
+
+-- the versions at which the nodes begin are among those of the chain
+pub starts_within : (schedule : ScheduleData) (starts : List ℕ) (n : ℕ) → IsStandable schedule → schedule.versions ≡ n → starts ≡ schedule.starts → (i : ℕ) → i < length starts → get_or starts i 0 < n
+starts_within schedule starts n stands over same i lt =
+    let within = stands.starts i 0 (omega (arith, lt, ap length same)) in
+    omega (arith, within, over, ap (λ l. get_or l i 0) same)
+
+pub names_within : (schedule : ScheduleData) (starts : List ℕ) (events : List Event) → IsStandable schedule → starts ≡ schedule.starts → events ≡ schedule.events → NameNodes (length starts) events
+names_within schedule starts events stands same all =
+    subst (λ es. NameNodes (length starts) es) (sym all) (subst (λ l. NameNodes (length l) schedule.events) (sym same) stands.events)
+
+pub played : {T : Type 0} (model : T → VersionData) (tables : List T) (form : Form) (schedule : ScheduleData) (report : Report T) (starts : List ℕ) (events : List Event)
+    → AreRules model (rules_over tables form schedule) → starts ≡ schedule.starts → events ≡ schedule.events
+    → EndsRun model (rules_over tables form schedule) starts events report.replies.items report.members.items report.sent.items → IsPlayed model tables form schedule report
+played model tables form schedule report starts events are same all ends =
+    record {
+      rules_hold = are;
+      ends = subst (λ es. EndsRun model (rules_over tables form schedule) schedule.starts es report.replies.items report.members.items report.sent.items) all
+          (subst (λ ss. EndsRun model (rules_over tables form schedule) ss events report.replies.items report.members.items report.sent.items) same ends);
+    }

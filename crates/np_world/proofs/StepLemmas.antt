@@ -71,20 +71,21 @@ module _ {T : Type 0} (model : T → VersionData) (rules : Rules T) where
         let some : length rules.tables - 1 < length vs = omega (arith, some_version vs are.chain.chain, length-map rules.tables model) in
         let last = some_at vs (length rules.tables - 1) some in
         let turn = turns at.twin world.sent (model old.node.table) last.0 are at.mirrors shows.sent version last.1 in
-        let after : World = record { nodes = slice_set world.nodes k turn.next; sent = turn.more } in
-        (after,
-        record {
-          old = at.twin;
-          new = turn.next;
-          version = model old.node.table;
-          last = last.0;
-          named = at.here;
-          present = version;
-          final = ap (λ n. slice_get vs (n - 1)) (length-map rules.tables model) ∙ last.1;
-          does = turn.does;
-          nodes = refl;
-        },
-        record { nodes = mirrored-set members world.nodes k new turn.next shows.nodes turn.mirrors; sent = turn.messages })
+        let after : World = record { nodes = slice_set world.nodes k turn.next; sent = turn.more } in (
+          after,
+          record {
+            old = at.twin;
+            new = turn.next;
+            version = model old.node.table;
+            last = last.0;
+            named = at.here;
+            present = version;
+            final = ap (λ n. slice_get vs (n - 1)) (length-map rules.tables model) ∙ last.1;
+            does = turn.does;
+            nodes = refl;
+          },
+          record { nodes = mirrored-set members world.nodes k new turn.next shows.nodes turn.mirrors; sent = turn.messages },
+        )
 
     pub stepped : Steps model rules members told said reply (set members (node_of event) new) new_told
     stepped = subst (λ e. Steps model rules members told e reply (set members (node_of event) new) new_told) (sym same) step_of_event

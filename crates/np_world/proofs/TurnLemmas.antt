@@ -219,8 +219,10 @@ module _ {T : Type 0} (model : T → VersionData) (rules : Rules T) (old : Membe
   accepts-full bytes new told place same messages =
       let keepable = place.new.keepable in
       stays (deed_accept (chars bytes)) (model old.node.table) Full new told same messages
-      (inr (short_text bytes keepable.utf8 keepable.short,
-      comes-full (setting_of model rules) (model old.node.table) (chars bytes) scene Full scene _ keepable.assigned (lacks_text bytes keepable.utf8 place.new.absent) (no_room place.full) refl refl))
+      (inr (
+        short_text bytes keepable.utf8 keepable.short,
+        comes-full (setting_of model rules) (model old.node.table) (chars bytes) scene Full scene _ keepable.assigned (lacks_text bytes keepable.utf8 place.new.absent) (no_room place.full) refl refl,
+      ))
 
   -- the member's version stands in the row
   pub table_here : slice_get (map model rules.tables) old.index ≡ Some (model old.node.table)
@@ -234,22 +236,24 @@ module _ {T : Type 0} (model : T → VersionData) (rules : Rules T) (old : Membe
       let e : Entry = record { string = bytes; key = tells.key } in
       let same : number ≡ length strings = count ∙ length-messages (setting_of model rules) sent strings messages in
       let of : IsMessageOf (setting_of model rules) message.items (chars bytes) =
-          record {
-            entry = e;
-            place = old.index;
-            version = model old.node.table;
-            here = table_here;
-            is = subst (λ f. IsEntry (model old.node.table) f e) m.form (record { keepable = keepable; key = tells.is_key });
-            message = subst (λ f. IsMessage message.items (record { form = f; entry = e })) m.form (record { fits = fits-entry (model old.node.table) m.node.sound old.node.form e (record { keepable = keepable; key = tells.is_key }); spelling = tells.spelling });
-            text = refl;
-          } in
+      record {
+        entry = e;
+        place = old.index;
+        version = model old.node.table;
+        here = table_here;
+        is = subst (λ f. IsEntry (model old.node.table) f e) m.form (record { keepable = keepable; key = tells.is_key });
+        message = subst (λ f. IsMessage message.items (record { form = f; entry = e })) m.form (record { fits = fits-entry (model old.node.table) m.node.sound old.node.form e (record { keepable = keepable; key = tells.is_key }); spelling = tells.spelling });
+        text = refl;
+      } in
       record {
         next = with_string twin (chars bytes);
         more = strings ++ chars bytes ∷ [];
         does =
-            inr (short_text bytes keepable.utf8 keepable.short,
-            comes-kept (setting_of model rules) (model old.node.table) (chars bytes) scene (Sent number) (record { node = with_string twin (chars bytes); sent = strings ++ chars bytes ∷ [] }) _
-            keepable.assigned (lacks_text bytes keepable.utf8 place.new.absent) (some_room place.room) (ap Sent same, refl));
+            inr (
+              short_text bytes keepable.utf8 keepable.short,
+              comes-kept (setting_of model rules) (model old.node.table) (chars bytes) scene (Sent number) (record { node = with_string twin (chars bytes); sent = strings ++ chars bytes ∷ [] }) _
+                  keepable.assigned (lacks_text bytes keepable.utf8 place.new.absent) (some_room place.room) (ap Sent same, refl),
+            );
         mirrors = keeps_more new e index image tells.kept place tells.is_key;
         messages = subst (λ l. AreMessages (setting_of model rules) l (strings ++ chars bytes ∷ [])) (sym more) (messages-push (setting_of model rules) sent strings message (chars bytes) messages of);
       }

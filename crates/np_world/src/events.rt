@@ -4,15 +4,27 @@
 #[derive(Debug, Drop)]
 pub(crate) enum EventLine {
     /// The node is given a string.
-    Accept { node: usize, string: String },
+    Accept {
+        node: usize,
+        string: String,
+    },
     /// The message of this number reaches the node.
-    Deliver { node: usize, message: usize },
+    Deliver {
+        node: usize,
+        message: usize,
+    },
     /// The node goes on to the next version.
-    Upgrade { node: usize },
+    Upgrade {
+        node: usize,
+    },
     /// The node saves what it keeps.
-    Save { node: usize },
+    Save {
+        node: usize,
+    },
     /// The node begins again with what it saved.
-    Restart { node: usize },
+    Restart {
+        node: usize,
+    },
     /// The node is asked whether two strings are equal.
     Ask {
         node: usize,

@@ -6,6 +6,7 @@ use np_tables::NormTable;
 use std::alloc::Global;
 
 /// What holds for all nodes of a replay.
+#[derive(Drop)]
 pub(crate) struct Common<'c, 't, T: NormTable> {
     pub alloc: Global,
     pub chain: &'c Chain<'t, T>,

@@ -3,7 +3,7 @@ ghost use Rattle.std.specs.Prelude.{◌≡◌, ◌<◌, ◌≤◌, ℕ, length, 
 ghost use Rattle.std.specs.Option.{option_map};
 ghost use Rattle.np_tables.specs.Versions.{VersionData};
 ghost use Rattle.np_world.specs.Reports.{image_at, index_at, message_at, node_at, replies_of};
-ghost use Rattle.np_world.specs.Runs.{setting_over, AreKeysUnder, HaveStrings, InTheRun, IsImageUnder, IsLast, IsMessageUnder, IsNodeOf, TellsOf, texts_in};
+ghost use Rattle.np_world.specs.Runs.{setting_over, AreKeysUnder, InTheRun, IsImageUnder, IsLast, IsMessageUnder, IsNodeOf, TellsOf, texts_in};
 ghost use Rattle.np_world.specs.inside.Mirrors.{rules_of, AreRules};
 ghost use Rattle.np_world.specs.inside.Played.{IsPlayed};
 ghost use Rattle.np_world.specs.inside.Worlds.{Begins, EndsRun};

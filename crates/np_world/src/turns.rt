@@ -142,7 +142,13 @@ pub(crate) fn restart<'t, T: NormTable>(
     // An image that a node saved is never refused under its own or a later version.
     np_node::laws::saved();
     np_node::laws::images();
-    match Node::restore(common.alloc, table, common.form, common.room, image.as_slice()) {
+    match Node::restore(
+        common.alloc,
+        table,
+        common.form,
+        common.room,
+        image.as_slice(),
+    ) {
         Ok(node) => {
             member.node = node;
             Ok(Reply::Restarted)
