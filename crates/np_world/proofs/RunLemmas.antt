@@ -122,12 +122,17 @@ pub names_within : (schedule : ScheduleData) (starts : List ℕ) (events : List 
 names_within schedule starts events stands same all =
     subst (λ es. NameNodes (length starts) es) (sym all) (subst (λ l. NameNodes (length l) schedule.events) (sym same) stands.events)
 
-pub played : {T : Type 0} (model : T → VersionData) (tables : List T) (form : Form) (schedule : ScheduleData) (report : Report T) (starts : List ℕ) (events : List Event)
-    → AreRules model (rules_over tables form schedule) → starts ≡ schedule.starts → events ≡ schedule.events
-    → EndsRun model (rules_over tables form schedule) starts events report.replies.items report.members.items report.sent.items → IsPlayed model tables form schedule report
-played model tables form schedule report starts events are same all ends =
+abbrev pub rules_with : {T : Type 0} → List T → Form → ℕ → Rules T
+rules_with tables form room = record { tables = tables; form = form; room = room }
+
+pub played : {T : Type 0} (model : T → VersionData) (tables : List T) (form : Form) (schedule : ScheduleData) (report : Report T) (room : ℕ) (starts : List ℕ) (events : List Event) (members : List (Member T))
+    → AreRules model (rules_with tables form room) → room ≡ schedule.room → starts ≡ schedule.starts → events ≡ schedule.events → members ≡ report.members.items
+    → EndsRun model (rules_with tables form room) starts events report.replies.items members report.sent.items → IsPlayed model tables form schedule report
+played model tables form schedule report room starts events members are size same all kept ends =
     record {
-      rules_hold = are;
-      ends = subst (λ es. EndsRun model (rules_over tables form schedule) schedule.starts es report.replies.items report.members.items report.sent.items) all
-          (subst (λ ss. EndsRun model (rules_over tables form schedule) ss events report.replies.items report.members.items report.sent.items) same ends);
+      rules_hold = subst (λ r. AreRules model (rules_with tables form r)) size are;
+      ends = subst (λ r. EndsRun model (rules_with tables form r) schedule.starts schedule.events report.replies.items report.members.items report.sent.items) size
+          (subst (λ ms. EndsRun model (rules_with tables form room) schedule.starts schedule.events report.replies.items ms report.sent.items) kept
+          (subst (λ es. EndsRun model (rules_with tables form room) schedule.starts es report.replies.items members report.sent.items) all
+          (subst (λ ss. EndsRun model (rules_with tables form room) ss events report.replies.items members report.sent.items) same ends)));
     }

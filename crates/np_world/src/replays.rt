@@ -82,7 +82,7 @@ fn play<'t, T: NormTable>(
 {
     let room = schedule.room();
     // A chain's versions extend one another.
-    let _versions = chain.len();
+    chain.meets_conditions();
     let common = Common {
         alloc,
         chain,

@@ -12,16 +12,16 @@ pub returns-clause-strings : goal.returns-clause-strings
 returns-clause-strings g c = if_ok _ _ _ (λ report is. strings_are g.T.NormTable.model c.args.chain.now c.args.form c.args.schedule.now report is) c.play.ensures
 
 pub returns-clause-keys : goal.returns-clause-keys
-returns-clause-keys g c = if_ok _ _ _ (λ report is last end. keys_are g.T.NormTable.model c.args.chain.now c.args.form c.args.schedule.now report is c.stability.ensures c.idempotence.ensures.same last end) c.play.ensures
+returns-clause-keys g c = if_ok _ _ _ (λ report is. keys_are g.T.NormTable.model c.args.chain.now c.args.form c.args.schedule.now report is c.stability.ensures c.idempotence.ensures.same) c.play.ensures
 
 pub returns-clause-nodes : goal.returns-clause-nodes
 returns-clause-nodes g c = if_ok _ _ _ (λ report is. nodes_are g.T.NormTable.model c.args.chain.now c.args.form c.args.schedule.now report is) c.play.ensures
 
 pub returns-clause-sent : goal.returns-clause-sent
-returns-clause-sent g c = if_ok _ _ _ (λ report is last end. sent_are g.T.NormTable.model c.args.chain.now c.args.form c.args.schedule.now report is c.stability.ensures c.idempotence.ensures.same last end) c.play.ensures
+returns-clause-sent g c = if_ok _ _ _ (λ report is. sent_are g.T.NormTable.model c.args.chain.now c.args.form c.args.schedule.now report is c.stability.ensures c.idempotence.ensures.same) c.play.ensures
 
 pub returns-clause-saved : goal.returns-clause-saved
-returns-clause-saved g c = if_ok _ _ _ (λ report is last end. saved_are g.T.NormTable.model c.args.chain.now c.args.form c.args.schedule.now report is c.stability.ensures c.idempotence.ensures.same last end) c.play.ensures
+returns-clause-saved g c = if_ok _ _ _ (λ report is. saved_are g.T.NormTable.model c.args.chain.now c.args.form c.args.schedule.now report is c.stability.ensures c.idempotence.ensures.same) c.play.ensures
 
 pub returns-clause-alike : goal.returns-clause-alike
-returns-clause-alike g c = if_ok _ _ _ (λ report is last end. tells_alike g.T.NormTable.model c.args.chain.now c.args.form c.args.schedule.now report is c.stability.ensures c.idempotence.ensures.same last end) c.play.ensures
+returns-clause-alike g c = if_ok _ _ _ (λ report is. tells_alike g.T.NormTable.model c.args.chain.now c.args.form c.args.schedule.now report is c.stability.ensures c.idempotence.ensures.same) c.play.ensures

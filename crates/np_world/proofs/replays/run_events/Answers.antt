@@ -1,4 +1,4 @@
-use Rattle.std.proofs.Common.{◌≡◌, length, map, get_or, subst, sym, take, ap, ◌∙◌, arith}
+use Rattle.std.proofs.Common.{◌≡◌, ◌<◌, length, map, subst, sym, take}
 use Rattle.np_world.specs.Events.{node_of}
 use Rattle.np_world.specs.World.{start}
 use Rattle.np_world.specs.inside.Mirrors.{rules_of}
