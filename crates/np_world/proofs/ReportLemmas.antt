@@ -1,5 +1,5 @@
 -- What a report that mirrors the machine's run says.
-use Rattle.std.proofs.Common.{◌≡◌, ℕ, zero, suc, ◌-◌, ◌<◌, ◌≤◌, ◌⊎◌, ◌↔◌, List, [], ◌∷◌, length, get_or, map, slice_get, Option, Some, None, refl, sym, ap, subst, ◌∙◌, arith, inl, inr}
+use Rattle.std.proofs.Common.{◌≡◌, ℕ, zero, suc, ◌-◌, ◌≤◌, ◌⊎◌, ◌↔◌, List, [], ◌∷◌, length, get_or, map, slice_get, Option, Some, None, refl, sym, ap, subst, ◌∙◌, arith, inl, inr}
 use Rattle.std.proofs.lemmas.List.{length-map}
 use Rattle.std.proofs.lemmas.Option.{slice_get_within}
 use Rattle.std.specs.Option.{option_map, option_and_then}
@@ -23,7 +23,7 @@ use Rattle.np_world.specs.World.{MachineNode, World}
 use Rattle.np_world.specs.declared.members.Member.{Member}
 use Rattle.np_world.specs.declared.replies.Reply.{Reply}
 use Rattle.np_world.specs.declared.report.Report.{Report}
-use Rattle.np_world.specs.inside.Mirrors.{Rules, setting_of, Mirrors, IsMessageOf, AreMessages, AreRules, HasImage, HasSaved}
+use Rattle.np_world.specs.inside.Mirrors.{Rules, setting_of, Mirrors, IsMessageOf, AreMessages, HasSaved}
 use Rattle.np_world.specs.inside.Played.{IsPlayed, rules_over}
 use Rattle.np_world.specs.inside.Worlds.{AreMirrored}
 use Rattle.np_world.proofs.TurnLemmas.{equivalent_last, table_here}

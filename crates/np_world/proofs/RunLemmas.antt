@@ -1,7 +1,6 @@
 -- A run of the machine, event by event.
-use Rattle.std.proofs.Common.{◌≡◌, ℕ, zero, suc, ◌+◌, ◌<◌, ◌≤◌, List, [], ◌∷◌, ◌++◌, length, get_or, map, take, slice_get, None, Some, refl, sym, ap, subst, ◌∙◌, arith}
+use Rattle.std.proofs.Common.{◌≡◌, ℕ, zero, suc, ◌+◌, ◌<◌, List, [], ◌∷◌, ◌++◌, length, get_or, map, take, slice_get, None, Some, refl, sym, ap, subst, ◌∙◌, arith}
 use Rattle.std.proofs.lemmas.List.{length-map, take_more, map-append, get_or-map}
-use Rattle.std.specs.List.{All}
 use Rattle.std.specs.Prelude.{slice_set}
 use Rattle.std.specs.declared.vec.Vec.{Vec}
 use Rattle.std.specs.declared.alloc.Global.{Global}
@@ -17,9 +16,9 @@ use Rattle.np_world.specs.declared.members.Member.{Member}
 use Rattle.np_world.specs.declared.replies.Reply.{Reply}
 use Rattle.np_world.specs.inside.Mirrors.{Rules, setting_of, Mirrors, AreRules}
 use Rattle.np_world.specs.declared.report.Report.{Report}
-use Rattle.np_world.specs.inside.Played.{IsPlayed, rules_over}
+use Rattle.np_world.specs.inside.Played.{IsPlayed}
 use Rattle.np_world.specs.inside.Rust.{event_of}
-use Rattle.np_world.specs.inside.Worlds.{AreMirrored, ShowsWorld, IsShown, Steps, Begins, EndsRun}
+use Rattle.np_world.specs.inside.Worlds.{AreMirrored, IsShown, Steps, Begins, EndsRun}
 
 run-push : (setting : Setting) (before : World) (events : List Event) (replies : List Reply) (between : World) (event : Event) (reply : Reply) (after : World)
     → IsRun setting before events replies between → IsStep setting between event reply after → IsRun setting before (events ++ event ∷ []) (replies ++ reply ∷ []) after

@@ -1,17 +1,17 @@
 -- One event of a replay is one step of the machine.
-use Rattle.std.proofs.Common.{◌≡◌, ℕ, zero, suc, ◌+◌, ◌-◌, ◌<◌, ◌≤◌, List, [], ◌∷◌, ◌++◌, length, get_or, set, map, slice_get, Option, Some, None, Result, Ok, Err, refl, sym, ap, subst, ◌∙◌, arith}
+use Rattle.std.proofs.Common.{◌≡◌, ℕ, zero, suc, ◌-◌, ◌<◌, List, [], ◌∷◌, length, get_or, set, map, slice_get, Some, Result, Ok, Err, refl, sym, ap, subst, ◌∙◌, arith}
 use Rattle.std.proofs.lemmas.List.{length-map, set-get_or}
 use Rattle.std.specs.Prelude.{IfOk, slice_set}
 use Rattle.std.specs.declared.vec.Vec.{Vec}
 use Rattle.std.specs.declared.alloc.Global.{Global}
-use Rattle.np_chain.specs.Chain.{IsChain, IsSoundChain}
+use Rattle.np_chain.specs.Chain.{IsChain}
 use Rattle.np_tables.specs.Versions.{VersionData}
 use Rattle.np_world.specs.Events.{Event, node_of}
-use Rattle.np_world.specs.World.{MachineNode, World, Does, IsStep}
+use Rattle.np_world.specs.World.{MachineNode, World, Does}
 use Rattle.np_world.specs.declared.members.Member.{Member}
 use Rattle.np_world.specs.declared.replies.Reply.{Reply}
-use Rattle.np_world.specs.inside.Mirrors.{Rules, setting_of, Mirrors, AreMessages, AreRules, IsReady, Turns}
-use Rattle.np_world.specs.inside.Worlds.{AreMirrored, ShowsWorld, IsShown, Steps}
+use Rattle.np_world.specs.inside.Mirrors.{Rules, setting_of, Mirrors, IsReady, Turns}
+use Rattle.np_world.specs.inside.Worlds.{AreMirrored, IsShown, Steps}
 use Rattle.np_world.proofs.TurnLemmas.{table_here}
 
 pub if_ok : {A E : Type 0} (r : Result A E) (P Q : A → Type 0) → ((x : A) → P x → Q x) → IfOk r P → IfOk r Q

@@ -1,8 +1,6 @@
 -- What contracts see of a report.
-use Rattle.std.specs.Prelude.{ℕ, List, slice_get, Option, Some, None}
+use Rattle.std.specs.Prelude.{ℕ, List, slice_get, Option}
 use Rattle.std.specs.Option.{option_map, option_and_then}
-use Rattle.std.specs.declared.vec.Vec.{Vec}
-use Rattle.std.specs.declared.alloc.Global.{Global}
 use Rattle.np_node.specs.Nodes.{NodeState}
 use Rattle.np_world.specs.declared.members.Member.{Member}
 use Rattle.np_world.specs.declared.replies.Reply.{Reply}

@@ -1,5 +1,5 @@
 -- What a replay tells: the machine's run over a schedule, and what stands beside it in the report.
-use Rattle.std.specs.Prelude.{◌≡◌, ◌↔◌, ℕ, ◌-◌, List, [], ◌∷◌, length, map, chars, slice_get, Option, Some, None, MatchOption, All}
+use Rattle.std.specs.Prelude.{◌≡◌, ◌↔◌, ℕ, ◌-◌, List, length, map, chars, slice_get, Option, Some, All}
 use Rattle.np_code_points.specs.declared.forms.Form.{Form}
 use Rattle.np_code_points.specs.Forms.{is_compat}
 use Rattle.np_forms.specs.Forms.{IsEquivalent}
@@ -9,7 +9,7 @@ use Rattle.np_node.specs.Nodes.{NodeState, strings_of, IsKept}
 use Rattle.np_node.specs.Strings.{Entry, IsKey}
 use Rattle.np_tables.specs.Versions.{VersionData}
 use Rattle.np_world.specs.Events.{ScheduleData}
-use Rattle.np_world.specs.World.{Setting, MachineNode, World, start, IsRun}
+use Rattle.np_world.specs.World.{Setting, World, start, IsRun}
 use Rattle.np_world.specs.declared.replies.Reply.{Reply}
 
 -- the versions of a chain, the form, and the schedule's room

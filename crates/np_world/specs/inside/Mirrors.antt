@@ -6,10 +6,10 @@ use Rattle.np_chain.specs.Chain.{IsSoundChain}
 use Rattle.np_code_points.specs.declared.forms.Form.{Form}
 use Rattle.np_node.specs.Images.{image_bytes}
 use Rattle.np_node.specs.Messages.{IsMessage}
-use Rattle.np_node.specs.Nodes.{NodeState, State, state_of, strings_of, IsNode}
+use Rattle.np_node.specs.Nodes.{State, state_of, strings_of, IsNode}
 use Rattle.np_node.specs.Strings.{Entry, IsEntry}
 use Rattle.np_tables.specs.Versions.{VersionData}
-use Rattle.np_world.specs.World.{Setting, MachineNode, Scene, World}
+use Rattle.np_world.specs.World.{Setting, MachineNode, Scene}
 use Rattle.np_world.specs.declared.members.Common.{Common}
 use Rattle.np_world.specs.declared.members.Member.{Member}
 use Rattle.np_world.specs.declared.replies.Reply.{Reply}

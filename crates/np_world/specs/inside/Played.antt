@@ -1,5 +1,5 @@
 -- A report of a replay mirrors the machine's run.
-use Rattle.std.specs.Prelude.{ℕ, List}
+use Rattle.std.specs.Prelude.{List}
 use Rattle.np_code_points.specs.declared.forms.Form.{Form}
 use Rattle.np_tables.specs.Versions.{VersionData}
 use Rattle.np_world.specs.Events.{ScheduleData}

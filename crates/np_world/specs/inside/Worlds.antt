@@ -1,11 +1,10 @@
 -- How the nodes and messages of a replay mirror the machine's world.
-use Rattle.std.specs.Prelude.{◌≡◌, ℕ, ◌-◌, ◌<◌, List, [], ◌∷◌, length, map, slice_get, Option, Some, None, Bool, true, false, ◌==◌, is_some}
-use Rattle.std.specs.List.{list_any}
+use Rattle.std.specs.Prelude.{ℕ, List, [], ◌∷◌, Bool, false, ◌==◌}
 use Rattle.std.specs.declared.vec.Vec.{Vec}
 use Rattle.std.specs.declared.alloc.Global.{Global}
 use Rattle.np_tables.specs.Versions.{VersionData}
-use Rattle.np_world.specs.Events.{Event, Accept, Deliver, Upgrade, Save, Restart, Ask, node_of}
-use Rattle.np_world.specs.World.{Setting, MachineNode, World, IsStep, IsRun, start}
+use Rattle.np_world.specs.Events.{Event, Accept, Deliver, Upgrade, Save, Restart, Ask}
+use Rattle.np_world.specs.World.{MachineNode, World, IsStep, IsRun, start}
 use Rattle.np_world.specs.declared.members.Member.{Member}
 use Rattle.np_world.specs.declared.replies.Reply.{Reply}
 use Rattle.np_world.specs.inside.Mirrors.{Rules, setting_of, Mirrors, AreMessages, AreRules}

@@ -1,4 +1,3 @@
-use Rattle.std.proofs.Common.{◌≡◌, ◌++◌, ◌∷◌, [], ap, sym, subst, ◌∙◌}
 use Rattle.np_world.specs.inside.Mirrors.{rules_of}
 use Rattle.np_world.proofs.RunLemmas.{begins-more, new_mirrors}
 use Rattle.np_world.proofs.replays.first_members.Goals as goal

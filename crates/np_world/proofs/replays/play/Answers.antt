@@ -1,4 +1,4 @@
-use Rattle.std.proofs.Common.{◌≡◌, length, map, refl, sym, arith}
+use Rattle.std.proofs.Common.{map, sym, arith}
 use Rattle.std.proofs.lemmas.List.{length-map, with_items_is}
 use Rattle.np_world.specs.World.{first_node, start}
 use Rattle.np_world.specs.inside.Rust.{event_of}

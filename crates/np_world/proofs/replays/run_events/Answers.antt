@@ -1,6 +1,5 @@
-use Rattle.std.proofs.Common.{◌≡◌, ◌<◌, length, map, subst, sym, take}
+use Rattle.std.proofs.Common.{◌<◌, length, map, subst, sym, take}
 use Rattle.np_world.specs.Events.{node_of}
-use Rattle.np_world.specs.World.{start}
 use Rattle.np_world.specs.inside.Mirrors.{rules_of}
 use Rattle.np_world.specs.inside.Rust.{event_of}
 use Rattle.np_world.proofs.RunLemmas.{count_ends, ends-more, named_at}

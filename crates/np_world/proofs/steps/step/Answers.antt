@@ -1,4 +1,4 @@
-use Rattle.std.proofs.Common.{◌≡◌, length, get_or, set, ap, refl, sym, subst, ◌∙◌, arith}
+use Rattle.std.proofs.Common.{ap, sym, ◌∙◌, arith}
 use Rattle.std.specs.Prelude.{chars, string_bytes}
 use Rattle.np_world.specs.Events.{Accept, Deliver, Upgrade, Save, Restart, Ask, node_of}
 use Rattle.np_world.specs.inside.Mirrors.{rules_of}

@@ -1,4 +1,4 @@
-use Rattle.std.proofs.Common.{◌≡◌, length, Ok, Err, ap, refl, ◌∙◌, arith}
+use Rattle.std.proofs.Common.{Ok, Err, ap, refl, ◌∙◌, arith}
 use Rattle.np_node.specs.Nodes.{state_of}
 use Rattle.np_node.specs.declared.accepting.Accepted.TheVariants as answer
 use Rattle.np_node.specs.declared.faults.NodeFault.TheVariants as fault

@@ -1,4 +1,4 @@
-use Rattle.std.proofs.Common.{◌≡◌, true, refl, subst, Some, None}
+use Rattle.std.proofs.Common.{refl}
 use Rattle.std.proofs.lemmas.Bool.{both_ways}
 use Rattle.np_world.specs.declared.replies.Reply.TheVariants.{NotKept, Equal, Different}
 use Rattle.np_world.specs.inside.Mirrors.{rules_of}

@@ -1,4 +1,4 @@
-use Rattle.std.proofs.Common.{◌≡◌, length, Ok, Err, ap, refl, subst, ◌∙◌, arith}
+use Rattle.std.proofs.Common.{Ok, Err, ap, refl, subst, ◌∙◌, arith}
 use Rattle.np_node.specs.Nodes.{state_of}
 use Rattle.np_node.specs.Taking.{AnswersTake, LeavesTaken}
 use Rattle.np_node.specs.declared.taking.Taken.TheVariants as answer

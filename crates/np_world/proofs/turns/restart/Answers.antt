@@ -1,4 +1,4 @@
-use Rattle.std.proofs.Common.{◌≡◌, [], Ok, Err, ap, refl, subst, ◌∙◌}
+use Rattle.std.proofs.Common.{[], ap, refl, subst, ◌∙◌}
 use Rattle.np_node.specs.Restoring.{AnswersRestore, IsRestored, IsRestoreFault}
 use Rattle.np_world.specs.declared.replies.Reply.TheVariants.{Restarted}
 use Rattle.np_world.specs.inside.Mirrors.{rules_of}

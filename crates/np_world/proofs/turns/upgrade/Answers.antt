@@ -1,4 +1,4 @@
-use Rattle.std.proofs.Common.{◌≡◌, ◌+◌, Result, Ok, refl, subst, sym, arith, []}
+use Rattle.std.proofs.Common.{◌≡◌, ◌+◌, Result, refl, subst, arith, []}
 use Rattle.std.specs.Prelude.{OnOk}
 use Rattle.np_chain.specs.declared.breaks.Break.{Break}
 use Rattle.np_world.specs.declared.replies.Reply.TheVariants.{Version, LastVersion}
