@@ -7,7 +7,7 @@ use Rattle.std.specs.List.{All, AllPairs, Contains}
 use Rattle.np_chain.specs.Breaks.{AreBreaks, IsFirstBreak}
 use Rattle.np_chain.specs.inside.BreakTests.{break_of}
 use Rattle.np_chain.specs.inside.BreakLists.{break_list, breaks_below, breaks_of}
-use Rattle.np_chain.specs.Chain.{Extends}
+use Rattle.np_chain.specs.Extension.{Extends}
 use Rattle.np_chain.specs.declared.breaks.Break.{Break}
 use Rattle.np_chain.specs.declared.breaks.BreakKind.{BreakKind}
 use Rattle.np_chain.proofs.KindLemmas.{break_of-is, break_of-none, break_of-some}

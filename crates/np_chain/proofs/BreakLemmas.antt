@@ -3,7 +3,7 @@ use Rattle.std.proofs.Common.{◌≡◌, ◌≢◌, ℕ, ◌≤◌, Bool, true, 
 use Rattle.std.proofs.lemmas.Bool.{and_parts, and_from, both_ways, false_from_ne_true, ne_eqb}
 use Rattle.std.proofs.lemmas.Slice.Eq.{bytes_eq-Decides}
 use Rattle.np_chain.specs.inside.BreakTests.{is_lost, changes_class, is_same_kind, maps_alike, changes_mapping, becomes_excluded, has_old_parts, becomes_included, is_new_composite, break_of}
-use Rattle.np_chain.specs.Chain.{Extends}
+use Rattle.np_chain.specs.Extension.{Extends}
 use Rattle.np_chain.specs.declared.breaks.BreakKind.{BreakKind}
 use Rattle.np_chain.specs.declared.breaks.BreakKind.TheVariants.{Lost, ClassChanged, MappingChanged, NowExcluded, NowIncluded, NewComposite}
 use Rattle.np_tables.specs.inside.Primaries.{is_primary}

@@ -1,6 +1,7 @@
 -- Versions in a row.
 use Rattle.std.proofs.Common.{◌≡◌, ℕ, zero, suc, ◌+◌, ◌-◌, ◌<◌, ◌≤◌, List, [], ◌∷◌, length, get_or, map, take, slice_get, Some, refl, sym, ap, subst, ◌∙◌, arith}
-use Rattle.np_chain.specs.Chain.{Extends, EachExtends, IsChain, EachSound, IsSoundChain, IsFirstBroken, StandsAt}
+use Rattle.np_chain.specs.Chain.{EachExtends, IsChain, EachSound, IsSoundChain, IsFirstBroken, StandsAt}
+use Rattle.np_chain.specs.Extension.{Extends}
 use Rattle.np_chain.specs.declared.breaks.Break.{Break}
 use Rattle.np_chain.proofs.AuditLemmas.{first-refutes}
 use Rattle.np_chain.proofs.StabilityLemmas.{transitivity}

@@ -2,7 +2,7 @@
 use Rattle.std.proofs.Common.{◌≡◌, ℕ, true, false, ◌&&◌, refl, sym, ap, subst, ◌∙◌, inl, inr, []}
 use Rattle.std.specs.List.{list_all}
 use Rattle.std.proofs.lemmas.Bool.{and_left, and_parts, cases_Bool}
-use Rattle.np_chain.specs.Chain.{Keeps, Extends}
+use Rattle.np_chain.specs.Extension.{Keeps, Extends}
 use Rattle.np_chain.specs.Laws.{ExtensionIsMet}
 use Rattle.np_code_points.specs.Hangul.{is_syllable}
 use Rattle.np_tables.proofs.ExampleLemmas.{assigned_code, hangul_on_with, hangul_rows, IsSound-with_hangul, IsSound-with_rows, letter_kind, letter_mapping, no_hangul, pair_alone-with_hangul, pair_alone-with_rows, pair_kind, pair_mapping, pair_primary, ring_kind, ring_mapping, syllable_lacks, three_codes}

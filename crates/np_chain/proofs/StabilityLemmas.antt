@@ -13,7 +13,7 @@ use Rattle.np_tables.specs.Composites.{IsCompositeOf}
 use Rattle.np_forms.specs.inside.Composing.{is_free, joined, compose_after, compose, compose_of}
 use Rattle.np_tables.specs.inside.CompositeSearch.{composite}
 use Rattle.np_tables.specs.Conditions.{IsSound}
-use Rattle.np_chain.specs.Chain.{Extends}
+use Rattle.np_chain.specs.Extension.{Extends}
 use Rattle.np_forms.specs.Assigned.{IsAssigned}
 use Rattle.np_code_points.specs.declared.forms.Form.{Form}
 use Rattle.np_code_points.specs.Forms.{is_compat, composes}

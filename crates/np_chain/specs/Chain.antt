@@ -1,24 +1,10 @@
--- One version extends another; versions in a row.
-use Rattle.std.specs.Prelude.{◌≡◌, ℕ, ◌-◌, ◌<◌, ◌≤◌, true, List, [], ◌∷◌, take, Some, slice_get}
-use Rattle.std.specs.List.{list_all}
+-- Versions in a row.
+use Rattle.std.specs.Prelude.{◌≡◌, ℕ, ◌-◌, ◌<◌, ◌≤◌, List, [], ◌∷◌, take, Some, slice_get}
+pub use Rattle.np_chain.specs.Extension.{Keeps, Extends}
 use Rattle.np_chain.specs.Breaks.{IsFirstBreak}
 use Rattle.np_chain.specs.declared.breaks.Break.{Break}
-use Rattle.np_tables.specs.Composites.{IsPrimary}
 use Rattle.np_tables.specs.Conditions.{IsSound}
-use Rattle.np_tables.specs.Versions.{VersionData, is_assigned, class_of, decomposition_kind, decomposition_mapping}
-
--- what is assigned in a stands in b as it was
-pub record Keeps (a b : VersionData) (c : ℕ) : Type 0 where
-  pub assigned : is_assigned b c ≡ true
-  pub class : class_of b c ≡ class_of a c
-  pub kind : decomposition_kind b c ≡ decomposition_kind a c
-  pub mapping : decomposition_mapping b c ≡ decomposition_mapping a c
-
--- b extends a
-pub record Extends (a b : VersionData) : Type 0 where
-  pub keeps : (c : ℕ) → is_assigned a c ≡ true → Keeps a b c
-  pub old_composites : (c : ℕ) → IsPrimary a c → IsPrimary b c
-  pub new_composites : (c : ℕ) → IsPrimary b c → list_all (is_assigned a) (decomposition_mapping b c) ≡ true → IsPrimary a c
+use Rattle.np_tables.specs.Versions.{VersionData}
 
 abbrev pub EachExtends : VersionData → List VersionData → Type 0
 EachExtends v [] = Unit {0}

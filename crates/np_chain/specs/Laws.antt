@@ -1,6 +1,6 @@
 -- The laws of versions in a row, over the definitions alone.
 use Rattle.std.specs.Prelude.{◌≡◌, ℕ, true, false, List}
-use Rattle.np_chain.specs.Chain.{Extends}
+use Rattle.np_chain.specs.Extension.{Extends}
 use Rattle.np_code_points.specs.declared.forms.Form.{Form}
 use Rattle.np_forms.specs.Assigned.{IsAssigned}
 use Rattle.np_forms.specs.Forms.{IsNormalForm}

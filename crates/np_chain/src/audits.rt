@@ -3,7 +3,7 @@ ghost use Rattle.std.specs.Prelude.{◌≡◌, ◌↔◌, true, ◌&&◌, [], Is
 ghost use Rattle.np_chain.specs.Breaks.{AreBreaks, IsFirstBreak};
 ghost use Rattle.np_chain.specs.inside.BreakTests.{break_of, has_old_parts, is_same_kind, maps_alike as alike};
 ghost use Rattle.np_chain.specs.inside.BreakLists.{breaks_of};
-ghost use Rattle.np_chain.specs.Chain.{Extends};
+ghost use Rattle.np_chain.specs.Extension.{Extends};
 ghost use Rattle.np_code_points.specs.Hangul.{is_syllable as syllable};
 ghost use Rattle.np_tables.specs.inside.Primaries.{is_primary};
 ghost use Rattle.np_tables.specs.Versions.{class_of, has_hangul, is_assigned};

@@ -1,35 +1,14 @@
 -- The data lines of a file are those of the grammar.
-use Rattle.std.proofs.Common.{◌≡◌, ℕ, suc, ◌+◌, ◌<◌, Bool, true, false, cond, eqb, List, [], ◌∷◌, ◌++◌, length, get_or, refl, sym, ap, subst, ◌∙◌, inl, inr, ⊎_elim, arith}
+use Rattle.std.proofs.Common.{◌≡◌, ℕ, ◌+◌, ◌<◌, Bool, true, false, cond, eqb, List, [], ◌∷◌, ◌++◌, length, get_or, refl, sym, ap, subst, ◌∙◌, inl, inr, ⊎_elim, arith}
 use Rattle.std.specs.List.{All, Contains, list_all}
-use Rattle.std.proofs.lemmas.Bool.{eqb-true, eq-eqb, both_ways, cond-true, cond-false, or_cases, or_left, or_right, and_parts, and_from, false_from_ne_true}
-use Rattle.std.proofs.lemmas.List.Elements.{All-nil, All-cons, All-head, All-tail}
+use Rattle.std.proofs.lemmas.Bool.{eqb-true, both_ways, cond-true, cond-false, or_cases, or_left, or_right, false_from_ne_true}
+use Rattle.std.proofs.lemmas.List.Elements.{All-nil, All-cons}
 use Rattle.std.proofs.lemmas.List.Kept.{AllPairs-cons}
-use Rattle.np_code_points.specs.Lines.{Numbered, AreLines, DropsReturn, IsBlank, AreBlanks, IsSkipped, IsDataLine, AreDataLines}
+use Rattle.np_code_points.specs.Lines.{Numbered, AreLines, DropsReturn, IsSkipped, IsDataLine, AreDataLines}
 use Rattle.np_code_points.specs.inside.LineCuts.{lines_of, without_return, is_blank, is_comment, is_skipped, if_data, data_lines_from, data_lines_in}
+use Rattle.np_code_points.proofs.BlankLemmas.{true_blanks, blanks_true}
 use Rattle.np_code_points.proofs.Elements.{contains_here, contains_more, all_contained, Rises, same_lists}
 use Rattle.np_code_points.proofs.LineGrammar.{are_lines, only_lines, drops_return, only_text}
-
--- The blanks.
-pub blank_true : (b : ℕ) → IsBlank b → is_blank b ≡ true
-blank_true b h =
-    ⊎_elim (λ e. or_left (eqb b 32) (eqb b 9) (eq-eqb b 32 e)) (λ e. or_right (eqb b 32) (eqb b 9) (eq-eqb b 9 e)) h
-
-pub true_blank : (b : ℕ) → is_blank b ≡ true → IsBlank b
-true_blank b h = ⊎_elim (λ e. inl (eqb-true b 32 e)) (λ e. inr (eqb-true b 9 e)) (or_cases (eqb b 32) (eqb b 9) h)
-
-blank_false : (b : ℕ) → (IsBlank b → ⊥) → is_blank b ≡ false
-blank_false b h = false_from_ne_true (is_blank b) (λ e. h (true_blank b e))
-
-pub true_blanks : (xs : List ℕ) → list_all is_blank xs ≡ true → AreBlanks xs
-true_blanks [] h = All-nil IsBlank
-true_blanks (x ∷ xs) h =
-    let both = and_parts (is_blank x) (list_all is_blank xs) h in
-    All-cons IsBlank x xs (true_blank x both.0) (true_blanks xs both.1)
-
-pub blanks_true : (xs : List ℕ) → AreBlanks xs → list_all is_blank xs ≡ true
-blanks_true [] h = refl
-blanks_true (x ∷ xs) h =
-    and_from (is_blank x) (list_all is_blank xs) (blank_true x (All-head IsBlank x xs h)) (blanks_true xs (All-tail IsBlank x xs h))
 
 -- The lines that are skipped.
 comment_from : (text : List ℕ) → is_comment text ≡ true → (rest : List ℕ) × (text ≡ 35 ∷ rest)
@@ -144,7 +123,7 @@ are_data_lines bytes = record {
       (all_from 1 h.before h.line h.behind r h.counted h.returned h.counts);
 }
 
-only_data_lines : (bytes : List ℕ) (found : List Numbered) → AreDataLines bytes found → found ≡ data_lines_in bytes
+pub only_data_lines : (bytes : List ℕ) (found : List Numbered) → AreDataLines bytes found → found ≡ data_lines_in bytes
 only_data_lines bytes found h =
     let is = are_data_lines bytes in
     same_lists Numbered (λ r. r.line) found (data_lines_in bytes) h.rise is.rise

@@ -1,5 +1,5 @@
 -- Elements of lists.
-use Rattle.std.proofs.Common.{◌≡◌, ℕ, zero, suc, ◌<◌, ◌⊎◌, List, [], ◌∷◌, length, get_or, refl, sym, ap, subst, ◌∙◌, inl, inr, ⊎_elim, arith}
+use Rattle.std.proofs.Common.{◌≡◌, ℕ, zero, suc, ◌<◌, ◌≤◌, ◌⊎◌, List, [], ◌∷◌, ◌++◌, length, get_or, refl, sym, ap, subst, ◌∙◌, inl, inr, ⊎_elim, arith}
 use Rattle.std.specs.List.{All, AllPairs, Contains}
 
 pub contains_here : {X : Type 0} (x : X) (xs : List X) → Contains (x ∷ xs) x
@@ -18,8 +18,21 @@ contains_cases x y xs h = contains_at x y xs h.0 h.1 h.2
 pub contains_none : {X : Type 0} (x : X) → Contains [] x → ⊥
 contains_none x h = let l = h.1 in absurd (omega (arith, l))
 
+pub contains_middle : {X : Type 0} (before : List X) (x : X) (behind : List X) → Contains (before ++ x ∷ behind) x
+contains_middle [] x behind = contains_here x behind
+contains_middle (b ∷ before) x behind = contains_more b x (before ++ x ∷ behind) (contains_middle before x behind)
+
 pub all_contained : {X : Type 0} (P : X → Type 0) (xs : List X) (x : X) → All P xs → Contains xs x → P x
 all_contained P xs x h in' = subst P in'.2 (h in'.0 x in'.1)
+
+-- two lists that end in one element each end in the same one, where they are the same
+pub same_end : {X : Type 0} (xs ys : List X) (x y : X) → xs ++ x ∷ [] ≡ ys ++ y ∷ [] → x ≡ y
+same_end [] [] x y e = cc
+same_end [] (z ∷ []) x y e = absurd (cc)
+same_end [] (z ∷ w ∷ ys) x y e = absurd (cc)
+same_end (z ∷ []) [] x y e = absurd (cc)
+same_end (z ∷ w ∷ xs) [] x y e = absurd (cc)
+same_end (z ∷ xs) (w ∷ ys) x y e = same_end xs ys x y (cc)
 
 -- Two lists that rise and have the same elements are one.
 module _ (X : Type 0) (key : X → ℕ) where
@@ -58,3 +71,42 @@ module _ (X : Type 0) (key : X → ℕ) where
       (λ z h. tail_in x y z xs ys head hx h (to z (contains_more x z xs h)))
       (λ z h. tail_in y x z ys xs (sym head) hy h (from z (contains_more y z ys h))) in
       cc
+
+  -- of the elements that are not before it, it has the least key
+  pub least_left : (before : List X) (x : X) (behind : List X) (y : X) → Rises (before ++ x ∷ behind) → Contains (before ++ x ∷ behind) y → (Contains before y → ⊥) → key x ≤ key y
+  least_left [] x behind y h in' other =
+      ⊎_elim (λ same. let e : key x ≡ key y = ap key same in omega arith)
+      (λ later. let lt = rises_head x y behind h later in omega arith)
+      (contains_cases x y behind in')
+  least_left (b ∷ before) x behind y h in' other =
+      ⊎_elim (λ same. absurd (other (subst (Contains (b ∷ before)) same (contains_here b before))))
+      (λ later. least_left before x behind y (rises_tail b (before ++ x ∷ behind) h) later (λ c. other (contains_more b y before c)))
+      (contains_cases b y (before ++ x ∷ behind) in')
+
+  -- of the elements up to it, it has the greatest key
+  pub greatest_front : (before : List X) (x : X) (behind : List X) (y : X) → Rises (before ++ x ∷ behind) → Contains (before ++ x ∷ []) y → key y ≤ key x
+  greatest_front [] x behind y h in' =
+      ⊎_elim (λ same. let e : key x ≡ key y = ap key same in omega arith) (λ none. absurd (contains_none y none)) (contains_cases x y [] in')
+  greatest_front (b ∷ before) x behind y h in' =
+      ⊎_elim
+      (λ same. let lt = rises_head b x (before ++ x ∷ behind) h (contains_middle before x behind) in let e : key b ≡ key y = ap key same in omega arith)
+      (λ later. greatest_front before x behind y (rises_tail b (before ++ x ∷ behind) h) later)
+      (contains_cases b y (before ++ x ∷ []) in')
+
+  -- elements of one key stand at one place
+  pub same_place : (xs : List X) (x : X) (more : List X) (ys : List X) (y : X) (rest : List X) → Rises (xs ++ x ∷ more) → xs ++ x ∷ more ≡ ys ++ y ∷ rest → key x ≡ key y → (xs ≡ ys) × (x ≡ y)
+  same_place [] x more [] y rest h e k = (refl, cc)
+  same_place [] x more (z ∷ ys) y rest h e k =
+      let tail : more ≡ ys ++ y ∷ rest = cc in
+      let lt = rises_head x y more h (subst (λ l. Contains l y) (sym tail) (contains_middle ys y rest)) in
+      absurd (omega arith)
+  same_place (w ∷ xs) x more [] y rest h e k =
+      let head : w ≡ y = cc in
+      let lt = rises_head w x (xs ++ x ∷ more) h (contains_middle xs x more) in
+      let same = ap key head in
+      absurd (omega arith)
+  same_place (w ∷ xs) x more (z ∷ ys) y rest h e k =
+      let head : w ≡ z = cc in
+      let tail : xs ++ x ∷ more ≡ ys ++ y ∷ rest = cc in
+      let ih = same_place xs x more ys y rest (rises_tail w (xs ++ x ∷ more) h) tail k in
+      (ap (λ v. v ∷ xs) head ∙ ap (λ l. z ∷ l) ih.0, ih.1)

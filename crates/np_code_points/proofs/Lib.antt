@@ -2,7 +2,10 @@ pub mod Bytes
 pub mod CodeLemmas
 pub mod HangulLemmas
 pub mod Elements
+pub mod BlankLemmas
 pub mod LineLemmas
+pub mod WordLemmas
+pub mod WordGrammar
 pub mod LineGrammar
 pub mod DataLineGrammar
 pub mod StepsLemmas

@@ -2,8 +2,10 @@ pub mod Codes
 pub mod Forms
 pub mod Hangul
 pub mod Inputs
+pub mod Laws
 pub mod Lines
 pub mod Steps
 pub mod Text
 pub mod Watched
+pub mod Words
 pub mod inside

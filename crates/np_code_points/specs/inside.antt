@@ -1,3 +1,4 @@
 pub mod Devices
 pub mod HangulParts
 pub mod LineCuts
+pub mod WordCuts

@@ -9,10 +9,12 @@ pub mod fixtures;
 pub mod forms;
 pub mod hangul;
 pub mod input;
+pub mod laws;
 pub mod lines;
 pub mod output;
 pub mod text;
 pub mod watched;
+pub mod words;
 
 pub use forms::Form;
 use std::alloc::{AllocError, AllocFailed};

@@ -75,7 +75,7 @@ fn is_skipped(line: &[u8]) -> bool
 }
 
 /// A line that holds data: it is neither blank nor a comment.
-#[derive(Clone, Copy)]
+#[derive(Clone, Copy, Debug, PartialEq, Eq)]
 pub struct DataLine<'a> {
     /// The number of the line in its file, from 1; blank lines and comments count.
     pub number: u64,
@@ -88,7 +88,7 @@ pub struct DataLine<'a> {
 /// LF ends a line, a last line without LF counts as one, and one CR at a line's end is dropped
 /// (UAX #44, section 4.2). Lines of spaces and tabs alone, and those that begin with `#`, are
 /// skipped, but counted. Linear in the file's length; nothing is copied.
-#[derive(Drop)]
+#[derive(Debug, Drop)]
 pub struct DataLines<'a> {
     rest: &'a [u8],
     passed: u64,
@@ -155,3 +155,6 @@ impl<'a> Iterator for DataLines<'a> {
         None
     }
 }
+
+#[cfg(test)]
+mod tests;

@@ -2,6 +2,7 @@ pub mod AnswerLemmas
 pub mod BoundaryLemmas
 pub mod ComposeLemmas
 pub mod ComposerLemmas
+pub mod CopyLemmas
 pub mod FormLemmas
 pub mod HeldLemmas
 pub mod InPlaceLemmas
@@ -13,6 +14,8 @@ pub mod OrderLemmas
 pub mod PendingLemmas
 pub mod PushLemmas
 pub mod RunLemmas
+pub mod RunTextLemmas
+pub mod RunningLemmas
 pub mod SortLemmas
 pub mod StreamLemmas
 pub mod StreamSafeLemmas

@@ -8,7 +8,7 @@ use Rattle.np_forms.specs.Forms.{IsNormalForm}
 use Rattle.np_forms.specs.Streams.{IsStreaming, StreamState, TakesIn, Finishes}
 use Rattle.np_forms.specs.inside.NormalForms.{normal_form}
 use Rattle.np_forms.specs.inside.Written.{Writes, WritesEnd}
-use Rattle.np_forms.proofs.FormLemmas.{normal_form_is}
+use Rattle.np_forms.proofs.FormLemmas.{IsNormalForm-normal_form, normal_form_is}
 
 -- a stream under the version and the form of another state
 same_streaming : (a b : StreamState) (fed out pending : List ℕ) → b.version ≡ a.version → b.form ≡ a.form → IsStreaming a.version a.form fed out pending → IsStreaming b.version b.form fed out pending
@@ -87,3 +87,12 @@ written_chars v sound form text bytes utf8 w = sym (chars_from_encodes w.list by
 
 pub written_form : (v : VersionData) (form : Form) (text bytes : List ℕ) → IsUtf8 bytes → IsWrittenForm v form text bytes → IsNormalForm v form text (chars bytes)
 written_form v form text bytes utf8 w = subst (IsNormalForm v form text) (chars_from_encodes w.list bytes utf8 (sym w.bytes_is)) w.is
+
+-- the bytes of the function's form, written behind nothing
+pub IsWrittenForm-made : (v : VersionData) (sound : IsSound v) (form : Form) (text before after : List ℕ) → before ≡ [] → after ≡ before ++ encode_utf8_all (normal_form v form text) → IsWrittenForm v form text after
+IsWrittenForm-made v sound form text before after nothing written =
+    record {
+      list = normal_form v form text;
+      is = IsNormalForm-normal_form v sound form text;
+      bytes_is = written ∙ ap (λ l. l ++ encode_utf8_all (normal_form v form text)) nothing;
+    }

@@ -5,6 +5,7 @@ pub mod Faults
 pub mod Forms
 pub mod Laws
 pub mod Order
+pub mod RunEnds
 pub mod Starters
 pub mod StreamSafe
 pub mod StreamLaws

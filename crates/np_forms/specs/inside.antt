@@ -1,8 +1,10 @@
 pub mod CanonicalOrder
 pub mod Composers
 pub mod Composing
+pub mod Copies
 pub mod Held
 pub mod NormalForms
+pub mod Running
 pub mod Runs
 pub mod Syllables
 pub mod Written

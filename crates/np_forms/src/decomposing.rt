@@ -54,6 +54,24 @@ pub(crate) fn append<T: NormTable>(
     Ok(())
 }
 
+/// Makes a list the full decomposition of a text, in the order of the text.
+pub(crate) fn decompose_into<T: NormTable>(
+    table: &T,
+    compat: bool,
+    text: &str,
+    list: &mut Vec<char>,
+) -> Result<(), Memory>
+    ensures { OnOk result (list.new.items ≡ flat_map (full_of (T.model table.now) compat) (chars text.now)) }
+{
+    table.meets_conditions();
+    let hangul = table.hangul();
+    list.clear();
+    for c in text.chars() {
+        append(list, table, hangul, compat, c)?;
+    }
+    Ok(())
+}
+
 /// The full decomposition of a text, in the order of the text.
 pub(crate) fn full_decomposition<T: NormTable>(
     alloc: Global,
@@ -63,11 +81,7 @@ pub(crate) fn full_decomposition<T: NormTable>(
 ) -> Result<Vec<char>, Memory>
     ensures { IfOk result (λ list. list.items ≡ flat_map (full_of (T.model table.now) compat) (chars text.now)) }
 {
-    table.meets_conditions();
-    let hangul = table.hangul();
     let mut list = Vec::with_capacity(alloc, text.len())?;
-    for c in text.chars() {
-        append(&mut list, table, hangul, compat, c)?;
-    }
+    decompose_into(table, compat, text, &mut list)?;
     Ok(list)
 }

@@ -3,10 +3,9 @@ ghost use Rattle.std.specs.Prelude.{◌≡◌, ◌↔◌, IsTrue, chars, string_
 ghost use Rattle.np_forms.specs.Forms.{IsNormalForm};
 ghost use Rattle.np_forms.specs.inside.NormalForms.{decomposed as decomposed_list, normal_form};
 
+use crate::copying::write_form;
 use crate::decomposing::full_decomposition;
 use crate::ordering::order;
-use crate::streams::Stream;
-use crate::written::{write_end, write_text};
 use np_code_points::{Form, Memory};
 use np_tables::NormTable;
 use std::alloc::Global;
@@ -41,10 +40,8 @@ pub fn form<T: NormTable>(
     ensures bytes { IfOk result (λ t. string_bytes t ≡ encode_utf8_all (normal_form (T.model table.now) form (chars text.now))) }
 {
     table.meets_conditions();
-    let mut stream = Stream::new(alloc, table, form);
     let mut out = String::with_capacity(alloc, text.len())?;
-    write_text(&mut stream, &mut out, text)?;
-    write_end(&mut stream, &mut out)?;
+    write_form(alloc, table, form, text, &mut out)?;
     Ok(out)
 }
 

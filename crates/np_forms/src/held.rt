@@ -23,7 +23,7 @@ pub(crate) struct Held {
 }
 
 /// Puts a list in canonical order, and composes it where `composes`.
-fn settle<T: NormTable>(
+pub(crate) fn settle<T: NormTable>(
     alloc: Global,
     table: &T,
     composes: bool,
@@ -108,7 +108,7 @@ pub(crate) fn finish<T: NormTable>(
     ensures ready { (more : List ℕ) × (held.new.ready.items ≡ held.old.ready.items ++ more) }
 {
     settle(alloc, table, composes, &mut held.pending)?;
-    held.ready.extend_from_slice(&held.pending)?;
+    held.ready.extend_from_slice(held.pending.as_slice())?;
     held.pending.clear();
     Ok(())
 }

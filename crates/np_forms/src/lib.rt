@@ -4,12 +4,14 @@
 
 mod assigned;
 mod composing;
+mod copying;
 mod decomposing;
 mod equivalence;
 mod forms;
 mod held;
 pub mod laws;
 mod ordering;
+mod runs;
 mod stabilized;
 mod stream_safety;
 mod streams;
@@ -20,6 +22,7 @@ mod written;
 pub use assigned::{first_lacking, first_unassigned};
 pub use equivalence::equivalent;
 pub use forms::{form, is_form};
+pub use runs::{LIMIT, RunFault, run};
 pub use stabilized::{NpssFault, npss};
 pub use stream_safety::is_stream_safe;
 pub use streams::Stream;

@@ -7,7 +7,7 @@ use np_code_points::Memory;
 use np_tables::NormTable;
 
 /// Writes code points to the end of a text.
-fn append_chars(out: &mut String, chars: &[char]) -> Result<(), Memory>
+pub(crate) fn append_chars(out: &mut String, chars: &[char]) -> Result<(), Memory>
     ensures { OnOk result (string_bytes out.new ≡ string_bytes out.old ++ encode_utf8_all chars.now) }
 {
     for c in chars {

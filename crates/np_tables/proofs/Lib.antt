@@ -17,6 +17,7 @@ pub mod HangulLemmas
 pub mod HangulPlaces
 pub mod MappedLemmas
 pub mod MappingLemmas
+pub mod PageRunLemmas
 pub mod PageSlotLemmas
 pub mod PageWordLemmas
 pub mod PairLemmas

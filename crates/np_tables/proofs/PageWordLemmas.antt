@@ -1,15 +1,15 @@
 -- Words of code points, by rows and by blocks.
-use Rattle.std.proofs.Common.{◌≡◌, ℕ, suc, ◌+◌, ◌-◌, ◌/◌, ◌<◌, Bool, true, false, ◌&&◌, List, [], ◌∷◌, ◌++◌, length, get_or, set, slice_index, Some, None, sym, ap, subst, ◌∙◌, arith, inl, inr}
+use Rattle.std.proofs.Common.{◌≡◌, ℕ, suc, ◌+◌, ◌-◌, ◌/◌, ◌<◌, ◌≤◌, Bool, true, false, not, ◌&&◌, ◌||◌, List, [], ◌∷◌, ◌++◌, length, get_or, set, slice_index, Some, None, sym, ap, subst, ◌∙◌, arith, inl, inr}
 use Rattle.std.specs.List.{slice_get}
 use Rattle.std.specs.Option.{is_some}
 use Rattle.std.proofs.Math.Nat.{mod-lt}
 use Rattle.std.proofs.Math.Seq.{get_or-append_seam}
-use Rattle.std.proofs.lemmas.Bool.{and_parts, cases_Bool, cases_eq, cases_lt, both_ways}
+use Rattle.std.proofs.lemmas.Bool.{and_from, and_parts, and_right, cases_Bool, cases_eq, cases_lt, both_ways, le-leb, not-true, or_from}
 use Rattle.std.proofs.lemmas.List.{get_or_append_left, get_or-map, get_or-set_same, get_or-set_other, length-append, length-map, length-set}
 use Rattle.std.proofs.lemmas.Option.{none-some, same_Some, slice_get_within, slice_get-get_or}
-use Rattle.np_code_points.specs.Hangul.{is_syllable, syllable_pair}
+use Rattle.np_code_points.specs.Hangul.{is_syllable}
 use Rattle.np_ucd.specs.Entries.{Entry, AreRows}
-use Rattle.np_tables.specs.Versions.{VersionData, class_of, class_in, entry_at, has_hangul, is_assigned}
+use Rattle.np_tables.specs.Versions.{VersionData, class_of, class_in, entry_at, file_mapping, mapping_in, has_hangul, is_assigned, is_empty}
 use Rattle.std.specs.List.{list_all}
 use Rattle.np_tables.specs.Conditions.{IsSound}
 use Rattle.np_tables.specs.Composites.{IsCompositeOf}
@@ -20,8 +20,12 @@ use Rattle.np_tables.specs.inside.FullLists.{FullLists, of_kind}
 use Rattle.np_tables.specs.inside.Pages.{word_place}
 use Rattle.np_tables.specs.inside.Pairs.{AreOfFile}
 use Rattle.np_tables.specs.inside.RowPages.{AreRowPages, IsRowNumber}
-use Rattle.np_tables.specs.inside.PageWords.{AreRowWords, AreSecondRows, AreSlots, IsWord, ArePages, no_word, row_word, paged_words}
-use Rattle.np_tables.proofs.HangulLemmas.{decomposition_mapping-on}
+use Rattle.np_tables.specs.inside.PageWords.{AreRowWords, AreSecondRows, AreSlots, IsWord, ArePages, no_word, row_word, paged_words, touches}
+use Rattle.np_code_points.specs.Hangul.{is_among}
+use Rattle.np_code_points.proofs.HangulLemmas.{among_bounds}
+use Rattle.np_tables.proofs.FullListLemmas.{empty_parts}
+use Rattle.np_tables.proofs.FileRowLemmas.{file_mapping-found}
+use Rattle.np_tables.proofs.HangulLemmas.{IsJamo, by_arithmetic, decomposition_mapping-on, shape_of, syllable_hangul}
 use Rattle.np_tables.proofs.RowLemmas.{at-found, at-row, entry_at-within, firsts-le}
 use Rattle.np_tables.proofs.RowPageLemmas.{ends-rise, some_at}
 use Rattle.np_tables.proofs.TableLemmas.{row-shares, full-none}
@@ -138,11 +142,55 @@ assigned-none : (v : VersionData) (c : ℕ) → entry_at v.entries c ≡ None �
 unfolding is_assigned
 assigned-none v c h = sym (ap is_some h)
 
+none_of_four : (p q r s : Bool) → p ≡ false → q ≡ false → r ≡ false → s ≡ false → (p || q || r || s) ≡ false
+none_of_four p q r s a b c d = or_from _ _ (or_from _ _ (or_from _ _ a b) c) d
+
+jamo_range : (c : ℕ) → IsJamo c → (0x1100 ≤ c) × (c ≤ 0x11C2)
+jamo_range c jamo =
+    elim (cases_Bool (is_among 0x1100 19 c)) [
+      | inl one ↦ (let r = among_bounds 0x1100 19 c one in (omega arith, omega arith))
+      | inr no_one ↦ elim (cases_Bool (is_among 0x1161 21 c)) [
+        | inl two ↦ (let r = among_bounds 0x1161 21 c two in (omega arith, omega arith))
+        | inr no_two ↦ elim (cases_Bool (is_among 0x11A8 27 c)) [
+          | inl three ↦ (let r = among_bounds 0x11A8 27 c three in (omega arith, omega arith))
+          | inr no_three ↦ (let none = none_of_four (is_among 0x1100 19 c) (is_among 0x1161 21 c) (is_among 0x11A8 27 c) (is_syllable c) no_one no_two no_three jamo.single in absurd (both_ways _ none jamo.hangul))
+        ]
+      ]
+    ]
+
+-- the second part of a syllable is a jamo
+second_jamo : (v : VersionData) (a c p : ℕ) → (has_hangul v && is_syllable p) ≡ true → IsCompositeOf v a c p → (0x1100 ≤ c) × (c ≤ 0x11C2)
+second_jamo v a c p on is =
+    let shape = shape_of p (and_parts (has_hangul v) (is_syllable p) on).1 in
+    let same : a ∷ c ∷ [] ≡ shape.first ∷ shape.second ∷ [] = sym is.mapping ∙ decomposition_mapping-on v p on ∙ shape.pair in
+    let second : c ≡ shape.second = ap (λ l. get_or l 1 0) same in
+    let range = jamo_range shape.second shape.tail in
+    (omega (arith, range.0, second), omega (arith, range.1, second))
+
+no_syllable : (c : ℕ) (e : Entry) → e.first ≤ c → c ≤ e.last → touches 0xAC00 0xD7A3 e ≡ false → is_syllable c ≡ false
+no_syllable c e low high none =
+    elim (cases_Bool (is_syllable c)) [
+      | inl is ↦ (let range = among_bounds 0xAC00 11172 c is in absurd (both_ways _ none (and_from _ _ (le-leb e.first 0xD7A3 (omega arith)) (le-leb 0xAC00 e.last (omega arith)))))
+      | inr other ↦ other
+    ]
+
+unassigned_single : (v : VersionData) (c : ℕ) → is_assigned v c ≡ false → (has_hangul v && is_syllable c) ≡ false
+unassigned_single v c none =
+    elim (cases_Bool (has_hangul v && is_syllable c)) [
+      | inl on ↦ (let both = and_parts (has_hangul v) (is_syllable c) on in absurd (both_ways _ none (by_arithmetic v both.0 c (syllable_hangul c both.1)).assigned))
+      | inr off ↦ off
+    ]
+
+empty_file : (v : VersionData) (c : ℕ) → entry_at v.entries c ≡ None → is_empty (file_mapping v c) ≡ true
+unfolding file_mapping
+empty_file v c none = ap (λ o. is_empty (mapping_in o)) none
+
 module _ (v : VersionData) (sound : IsSound v) (lists : FullLists) (slots : List ℕ) (are_slots : AreSlots v (length v.entries) lists slots)
     (cs : List Composite) (file : AreOfFile v cs) (seconds : List Bool) (are_seconds : AreSecondRows v.entries cs (length cs) seconds)
     (words : List Word) (are_words : AreRowWords v.entries slots seconds (length v.entries) words) where
   -- of a code point that a row has
   word-some : (c k : ℕ) (e : Entry) → slice_get v.entries k ≡ Some e → entry_at v.entries c ≡ Some e → IsWord v lists c (row_word e (slice_index slots k) (get_or seconds k false))
+  unfolding row_word
   word-some c k e here found =
       let lt = slice_get_within v.entries k e here in
       let slot = are_slots.each k e lt here in
@@ -151,10 +199,21 @@ module _ (v : VersionData) (sound : IsSound v) (lists : FullLists) (slots : List
         class = class-found v c e found;
         assigned = assigned-found v c e found;
         slot = record { within = slot.within; lent = λ compat. slot.lent compat ∙ row-shares v compat c k e sound.rows here found };
-        second = λ a p is off. (
-            let has = file.all a c p is off in
-            let x : Composite = record { first = a; second = c; code = p } in
-            are_seconds.each has.0 x k e has.1 (slice_get-get_or cs has.0 x has.1 ∙ ap Some has.2) here within.0 within.1);
+        apart = λ is a p composite. (
+            let both = and_parts (not (get_or seconds k false)) (not (touches 0x1100 0x11C2 e)) is in
+            elim (cases_Bool (has_hangul v && is_syllable p)) [
+              | inl on ↦
+                  let range = second_jamo v a c p on composite in
+                  both_ways _ (not-true _ both.1) (and_from _ _ (le-leb e.first 0x11C2 (omega arith)) (le-leb 0x1100 e.last (omega arith)))
+              | inr off ↦
+                  let has = file.all a c p composite off in
+                  let x : Composite = record { first = a; second = c; code = p } in
+                  both_ways _ (not-true _ both.0) (are_seconds.each has.0 x k e has.1 (slice_get-get_or cs has.0 x has.1 ∙ ap Some has.2) here within.0 within.1)
+            ]);
+        bare = λ is compat. (
+            let both = and_parts (is_empty e.mapping) (not (touches 0xAC00 0xD7A3 e)) is in
+            let apart : is_syllable c ≡ false = no_syllable c e within.0 within.1 (not-true _ both.1) in
+            empty_parts v compat c (and_right (has_hangul v) (is_syllable c) apart) (ap is_empty (file_mapping-found v c e found) ∙ both.0));
       }
 
   word-none : (c : ℕ) → entry_at v.entries c ≡ None → IsWord v lists c no_word
@@ -163,7 +222,8 @@ module _ (v : VersionData) (sound : IsSound v) (lists : FullLists) (slots : List
         class = class-none v c none;
         assigned = assigned-none v c none;
         slot = record { within = are_slots.some; lent = λ compat. are_slots.none compat ∙ full-none v compat c none };
-        second = λ a p is off. absurd (both_ways _ (sym (assigned-none v c none)) (second_assigned v sound a c p is));
+        apart = λ _ a p is. both_ways _ (sym (assigned-none v c none)) (second_assigned v sound a c p is);
+        bare = λ _ compat. empty_parts v compat c (unassigned_single v c (sym (assigned-none v c none))) (empty_file v c none);
       }
 
   word-number : (c number : ℕ) → IsRowNumber v.entries c number → IsWord v lists c (get_or words number no_word)
@@ -202,12 +262,8 @@ full-read v u same lists blocks words pages c lt w is compat lent read =
     let word = subst (IsWord u lists c) (sym is) (pages.each c lt) in
     read ∙ word.slot.lent compat ∙ ap (λ x. table_full x compat c) same
 
--- the second code point is the second part of no primary composite of the file
-pub pair-apart : (v w u : VersionData) → w ≡ v → u ≡ v → (lists : FullLists) (blocks : List ℕ) (words : List Word) → ArePages u lists blocks words → (a b : ℕ) → b < 0x110000 →
-    ((s : ℕ) → (has_hangul w && is_syllable s) ≡ true → ¬ (syllable_pair s ≡ a ∷ b ∷ [])) → (word : Word) → word ≡ get_or words (word_place blocks b) no_word → word.second ≡ false → (c : ℕ) → ¬ IsCompositeOf v a b c
-pair-apart v w u same same_u lists blocks words pages a b lt none word is apart c composite =
-    let own = subst (λ x. IsWord x lists b word) same_u (subst (IsWord u lists b) (sym is) (pages.each b lt)) in
-    elim (cases_Bool (has_hangul v && is_syllable c)) [
-      | inl on ↦ none c (subst (λ x. (has_hangul x && is_syllable c) ≡ true) (sym same) on) (sym (decomposition_mapping-on v c on) ∙ composite.mapping)
-      | inr off ↦ both_ways _ apart (own.second a c composite off)
-    ]
+-- the second code point is the second part of no primary composite
+pub pair-apart : (v u : VersionData) → u ≡ v → (lists : FullLists) (blocks : List ℕ) (words : List Word) → ArePages u lists blocks words → (a b : ℕ) → b < 0x110000 → (word : Word) → word ≡ get_or words (word_place blocks b) no_word → word.apart ≡ true →
+    (c : ℕ) → ¬ IsCompositeOf v a b c
+pair-apart v u same lists blocks words pages a b lt word is apart =
+    (subst (λ x. IsWord x lists b word) same (subst (IsWord u lists b) (sym is) (pages.each b lt))).apart apart a

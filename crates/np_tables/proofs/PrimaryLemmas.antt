@@ -1,6 +1,6 @@
 -- Primary composites by what the file says.
 use Rattle.std.proofs.Common.{◌≡◌, ℕ, ◌+◌, ◌<◌, ◌≤◌, true, false, not, ◌&&◌, ◌==◌, List, [], ◌∷◌, length, Option, Some, None, refl, sym, ap, ◌∙◌, arith}
-use Rattle.std.proofs.lemmas.Bool.{cond-true, cond-false, and_parts, leb-true, ltb-true, and_right}
+use Rattle.std.proofs.lemmas.Bool.{cond-false, and_parts, leb-true, ltb-true, and_right}
 use Rattle.np_ucd.specs.Listed.{is_listed}
 use Rattle.np_tables.proofs.RowLemmas.{entry_at-row}
 use Rattle.np_ucd.specs.Entries.{Entry, IsRow, AreRows, HasLength}

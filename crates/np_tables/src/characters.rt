@@ -19,7 +19,7 @@ use std::alloc::Global;
 use std::marker::Model;
 
 /// What the two data files say of each code point, whether or not the conditions hold.
-#[derive(Drop)]
+#[derive(Debug, Drop)]
 pub struct CharacterData {
     rows: RowIndex,
     exclusions: Exclusions,

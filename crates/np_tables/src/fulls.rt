@@ -20,7 +20,7 @@ use std::marker::Model;
 const DEPTH: usize = 32;
 
 /// A part of a flat list: from the place `start` up to the place `end`.
-#[derive(Clone, Copy)]
+#[derive(Clone, Copy, Debug)]
 pub struct Part {
     /// The place of its first code point.
     pub start: usize,
@@ -29,7 +29,7 @@ pub struct Part {
 }
 
 /// What a table lends for the code point of each row, in one flat list.
-#[derive(Drop)]
+#[derive(Debug, Drop)]
 pub struct Fulls {
     pub(crate) codes: Vec<char>,
     pub(crate) canonical: Vec<Part>,

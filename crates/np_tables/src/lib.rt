@@ -12,6 +12,7 @@ mod hangul_faults;
 mod hangul_rows;
 pub mod laws;
 mod mapped_faults;
+mod page_runs;
 mod page_slots;
 pub mod page_table;
 mod page_words;

@@ -3,12 +3,13 @@
 ghost use Rattle.std.specs.Prelude.{◌≡◌, IfOk};
 
 use crate::fulls::Fulls;
+use crate::page_runs::{keeps, kept_front};
 use crate::page_slots::slots_of;
 use crate::page_words::{Word, page_words, row_words, second_rows, word_of};
 use crate::syllables::arithmetic_pair;
 use crate::tables::NormTable;
 use crate::version::Version;
-use np_code_points::Memory;
+use np_code_points::{Form, Memory};
 use std::alloc::Global;
 use std::marker::Model;
 
@@ -19,7 +20,7 @@ use std::marker::Model;
 ///
 /// It takes some 0.9 MiB beside its version for the files of Unicode 15. Each call takes constant
 /// time, but `pair`, which searches by halves where the second code point is one that composes.
-#[derive(Drop)]
+#[derive(Debug, Drop)]
 pub struct PageTable {
     version: Version,
     /// For each 256 code points the number of their block.
@@ -86,18 +87,25 @@ impl NormTable for PageTable {
     }
 
     fn pair(&self, a: char, b: char) -> Option<char> {
-        if let Some(syllable) = arithmetic_pair(self.version.characters(), a, b) {
-            return Some(syllable);
+        if word_of(&self.index, &self.words, b).apart {
+            return None;
         }
-        if word_of(&self.index, &self.words, b).second {
-            self.version.pairs().find(a, b)
-        } else {
-            None
+        match arithmetic_pair(self.version.characters(), a, b) {
+            Some(syllable) => Some(syllable),
+            None => self.version.pairs().find(a, b),
         }
     }
 
     fn full(&self, c: char, compat: bool) -> &[char] {
         let slot = word_of(&self.index, &self.words, c).fulls;
         self.fulls.lent(slot as usize, compat)
+    }
+
+    fn is_boundary(&self, form: Form, c: char) -> bool {
+        keeps(word_of(&self.index, &self.words, c), form.composes())
+    }
+
+    fn staying(&self, form: Form, text: &str) -> usize {
+        kept_front(&self.index, &self.words, form.composes(), text)
     }
 }

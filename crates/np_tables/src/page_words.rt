@@ -1,19 +1,21 @@
 //! One small word for each code point, of which most answers of a table are read.
 ghost use Rattle.std.specs.Prelude.{◌≡◌, ◌+◌, ◌<◌, length, slice_index_or, false, IfOk};
-ghost use Rattle.np_tables.specs.inside.PageWords.{AreRowWords, AreSecondRows, no_word, paged_words};
+ghost use Rattle.np_tables.specs.inside.PageWords.{AreRowWords, AreSecondRows, no_word, paged_words, row_word, touches as spec_touches};
+ghost use Rattle.np_ucd.specs.RowValues.{entry_of};
 ghost use Rattle.np_tables.specs.inside.Pages.{AreWithin, word_place};
 
 use crate::characters::CharacterData;
 use crate::pairs::Pairs;
 use crate::row_places::row_in;
 use np_code_points::Memory;
+use np_ucd::Row;
 use std::alloc::Global;
 
 /// How many code points a block has.
 const BLOCK: usize = 256;
 
 /// What stands for a code point. All code points of a row have the same word.
-#[derive(Clone, Copy)]
+#[derive(Clone, Copy, Debug)]
 pub struct Word {
     /// The slot of its full decompositions.
     pub fulls: u32,
@@ -21,8 +23,10 @@ pub struct Word {
     pub class: u8,
     /// Whether it is assigned.
     pub assigned: bool,
-    /// Whether a code point of its row is the second part of a primary composite of the file.
-    pub second: bool,
+    /// Whether no code point of its row is the second part of a primary composite.
+    pub apart: bool,
+    /// Whether no code point of its row has a mapping of either kind.
+    pub bare: bool,
 }
 
 /// The word of a code point that no row has.
@@ -30,7 +34,8 @@ const NO_WORD: Word = Word {
     fulls: 0,
     class: 0,
     assigned: false,
-    second: false,
+    apart: true,
+    bare: true,
 };
 
 /// For each row whether one of its code points is the second part of a composite.
@@ -50,6 +55,29 @@ pub fn second_rows(
     Ok(seconds)
 }
 
+/// Whether a row has one of the code points from `first` to `last`.
+fn touches(row: &Row, first: u32, last: u32) -> bool
+    ensures { result ≡ spec_touches first last (entry_of row.now) }
+{
+    row.first <= last && first <= row.last
+}
+
+/// The word of a row.
+#[tactic(auto, unfolding(crate::specs::inside::PageWords::row_word))]
+fn word_of_row(row: &Row, slot: u32, second: bool) -> Word
+    ensures { result ≡ row_word (entry_of row.now) slot second }
+{
+    let apart = !second && !touches(row, 0x1100, 0x11C2);
+    let bare = row.mapping.is_empty() && !touches(row, 0xAC00, 0xD7A3);
+    Word {
+        fulls: slot,
+        class: row.class,
+        assigned: true,
+        apart,
+        bare,
+    }
+}
+
 /// The word for code points without a row, and behind it the words of the rows.
 pub fn row_words(
     alloc: Global,
@@ -64,12 +92,7 @@ pub fn row_words(
     let mut words = Vec::with_capacity(alloc, characters.len() + 1)?;
     words.push(NO_WORD)?;
     for at in 0..characters.len() {
-        words.push(Word {
-            fulls: slots[at],
-            class: row_in(characters, at).class,
-            assigned: true,
-            second: seconds[at],
-        })?;
+        words.push(word_of_row(row_in(characters, at), slots[at], seconds[at]))?;
     }
     Ok(words)
 }
@@ -80,13 +103,13 @@ pub fn page_words(alloc: Global, words: &[Word], numbers: &[u32]) -> Result<Vec<
 {
     let mut paged = Vec::with_capacity(alloc, numbers.len())?;
     for number in numbers {
-        paged.push(word_of_row(words, *number))?;
+        paged.push(word_at(words, *number))?;
     }
     Ok(paged)
 }
 
 /// The word at a row number.
-fn word_of_row(words: &[Word], number: u32) -> Word
+fn word_at(words: &[Word], number: u32) -> Word
     ensures { result ≡ slice_index_or words.now number no_word }
 {
     match words.get(number as usize) {

@@ -14,7 +14,7 @@ use std::alloc::Global;
 use std::marker::Model;
 
 /// A primary composite, after the two code points of its mapping.
-#[derive(Clone, Copy, PartialEq, Eq, PartialOrd, Ord)]
+#[derive(Clone, Copy, Debug, PartialEq, Eq, PartialOrd, Ord)]
 pub struct Composite {
     /// The first code point of the mapping.
     pub first: char,
@@ -39,7 +39,7 @@ impl Composite {
 }
 
 /// Primary composites in the order of their pairs, and of the composites where pairs are equal.
-#[derive(Drop)]
+#[derive(Debug, Drop)]
 pub struct Pairs {
     composites: Vec<Composite>,
 }

@@ -11,7 +11,7 @@ use std::marker::Model;
 
 /// The table whose body is the definition's own: a row is found by its place, a pair by halves in
 /// a sorted list, and full decompositions were made once for each row.
-#[derive(Drop)]
+#[derive(Debug, Drop)]
 pub struct RowTable {
     version: Version,
     fulls: Fulls,

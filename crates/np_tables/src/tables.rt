@@ -1,5 +1,5 @@
 //! What normalization asks of a version.
-ghost use Rattle.std.specs.Prelude.{◌≡◌, ℕ, List, Bool, Option, IfSome, IfNone, IsTrue, chars};
+ghost use Rattle.std.specs.Prelude.{◌≡◌, ℕ, List, Bool, Option, IfSome, IfNone, IsTrue};
 ghost use Rattle.np_code_points.specs.declared.forms.Form.{Form};
 ghost use Rattle.np_tables.specs.Boundaries.{IsBoundary};
 ghost use Rattle.np_tables.specs.Composites.{IsCompositeOf};
@@ -15,7 +15,7 @@ use np_code_points::Form;
 
 /// No byte at the front of a text, whose code points stay whatever the version and the form are.
 fn claim_nothing(text: &str) -> usize
-    ensures { (v : VersionData) (form : Form) → AreStaying v form (chars text.now) result }
+    ensures { (v : VersionData) (form : Form) → AreStaying v form text.now result }
 {
     let _unused = text;
     0
@@ -75,7 +75,7 @@ pub trait NormTable {
     /// How many bytes at the front of a text are code points that a form is known to leave as they
     /// are (UAX #15, section 9.1). A table may answer less, down to 0.
     fn staying(&self, form: Form, text: &str) -> usize
-        ensures { AreStaying (model self.now) form (chars text.now) result }
+        ensures { AreStaying (model self.now) form text.now result }
     {
         // the same
         let _unused = form;

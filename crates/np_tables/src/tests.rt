@@ -1,5 +1,5 @@
 //! Worked examples.
-use crate::{NormTable, RowTable, TableFault, Version};
+use crate::{NormTable, PageTable, RowTable, TableFault, Version};
 use np_code_points::codes::write_code;
 use np_code_points::fixtures::{
     S_DATA, S_EXCLUSIONS, V1_DATA, V1_EXCLUSIONS, V2_DATA, V2_EXCLUSIONS,
@@ -205,7 +205,7 @@ fn faults_have_names_and_code_points(rt: HostRuntime) -> Result<(), Fail> {
     Ok(())
 }
 
-fn answers_pairs(rt: &impl Abort, table: &RowTable) {
+fn answers_pairs<T: NormTable>(rt: &impl Abort, table: &T) {
     assert_eq!(rt; table.version().count(), 17_660);
     assert_eq!(rt; table.class('\u{302}'), 230);
     assert!(rt; table.hangul() && table.assigned('\u{212B}') && !table.assigned('\u{16D67}'));
@@ -228,7 +228,7 @@ const PAIRS: [(char, char, Option<char>); 10] = [
     ('\u{10FFFF}', '\u{10FFFF}', None),
 ];
 
-fn has_pairs(table: &RowTable, rows: &[(char, char, Option<char>)]) -> Result<(), Fail> {
+fn has_pairs<T: NormTable>(table: &T, rows: &[(char, char, Option<char>)]) -> Result<(), Fail> {
     for (first, second, composite) in rows {
         want(table.pair(*first, *second) == *composite, "a pair")?;
     }
@@ -243,7 +243,7 @@ fn each_pair_is_found_and_no_other(rt: HostRuntime) -> Result<(), Fail> {
 
 const LAST: &str = "0061;X;Ll;0;L;;;;;N;;;;;\n10FFFF;X;Co;7;L;<compat> 0061;;;;N;;;;;\n";
 
-fn answers_the_last(table: &RowTable) -> Result<(), Fail> {
+fn answers_the_last<T: NormTable>(table: &T) -> Result<(), Fail> {
     want(table.version().count() == 2, "two are assigned")?;
     want(table.assigned('\u{10FFFF}'), "the last is assigned")?;
     want(!table.assigned('\u{10FFFE}'), "the one before is not")?;
@@ -273,7 +273,7 @@ fn many_rows(alloc: Global) -> Result<String, Fail> {
     Ok(data)
 }
 
-fn answers_many(table: &RowTable) -> Result<(), Fail> {
+fn answers_many<T: NormTable>(table: &T) -> Result<(), Fail> {
     want(table.version().count() == MANY + 1, "all are assigned")?;
     // 20000 and 69,999 more
     let last = '\u{3116F}';
@@ -291,7 +291,7 @@ fn many_rows_have_memory(rt: HostRuntime) -> Result<(), Fail> {
     answers_many(&table)
 }
 
-fn answers_fulls(rt: &impl Abort, table: &RowTable) {
+fn answers_fulls<T: NormTable>(rt: &impl Abort, table: &T) {
     assert_eq!(rt;
         table.full('\u{1EAD}', false),
         ['\u{61}', '\u{323}', '\u{302}'].as_slice()
@@ -317,14 +317,14 @@ fn a_table_answers_by_its_version(rt: HostRuntime) -> Result<(), Fail> {
     Ok(())
 }
 
-fn answers_syllables(rt: &impl Abort, table: &RowTable) {
+fn answers_syllables<T: NormTable>(rt: &impl Abort, table: &T) {
     // 11A7 is no trailing consonant
     assert_eq!(rt; table.pair('\u{AC00}', '\u{11A7}'), None);
     assert_eq!(rt; table.pair('\u{1112}', '\u{1175}'), Some('\u{D788}'));
     assert_eq!(rt; table.full('\u{AC01}', false), [].as_slice());
 }
 
-fn answers_no_syllables(rt: &impl Abort, off: &RowTable) {
+fn answers_no_syllables<T: NormTable>(rt: &impl Abort, off: &T) {
     assert!(rt; !off.hangul());
     assert_eq!(rt; off.pair('\u{1100}', '\u{1161}'), None);
 }
@@ -341,4 +341,121 @@ fn no_syllable_goes_by_arithmetic_where_the_jamo_lack(rt: HostRuntime) -> Result
     let off = table_of(rt.alloc(), S_DATA, S_EXCLUSIONS)?;
     answers_no_syllables(&rt, &off);
     Ok(())
+}
+
+/// The table of pages of the version that two texts give.
+fn pages_of(alloc: Global, data: &str, exclusions: &str) -> Result<PageTable, Fail> {
+    let version = version(alloc, data, exclusions)?;
+    Ok(PageTable::new(alloc, version)?)
+}
+
+#[test]
+fn pages_answer_by_their_version(rt: HostRuntime) -> Result<(), Fail> {
+    let table = pages_of(rt.alloc(), V1_DATA, V1_EXCLUSIONS)?;
+    answers_pairs(&rt, &table);
+    answers_fulls(&rt, &table);
+    answers_syllables(&rt, &table);
+    has_pairs(&table, &PAIRS)
+}
+
+#[test]
+fn pages_have_the_last_code_point(rt: HostRuntime) -> Result<(), Fail> {
+    let table = pages_of(rt.alloc(), LAST, "")?;
+    answers_the_last(&table)
+}
+
+#[test]
+fn pages_have_memory_for_many_rows(rt: HostRuntime) -> Result<(), Fail> {
+    let data = many_rows(rt.alloc())?;
+    let table = pages_of(rt.alloc(), data.as_str(), "")?;
+    answers_many(&table)
+}
+
+#[test]
+fn pages_have_no_syllables_where_the_jamo_lack(rt: HostRuntime) -> Result<(), Fail> {
+    let off = pages_of(rt.alloc(), S_DATA, S_EXCLUSIONS)?;
+    answers_no_syllables(&rt, &off);
+    Ok(())
+}
+
+// Second parts of pairs, and neighbours of theirs; 11A7 is no trailing consonant.
+const SECONDS: [char; 12] = [
+    '\u{0}',
+    '\u{301}',
+    '\u{302}',
+    '\u{308}',
+    '\u{30A}',
+    '\u{323}',
+    '\u{93C}',
+    '\u{1161}',
+    '\u{11A7}',
+    '\u{11A8}',
+    '\u{16D67}',
+    '\u{10FFFF}',
+];
+
+// First parts of pairs, and others.
+const FIRSTS: [char; 12] = [
+    '\u{0}',
+    '\u{41}',
+    '\u{61}',
+    '\u{308}',
+    '\u{915}',
+    '\u{1100}',
+    '\u{1EA1}',
+    '\u{AC00}',
+    '\u{AC01}',
+    '\u{D788}',
+    '\u{16D67}',
+    '\u{10FFFF}',
+];
+
+fn same_pairs<T: NormTable, U: NormTable>(one: &T, two: &U, first: char) -> bool {
+    for second in &SECONDS {
+        if one.pair(first, *second) != two.pair(first, *second) {
+            return false;
+        }
+    }
+    true
+}
+
+fn same_answers<T: NormTable, U: NormTable>(one: &T, two: &U, c: char) -> bool {
+    one.class(c) == two.class(c)
+        && one.full(c, false) == two.full(c, false)
+        && one.full(c, true) == two.full(c, true)
+}
+
+fn answer_alike<T: NormTable, U: NormTable>(one: &T, two: &U) -> Result<(), Fail> {
+    want(one.hangul() == two.hangul(), "the arithmetic")?;
+    for code in 0..0x110000 {
+        if let Some(c) = char::from_u32(code) {
+            want(one.assigned(c) == two.assigned(c), "an assigned one")?;
+            if one.assigned(c) {
+                want(same_answers(one, two, c), "a code point")?;
+            }
+        }
+    }
+    for first in &FIRSTS {
+        want(same_pairs(one, two, *first), "a pair")?;
+    }
+    Ok(())
+}
+
+fn beside_pages(alloc: Global, rows: &RowTable, data: &str, listed: &str) -> Result<(), Fail> {
+    let pages = pages_of(alloc, data, listed)?;
+    answer_alike(rows, &pages)
+}
+
+fn both_answer_alike(alloc: Global, data: &str, listed: &str) -> Result<(), Fail> {
+    let rows = table_of(alloc, data, listed)?;
+    beside_pages(alloc, &rows, data, listed)
+}
+
+#[test]
+fn both_tables_answer_alike_for_every_code_point(rt: HostRuntime) -> Result<(), Fail> {
+    let alloc = rt.alloc();
+    both_answer_alike(alloc, V1_DATA, V1_EXCLUSIONS)?;
+    both_answer_alike(alloc, V2_DATA, V2_EXCLUSIONS)?;
+    both_answer_alike(alloc, S_DATA, S_EXCLUSIONS)?;
+    both_answer_alike(alloc, LAST, "")
 }

@@ -21,7 +21,7 @@ use std::marker::Model;
 /// A version of the character tables that has none of the faults of
 /// [`TableFault`](crate::TableFault). A code point is any number here: one that no row lists is
 /// unassigned, of class 0 and without a mapping.
-#[derive(Drop)]
+#[derive(Debug, Drop)]
 pub struct Version {
     characters: CharacterData,
     pairs: Pairs,

@@ -1,194 +1,187 @@
 -- CompositionExclusions.txt as a whole is read as the grammar says.
-use Rattle.std.proofs.Common.{◌≡◌, ℕ, ◌+◌, ◌⊎◌, true, leb, List, [], ◌∷◌, ◌++◌, length, Option, Some, None, refl, sym, ap, subst, ◌∙◌, inl, inr, ⊎_elim, arith}
-use Rattle.std.specs.List.{All, list_any}
+use Rattle.std.proofs.Common.{◌≡◌, ℕ, ◌<◌, ◌≤◌, ◌⊎◌, ◌↔◌, true, leb, List, [], ◌∷◌, ◌++◌, Option, Some, None, is_some, refl, sym, ap, subst, ◌∙◌, inl, inr, ⊎_elim, arith}
+use Rattle.std.specs.List.{All, AllPairs, Contains, list_any}
 use Rattle.std.proofs.lemmas.Bool.{false≢true, leb-true, le-leb, and_parts, and_from, or_cases, or_left, or_right}
 use Rattle.std.proofs.lemmas.List.Elements.{All-nil, All-cons, All-head, All-tail}
 use Rattle.std.proofs.lemmas.List.Folds.{list_any-append}
-use Rattle.np_ucd.specs.ExclusionGrammar.{IsReadable, IsFirstBadLine, IsListedIn}
-use Rattle.np_ucd.specs.Exclusions.{line_spans, fault_at, spans_fault, and_spans, spans_of, exclusions_fault, spans_in}
-use Rattle.np_ucd.specs.Grammar.{AreLines}
-use Rattle.np_ucd.specs.Laws.{NamesFirstBadLine, TakesTheReadable, ListsTheCodes}
-use Rattle.np_ucd.specs.Lines.{lines_of}
+use Rattle.np_code_points.specs.Lines.{Numbered, IsDataLine}
+use Rattle.np_code_points.specs.inside.LineCuts.{data_lines_in}
+use Rattle.np_code_points.proofs.DataLineGrammar.{are_data_lines}
+use Rattle.np_code_points.proofs.Elements.{contains_here, contains_more, contains_cases, contains_none, contains_middle, all_contained, least_left}
+use Rattle.np_ucd.specs.Exclusions.{IsReadable, IsBadLine, IsFirstBadLine, AreReadable, IsListedIn}
+use Rattle.np_ucd.specs.Faults.{line_of}
 use Rattle.np_ucd.specs.Listed.{Span, is_within, is_listed}
-use Rattle.np_ucd.specs.Records.{UcdFault, BadCode}
-use Rattle.np_ucd.proofs.LineGrammar.{are_lines, only_lines}
-use Rattle.np_ucd.proofs.SpanGrammar.{nothing_listed, lists_span, span_listed, kind, bad_or_readable, not_bad, unread}
+use Rattle.np_ucd.specs.Tests.{UcdFault, BadCode}
+use Rattle.np_ucd.specs.inside.ExclusionReading.{line_spans, fault_at, spans_fault, and_spans, spans_of, exclusions_fault, spans_in}
+use Rattle.np_ucd.proofs.SpanGrammar.{nothing_listed, lists_span, span_listed, kind, bad_or_readable, not_bad}
+
+abbrev CanRead : Numbered → Type 0
+CanRead r = IsReadable r.text
 
 -- The first line that can't be read.
-record Bad (lines : List (List ℕ)) : Type 0 where
-  before : List (List ℕ)
-  line : List ℕ
-  behind : List (List ℕ)
+record Bad (lines : List Numbered) : Type 0 where
+  before : List Numbered
+  line : Numbered
+  behind : List Numbered
   stands : lines ≡ before ++ line ∷ behind
-  bad : line_spans line ≡ None
-  first : All IsReadable before
+  bad : line_spans line.text ≡ None
+  first : All CanRead before
 
-longer : (x : List ℕ) (lines : List (List ℕ)) → IsReadable x → Bad lines → Bad (x ∷ lines)
-longer x lines readable h = record {
-  before = x ∷ h.before;
+longer : (r : Numbered) (lines : List Numbered) → CanRead r → Bad lines → Bad (r ∷ lines)
+longer r lines readable h = record {
+  before = r ∷ h.before;
   line = h.line;
   behind = h.behind;
-  stands = ap (λ ls. x ∷ ls) h.stands;
+  stands = ap (λ ls. r ∷ ls) h.stands;
   bad = h.bad;
-  first = All-cons IsReadable x h.before readable h.first;
+  first = All-cons CanRead r h.before readable h.first;
 }
 
-outcome : (lines : List (List ℕ)) → Bad lines ⊎ All IsReadable lines
-outcome [] = inr (All-nil IsReadable)
-outcome (x ∷ lines) =
+outcome : (lines : List Numbered) → Bad lines ⊎ All CanRead lines
+outcome [] = inr (All-nil CanRead)
+outcome (r ∷ lines) =
     ⊎_elim
-    (λ bad. inl (record { before = []; line = x; behind = lines; stands = refl; bad = bad; first = All-nil IsReadable }))
-    (λ good. ⊎_elim (λ more. inl (longer x lines good more)) (λ all. inr (All-cons IsReadable x lines good all)) (outcome lines))
-    (bad_or_readable x)
+    (λ bad. inl (record { before = []; line = r; behind = lines; stands = refl; bad = bad; first = All-nil CanRead }))
+    (λ good. ⊎_elim (λ more. inl (longer r lines good more)) (λ all. inr (All-cons CanRead r lines good all)) (outcome lines))
+    (bad_or_readable r.text)
 
-passes_line : (n : ℕ) (x : List ℕ) (rest : Option UcdFault) → IsReadable x → fault_at n (line_spans x) rest ≡ rest
-passes_line n x rest h =
+passes_line : (r : Numbered) (rest : Option UcdFault) → CanRead r → fault_at r.line (line_spans r.text) rest ≡ rest
+passes_line r rest h =
     ⊎_elim
-    (λ nothing. ap (λ o. fault_at n o rest) (nothing_listed x nothing))
-    (λ some. ap (λ o. fault_at n o rest) (span_listed x some.0 some.1))
+    (λ nothing. ap (λ o. fault_at r.line o rest) (nothing_listed r.text nothing))
+    (λ some. ap (λ o. fault_at r.line o rest) (span_listed r.text some.0 some.1))
     h
 
-at_bad : (n : ℕ) (before : List (List ℕ)) (line : List ℕ) (behind : List (List ℕ)) → All IsReadable before → line_spans line ≡ None → spans_fault n (before ++ line ∷ behind) ≡ Some (BadCode (length before + n))
+at_bad : (before : List Numbered) (line : Numbered) (behind : List Numbered) → All CanRead before → line_spans line.text ≡ None → spans_fault (before ++ line ∷ behind) ≡ Some (BadCode line.line)
 unfolding spans_fault
-at_bad n [] line behind first bad =
-    let none : n ≡ length {A = List ℕ} [] + n = omega arith in
-    ap (λ o. fault_at n o (spans_fault (n + 1) behind)) bad ∙ ap (λ k. Some (BadCode k)) none
-at_bad n (x ∷ before) line behind first bad =
-    let more : length before + (n + 1) ≡ length (x ∷ before) + n = omega arith in
-    passes_line n x (spans_fault (n + 1) (before ++ line ∷ behind)) (All-head IsReadable x before first)
-    ∙ at_bad (n + 1) before line behind (All-tail IsReadable x before first) bad
-    ∙ ap (λ k. Some (BadCode k)) more
+at_bad [] line behind first bad = ap (λ o. fault_at line.line o (spans_fault behind)) bad
+at_bad (r ∷ before) line behind first bad =
+    passes_line r (spans_fault (before ++ line ∷ behind)) (All-head CanRead r before first)
+    ∙ at_bad before line behind (All-tail CanRead r before first) bad
 
-all_read : (n : ℕ) (lines : List (List ℕ)) → All IsReadable lines → spans_fault n lines ≡ None
+all_read : (lines : List Numbered) → All CanRead lines → spans_fault lines ≡ None
 unfolding spans_fault
-all_read n [] h = refl
-all_read n (x ∷ lines) h =
-    passes_line n x (spans_fault (n + 1) lines) (All-head IsReadable x lines h) ∙ all_read (n + 1) lines (All-tail IsReadable x lines h)
+all_read [] h = refl
+all_read (r ∷ lines) h = passes_line r (spans_fault lines) (All-head CanRead r lines h) ∙ all_read lines (All-tail CanRead r lines h)
 
-bad_answer : (lines : List (List ℕ)) (h : Bad lines) → spans_fault 1 lines ≡ Some (BadCode (length h.before + 1))
-bad_answer lines h = ap (spans_fault 1) h.stands ∙ at_bad 1 h.before h.line h.behind h.first h.bad
+bad_answer : (lines : List Numbered) (h : Bad lines) → spans_fault lines ≡ Some (BadCode h.line.line)
+bad_answer lines h = ap spans_fault h.stands ∙ at_bad h.before h.line h.behind h.first h.bad
 
-first_bad_line : (bytes : List ℕ) (h : Bad (lines_of bytes)) → IsFirstBadLine bytes (length h.before + 1)
-first_bad_line bytes h = record {
-  before = h.before;
+bad_line : (bytes : List ℕ) (h : Bad (data_lines_in bytes)) → IsBadLine bytes h.line.line
+bad_line bytes h = record {
   line = h.line;
-  behind = h.behind;
-  lines = subst (AreLines bytes) h.stands (are_lines bytes);
-  counted = refl;
-  bad = not_bad h.line h.bad;
-  first = h.first;
+  is = all_contained (IsDataLine bytes) (data_lines_in bytes) h.line (are_data_lines bytes).each
+      (subst (λ ls. Contains ls h.line) (sym h.stands) (contains_middle h.before h.line h.behind));
+  at = refl;
+  bad = not_bad h.line.text h.bad;
 }
 
-abbrev NamesBadLine : List ℕ → UcdFault → Type 0
-NamesBadLine bytes fault = (number : ℕ) × (fault ≡ BadCode number) × IsFirstBadLine bytes number
+least_bad : (bytes : List ℕ) (h : Bad (data_lines_in bytes)) (other : ℕ) (o : IsBadLine bytes other) → h.line.line ≤ other
+least_bad bytes h other o =
+    let l = least_left Numbered (λ k. k.line) h.before h.line h.behind o.line
+    (subst (λ ls. AllPairs (λ (j k : Numbered). j.line < k.line) ls) h.stands (are_data_lines bytes).rise)
+    (subst (λ ls. Contains ls o.line) h.stands ((are_data_lines bytes).all o.line o.is))
+    (λ in'. o.bad (all_contained CanRead h.before o.line h.first in')) in
+    omega (arith, o.at)
 
-names_line : (bytes : List ℕ) (fault : UcdFault) → spans_fault 1 (lines_of bytes) ≡ Some fault → NamesBadLine bytes fault
-names_line bytes fault h =
+to_bad : (bytes : List ℕ) (fault : UcdFault) → spans_fault (data_lines_in bytes) ≡ Some fault → IsFirstBadLine bytes fault
+to_bad bytes fault h =
     ⊎_elim
-    (λ (w : Bad (lines_of bytes)).
-    let both = sym h ∙ bad_answer (lines_of bytes) w in
-    let same : fault ≡ BadCode (length w.before + 1) = cc in
-    (length w.before + 1, same, first_bad_line bytes w))
-    (λ all. let none = all_read 1 (lines_of bytes) all in absurd (cc))
-    (outcome (lines_of bytes))
+    (λ (w : Bad (data_lines_in bytes)).
+    let both = sym h ∙ bad_answer (data_lines_in bytes) w in
+    let same : fault ≡ BadCode w.line.line = cc in
+    record { number = w.line.line; fault_is = same; bad = bad_line bytes w; least = least_bad bytes w })
+    (λ all. let none = all_read (data_lines_in bytes) all in absurd (cc))
+    (outcome (data_lines_in bytes))
 
-line_named : (bytes : List ℕ) (fault : UcdFault) → NamesBadLine bytes fault → spans_fault 1 (lines_of bytes) ≡ Some fault
-line_named bytes fault h =
-    let w = h.2 in
-    sym (ap (spans_fault 1) (only_lines bytes (w.before ++ w.line ∷ w.behind) w.lines))
-    ∙ at_bad 1 w.before w.line w.behind w.first (unread w.line w.bad)
-    ∙ ap (λ k. Some (BadCode k)) (sym w.counted)
-    ∙ ap Some (sym h.1)
-
-pub names_first_bad_line : NamesFirstBadLine
+pub first_bad_line : (bytes : List ℕ) (fault : UcdFault) → exclusions_fault bytes ≡ Some fault → IsFirstBadLine bytes fault
 unfolding exclusions_fault
-names_first_bad_line bytes fault = (names_line bytes fault, line_named bytes fault)
+first_bad_line bytes fault h = to_bad bytes fault h
 
-each_read : (bytes : List ℕ) → spans_fault 1 (lines_of bytes) ≡ None → (lines : List (List ℕ)) → AreLines bytes lines → All IsReadable lines
-each_read bytes h lines are =
+none_bad : (bytes : List ℕ) → spans_fault (data_lines_in bytes) ≡ None → AreReadable bytes
+none_bad bytes h number o =
     ⊎_elim
-    (λ (w : Bad (lines_of bytes)). let both = sym h ∙ bad_answer (lines_of bytes) w in absurd (cc))
-    (λ all. subst (All IsReadable) (sym (only_lines bytes lines are)) all)
-    (outcome (lines_of bytes))
+    (λ (w : Bad (data_lines_in bytes)). let both = sym h ∙ bad_answer (data_lines_in bytes) w in absurd (cc))
+    (λ all. o.bad (all_contained CanRead (data_lines_in bytes) o.line all ((are_data_lines bytes).all o.line o.is)))
+    (outcome (data_lines_in bytes))
 
-pub takes_readable : TakesTheReadable
+pub are_readable : (bytes : List ℕ) → exclusions_fault bytes ≡ None → AreReadable bytes
 unfolding exclusions_fault
-takes_readable bytes = (each_read bytes, λ h. all_read 1 (lines_of bytes) (h (lines_of bytes) (are_lines bytes)))
+are_readable bytes h = none_bad bytes h
+
+pub bad_lined : (bytes : List ℕ) (e : UcdFault) → IsFirstBadLine bytes e → is_some (line_of e) ≡ true
+bad_lined bytes e h = ap (λ f. is_some (line_of f)) h.fault_is
 
 -- The code points that are listed.
-record Holds (lines : List (List ℕ)) (code : ℕ) : Type 0 where
-  before : List (List ℕ)
-  line : List ℕ
-  behind : List (List ℕ)
+record Holds (lines : List Numbered) (code : ℕ) : Type 0 where
+  line : Numbered
   span : Span
-  stands : lines ≡ before ++ line ∷ behind
-  lists : line_spans line ≡ Some (span ∷ [])
+  in_lines : Contains lines line
+  lists : line_spans line.text ≡ Some (span ∷ [])
   within : is_within code span ≡ true
 
-behind_holds : (x : List ℕ) (lines : List (List ℕ)) (code : ℕ) → Holds lines code → Holds (x ∷ lines) code
-behind_holds x lines code h = record {
-  before = x ∷ h.before;
+behind_holds : (r : Numbered) (lines : List Numbered) (code : ℕ) → Holds lines code → Holds (r ∷ lines) code
+behind_holds r lines code h = record {
   line = h.line;
-  behind = h.behind;
   span = h.span;
-  stands = ap (λ ls. x ∷ ls) h.stands;
+  in_lines = contains_more r h.line lines h.in_lines;
   lists = h.lists;
   within = h.within;
 }
 
-one_holds : (x : List ℕ) (lines : List (List ℕ)) (code : ℕ) (span : Span) → line_spans x ≡ Some (span ∷ []) → (is_listed (spans_of lines) code ≡ true → Holds lines code) → is_listed (span ∷ spans_of lines) code ≡ true → Holds (x ∷ lines) code
-one_holds x lines code span e ih h =
+one_holds : (r : Numbered) (lines : List Numbered) (code : ℕ) (span : Span) → line_spans r.text ≡ Some (span ∷ []) → (is_listed (spans_of lines) code ≡ true → Holds lines code) → is_listed (span ∷ spans_of lines) code ≡ true → Holds (r ∷ lines) code
+one_holds r lines code span e ih h =
     ⊎_elim
-    (λ here. record { before = []; line = x; behind = lines; span = span; stands = refl; lists = e; within = here })
-    (λ more. behind_holds x lines code (ih more))
+    (λ here. record { line = r; span = span; in_lines = contains_here r lines; lists = e; within = here })
+    (λ more. behind_holds r lines code (ih more))
     (or_cases (is_within code span) (is_listed (spans_of lines) code) h)
 
-holds : (lines : List (List ℕ)) (code : ℕ) → is_listed (spans_of lines) code ≡ true → Holds lines code
+holds : (lines : List Numbered) (code : ℕ) → is_listed (spans_of lines) code ≡ true → Holds lines code
 unfolding spans_of
 holds [] code h = absurd (false≢true h)
-holds (x ∷ lines) code h =
-    let rest = λ (o : Option (List Span)) (e : line_spans x ≡ o). ap (λ o. is_listed (and_spans o (spans_of lines)) code) (sym e) ∙ h in
+holds (r ∷ lines) code h =
+    let rest = λ (o : Option (List Span)) (e : line_spans r.text ≡ o). ap (λ o. is_listed (and_spans o (spans_of lines)) code) (sym e) ∙ h in
     ⊎_elim
-    (λ bad. behind_holds x lines code (holds lines code (rest None bad)))
+    (λ bad. behind_holds r lines code (holds lines code (rest None bad)))
     (λ good. ⊎_elim
-    (λ none. behind_holds x lines code (holds lines code (rest (Some []) none)))
-    (λ one. one_holds x lines code one.0 one.1 (holds lines code) (rest (Some (one.0 ∷ [])) one.1)) good)
-    (kind x)
+    (λ none. behind_holds r lines code (holds lines code (rest (Some []) none)))
+    (λ one. one_holds r lines code one.0 one.1 (holds lines code) (rest (Some (one.0 ∷ [])) one.1)) good)
+    (kind r.text)
 
 still_listed : (o : Option (List Span)) (rest : List Span) (code : ℕ) → is_listed rest code ≡ true → is_listed (and_spans o rest) code ≡ true
 still_listed None rest code h = h
 still_listed (Some spans) rest code h =
     list_any-append (is_within code) spans rest ∙ or_right (list_any (is_within code) spans) (list_any (is_within code) rest) h
 
-listed_at : (before : List (List ℕ)) (line : List ℕ) (behind : List (List ℕ)) (span : Span) (code : ℕ) → line_spans line ≡ Some (span ∷ []) → is_within code span ≡ true → is_listed (spans_of (before ++ line ∷ behind)) code ≡ true
+listed_at : (lines : List Numbered) (line : Numbered) (span : Span) (code : ℕ) → Contains lines line → line_spans line.text ≡ Some (span ∷ []) → is_within code span ≡ true → is_listed (spans_of lines) code ≡ true
 unfolding spans_of
-listed_at [] line behind span code e h =
-    ap (λ o. is_listed (and_spans o (spans_of behind)) code) e
-    ∙ or_left (is_within code span) (is_listed (spans_of behind) code) h
-listed_at (x ∷ before) line behind span code e h =
-    still_listed (line_spans x) (spans_of (before ++ line ∷ behind)) code (listed_at before line behind span code e h)
+listed_at [] line span code in' e h = absurd (contains_none line in')
+listed_at (r ∷ lines) line span code in' e h =
+    ⊎_elim
+    (λ same. ap (λ (s : Numbered). is_listed (and_spans (line_spans s.text) (spans_of lines)) code) same
+    ∙ ap (λ o. is_listed (and_spans o (spans_of lines)) code) e
+    ∙ or_left (is_within code span) (is_listed (spans_of lines) code) h)
+    (λ more. still_listed (line_spans r.text) (spans_of lines) code (listed_at lines line span code more e h))
+    (contains_cases r line lines in')
 
-to_line : (bytes : List ℕ) (code : ℕ) → is_listed (spans_of (lines_of bytes)) code ≡ true → IsListedIn bytes code
+to_line : (bytes : List ℕ) (code : ℕ) → is_listed (spans_of (data_lines_in bytes)) code ≡ true → IsListedIn bytes code
 to_line bytes code h =
-    let w = holds (lines_of bytes) code h in
+    let w = holds (data_lines_in bytes) code h in
     let both = and_parts (leb w.span.first code) (leb code w.span.last) w.within in
     record {
-      before = w.before;
       line = w.line;
-      behind = w.behind;
+      is = all_contained (IsDataLine bytes) (data_lines_in bytes) w.line (are_data_lines bytes).each w.in_lines;
       span = w.span;
-      lines = subst (AreLines bytes) w.stands (are_lines bytes);
-      lists = lists_span w.line w.span w.lists;
+      lists = lists_span w.line.text w.span w.lists;
       begun = leb-true w.span.first code both.0;
       reached = leb-true code w.span.last both.1;
     }
 
-from_line : (bytes : List ℕ) (code : ℕ) → IsListedIn bytes code → is_listed (spans_of (lines_of bytes)) code ≡ true
+from_line : (bytes : List ℕ) (code : ℕ) → IsListedIn bytes code → is_listed (spans_of (data_lines_in bytes)) code ≡ true
 from_line bytes code h =
-    ap (λ ls. is_listed (spans_of ls) code) (sym (only_lines bytes (h.before ++ h.line ∷ h.behind) h.lines))
-    ∙ listed_at h.before h.line h.behind h.span code (span_listed h.line h.span h.lists)
+    listed_at (data_lines_in bytes) h.line h.span code ((are_data_lines bytes).all h.line h.is) (span_listed h.line.text h.span h.lists)
     (and_from (leb h.span.first code) (leb code h.span.last) (le-leb h.span.first code h.begun) (le-leb code h.span.last h.reached))
 
-pub lists_codes : ListsTheCodes
+pub lists_codes : (bytes : List ℕ) (code : ℕ) → (is_listed (spans_in bytes) code ≡ true) ↔ IsListedIn bytes code
 unfolding spans_in
 lists_codes bytes code = (to_line bytes code, from_line bytes code)

@@ -1,26 +1,16 @@
 -- How CompositionExclusions.txt is read line by line.
-use Rattle.std.proofs.Common.{◌≡◌, ℕ, suc, ◌+◌, ◌<◌, ◌≤◌, Bool, true, false, ◌&&◌, cond, eqb, List, [], ◌∷◌, ◌++◌, length, get_or, take, drop, Option, Some, None, IfSome, is_some, refl, sym, ap, ◌∙◌, inl, inr, ⊎_elim, arith}
+use Rattle.std.proofs.Common.{◌≡◌, ℕ, suc, ◌+◌, ◌≤◌, Bool, true, false, ◌&&◌, cond, List, [], ◌∷◌, ◌++◌, length, get_or, take, Option, Some, None, IfSome, is_some, refl, sym, ap, ◌∙◌, inl, inr, ⊎_elim, arith}
 use Rattle.std.specs.List.{list_all}
-use Rattle.std.proofs.lemmas.List.{append_assoc, append-nil, at_drop_more, drop_more, take_more}
+use Rattle.std.proofs.lemmas.List.{append_assoc, append-nil, take_more}
 use Rattle.std.proofs.lemmas.List.Folds.{list_all-append}
-use Rattle.std.proofs.lemmas.Bool.{cond-true, cond-false, and_right, eqb-true}
-use Rattle.np_ucd.specs.Lines.{lines_of, is_blank}
+use Rattle.std.proofs.lemmas.Bool.{cond-true, cond-false, and_right}
 use Rattle.np_ucd.specs.Listed.{Span}
 use Rattle.np_ucd.specs.Faults.{line_of}
-use Rattle.np_ucd.specs.Records.{UcdFault}
-use Rattle.np_ucd.specs.RecordValues.{IsMemoryOr}
-use Rattle.np_ucd.specs.Exclusions.{after_blanks, before_blanks, line_spans, fault_at, and_spans, spans_fault, spans_of, exclusions_fault, spans_in}
-
-pub front_stops : (xs : List ℕ) (i : ℕ) → i < length xs → is_blank (get_or xs i 0) ≡ false → after_blanks (drop i xs) ≡ drop i xs
-front_stops xs i l e =
-    at_drop_more after_blanks xs i 0 l
-    ∙ cond-false (is_blank (get_or xs i 0)) (after_blanks (drop (i + 1) xs)) (get_or xs i 0 ∷ drop (i + 1) xs) e
-    ∙ sym (drop_more xs i 0 l)
-
-pub front_goes_on : (xs : List ℕ) (i : ℕ) → i < length xs → is_blank (get_or xs i 0) ≡ true → after_blanks (drop i xs) ≡ after_blanks (drop (i + 1) xs)
-front_goes_on xs i l e =
-    at_drop_more after_blanks xs i 0 l
-    ∙ cond-true (is_blank (get_or xs i 0)) (after_blanks (drop (i + 1) xs)) (get_or xs i 0 ∷ drop (i + 1) xs) e
+use Rattle.np_code_points.specs.Lines.{Numbered}
+use Rattle.np_code_points.specs.inside.LineCuts.{is_blank, data_lines_in}
+use Rattle.np_ucd.specs.Tests.{UcdFault}
+use Rattle.np_ucd.specs.inside.ExclusionReading.{before_blanks, line_spans, fault_at, and_spans, spans_fault, spans_of, exclusions_fault, spans_in}
+use Rattle.np_ucd.specs.inside.RecordValues.{IsMemoryOr}
 
 and_true : (b : Bool) → (b && true) ≡ b
 and_true true = refl
@@ -78,53 +68,51 @@ spans_join : (o : Option (List Span)) (rest : List Span) → and_spans o rest �
 spans_join None rest = refl
 spans_join (Some spans) rest = ap (λ xs. xs ++ rest) (sym (append-nil spans))
 
-pub fault_next : (first : Option UcdFault) (n : ℕ) (lines : List (List ℕ)) (front : List ℕ) (more : List (List ℕ)) → first ≡ spans_fault n lines → lines ≡ front ∷ more → fault_at n (line_spans front) None ≡ None → first ≡ spans_fault (n + 1) more
+pub fault_next : (first : Option UcdFault) (lines more : List Numbered) (r : Numbered) → first ≡ spans_fault lines → lines ≡ r ∷ more → fault_at r.line (line_spans r.text) None ≡ None → first ≡ spans_fault more
 unfolding spans_fault
-fault_next first n lines front more h cut fine =
-    h ∙ ap (spans_fault n) cut ∙ fine_passes n (line_spans front) (spans_fault (n + 1) more) fine
+fault_next first lines more r h cut fine =
+    h ∙ ap spans_fault cut ∙ fine_passes r.line (line_spans r.text) (spans_fault more) fine
 
-pub fault_here : (first : Option UcdFault) (n : ℕ) (lines : List (List ℕ)) (front : List ℕ) (more : List (List ℕ)) (e : UcdFault) → first ≡ spans_fault n lines → lines ≡ front ∷ more → IsMemoryOr (fault_at n (line_spans front) None) e → IsMemoryOr first e
+pub fault_here : (first : Option UcdFault) (lines more : List Numbered) (r : Numbered) (e : UcdFault) → first ≡ spans_fault lines → lines ≡ r ∷ more → IsMemoryOr (fault_at r.line (line_spans r.text) None) e → IsMemoryOr first e
 unfolding spans_fault
-fault_here first n lines front more e h cut fault =
-    ⊎_elim (λ m. inl m) (λ is. inr (h ∙ ap (spans_fault n) cut ∙ fault_stops n (line_spans front) (spans_fault (n + 1) more) e is)) fault
+fault_here first lines more r e h cut fault =
+    ⊎_elim (λ m. inl m) (λ is. inr (h ∙ ap spans_fault cut ∙ fault_stops r.line (line_spans r.text) (spans_fault more) e is)) fault
 
-pub spans_next : (total done grown : List Span) (lines : List (List ℕ)) (front : List ℕ) (more : List (List ℕ)) → done ++ spans_of lines ≡ total → lines ≡ front ∷ more → grown ≡ done ++ and_spans (line_spans front) [] → grown ++ spans_of more ≡ total
+pub spans_next : (total done grown : List Span) (lines more : List Numbered) (r : Numbered) → done ++ spans_of lines ≡ total → lines ≡ r ∷ more → grown ≡ done ++ and_spans (line_spans r.text) [] → grown ++ spans_of more ≡ total
 unfolding spans_of
-spans_next total done grown lines front more h cut grows =
+spans_next total done grown lines more r h cut grows =
     ap (λ spans. spans ++ spans_of more) grows
-    ∙ append_assoc done (and_spans (line_spans front) []) (spans_of more)
-    ∙ ap (λ spans. done ++ spans) (sym (spans_join (line_spans front) (spans_of more)))
+    ∙ append_assoc done (and_spans (line_spans r.text) []) (spans_of more)
+    ∙ ap (λ spans. done ++ spans) (sym (spans_join (line_spans r.text) (spans_of more)))
     ∙ ap (λ ls. done ++ spans_of ls) (sym cut)
     ∙ h
 
-pub fault_end : (first : Option UcdFault) (n : ℕ) (rest : List ℕ) → first ≡ spans_fault n (lines_of rest) → eqb (length rest) 0 ≡ true → first ≡ None
-unfolding spans_fault lines_of
-fault_end first n [] h e = h
-fault_end first n (x ∷ xs) h e = absurd (omega (arith, eqb-true (length (x ∷ xs)) 0 e))
+pub fault_end : (first : Option UcdFault) (lines : List Numbered) → first ≡ spans_fault lines → lines ≡ [] → first ≡ None
+unfolding spans_fault
+fault_end first lines h e = h ∙ ap spans_fault e
 
-pub spans_end : (total done : List Span) (rest : List ℕ) → done ++ spans_of (lines_of rest) ≡ total → eqb (length rest) 0 ≡ true → done ≡ total
-unfolding spans_of lines_of
-spans_end total done [] h e = sym (append-nil done) ∙ h
-spans_end total done (x ∷ xs) h e = absurd (omega (arith, eqb-true (length (x ∷ xs)) 0 e))
+pub spans_end : (total done : List Span) (lines : List Numbered) → done ++ spans_of lines ≡ total → lines ≡ [] → done ≡ total
+unfolding spans_of
+spans_end total done lines h e = sym (append-nil done) ∙ ap (λ ls. done ++ spans_of ls) (sym e) ∙ h
 
-pub fault_begin : (bytes : List ℕ) → exclusions_fault bytes ≡ spans_fault 1 (lines_of bytes)
+pub fault_begin : (bytes : List ℕ) (lines : List Numbered) → lines ≡ data_lines_in bytes → exclusions_fault bytes ≡ spans_fault lines
 unfolding exclusions_fault
-fault_begin bytes = refl
+fault_begin bytes lines h = ap spans_fault (sym h)
 
-pub spans_begin : (bytes : List ℕ) (done : List Span) → done ≡ [] → done ++ spans_of (lines_of bytes) ≡ spans_in bytes
+pub spans_begin : (bytes : List ℕ) (lines : List Numbered) (done : List Span) → lines ≡ data_lines_in bytes → done ≡ [] → done ++ spans_of lines ≡ spans_in bytes
 unfolding spans_in
-spans_begin bytes done e = ap (λ spans. spans ++ spans_of (lines_of bytes)) e
+spans_begin bytes lines done h e = ap (λ spans. spans ++ spans_of lines) e ∙ ap spans_of h
 
 -- The first fault has a line.
 at_has_line : (n : ℕ) (o : Option (List Span)) (rest : Option UcdFault) → IfSome rest (λ e. is_some (line_of e) ≡ true) → IfSome (fault_at n o rest) (λ e. is_some (line_of e) ≡ true)
 at_has_line n None rest h = refl
 at_has_line n (Some spans) rest h = h
 
-spans_line : (n : ℕ) (lines : List (List ℕ)) → IfSome (spans_fault n lines) (λ e. is_some (line_of e) ≡ true)
+spans_line : (lines : List Numbered) → IfSome (spans_fault lines) (λ e. is_some (line_of e) ≡ true)
 unfolding spans_fault
-spans_line n [] = tt
-spans_line n (bytes ∷ lines) = at_has_line n (line_spans bytes) (spans_fault (n + 1) lines) (spans_line (n + 1) lines)
+spans_line [] = tt
+spans_line (r ∷ lines) = at_has_line r.line (line_spans r.text) (spans_fault lines) (spans_line lines)
 
 pub exclusions_line : (bytes : List ℕ) → IfSome (exclusions_fault bytes) (λ e. is_some (line_of e) ≡ true)
 unfolding exclusions_fault
-exclusions_line bytes = spans_line 1 (lines_of bytes)
+exclusions_line bytes = spans_line (data_lines_in bytes)

@@ -1,58 +1,19 @@
 -- The first fault of UnicodeData.txt is the one that the grammar names.
-use Rattle.std.proofs.Common.{◌≡◌, ℕ, ◌⊎◌, Bool, true, false, cond, List, [], ◌∷◌, ◌++◌, Option, Some, None, refl, sym, ap, subst, ◌∙◌, inl, inr, ⊎_elim, append_assoc}
+use Rattle.std.proofs.Common.{◌≡◌, ℕ, ◌<◌, ◌≤◌, ◌⊎◌, Bool, true, false, cond, List, [], ◌∷◌, ◌++◌, Option, Some, None, is_some, refl, sym, ap, subst, ◌∙◌, inl, inr, ⊎_elim, append_assoc, arith}
+use Rattle.std.specs.List.{AllPairs, Contains}
 use Rattle.std.specs.Option.{option_or}
-use Rattle.std.proofs.lemmas.List.Elements.{All-nil, All-cons, All-head, All-tail}
-use Rattle.np_ucd.specs.FaultGrammar.{FitsNone, IsFirstFit, IsNeighbourBehind, AreTestsBehind, AreFaultless, IsFaultOfRecord, IsFaultOfEnd, IsWithoutFault}
-use Rattle.np_ucd.specs.Files.{Numbered, records_in, end_fault, fault_after, first_fault}
-use Rattle.np_ucd.specs.Laws.{NamesFirstFault, TakesTheFaultless}
-use Rattle.np_ucd.specs.Records.{UcdFault, RangeOpen, Neighbour, neighbour_of, opens, first_that_fits, record_tests, record_fault}
-
-abbrev Test : Type 0
-Test = Bool × UcdFault
-
-abbrev passes : Test → Type 0
-passes test = test.0 ≡ false
-
--- The tests of one record.
-none_step : (t : Bool) (f : UcdFault) (tests : List Test) → (first_that_fits tests ≡ None → FitsNone tests) → cond t (Some f) (first_that_fits tests) ≡ None → FitsNone ((t, f) ∷ tests)
-none_step true f tests ih h = absurd (cc)
-none_step false f tests ih h = All-cons passes (false, f) tests refl (ih h)
-
-none_fits : (tests : List Test) → first_that_fits tests ≡ None → FitsNone tests
-none_fits [] h = All-nil passes
-none_fits (test ∷ tests) h = none_step test.0 test.1 tests (none_fits tests) h
-
-fits_none : (tests : List Test) → FitsNone tests → first_that_fits tests ≡ None
-fits_none [] h = refl
-fits_none (test ∷ tests) h =
-    ap (λ t. cond t (Some test.1) (first_that_fits tests)) (All-head passes test tests h) ∙ fits_none tests (All-tail passes test tests h)
-
-more_passed : (f fault : UcdFault) (tests : List Test) → IsFirstFit tests fault → IsFirstFit ((false, f) ∷ tests) fault
-more_passed f fault tests h = record {
-  passed = (false, f) ∷ h.passed;
-  later = h.later;
-  stands = ap (λ r. (false, f) ∷ r) h.stands;
-  first = All-cons passes (false, f) h.passed refl h.first;
-}
-
-fit_step : (t : Bool) (f fault : UcdFault) (tests : List Test) → (first_that_fits tests ≡ Some fault → IsFirstFit tests fault) → cond t (Some f) (first_that_fits tests) ≡ Some fault → IsFirstFit ((t, f) ∷ tests) fault
-fit_step true f fault tests ih h =
-    let same : f ≡ fault = cc in
-    record { passed = []; later = tests; stands = ap (λ x. (true, x) ∷ tests) same; first = All-nil passes }
-fit_step false f fault tests ih h = more_passed f fault tests (ih h)
-
-first_fit : (tests : List Test) (fault : UcdFault) → first_that_fits tests ≡ Some fault → IsFirstFit tests fault
-first_fit [] fault h = absurd (cc)
-first_fit (test ∷ tests) fault h = fit_step test.0 test.1 fault tests (first_fit tests fault) h
-
-fits_behind : (passed later : List Test) (fault : UcdFault) → FitsNone passed → first_that_fits (passed ++ (true, fault) ∷ later) ≡ Some fault
-fits_behind [] later fault h = refl
-fits_behind (test ∷ passed) later fault h =
-    ap (λ t. cond t (Some test.1) (first_that_fits (passed ++ (true, fault) ∷ later))) (All-head passes test passed h)
-    ∙ fits_behind passed later fault (All-tail passes test passed h)
-
-fits_first : (tests : List Test) (fault : UcdFault) → IsFirstFit tests fault → first_that_fits tests ≡ Some fault
-fits_first tests fault h = ap first_that_fits h.stands ∙ fits_behind h.passed h.later fault h.first
+use Rattle.np_code_points.specs.Lines.{Numbered}
+use Rattle.np_code_points.specs.inside.LineCuts.{data_lines_in}
+use Rattle.np_code_points.proofs.DataLineGrammar.{are_data_lines, only_data_lines}
+use Rattle.np_code_points.proofs.Elements.{contains_middle, greatest_front}
+use Rattle.np_ucd.specs.Faults.{line_of}
+use Rattle.np_ucd.specs.Fields.{Fields, IsFirstName}
+use Rattle.np_ucd.specs.FirstFaults.{IsLastOf, IsFaultAt, HasNoFaultAt, IsOpenAtEnd, IsFirstFault, HasNoFault}
+use Rattle.np_ucd.specs.Tests.{UcdFault, RangeOpen, IsFaultOf, Fits}
+use Rattle.np_ucd.specs.inside.FileReading.{end_fault, fault_after, first_fault}
+use Rattle.np_ucd.specs.inside.RecordReading.{Neighbour, field, neighbour_of, opens, record_fault}
+use Rattle.np_ucd.proofs.FieldGrammar.{fields_in, only_has, opens_said, opens_read}
+use Rattle.np_ucd.proofs.TestGrammar.{Match, matches, found, least, nothing_fits, read_fine}
 
 -- The neighbour of the record that stands behind these.
 abbrev pub as_neighbour : Numbered → Option Neighbour
@@ -65,20 +26,6 @@ behind b (r ∷ records) = behind (as_neighbour r) records
 pub behind_last : (b : Option Neighbour) (front : List Numbered) (last : Numbered) → behind b (front ++ last ∷ []) ≡ as_neighbour last
 behind_last b [] last = refl
 behind_last b (r ∷ front) last = behind_last (as_neighbour r) front last
-
-behind_some : (front : List Numbered) (r : Numbered) (records : List Numbered) → IsNeighbourBehind (front ++ r ∷ records) (behind (as_neighbour r) records)
-behind_some front r [] = (front, r, refl, refl)
-behind_some front r (s ∷ records) =
-    subst (λ all. IsNeighbourBehind all (behind (as_neighbour s) records)) (append_assoc front (r ∷ []) (s ∷ records))
-    (behind_some (front ++ r ∷ []) s records)
-
-pub is_behind : (before : List Numbered) → IsNeighbourBehind before (behind None before)
-is_behind [] = refl
-is_behind (r ∷ records) = behind_some [] r records
-
-pub only_behind : (before : List Numbered) (neighbour : Option Neighbour) → IsNeighbourBehind before neighbour → neighbour ≡ behind None before
-only_behind before None h = sym (ap (behind None) h)
-only_behind before (Some n) h = ap Some h.3 ∙ sym (behind_last None h.0 h.1) ∙ ap (behind None) (sym h.2)
 
 -- No record of these has a fault, where they stand behind a neighbour.
 abbrev pub fault_behind : Option Neighbour → List Numbered → Numbered → Option UcdFault
@@ -96,38 +43,6 @@ each_fine : (b : Option Neighbour) (records : List Numbered) → ((before : List
 each_fine b [] h = tt
 each_fine b (r ∷ records) h =
     (h [] r records refl, each_fine (as_neighbour r) records (λ before s after e. h (r ∷ before) s after (ap (λ rs. r ∷ rs) e)))
-
-no_fault : (b : Option Neighbour) (r : Numbered) → FitsNone (record_tests b r.line r.text) → record_fault b r.line r.text ≡ None
-unfolding record_fault
-no_fault b r h = fits_none (record_tests b r.line r.text) h
-
-pub no_test : (b : Option Neighbour) (r : Numbered) → record_fault b r.line r.text ≡ None → FitsNone (record_tests b r.line r.text)
-unfolding record_fault
-no_test b r h = none_fits (record_tests b r.line r.text) h
-
-one_test : (b : Option Neighbour) (r : Numbered) (fault : UcdFault) → record_fault b r.line r.text ≡ Some fault → IsFirstFit (record_tests b r.line r.text) fault
-unfolding record_fault
-one_test b r fault h = first_fit (record_tests b r.line r.text) fault h
-
-one_fault : (b : Option Neighbour) (r : Numbered) (fault : UcdFault) → IsFirstFit (record_tests b r.line r.text) fault → record_fault b r.line r.text ≡ Some fault
-unfolding record_fault
-one_fault b r fault h = fits_first (record_tests b r.line r.text) fault h
-
--- the tests behind these are those behind the neighbour that is computed
-the_tests : (before : List Numbered) (r : Numbered) (tests : List Test) → AreTestsBehind before r tests → tests ≡ record_tests (behind None before) r.line r.text
-the_tests before r tests h = h.2 ∙ ap (λ b. record_tests b r.line r.text) (only_behind before h.0 h.1)
-
-are_tests : (before : List Numbered) (r : Numbered) → AreTestsBehind before r (record_tests (behind None before) r.line r.text)
-are_tests before r = (behind None before, is_behind before, refl)
-
-pub faultless_fine : (records : List Numbered) → AreFaultless records → FineFrom None records
-faultless_fine records h =
-    each_fine None records (λ before r after e. no_fault (behind None before) r (h before r after _ e (are_tests before r)))
-
-pub fine_faultless : (records : List Numbered) → FineFrom None records → AreFaultless records
-fine_faultless records fine before r after tests e h =
-    subst FitsNone (sym (the_tests before r tests h))
-    (no_test (behind None before) r (fine_each None before r after (subst (FineFrom None) e fine)))
 
 -- The first fault, from the records before it or from the end.
 record Faulty (b : Option Neighbour) (records : List Numbered) : Type 0 where
@@ -193,95 +108,178 @@ open_fault : (t : Bool) (line : ℕ) (fault : UcdFault) → cond t (Some (RangeO
 open_fault true line fault h = (refl, cc)
 open_fault false line fault h = absurd (cc)
 
-closed_end : (t : Bool) (line : ℕ) → cond t (Some (RangeOpen line)) None ≡ None → t ≡ false
-closed_end true line h = absurd (cc)
-closed_end false line h = refl
+-- The record before, as the fields say it and as the code keeps it.
+last_fine : (b : Option Neighbour) (front : List Numbered) (last : Numbered) → FineFrom b (front ++ last ∷ []) → fault_behind b front last ≡ None
+last_fine b front last h = fine_each b front last [] h
 
-fault_of_end : (records : List Numbered) (fault : UcdFault) → FineFrom None records → HasLast records → end_fault (behind None records) ≡ Some fault → IsFaultOfEnd records fault
-fault_of_end records fault fine split h =
-    let at = open_fault (opens split.last.text) split.last.line fault (sym (end_behind records split.front split.last split.stands) ∙ h) in
+neighbour_matches : (before : List Numbered) (nb : Option Fields) → FineFrom None before → IsLastOf before nb → Match (behind None before) nb
+neighbour_matches before None fine h = subst (λ rs. Match (behind None rs) None) (sym h) tt
+neighbour_matches before (Some f) fine h =
+    let front = h.0 in
+    let last = h.1 in
+    let is : behind None before ≡ as_neighbour last = ap (behind None) h.2 ∙ behind_last None front last in
+    let r = read_fine (behind None front) last.line last.text (last_fine None front last (subst (FineFrom None) h.2 fine)) in
+    subst (λ b. Match b (Some f)) (sym is)
+    (subst (λ g. Match (as_neighbour last) (Some g)) (sym (only_has last.text f h.3)) (matches last.line last.text r))
+
+last_split : (before : List Numbered) → FineFrom None before → HasLast before → (nb : Option Fields) × IsLastOf before nb
+last_split before fine split =
+    let r = read_fine (behind None split.front) split.last.line split.last.text (last_fine None split.front split.last (subst (FineFrom None) split.stands fine)) in
+    (Some (fields_in split.last.text), (split.front, split.last, split.stands, r.has))
+
+pub has_neighbour : (before : List Numbered) → FineFrom None before → (nb : Option Fields) × IsLastOf before nb
+has_neighbour [] fine = (None, refl)
+has_neighbour (r ∷ before) fine = last_split (r ∷ before) fine (last_of [] r before)
+
+-- A fault at a record whose predecessors have none.
+fine_front : (b : Option Neighbour) (before after : List Numbered) → FineFrom b (before ++ after) → FineFrom b before
+fine_front b [] after h = tt
+fine_front b (r ∷ before) after h = (h.0, fine_front (as_neighbour r) before after h.1)
+
+fine_unfit : (before : List Numbered) (r : Numbered) (behind' : List Numbered) (nb : Option Fields) (fault : UcdFault) → FineFrom None (before ++ r ∷ behind') → IsLastOf before nb → Fits fault nb r.text → ⊥
+fine_unfit before r behind' nb fault fine is fits =
+    nothing_fits (behind None before) nb r.line r.text fault
+    (neighbour_matches before nb (fine_front None before (r ∷ behind') fine) is) (fine_each None before r behind' fine) fits
+
+fault_of : (before : List Numbered) (r : Numbered) (nb : Option Fields) (fault : UcdFault) → FineFrom None before → IsLastOf before nb → fault_behind None before r ≡ Some fault → IsFaultOf nb r fault
+fault_of before r nb fault fine is h =
+    let m = neighbour_matches before nb fine is in
+    let named = found (behind None before) nb r.line r.text fault m h in
+    record { line = named.0; fits = named.1; least = λ other fits. least (behind None before) nb r.line r.text fault other m h fits }
+
+fault_at : (bytes : List ℕ) (before : List Numbered) (r : Numbered) (after : List Numbered) (fault : UcdFault) → data_lines_in bytes ≡ before ++ r ∷ after → FineFrom None before → fault_behind None before r ≡ Some fault → IsFaultAt bytes r.line fault
+fault_at bytes before r after fault stands fine h =
+    let nb = has_neighbour before fine in
     record {
+      records = data_lines_in bytes;
+      are = are_data_lines bytes;
+      before = before;
+      faulty = r;
+      behind = after;
+      stands = stands;
+      neighbour = nb.0;
+      is_neighbour = nb.1;
+      at = refl;
+      fault_of = fault_of before r nb.0 fault fine nb.1 h;
+    }
+
+-- A list cut at two places.
+record Within (front xs : List Numbered) (y : Numbered) : Type 0 where
+  rest : List Numbered
+  is : front ≡ xs ++ y ∷ rest
+
+cut_twice : (front : List Numbered) (x : Numbered) (back xs : List Numbered) (y : Numbered) (ys : List Numbered) → front ++ x ∷ back ≡ xs ++ y ∷ ys → Within front xs y ⊎ ((more : List Numbered) × (xs ++ y ∷ [] ≡ front ++ x ∷ more))
+cut_twice [] x back [] y ys e = let same : x ≡ y = cc in inr ([], ap (λ z. z ∷ []) (sym same))
+cut_twice [] x back (z ∷ xs) y ys e = let same : x ≡ z = cc in inr (xs ++ y ∷ [], ap (λ w. w ∷ xs ++ y ∷ []) (sym same))
+cut_twice (f ∷ front) x back [] y ys e = let same : f ≡ y = cc in inl (record { rest = front; is = ap (λ w. w ∷ front) same })
+cut_twice (f ∷ front) x back (z ∷ xs) y ys e =
+    let same : f ≡ z = cc in
+    let rest : front ++ x ∷ back ≡ xs ++ y ∷ ys = cc in
+    ⊎_elim
+    (λ (w : Within front xs y). inl (record { rest = w.rest; is = ap (λ fs. f ∷ fs) w.is ∙ ap (λ w'. w' ∷ xs ++ y ∷ w.rest) same }))
+    (λ more. inr (more.0, ap (λ w. w ∷ xs ++ y ∷ []) (sym same) ∙ ap (λ r. f ∷ r) more.1))
+    (cut_twice front x back xs y ys rest)
+
+contains_front : (front : List Numbered) (x : Numbered) (more xs : List Numbered) (y : Numbered) → xs ++ y ∷ [] ≡ front ++ x ∷ more → Contains (xs ++ y ∷ []) x
+contains_front front x more xs y e = subst (λ l. Contains l x) (sym e) (contains_middle front x more)
+
+-- A record with a fault, by the grammar, has none before it.
+line_least : (bytes : List ℕ) (before : List Numbered) (r : Numbered) (after : List Numbered) → data_lines_in bytes ≡ before ++ r ∷ after → FineFrom None before → (line : ℕ) (other : UcdFault) → IsFaultAt bytes line other → r.line ≤ line
+line_least bytes before r after stands fine line other o =
+    let same : data_lines_in bytes ≡ o.before ++ o.faulty ∷ o.behind = sym (only_data_lines bytes o.records o.are) ∙ o.stands in
+    ⊎_elim
+    (λ (w : Within before o.before o.faulty).
+    absurd (fine_unfit o.before o.faulty w.rest o.neighbour other (subst (FineFrom None) w.is fine) o.is_neighbour o.fault_of.fits))
+    (λ more.
+    let l : r.line ≤ o.faulty.line =
+    greatest_front Numbered (λ k. k.line) o.before o.faulty o.behind r
+    (subst (λ ls. AllPairs (λ (j k : Numbered). j.line < k.line) ls) same (are_data_lines bytes).rise)
+    (contains_front before r more.0 o.before o.faulty more.1) in
+    omega (arith, o.at))
+    (cut_twice before r after o.before o.faulty o.behind (sym stands ∙ same))
+
+no_fault_at : (bytes : List ℕ) → FineFrom None (data_lines_in bytes) → HasNoFaultAt bytes
+no_fault_at bytes fine line other o =
+    let same : data_lines_in bytes ≡ o.before ++ o.faulty ∷ o.behind = sym (only_data_lines bytes o.records o.are) ∙ o.stands in
+    fine_unfit o.before o.faulty o.behind o.neighbour other (subst (FineFrom None) same fine) o.is_neighbour o.fault_of.fits
+
+-- The end.
+open_end : (bytes : List ℕ) (fault : UcdFault) → FineFrom None (data_lines_in bytes) → HasLast (data_lines_in bytes) → end_fault (behind None (data_lines_in bytes)) ≡ Some fault → IsOpenAtEnd bytes fault
+open_end bytes fault fine split h =
+    let at = open_fault (opens split.last.text) split.last.line fault (sym (end_behind (data_lines_in bytes) split.front split.last split.stands) ∙ h) in
+    let r = read_fine (behind None split.front) split.last.line split.last.text (last_fine None split.front split.last (subst (FineFrom None) split.stands fine)) in
+    record {
+      records = data_lines_in bytes;
+      are = are_data_lines bytes;
       front = split.front;
       last = split.last;
       stands = split.stands;
-      faultless = fine_faultless records fine;
-      opens = at.0;
+      fields = fields_in split.last.text;
+      has = r.has;
+      opens = opens_said (field 1 split.last.text) at.0;
       is = at.1;
     }
 
-end_some : (records : List Numbered) (fault : UcdFault) → FineFrom None records → end_fault (behind None records) ≡ Some fault → IsFaultOfEnd records fault
-end_some [] fault fine h = absurd (cc)
-end_some (r ∷ records) fault fine h = fault_of_end (r ∷ records) fault fine (last_of [] r records) h
+some_last : (records : List Numbered) (fault : UcdFault) → end_fault (behind None records) ≡ Some fault → HasLast records
+some_last [] fault h = absurd (cc)
+some_last (r ∷ records) fault h = last_of [] r records
 
-fault_of_record : (records : List Numbered) (fault : UcdFault) (h : Faulty None records) → h.fault ≡ fault → IsFaultOfRecord records fault
-fault_of_record records fault h same = record {
-  before = h.before;
-  faulty = h.faulty;
-  behind = h.after;
-  tests = record_tests (behind None h.before) h.faulty.line h.faulty.text;
-  stands = h.stands;
-  first = fine_faultless h.before h.fine;
-  are_tests = are_tests h.before h.faulty;
-  fits = one_test (behind None h.before) h.faulty fault (h.has ∙ ap Some same);
-}
+closed : (bytes : List ℕ) → end_fault (behind None (data_lines_in bytes)) ≡ None → (fault : UcdFault) → IsOpenAtEnd bytes fault → ⊥
+closed bytes h fault o =
+    let same : data_lines_in bytes ≡ o.front ++ o.last ∷ [] = sym (only_data_lines bytes o.records o.are) ∙ o.stands in
+    let opening : opens o.last.text ≡ true = opens_read (field 1 o.last.text) (subst (λ (f : Fields). IsFirstName f.name) (only_has o.last.text o.fields o.has) o.opens) in
+    let some = sym h ∙ end_behind (data_lines_in bytes) o.front o.last same ∙ ap (λ t. cond t (Some (RangeOpen o.last.line)) None) opening in
+    absurd (cc)
 
+-- The answers.
 record_answer : (records : List Numbered) (h : Faulty None records) → fault_after None records ≡ Some h.fault
 record_answer records h = ap (fault_after None) h.stands ∙ at_record None h.before h.faulty h.after h.fault h.fine h.has
 
--- Both answers.
-to_grammar : (records : List Numbered) (fault : UcdFault) → fault_after None records ≡ Some fault → IsFaultOfRecord records fault ⊎ IsFaultOfEnd records fault
-to_grammar records fault h =
+to_first : (bytes : List ℕ) (fault : UcdFault) → fault_after None (data_lines_in bytes) ≡ Some fault → IsFirstFault bytes fault
+to_first bytes fault h =
     ⊎_elim
-    (λ (f : Faulty None records). inl (let both = sym (record_answer records f) ∙ h in let same : f.fault ≡ fault = cc in fault_of_record records fault f same))
-    (λ fine. inr (end_some records fault fine (sym (at_end None records fine) ∙ h)))
-    (outcome None records)
+    (λ (f : Faulty None (data_lines_in bytes)).
+    let both = sym (record_answer (data_lines_in bytes) f) ∙ h in
+    let same : f.fault ≡ fault = cc in
+    inl (
+      f.faulty.line,
+      fault_at bytes f.before f.faulty f.after fault f.stands f.fine (f.has ∙ ap Some same),
+      line_least bytes f.before f.faulty f.after f.stands f.fine,
+    ))
+    (λ fine.
+    let e = sym (at_end None (data_lines_in bytes) fine) ∙ h in
+    inr (no_fault_at bytes fine, open_end bytes fault fine (some_last (data_lines_in bytes) fault e) e))
+    (outcome None (data_lines_in bytes))
 
-from_record : (records : List Numbered) (fault : UcdFault) → IsFaultOfRecord records fault → fault_after None records ≡ Some fault
-from_record records fault h =
-    let fits = subst (λ tests. IsFirstFit tests fault) (the_tests h.before h.faulty h.tests h.are_tests) h.fits in
-    ap (fault_after None) h.stands
-    ∙ at_record None h.before h.faulty h.behind fault (faultless_fine h.before h.first) (one_fault (behind None h.before) h.faulty fault fits)
-
-from_end : (records : List Numbered) (fault : UcdFault) → IsFaultOfEnd records fault → fault_after None records ≡ Some fault
-from_end records fault h =
-    at_end None records (faultless_fine records h.faultless)
-    ∙ end_behind records h.front h.last h.stands
-    ∙ ap (λ t. cond t (Some (RangeOpen h.last.line)) None) h.opens
-    ∙ ap Some (sym h.is)
-
-pub names_first_fault : NamesFirstFault
+pub first_fault_is : (bytes : List ℕ) (fault : UcdFault) → first_fault bytes ≡ Some fault → IsFirstFault bytes fault
 unfolding first_fault
-names_first_fault bytes fault = (
-  to_grammar (records_in bytes) fault,
-  λ h. ⊎_elim (from_record (records_in bytes) fault) (from_end (records_in bytes) fault) h,
-)
+first_fault_is bytes fault h = to_first bytes fault h
 
--- No fault.
-fine_all : (records : List Numbered) → fault_after None records ≡ None → FineFrom None records
-fine_all records h =
-    ⊎_elim (λ (f : Faulty None records). let both = sym (record_answer records f) ∙ h in absurd (cc)) (λ fine. fine) (outcome None records)
-
-without_fault : (bytes : List ℕ) → fault_after None (records_in bytes) ≡ None → IsWithoutFault bytes
-without_fault bytes h =
-    let fine = fine_all (records_in bytes) h in
-    record {
-      faultless = fine_faultless (records_in bytes) fine;
-      closed = λ front last e. closed_end (opens last.text) last.line
-          (sym (end_behind (records_in bytes) front last e) ∙ sym (at_end None (records_in bytes) fine) ∙ h);
-    }
-
-closed_last : (records : List Numbered) → HasLast records → ((front : List Numbered) (last : Numbered) → records ≡ front ++ last ∷ [] → opens last.text ≡ false) → end_fault (behind None records) ≡ None
-closed_last records split h =
-    end_behind records split.front split.last split.stands
-    ∙ ap (λ t. cond t (Some (RangeOpen split.last.line)) None) (h split.front split.last split.stands)
-
-closed_none : (records : List Numbered) → ((front : List Numbered) (last : Numbered) → records ≡ front ++ last ∷ [] → opens last.text ≡ false) → end_fault (behind None records) ≡ None
-closed_none [] h = refl
-closed_none (r ∷ records) h = closed_last (r ∷ records) (last_of [] r records) h
-
-pub takes_faultless : TakesTheFaultless
+pub fine_all : (bytes : List ℕ) → first_fault bytes ≡ None → FineFrom None (data_lines_in bytes)
 unfolding first_fault
-takes_faultless bytes = (
-  without_fault bytes,
-  λ h. at_end None (records_in bytes) (faultless_fine (records_in bytes) h.faultless) ∙ closed_none (records_in bytes) h.closed,
-)
+fine_all bytes h =
+    ⊎_elim (λ (f : Faulty None (data_lines_in bytes)). let both = sym (record_answer (data_lines_in bytes) f) ∙ h in absurd (cc)) (λ fine. fine)
+    (outcome None (data_lines_in bytes))
+
+closed_end : (bytes : List ℕ) → first_fault bytes ≡ None → end_fault (behind None (data_lines_in bytes)) ≡ None
+unfolding first_fault
+closed_end bytes h = sym (at_end None (data_lines_in bytes) (fine_all bytes h)) ∙ h
+
+pub faultless : (bytes : List ℕ) → first_fault bytes ≡ None → HasNoFault bytes
+faultless bytes h = record { records = no_fault_at bytes (fine_all bytes h); end = closed bytes (closed_end bytes h) }
+
+pub first_lined : (bytes : List ℕ) (e : UcdFault) → IsFirstFault bytes e → is_some (line_of e) ≡ true
+first_lined bytes e h =
+    ⊎_elim (λ at. ap is_some at.1.fault_of.line) (λ end. ap (λ f. is_some (line_of f)) end.1.is) h
+
+-- No first fault stands beside none.
+pub not_both : (bytes : List ℕ) → HasNoFault bytes → (fault : UcdFault) → IsFirstFault bytes fault → ⊥
+not_both bytes h fault is =
+    ⊎_elim (λ at. h.records at.0 fault at.1) (λ end. h.end fault end.1) is
+
+none_step : (bytes : List ℕ) (o : Option UcdFault) → HasNoFault bytes → first_fault bytes ≡ o → o ≡ None
+none_step bytes None h e = refl
+none_step bytes (Some fault) h e = absurd (not_both bytes h fault (first_fault_is bytes fault e))
+
+pub has_none : (bytes : List ℕ) → HasNoFault bytes → first_fault bytes ≡ None
+has_none bytes h = none_step bytes (first_fault bytes) h refl

@@ -1,23 +1,24 @@
 -- From what was read of a record to the tests that fit it.
-use Rattle.std.proofs.Common.{◌≡◌, ◌≢◌, ℕ, Bool, true, false, not, ◌&&◌, ◌||◌, List, [], ◌∷◌, length, get_or, Option, Some, None, is_none, unwrap_or, refl, sym, ap, ◌∙◌, arith}
+use Rattle.std.proofs.Common.{◌≡◌, ◌≢◌, ℕ, Bool, true, false, not, List, [], ◌∷◌, length, get_or, Option, Some, None, is_none, unwrap_or, sym, ap, ◌∙◌, arith}
 use Rattle.std.proofs.lemmas.Bool.{cond-true, cond-false, ne_eqb, eq-eqb}
-use lib.Utf8.{scalar}
 use Rattle.np_code_points.specs.Codes.{code_value}
-use Rattle.np_ucd.specs.Lines.{is_empty, before_byte, after_byte}
-use Rattle.np_ucd.specs.Fields.{fields_of, category_value, class_value, Mapping, mapping_value}
-use Rattle.np_ucd.specs.Records.{FieldCount, BadCode, OutOfOrder, BadCategory, BadClass, BadMapping, Neighbour, field, code_in, category_in, class_in, mapping_in, opens, maps, neighbour_of, is_at_most, has_other_count, has_bad_code, is_out_of_order, has_bad_category, has_bad_class, has_bad_mapping, leaves_range_open, closes_no_range, differs_from, differs_in_range, maps_in_range, record_tests, record_fault, first_code, row_of}
 use Rattle.np_ucd.specs.Entries.{Entry, Plain}
-use Rattle.np_ucd.specs.RecordValues.{IsHead, differs, late_fault}
-use Rattle.np_ucd.proofs.LineLemmas.{split_cut, rest_parts}
+use Rattle.np_code_points.proofs.LineLemmas.{split_cut, rest_parts, is_byte}
+use Rattle.np_code_points.specs.inside.LineCuts.{is_empty, before_byte, after_byte}
+use Rattle.np_ucd.specs.Mappings.{Mapping}
+use Rattle.np_ucd.specs.Tests.{FieldCount, BadCode, OutOfOrder, BadCategory, BadClass, BadMapping}
+use Rattle.np_ucd.specs.inside.FieldReading.{fields_of, category_value, class_value, mapping_value}
+use Rattle.np_ucd.specs.inside.RecordReading.{Neighbour, field, code_in, category_in, class_in, mapping_in, opens, closes, maps, neighbour_of, is_at_most, has_other_count, has_bad_code, is_out_of_order, has_bad_category, has_bad_class, has_unread_mapping, late_tests, first_that_fits, record_tests, record_fault, first_code, row_of}
+use Rattle.np_ucd.specs.inside.RecordValues.{IsHead}
 
 -- The fields, one after another.
 pub fields_some : (xs rest : List ℕ) → after_byte 59 xs ≡ Some rest → fields_of xs ≡ before_byte 59 xs ∷ fields_of rest
 unfolding fields_of
-fields_some xs rest h = split_cut 59 xs ∙ ap (λ o. before_byte 59 xs ∷ rest_parts 59 o) h
+fields_some xs rest h = split_cut (is_byte 59) xs ∙ ap (λ o. before_byte 59 xs ∷ rest_parts (is_byte 59) o) h
 
 pub fields_none : (xs : List ℕ) → after_byte 59 xs ≡ None → length (fields_of xs) ≡ 1
 unfolding fields_of
-fields_none xs h = ap length (split_cut 59 xs ∙ ap (λ o. before_byte 59 xs ∷ rest_parts 59 o) h)
+fields_none xs h = ap length (split_cut (is_byte 59) xs ∙ ap (λ o. before_byte 59 xs ∷ rest_parts (is_byte 59) o) h)
 
 pub fifteen : (text rest a b c d e f : List ℕ) → fields_of text ≡ a ∷ b ∷ c ∷ d ∷ e ∷ f ∷ fields_of rest → length (fields_of rest) ≡ 9 → (length (fields_of text) ≡ 15) × (a ≡ field 0 text) × (b ≡ field 1 text) × (c ≡ field 2 text) × (d ≡ field 3 text) × (f ≡ field 5 text)
 unfolding field
@@ -100,9 +101,13 @@ pub fault_class : (before : Option Neighbour) (line : ℕ) (text : List ℕ) →
 unfolding record_fault record_tests
 fault_class before line text a b c d h = cond-false _ _ _ a ∙ cond-false _ _ _ b ∙ cond-false _ _ _ c ∙ cond-false _ _ _ d ∙ cond-true _ _ _ h
 
-mapping_bad : (text : List ℕ) → mapping_value (field 5 text) ≡ None → has_bad_mapping text ≡ true
-unfolding has_bad_mapping
-mapping_bad text h = ap (λ o. is_none o || (maps text && not (scalar (code_in text)))) h
+mapping_bad : (text : List ℕ) → mapping_value (field 5 text) ≡ None → has_unread_mapping text ≡ true
+unfolding has_unread_mapping
+mapping_bad text h = ap is_none h
+
+mapping_good : (text : List ℕ) (m : Mapping) → mapping_value (field 5 text) ≡ Some m → has_unread_mapping text ≡ false
+unfolding has_unread_mapping
+mapping_good text m h = ap is_none h
 
 pub fault_mapping : (before : Option Neighbour) (line : ℕ) (text : List ℕ) (n : Neighbour) (closing : Bool) (mapping : List ℕ) → IsHead before line text n closing mapping → mapping_value mapping ≡ None → record_fault before line text ≡ Some (BadMapping line)
 unfolding record_fault record_tests
@@ -114,26 +119,17 @@ mapping_is : (text : List ℕ) (m : Mapping) → mapping_value (field 5 text) �
 unfolding mapping_in
 mapping_is text m h = ap (λ o. unwrap_or o (record { kind = Plain; codes = [] })) h
 
-mapping_good : (text : List ℕ) (m : Mapping) (mapped : Bool) → mapping_value (field 5 text) ≡ Some m → mapped ≡ not (is_empty m.codes) → has_bad_mapping text ≡ (mapped && not (scalar (code_in text)))
-unfolding has_bad_mapping
-mapping_good text m mapped h e =
-    ap (λ o. is_none o || (maps text && not (scalar (code_in text)))) h
-    ∙ ap (λ (k : Mapping). not (is_empty k.codes) && not (scalar (code_in text))) (mapping_is text m h)
-    ∙ ap (λ b. b && not (scalar (code_in text))) (sym e)
-
-differs_cases : (before : Option Neighbour) (line : ℕ) (text : List ℕ) → differs_from before text ≡ differs before (neighbour_of line text)
-unfolding neighbour_of
-differs_cases None line text = refl
-differs_cases (Some b) line text = refl
-
 -- what is judged once the mapping is read
-pub fault_late : (before : Option Neighbour) (line : ℕ) (text : List ℕ) (n : Neighbour) (closing : Bool) (mapping : List ℕ) (m : Mapping) (mapped : Bool) → IsHead before line text n closing mapping → mapping_value mapping ≡ Some m → mapped ≡ not (is_empty m.codes) → record_fault before line text ≡ late_fault before n closing mapped
-unfolding record_fault record_tests late_fault neighbour_of leaves_range_open closes_no_range differs_in_range maps_in_range
+pub fault_late : (before : Option Neighbour) (line : ℕ) (text : List ℕ) (n : Neighbour) (closing : Bool) (mapping : List ℕ) (m : Mapping) (mapped : Bool) → IsHead before line text n closing mapping → mapping_value mapping ≡ Some m → mapped ≡ not (is_empty m.codes) → record_fault before line text ≡ first_that_fits (late_tests before n closing mapped)
+unfolding record_fault record_tests
 fault_late before line text n closing mapping m mapped h some e =
     let here : mapping_value (field 5 text) ≡ Some m = ap mapping_value (sym h.mapping_is) ∙ some in
     let maps_is : maps text ≡ mapped = ap (λ (k : Mapping). not (is_empty k.codes)) (mapping_is text m here) ∙ sym e in
     cond-false _ _ _ h.count ∙ cond-false _ _ _ h.code ∙ cond-false _ _ _ h.order ∙ cond-false _ _ _ h.category ∙ cond-false _ _ _ h.class
-    ∙ rw (mapping_good text m mapped here e, differs_cases before line text, maps_is, h.neighbour_is, h.closing_is)
+    ∙ cond-false _ _ _ (mapping_good text m here)
+    ∙ ap (λ o. first_that_fits (late_tests before (neighbour_of line text) (closes text) o)) maps_is
+    ∙ ap (λ c. first_that_fits (late_tests before (neighbour_of line text) c mapped)) (sym h.closing_is)
+    ∙ ap (λ k. first_that_fits (late_tests before k closing mapped)) (sym h.neighbour_is)
 
 -- the row
 pub row_is : (before : Option Neighbour) (line : ℕ) (text : List ℕ) (n : Neighbour) (closing : Bool) (mapping : List ℕ) (m : Mapping) (first : ℕ) → IsHead before line text n closing mapping → mapping_value mapping ≡ Some m → first ≡ first_code before closing n.code → ◌≡◌ {A = Entry} (record { first = first; last = n.code; class = n.class; kind = m.kind; mapping = m.codes }) (row_of before text)

@@ -1,16 +1,22 @@
 -- The rows of a file without a fault are rows in order.
-use Rattle.std.proofs.Common.{◌≡◌, ◌≢◌, ℕ, ◌<◌, ◌≤◌, Bool, true, false, not, ◌&&◌, ◌||◌, cond, eqb, leb, List, [], ◌∷◌, length, Option, Some, None, option_map, is_none, is_some, unwrap_or, IfSome, refl, sym, ap, ◌∙◌, arith}
+use Rattle.std.proofs.Common.{◌≡◌, ◌≢◌, ℕ, ◌<◌, ◌≤◌, Bool, true, false, not, ◌&&◌, ◌||◌, cond, eqb, leb, List, [], ◌∷◌, ◌++◌, length, Option, Some, None, option_map, is_some, unwrap_or, IfSome, refl, sym, ap, ◌∙◌, arith}
 use Rattle.std.specs.Option.{option_and_then, option_or}
 use Rattle.std.specs.List.{list_all}
 use Rattle.std.proofs.lemmas.Bool.{cond-false, true≢false, leb-true, leb-false, and_parts, and_from}
 use lib.Utf8.{scalar}
 use Rattle.np_code_points.specs.Codes.{code_value, is_code}
-use Rattle.np_ucd.specs.Lines.{is_empty, after_byte}
-use Rattle.np_ucd.specs.Fields.{is_class, class_value, scalar_value, if_scalar, scalars_of, words_of, if_short, short_scalars, listed_mapping, Mapping, mapping_at, mapping_value, after_spaces}
-use Rattle.np_ucd.specs.Records.{UcdFault, RangeOpen, Neighbour, field, code_in, class_in, mapping_in, opens, closes, maps, neighbour_of, is_out_of_order, has_bad_mapping, closes_no_range, maps_in_range, first_that_fits, record_tests, record_fault, first_code, row_of}
-use Rattle.np_ucd.specs.Files.{Numbered, end_fault, fault_after, rows_after, first_fault, rows_in, records_in}
 use Rattle.np_ucd.specs.Faults.{line_of}
 use Rattle.np_ucd.specs.Entries.{Entry, HasLength, IsRow, IsBefore, AreRows, Plain, Canonical, Compatibility}
+use Rattle.np_code_points.specs.Lines.{Numbered}
+use Rattle.np_code_points.specs.inside.LineCuts.{data_lines_in, is_empty, after_byte}
+use Rattle.np_code_points.specs.inside.WordCuts.{words_of}
+use Rattle.np_ucd.specs.Mappings.{Mapping}
+use Rattle.np_ucd.specs.Tests.{UcdFault, RangeOpen}
+use Rattle.np_ucd.specs.inside.FieldReading.{is_class, class_value, scalar_value, if_scalar, scalars_of, if_short, short_scalars, listed_mapping, mapping_at, mapping_value}
+use Rattle.np_code_points.specs.declared.words.Dividers.TheVariants.{Spaces}
+use Rattle.np_code_points.specs.inside.WordCuts.{divides, after_all}
+use Rattle.np_ucd.specs.inside.FileReading.{end_fault, fault_after, rows_after, first_fault, rows_in}
+use Rattle.np_ucd.specs.inside.RecordReading.{Neighbour, field, code_in, class_in, mapping_in, opens, closes, maps, neighbour_of, is_open, is_out_of_order, first_that_fits, record_tests, record_fault, first_code, row_of}
 
 -- What the readings of single fields satisfy.
 
@@ -69,7 +75,7 @@ short_step most (Some cs) all =
 
 short_are : (most : ℕ) (text : List ℕ) → IfSome (short_scalars most text) (AreShort most)
 unfolding short_scalars
-short_are most text = short_step most (scalars_of (words_of text)) (scalars_are (words_of text))
+short_are most text = short_step most (scalars_of (words_of Spaces text)) (scalars_are (words_of Spaces text))
 
 -- a mapping that a row may have
 record Fits (m : Mapping) : Type 0 where
@@ -104,14 +110,14 @@ default_fits (Some m) h = h
 
 mapping_fits : (text : List ℕ) → Fits (mapping_in text)
 unfolding mapping_in mapping_value
-mapping_fits text = default_fits (mapping_at (after_spaces (field 5 text))) (mapping_fits_at (after_spaces (field 5 text)))
+mapping_fits text = default_fits (mapping_at (after_all (divides Spaces) (field 5 text))) (mapping_fits_at (after_all (divides Spaces) (field 5 text)))
 
 -- What a record without a fault satisfies.
 record Passes (before : Option Neighbour) (text : List ℕ) : Type 0 where
   order : is_out_of_order before text ≡ false
-  mapping : has_bad_mapping text ≡ false
-  closing : closes_no_range before text ≡ false
-  alone : maps_in_range text ≡ false
+  mapping : (maps text && not (scalar (code_in text))) ≡ false
+  closing : (closes text && not (is_open before)) ≡ false
+  alone : ((opens text || closes text) && maps text) ≡ false
 
 abbrev AllFalse : List (Bool × UcdFault) → Type 0
 AllFalse [] = Unit {0}
@@ -128,10 +134,10 @@ none_fits (test ∷ tests) h =
     (step.0, none_fits tests step.1)
 
 passes : (before : Option Neighbour) (line : ℕ) (text : List ℕ) → record_fault before line text ≡ None → Passes before text
-unfolding record_fault record_tests
+unfolding record_fault record_tests neighbour_of
 passes before line text h =
     let all = none_fits (record_tests before line text) h in
-    record { order = all.1.1.0; mapping = all.1.1.1.1.1.0; closing = all.1.1.1.1.1.1.1.0; alone = all.1.1.1.1.1.1.1.1.1.0 }
+    record { order = all.1.1.0; mapping = all.1.1.1.1.1.1.0; closing = all.1.1.1.1.1.1.1.1.0; alone = all.1.1.1.1.1.1.1.1.1.1.0 }
 
 not_true : (t : Bool) → not t ≡ false → t ≡ true
 not_true true e = refl
@@ -155,16 +161,14 @@ has_some (c ∷ cs) h = refl
 
 -- a record that maps ends no range, and is no surrogate
 maps_alone : (before : Option Neighbour) (text : List ℕ) → Passes before text → ((mapping_in text).codes ≢ []) → closes text ≡ false
-unfolding maps_in_range
 maps_alone before text p h =
     let mapped : maps text ≡ true = has_some (mapping_in text).codes h in
     or_right_false (opens text) (closes text) (flipped (opens text || closes text) (maps text) p.alone mapped)
 
 maps_scalar : (before : Option Neighbour) (text : List ℕ) → Passes before text → ((mapping_in text).codes ≢ []) → scalar (code_in text) ≡ true
-unfolding has_bad_mapping
 maps_scalar before text p h =
     let mapped : maps text ≡ true = has_some (mapping_in text).codes h in
-    not_true (scalar (code_in text)) (both_false (maps text) (not (scalar (code_in text))) (or_right_false (is_none (mapping_value (field 5 text))) _ p.mapping) mapped)
+    not_true (scalar (code_in text)) (both_false (maps text) (not (scalar (code_in text))) p.mapping mapped)
 
 first_alone : (before : Option Neighbour) (closing : Bool) (code : ℕ) → closing ≡ false → first_code before closing code ≡ code
 first_alone None closing code e = refl
@@ -226,7 +230,6 @@ first_above_at true opening n low high e l ranged shut = closed_above true openi
 first_above_at false opening n low high e l ranged shut = let k = below_either opening n low ranged shut in omega arith
 
 first_above : (b : Neighbour) (text : List ℕ) (n : ℕ) → Passes (Some b) text → (b.opens ≡ true → n < b.code) → (b.opens ≡ false → n ≤ b.code) → n < first_code (Some b) (closes text) (code_in text)
-unfolding closes_no_range
 first_above b text n p ranged shut = first_above_at (closes text) (b.opens) n b.code (code_in text) p.closing (later b text p) ranged shut
 
 first_is_above : (b : Neighbour) (text : List ℕ) (n : ℕ) → Passes (Some b) text → (b.opens ≡ true → n < b.code) → (b.opens ≡ false → n ≤ b.code) → n < (row_of (Some b) text).first
@@ -237,7 +240,7 @@ last_is : (before : Option Neighbour) (line : ℕ) (text : List ℕ) → (row_of
 unfolding row_of neighbour_of
 last_is before line text = omega arith
 
-above_step : (t : Bool) (n : ℕ) (row : Entry) (rows : List Entry) → (t ≡ true → IsAbove n rows) → (t ≡ false → n < row.first) → IsAbove n (cond t rows (row ∷ rows))
+above_step : (t : Bool) (n : ℕ) (row : Entry) (rows : List Entry) → (t ≡ true → IsAbove n rows) → (t ≡ false → n < row.first) → IsAbove n (cond t [] (row ∷ []) ++ rows)
 above_step true n row rows h k = h refl
 above_step false n row rows h k = k refl
 
@@ -264,7 +267,7 @@ rows_above b n (r ∷ records) h ranged shut =
     (λ _. rows_above next n records (or_right_none _ _ h) (λ _. l) (λ _. omega arith))
     (λ _. first_is_above b r.text n p ranged shut)
 
-rows_step : (t : Bool) (row : Entry) (rows : List Entry) → AreRows rows → (t ≡ false → IsRow row × IsBefore row rows) → AreRows (cond t rows (row ∷ rows))
+rows_step : (t : Bool) (row : Entry) (rows : List Entry) → AreRows rows → (t ≡ false → IsRow row × IsBefore row rows) → AreRows (cond t [] (row ∷ []) ++ rows)
 rows_step true row rows h k = h
 rows_step false row rows h k = ((k refl).0, (k refl).1, h)
 
@@ -288,7 +291,7 @@ rows_good before (r ∷ records) h =
 -- the rows of a file without a fault are rows in order
 pub rows_are : (bytes : List ℕ) → first_fault bytes ≡ None → AreRows (rows_in bytes)
 unfolding first_fault rows_in
-rows_are bytes h = rows_good None (records_in bytes) h
+rows_are bytes h = rows_good None (data_lines_in bytes) h
 
 -- The first fault of a file has a line.
 abbrev HasLine : UcdFault → Type 0
@@ -307,9 +310,9 @@ first_has_line [] all = tt
 first_has_line (test ∷ tests) all = line_step test.0 test.1 (first_that_fits tests) all.0 (first_has_line tests all.1)
 
 record_has_line : (before : Option Neighbour) (line : ℕ) (text : List ℕ) → IfSome (record_fault before line text) HasLine
-unfolding record_fault record_tests
+unfolding record_fault record_tests neighbour_of
 record_has_line before line text =
-    first_has_line (record_tests before line text) (refl, (refl, (refl, (refl, (refl, (refl, (refl, (refl, (refl, (refl, tt))))))))))
+    first_has_line (record_tests before line text) (refl, (refl, (refl, (refl, (refl, (refl, (refl, (refl, (refl, (refl, (refl, tt)))))))))))
 
 or_has_line : (x y : Option UcdFault) → IfSome x HasLine → IfSome y HasLine → IfSome (option_or x y) HasLine
 or_has_line None y h k = k
@@ -332,4 +335,4 @@ fault_has_line before (r ∷ records) =
 
 pub first_line : (bytes : List ℕ) → IfSome (first_fault bytes) (λ e. is_some (line_of e) ≡ true)
 unfolding first_fault
-first_line bytes = fault_has_line None (records_in bytes)
+first_line bytes = fault_has_line None (data_lines_in bytes)

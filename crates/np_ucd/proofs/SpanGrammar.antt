@@ -5,14 +5,13 @@ use Rattle.std.specs.Option.{option_and_then}
 use Rattle.std.proofs.lemmas.Bool.{false≢true, eqb-true, leb-true, le-leb, cond-true, and_parts}
 use Rattle.std.proofs.lemmas.List.Elements.{All-nil, All-cons}
 use Rattle.np_code_points.specs.Codes.{is_hex_digit, is_code, code_value}
-use Rattle.np_ucd.specs.ExclusionGrammar.{SaysText, IsOneCode, IsCodeRange, ListsNothing, ListsSpan, IsReadable}
-use Rattle.np_ucd.specs.Exclusions.{entry_text, if_rising, span_between, span_at, span_value, line_spans}
-use Rattle.np_ucd.specs.Grammar.{HasNo}
-use Rattle.np_ucd.specs.Laws.{ReadsLines}
-use Rattle.np_ucd.specs.Lines.{before_byte, after_byte, is_empty}
+use Rattle.np_ucd.specs.Exclusions.{SaysText, IsOneCode, IsCodeRange, ListsNothing, ListsSpan, IsReadable}
 use Rattle.np_ucd.specs.Listed.{Span}
-use Rattle.np_ucd.proofs.LineGrammar.{not_byte, joined_some, joined_none, before_at, after_at, after_none}
 use Rattle.np_ucd.proofs.TextGrammar.{says_text, only_says}
+use Rattle.np_code_points.proofs.LineGrammar.{not_byte, joined_some, joined_none, before_at, after_at, after_none}
+use Rattle.np_code_points.specs.Lines.{HasNo}
+use Rattle.np_code_points.specs.inside.LineCuts.{before_byte, after_byte, is_empty}
+use Rattle.np_ucd.specs.inside.ExclusionReading.{entry_text, if_rising, span_between, span_at, span_value, line_spans}
 
 -- A code point's digits hold no '.'.
 no_dot_digits : (xs : List ℕ) → list_all is_hex_digit xs ≡ true → HasNo 46 xs
@@ -172,10 +171,3 @@ not_bad line bad h =
 
 pub unread : (line : List ℕ) → (IsReadable line → ⊥) → line_spans line ≡ None
 unread line h = ⊎_elim (λ bad. bad) (λ readable. absurd (h readable)) (bad_or_readable line)
-
-pub reads_lines : ReadsLines
-reads_lines line = record {
-  nothing = (lists_nothing line, nothing_listed line);
-  one = λ span. (lists_span line span, span_listed line span);
-  bad = (not_bad line, unread line);
-}

@@ -10,7 +10,7 @@ use Rattle.std.proofs.lemmas.Bool.{leb-true, leb-false, le-leb, lt-leb, le-ltb, 
 use Rattle.std.proofs.lemmas.Bool.Decides.{nat_tests}
 use Rattle.np_ucd.specs.declared.exclusions.Listing.{Listing}
 use Rattle.np_ucd.specs.Listed.{is_listed}
-use Rattle.np_ucd.specs.SpanValues.{span_of, raised, AreRising}
+use Rattle.np_ucd.specs.inside.SpanValues.{span_of, raised, AreRising}
 
 abbrev within : ℕ → ℕ → ℕ → Bool
 within first last c = leb first c && leb c last

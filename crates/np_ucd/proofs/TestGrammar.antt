@@ -1,207 +1,442 @@
--- No test fits a record exactly where it is well formed.
-use Rattle.std.proofs.Common.{◌≡◌, ◌≢◌, ℕ, Bool, true, false, not, ◌&&◌, ◌||◌, eqb, List, [], ◌∷◌, Option, Some, None, is_none, refl, sym, ap, subst, ◌∙◌, inl, inr, ⊎_elim, arith}
+-- The test that names a record's fault is the least that fits it; where none does, none fits.
+use Rattle.std.proofs.Common.{◌≡◌, ◌≢◌, ℕ, ◌<◌, ◌≤◌, ◌⊎◌, Bool, true, false, not, ◌&&◌, ◌||◌, cond, eqb, leb, List, [], ◌∷◌, Option, Some, None, is_none, unwrap_or, refl, sym, ap, subst, ◌∙◌, inl, inr, ⊎_elim, arith}
+use Rattle.std.specs.List.{Contains}
 use Rattle.std.specs.Str.{bytes_eq}
 use lib.Utf8.{scalar}
-use Rattle.std.proofs.lemmas.Bool.{false≢true, true≢false, eqb-true, eq-eqb, leb-false, lt-leb, not-false, not_from_true, and_left, and_right, or_parts, or_from, cases_Bool}
+use Rattle.std.proofs.lemmas.Bool.{false≢true, true≢false, both_ways, eqb-true, eq-eqb, leb-true, leb-false, not-false, and_parts, or_cases, or_left, or_right, cases_lt, false_from_ne_true}
 use Rattle.std.proofs.lemmas.Slice.Eq.{bytes_eq-Decides}
-use Rattle.std.proofs.lemmas.List.Elements.{All-nil, All-cons}
-use Rattle.np_ucd.specs.FaultGrammar.{FitsNone}
-use Rattle.np_ucd.specs.Fields.{category_value, mapping_value, closes_range}
-use Rattle.np_ucd.specs.Laws.{PassesTheWellFormed}
-use Rattle.np_ucd.specs.Lines.{is_empty}
-use Rattle.np_ucd.specs.Records.{UcdFault, RangeOpen, Neighbour, field, code_in, category_in, class_in, mapping_in, opens, closes, maps, is_at_most, is_out_of_order, has_bad_category, has_bad_mapping, leaves_range_open, closes_no_range, differs_from, differs_in_range, maps_in_range, record_tests}
-use Rattle.np_ucd.specs.TestGrammar.{IsAbove, MapsAlone, KeepsRange, IsWellFormed}
-use Rattle.np_ucd.proofs.FieldGrammar.{count_is, said, code_said, class_said, mapping_said, has_fields, fields_are, category_are, fifteen_are}
-use Rattle.np_ucd.proofs.RecordLemmas.{count_good, code_good, code_is, order_is, category_good, category_is, class_good, class_is}
-use Rattle.np_ucd.proofs.RowGrammar.{mapping_from, open_before}
+use Rattle.np_code_points.specs.Codes.{code_value}
+use Rattle.np_code_points.specs.inside.LineCuts.{is_empty}
+use Rattle.np_code_points.proofs.Elements.{contains_cases, contains_none}
+use Rattle.np_ucd.specs.Faults.{line_of}
+use Rattle.np_ucd.specs.Fields.{Fields, HasFields, IsCodeOf, IsCategory, IsClassOf}
+use Rattle.np_ucd.specs.Mappings.{Mapping, IsMapping}
+use Rattle.np_ucd.specs.Tests.{UcdFault, FieldCount, BadCode, OutOfOrder, BadCategory, BadClass, BadMapping, RangeOpen, RangeLone, RangeDiffers, RangeMaps, HasBadCode, IsOutOfOrder, HasBadCategory, HasBadClass, HasBadMapping, Maps, MapsInRange, LeavesRangeOpen, ClosesNoRange, DiffersInRange, Says, SaysBehind, Fits, test_of}
+use Rattle.np_ucd.specs.declared.faults.UcdFault.TheVariants.{TooLarge, ReadFailed, Memory}
+use Rattle.np_ucd.specs.inside.FieldReading.{category_value, class_value, mapping_value, opens_range}
+use Rattle.np_ucd.specs.inside.RecordReading.{field, code_in, category_in, class_in, mapping_in, opens, closes, maps, Neighbour, neighbour_of, is_open, has_other_count, has_bad_code, is_at_most, is_out_of_order, has_bad_category, has_bad_class, has_unread_mapping, differs, late_tests, first_that_fits, record_tests, record_fault}
+use Rattle.np_ucd.proofs.FieldGrammar.{fields_in, has_fields, only_has, fifteen_are, category_said, category_read, class_said, class_read, opens_said, opens_read, closes_said, closes_read}
+use Rattle.np_ucd.proofs.MappingGrammar.{mapping_said, mapping_read}
 
--- From the tests to what the record says.
-category_said : (text : List ℕ) → has_bad_category text ≡ false → category_value (field 2 text) ≡ Some (category_in text)
+-- The record before, as the code keeps it and as its fields say.
+pub record Matches (b : Neighbour) (g : Fields) : Type 0 where
+  pub code : IsCodeOf g.code b.code
+  pub category : g.category ≡ b.category
+  pub class : IsClassOf g.class b.class
+  pub opens : b.opens ≡ opens_range g.name
+
+abbrev pub Match : Option Neighbour → Option Fields → Type 0
+Match None None = Unit {0}
+Match None (Some g) = ⊥
+Match (Some b) None = ⊥
+Match (Some b) (Some g) = Matches b g
+
+-- Options that say something, or nothing.
+said : {X : Type 0} (o : Option X) (d : X) → is_none o ≡ false → o ≡ Some (unwrap_or o d)
+said None d h = absurd (cc)
+said (Some x) d h = refl
+
+unsaid : {X : Type 0} (o : Option X) (x : X) → is_none o ≡ true → o ≡ Some x → ⊥
+unsaid None x h e = absurd (cc)
+unsaid (Some y) x h e = absurd (false≢true h)
+
+same_code : (text : List ℕ) (a b : ℕ) → IsCodeOf text a → IsCodeOf text b → a ≡ b
+same_code text a b h k = let both : Some a ≡ Some b = sym h ∙ k in cc
+
+-- What is read of a record that passes the tests of single fields.
+count_is : (text : List ℕ) → has_other_count text ≡ false → HasFields text (fields_in text)
+unfolding has_other_count
+count_is text h = has_fields text (eqb-true _ 15 (not-false _ h))
+
+pub code_is : (text : List ℕ) → has_bad_code text ≡ false → IsCodeOf (field 0 text) (code_in text)
+unfolding has_bad_code code_in
+code_is text h = said (code_value (field 0 text)) 0 h
+
+category_is : (text : List ℕ) → has_bad_category text ≡ false → category_value (field 2 text) ≡ Some (category_in text)
 unfolding has_bad_category category_in
-category_said text h = said (category_value (field 2 text)) [] h
+category_is text h = said (category_value (field 2 text)) [] h
 
-above_at : (b : Option Neighbour) (code : ℕ) → is_at_most code b ≡ false → IsAbove b code
-above_at None code h = tt
-above_at (Some b) code h = leb-false code b.code h
+class_is : (text : List ℕ) → has_bad_class text ≡ false → IsClassOf (field 3 text) (class_in text)
+unfolding has_bad_class class_in
+class_is text h = class_said (field 3 text) _ (said (class_value (field 3 text)) 0 h)
 
-above : (b : Option Neighbour) (text : List ℕ) → is_out_of_order b text ≡ false → IsAbove b (code_in text)
-unfolding is_out_of_order
-above b text h = above_at b (code_in text) h
+mapping_is : (text : List ℕ) → has_unread_mapping text ≡ false → IsMapping (field 5 text) (mapping_in text)
+unfolding has_unread_mapping mapping_in
+mapping_is text h = mapping_said (field 5 text) _ (said (mapping_value (field 5 text)) _ h)
 
-filled : (codes : List ℕ) → (codes ≢ []) → not (is_empty codes) ≡ true
-filled [] h = absurd (h refl)
-filled (c ∷ codes) h = refl
+pub record Read (text : List ℕ) : Type 0 where
+  pub has : HasFields text (fields_in text)
+  pub code : IsCodeOf (field 0 text) (code_in text)
+  pub category : IsCategory (field 2 text)
+  pub category_same : category_in text ≡ field 2 text
+  pub class : IsClassOf (field 3 text) (class_in text)
+  pub mapping : IsMapping (field 5 text) (mapping_in text)
 
-first_false : (s t : Bool) → (s && t) ≡ false → t ≡ true → s ≡ false
-first_false true t e h = absurd (true≢false (sym h ∙ e))
-first_false false t e h = refl
-
-alone : (text : List ℕ) → has_bad_mapping text ≡ false → maps_in_range text ≡ false → MapsAlone (code_in text) (field 1 text) (mapping_in text)
-unfolding has_bad_mapping maps_in_range
-alone text bad ranged ne =
-    let mapped : maps text ≡ true = filled (mapping_in text).codes ne in
-    let neither = or_parts (opens text) (closes text) (first_false (opens text || closes text) (maps text) ranged mapped) in
-    (open_before (maps text) (scalar (code_in text)) (or_parts _ _ bad).1 mapped, neither.0, neither.1)
-
-same_bytes : (xs ys : List ℕ) → bytes_eq xs ys ≡ true → xs ≡ ys
-same_bytes xs ys h = (bytes_eq-Decides xs ys).0 h
-
-keeps_step : (opening closing : Bool) (b : Neighbour) (name category : List ℕ) (class : ℕ) → b.opens ≡ opening → closes_range name ≡ closing → (opening && not closing) ≡ false → (closing && not opening) ≡ false → (closing && (not (bytes_eq category b.category) || not (eqb class b.class))) ≡ false → KeepsRange (Some b) name category class
-keeps_step true true b name category class o c open' lone differs =
-    let both = or_parts (not (bytes_eq category b.category)) (not (eqb class b.class)) differs in
-    inr (o, c, same_bytes category b.category (not-false _ both.0), eqb-true class b.class (not-false _ both.1))
-keeps_step true false b name category class o c open' lone differs = absurd (true≢false open')
-keeps_step false true b name category class o c open' lone differs = absurd (true≢false lone)
-keeps_step false false b name category class o c open' lone differs = inl (o, c)
-
-keeps_none : (closing : Bool) → (closing && true) ≡ false → closing ≡ false
-keeps_none true h = absurd (true≢false h)
-keeps_none false h = refl
-
-keeps : (b : Option Neighbour) (text : List ℕ) → leaves_range_open b text ≡ false → closes_no_range b text ≡ false → differs_in_range b text ≡ false → KeepsRange b (field 1 text) (category_in text) (class_in text)
-unfolding leaves_range_open closes_no_range differs_in_range
-keeps None text open' lone differs = keeps_none (closes text) lone
-keeps (Some b) text open' lone differs =
-    keeps_step b.opens (closes text) b (field 1 text) (category_in text) (class_in text) refl refl open' lone differs
-
-well_formed : (b : Option Neighbour) (line : ℕ) (text : List ℕ) → FitsNone (record_tests b line text) → IsWellFormed b text
-unfolding record_tests
-well_formed b line text none =
-    let d : Bool × UcdFault = (true, RangeOpen 0) in
-    let fields = has_fields text (count_is text (none 0 d (omega arith))) in
+read : (text : List ℕ) → has_other_count text ≡ false → has_bad_code text ≡ false → has_bad_category text ≡ false → has_bad_class text ≡ false → has_unread_mapping text ≡ false → Read text
+read text count code category class mapping =
+    let cat = category_said (field 2 text) (category_in text) (category_is text category) in
     record {
-      code = field 0 text;
-      name = field 1 text;
-      class = field 3 text;
-      mapping = field 5 text;
-      fields = fields;
-      number = code_in text;
-      letters = category_in text;
-      combining = class_in text;
-      to = mapping_in text;
-      code_is = code_said text (none 1 d (omega arith));
-      category_is =
-          ap category_value (category_are text (field 0 text) (field 1 text) (field 3 text) (field 5 text) fields)
-          ∙ category_said text (none 3 d (omega arith));
-      class_is = class_said text (none 4 d (omega arith));
-      mapping_is = mapping_said text (none 5 d (omega arith));
-      above = above b text (none 2 d (omega arith));
-      alone = alone text (none 5 d (omega arith)) (none 9 d (omega arith));
-      range = keeps b text (none 6 d (omega arith)) (none 7 d (omega arith)) (none 8 d (omega arith));
+      has = count_is text count;
+      code = code_is text code;
+      category = cat.0;
+      category_same = cat.1;
+      class = class_is text class;
+      mapping = mapping_is text mapping;
     }
 
--- From what the record says to the tests.
-in_order : (b : Option Neighbour) (code : ℕ) → IsAbove b code → is_at_most code b ≡ false
-in_order None code h = refl
-in_order (Some b) code h = lt-leb code b.code h
+-- Lists that are empty, or not.
+filled : (codes : List ℕ) → not (is_empty codes) ≡ true → codes ≢ []
+filled [] h e = absurd (false≢true h)
+filled (c ∷ codes) h e = absurd (cc)
 
-not_mapped : (codes : List ℕ) → not (is_empty codes) ≡ true → codes ≢ []
-not_mapped [] h e = absurd (false≢true h)
-not_mapped (c ∷ codes) h e = absurd (cc)
+not_empty : (codes : List ℕ) → (codes ≢ []) → not (is_empty codes) ≡ true
+not_empty [] h = absurd (h refl)
+not_empty (c ∷ codes) h = refl
 
-good_mapping : (text : List ℕ) → mapping_value (field 5 text) ≡ Some (mapping_in text) → MapsAlone (code_in text) (field 1 text) (mapping_in text) → has_bad_mapping text ≡ false
-unfolding has_bad_mapping
-good_mapping text h maps_alone =
-    or_from (is_none (mapping_value (field 5 text))) (maps text && not (scalar (code_in text))) (ap is_none h)
-    (⊎_elim
-    (λ mapped. and_right (maps text) (not (scalar (code_in text))) (not_from_true _ (maps_alone (not_mapped (mapping_in text).codes mapped)).0))
-    (λ none. and_left (maps text) (not (scalar (code_in text))) none)
-    (cases_Bool (maps text)))
+not_true : (b : Bool) → not b ≡ true → b ≡ false
+not_true true h = absurd (false≢true h)
+not_true false h = refl
 
-good_range : (text : List ℕ) → MapsAlone (code_in text) (field 1 text) (mapping_in text) → maps_in_range text ≡ false
-unfolding maps_in_range
-good_range text maps_alone =
-    ⊎_elim
-    (λ mapped. let is = maps_alone (not_mapped (mapping_in text).codes mapped) in
-    and_left (opens text || closes text) (maps text) (or_from (opens text) (closes text) is.1 is.2))
-    (λ none. and_right (opens text || closes text) (maps text) none)
-    (cases_Bool (maps text))
+maps_said : (text : List ℕ) → Read text → maps text ≡ true → Maps (fields_in text)
+maps_said text r h = (mapping_in text, r.mapping, filled (mapping_in text).codes h)
 
-bytes_same : (xs ys : List ℕ) → xs ≡ ys → bytes_eq xs ys ≡ true
-bytes_same xs ys h = (bytes_eq-Decides xs ys).1 h
+same_mapping : (text : List ℕ) (a b : Mapping) → IsMapping text a → IsMapping text b → a ≡ b
+same_mapping text a b h k = let both : Some a ≡ Some b = sym (mapping_read text a h) ∙ mapping_read text b k in cc
 
-closed_range : (b : Option Neighbour) (text : List ℕ) → KeepsRange b (field 1 text) (category_in text) (class_in text) → leaves_range_open b text ≡ false
-unfolding leaves_range_open
-closed_range None text h = refl
-closed_range (Some b) text h =
-    ⊎_elim
-    (λ none. and_left b.opens (not (closes text)) none.0)
-    (λ both. and_right b.opens (not (closes text)) (not_from_true (closes text) both.1)) h
+maps_read : (text : List ℕ) → Read text → Maps (fields_in text) → maps text ≡ true
+maps_read text r h =
+    let same : h.0 ≡ mapping_in text = same_mapping (field 5 text) h.0 (mapping_in text) h.1 r.mapping in
+    not_empty (mapping_in text).codes (λ e. h.2 (ap (λ (m : Mapping). m.codes) same ∙ e))
 
-opened_range : (b : Option Neighbour) (text : List ℕ) → KeepsRange b (field 1 text) (category_in text) (class_in text) → closes_no_range b text ≡ false
-unfolding closes_no_range
-opened_range None text h = and_left (closes text) true h
-opened_range (Some b) text h =
-    ⊎_elim
-    (λ none. and_left (closes text) (not b.opens) none.1)
-    (λ both. and_right (closes text) (not b.opens) (not_from_true b.opens both.0)) h
+-- From a test to the words of its fault.
+order_said : (b : Option Neighbour) (nb : Option Fields) (text : List ℕ) → Match b nb → HasFields text (fields_in text) → IsCodeOf (field 0 text) (code_in text) → is_at_most (code_in text) b ≡ true → SaysBehind IsOutOfOrder nb text
+order_said None None text m has code h = absurd (false≢true h)
+order_said None (Some g) text m has code h = absurd m
+order_said (Some b) None text m has code h = absurd m
+order_said (Some b) (Some g) text m has code h = (fields_in text, has, (b.code, code_in text, m.code, code, leb-true (code_in text) b.code h))
 
-same_range : (b : Option Neighbour) (text : List ℕ) → KeepsRange b (field 1 text) (category_in text) (class_in text) → differs_in_range b text ≡ false
-unfolding differs_in_range
-same_range None text h = and_right (closes text) false refl
-same_range (Some b) text h =
-    ⊎_elim
-    (λ none. and_left (closes text) (differs_from (Some b) text) none.1)
-    (λ both. and_right (closes text) (differs_from (Some b) text)
-    (or_from (not (bytes_eq (category_in text) b.category)) (not (eqb (class_in text) b.class))
-    (not_from_true _ (bytes_same (category_in text) b.category both.2))
-    (not_from_true _ (eq-eqb (class_in text) b.class both.3)))) h
+open_said : (b : Option Neighbour) (nb : Option Fields) (text : List ℕ) → Match b nb → Read text → (is_open b && not (closes text)) ≡ true → SaysBehind LeavesRangeOpen nb text
+open_said None None text m r h = absurd (false≢true h)
+open_said None (Some g) text m r h = absurd m
+open_said (Some b) None text m r h = absurd m
+open_said (Some b) (Some g) text m r h =
+    let both = and_parts b.opens (not (closes text)) h in
+    (fields_in text, r.has, (opens_said g.name (sym m.opens ∙ both.0), λ last. both_ways (closes text) (not_true (closes text) both.1) (closes_read (field 1 text) last)))
 
-abbrev AllFalse : List (Bool × UcdFault) → Type 0
-AllFalse [] = Unit {0}
-AllFalse (test ∷ tests) = (test.0 ≡ false) × AllFalse tests
+lone_said : (b : Option Neighbour) (nb : Option Fields) (text : List ℕ) → Match b nb → Read text → (closes text && not (is_open b)) ≡ true → Says (ClosesNoRange nb) text
+lone_said None None text m r h = (fields_in text, r.has, closes_said (field 1 text) (and_parts (closes text) true h).0)
+lone_said None (Some g) text m r h = absurd m
+lone_said (Some b) None text m r h = absurd m
+lone_said (Some b) (Some g) text m r h =
+    let both = and_parts (closes text) (not b.opens) h in (
+      fields_in text,
+      r.has,
+      (closes_said (field 1 text) both.0, λ first. both_ways b.opens (not_true b.opens both.1) (m.opens ∙ opens_read g.name first)),
+    )
 
-none_fits : (tests : List (Bool × UcdFault)) → AllFalse tests → FitsNone tests
-none_fits [] h = All-nil (λ (test : Bool × UcdFault). test.0 ≡ false)
-none_fits (test ∷ tests) h = All-cons (λ (test : Bool × UcdFault). test.0 ≡ false) test tests h.0 (none_fits tests h.1)
+opened : (closing opening : Bool) → (closing && not opening) ≡ false → closing ≡ true → opening ≡ true
+opened true opening h e = not-false opening h
+opened false opening h e = absurd (false≢true e)
 
-passes : (b : Option Neighbour) (line : ℕ) (text : List ℕ) → IsWellFormed b text → FitsNone (record_tests b line text)
-unfolding record_tests
-passes b line text h =
-    let are = fields_are text h.code h.name h.class h.mapping h.fields in
-    let category = category_are text h.code h.name h.class h.mapping h.fields in
-    let number : h.number ≡ code_in text = code_is text h.code h.number are.0 h.code_is in
-    let letters : h.letters ≡ category_in text = category_is text h.fields.category h.letters category h.category_is in
-    let combining : h.combining ≡ class_in text = class_is text h.class h.combining are.2 h.class_is in
-    let to : h.to ≡ mapping_in text = mapping_from text h.mapping h.to are.3 h.mapping_is in
-    let mapping : mapping_value (field 5 text) ≡ Some (mapping_in text) = ap mapping_value (sym are.3) ∙ h.mapping_is ∙ ap Some to in
-    let maps_alone : MapsAlone (code_in text) (field 1 text) (mapping_in text) =
-    subst (λ n. MapsAlone n (field 1 text) (mapping_in text)) number
-    (subst (λ name. MapsAlone h.number name (mapping_in text)) are.1 (subst (λ m. MapsAlone h.number h.name m) to h.alone)) in
-    let range : KeepsRange b (field 1 text) (category_in text) (class_in text) =
-    subst (λ name. KeepsRange b name (category_in text) (class_in text)) are.1
-    (subst (λ l. KeepsRange b h.name l (class_in text)) letters (subst (λ c. KeepsRange b h.name h.letters c) combining h.range)) in
-    none_fits (record_tests b line text) (
-      count_good text (fifteen_are text h.code h.name h.class h.mapping h.fields),
+differs_said : (b : Option Neighbour) (nb : Option Fields) (line : ℕ) (text : List ℕ) → Match b nb → Read text → (closes text && not (is_open b)) ≡ false → (closes text && differs b (neighbour_of line text)) ≡ true → SaysBehind DiffersInRange nb text
+unfolding neighbour_of
+differs_said None None line text m r lone h = absurd (false≢true (and_parts (closes text) false h).1)
+differs_said None (Some g) line text m r lone h = absurd m
+differs_said (Some b) None line text m r lone h = absurd m
+differs_said (Some b) (Some g) line text m r lone h =
+    let both = and_parts (closes text) (not (bytes_eq (category_in text) b.category) || not (eqb (class_in text) b.class)) h in (
+      fields_in text,
+      r.has,
       (
-        code_good text h.code h.number are.0 h.code_is,
-        (
-          order_is b text h.number false number (in_order b h.number h.above),
-          (
-            category_good text h.fields.category h.letters category h.category_is,
-            (
-              class_good text h.class h.combining are.2 h.class_is,
-              (
-                good_mapping text mapping maps_alone,
-                (
-                  closed_range b text range,
-                  (
-                    opened_range b text range,
-                    (
-                      same_range b text range,
-                      (
-                        good_range text maps_alone,
-                        tt,
-                      ),
-                    ),
-                  ),
-                ),
-              ),
-            ),
-          ),
-        ),
+        opens_said g.name (sym m.opens ∙ opened (closes text) b.opens lone both.0),
+        closes_said (field 1 text) both.0,
+        ⊎_elim
+            (λ category. inl (λ same. both_ways (bytes_eq (category_in text) b.category) (not_true _ category)
+            ((bytes_eq-Decides (category_in text) b.category).1 (r.category_same ∙ same ∙ m.category))))
+            (λ class. inr (b.class, class_in text, m.class, r.class, λ same. both_ways (eqb (class_in text) b.class) (not_true _ class) (eq-eqb (class_in text) b.class same)))
+            (or_cases (not (bytes_eq (category_in text) b.category)) (not (eqb (class_in text) b.class)) both.1),
       ),
     )
 
-pub passes_well_formed : PassesTheWellFormed
-passes_well_formed b line text = (well_formed b line text, passes b line text)
+found_step : (t : Bool) (f : UcdFault) (rest : Option UcdFault) (fault : UcdFault) (P : UcdFault → Type 0) → (t ≡ true → P f) → (t ≡ false → rest ≡ Some fault → P fault) → cond t (Some f) rest ≡ Some fault → P fault
+found_step true f rest fault P here later h = let same : f ≡ fault = cc in subst P same (here refl)
+found_step false f rest fault P here later h = later refl h
+
+abbrev pub Named : Option Fields → ℕ → List ℕ → UcdFault → Type 0
+Named nb line text fault = (line_of fault ≡ Some line) × Fits fault nb text
+
+late_found : (b : Option Neighbour) (nb : Option Fields) (line : ℕ) (text : List ℕ) (fault : UcdFault) → Match b nb → Read text → first_that_fits (late_tests b (neighbour_of line text) (closes text) (maps text)) ≡ Some fault → Named nb line text fault
+unfolding neighbour_of
+late_found b nb line text fault m r h =
+    found_step (maps text && not (scalar (code_in text))) (BadMapping line) _ fault (Named nb line text)
+    (λ e. let both = and_parts (maps text) (not (scalar (code_in text))) e in
+    (refl, (fields_in text, r.has, inr (maps_said text r both.0, (code_in text, r.code, not_true (scalar (code_in text)) both.1)))))
+    (λ _ h7. found_step (is_open b && not (closes text)) (RangeOpen line) _ fault (Named nb line text)
+    (λ e. (refl, open_said b nb text m r e))
+    (λ _ h8. found_step (closes text && not (is_open b)) (RangeLone line) _ fault (Named nb line text)
+    (λ e. (refl, lone_said b nb text m r e))
+    (λ lone h9. found_step (closes text && differs b (neighbour_of line text)) (RangeDiffers line) _ fault (Named nb line text)
+    (λ e. (refl, differs_said b nb line text m r lone e))
+    (λ _ h10. found_step ((opens text || closes text) && maps text) (RangeMaps line) None fault (Named nb line text)
+    (λ e. let both = and_parts (opens text || closes text) (maps text) e in
+    (refl, (fields_in text, r.has, (⊎_elim (λ o. inl (opens_said (field 1 text) o)) (λ c. inr (closes_said (field 1 text) c)) (or_cases (opens text) (closes text) both.0), maps_said text r both.1))))
+    (λ _ none. absurd (cc))
+    h10) h9) h8) h7) h
+
+no_fields : (text : List ℕ) → has_other_count text ≡ true → (f : Fields) → HasFields text f → ⊥
+unfolding has_other_count
+no_fields text h f has = both_ways _ (not_true _ h) (eq-eqb _ 15 (fifteen_are text f has))
+
+bad_code : (text : List ℕ) → has_bad_code text ≡ true → (code : ℕ) → IsCodeOf (field 0 text) code → ⊥
+unfolding has_bad_code
+bad_code text h code is = unsaid (code_value (field 0 text)) code h is
+
+bad_category : (text : List ℕ) → has_bad_category text ≡ true → IsCategory (field 2 text) → ⊥
+unfolding has_bad_category
+bad_category text h is = unsaid (category_value (field 2 text)) (field 2 text) h (category_read (field 2 text) is)
+
+bad_class : (text : List ℕ) → has_bad_class text ≡ true → (class : ℕ) → IsClassOf (field 3 text) class → ⊥
+unfolding has_bad_class
+bad_class text h class is = unsaid (class_value (field 3 text)) class h (class_read (field 3 text) class is)
+
+bad_mapping : (text : List ℕ) → has_unread_mapping text ≡ true → (to : Mapping) → IsMapping (field 5 text) to → ⊥
+unfolding has_unread_mapping
+bad_mapping text h to is = unsaid (mapping_value (field 5 text)) to h (mapping_read (field 5 text) to is)
+
+at_most : (b : Option Neighbour) (text : List ℕ) (t : Bool) → is_out_of_order b text ≡ t → is_at_most (code_in text) b ≡ t
+unfolding is_out_of_order
+at_most b text t h = h
+
+pub found : (b : Option Neighbour) (nb : Option Fields) (line : ℕ) (text : List ℕ) (fault : UcdFault) → Match b nb → record_fault b line text ≡ Some fault → Named nb line text fault
+unfolding record_fault record_tests
+found b nb line text fault m h =
+    found_step (has_other_count text) (FieldCount line) _ fault (Named nb line text) (λ e. (refl, no_fields text e))
+    (λ count h2. found_step (has_bad_code text) (BadCode line) _ fault (Named nb line text) (λ e. (refl, (fields_in text, count_is text count, bad_code text e)))
+    (λ code h3. found_step (is_out_of_order b text) (OutOfOrder line) _ fault (Named nb line text)
+    (λ e. (refl, order_said b nb text m (count_is text count) (code_is text code) (at_most b text true e)))
+    (λ order h4. found_step (has_bad_category text) (BadCategory line) _ fault (Named nb line text) (λ e. (refl, (fields_in text, count_is text count, bad_category text e)))
+    (λ category h5. found_step (has_bad_class text) (BadClass line) _ fault (Named nb line text) (λ e. (refl, (fields_in text, count_is text count, bad_class text e)))
+    (λ class h6. found_step (has_unread_mapping text) (BadMapping line) _ fault (Named nb line text) (λ e. (refl, (fields_in text, count_is text count, inl (bad_mapping text e))))
+    (λ mapping late. late_found b nb line text fault m (read text count code category class mapping) late)
+    h6) h5) h4) h3) h2) h
+
+-- From the words of a fault to its test: where no test up to its own fits, neither do the words.
+abbrev Passes : Option Neighbour → ℕ → List ℕ → ℕ → Type 0
+Passes b line text n = (t : Bool) (f : UcdFault) → Contains (record_tests b line text) (t, f) → test_of f ≤ n → t ≡ false
+
+both_not : (s t : Bool) → (s && t) ≡ false → s ≡ true → t ≡ true → ⊥
+both_not true true h a b = true≢false h
+both_not true false h a b = false≢true b
+both_not false t h a b = false≢true a
+
+-- the test of each number, from the first on
+at_count : (b : Option Neighbour) (line : ℕ) (text : List ℕ) (n : ℕ) → Passes b line text n → 1 ≤ n → has_other_count text ≡ false
+unfolding record_tests
+at_count b line text n past l = past (has_other_count text) (FieldCount line) (0, omega arith, refl) l
+
+at_code : (b : Option Neighbour) (line : ℕ) (text : List ℕ) (n : ℕ) → Passes b line text n → 2 ≤ n → has_bad_code text ≡ false
+unfolding record_tests
+at_code b line text n past l = past (has_bad_code text) (BadCode line) (1, omega arith, refl) l
+
+at_order : (b : Option Neighbour) (line : ℕ) (text : List ℕ) (n : ℕ) → Passes b line text n → 3 ≤ n → is_out_of_order b text ≡ false
+unfolding record_tests
+at_order b line text n past l = past (is_out_of_order b text) (OutOfOrder line) (2, omega arith, refl) l
+
+at_category : (b : Option Neighbour) (line : ℕ) (text : List ℕ) (n : ℕ) → Passes b line text n → 4 ≤ n → has_bad_category text ≡ false
+unfolding record_tests
+at_category b line text n past l = past (has_bad_category text) (BadCategory line) (3, omega arith, refl) l
+
+at_class : (b : Option Neighbour) (line : ℕ) (text : List ℕ) (n : ℕ) → Passes b line text n → 5 ≤ n → has_bad_class text ≡ false
+unfolding record_tests
+at_class b line text n past l = past (has_bad_class text) (BadClass line) (4, omega arith, refl) l
+
+at_mapping : (b : Option Neighbour) (line : ℕ) (text : List ℕ) (n : ℕ) → Passes b line text n → 6 ≤ n → has_unread_mapping text ≡ false
+unfolding record_tests
+at_mapping b line text n past l = past (has_unread_mapping text) (BadMapping line) (5, omega arith, refl) l
+
+at_surrogate : (b : Option Neighbour) (line : ℕ) (text : List ℕ) (n : ℕ) → Passes b line text n → 6 ≤ n → (maps text && not (scalar (code_in text))) ≡ false
+unfolding record_tests neighbour_of
+at_surrogate b line text n past l = past (maps text && not (scalar (code_in text))) (BadMapping line) (6, omega arith, refl) l
+
+at_open : (b : Option Neighbour) (line : ℕ) (text : List ℕ) (n : ℕ) → Passes b line text n → 7 ≤ n → (is_open b && not (closes text)) ≡ false
+unfolding record_tests neighbour_of
+at_open b line text n past l = past (is_open b && not (closes text)) (RangeOpen line) (7, omega arith, refl) l
+
+at_lone : (b : Option Neighbour) (line : ℕ) (text : List ℕ) (n : ℕ) → Passes b line text n → 8 ≤ n → (closes text && not (is_open b)) ≡ false
+unfolding record_tests neighbour_of
+at_lone b line text n past l = past (closes text && not (is_open b)) (RangeLone line) (8, omega arith, refl) l
+
+at_differs : (b : Option Neighbour) (line : ℕ) (text : List ℕ) (n : ℕ) → Passes b line text n → 9 ≤ n → (closes text && differs b (neighbour_of line text)) ≡ false
+unfolding record_tests neighbour_of
+at_differs b line text n past l = past (closes text && differs b (neighbour_of line text)) (RangeDiffers line) (9, omega arith, refl) l
+
+at_maps : (b : Option Neighbour) (line : ℕ) (text : List ℕ) (n : ℕ) → Passes b line text n → 10 ≤ n → ((opens text || closes text) && maps text) ≡ false
+unfolding record_tests neighbour_of
+at_maps b line text n past l = past ((opens text || closes text) && maps text) (RangeMaps line) (10, omega arith, refl) l
+
+read_at : (b : Option Neighbour) (line : ℕ) (text : List ℕ) (n : ℕ) → Passes b line text n → 6 ≤ n → Read text
+read_at b line text n past l =
+    read text (at_count b line text n past (omega arith)) (at_code b line text n past (omega arith)) (at_category b line text n past (omega arith)) (at_class b line text n past (omega arith)) (at_mapping b line text n past l)
+
+-- what is said of a record's fields is said of those that are read
+here : (P : Fields → Type 0) (text : List ℕ) → Says P text → P (fields_in text)
+here P text h = subst P (only_has text h.0 h.1) h.2
+
+not_at_most : (a c : ℕ) → leb a c ≡ false → a ≤ c → ⊥
+not_at_most a c h l = let lt = leb-false a c h in absurd (omega arith)
+
+order_unfit : (b : Option Neighbour) (nb : Option Fields) (text : List ℕ) → Match b nb → IsCodeOf (field 0 text) (code_in text) → is_at_most (code_in text) b ≡ false → SaysBehind IsOutOfOrder nb text → ⊥
+order_unfit b None text m code h says = says
+order_unfit None (Some g) text m code h says = m
+order_unfit (Some b) (Some g) text m code h says =
+    let is = here (IsOutOfOrder g) text says in
+    let earlier : is.0 ≡ b.code = same_code g.code is.0 b.code is.2 m.code in
+    let later : is.1 ≡ code_in text = same_code (field 0 text) is.1 (code_in text) is.3 code in
+    not_at_most (code_in text) b.code h (omega (arith, is.4))
+
+mapping_unfit : (text : List ℕ) → Read text → (maps text && not (scalar (code_in text))) ≡ false → HasBadMapping (fields_in text) → ⊥
+mapping_unfit text r h bad =
+    ⊎_elim (λ none. none (mapping_in text) r.mapping)
+    (λ some.
+    let code : some.1.0 ≡ code_in text = same_code (field 0 text) some.1.0 (code_in text) some.1.1 r.code in
+    both_not (maps text) (not (scalar (code_in text))) h (maps_read text r some.0) (ap not (ap scalar (sym code) ∙ some.1.2)))
+    bad
+
+open_unfit : (b : Option Neighbour) (nb : Option Fields) (text : List ℕ) → Match b nb → (is_open b && not (closes text)) ≡ false → SaysBehind LeavesRangeOpen nb text → ⊥
+open_unfit b None text m h says = says
+open_unfit None (Some g) text m h says = m
+open_unfit (Some b) (Some g) text m h says =
+    let is = here (LeavesRangeOpen g) text says in
+    both_not b.opens (not (closes text)) h (m.opens ∙ opens_read g.name is.0)
+    (ap not (false_from_ne_true (closes text) (λ e. is.1 (closes_said (field 1 text) e))))
+
+lone_unfit : (b : Option Neighbour) (nb : Option Fields) (text : List ℕ) → Match b nb → (closes text && not (is_open b)) ≡ false → Says (ClosesNoRange nb) text → ⊥
+lone_unfit None None text m h says = both_not (closes text) true h (closes_read (field 1 text) (here (ClosesNoRange None) text says)) refl
+lone_unfit None (Some g) text m h says = m
+lone_unfit (Some b) None text m h says = m
+lone_unfit (Some b) (Some g) text m h says =
+    let is = here (ClosesNoRange (Some g)) text says in
+    both_not (closes text) (not b.opens) h (closes_read (field 1 text) is.0)
+    (ap not (false_from_ne_true b.opens (λ e. is.1 (opens_said g.name (sym m.opens ∙ e)))))
+
+same_class : (text : List ℕ) (a c : ℕ) → IsClassOf text a → IsClassOf text c → a ≡ c
+same_class text a c h k = h.value ∙ sym k.value
+
+differ_true : (s t : Bool) → (s ≡ false) ⊎ (t ≡ false) → (not s || not t) ≡ true
+differ_true true true h = absurd (⊎_elim (λ e. true≢false e) (λ e. true≢false e) h)
+differ_true true false h = refl
+differ_true false t h = refl
+
+differs_unfit : (b : Option Neighbour) (nb : Option Fields) (line : ℕ) (text : List ℕ) → Match b nb → Read text → (closes text && differs b (neighbour_of line text)) ≡ false → SaysBehind DiffersInRange nb text → ⊥
+unfolding neighbour_of
+differs_unfit b None line text m r h says = says
+differs_unfit None (Some g) line text m r h says = m
+differs_unfit (Some b) (Some g) line text m r h says =
+    let is = here (DiffersInRange g) text says in
+    both_not (closes text) (not (bytes_eq (category_in text) b.category) || not (eqb (class_in text) b.class)) h (closes_read (field 1 text) is.1)
+    (differ_true (bytes_eq (category_in text) b.category) (eqb (class_in text) b.class)
+    (⊎_elim
+    (λ category. inl (false_from_ne_true (bytes_eq (category_in text) b.category) (λ e.
+    category (sym r.category_same ∙ (bytes_eq-Decides (category_in text) b.category).0 e ∙ sym m.category))))
+    (λ class. inr (false_from_ne_true (eqb (class_in text) b.class) (λ e.
+    class.4 (same_class (field 3 text) class.1 (class_in text) class.3 r.class ∙ eqb-true (class_in text) b.class e ∙ same_class g.class b.class class.0 m.class class.2))))
+    is.2))
+
+maps_unfit : (text : List ℕ) → Read text → ((opens text || closes text) && maps text) ≡ false → MapsInRange (fields_in text) → ⊥
+maps_unfit text r h is =
+    both_not (opens text || closes text) (maps text) h
+    (⊎_elim (λ o. or_left (opens text) (closes text) (opens_read (field 1 text) o)) (λ c. or_right (opens text) (closes text) (closes_read (field 1 text) c)) is.0)
+    (maps_read text r is.1)
+
+pub unfit : (b : Option Neighbour) (nb : Option Fields) (line : ℕ) (text : List ℕ) (other : UcdFault) → Match b nb → Passes b line text (test_of other) → Fits other nb text → ⊥
+unfolding is_out_of_order
+unfit b nb line text (FieldCount n) m past fits = fits (fields_in text) (count_is text (at_count b line text 1 past (omega arith)))
+unfit b nb line text (BadCode n) m past fits =
+    here HasBadCode text fits (code_in text) (code_is text (at_code b line text 2 past (omega arith)))
+unfit b nb line text (OutOfOrder n) m past fits =
+    order_unfit b nb text m (code_is text (at_code b line text 3 past (omega arith))) (at_order b line text 3 past (omega arith)) fits
+unfit b nb line text (BadCategory n) m past fits =
+    here HasBadCategory text fits (category_said (field 2 text) (category_in text) (category_is text (at_category b line text 4 past (omega arith)))).0
+unfit b nb line text (BadClass n) m past fits =
+    here HasBadClass text fits (class_in text) (class_is text (at_class b line text 5 past (omega arith)))
+unfit b nb line text (BadMapping n) m past fits =
+    mapping_unfit text (read_at b line text 6 past (omega arith)) (at_surrogate b line text 6 past (omega arith)) (here HasBadMapping text fits)
+unfit b nb line text (RangeOpen n) m past fits = open_unfit b nb text m (at_open b line text 7 past (omega arith)) fits
+unfit b nb line text (RangeLone n) m past fits = lone_unfit b nb text m (at_lone b line text 8 past (omega arith)) fits
+unfit b nb line text (RangeDiffers n) m past fits =
+    differs_unfit b nb line text m (read_at b line text 9 past (omega arith)) (at_differs b line text 9 past (omega arith)) fits
+unfit b nb line text (RangeMaps n) m past fits =
+    maps_unfit text (read_at b line text 10 past (omega arith)) (at_maps b line text 10 past (omega arith)) (here MapsInRange text fits)
+unfit b nb line text TooLarge m past fits = fits
+unfit b nb line text ReadFailed m past fits = fits
+unfit b nb line text Memory m past fits = fits
+
+-- The tests in front of the first that fits do not.
+abbrev Test : Type 0
+Test = Bool × UcdFault
+
+abbrev Rising : ℕ → List Test → Type 0
+Rising n [] = Unit {0}
+Rising n (test ∷ tests) = (n ≤ test_of test.1) × Rising (test_of test.1) tests
+
+later_ranks : (n : ℕ) (tests : List Test) (t : Bool) (f : UcdFault) → Rising n tests → Contains tests (t, f) → n ≤ test_of f
+later_ranks n [] t f h in' = absurd (contains_none (t, f) in')
+later_ranks n (test ∷ tests) t f h in' =
+    ⊎_elim (λ same. let e = ap (λ (x : Test). test_of x.1) same in omega (arith, h.0, e))
+    (λ more. let l = later_ranks (test_of test.1) tests t f h.1 more in omega (arith, h.0))
+    (contains_cases test (t, f) tests in')
+
+earlier_step : (s : Bool) (g fault : UcdFault) (tests : List Test) (t : Bool) (f : UcdFault) → Rising (test_of g) tests → Contains ((s, g) ∷ tests) (t, f) → cond s (Some g) (first_that_fits tests) ≡ Some fault → test_of f < test_of fault → (first_that_fits tests ≡ Some fault → Contains tests (t, f) → t ≡ false) → t ≡ false
+earlier_step true g fault tests t f h in' e l ih =
+    let same : g ≡ fault = cc in
+    let rank = ap test_of same in
+    absurd (⊎_elim (λ first. let k = ap (λ (x : Test). test_of x.1) first in absurd (omega (arith, k)))
+    (λ more. let k = later_ranks (test_of g) tests t f h more in absurd (omega arith))
+    (contains_cases (true, g) (t, f) tests in'))
+earlier_step false g fault tests t f h in' e l ih =
+    ⊎_elim (λ first. sym (ap (λ (x : Test). x.0) first)) (λ more. ih e more) (contains_cases (false, g) (t, f) tests in')
+
+earlier_false : (n : ℕ) (tests : List Test) (fault : UcdFault) (t : Bool) (f : UcdFault) → Rising n tests → first_that_fits tests ≡ Some fault → Contains tests (t, f) → test_of f < test_of fault → t ≡ false
+earlier_false n [] fault t f h e in' l = absurd (contains_none (t, f) in')
+earlier_false n (test ∷ tests) fault t f h e in' l =
+    earlier_step test.0 test.1 fault tests t f h.1 in' e l (λ e' more. earlier_false (test_of test.1) tests fault t f h.1 e' more l)
+
+none_step : (s : Bool) (g : UcdFault) (tests : List Test) (t : Bool) (f : UcdFault) → Contains ((s, g) ∷ tests) (t, f) → cond s (Some g) (first_that_fits tests) ≡ None → (first_that_fits tests ≡ None → Contains tests (t, f) → t ≡ false) → t ≡ false
+none_step true g tests t f in' e ih = absurd (cc)
+none_step false g tests t f in' e ih =
+    ⊎_elim (λ first. sym (ap (λ (x : Test). x.0) first)) (λ more. ih e more) (contains_cases (false, g) (t, f) tests in')
+
+none_true : (tests : List Test) (t : Bool) (f : UcdFault) → first_that_fits tests ≡ None → Contains tests (t, f) → t ≡ false
+none_true [] t f e in' = absurd (contains_none (t, f) in')
+none_true (test ∷ tests) t f e in' = none_step test.0 test.1 tests t f in' e (λ e' more. none_true tests t f e' more)
+
+ranks : (b : Option Neighbour) (line : ℕ) (text : List ℕ) → Rising 1 (record_tests b line text)
+unfolding record_tests neighbour_of
+ranks b line text = (omega arith, (omega arith, (omega arith, (omega arith, (omega arith, (omega arith, (omega arith, (omega arith, (omega arith, (omega arith, (omega arith, tt)))))))))))
+
+pub least : (b : Option Neighbour) (nb : Option Fields) (line : ℕ) (text : List ℕ) (fault other : UcdFault) → Match b nb → record_fault b line text ≡ Some fault → Fits other nb text → test_of fault ≤ test_of other
+unfolding record_fault
+least b nb line text fault other m h fits =
+    ⊎_elim
+    (λ low. absurd (unfit b nb line text other m
+    (λ t f in' l. earlier_false 1 (record_tests b line text) fault t f (ranks b line text) h in' (omega arith)) fits))
+    (λ high. high)
+    (cases_lt (test_of other) (test_of fault))
+
+pub nothing_fits : (b : Option Neighbour) (nb : Option Fields) (line : ℕ) (text : List ℕ) (other : UcdFault) → Match b nb → record_fault b line text ≡ None → Fits other nb text → ⊥
+unfolding record_fault
+nothing_fits b nb line text other m h fits =
+    unfit b nb line text other m (λ t f in' l. none_true (record_tests b line text) t f h in') fits
+
+-- What a record without a fault says.
+pub read_fine : (b : Option Neighbour) (line : ℕ) (text : List ℕ) → record_fault b line text ≡ None → Read text
+unfolding record_fault
+read_fine b line text h = read_at b line text 6 (λ t f in' l. none_true (record_tests b line text) t f h in') (omega arith)
+
+pub closing_fine : (b : Option Neighbour) (line : ℕ) (text : List ℕ) → record_fault b line text ≡ None → (closes text && not (is_open b)) ≡ false
+unfolding record_fault
+closing_fine b line text h = at_lone b line text 8 (λ t f in' l. none_true (record_tests b line text) t f h in') (omega arith)
+
+pub matches : (line : ℕ) (text : List ℕ) → Read text → Matches (neighbour_of line text) (fields_in text)
+unfolding neighbour_of
+matches line text r = record { code = r.code; category = sym r.category_same; class = r.class; opens = refl }

@@ -1,38 +1,18 @@
 -- What a line of CompositionExclusions.txt says, by the grammar.
-use Rattle.std.proofs.Common.{◌≡◌, ℕ, Bool, true, false, cond, eqb, List, [], ◌∷◌, ◌++◌, Option, Some, None, refl, sym, ap, subst, ◌∙◌, inl, inr, ⊎_elim, append_assoc}
+use Rattle.std.proofs.Common.{◌≡◌, ℕ, Bool, true, false, cond, List, [], ◌∷◌, ◌++◌, Option, Some, None, refl, sym, ap, subst, ◌∙◌, inl, inr, ⊎_elim, append_assoc}
 use Rattle.std.specs.List.{list_all}
-use Rattle.std.proofs.lemmas.Bool.{eqb-true, eq-eqb, both_ways, or_cases, or_left, or_right, and_parts, and_from, false_from_ne_true}
+use Rattle.std.proofs.lemmas.Bool.{both_ways}
 use Rattle.std.proofs.lemmas.List.{append-nil}
 use Rattle.std.proofs.lemmas.List.Elements.{All-nil, All-cons, All-head, All-tail}
-use Rattle.np_ucd.specs.ExclusionGrammar.{StandsBefore, IsTrimmed, SaysText}
-use Rattle.np_ucd.specs.Exclusions.{after_blanks, before_blanks, entry_text}
-use Rattle.np_ucd.specs.Grammar.{IsBlank, AreBlanks}
-use Rattle.np_ucd.specs.Laws.{SaysOneText}
-use Rattle.np_ucd.specs.Lines.{before_byte, after_byte, without_return, is_blank}
+use Rattle.np_code_points.specs.Lines.{IsBlank, AreBlanks}
+use Rattle.np_code_points.specs.declared.words.Dividers.TheVariants.{Blanks}
+use Rattle.np_code_points.specs.inside.LineCuts.{before_byte, after_byte, is_blank}
+use Rattle.np_code_points.specs.inside.WordCuts.{divides, after_all}
+use Rattle.np_code_points.proofs.BlankLemmas.{blank_true, true_blank, blank_false, true_blanks, blanks_true}
+use Rattle.np_code_points.proofs.LineGrammar.{before_free, joined_some, joined_none, before_at, after_none, ended_filled}
+use Rattle.np_ucd.specs.Exclusions.{StandsBefore, IsTrimmed, SaysText}
+use Rattle.np_ucd.specs.inside.ExclusionReading.{before_blanks, entry_text}
 use Rattle.np_ucd.proofs.ExclusionLemmas.{back_blank, back_other}
-use Rattle.np_ucd.proofs.LineGrammar.{before_free, joined_some, joined_none, before_at, after_none, ended_filled, drops_return, only_text}
-
--- The blanks.
-pub blank_true : (b : ℕ) → IsBlank b → is_blank b ≡ true
-blank_true b h =
-    ⊎_elim (λ e. or_left (eqb b 32) (eqb b 9) (eq-eqb b 32 e)) (λ e. or_right (eqb b 32) (eqb b 9) (eq-eqb b 9 e)) h
-
-pub true_blank : (b : ℕ) → is_blank b ≡ true → IsBlank b
-true_blank b h = ⊎_elim (λ e. inl (eqb-true b 32 e)) (λ e. inr (eqb-true b 9 e)) (or_cases (eqb b 32) (eqb b 9) h)
-
-blank_false : (b : ℕ) → (IsBlank b → ⊥) → is_blank b ≡ false
-blank_false b h = false_from_ne_true (is_blank b) (λ e. h (true_blank b e))
-
-pub true_blanks : (xs : List ℕ) → list_all is_blank xs ≡ true → AreBlanks xs
-true_blanks [] h = All-nil IsBlank
-true_blanks (x ∷ xs) h =
-    let both = and_parts (is_blank x) (list_all is_blank xs) h in
-    All-cons IsBlank x xs (true_blank x both.0) (true_blanks xs both.1)
-
-pub blanks_true : (xs : List ℕ) → AreBlanks xs → list_all is_blank xs ≡ true
-blanks_true [] h = refl
-blanks_true (x ∷ xs) h =
-    and_from (is_blank x) (list_all is_blank xs) (blank_true x (All-head IsBlank x xs h)) (blanks_true xs (All-tail IsBlank x xs h))
 
 -- What is left behind the blanks at the begin.
 record LeavesBehind (bytes rest : List ℕ) : Type 0 where
@@ -55,9 +35,9 @@ behind_step false x xs rest e h = record {
   begins = λ b more same is. let head : b ≡ x = cc in both_ways (is_blank x) e (blank_true x (subst IsBlank head is));
 }
 
-leaves_behind : (bytes : List ℕ) → LeavesBehind bytes (after_blanks bytes)
+leaves_behind : (bytes : List ℕ) → LeavesBehind bytes (after_all (divides Blanks) bytes)
 leaves_behind [] = record { front = []; blank = All-nil IsBlank; stands = refl; begins = λ b more same is. absurd (cc) }
-leaves_behind (x ∷ xs) = behind_step (is_blank x) x xs (after_blanks xs) refl (leaves_behind xs)
+leaves_behind (x ∷ xs) = behind_step (is_blank x) x xs (after_all (divides Blanks) xs) refl (leaves_behind xs)
 
 -- What is left before the blanks at the end.
 record LeavesBefore (bytes rest : List ℕ) : Type 0 where
@@ -94,10 +74,10 @@ leaves_before [] = record { back = []; blank = All-nil IsBlank; stands = refl; e
 leaves_before (x ∷ xs) = before_step (list_all is_blank (x ∷ xs)) x xs (before_blanks xs) refl (leaves_before xs)
 
 -- The text between them, and no other.
-is_trimmed : (bytes : List ℕ) → IsTrimmed bytes (before_blanks (after_blanks bytes))
+is_trimmed : (bytes : List ℕ) → IsTrimmed bytes (before_blanks (after_all (divides Blanks) bytes))
 is_trimmed bytes =
     let f = leaves_behind bytes in
-    let k = leaves_before (after_blanks bytes) in
+    let k = leaves_before (after_all (divides Blanks) bytes) in
     record {
       front = f.front;
       back = k.back;
@@ -108,10 +88,10 @@ is_trimmed bytes =
       ends = k.ends;
     }
 
-after_front : (front rest : List ℕ) → AreBlanks front → after_blanks (front ++ rest) ≡ after_blanks rest
+after_front : (front rest : List ℕ) → AreBlanks front → after_all (divides Blanks) (front ++ rest) ≡ after_all (divides Blanks) rest
 after_front [] rest h = refl
 after_front (x ∷ front) rest h =
-    ap (λ t. cond t (after_blanks (front ++ rest)) (x ∷ front ++ rest)) (blank_true x (All-head IsBlank x front h))
+    ap (λ t. cond t (after_all (divides Blanks) (front ++ rest)) (x ∷ front ++ rest)) (blank_true x (All-head IsBlank x front h))
     ∙ after_front front rest (All-tail IsBlank x front h)
 
 before_back : (text back : List ℕ) → AreBlanks back → before_blanks (text ++ back) ≡ before_blanks text
@@ -127,17 +107,17 @@ kept_from front x (y ∷ rest) h =
     let same = append_assoc front (x ∷ []) (y ∷ rest) in
     sym (ap before_blanks same) ∙ kept_from (front ++ x ∷ []) y rest (λ more b e. h more b (sym same ∙ e)) ∙ same
 
-kept : (text back : List ℕ) → AreBlanks back → ((b : ℕ) (rest : List ℕ) → text ≡ b ∷ rest → IsBlank b → ⊥) → ((rest : List ℕ) (b : ℕ) → text ≡ rest ++ b ∷ [] → IsBlank b → ⊥) → before_blanks (after_blanks (text ++ back)) ≡ text
+kept : (text back : List ℕ) → AreBlanks back → ((b : ℕ) (rest : List ℕ) → text ≡ b ∷ rest → IsBlank b → ⊥) → ((rest : List ℕ) (b : ℕ) → text ≡ rest ++ b ∷ [] → IsBlank b → ⊥) → before_blanks (after_all (divides Blanks) (text ++ back)) ≡ text
 kept [] back blank begins ends =
-    ap (λ r. before_blanks (after_blanks r)) (sym (append-nil back)) ∙ ap before_blanks (after_front back [] blank)
+    ap (λ r. before_blanks (after_all (divides Blanks) r)) (sym (append-nil back)) ∙ ap before_blanks (after_front back [] blank)
 kept (x ∷ text) back blank begins ends =
-    ap (λ t. before_blanks (cond t (after_blanks (text ++ back)) (x ∷ text ++ back))) (blank_false x (begins x text refl))
+    ap (λ t. before_blanks (cond t (after_all (divides Blanks) (text ++ back)) (x ∷ text ++ back))) (blank_false x (begins x text refl))
     ∙ before_back (x ∷ text) back blank
     ∙ kept_from [] x text ends
 
-only_trimmed : (bytes text : List ℕ) → IsTrimmed bytes text → text ≡ before_blanks (after_blanks bytes)
+only_trimmed : (bytes text : List ℕ) → IsTrimmed bytes text → text ≡ before_blanks (after_all (divides Blanks) bytes)
 only_trimmed bytes text h = sym (
-    ap (λ r. before_blanks (after_blanks r)) h.stands
+    ap (λ r. before_blanks (after_all (divides Blanks) r)) h.stands
     ∙ ap before_blanks (after_front h.front (text ++ h.back) h.front_blank)
     ∙ kept text h.back h.back_blank h.begins h.ends
     )
@@ -156,17 +136,12 @@ only_before b xs front h =
 
 pub says_text : (line : List ℕ) → SaysText line (entry_text line)
 says_text line = record {
-  whole = without_return line;
-  entry = before_byte 35 (without_return line);
-  returned = drops_return line;
-  uncommented = before_cases 35 (without_return line) (after_byte 35 (without_return line)) refl;
-  trimmed = is_trimmed (before_byte 35 (without_return line));
+  entry = before_byte 35 line;
+  uncommented = before_cases 35 line (after_byte 35 line) refl;
+  trimmed = is_trimmed (before_byte 35 line);
 }
 
 pub only_says : (line text : List ℕ) → SaysText line text → text ≡ entry_text line
 only_says line text h =
     only_trimmed h.entry text h.trimmed
-    ∙ ap (λ r. before_blanks (after_blanks r)) (only_before 35 h.whole h.entry h.uncommented ∙ ap (before_byte 35) (only_text line h.whole h.returned))
-
-pub says_one_text : SaysOneText
-says_one_text line = (says_text line, only_says line)
+    ∙ ap (λ r. before_blanks (after_all (divides Blanks) r)) (only_before 35 line h.entry h.uncommented)

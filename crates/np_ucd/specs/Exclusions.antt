@@ -1,76 +1,76 @@
--- CompositionExclusions.txt (UAX #44): the code points that its lines list, and its first fault.
-use Rattle.std.specs.Prelude.{◌≡◌, ℕ, ◌+◌, nat_le, List, [], ◌∷◌, ◌++◌, ◌==◌, Option, Some, None, option_map, if◌then◌else◌}
-use Rattle.std.specs.Option.{option_and_then}
-use Rattle.std.specs.List.{list_all}
+-- CompositionExclusions.txt, line by line (UAX #44, section 4.2).
+use Rattle.std.specs.Prelude.{◌≡◌, ℕ, ◌≤◌, List, [], ◌∷◌, ◌++◌, Some, ◌⊎◌}
 use Rattle.np_code_points.specs.Codes.{code_value}
-use Rattle.np_ucd.specs.Lines.{lines_of, without_return, before_byte, after_byte, is_empty, is_blank}
-use Rattle.np_ucd.specs.Listed.{Span, is_listed}
-use Rattle.np_ucd.specs.Records.{UcdFault, BadCode}
+use Rattle.np_code_points.specs.Lines.{HasNo, IsBlank, AreBlanks, Numbered, IsDataLine}
+use Rattle.np_ucd.specs.Listed.{Span}
+use Rattle.np_ucd.specs.Tests.{UcdFault, BadCode}
 
--- without the spaces and tabs at its begin
-abbrev pub after_blanks : List ℕ → List ℕ
-after_blanks [] = []
-after_blanks (b ∷ bs) = if is_blank b then after_blanks bs else b ∷ bs
+-- all in front of the first such byte, or all where there is none
+abbrev pub StandsBefore : ℕ → List ℕ → List ℕ → Type 0
+StandsBefore byte bytes front = HasNo byte front × ((bytes ≡ front) ⊎ ((behind : List ℕ) × (bytes ≡ front ++ byte ∷ behind)))
 
--- without the spaces and tabs at its end
-abbrev pub before_blanks : List ℕ → List ℕ
-before_blanks [] = []
-before_blanks (b ∷ bs) = if list_all is_blank (b ∷ bs) then [] else b ∷ before_blanks bs
+-- the text between the blanks at both ends, which begins and ends with none itself
+pub record IsTrimmed (bytes text : List ℕ) : Type 0 where
+  pub front : List ℕ
+  pub back : List ℕ
+  pub stands : bytes ≡ front ++ (text ++ back)
+  pub front_blank : AreBlanks front
+  pub back_blank : AreBlanks back
+  pub begins : (b : ℕ) (rest : List ℕ) → text ≡ b ∷ rest → IsBlank b → ⊥
+  pub ends : (rest : List ℕ) (b : ℕ) → text ≡ rest ++ b ∷ [] → IsBlank b → ⊥
 
--- a line counts up to its first '#' (35), and not the spaces and tabs around
-abbrev pub entry_text : List ℕ → List ℕ
-entry_text line = before_blanks (after_blanks (before_byte 35 (without_return line)))
+-- what a line says: without a comment from '#' (35) on, and the blanks around
+pub record SaysText (line text : List ℕ) : Type 0 where
+  pub entry : List ℕ
+  pub uncommented : StandsBefore 35 line entry
+  pub trimmed : IsTrimmed entry text
 
--- the code points from one to another that is not smaller
-abbrev pub if_rising : ℕ → ℕ → Option Span
-if_rising first last = if nat_le first last then Some (record { first = first; last = last }) else None
+-- a code point
+abbrev pub IsOneCode : List ℕ → Span → Type 0
+IsOneCode text span = (code_value text ≡ Some span.first) × (span.last ≡ span.first)
 
-abbrev pub span_between : List ℕ → List ℕ → Option Span
-span_between first last =
-    option_and_then (λ a. option_and_then (λ b. if_rising a b) (code_value last)) (code_value first)
+-- two of them, the second not smaller, with ".." (46 is '.') between
+pub record IsCodeRange (text : List ℕ) (span : Span) : Type 0 where
+  pub low : List ℕ
+  pub high : List ℕ
+  pub stands : text ≡ low ++ 46 ∷ 46 ∷ high
+  pub first : code_value low ≡ Some span.first
+  pub last : code_value high ≡ Some span.last
+  pub rises : span.first ≤ span.last
 
--- behind the first '.' (46) stands another, and then the last code point
-abbrev pub if_dotted : List ℕ → List ℕ → Option Span
-if_dotted first [] = None
-if_dotted first (b ∷ bs) = if b == 46 then span_between first bs else None
+-- A line lists nothing, or the code points from first to last, or it can't be read.
+abbrev pub ListsNothing : List ℕ → Type 0
+ListsNothing line = SaysText line []
 
--- X, or X..Y
-abbrev pub span_at : List ℕ → Option (List ℕ) → Option Span
-span_at first None = span_between first first
-span_at first (Some behind) = if_dotted first behind
+abbrev pub ListsSpan : List ℕ → Span → Type 0
+ListsSpan line span = (text : List ℕ) × SaysText line text × (IsOneCode text span ⊎ IsCodeRange text span)
 
-unfoldable pub span_value : List ℕ → Option Span
-span_value text = span_at (before_byte 46 text) (after_byte 46 text)
+abbrev pub IsReadable : List ℕ → Type 0
+IsReadable line = ListsNothing line ⊎ ((span : Span) × ListsSpan line span)
 
--- what a line lists, where it can be read: nothing, or a span
-unfoldable pub line_spans : List ℕ → Option (List Span)
-line_spans line =
-    if is_empty (entry_text line) then Some [] else option_map (λ span. span ∷ []) (span_value (entry_text line))
+-- the line of this number can't be read
+pub record IsBadLine (bytes : List ℕ) (number : ℕ) : Type 0 where
+  pub line : Numbered
+  pub is : IsDataLine bytes line
+  pub at : line.line ≡ number
+  pub bad : IsReadable line.text → ⊥
 
--- a line that can't be read is a fault; of the others the first fault of the lines behind
-abbrev pub fault_at : ℕ → Option (List Span) → Option UcdFault → Option UcdFault
-fault_at line None rest = Some (BadCode line)
-fault_at line (Some spans) rest = rest
+-- the first fault: the least of the lines that can't be read
+pub record IsFirstBadLine (bytes : List ℕ) (fault : UcdFault) : Type 0 where
+  pub number : ℕ
+  pub fault_is : fault ≡ BadCode number
+  pub bad : IsBadLine bytes number
+  pub least : (other : ℕ) → IsBadLine bytes other → number ≤ other
 
-unfoldable pub spans_fault : ℕ → List (List ℕ) → Option UcdFault
-spans_fault line [] = None
-spans_fault line (bytes ∷ lines) = fault_at line (line_spans bytes) (spans_fault (line + 1) lines)
+-- each line can be read
+abbrev pub AreReadable : List ℕ → Type 0
+AreReadable bytes = (number : ℕ) → IsBadLine bytes number → ⊥
 
-abbrev pub and_spans : Option (List Span) → List Span → List Span
-and_spans None rest = rest
-and_spans (Some spans) rest = spans ++ rest
-
-unfoldable pub spans_of : List (List ℕ) → List Span
-spans_of [] = []
-spans_of (bytes ∷ lines) = and_spans (line_spans bytes) (spans_of lines)
-
--- the first fault of a file, if it has one, and what it lists, if it has none
-unfoldable pub exclusions_fault : List ℕ → Option UcdFault
-exclusions_fault bytes = spans_fault 1 (lines_of bytes)
-
-unfoldable pub spans_in : List ℕ → List Span
-spans_in bytes = spans_of (lines_of bytes)
-
--- these spans list what the file lists
-abbrev pub ListTheSame : List ℕ → List Span → Type 0
-ListTheSame bytes spans = (code : ℕ) → is_listed spans code ≡ is_listed (spans_in bytes) code
+-- a line lists code points, and this one lies among them
+pub record IsListedIn (bytes : List ℕ) (code : ℕ) : Type 0 where
+  pub line : Numbered
+  pub is : IsDataLine bytes line
+  pub span : Span
+  pub lists : ListsSpan line.text span
+  pub begun : span.first ≤ code
+  pub reached : code ≤ span.last

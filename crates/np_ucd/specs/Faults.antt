@@ -2,8 +2,6 @@
 use Rattle.std.specs.Prelude.{ℕ, List, Option, Some, None, codes}
 use Rattle.np_ucd.specs.declared.faults.UcdFault.{UcdFault}
 use Rattle.np_ucd.specs.declared.faults.UcdFault.TheVariants.{FieldCount, BadCode, OutOfOrder, BadCategory, BadClass, BadMapping, RangeOpen, RangeLone, RangeDiffers, RangeMaps, TooLarge, ReadFailed, Memory}
-use Rattle.np_code_points.specs.declared.input.InputFault.{InputFault}
-use Rattle.np_code_points.specs.declared.input.InputFault.TheVariants as InputFaults
 
 abbrev pub name_of : UcdFault → List ℕ
 name_of (FieldCount _) = codes "FieldCount"
@@ -37,9 +35,3 @@ line_of Memory = None
 
 abbrev pub no_memory : UcdFault
 no_memory = Memory
-
--- the fault of an input that was not read whole
-abbrev pub of_input : InputFault → UcdFault
-of_input InputFaults.TooLarge = TooLarge
-of_input InputFaults.ReadFailed = ReadFailed
-of_input InputFaults.Memory = Memory

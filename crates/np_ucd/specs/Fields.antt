@@ -1,89 +1,63 @@
--- What single fields of UnicodeData.txt say (UAX #44, table 9).
-use Rattle.std.specs.Prelude.{ℕ, ◌+◌, ◌-◌, ◌*◌, Bool, not, ◌&&◌, ◌||◌, ◌==◌, nat_le, List, [], ◌∷◌, length, fold, Option, Some, None, option_map, option_and_then, if◌then◌else◌, codes, nat_eq}
-use Rattle.std.specs.List.{list_all, slice_split, filter, ends_with}
-use lib.Utf8.{scalar}
+-- The fields of a record of UnicodeData.txt, and what single ones say (UAX #44, section 4.2 and table 9).
+use Rattle.std.specs.Prelude.{◌≡◌, ◌≢◌, ℕ, ◌≤◌, List, [], ◌∷◌, ◌++◌, length, codes, Some, ◌⊎◌}
+use Rattle.std.specs.List.{All, join_with_byte}
+use Rattle.std.specs.Str.Parse.{digits_value}
 use Rattle.np_code_points.specs.Codes.{code_value}
-use Rattle.np_ucd.specs.Entries.{MapKind, Plain, Canonical, Compatibility}
-use Rattle.np_ucd.specs.Lines.{is_empty, after_byte}
+use Rattle.np_code_points.specs.Lines.{HasNo}
 
--- ';' (59) stands between two fields
-unfoldable pub fields_of : List ℕ → List (List ℕ)
-fields_of line = slice_split (λ b. b == 59) line
+-- The fields of a record, at least one: ';' (59) stands between two of them, and in none.
+pub record AreFields (text : List ℕ) (fields : List (List ℕ)) : Type 0 where
+  pub some : fields ≢ []
+  pub free : All (HasNo 59) fields
+  pub joined : text ≡ join_with_byte 59 fields
 
-abbrev pub is_letter : ℕ → Bool
-is_letter b = (nat_le 65 b && nat_le b 90) || (nat_le 97 b && nat_le b 122)
+-- Those that are read: the code point, the name, General_Category, Canonical_Combining_Class, and
+-- Decomposition_Type with Decomposition_Mapping.
+pub record Fields : Type 0 where
+  pub code : List ℕ
+  pub name : List ℕ
+  pub category : List ℕ
+  pub class : List ℕ
+  pub mapping : List ℕ
+
+-- a record has fifteen fields, and these are read, the mapping behind Bidi_Class
+pub record HasFields (text : List ℕ) (f : Fields) : Type 0 where
+  pub bidi : List ℕ
+  pub more : List (List ℕ)
+  pub are : AreFields text (f.code ∷ f.name ∷ f.category ∷ f.class ∷ bidi ∷ f.mapping ∷ more)
+  pub count : length more ≡ 9
+
+-- a code point: four to six hex digits, at most 10FFFF
+abbrev pub IsCodeOf : List ℕ → ℕ → Type 0
+IsCodeOf field code = code_value field ≡ Some code
+
+-- an ASCII letter
+abbrev pub IsLetter : ℕ → Type 0
+IsLetter b = ((65 ≤ b) × (b ≤ 90)) ⊎ ((97 ≤ b) × (b ≤ 122))
 
 -- General_Category: two ASCII letters, not `Cn`, which no listed code point has
-unfoldable pub category_value : List ℕ → Option (List ℕ)
-category_value (a ∷ b ∷ []) =
-    if is_letter a && is_letter b && not (a == 67 && b == 110) then Some (a ∷ b ∷ []) else None
-category_value _ = None
+pub record IsCategory (field : List ℕ) : Type 0 where
+  pub first : ℕ
+  pub second : ℕ
+  pub are : field ≡ first ∷ second ∷ []
+  pub first_letter : IsLetter first
+  pub second_letter : IsLetter second
+  pub assigned : field ≢ codes "Cn"
 
-abbrev pub is_digit : ℕ → Bool
-is_digit b = nat_le 48 b && nat_le b 57
-
--- the number that decimal digits write
-abbrev pub number_of : List ℕ → ℕ
-number_of digits = fold (λ n b. 10 * n + (b - 48)) 0 digits
+abbrev pub IsDigit : ℕ → Type 0
+IsDigit b = (48 ≤ b) × (b ≤ 57)
 
 -- Canonical_Combining_Class: 1 to 3 decimal digits, at most 254
-abbrev pub is_class : List ℕ → Bool
-is_class digits =
-    nat_le 1 (length digits) && nat_le (length digits) 3 && list_all is_digit digits && nat_le (number_of digits) 254
+pub record IsClassOf (field : List ℕ) (class : ℕ) : Type 0 where
+  pub some : 1 ≤ length field
+  pub few : length field ≤ 3
+  pub digits : All IsDigit field
+  pub value : class ≡ digits_value 10 field
+  pub bound : class ≤ 254
 
-unfoldable pub class_value : List ℕ → Option ℕ
-class_value digits = if is_class digits then Some (number_of digits) else None
+-- the names of the first record of a range and of the last one end so (section 4.2.3)
+abbrev pub IsFirstName : List ℕ → Type 0
+IsFirstName name = (front : List ℕ) × (name ≡ front ++ codes ", First>")
 
--- the words of a text, which spaces (32) divide
-unfoldable pub words_of : List ℕ → List (List ℕ)
-words_of text = filter (λ word. not (is_empty word)) (slice_split (λ b. b == 32) text)
-
--- a code point that is no surrogate
-abbrev pub if_scalar : ℕ → Option ℕ
-if_scalar code = if scalar code then Some code else None
-
-unfoldable pub scalar_value : List ℕ → Option ℕ
-scalar_value word = option_and_then if_scalar (code_value word)
-
--- the code points that the words write, where each of them writes one
-unfoldable pub scalars_of : List (List ℕ) → Option (List ℕ)
-scalars_of [] = Some []
-scalars_of (word ∷ words) = option_and_then (λ code. option_map (λ codes. code ∷ codes) (scalars_of words)) (scalar_value word)
-
--- Decomposition_Type, told apart as canonical and not, and Decomposition_Mapping
-pub record Mapping : Type 0 where
-  pub kind : MapKind
-  pub codes : List ℕ
-
--- at least one and at most so many
-abbrev pub if_short : ℕ → List ℕ → Option (List ℕ)
-if_short most codes = if nat_le 1 (length codes) && nat_le (length codes) most then Some codes else None
-
--- the code points that a text writes, where it writes at least one and at most so many
-unfoldable pub short_scalars : ℕ → List ℕ → Option (List ℕ)
-short_scalars most text = option_and_then (if_short most) (scalars_of (words_of text))
-
-abbrev pub listed_mapping : MapKind → ℕ → List ℕ → Option Mapping
-listed_mapping kind most text = option_map (λ codes. record { kind = kind; codes = codes }) (short_scalars most text)
-
-abbrev pub after_spaces : List ℕ → List ℕ
-after_spaces [] = []
-after_spaces (b ∷ bs) = if b == 32 then after_spaces bs else b ∷ bs
-
--- nothing; or 1 or 2 code points; or '<' (60), a tag up to the next '>' (62), and 1 to 32 code points
-abbrev pub mapping_at : List ℕ → Option Mapping
-mapping_at [] = Some (record { kind = Plain; codes = [] })
-mapping_at (b ∷ bs) =
-    if b == 60 then option_and_then (listed_mapping Compatibility 32) (after_byte 62 bs)
-    else listed_mapping Canonical 2 (b ∷ bs)
-
--- spaces before and behind all that count for nothing
-unfoldable pub mapping_value : List ℕ → Option Mapping
-mapping_value field = mapping_at (after_spaces field)
-
--- the names of a range's two records end so
-unfoldable pub opens_range : List ℕ → Bool
-opens_range name = ends_with nat_eq name (codes ", First>")
-
-unfoldable pub closes_range : List ℕ → Bool
-closes_range name = ends_with nat_eq name (codes ", Last>")
+abbrev pub IsLastName : List ℕ → Type 0
+IsLastName name = (front : List ℕ) × (name ≡ front ++ codes ", Last>")

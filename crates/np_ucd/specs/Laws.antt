@@ -1,81 +1,46 @@
--- The laws of the grammar: what the definitions that the readers' contracts cite say in its relations.
-use Rattle.std.specs.Prelude.{◌≡◌, ℕ, true, List, Option, Some, None, ◌↔◌}
-use Rattle.std.specs.List.{All}
-use Rattle.np_ucd.specs.ExclusionGrammar.{SaysText, IsReadable, IsReadAsListed, IsFirstBadLine, IsListedIn}
-use Rattle.np_ucd.specs.Exclusions.{entry_text, exclusions_fault, spans_in}
-use Rattle.np_ucd.specs.FaultGrammar.{FitsNone, IsFirstFault, IsWithoutFault}
-use Rattle.np_ucd.specs.Fields.{fields_of, words_of, Mapping, mapping_value}
-use Rattle.np_ucd.specs.Files.{first_fault, records_in, rows_in}
-use Rattle.np_ucd.specs.Grammar.{IsOnly, AreLines, DropsReturn, AreFields}
-use Rattle.np_ucd.specs.Lines.{lines_of, without_return}
-use Rattle.np_ucd.specs.Listed.{is_listed}
-use Rattle.np_ucd.specs.MappingGrammar.{AreWords, IsMapping}
-use Rattle.np_ucd.specs.RecordGrammar.{AreRecords}
-use Rattle.np_ucd.specs.Records.{UcdFault, BadCode, Neighbour, record_tests}
-use Rattle.np_ucd.specs.RowGrammar.{AreAllRows}
-use Rattle.np_ucd.specs.TestGrammar.{IsWellFormed}
-
--- bytes are cut into lines in one way
-abbrev pub HasOneCut : Type 0
-HasOneCut = (bytes : List ℕ) → IsOnly (AreLines bytes) (lines_of bytes)
-
--- a line is one text without its return
-abbrev pub HasOneText : Type 0
-HasOneText = (line : List ℕ) → IsOnly (DropsReturn line) (without_return line)
-
--- a file has one list of records
-abbrev pub HasOneListOfRecords : Type 0
-HasOneListOfRecords = (bytes : List ℕ) → IsOnly (AreRecords bytes) (records_in bytes)
+-- The laws of the grammar: what its relations determine.
+use Rattle.std.specs.Prelude.{◌≡◌, ℕ, List, ◌⊎◌}
+use Rattle.np_code_points.specs.Laws.{HasOne}
+use Rattle.np_ucd.specs.AllRows.{AreAllRows}
+use Rattle.np_ucd.specs.Exclusions.{SaysText, ListsNothing, ListsSpan, IsFirstBadLine, AreReadable}
+use Rattle.np_ucd.specs.Fields.{AreFields}
+use Rattle.np_ucd.specs.FirstFaults.{HasNoFault, IsFirstFault}
+use Rattle.np_ucd.specs.Listed.{Span}
+use Rattle.np_ucd.specs.Mappings.{Mapping, IsMapping}
+use Rattle.np_ucd.specs.Tests.{UcdFault}
 
 -- a record is cut into fields in one way
 abbrev pub HasOneListOfFields : Type 0
-HasOneListOfFields = (text : List ℕ) → IsOnly (AreFields text) (fields_of text)
+HasOneListOfFields = (text : List ℕ) → HasOne (AreFields text)
 
--- a text is cut into words in one way
-abbrev pub HasOneListOfWords : Type 0
-HasOneListOfWords = (text : List ℕ) → IsOnly (AreWords text) (words_of text)
+-- a field says at most one mapping
+abbrev pub SaysOneMapping : Type 0
+SaysOneMapping = (field : List ℕ) (a b : Mapping) → IsMapping field a → IsMapping field b → a ≡ b
 
--- what is read of a mapping's field is what it says
-abbrev pub ReadsMappings : Type 0
-ReadsMappings = (field : List ℕ) (to : Mapping) → (mapping_value field ≡ Some to) ↔ IsMapping field to
+-- each file has no fault, or one first fault, and not both
+pub record HasOneVerdict (bytes : List ℕ) : Type 0 where
+  pub either : HasNoFault bytes ⊎ HasOne (IsFirstFault bytes)
+  pub not_both : HasNoFault bytes → (fault : UcdFault) → IsFirstFault bytes fault → ⊥
 
--- no test fits a record exactly where it is well formed
-abbrev pub PassesTheWellFormed : Type 0
-PassesTheWellFormed =
-    (neighbour : Option Neighbour) (line : ℕ) (text : List ℕ) →
-    FitsNone (record_tests neighbour line text) ↔ IsWellFormed neighbour text
-
--- UnicodeData.txt is taken exactly where it has no fault
-abbrev pub TakesTheFaultless : Type 0
-TakesTheFaultless = (bytes : List ℕ) → (first_fault bytes ≡ None) ↔ IsWithoutFault bytes
-
--- the fault that it is refused with is its first one
-abbrev pub NamesFirstFault : Type 0
-NamesFirstFault = (bytes : List ℕ) (fault : UcdFault) → (first_fault bytes ≡ Some fault) ↔ IsFirstFault bytes fault
+abbrev pub HaveOneVerdict : Type 0
+HaveOneVerdict = (bytes : List ℕ) → HasOneVerdict bytes
 
 -- a file without a fault has one list of rows
 abbrev pub HasOneListOfRows : Type 0
-HasOneListOfRows = (bytes : List ℕ) → first_fault bytes ≡ None → IsOnly (AreAllRows bytes) (rows_in bytes)
+HasOneListOfRows = (bytes : List ℕ) → HasNoFault bytes → HasOne (AreAllRows bytes)
 
 -- a line of CompositionExclusions.txt says one text
 abbrev pub SaysOneText : Type 0
-SaysOneText = (line : List ℕ) → IsOnly (SaysText line) (entry_text line)
+SaysOneText = (line : List ℕ) → HasOne (SaysText line)
 
--- what is read of a line of CompositionExclusions.txt is what it lists
-abbrev pub ReadsLines : Type 0
-ReadsLines = (line : List ℕ) → IsReadAsListed line
+-- it lists nothing, or the code points of one span, and not both
+pub record ListsOneThing (line : List ℕ) : Type 0 where
+  pub one : (a b : Span) → ListsSpan line a → ListsSpan line b → a ≡ b
+  pub not_both : (a : Span) → ListsNothing line → ListsSpan line a → ⊥
 
--- CompositionExclusions.txt is taken exactly where each line can be read
-abbrev pub TakesTheReadable : Type 0
-TakesTheReadable =
-    (bytes : List ℕ) → (exclusions_fault bytes ≡ None) ↔ ((lines : List (List ℕ)) → AreLines bytes lines → All IsReadable lines)
+abbrev pub ListOneThing : Type 0
+ListOneThing = (line : List ℕ) → ListsOneThing line
 
--- the fault that it is refused with is its first line that can't be read
-abbrev pub NamesFirstBadLine : Type 0
-NamesFirstBadLine =
-    (bytes : List ℕ) (fault : UcdFault) →
-    (exclusions_fault bytes ≡ Some fault) ↔ ((number : ℕ) × (fault ≡ BadCode number) × IsFirstBadLine bytes number)
-
--- a code point is listed exactly where a line lists it
-abbrev pub ListsTheCodes : Type 0
-ListsTheCodes = (bytes : List ℕ) (code : ℕ) → (is_listed (spans_in bytes) code ≡ true) ↔ IsListedIn bytes code
+-- each line of CompositionExclusions.txt can be read, or one is the first that can't
+abbrev pub HasOneBadLine : Type 0
+HasOneBadLine = (bytes : List ℕ) → AreReadable bytes ⊎ HasOne (IsFirstBadLine bytes)

@@ -1,50 +1,34 @@
 //! UnicodeData.txt as a whole.
-ghost use Rattle.std.specs.Prelude.{◌≡◌, ◌++◌, ◌∷◌, [], length, map, option_map, if◌then◌else◌, IfOk, IfErr, OnOk, None};
-ghost use Rattle.np_ucd.specs.Entries.{AreRows};
-ghost use Rattle.np_ucd.specs.Files.{end_fault, first_fault, rows_in};
-ghost use Rattle.np_ucd.specs.LineSteps.{line_fault, line_neighbour, line_rows};
-ghost use Rattle.np_ucd.specs.RecordValues.{neighbour_value, IsMemoryOr};
+ghost use Rattle.std.specs.Prelude.{◌≡◌, ◌++◌, [], map, option_map, IfOk, IfErr, OnOk, None};
 ghost use Rattle.np_ucd.specs.RowValues.{entry_of};
+ghost use Rattle.np_ucd.specs.inside.FileReading.{end_fault, first_fault, rows_in};
+ghost use Rattle.np_ucd.specs.inside.RecordReading.{neighbour_of, record_fault, record_rows};
+ghost use Rattle.np_ucd.specs.inside.RecordValues.{neighbour_value, IsMemoryOr};
 
 use crate::faults::UcdFault;
-use crate::lines::{cut_line, is_skipped, without_return};
 use crate::records::{Neighbour, Record, read_record};
 use crate::rows::{Row, Rows};
-use np_code_points::Memory;
+use np_code_points::lines::{DataLine, DataLines};
 use std::alloc::Global;
 
-/// Adds the row of a record, unless the record is the first one of a range.
-fn take_record(rows: &mut Vec<Row>, read: Record) -> Result<Neighbour, Memory>
-    ensures neighbour { IfOk result (λ n. n ≡ read.neighbour) }
-    ensures rows { OnOk result (map entry_of rows.new.items ≡ map entry_of rows.old.items
-        ++ (if read.neighbour.opens then [] else entry_of read.row ∷ [])) }
+/// Reads a record behind the record before, adds its row, unless it is the first one of a range,
+/// and answers what the next record is held against.
+fn take_record(
+    alloc: Global,
+    rows: &mut Vec<Row>,
+    before: Option<Neighbour>,
+    line: DataLine<'_>,
+) -> Result<Neighbour, UcdFault>
+    ensures fine { OnOk result (record_fault (option_map neighbour_value before) line.entry.number line.entry.text.now ≡ None) }
+    ensures next { IfOk result (λ n. neighbour_value n ≡ neighbour_of line.entry.number line.entry.text.now) }
+    ensures rows { OnOk result (map entry_of rows.new.items ≡ map entry_of rows.old.items ++ record_rows (option_map neighbour_value before) line.entry.text.now) }
+    ensures fault { IfErr result (λ e. IsMemoryOr (record_fault (option_map neighbour_value before) line.entry.number line.entry.text.now) e) }
 {
-    let Record { neighbour, row } = read;
+    let Record { neighbour, row } = read_record(alloc, before, line.number, line.text)?;
     if !neighbour.opens {
         rows.push(row)?;
     }
     Ok(neighbour)
-}
-
-/// Reads one line, behind the record before, and answers the record that is before the next line.
-fn take_line(
-    alloc: Global,
-    rows: &mut Vec<Row>,
-    before: Option<Neighbour>,
-    line: u64,
-    text: &[u8],
-) -> Result<Option<Neighbour>, UcdFault>
-    ensures fine { OnOk result (line_fault (option_map neighbour_value before) line text.now ≡ None) }
-    ensures next { IfOk result (λ next. option_map neighbour_value next ≡ line_neighbour (option_map neighbour_value before) line text.now) }
-    ensures rows { OnOk result (map entry_of rows.new.items ≡ map entry_of rows.old.items ++ line_rows (option_map neighbour_value before) text.now) }
-    ensures fault { IfErr result (λ e. IsMemoryOr (line_fault (option_map neighbour_value before) line text.now) e) }
-{
-    if is_skipped(text) {
-        return Ok(before);
-    }
-    let record = read_record(alloc, before, line, text)?;
-    let next = take_record(rows, record)?;
-    Ok(Some(next))
 }
 
 /// The fault of a file that ends behind this record.
@@ -64,14 +48,9 @@ fn take_rows(alloc: Global, rows: &mut Vec<Row>, bytes: &[u8]) -> Result<(), Ucd
     ensures rows { OnOk result (map entry_of rows.new.items ≡ rows_in bytes.now) }
     ensures fault { IfErr result (λ e. IsMemoryOr (first_fault bytes.now) e) }
 {
-    let mut rest = bytes;
-    let mut line: u64 = 0;
     let mut before: Option<Neighbour> = None;
-    while !rest.is_empty() {
-        let (front, behind) = cut_line(rest);
-        line += 1;
-        before = take_line(alloc, rows, before, line, without_return(front))?;
-        rest = behind;
+    for line in DataLines::new(bytes) {
+        before = Some(take_record(alloc, rows, before, line)?);
     }
     match open_range(before) {
         Some(fault) => Err(fault),

@@ -1,20 +1,20 @@
 //! The code points that CompositionExclusions.txt lists.
 ghost use Rattle.std.specs.Prelude.{◌≡◌, ℕ, map, IfOk};
 ghost use Rattle.np_ucd.specs.Listed.{is_listed};
-ghost use Rattle.np_ucd.specs.SpanValues.{raised};
+ghost use Rattle.np_ucd.specs.inside.SpanValues.{raised};
 
 use np_code_points::Memory;
 use std::marker::Model;
 
 /// The code points from `first` to `last`, both included.
-#[derive(Clone, Copy)]
+#[derive(Clone, Copy, Debug)]
 pub(crate) struct Listing {
     pub first: u32,
     pub last: u32,
 }
 
 /// A set of code points.
-#[derive(Drop)]
+#[derive(Debug, Drop)]
 pub struct Exclusions {
     listings: Vec<Listing>,
 }
@@ -25,7 +25,7 @@ impl Model for Exclusions {
 
     ghost Value = { List Span };
 
-    ghost use Rattle.np_ucd.specs.SpanValues.{span_of, AreRising};
+    ghost use Rattle.np_ucd.specs.inside.SpanValues.{span_of, AreRising};
 
     ghost view = { λ a. map span_of a.listings.items };
 
@@ -49,7 +49,7 @@ fn raise_lasts(listings: &mut Vec<Listing>)
 }
 
 impl Exclusions {
-    ghost use Rattle.np_ucd.specs.SpanValues.{span_of};
+    ghost use Rattle.np_ucd.specs.inside.SpanValues.{span_of};
 
     /// The code points of these listings, in any order.
     pub(crate) fn of_listings(mut listings: Vec<Listing>) -> Result<Exclusions, Memory>

@@ -3,6 +3,7 @@ ghost use Rattle.std.specs.Prelude.{◌≡◌, Option};
 ghost use Rattle.np_ucd.specs.Faults.{name_of, line_of, no_memory};
 
 use np_code_points::Memory;
+use std::alloc::{AllocError, AllocFailed};
 use thiserror::Error;
 
 /// Why a file was not read. Lines count from 1.
@@ -53,6 +54,22 @@ impl From<Memory> for UcdFault {
     ghost from_gives = { λ _ e. e ≡ no_memory };
 
     fn from(_refused: Memory) -> UcdFault {
+        UcdFault::Memory
+    }
+}
+
+impl From<AllocError> for UcdFault {
+    ghost from_gives = { λ _ e. e ≡ no_memory };
+
+    fn from(_refused: AllocError) -> UcdFault {
+        UcdFault::Memory
+    }
+}
+
+impl<T: Drop> From<AllocFailed<T>> for UcdFault {
+    ghost from_gives = { λ _ e. e ≡ no_memory };
+
+    fn from(_refused: AllocFailed<T>) -> UcdFault {
         UcdFault::Memory
     }
 }

@@ -1,6 +1,6 @@
 //! What single fields of a record say.
 ghost use Rattle.std.specs.Prelude.{◌≡◌, ◌∷◌, [], ◌&&◌, option_map};
-ghost use Rattle.np_ucd.specs.Fields.{category_value, class_value, is_letter as letter, is_digit as digit, opens_range as opening, closes_range as closing};
+ghost use Rattle.np_ucd.specs.inside.FieldReading.{category_value, class_value, is_letter as letter, is_digit as digit, opens_range as opening, closes_range as closing};
 
 /// Whether the byte is an ASCII letter.
 fn is_letter(byte: u8) -> bool
@@ -10,7 +10,7 @@ fn is_letter(byte: u8) -> bool
 }
 
 /// A General_Category, where the field holds one that a listed code point may have.
-#[tactic(auto, unfolding(crate::specs::Fields::category_value))]
+#[tactic(auto, unfolding(crate::specs::inside::FieldReading::category_value))]
 pub(crate) fn category_of(field: &[u8]) -> Option<[u8; 2]>
     ensures { result ≡ category_value field.now }
 {
@@ -28,7 +28,7 @@ fn is_digit(byte: u8) -> bool
 }
 
 /// Whether a record of this name begins a range.
-#[tactic(auto, unfolding(crate::specs::Fields::opens_range))]
+#[tactic(auto, unfolding(crate::specs::inside::FieldReading::opens_range))]
 pub(crate) fn opens_range(name: &[u8]) -> bool
     ensures { result ≡ opening name.now }
 {
@@ -36,7 +36,7 @@ pub(crate) fn opens_range(name: &[u8]) -> bool
 }
 
 /// Whether a record of this name ends a range.
-#[tactic(auto, unfolding(crate::specs::Fields::closes_range))]
+#[tactic(auto, unfolding(crate::specs::inside::FieldReading::closes_range))]
 pub(crate) fn closes_range(name: &[u8]) -> bool
     ensures { result ≡ closing name.now }
 {
@@ -44,7 +44,7 @@ pub(crate) fn closes_range(name: &[u8]) -> bool
 }
 
 /// The number of three digits, where it is a combining class.
-#[tactic(auto, unfolding(crate::specs::Fields::class_value))]
+#[tactic(auto, unfolding(crate::specs::inside::FieldReading::class_value))]
 fn class_of_digits(a: u8, b: u8, c: u8) -> Option<u8>
     ensures { result ≡ class_value (a ∷ b ∷ c ∷ []) }
 {
@@ -58,7 +58,7 @@ fn class_of_digits(a: u8, b: u8, c: u8) -> Option<u8>
 }
 
 /// A Canonical_Combining_Class, where the field holds one.
-#[tactic(auto, unfolding(crate::specs::Fields::class_value))]
+#[tactic(auto, unfolding(crate::specs::inside::FieldReading::class_value))]
 pub(crate) fn class_of(field: &[u8]) -> Option<u8>
     ensures { result ≡ class_value field.now }
 {

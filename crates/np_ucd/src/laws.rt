@@ -1,22 +1,6 @@
-//! The laws of the grammar of both files, over the definitions alone.
-ghost use Rattle.np_ucd.specs.Laws.{HasOneCut, HasOneListOfFields, HasOneListOfRecords, HasOneListOfRows, HasOneListOfWords, HasOneText, ListsTheCodes, NamesFirstBadLine, NamesFirstFault, PassesTheWellFormed, ReadsLines, ReadsMappings, SaysOneText, TakesTheFaultless, TakesTheReadable};
-
-/// LF ends a line, and a last line may stand without it (UAX #44, section 4.2): each file is cut
-/// into lines in exactly one way.
-pub fn lines()
-    ensures { HasOneCut }
-{}
-
-/// A line may end in CR LF: one CR at its end, and no other, is dropped (UAX #44, section 4.2).
-pub fn carriage_returns()
-    ensures { HasOneText }
-{}
-
-/// The records of UnicodeData.txt are its lines that are no comments and not blank (UAX #44,
-/// section 4.2), each with the number of its line, in their order; and no other list is.
-pub fn records()
-    ensures { HasOneListOfRecords }
-{}
+//! The laws of the grammar of both files, over the definitions alone: each function is empty, and
+//! its contract is what is proved.
+ghost use Rattle.np_ucd.specs.Laws.{HasOneBadLine, HasOneListOfFields, HasOneListOfRows, HaveOneVerdict, ListOneThing, SaysOneMapping, SaysOneText};
 
 /// `;` stands between two fields of a record (UAX #44, section 4.2): each record is cut into fields
 /// in exactly one way.
@@ -24,37 +8,17 @@ pub fn fields()
     ensures { HasOneListOfFields }
 {}
 
-/// Spaces divide the code points of a mapping's field (UAX #44, table 9): each text is cut into
-/// words in exactly one way.
-pub fn words()
-    ensures { HasOneListOfWords }
-{}
-
 /// A mapping's field says none, a canonical one of one or two code points, or, behind a tag in
-/// `<` and `>`, a compatibility one of up to 32 (UAX #44, table 9).
+/// `<` and `>`, a compatibility one of up to 32 (UAX #44, table 9), and never two of them.
 pub fn mappings()
-    ensures { ReadsMappings }
+    ensures { SaysOneMapping }
 {}
 
-/// No test fits a record exactly where it has fifteen fields, those that are read say a code point,
-/// a category, a class and a mapping (UAX #44, table 9), its code point is above the one before,
-/// and it ends the range that the record just before it begins, or neither is of a range (section
-/// 4.2.3).
-pub fn tests()
-    ensures { PassesTheWellFormed }
-{}
-
-/// UnicodeData.txt has no fault exactly where no test of any record fits, and the last record
-/// begins no range (UAX #44, section 4.2.3).
-pub fn no_fault()
-    ensures { TakesTheFaultless }
-{}
-
-/// The fault of UnicodeData.txt is that of the least faulty line, and there of the first test that
-/// fits (UAX #44, table 9, and section 4.2.3 for the tests between two records); a range that is
-/// open at the end comes last.
+/// UnicodeData.txt has no fault, or exactly one first fault: that of the least faulty line, and
+/// there of the least test that fits (UAX #44, table 9, and section 4.2.3 for the tests between two
+/// records); a range that is open at the end comes last.
 pub fn first_fault()
-    ensures { NamesFirstFault }
+    ensures { HaveOneVerdict }
 {}
 
 /// The rows of UnicodeData.txt without a fault are those of its records that begin no range (UAX
@@ -65,28 +29,17 @@ pub fn rows()
 {}
 
 /// A line of CompositionExclusions.txt says what stands before its first `#`, without the spaces
-/// and tabs around (UAX #44, section 4.2).
+/// and tabs around (UAX #44, section 4.2), and nothing else.
 pub fn exclusion_text()
     ensures { SaysOneText }
 {}
 
-/// Such a text is nothing, or a code point, or two with `..` between of which the second is not
-/// smaller; a line that says any other can't be read.
+/// It lists nothing, or the code points of one span, and not both.
 pub fn exclusion_line()
-    ensures { ReadsLines }
+    ensures { ListOneThing }
 {}
 
-/// CompositionExclusions.txt has no fault exactly where each of its lines can be read.
-pub fn no_bad_line()
-    ensures { TakesTheReadable }
-{}
-
-/// The fault of CompositionExclusions.txt is its first line that can't be read.
+/// Each line of CompositionExclusions.txt can be read, or exactly one is the first that can't.
 pub fn first_bad_line()
-    ensures { NamesFirstBadLine }
-{}
-
-/// A code point is listed exactly where a line lists it, alone or in a range.
-pub fn listed()
-    ensures { ListsTheCodes }
+    ensures { HasOneBadLine }
 {}

@@ -6,7 +6,6 @@ pub mod exclusions;
 pub mod faults;
 mod fields;
 pub mod laws;
-mod lines;
 mod mappings;
 mod readers;
 mod records;

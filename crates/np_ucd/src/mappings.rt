@@ -1,12 +1,13 @@
 //! The mappings of records.
-ghost use Rattle.std.specs.Prelude.{◌≡◌, ◌<◌, ◌∷◌, [], length, option_map, if◌then◌else◌, IfOk, MatchOption};
-ghost use Rattle.np_ucd.specs.Fields.{scalar_value, words_of, short_scalars, after_spaces as spaces_dropped, listed_mapping, mapping_value};
-ghost use Rattle.np_ucd.specs.MappingValues.{mapping_of};
+ghost use Rattle.std.specs.Prelude.{◌≡◌, [], option_map, if◌then◌else◌, IfOk};
+ghost use Rattle.np_ucd.specs.inside.FieldReading.{scalar_value, short_scalars, listed_mapping, mapping_value};
+ghost use Rattle.np_ucd.specs.inside.MappingValues.{mapping_of};
 
-use crate::lines::cut;
 use crate::rows::MapKind;
 use np_code_points::Memory;
 use np_code_points::codes::code_of;
+use np_code_points::lines::cut;
+use np_code_points::words::{Dividers, Words, after_dividers};
 use smallvec::SmallVec;
 use std::alloc::Global;
 
@@ -21,43 +22,12 @@ pub(crate) struct Mapping {
     pub codes: SmallVec<char, 2>,
 }
 
-/// The text without the spaces at its begin.
-fn after_spaces(text: &[u8]) -> &[u8]
-    ensures { result.now ≡ spaces_dropped text.now }
-{
-    for (at, b) in text.iter().enumerate() {
-        if *b != b' ' {
-            return &text[at..];
-        }
-    }
-    &[]
-}
-
-/// The first word, and what is behind it.
-fn next_word(text: &[u8]) -> Option<(&[u8], &[u8])>
-    ensures { MatchOption result (words_of text.now ≡ [])
-        (λ p. (words_of text.now ≡ p.0.now ∷ words_of p.1.now) × (length p.1.now < length text.now)) }
-{
-    let text = after_spaces(text);
-    if text.is_empty() {
-        return None;
-    }
-    let (word, rest) = cut(text, b' ');
-    match rest {
-        Some(rest) => Some((word, rest)),
-        None => Some((word, &[])),
-    }
-}
-
 /// The code point of a word, where it is one and no surrogate.
-#[tactic(auto, unfolding(crate::specs::Fields::scalar_value))]
+#[tactic(auto, unfolding(crate::specs::inside::FieldReading::scalar_value))]
 fn scalar_of(word: &[u8]) -> Option<char>
     ensures { result ≡ scalar_value word.now }
 {
-    match code_of(word) {
-        Some(code) => char::from_u32(code),
-        None => None,
-    }
+    char::from_u32(code_of(word)?)
 }
 
 /// Reads the code points that a text writes, and answers whether it writes at least one and at
@@ -66,8 +36,7 @@ fn read_scalars(codes: &mut SmallVec<char, 2>, most: usize, text: &[u8]) -> Resu
     requires { codes.old.items ≡ [] }
     ensures { IfOk result (λ fine. short_scalars most text.now ≡ (if fine then Some codes.new.items else None)) }
 {
-    let mut rest = text;
-    while let Some((word, behind)) = next_word(rest) {
+    for word in Words::new(text, Dividers::Spaces) {
         let Some(code) = scalar_of(word) else {
             return Ok(false);
         };
@@ -75,7 +44,6 @@ fn read_scalars(codes: &mut SmallVec<char, 2>, most: usize, text: &[u8]) -> Resu
             return Ok(false);
         }
         codes.push(code)?;
-        rest = behind;
     }
     Ok(!codes.is_empty())
 }
@@ -96,7 +64,7 @@ fn listed(alloc: Global, kind: MapKind, most: usize, text: &[u8]) -> Result<Opti
 pub(crate) fn read_mapping(alloc: Global, field: &[u8]) -> Result<Option<Mapping>, Memory>
     ensures { IfOk result (λ mapping. option_map mapping_of mapping ≡ mapping_value field.now) }
 {
-    let text = after_spaces(field);
+    let text = after_dividers(field, Dividers::Spaces);
     if text.is_empty() {
         return Ok(Some(Mapping {
             kind: MapKind::Plain,

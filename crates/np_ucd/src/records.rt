@@ -1,17 +1,17 @@
 //! The records of UnicodeData.txt.
 ghost use Rattle.std.specs.Prelude.{◌≡◌, ◌≢◌, ◌∷◌, ◌⊎◌, length, option_map, ◌==◌, IfOk, IfErr, MatchOption, Some, None};
-ghost use Rattle.np_ucd.specs.Fields.{fields_of as parts};
-ghost use Rattle.np_ucd.specs.Records.{field, is_at_most as at_most, is_open as open_before, first_code as first, record_fault, neighbour_of, row_of};
-ghost use Rattle.np_ucd.specs.RecordValues.{neighbour_value, IsHead, differs as differ, late_fault as late, IsMemoryOr};
 ghost use Rattle.np_ucd.specs.RowValues.{entry_of};
+ghost use Rattle.np_ucd.specs.inside.FieldReading.{fields_of as parts};
+ghost use Rattle.np_ucd.specs.inside.RecordReading.{field, is_at_most as at_most, is_open as open_before, differs as differ, late_tests, first_that_fits, first_code as first, record_fault, neighbour_of, row_of};
+ghost use Rattle.np_ucd.specs.inside.RecordValues.{neighbour_value, IsHead, IsMemoryOr};
 ghost use lib.Utf8.{scalar};
 
 use crate::faults::UcdFault;
 use crate::fields::{category_of, class_of, closes_range, opens_range};
-use crate::lines::cut;
 use crate::mappings::read_mapping;
 use crate::rows::Row;
 use np_code_points::codes::code_of;
+use np_code_points::lines::cut;
 use std::alloc::Global;
 
 /// What the next record is held against.
@@ -54,14 +54,11 @@ fn next_field(rest: &[u8]) -> Option<(&[u8], &[u8])>
     ensures { MatchOption result (length (parts rest.now) ≡ 1) (λ p. parts rest.now ≡ p.0.now ∷ parts p.1.now) }
 {
     let (field, rest) = cut(rest, b';');
-    match rest {
-        Some(rest) => Some((field, rest)),
-        None => None,
-    }
+    Some((field, rest?))
 }
 
 /// Whether these are the last nine fields of a record.
-#[tactic(auto, unfolding(crate::specs::Fields::fields_of))]
+#[tactic(auto, unfolding(crate::specs::inside::FieldReading::fields_of))]
 fn are_nine(rest: &[u8]) -> bool
     ensures { result ≡ (length (parts rest.now) == 9) }
 {
@@ -164,14 +161,13 @@ fn is_scalar(code: u32) -> bool
 }
 
 /// The fault of a record whose fields can all be read.
-#[tactic(auto, unfolding(crate::specs::RecordValues::late_fault))]
 fn late_fault(
     before: Option<Neighbour>,
     neighbour: Neighbour,
     closes: bool,
     maps: bool,
 ) -> Option<UcdFault>
-    ensures { result ≡ late (option_map neighbour_value before) (neighbour_value neighbour) closes maps }
+    ensures { result ≡ first_that_fits (late_tests (option_map neighbour_value before) (neighbour_value neighbour) closes maps) }
 {
     let line = neighbour.line;
     if maps && !is_scalar(neighbour.code) {

@@ -17,7 +17,7 @@ pub enum MapKind {
 }
 
 /// One row: the code points from `first` to `last`, both included, share a combining class.
-#[derive(Drop)]
+#[derive(Debug, PartialEq, Eq, Drop)]
 pub struct Row {
     /// The first code point.
     pub first: u32,
@@ -32,7 +32,7 @@ pub struct Row {
 }
 
 /// Rows in the order of their code points, none of which is in two of them.
-#[derive(Drop)]
+#[derive(Debug, Drop)]
 pub struct Rows {
     rows: Vec<Row>,
 }

@@ -1,27 +1,16 @@
 //! The lines of CompositionExclusions.txt.
-ghost use Rattle.std.specs.Prelude.{◌≡◌, ◌++◌, [], map, option_map, OnOk, IfOk, IfErr, None};
-ghost use Rattle.np_ucd.specs.Exclusions.{after_blanks as front_dropped, before_blanks as back_dropped, span_between as span_from, if_dotted, span_value, line_spans, fault_at, and_spans, exclusions_fault, spans_in, ListTheSame};
-ghost use Rattle.np_ucd.specs.SpanValues.{span_of, spans_of_listing};
-ghost use Rattle.np_ucd.specs.RecordValues.{IsMemoryOr};
+ghost use Rattle.std.specs.Prelude.{◌≡◌, ◌++◌, ℕ, [], map, option_map, OnOk, IfOk, IfErr, None};
+ghost use Rattle.np_ucd.specs.Listed.{is_listed};
+ghost use Rattle.np_ucd.specs.inside.ExclusionReading.{before_blanks as back_dropped, span_between as span_from, if_dotted, span_value, line_spans, fault_at, and_spans, exclusions_fault, spans_in};
+ghost use Rattle.np_ucd.specs.inside.RecordValues.{IsMemoryOr};
+ghost use Rattle.np_ucd.specs.inside.SpanValues.{span_of, spans_of_listing};
 
 use crate::exclusions::{Exclusions, Listing};
 use crate::faults::UcdFault;
-use crate::lines::{cut, cut_line, is_blank, without_return};
-use np_code_points::Memory;
 use np_code_points::codes::code_of;
+use np_code_points::lines::{DataLine, DataLines, cut, is_blank};
+use np_code_points::words::{Dividers, after_dividers};
 use std::alloc::Global;
-
-/// The text without the spaces and tabs at its begin.
-fn after_blanks(text: &[u8]) -> &[u8]
-    ensures { result.now ≡ front_dropped text.now }
-{
-    for (at, b) in text.iter().enumerate() {
-        if !is_blank(*b) {
-            return &text[at..];
-        }
-    }
-    &[]
-}
 
 /// The text without the spaces and tabs at its end.
 fn before_blanks(text: &[u8]) -> &[u8]
@@ -48,7 +37,7 @@ fn span_between(first: &[u8], last: &[u8]) -> Option<Listing>
 }
 
 /// The code points of a text `X` or `X..Y`.
-#[tactic(auto, unfolding(crate::specs::Exclusions::span_value))]
+#[tactic(auto, unfolding(crate::specs::inside::ExclusionReading::span_value))]
 fn read_span(text: &[u8]) -> Option<Listing>
     ensures { option_map span_of result ≡ span_value text.now }
 {
@@ -61,12 +50,12 @@ fn read_span(text: &[u8]) -> Option<Listing>
 }
 
 /// What a line lists, where it can be read: nothing, or some code points.
-#[tactic(auto, unfolding(crate::specs::Exclusions::line_spans))]
+#[tactic(auto, unfolding(crate::specs::inside::ExclusionReading::line_spans))]
 fn read_line(line: &[u8]) -> Option<Option<Listing>>
     ensures { option_map spans_of_listing result ≡ line_spans line.now }
 {
-    let (text, _comment) = cut(without_return(line), b'#');
-    let text = before_blanks(after_blanks(text));
+    let (text, _comment) = cut(line, b'#');
+    let text = before_blanks(after_dividers(text, Dividers::Blanks));
     if text.is_empty() {
         return Some(None);
     }
@@ -77,18 +66,16 @@ fn read_line(line: &[u8]) -> Option<Option<Listing>>
 }
 
 /// Adds what a line lists.
-fn take_line(listings: &mut Vec<Listing>, line: u64, bytes: &[u8]) -> Result<(), UcdFault>
-    ensures fine { OnOk result (fault_at line (line_spans bytes.now) None ≡ None) }
-    ensures spans { OnOk result (map span_of listings.new.items ≡ map span_of listings.old.items ++ and_spans (line_spans bytes.now) []) }
-    ensures fault { IfErr result (λ e. IsMemoryOr (fault_at line (line_spans bytes.now) None) e) }
+fn take_line(listings: &mut Vec<Listing>, line: DataLine<'_>) -> Result<(), UcdFault>
+    ensures fine { OnOk result (fault_at line.entry.number (line_spans line.entry.text.now) None ≡ None) }
+    ensures spans { OnOk result (map span_of listings.new.items ≡ map span_of listings.old.items ++ and_spans (line_spans line.entry.text.now) []) }
+    ensures fault { IfErr result (λ e. IsMemoryOr (fault_at line.entry.number (line_spans line.entry.text.now) None) e) }
 {
-    match read_line(bytes) {
-        None => Err(UcdFault::BadCode { line }),
+    match read_line(line.text) {
+        None => Err(UcdFault::BadCode { line: line.number }),
         Some(None) => Ok(()),
         Some(Some(listing)) => {
-            if listings.push(listing).is_err() {
-                return Err(UcdFault::Memory);
-            }
+            listings.push(listing)?;
             Ok(())
         }
     }
@@ -101,13 +88,8 @@ fn take_spans(listings: &mut Vec<Listing>, bytes: &[u8]) -> Result<(), UcdFault>
     ensures spans { OnOk result (map span_of listings.new.items ≡ spans_in bytes.now) }
     ensures fault { IfErr result (λ e. IsMemoryOr (exclusions_fault bytes.now) e) }
 {
-    let mut rest = bytes;
-    let mut line: u64 = 0;
-    while !rest.is_empty() {
-        let (front, behind) = cut_line(rest);
-        line += 1;
-        take_line(listings, line, front)?;
-        rest = behind;
+    for line in DataLines::new(bytes) {
+        take_line(listings, line)?;
     }
     Ok(())
 }
@@ -115,7 +97,7 @@ fn take_spans(listings: &mut Vec<Listing>, bytes: &[u8]) -> Result<(), UcdFault>
 /// The code points that a file's bytes list, or its first fault, or `Memory` in place of either.
 pub(crate) fn exclusions_of(alloc: Global, bytes: &[u8]) -> Result<Exclusions, UcdFault>
     ensures fine { OnOk result (exclusions_fault bytes.now ≡ None) }
-    ensures same { IfOk result (ListTheSame bytes.now) }
+    ensures same { IfOk result (λ e. (code : ℕ) → is_listed e code ≡ is_listed (spans_in bytes.now) code) }
     ensures fault { IfErr result (λ e. IsMemoryOr (exclusions_fault bytes.now) e) }
 {
     let mut listings = Vec::new(alloc);

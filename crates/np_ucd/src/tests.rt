@@ -1,5 +1,5 @@
 //! Worked examples, and files that are not what they should be.
-use crate::{Exclusions, MapKind, Row, Rows, UcdFault, read_exclusions, read_rows};
+use crate::{Exclusions, MapKind, Rows, UcdFault, read_exclusions, read_rows};
 use np_code_points::devices::{Endless, Failure, Trickle};
 use np_code_points::fixtures::{V1_DATA, V1_EXCLUSIONS};
 use np_code_points::watched::Watched;
@@ -186,23 +186,11 @@ fn a_long_line_is_one_line(rt: HostRuntime) -> Result<(), Fail> {
     )
 }
 
-/// Fails unless the rows have the same fields.
-fn want_same_row(left: &Row, right: &Row) -> Result<(), Fail> {
-    want(
-        left.first == right.first
-            && left.last == right.last
-            && left.class == right.class
-            && left.kind == right.kind
-            && left.mapping.as_slice() == right.mapping.as_slice(),
-        "two rows",
-    )
-}
-
 fn want_same_rows(left: &Rows, right: &Rows) -> Result<(), Fail> {
     want(left.len() == 26 && right.len() == 26, "26 rows")?;
     for at in 0..26 {
         match (left.get(at), right.get(at)) {
-            (Some(here), Some(there)) => want_same_row(here, there)?,
+            (Some(here), Some(there)) => want(here == there, "two rows")?,
             _ => return Err(Fail::new("no row")),
         }
     }

@@ -1,12 +1,13 @@
 -- How a job reads the two files of a version, and builds it.
-use Rattle.std.specs.Prelude.{◌≡◌, ◌↔◌, ◌⊎◌, ℕ, true, List, Option, None}
+use Rattle.std.specs.Prelude.{◌≡◌, ◌↔◌, ◌⊎◌, ℕ, true, List}
 use Rattle.np_tables.specs.TableFaults.{IsFaultless, IsLeastFault}
 use Rattle.np_tables.specs.Versions.{VersionData}
 use Rattle.np_tables.specs.declared.faults.TableFault.{TableFault}
 use Rattle.np_tables.specs.declared.faults.TableFault.TheVariants.{Memory}
+use Rattle.np_ucd.specs.AllRows.{AreAllRows}
 use Rattle.np_ucd.specs.Entries.{Entry}
-use Rattle.np_ucd.specs.Exclusions.{exclusions_fault, spans_in}
-use Rattle.np_ucd.specs.Files.{first_fault, rows_in}
+use Rattle.np_ucd.specs.Exclusions.{AreReadable, IsFirstBadLine, IsListedIn}
+use Rattle.np_ucd.specs.FirstFaults.{HasNoFault, IsFirstFault}
 use Rattle.np_ucd.specs.Listed.{Span, is_listed}
 use Rattle.np_ucd.specs.Reading.{IsRefused}
 use Rattle.np_ucd.specs.declared.faults.UcdFault.{UcdFault}
@@ -19,15 +20,15 @@ use Rattle.npss.specs.declared.jobs.faults.VersionFault.TheVariants.{Data, Exclu
 pub record HasRows (data_file : Stream) (rows : List Entry) : Type 0 where
   pub bytes : List ℕ
   pub read : WasRead data_file bytes
-  pub faultless : first_fault bytes ≡ None
-  pub are : rows ≡ rows_in bytes
+  pub faultless : HasNoFault bytes
+  pub are : AreAllRows bytes rows
 
 -- the exclusions file was read, has no fault, and lists these code points
 pub record HasExclusions (exclusions_file : Stream) (exclusions : List Span) : Type 0 where
   pub bytes : List ℕ
   pub read : WasRead exclusions_file bytes
-  pub faultless : exclusions_fault bytes ≡ None
-  pub same : (c : ℕ) → is_listed exclusions c ≡ is_listed (spans_in bytes) c
+  pub readable : AreReadable bytes
+  pub listed : (c : ℕ) → (is_listed exclusions c ≡ true) ↔ IsListedIn bytes c
 
 -- the two files make this version
 pub record WasBuilt (data_file exclusions_file : Stream) (v : VersionData) : Type 0 where
@@ -36,21 +37,21 @@ pub record WasBuilt (data_file exclusions_file : Stream) (v : VersionData) : Typ
   pub faultless : IsFaultless v
 
 -- why a file was refused: at its first fault, where it was read whole; else it was read in part, and the device failed exactly where that is the reason
-pub record WasRefused (fault_in : List ℕ → Option UcdFault) (file : Stream) (fault : UcdFault) : Type 0 where
-  pub how : IsRefused fault_in file.before file.after fault
+pub record WasRefused (IsFault : List ℕ → UcdFault → Type 0) (file : Stream) (fault : UcdFault) : Type 0 where
+  pub how : IsRefused IsFault file.before file.after fault
   pub failed : (fault ≡ ReadFailed) ↔ (file.failed ≡ true)
 
 -- the data file was refused
 pub record IsDataFault (number : ℕ) (data_file : Stream) (fault : VersionFault) : Type 0 where
   pub file_fault : UcdFault
   pub is : fault ≡ Data number file_fault
-  pub refused : WasRefused first_fault data_file file_fault
+  pub refused : WasRefused IsFirstFault data_file file_fault
 
 -- the exclusions file was refused
 pub record IsExclusionsFault (number : ℕ) (exclusions_file : Stream) (fault : VersionFault) : Type 0 where
   pub file_fault : UcdFault
   pub is : fault ≡ Exclusions number file_fault
-  pub refused : WasRefused exclusions_fault exclusions_file file_fault
+  pub refused : WasRefused IsFirstBadLine exclusions_file file_fault
 
 -- the tables have this fault, the least one, or memory ran out
 pub record IsTablesFault (number : ℕ) (v : VersionData) (fault : VersionFault) : Type 0 where

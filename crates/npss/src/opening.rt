@@ -25,7 +25,11 @@ fn refuse_file<E: Write>(alloc: Global, error: &mut Watched<E>, name: &str) -> u
     }
 }
 
-/// Opens a file; an `Err` is the status that was told.
+/// Opens a file.
+///
+/// # Errors
+///
+/// The status that was told, where it can't be opened.
 pub fn open_file<R: Files, E: Write>(
     rt: &R,
     alloc: Global,
@@ -41,7 +45,11 @@ pub fn open_file<R: Files, E: Write>(
     }
 }
 
-/// Opens the two files of a version, the data first; an `Err` is the status that was told.
+/// Opens the two files of a version, the data first.
+///
+/// # Errors
+///
+/// The status that was told, where one of them can't be opened.
 pub fn open_version<R: Files, E: Write>(
     rt: &R,
     alloc: Global,

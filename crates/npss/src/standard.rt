@@ -46,8 +46,11 @@ fn fill_closed(rt: &HostRuntime) -> bool {
     true
 }
 
-/// The standard streams, none of whose places a file that is opened later can take; an `Err` is
-/// the status that was told where that can't be had.
+/// The standard streams, none of whose places a file that is opened later can take.
+///
+/// # Errors
+///
+/// The status that was told, where that can't be had.
 pub fn take_standard(rt: &HostRuntime) -> Result<Standard, u8> {
     let filled = fill_closed(rt);
     let mut streams = Standard {

@@ -9,11 +9,11 @@ mod tests;
 mod usage;
 
 use clap::error::ErrorKind;
-use clap::{ArgMatches, Error};
+use clap::{ArgMatches, Error as ClapError};
 use command::matches_in;
 use np_code_points::Form;
 use std::alloc::Global;
-use thiserror::Error as Fault;
+use thiserror::Error;
 pub use usage::usage_text;
 
 /// The names of the two files of a version.
@@ -51,7 +51,7 @@ pub enum Job {
 }
 
 /// Why words give no job.
-#[derive(Clone, Copy, Debug, PartialEq, Eq, Drop, Fault)]
+#[derive(Clone, Copy, Debug, PartialEq, Eq, Drop, Error)]
 pub enum WordsFault {
     /// The words ask for nothing that there is, or for help.
     #[error("the words ask for nothing that there is")]
@@ -62,7 +62,7 @@ pub enum WordsFault {
 }
 
 /// The fault of the words that `clap` refuses so.
-fn fault_from(error: &Error) -> WordsFault
+fn fault_from(error: &ClapError) -> WordsFault
     ensures { result ≡ WordsFault.Usage → kind_of error.now ≢ ErrorKind.OutOfMemory }
 {
     if error.kind() == ErrorKind::OutOfMemory {

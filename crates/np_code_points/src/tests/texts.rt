@@ -1,8 +1,9 @@
 //! Texts, codes, forms' names and syllables.
-use crate::Form;
+use super::want;
 use crate::codes::{code_of, write_code};
 use crate::hangul::{hangul_pair, hangul_parts};
 use crate::text::{NotUtf8, chars_of, string_of, text_of};
+use crate::{Form, Memory};
 use std::alloc::Global;
 use std::test::Fail;
 
@@ -18,37 +19,79 @@ fn a_text_is_its_code_points_and_back(rt: HostRuntime) -> Result<(), Fail> {
     Ok(())
 }
 
+// (bytes, the code point that they stand for)
+const CODES: [(&[u8], Option<u32>); 6] = [
+    (b"00e2", Some(0xE2)),
+    (b"10FFFF", Some(0x10FFFF)),
+    (b"110000", None),
+    (b"041", None),
+    (b"0000041", None),
+    (b"004G", None),
+];
+
+fn read_codes(rows: &[(&[u8], Option<u32>)]) -> Result<(), Fail> {
+    for (bytes, code) in rows {
+        want(code_of(bytes) == *code, "a code")?;
+    }
+    Ok(())
+}
+
+fn written(alloc: Global, code: u32) -> Result<String, Memory> {
+    let mut text = String::new(alloc);
+    write_code(&mut text, code)?;
+    Ok(text)
+}
+
 #[test]
 fn codes_are_read_and_written(rt: HostRuntime) -> Result<(), Fail> {
-    assert_eq!(rt; code_of(b"00e2"), Some(0xE2));
-    assert_eq!(rt; code_of(b"10FFFF"), Some(0x10FFFF));
-    assert_eq!(rt; code_of(b"110000"), None);
-    let mut text = String::new(rt.alloc());
-    write_code(&mut text, 0x41)?;
+    read_codes(&CODES)?;
+    want(written(rt.alloc(), 0x41)?.as_str() == "0041", "four digits")?;
+    want(written(rt.alloc(), 0x16D67)?.as_str() == "16D67", "five")?;
+    want(written(rt.alloc(), 0x10FFFF)?.as_str() == "10FFFF", "six")
+}
+
+#[test]
+fn codes_are_appended(rt: HostRuntime) -> Result<(), Fail> {
+    let mut text = written(rt.alloc(), 0x41)?;
     write_code(&mut text, 0x16D67)?;
-    assert_eq!(rt; text.as_str(), "004116D67");
+    want(text.as_str() == "004116D67", "one behind the other")
+}
+
+#[test]
+fn forms_have_names_and_bytes(_rt: HostRuntime) -> Result<(), Fail> {
+    want(Form::of_name("nfkc") == Some(Form::Nfkc), "a name")?;
+    want(Form::of_name("NFC").is_none(), "a name in capitals")?;
+    want(
+        Form::of_byte(Form::Nfkd.byte()) == Some(Form::Nfkd),
+        "a byte",
+    )?;
+    want(Form::Nfkd.compat() && Form::Nfc.composes(), "what they are")
+}
+
+// (two parts, their syllable)
+const PAIRS: [(char, char, Option<char>); 5] = [
+    ('\u{1100}', '\u{1161}', Some('\u{AC00}')),
+    ('\u{AC00}', '\u{11A7}', None),
+    ('\u{AC00}', '\u{11A8}', Some('\u{AC01}')),
+    ('\u{AC00}', '\u{11C2}', Some('\u{AC1B}')),
+    ('\u{AC00}', '\u{11C3}', None),
+];
+
+fn compose(rows: &[(char, char, Option<char>)]) -> Result<(), Fail> {
+    for (first, second, syllable) in rows {
+        want(hangul_pair(*first, *second) == *syllable, "a pair")?;
+    }
     Ok(())
 }
 
 #[test]
-fn forms_have_names_and_bytes(rt: HostRuntime) -> Result<(), Fail> {
-    assert_eq!(rt; Form::of_name("nfkc"), Some(Form::Nfkc));
-    assert_eq!(rt; Form::of_name("NFC"), None);
-    assert_eq!(rt; Form::of_byte(Form::Nfkd.byte()), Some(Form::Nfkd));
-    assert!(rt; Form::Nfkd.compat() && Form::Nfc.composes());
-    Ok(())
-}
-
-#[test]
-fn syllables_map_to_pairs(rt: HostRuntime) -> Result<(), Fail> {
-    assert_eq!(rt; hangul_parts('\u{AC01}'), Some(('\u{AC00}', '\u{11A8}')));
-    assert_eq!(rt; hangul_pair('\u{1100}', '\u{1161}'), Some('\u{AC00}'));
-    assert_eq!(rt; hangul_pair('\u{AC00}', '\u{11A7}'), None);
-    assert_eq!(rt; hangul_pair('\u{AC00}', '\u{11C2}'), Some('\u{AC1B}'));
-    assert_eq!(rt; hangul_pair('\u{AC00}', '\u{11C3}'), None);
-    assert_eq!(rt; hangul_parts('\u{D7A3}'), Some(('\u{D788}', '\u{11C2}')));
-    assert_eq!(rt; hangul_parts('\u{D7A4}'), None);
-    Ok(())
+fn syllables_map_to_pairs(_rt: HostRuntime) -> Result<(), Fail> {
+    compose(&PAIRS)?;
+    let parts = hangul_parts('\u{AC01}');
+    want(parts == Some(('\u{AC00}', '\u{11A8}')), "AC01")?;
+    let parts = hangul_parts('\u{D7A3}');
+    want(parts == Some(('\u{D788}', '\u{11C2}')), "the last one")?;
+    want(hangul_parts('\u{D7A4}').is_none(), "none behind it")
 }
 
 /// How many code points and how many bytes the text of `count` times `c` comes back with.

@@ -62,8 +62,9 @@ fn longest(alloc: Global, table: &RowTable) -> Result<(), Fail> {
     let mut node = Node::new(alloc, table, Form::Nfc, 4);
     let over = letters(alloc, 4097)?;
     wants_refused(&mut node, &over, NodeFault::TooLong, "4,097 bytes")?;
-    want(node.accept(&over[1..]).is_ok(), "4,096 bytes")?;
-    wants_known(&mut node, &over[1..], "4,096 bytes again")
+    let most = letters(alloc, 4096)?;
+    want(node.accept(&most).is_ok(), "4,096 bytes")?;
+    wants_known(&mut node, &most, "4,096 bytes again")
 }
 
 fn unlike_strings(alloc: Global, table: &RowTable) -> Result<(), Fail> {
@@ -160,7 +161,7 @@ fn later_letters_are_kept(rt: HostRuntime) -> Result<(), Fail> {
 }
 
 /// A node goes on to a later version and to its own, and not back.
-fn upgrades(alloc: Global, first: &RowTable, second: &RowTable) -> Result<(), Fail> {
+fn upgrades<'t>(alloc: Global, first: &'t RowTable, second: &'t RowTable) -> Result<(), Fail> {
     let mut node = Node::new(alloc, first, Form::Nfc, 4);
     want(node.accept(b"a").is_ok(), "a")?;
     want(node.upgrade(first).is_ok(), "the same version")?;

@@ -8,7 +8,7 @@ use std::alloc::Global;
 use std::test::Fail;
 
 /// Two nodes of unlike versions hear of one another's names, and one restarts.
-fn host(alloc: Global, old: &RowTable, new: &RowTable) -> Result<(), Fail> {
+fn host<'t>(alloc: Global, old: &'t RowTable, new: &'t RowTable) -> Result<(), Fail> {
     let mut home = Node::new(alloc, old, Form::Nfc, 1000);
     let mut away = Node::new(alloc, new, Form::Nfc, 1000);
     let mut sent = Vec::new(alloc);

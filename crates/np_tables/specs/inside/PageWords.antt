@@ -1,8 +1,8 @@
 -- What a table of pages keeps for a code point.
-use Rattle.std.specs.Prelude.{◌≡◌, ℕ, ◌+◌, ◌<◌, ◌≤◌, ◌&&◌, Bool, true, false, List, [], ◌∷◌, ◌++◌, length, map, slice_get, slice_index, slice_index_or, Some}
-use Rattle.np_code_points.specs.Hangul.{is_syllable}
+use Rattle.std.specs.Prelude.{◌≡◌, ℕ, ◌+◌, ◌<◌, ◌≤◌, ◌&&◌, ◌||◌, ◌==◌, nat_le, not, Bool, true, false, List, [], ◌∷◌, ◌++◌, length, map, slice_get, slice_index, slice_index_or, chars, encode_utf8_all, All, IsUtf8, Some}
 use Rattle.np_ucd.specs.Entries.{Entry}
-use Rattle.np_tables.specs.Versions.{VersionData, class_of, has_hangul, is_assigned}
+use Rattle.np_tables.specs.Versions.{VersionData, class_of, is_assigned, is_empty}
+use Rattle.np_tables.specs.Mappings.{is_final}
 use Rattle.np_tables.specs.Composites.{IsCompositeOf}
 use Rattle.np_tables.specs.Conditions.{IsSound}
 use Rattle.np_tables.specs.declared.fulls.Part.{Part}
@@ -54,13 +54,24 @@ pub record AreSecondRows (es : List Entry) (cs : List Composite) (count : ℕ) (
 
 -- ---- words
 
+-- whether a row has one of the code points from `first` to `last`
+abbrev pub touches : ℕ → ℕ → Entry → Bool
+touches first last e = nat_le e.first last && nat_le first e.last
+
 -- the word of a code point that no row has
 abbrev pub no_word : Word
-no_word = record { fulls = 0; class = 0; assigned = false; second = false }
+no_word = record { fulls = 0; class = 0; assigned = false; apart = true; bare = true }
 
--- the word of a row
-abbrev pub row_word : Entry → ℕ → Bool → Word
-row_word e slot second = record { fulls = slot; class = e.class; assigned = true; second = second }
+-- the word of a row: jamo stand from 1100 to 11C2, syllables from AC00 to D7A3
+unfoldable pub row_word : Entry → ℕ → Bool → Word
+row_word e slot second =
+    record {
+      fulls = slot;
+      class = e.class;
+      assigned = true;
+      apart = not second && not (touches 0x1100 0x11C2 e);
+      bare = is_empty e.mapping && not (touches 0xAC00 0xD7A3 e);
+    }
 
 -- `no_word`, and behind it the words of the first `count` rows
 pub record AreRowWords (es : List Entry) (slots : List ℕ) (seconds : List Bool) (count : ℕ) (words : List Word) : Type 0 where
@@ -77,11 +88,33 @@ pub record IsWord (v : VersionData) (lists : FullLists) (c : ℕ) (w : Word) : T
   pub class : w.class ≡ class_of v c
   pub assigned : w.assigned ≡ is_assigned v c
   pub slot : IsSlot v lists c w.fulls
-  -- a primary composite that isn't a syllable of the arithmetic has a second part whose word says so
-  pub second : (a p : ℕ) → IsCompositeOf v a c p → (has_hangul v && is_syllable p) ≡ false → w.second ≡ true
+  -- of no primary composite it is the second part
+  pub apart : w.apart ≡ true → (a p : ℕ) → ¬ (IsCompositeOf v a c p)
+  -- it has no mapping of either kind
+  pub bare : w.bare ≡ true → (compat : Bool) → is_final v compat c ≡ true
 
 -- the word of each code point of a version that meets the conditions
 pub record ArePages (v : VersionData) (lists : FullLists) (blocks : List ℕ) (words : List Word) : Type 0 where
   pub sound : IsSound v
   pub within : AreWithin 4352 blocks (length words)
   pub each : (c : ℕ) → c < 0x110000 → IsWord v lists c (slice_index_or words (word_place blocks c) no_word)
+
+-- ---- what stays
+
+-- a starter without a mapping, which is no second part of a primary composite either where the form composes
+abbrev pub keeps : Bool → Word → Bool
+keeps composing w = w.class == 0 && w.bare && (w.apart || not composing)
+
+-- the word of a code point says that it stays
+abbrev pub IsKept : List ℕ → List Word → Bool → ℕ → Type 0
+IsKept blocks words composing c = (c < 0x110000) × (keeps composing (slice_index_or words (word_place blocks c) no_word) ≡ true)
+
+-- the words of the code points in the first n bytes of a text say so
+pub record AreKept (blocks : List ℕ) (words : List Word) (composing : Bool) (bytes : List ℕ) (n : ℕ) : Type 0 where
+  pub front : List ℕ
+  pub back : List ℕ
+  pub split : bytes ≡ encode_utf8_all front ++ back
+  pub text : chars bytes ≡ front ++ chars back
+  pub utf8 : IsUtf8 back
+  pub kept : All (IsKept blocks words composing) front
+  pub place : n ≡ length (encode_utf8_all front)

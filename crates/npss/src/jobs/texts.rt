@@ -85,6 +85,11 @@ fn made_under<T: NormTable, I: Read>(
 }
 
 /// Reads the two files of a version and the input, and makes of it what the job makes.
+///
+/// # Errors
+///
+/// `Version` where there is no version, and then the input is not looked at; else `Text` where the
+/// input was not read whole, is no UTF-8, or is not answered by the job.
 pub fn made_of_text<F: Read, I: Read>(
     alloc: Global,
     job: TextJob,

@@ -60,6 +60,12 @@ fn version_of(
 
 /// Reads the two files of a version, the data first, and builds it. The version has a number, from
 /// 0, which the fault tells.
+///
+/// # Errors
+///
+/// `Data` where the data file is refused, and then the exclusions are not looked at; `Exclusions`
+/// where the exclusions file is; `Tables` where the version has a fault. Want of memory is told as
+/// a fault of what it was wanted for.
 pub fn read_version<R: Read>(
     alloc: Global,
     version: u32,
@@ -76,6 +82,10 @@ pub fn read_version<R: Read>(
 }
 
 /// The same, with the table over the version.
+///
+/// # Errors
+///
+/// As `read_version`; want of memory for the table is a fault of the tables.
 pub fn read_table<R: Read>(
     alloc: Global,
     version: u32,

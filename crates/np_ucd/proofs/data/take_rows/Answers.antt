@@ -1,57 +1,54 @@
-use Rattle.std.proofs.Common.{◌≡◌, ◌+◌, IfErr, length, map, option_map, eqb, true, rules, arith, inr, sym, ap, ◌∙◌}
-use Rattle.np_ucd.specs.Lines.{lines_of}
-use Rattle.np_ucd.specs.Files.{first_fault, rows_in}
-use Rattle.np_ucd.specs.LineSteps.{line_fault}
-use Rattle.np_ucd.specs.RecordValues.{neighbour_value, IsMemoryOr}
+use Rattle.std.proofs.Common.{Some, option_map, map, IfErr, rules, inr, sym, ap, ◌∙◌}
+use Rattle.std.proofs.lemmas.Result.{IfErr-weaker}
+use Rattle.np_code_points.specs.Lines.{Walk, numbered}
 use Rattle.np_ucd.specs.RowValues.{entry_of}
-use Rattle.np_ucd.proofs.DataLemmas.{fault_begin, rows_begin, fault_next, rows_next, fault_here, widened, fault_end, rows_end}
+use Rattle.np_ucd.specs.inside.FileReading.{first_fault, rows_in}
+use Rattle.np_ucd.specs.inside.RecordReading.{record_fault}
+use Rattle.np_ucd.specs.inside.RecordValues.{neighbour_value, IsMemoryOr}
+use Rattle.np_ucd.proofs.DataLemmas.{fault_begin, rows_begin, fault_next, rows_next, fault_here, fault_end, rows_end}
 use Rattle.np_ucd.proofs.data.take_rows.Goals as goal
 
-pub loop-rest-init : goal.loop-rest-init
-loop-rest-init c = record {
-  fault = fault_begin c.args.bytes.now;
-  rows = rows_begin c.args.bytes.now (map entry_of c.args.rows.now.items) (ap (map entry_of) c.requires);
-  count = omega arith;
-}
-
-pub returns-in_err-before-clause-fault : goal.returns-in_err-before-clause-fault
-returns-in_err-before-clause-fault c =
-    let b = option_map neighbour_value c.loop-rest.before in
-    let n = c.loop-rest.line + 1 in
-    let t = c.without_return.result.now in
-    let here : IfErr c.from_residual.result (λ e. IsMemoryOr (line_fault b n t) e) = search rules in
-    widened c.from_residual.result (λ e. IsMemoryOr (line_fault b n t) e) (λ e. IsMemoryOr (first_fault c.args.bytes.now) e)
-    (λ e. fault_here (first_fault c.args.bytes.now) b n (lines_of c.loop-rest.rest.now) c.cut_line.result.0.now t (lines_of c.cut_line.result.1.now) e
-    c.loop-rest.invariant.fault c.cut_line.ensures.line c.without_return.ensures)
-    here
-
-pub loop-rest-preserved : goal.loop-rest-preserved
-loop-rest-preserved c =
-    let b = option_map neighbour_value c.loop-rest.before in
-    let next = option_map neighbour_value c.in_ok-before.before in
-    let n = c.loop-rest.line + 1 in
-    let t = c.without_return.result.now in
+pub loop-line-init : goal.loop-line-init
+loop-line-init c =
+    let all = ap (λ (w : Walk). w.left) c.into_iter-line-iterator.ensures.into_iter_gives ∙ c.new-line-items.ensures.same in
     record {
-      fault = fault_next (first_fault c.args.bytes.now) b next n (lines_of c.loop-rest.rest.now) c.cut_line.result.0.now t (lines_of c.cut_line.result.1.now)
-          c.loop-rest.invariant.fault c.cut_line.ensures.line c.without_return.ensures c.in_ok-before.ensures.fine c.in_ok-before.ensures.next;
-      rows = rows_next (rows_in c.args.bytes.now) (map entry_of c.loop-rest.rows.items) (map entry_of c.take_line.new.rows.items) b next n (lines_of c.loop-rest.rest.now) c.cut_line.result.0.now t (lines_of c.cut_line.result.1.now)
-          c.loop-rest.invariant.rows c.cut_line.ensures.line c.without_return.ensures c.in_ok-before.ensures.next c.in_ok-before.ensures.rows;
-      count = omega arith;
+      fault = fault_begin c.args.bytes.now c.into_iter-line-iterator.result.left all;
+      rows = rows_begin c.args.bytes.now c.into_iter-line-iterator.result.left (map entry_of c.args.rows.now.items) all (ap (map entry_of) c.requires);
     }
 
-pub returns-in-Some-clause-fault : goal.returns-in-Some-clause-fault
-returns-in-Some-clause-fault c =
-    let full : eqb (length c.loop-rest.rest.now) 0 ≡ true = sym c.is_empty.ensures ∙ c.loop-rest-test.false in
-    inr (fault_end (first_fault c.args.bytes.now) (option_map neighbour_value c.loop-rest.before) (c.loop-rest.line + 1) c.loop-rest.rest.now c.loop-rest.invariant.fault full
-    ∙ sym c.open_range.ensures ∙ c.in-Some.is)
+pub returns-in_err-take_record-clause-fault : goal.returns-in_err-take_record-clause-fault
+returns-in_err-take_record-clause-fault c =
+    let b = option_map neighbour_value c.loop-line.before in
+    let r = numbered c.in-Some.line in
+    let here : IfErr c.from_residual.result (λ e. IsMemoryOr (record_fault b r.line r.text) e) = search rules in
+    IfErr-weaker c.from_residual.result (λ e. IsMemoryOr (record_fault b r.line r.text) e) (λ e. IsMemoryOr (first_fault c.args.bytes.now) e)
+    (λ e. fault_here (first_fault c.args.bytes.now) b c.loop-line.line-iterator.left c.next.new.self.left r e
+    c.loop-line.invariant.fault c.in-Some.ensures.steps.gives)
+    here
 
-pub returns-in-None-clause-fine : goal.returns-in-None-clause-fine
-returns-in-None-clause-fine c =
-    let full : eqb (length c.loop-rest.rest.now) 0 ≡ true = sym c.is_empty.ensures ∙ c.loop-rest-test.false in
-    fault_end (first_fault c.args.bytes.now) (option_map neighbour_value c.loop-rest.before) (c.loop-rest.line + 1) c.loop-rest.rest.now c.loop-rest.invariant.fault full
-    ∙ sym c.open_range.ensures ∙ c.in-None.is
+pub loop-line-preserved : goal.loop-line-preserved
+loop-line-preserved c =
+    let b = option_map neighbour_value c.loop-line.before in
+    let r = numbered c.in-Some.line in
+    let next = ap Some c.in_ok-take_record.ensures.next in
+    record {
+      fault = fault_next (first_fault c.args.bytes.now) b (Some (neighbour_value c.in_ok-take_record.field-0)) c.loop-line.line-iterator.left c.next.new.self.left r
+          c.loop-line.invariant.fault c.in-Some.ensures.steps.gives c.in_ok-take_record.ensures.fine next;
+      rows = rows_next (rows_in c.args.bytes.now) (map entry_of c.loop-line.rows.items) (map entry_of c.take_record.new.rows.items) b (Some (neighbour_value c.in_ok-take_record.field-0)) c.loop-line.line-iterator.left c.next.new.self.left r
+          c.loop-line.invariant.rows c.in-Some.ensures.steps.gives next c.in_ok-take_record.ensures.rows;
+    }
 
-pub returns-in-None-clause-rows : goal.returns-in-None-clause-rows
-returns-in-None-clause-rows c =
-    let full : eqb (length c.loop-rest.rest.now) 0 ≡ true = sym c.is_empty.ensures ∙ c.loop-rest-test.false in
-    rows_end (rows_in c.args.bytes.now) (map entry_of c.loop-rest.rows.items) (option_map neighbour_value c.loop-rest.before) (c.loop-rest.line + 1) c.loop-rest.rest.now c.loop-rest.invariant.rows full
+pub returns-in-Some-open_range-clause-fault : goal.returns-in-Some-open_range-clause-fault
+returns-in-Some-open_range-clause-fault c =
+    inr (fault_end (first_fault c.args.bytes.now) (option_map neighbour_value c.loop-line.before) c.loop-line.line-iterator.left c.loop-line.invariant.fault c.in-None.ensures.steps.gives.0
+    ∙ sym c.open_range.ensures ∙ c.in-Some-open_range.is)
+
+pub returns-in-None-open_range-clause-fine : goal.returns-in-None-open_range-clause-fine
+returns-in-None-open_range-clause-fine c =
+    fault_end (first_fault c.args.bytes.now) (option_map neighbour_value c.loop-line.before) c.loop-line.line-iterator.left c.loop-line.invariant.fault c.in-None.ensures.steps.gives.0
+    ∙ sym c.open_range.ensures ∙ c.in-None-open_range.is
+
+pub returns-in-None-open_range-clause-rows : goal.returns-in-None-open_range-clause-rows
+returns-in-None-open_range-clause-rows c =
+    rows_end (rows_in c.args.bytes.now) (map entry_of c.loop-line.rows.items) (option_map neighbour_value c.loop-line.before) c.loop-line.line-iterator.left
+    c.loop-line.invariant.rows c.in-None.ensures.steps.gives.0

@@ -1,5 +1,5 @@
 use Rattle.std.proofs.Common.{◌≡◌, ◌++◌, take, drop, length}
-use Rattle.np_ucd.specs.SpanValues.{raised}
+use Rattle.np_ucd.specs.inside.SpanValues.{raised}
 use Rattle.np_ucd.proofs.exclusions.raise_lasts.Given as goal
 
 abbrev pub invariant-loop-at : goal.invariant-loop-at

@@ -1,5 +1,5 @@
-use Rattle.np_ucd.proofs.LineGrammar.{one_record}
+use Rattle.np_ucd.proofs.LawGrammar.{one_list_of_fields}
 use Rattle.np_ucd.proofs.laws.fields.Goals as goal
 
 pub returns : goal.returns
-returns c = one_record
+returns c = one_list_of_fields

@@ -1,5 +1,5 @@
-use Rattle.np_ucd.proofs.MappingGrammar.{reads_mappings}
+use Rattle.np_ucd.proofs.LawGrammar.{one_mapping}
 use Rattle.np_ucd.proofs.laws.mappings.Goals as goal
 
 pub returns : goal.returns
-returns c = reads_mappings
+returns c = one_mapping

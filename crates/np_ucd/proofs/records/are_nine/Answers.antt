@@ -1,7 +1,7 @@
 use Rattle.std.proofs.Common.{◌≡◌, ℕ, ◌+◌, eqb, count_by, rules, arith, ap, ◌∙◌, sym}
 use Rattle.std.proofs.lemmas.List.Splits.{length-slice_split}
 use Rattle.std.proofs.lemmas.Bool.Decides.{nat_tests}
-use Rattle.np_ucd.specs.Fields.{fields_of as parts}
+use Rattle.np_ucd.specs.inside.FieldReading.{fields_of as parts}
 use Rattle.np_ucd.proofs.records.are_nine.Goals as goal
 
 nine : (n : ℕ) → eqb n 8 ≡ eqb (n + 1) 9

@@ -1,7 +1,7 @@
 use Rattle.std.proofs.Common.{◌≡◌, true, eqb, ◌∷◌, length, ap, ◌∙◌}
 use Rattle.std.proofs.lemmas.Bool.{eqb-true}
-use Rattle.np_ucd.specs.Fields.{fields_of as parts}
 use Rattle.np_ucd.proofs.RecordLemmas.{fifteen}
+use Rattle.np_ucd.specs.inside.FieldReading.{fields_of as parts}
 use Rattle.np_ucd.proofs.records.fields_of.Goals as goal
 
 pub returns : goal.returns

@@ -1,7 +1,7 @@
 use Rattle.std.proofs.Common.{option_map, sym, ap, ◌∙◌}
-use Rattle.np_ucd.specs.Fields.{opens_range, closes_range}
-use Rattle.np_ucd.specs.RecordValues.{neighbour_value}
 use Rattle.np_ucd.proofs.RecordLemmas.{count_bad, count_good, code_bad, code_good, code_is, order_is, category_bad, category_good, category_is, class_bad, class_good, class_is, fault_count, fault_code, fault_order, fault_category, fault_class, neighbour_same}
+use Rattle.np_ucd.specs.inside.FieldReading.{opens_range, closes_range}
+use Rattle.np_ucd.specs.inside.RecordValues.{neighbour_value}
 use Rattle.np_ucd.proofs.records.read_head.Goals as goal
 
 pub returns-in_default-clause-fault : goal.returns-in_default-clause-fault

@@ -1,8 +1,8 @@
 use Rattle.std.proofs.Common.{not, option_map, inr, sym, ap, ◌∙◌}
-use Rattle.np_ucd.specs.RecordValues.{neighbour_value}
-use Rattle.np_ucd.specs.MappingValues.{mapping_of}
-use Rattle.np_ucd.proofs.WordLemmas.{is_empty-length}
+use Rattle.np_ucd.proofs.ScalarLemmas.{is_empty-length}
 use Rattle.np_ucd.proofs.RecordLemmas.{fault_mapping, fault_late, row_is}
+use Rattle.np_ucd.specs.inside.MappingValues.{mapping_of}
+use Rattle.np_ucd.specs.inside.RecordValues.{neighbour_value}
 use Rattle.np_ucd.proofs.records.read_record.Goals as goal
 
 pub returns-in_default-clause-fault : goal.returns-in_default-clause-fault

@@ -1,5 +1,5 @@
 use Rattle.std.proofs.Common.{◌≡◌, ◌≤◌, take, length}
-use Rattle.np_ucd.specs.Exclusions.{before_blanks}
+use Rattle.np_ucd.specs.inside.ExclusionReading.{before_blanks}
 use Rattle.np_ucd.proofs.spans.before_blanks.Given as goal
 
 abbrev pub invariant-loop-end : goal.invariant-loop-end

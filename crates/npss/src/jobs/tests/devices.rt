@@ -152,12 +152,7 @@ fn key_into<O: Write, E: Write>(
 
 /// Whether `key` of `text` into a writer whose last one of so many calls fails says so, and calls
 /// it no more.
-fn output_fails(
-    alloc: Global,
-    text: &str,
-    calls: u64,
-    failure: Failure,
-) -> Result<bool, Fail> {
+fn output_fails(alloc: Global, text: &str, calls: u64, failure: Failure) -> Result<bool, Fail> {
     let room = Room::new(alloc, 16, 16)?;
     let mut output = Watched::new(room.failing_at(calls.saturating_sub(1), failure));
     let mut error = Watched::new(Vec::new(alloc));

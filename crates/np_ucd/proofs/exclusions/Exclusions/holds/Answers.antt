@@ -2,8 +2,8 @@ use Rattle.std.proofs.Common.{◌-◌, leb, List, map, get_or, rules, sym, ap, s
 use Rattle.std.proofs.lemmas.List.Sorted.{IsPartitionPoint-from_clause, IsPartitionedBy-leb}
 use Rattle.np_ucd.specs.declared.exclusions.Listing.{Listing}
 use Rattle.np_ucd.specs.Listed.{Span, is_listed}
-use Rattle.np_ucd.specs.SpanValues.{span_of, AreRising}
 use Rattle.np_ucd.proofs.SpanLemmas.{held, not_held}
+use Rattle.np_ucd.specs.inside.SpanValues.{span_of, AreRising}
 use Rattle.np_ucd.proofs.exclusions.Exclusions.holds.Goals as goal
 
 pub returns-then-begun-gt0 : goal.returns-then-begun-gt0

@@ -2,8 +2,8 @@ use Rattle.std.proofs.Common.{List, map, rules, sym, ap, subst, ◌∙◌}
 use Rattle.std.proofs.lemmas.List.Sorted.{IsNonDecreasingBy-from_sort_by_key}
 use Rattle.np_ucd.specs.declared.exclusions.Listing.{Listing}
 use Rattle.np_ucd.specs.Listed.{is_listed}
-use Rattle.np_ucd.specs.SpanValues.{span_of, AreRising}
 use Rattle.np_ucd.proofs.SpanLemmas.{raised_rises, raised_lists_same, sorted_lists_same}
+use Rattle.np_ucd.specs.inside.SpanValues.{span_of, AreRising}
 use Rattle.np_ucd.proofs.exclusions.Exclusions.of_listings.Goals as goal
 
 pub invariant_of-result : goal.invariant_of-result

@@ -1,10 +1,25 @@
-use Rattle.std.proofs.Common.{IfErr, subst}
-use Rattle.npss.specs.Audits.{AuditReaders}
+use Rattle.std.proofs.Common.{IfOk, IfErr, subst}
+use Rattle.npss.specs.Audits.{AuditReaders, RefusesAudit}
 use Rattle.npss.specs.Streams.{Stream, stream_of}
-use Rattle.npss.specs.inside.AuditSteps.{LacksAgainst}
-use Rattle.npss.proofs.AuditLemmas.{refused_against}
+use Rattle.npss.specs.inside.AuditSteps.{LacksAgainst, MakesAgainst}
+use Rattle.npss.proofs.AuditLemmas.{made_against, refused_against}
 use Rattle.npss.proofs.EndLemmas.{same_stream}
 use Rattle.npss.proofs.jobs.audit.made_of_versions.Goals as goal
+
+pub returns-clause-made : goal.returns-clause-made
+returns-clause-made g c =
+    let files = g.F.Read.remaining in
+    let old_data_file : Stream = stream_of files c.args.old_data_file.now c.read_version.new.data_file in
+    let old_exclusions_file : Stream = stream_of files c.args.old_exclusions_file.now c.read_version.new.exclusions_file in
+    let new_data_file : Stream = stream_of files c.args.new_data_file.now c.made_against.new.new_data_file in
+    let new_exclusions_file : Stream = stream_of files c.args.new_exclusions_file.now c.made_against.new.new_exclusions_file in
+    let readers : AuditReaders = record { old_data_file = old_data_file; old_exclusions_file = old_exclusions_file; new_data_file = new_data_file; new_exclusions_file = new_exclusions_file } in
+    let cleared : Stream = stream_of files c.clear-2.new.self c.made_against.new.new_exclusions_file in
+    let half : IfOk c.made_against.result (MakesAgainst c.in_ok-old.old new_data_file cleared) =
+    subst (λ (s : Stream). IfOk c.made_against.result (MakesAgainst c.in_ok-old.old s cleared)) (same_stream files c.clear.new.self c.args.new_data_file.now c.made_against.new.new_data_file c.clear.ensures.device) c.made_against.ensures.made in
+    let made : IfOk c.made_against.result (MakesAgainst c.in_ok-old.old new_data_file new_exclusions_file) =
+    subst (λ (s : Stream). IfOk c.made_against.result (MakesAgainst c.in_ok-old.old new_data_file s)) (same_stream files c.clear-2.new.self c.args.new_exclusions_file.now c.made_against.new.new_exclusions_file c.clear-2.ensures.device) half in
+    made_against readers c.in_ok-old.old c.made_against.result c.in_ok-old.ensures.built made
 
 pub returns-clause-refused : goal.returns-clause-refused
 returns-clause-refused g c =

@@ -1,0 +1,207 @@
+-- What stays is copied, and segments are made each for itself.
+use Rattle.std.proofs.Common.{◌≡◌, ℕ, ◌<◌, ◌-◌, List, [], ◌∷◌, ◌++◌, length, chars, IsUtf8, encode_utf8, encode_utf8_all, refl, sym, ap, subst, ◌∙◌, arith, inl, inr, append_assoc, append-nil, length-append, take_at, drop_at, All, Bool, true, false, suc, take, drop, slice_range, IsCharBoundary, flat_map, zero}
+use Rattle.std.proofs.lemmas.List.{append_cancel_right, nil_from_length}
+use Rattle.std.proofs.lemmas.Str.{chars-nil, chars-append, chars_past_char, encodes-append, encodes-chars, IsUtf8-past_char, IsCharBoundary-at_seam, IsCharBoundary-from_take, IsUtf8-drop}
+use Rattle.np_code_points.specs.declared.forms.Form.{Form}
+use Rattle.np_forms.specs.inside.CanonicalOrder.{canonical_order}
+use Rattle.np_forms.specs.inside.Composing.{compose_of}
+use Rattle.np_forms.specs.inside.Copies.{BeginsAtBoundary, IsCopied, IsParted, LosesLast}
+use Rattle.np_forms.specs.inside.NormalForms.{decomposed, ended, normal_form}
+use Rattle.np_forms.proofs.BoundaryLemmas.{normal_form-parts, normal_form-copies, normal_form-stays}
+use Rattle.np_tables.specs.Boundaries.{IsBoundary, Stays}
+use Rattle.np_tables.specs.Conditions.{IsSound}
+use Rattle.np_tables.specs.Versions.{VersionData, class_of}
+use Rattle.np_tables.specs.inside.FullDecompositions.{full_of}
+use Rattle.np_tables.specs.inside.Hints.{AreStaying}
+use Rattle.np_code_points.specs.Forms.{is_compat, composes}
+use Rattle.np_forms.proofs.ComposeLemmas.{compose-nil}
+use Rattle.np_forms.proofs.OrderLemmas.{canonical_order-nil}
+use Rattle.np_tables.specs.inside.CompositeSearch.{composite}
+
+ended-nil : (v : VersionData) (b : Bool) → ended v b [] ≡ []
+unfolding compose_of
+ended-nil v true = compose-nil (class_of v) (composite v)
+ended-nil v false = refl
+
+normal_form-nil : (v : VersionData) (form : Form) → normal_form v form [] ≡ []
+unfolding normal_form decomposed
+normal_form-nil v form = ap (ended v (composes form)) (canonical_order-nil (class_of v)) ∙ ended-nil v (composes form)
+
+All-tail : (P : ℕ → Type 0) (c : ℕ) (cs : List ℕ) → All P (c ∷ cs) → All P cs
+All-tail P c cs all k d h = all (suc k) d (omega arith)
+
+All-head : (P : ℕ → Type 0) (c : ℕ) (cs : List ℕ) → All P (c ∷ cs) → P c
+All-head P c cs all = all 0 c (omega arith)
+
+module _ (v : VersionData) (sound : IsSound v) (form : Form) where
+  -- what stays stands before a boundary as it is
+  pub copies : (front rest : List ℕ) → All (Stays v form) front → BeginsAtBoundary v form rest → normal_form v form (front ++ rest) ≡ front ++ normal_form v form rest
+  copies [] rest all at = refl
+  copies (c ∷ []) [] all at = normal_form-stays v sound form c (All-head (Stays v form) c [] all) ∙ ap (λ l. c ∷ l) (sym (normal_form-nil v form))
+  copies (c ∷ []) (d ∷ ds) all at = normal_form-copies v sound form c d ds (All-head (Stays v form) c [] all) at
+  copies (c ∷ b ∷ bs) rest all at =
+      normal_form-copies v sound form c b (bs ++ rest) (All-head (Stays v form) c (b ∷ bs) all) (All-head (Stays v form) b bs (All-tail (Stays v form) c (b ∷ bs) all)).boundary
+      ∙ ap (λ l. c ∷ l) (copies (b ∷ bs) rest (All-tail (Stays v form) c (b ∷ bs) all) at)
+
+  -- a text whose front stays, cut behind it
+  pub IsCopied-at : (text front back : List ℕ) (cs : List ℕ) → text ≡ front ++ back → IsUtf8 back → front ≡ encode_utf8_all cs → chars text ≡ cs ++ chars back → All (Stays v form) cs → BeginsAtBoundary v form (chars back) → IsCopied v form text front back
+  IsCopied-at text front back cs parts utf8 spelled text_is all at =
+      record {
+        parts = parts;
+        utf8 = utf8;
+        copied = ap (λ l. encode_utf8_all (normal_form v form l)) text_is ∙ ap encode_utf8_all (copies cs (chars back) all at)
+            ∙ encodes-append cs (normal_form v form (chars back)) ∙ ap (λ l. l ++ encode_utf8_all (normal_form v form (chars back))) (sym spelled);
+      }
+
+  -- a text whose forms are each for itself before a boundary
+  pub IsParted-at : (text front back : List ℕ) (c : ℕ) (later : List ℕ) → text ≡ front ++ back → IsUtf8 front → IsUtf8 back → back ≡ encode_utf8 c ++ later → IsBoundary v form c → IsParted v form text front back
+  IsParted-at text front back c later parts of_front of_back begins at =
+      let next = chars_past_char back later c of_back begins in
+      record {
+        parts = parts;
+        utf8 = of_back;
+        parted = ap (normal_form v form) (ap chars parts ∙ chars-append front back of_front ∙ ap (λ l. chars front ++ l) next)
+            ∙ normal_form-parts v sound form (chars front) c (chars later) at
+            ∙ ap (λ l. normal_form v form (chars front) ++ normal_form v form l) (sym next);
+      }
+
+  pub IsParted-whole : (text back : List ℕ) → length back ≡ 0 → IsUtf8 back → IsParted v form text text back
+  IsParted-whole text back none utf8 =
+      let empty = nil_from_length back none in
+      record {
+        parts = sym (append-nil text) ∙ ap (λ l. text ++ l) (sym empty);
+        utf8 = utf8;
+        parted = sym (append-nil _) ∙ ap (λ l. normal_form v form (chars text) ++ l) (sym (ap (normal_form v form) (ap chars empty ∙ chars-nil) ∙ normal_form-nil v form));
+      }
+
+-- ---- where a text is cut
+
+pub seam : (s front back : List ℕ) → s ≡ front ++ back → IsUtf8 back → IsCharBoundary s (length s - length back)
+seam s front back e utf8 =
+    let n : length front ≡ length s - length back = omega (arith, ap length e, length-append front back) in
+    subst (IsCharBoundary s) n (IsCharBoundary-at_seam s front back e utf8)
+
+pub front_of : (s front back : List ℕ) → s ≡ front ++ back → slice_range s 0 (length s - length back) ≡ front
+front_of s front back e =
+    let n : length front ≡ length s - length back - 0 = omega (arith, ap length e, length-append front back) in
+    ap (take (length s - length back - 0)) e ∙ take_at front back _ n
+
+module _ (v : VersionData) (form : Form) (text : List ℕ) (n : ℕ) (h : AreStaying v form text n) where
+  pub cut_boundary : IsCharBoundary text n
+  cut_boundary = subst (IsCharBoundary text) (sym h.place) (IsCharBoundary-at_seam text (encode_utf8_all h.front) h.back h.split h.utf8)
+
+  pub cut_at-front : take n text ≡ encode_utf8_all h.front
+  cut_at-front = ap (take n) h.split ∙ take_at (encode_utf8_all h.front) h.back n (sym h.place)
+
+  pub cut_at-back : drop n text ≡ h.back
+  cut_at-back = ap (drop n) h.split ∙ drop_at (encode_utf8_all h.front) h.back n (sym h.place)
+
+-- ---- a text cut behind what stays
+
+-- where the text ends there, or a boundary follows
+module _ (v : VersionData) (sound : IsSound v) (form : Form) (text : List ℕ) (n : ℕ) (h : AreStaying v form text n) (front back : List ℕ) (of_front : front ≡ take n text) (of_back : back ≡ drop n text) where
+  cut-front : front ≡ encode_utf8_all h.front
+  cut-front = of_front ∙ cut_at-front v form text n h
+
+  cut-back : back ≡ h.back
+  cut-back = of_back ∙ cut_at-back v form text n h
+
+  cut-parts : text ≡ front ++ back
+  cut-parts = h.split ∙ ap (λ l. l ++ h.back) (sym cut-front) ∙ ap (λ l. front ++ l) (sym cut-back)
+
+  IsCopied-cut : BeginsAtBoundary v form (chars back) → IsCopied v form text front back
+  IsCopied-cut at =
+      IsCopied-at v sound form text front back h.front cut-parts (subst IsUtf8 (sym cut-back) h.utf8) cut-front (h.text ∙ ap (λ l. h.front ++ chars l) (sym cut-back)) h.stay at
+
+  pub IsCopied-whole : length back ≡ 0 → IsCopied v form text front back
+  IsCopied-whole none = IsCopied-cut (subst (BeginsAtBoundary v form) (sym (ap chars (nil_from_length back none) ∙ chars-nil)) tt)
+
+  pub IsCopied-boundary : (c : ℕ) (later : List ℕ) → back ≡ encode_utf8 c ++ later → IsBoundary v form c → IsCopied v form text front back
+  IsCopied-boundary c later begins at =
+      IsCopied-cut (subst (BeginsAtBoundary v form) (sym (chars_past_char back later c (subst IsUtf8 (sym cut-back) h.utf8) begins)) at)
+
+-- all but the last of a list: what stays before what stays
+All-front : (P : ℕ → Type 0) (xs : List ℕ) (c : ℕ) → All P (xs ++ c ∷ []) → All P xs
+All-front P [] c all k d h = absurd (omega arith)
+All-front P (x ∷ xs) c all zero d h = all zero d (omega arith)
+All-front P (x ∷ xs) c all (suc k) d h = All-front P xs c (All-tail P x (xs ++ c ∷ []) all) k d (omega arith)
+
+All-last : (P : ℕ → Type 0) (xs : List ℕ) (c : ℕ) → All P (xs ++ c ∷ []) → P c
+All-last P [] c all = All-head P c [] all
+All-last P (x ∷ xs) c all = All-last P xs c (All-tail P x (xs ++ c ∷ []) all)
+
+-- else it is cut before the last that stays
+module _ (v : VersionData) (form : Form) (text : List ℕ) (n : ℕ) (h : AreStaying v form text n) (front own : List ℕ) (of_front : front ≡ take n text) (utf8 : IsUtf8 text) (of_own : IsUtf8 own) where
+  last-front : front ≡ encode_utf8_all h.front
+  last-front = of_front ∙ cut_at-front v form text n h
+
+  -- without the last code point c, where the front isn't empty
+  last-text : (c : ℕ) → front ≡ own ++ encode_utf8 c → text ≡ own ++ (encode_utf8 c ++ h.back)
+  last-text c e = h.split ∙ ap (λ l. l ++ h.back) (sym last-front ∙ e) ∙ append_assoc own (encode_utf8 c) h.back
+
+  last-boundary : (rest : List ℕ) → text ≡ own ++ rest → IsCharBoundary text (length own)
+  last-boundary rest e =
+      IsCharBoundary-from_take text (length own) utf8 (omega (arith, ap length e, length-append own rest))
+      (subst IsUtf8 (sym (ap (take (length own)) e ∙ take_at own rest (length own) refl)) of_own)
+
+  pub without_last-boundary : LosesLast front own → IsCharBoundary text (length own)
+  without_last-boundary (inl nothing) = last-boundary text (ap (λ l. l ++ text) (sym nothing.1))
+  without_last-boundary (inr last) = last-boundary (encode_utf8 last.0 ++ h.back) (last-text last.0 last.1)
+
+  -- the text behind what stays
+  last-drop : (rest : List ℕ) → text ≡ own ++ rest → drop (length own) text ≡ rest
+  last-drop rest e = ap (drop (length own)) e ∙ drop_at own rest (length own) refl
+
+  IsCopied-behind : (sound : IsSound v) (c : ℕ) → front ≡ own ++ encode_utf8 c → IsCopied v form text own (encode_utf8 c ++ h.back)
+  IsCopied-behind sound c e =
+      let rest = encode_utf8 c ++ h.back in
+      let parts = last-text c e in
+      let of_rest : IsUtf8 rest = subst IsUtf8 (last-drop rest parts) (IsUtf8-drop text (length own) utf8 (last-boundary rest parts)) in
+      let next = chars_past_char rest h.back c of_rest refl in
+      let text_is : chars text ≡ chars own ++ chars rest = ap chars parts ∙ chars-append own rest of_own in
+      let same : h.front ≡ chars own ++ c ∷ [] =
+      append_cancel_right h.front (chars own ++ c ∷ []) (chars h.back)
+      (sym h.text ∙ text_is ∙ ap (λ l. chars own ++ l) next ∙ sym (append_assoc (chars own) (c ∷ []) (chars h.back))) in
+      let all = subst (All (Stays v form)) same h.stay in
+      let last : Stays v form c = All-last (Stays v form) (chars own) c all in
+      IsCopied-at v sound form text own rest (chars own) parts of_rest (sym (encodes-chars own of_own)) text_is (All-front (Stays v form) (chars own) c all)
+      (subst (BeginsAtBoundary v form) (sym next) last.boundary)
+
+  pub IsCopied-last : (sound : IsSound v) (first later : List ℕ) → LosesLast front own → first ≡ take (length own) text → later ≡ drop (length own) text → IsCopied v form text first later
+  IsCopied-last sound first later (inl nothing) of_first of_later =
+      let none : first ≡ [] = of_first ∙ ap (λ l. take (length l) text) nothing.1 in
+      let all : later ≡ text = of_later ∙ ap (λ l. drop (length l) text) nothing.1 in
+      record {
+        parts = ap (λ l. l ++ text) (sym none) ∙ ap (λ l. first ++ l) (sym all);
+        utf8 = subst IsUtf8 (sym all) utf8;
+        copied = ap (λ l. encode_utf8_all (normal_form v form (chars l))) (sym all) ∙ ap (λ l. l ++ encode_utf8_all (normal_form v form (chars later))) (sym none);
+      }
+  IsCopied-last sound first later (inr last) of_first of_later =
+      let rest = encode_utf8 last.0 ++ h.back in
+      let parts = last-text last.0 last.1 in
+      let mine : first ≡ own = of_first ∙ ap (take (length own)) parts ∙ take_at own rest (length own) refl in
+      let its : later ≡ rest = of_later ∙ last-drop rest parts in
+      subst (λ l. IsCopied v form text first l) (sym its) (subst (λ l. IsCopied v form text l rest) (sym mine) (IsCopied-behind sound last.0 last.1))
+
+-- ---- the forms of the segments, one behind the other
+
+pub settled-is_form : (v : VersionData) (form : Form) (xs list made : List ℕ) (compat composed : Bool) → compat ≡ is_compat form → composed ≡ composes form →
+    list ≡ flat_map (full_of v compat) xs → made ≡ ended v composed (canonical_order (class_of v) list) → made ≡ normal_form v form xs
+unfolding normal_form decomposed
+settled-is_form v form xs list made compat composed kind last full is =
+    is ∙ ap (λ b. ended v b (canonical_order (class_of v) list)) last
+    ∙ ap (λ l. ended v (composes form) (canonical_order (class_of v) l)) (full ∙ ap (λ b. flat_map (full_of v b) xs) kind)
+
+pub one_more_segment : (v : VersionData) (form : Form) (whole before pushed written rest stays behind segment later : List ℕ) → IsCopied v form rest stays behind → IsParted v form behind segment later →
+    pushed ≡ before ++ stays → written ≡ pushed ++ encode_utf8_all (normal_form v form (chars segment)) → before ++ encode_utf8_all (normal_form v form (chars rest)) ≡ whole →
+    written ++ encode_utf8_all (normal_form v form (chars later)) ≡ whole
+one_more_segment v form whole before pushed written rest stays behind segment later copied parted push write all =
+    let made = encode_utf8_all (normal_form v form (chars segment)) in
+    let after = encode_utf8_all (normal_form v form (chars later)) in
+    ap (λ l. l ++ after) (write ∙ ap (λ l. l ++ made) push) ∙ append_assoc (before ++ stays) made after ∙ append_assoc before stays (made ++ after)
+    ∙ ap (λ l. before ++ (stays ++ l)) (sym (encodes-append (normal_form v form (chars segment)) (normal_form v form (chars later))) ∙ ap encode_utf8_all (sym parted.parted))
+    ∙ ap (λ l. before ++ l) (sym copied.copied) ∙ all
+
+pub form-end : (v : VersionData) (form : Form) (whole out rest : List ℕ) → out ++ encode_utf8_all (normal_form v form (chars rest)) ≡ whole → length rest ≡ 0 → out ≡ whole
+form-end v form whole out rest all none =
+    sym (append-nil out) ∙ ap (λ l. out ++ l) (sym (ap (λ l. encode_utf8_all (normal_form v form l)) (ap chars (nil_from_length rest none) ∙ chars-nil) ∙ ap encode_utf8_all (normal_form-nil v form))) ∙ all

@@ -1,0 +1,372 @@
+-- A run over a whole input, chunk by chunk.
+use Rattle.std.proofs.Common.{◌≡◌, ◌≢◌, ℕ, ◌+◌, ◌-◌, ◌<◌, ◌≤◌, ◌⊎◌, List, [], ◌∷◌, ◌++◌, length, take, drop, chars, encode_utf8_all, flat_map, IsUtf8, Option, None, Some, refl, sym, ap, subst, ◌∙◌, arith, inl, inr, append_assoc, append-nil, length-append}
+use Rattle.std.proofs.KnownBytes.{Appends-trans, Consumes-trans}
+use Rattle.std.proofs.lemmas.Grind.{flat_map-append}
+use Rattle.std.proofs.lemmas.List.{take_all, take-append-drop, drop_at, drop-drop}
+use Rattle.std.proofs.lemmas.Str.{chars-nil, chars-append, IsUtf8-nil, encodes-append, IsUtf8-append}
+use Rattle.std.specs.Io.KnownBytes.{Appends, Consumes, IsAtEnd}
+use Rattle.std.specs.Str.Lossy.{utf8_valid_len, utf8_error_len}
+use Rattle.np_code_points.specs.Forms.{is_compat, composes}
+use Rattle.np_code_points.specs.Text.{IsLongestValidPrefix}
+use Rattle.np_code_points.specs.declared.forms.Form.{Form}
+use Rattle.np_tables.specs.Conditions.{IsSound}
+use Rattle.np_tables.specs.Versions.{VersionData, class_of}
+use Rattle.np_tables.specs.inside.FullDecompositions.{full_of}
+use Rattle.np_forms.specs.Forms.{IsNormalForm}
+use Rattle.np_forms.specs.RunEnds.{BeginsText, Ends, IsRunWhole, IsReadTo, IsNoText, IsCauseOf, IsCutForm, IsFrontOfForm, IsWrittenOf, IsRunCut}
+use Rattle.np_forms.specs.Streams.{IsStreaming, StreamState}
+use Rattle.np_forms.specs.declared.runs.RunFault.{RunFault}
+use Rattle.np_forms.specs.declared.runs.RunFault.TheVariants.{NotUtf8, ReadFailed, WriteFailed, TooLarge, Memory}
+use Rattle.np_forms.specs.inside.CanonicalOrder.{canonical_order}
+use Rattle.np_forms.specs.inside.NormalForms.{decomposed, ended, normal_form}
+use Rattle.np_forms.specs.inside.Running.{IsRunning, MayBegin, MayNotBegin, IsChunkFault, IsNextChunk, IsInputFault, IsPieceWritten, IsPieceCut, IsRestWritten, IsRestCut, Goes, Stops}
+use Rattle.np_forms.proofs.FormLemmas.{IsNormalForm-normal_form, normal_form_is}
+use Rattle.np_forms.proofs.HeldLemmas.{held_streaming}
+use Rattle.np_forms.proofs.RunTextLemmas.{take_past, prefix_past, prefix_left, one_prefix, longest_prefix, whole_prefix}
+
+abbrev pub ends_of : Option (List ℕ) → Option (List ℕ) → Option (List ℕ) → Option (List ℕ) → Ends
+ends_of i₀ i₁ o₀ o₁ = record { in_before = i₀; in_after = i₁; out_before = o₀; out_after = o₁ }
+
+Consumes-nothing : (i : Option (List ℕ)) → Consumes i i []
+Consumes-nothing None = tt
+Consumes-nothing (Some xs) = refl
+
+Appends-nothing : (o : Option (List ℕ)) → Appends o o []
+Appends-nothing None = tt
+Appends-nothing (Some xs) = sym (append-nil xs)
+
+drop_past : (a b : List ℕ) (n : ℕ) → drop (length a + n) (a ++ b) ≡ drop n b
+drop_past a b n = sym (drop-drop n (length a) (a ++ b)) ∙ ap (drop n) (drop_at a b (length a) refl)
+
+-- what follows the longest prefix of a text and of what follows it
+left_past : (a b : List ℕ) (n : ℕ) → IsUtf8 a → IsLongestValidPrefix b n → drop (utf8_valid_len (a ++ b)) (a ++ b) ≡ drop n b
+left_past a b n utf8 h = ap (λ k. drop k (a ++ b)) (one_prefix (a ++ b) (length a + n) (prefix_past a b n utf8 h)) ∙ drop_past a b n
+
+begins_past : (a b : List ℕ) (n : ℕ) → IsUtf8 a → MayBegin b n → BeginsText (a ++ b)
+begins_past a b n utf8 h = ap utf8_error_len (left_past a b n utf8 h.prefix) ∙ h.begins
+
+not_begins_past : (a b : List ℕ) (n : ℕ) → IsUtf8 a → MayNotBegin b n → ¬ BeginsText (a ++ b)
+not_begins_past a b n utf8 h = λ begins. h.ends (ap utf8_error_len (sym (left_past a b n utf8 h.prefix)) ∙ begins)
+
+-- a stream under the version and the form that it has
+to_state : (v : VersionData) (form : Form) (s : StreamState) (fed out pending : List ℕ) → s.version ≡ v → s.form ≡ form → IsStreaming v form fed out pending → IsStreaming s.version s.form fed out pending
+to_state v form s fed out pending version same h =
+    subst (λ u. IsStreaming u s.form fed out pending) (sym version) (subst (λ f. IsStreaming v f fed out pending) (sym same) h)
+
+from_state : (v : VersionData) (form : Form) (s : StreamState) (fed out pending : List ℕ) → s.version ≡ v → s.form ≡ form → IsStreaming s.version s.form fed out pending → IsStreaming v form fed out pending
+from_state v form s fed out pending version same h =
+    subst (λ u. IsStreaming u form fed out pending) version (subst (λ f. IsStreaming s.version f fed out pending) same h)
+
+form_from_state : (v : VersionData) (form : Form) (s : StreamState) (fed list : List ℕ) → s.version ≡ v → s.form ≡ form → IsNormalForm s.version s.form fed list → IsNormalForm v form fed list
+form_from_state v form s fed list version same h =
+    subst (λ u. IsNormalForm u form fed list) version (subst (λ f. IsNormalForm s.version f fed list) same h)
+
+module _ (v : VersionData) (sound : IsSound v) where
+  -- what was ever ready begins the form of the text, whatever follows
+  form_front : (form : Form) (fed ready pending text : List ℕ) → IsStreaming v form fed ready pending → (rest : List ℕ) × (normal_form v form (fed ++ text) ≡ ready ++ rest)
+  unfolding normal_form decomposed
+  form_front form fed ready pending text s =
+      let each = full_of v (is_compat form) in
+      let h = held_streaming v sound form fed ready pending s in (
+        ended v (composes form) (canonical_order (class_of v) (pending ++ flat_map each text)),
+        ap (λ l. ended v (composes form) (canonical_order (class_of v) l)) (flat_map-append each fed text) ∙ h.goes_on (flat_map each text),
+      )
+
+  -- these first bytes of what is ready
+  ready_front : (list ready rest out behind : List ℕ) → list ≡ ready ++ rest → encode_utf8_all ready ≡ out ++ behind → IsFrontOfForm list out
+  ready_front list ready rest out behind is of_ready =
+      record {
+        rest = behind ++ encode_utf8_all rest;
+        split = ap encode_utf8_all is ∙ encodes-append ready rest ∙ ap (λ l. l ++ encode_utf8_all rest) of_ready ∙ append_assoc out behind (encode_utf8_all rest);
+      }
+
+  -- what was read, where n bytes of the last chunk are a text
+  read_to : (form : Form) (ends : Ends) (done chunk : List ℕ) (n : ℕ) → Consumes ends.in_before ends.in_after (done ++ chunk) → IsUtf8 done → IsLongestValidPrefix chunk n → length done + length chunk ≤ 4294967296 → IsReadTo v form ends (done ++ chunk) (normal_form v form (chars done ++ chars (take n chunk))) (length done + n)
+  read_to form ends done chunk n taken utf8 h size =
+      let text : chars (take (length done + n) (done ++ chunk)) ≡ chars done ++ chars (take n chunk) = ap chars (take_past done chunk n) ∙ chars-append done (take n chunk) utf8 in
+      record {
+        taken = taken;
+        size = omega (arith, length-append done chunk);
+        valid = prefix_past done chunk n utf8 h;
+        normal = subst (λ l. IsNormalForm v form l (normal_form v form (chars done ++ chars (take n chunk)))) (sym text) (IsNormalForm-normal_form v sound form _);
+      }
+
+  module _ (form : Form) (i₀ i₁ o₀ o₁ : Option (List ℕ)) (kept : List ℕ) (total count : ℕ) (s : StreamState) (r : IsRunning v form i₀ i₁ o₀ o₁ kept total count s) where
+    taken_with : (i₂ : Option (List ℕ)) (came : List ℕ) → Consumes i₁ i₂ came → Consumes i₀ i₂ (r.done ++ (kept ++ came))
+    taken_with i₂ came taken = subst (Consumes i₀ i₂) (append_assoc r.done kept came) (Consumes-trans i₀ i₁ i₂ (r.done ++ kept) came r.taken taken)
+
+    -- nothing more was fed or written
+    cut_early : (i₂ : Option (List ℕ)) (came : List ℕ) (n : ℕ) (fault : RunFault) → Consumes i₁ i₂ came → IsLongestValidPrefix (kept ++ came) n → total + length came ≤ 4294967296 → IsCauseOf (ends_of i₀ i₂ o₀ o₁) (r.done ++ (kept ++ came)) (length r.done + n) fault → ((list out : List ℕ) → IsFrontOfForm list out → IsWrittenOf v list out fault) → IsRunCut v form (ends_of i₀ i₂ o₀ o₁) fault
+    cut_early i₂ came n fault taken h size cause written =
+        let chunk = kept ++ came in
+        let front = form_front form (chars r.done) r.ready s.pending (chars (take n chunk)) r.streaming in
+        record {
+          bytes = r.done ++ chunk;
+          at = length r.done + n;
+          list = normal_form v form (chars r.done ++ chars (take n chunk));
+          read = read_to form (ends_of i₀ i₂ o₀ o₁) r.done chunk n (taken_with i₂ came taken) r.utf8 h (omega (arith, r.size, length-append kept came));
+          cause = cause;
+          out = encode_utf8_all r.ready;
+          written = r.written;
+          front = written _ _ (ready_front _ r.ready front.0 (encode_utf8_all r.ready) [] front.1 (sym (append-nil (encode_utf8_all r.ready))));
+        }
+
+    -- a failed read: all of the text was fed, and all that is ready is written
+    cut_read : (i₂ : Option (List ℕ)) → Consumes i₁ i₂ [] → total ≤ 4294967296 → IsRunCut v form (ends_of i₀ i₂ o₀ o₁) ReadFailed
+    cut_read i₂ taken size =
+        let all = subst (λ l. Consumes i₀ i₂ (r.done ++ l)) (append-nil kept) (taken_with i₂ [] taken) in
+        let read = read_to form (ends_of i₀ i₂ o₀ o₁) r.done kept 0 all r.utf8 r.cut (omega (arith, r.size)) in
+        let streaming = r.streaming in
+        let list : normal_form v form (chars r.done ++ chars (take 0 kept)) ≡ r.ready ++ streaming.held =
+        ap (λ l. normal_form v form (chars r.done ++ l)) chars-nil ∙ ap (normal_form v form) (append-nil (chars r.done)) ∙ sym (normal_form_is v sound form (chars r.done) (r.ready ++ streaming.held) streaming.whole) in
+        record {
+          bytes = r.done ++ kept;
+          at = length r.done + 0;
+          list = normal_form v form (chars r.done ++ chars (take 0 kept));
+          read = read;
+          cause = tt;
+          out = encode_utf8_all r.ready;
+          written = r.written;
+          front = record { x = r.ready; y = streaming.held; split = list; cut = streaming.cut; out_is = refl };
+        }
+
+    pub cut_input : (i₂ : Option (List ℕ)) (fault : RunFault) → IsInputFault i₁ i₂ kept total fault → IsRunCut v form (ends_of i₀ i₂ o₀ o₁) fault
+    cut_input i₂ (NotUtf8 place) f =
+        let chunk = kept ++ f.came in
+        let n = f.cause.n in
+        let sizes = length-append kept f.came in
+        let here : place ≡ length r.done + n = omega (arith, r.size, f.cause.cause.0, sizes) in
+        let all = length-append r.done chunk in
+        cut_early i₂ f.came n (NotUtf8 place) f.taken f.cause.prefix f.size (
+          here,
+          elim f.cause.cause.1 [
+            | inl whole ↦
+                inl (
+                  length (r.done ++ chunk),
+                  omega (arith, whole.0, r.size, sizes, all),
+                  omega arith,
+                  λ begins. not_begins_past r.done chunk n r.utf8 whole.1 (subst BeginsText (take_all (length (r.done ++ chunk)) (r.done ++ chunk) (omega arith)) begins),
+                )
+            | inr past ↦
+                inl (
+                  length r.done + past.1.m,
+                  omega (arith, past.0, past.1.size, r.size, sizes),
+                  omega (arith, past.1.size, all),
+                  λ begins. not_begins_past r.done (take past.1.m chunk) past.1.k r.utf8 past.1.front (subst BeginsText (take_past r.done chunk past.1.m) begins),
+                )
+          ],
+        )
+        (λ list out h. h)
+    cut_input i₂ ReadFailed f = cut_read i₂ (subst (Consumes i₁ i₂) f.cause f.taken) (omega (arith, f.size))
+    cut_input i₂ WriteFailed f = absurd f.cause
+    cut_input i₂ TooLarge f =
+        let chunk = kept ++ f.came in
+        let n = f.cause.n in
+        let sizes = length-append kept f.came in
+        let large = f.cause.cause in
+        let last : length r.done + large.1.m ≡ 4294967295 = omega (arith, large.0, large.1.size, r.size, sizes) in
+        cut_early i₂ f.came n TooLarge f.taken f.cause.prefix f.size (
+          omega (arith, large.0, r.size, sizes, length-append r.done chunk),
+          subst BeginsText (sym (take_past r.done chunk large.1.m) ∙ ap (λ k. take k (r.done ++ chunk)) last) (begins_past r.done (take large.1.m chunk) large.1.k r.utf8 large.1.front),
+        )
+        (λ list out h. h)
+    cut_input i₂ Memory f = cut_early i₂ f.came (utf8_valid_len (kept ++ f.came)) Memory f.taken (longest_prefix (kept ++ f.came)) f.size tt (λ list out h. h)
+
+    -- the end of the input within a character
+    pub cut_end : (place : ℕ) → place + length kept ≡ total → 0 < length kept → total ≤ 4294967295 → IsAtEnd i₁ → IsRunCut v form (ends_of i₀ i₁ o₀ o₁) (NotUtf8 place)
+    cut_end place here some fits end =
+        let read = read_to form (ends_of i₀ i₁ o₀ o₁) r.done kept 0 r.taken r.utf8 r.cut (omega (arith, r.size)) in
+        let front = form_front form (chars r.done) r.ready s.pending (chars (take 0 kept)) r.streaming in
+        let all = length-append r.done kept in
+        record {
+          bytes = r.done ++ kept;
+          at = length r.done + 0;
+          list = normal_form v form (chars r.done ++ chars (take 0 kept));
+          read = read;
+          cause = (
+            omega (arith, r.size),
+            inr (
+              end,
+              omega (arith, r.size, all),
+              λ utf8.
+                  let most = read.valid.longest (length (r.done ++ kept)) (omega arith) (subst IsUtf8 (sym (take_all (length (r.done ++ kept)) (r.done ++ kept) (omega arith))) utf8) in
+                  absurd (omega (arith, most, all)),
+            ),
+          );
+          out = encode_utf8_all r.ready;
+          written = r.written;
+          front = ready_front _ r.ready front.0 (encode_utf8_all r.ready) [] front.1 (sym (append-nil (encode_utf8_all r.ready)));
+        }
+
+    module _ (i₂ : Option (List ℕ)) (chunk left : List ℕ) (new n : ℕ) (next : IsNextChunk i₁ i₂ kept chunk left total new n) where
+      taken_chunk : Consumes i₀ i₂ (r.done ++ chunk)
+      taken_chunk = subst (λ l. Consumes i₀ i₂ (r.done ++ l)) (sym next.chunk_is) (taken_with i₂ next.came next.taken)
+
+      chunk_size : length r.done + length chunk ≡ new
+      chunk_size = omega (arith, r.size, next.total_is, ap length next.chunk_is, length-append kept next.came)
+
+      -- the text of the chunk was fed and written
+      pub step : (o₂ : Option (List ℕ)) (after : ℕ) (t : StreamState) → IsPieceWritten s t o₁ o₂ count after (chars (take n chunk)) → IsRunning v form i₀ i₂ o₀ o₂ left new after t
+      step o₂ after t w =
+          let parts : take n chunk ++ left ≡ chunk = ap (λ l. take n chunk ++ l) next.left_is ∙ take-append-drop n chunk in
+          let done = r.done ++ take n chunk in
+          let fed = to_state v form s (chars r.done) r.ready s.pending r.version r.form_is r.streaming in
+          let streaming = from_state v form s (chars r.done ++ chars (take n chunk)) (r.ready ++ w.more) t.pending r.version r.form_is (w.carries (chars r.done) r.ready fed) in
+          record {
+            done = done;
+            taken = subst (Consumes i₀ i₂) (sym (append_assoc r.done (take n chunk) left ∙ ap (λ l. r.done ++ l) parts)) taken_chunk;
+            utf8 = IsUtf8-append r.done (take n chunk) r.utf8 next.prefix.valid;
+            cut = subst (λ l. IsLongestValidPrefix l 0) (sym next.left_is) (prefix_left chunk n next.prefix);
+            size = omega (arith, chunk_size, ap length parts, length-append (take n chunk) left, length-append r.done (take n chunk));
+            ready = r.ready ++ w.more;
+            written = subst (Appends o₀ o₂) (sym (encodes-append r.ready w.more)) (Appends-trans o₀ o₁ o₂ (encode_utf8_all r.ready) (encode_utf8_all w.more) r.written w.written);
+            count_is = omega (arith, w.count_is, r.count_is, ap length (encodes-append r.ready w.more), length-append (encode_utf8_all r.ready) (encode_utf8_all w.more));
+            streaming = subst (λ l. IsStreaming v form l (r.ready ++ w.more) t.pending) (sym (chars-append r.done (take n chunk) r.utf8)) streaming;
+            version = w.version ∙ r.version;
+            form_is = w.form ∙ r.form_is;
+            moved = w.moved;
+          }
+
+      -- it was fed or written in part
+      pub cut_piece : (o₂ : Option (List ℕ)) (fault : RunFault) → IsPieceCut s o₁ o₂ (chars (take n chunk)) → IsCauseOf (ends_of i₀ i₂ o₀ o₂) (r.done ++ chunk) (length r.done + n) fault → ((list out : List ℕ) → IsFrontOfForm list out → IsWrittenOf v list out fault) → IsRunCut v form (ends_of i₀ i₂ o₀ o₂) fault
+      cut_piece o₂ fault w cause written =
+          let text = chars (take n chunk) in
+          let list = normal_form v form (chars r.done ++ text) in
+          let out = encode_utf8_all r.ready ++ w.out in
+          let front : IsFrontOfForm list out =
+          elim w.front [
+            | inl none ↦
+                let f = form_front form (chars r.done) r.ready s.pending text r.streaming in
+                ready_front list r.ready f.0 out [] f.1 (sym (append-nil out ∙ ap (λ l. encode_utf8_all r.ready ++ l) none ∙ append-nil (encode_utf8_all r.ready)))
+            | inr some ↦
+                let fed = to_state v form s (chars r.done) r.ready s.pending r.version r.form_is r.streaming in
+                let later = some.1.2 (chars r.done) r.ready fed in
+                let streaming = from_state v form s (chars r.done ++ text) (r.ready ++ some.0) later.0 r.version r.form_is later.1 in
+                let f = form_front form (chars r.done ++ text) (r.ready ++ some.0) later.0 [] streaming in
+                ready_front list (r.ready ++ some.0) f.0 out some.1.0 (ap (normal_form v form) (sym (append-nil (chars r.done ++ text))) ∙ f.1)
+                (encodes-append r.ready some.0 ∙ ap (λ l. encode_utf8_all r.ready ++ l) some.1.1 ∙ sym (append_assoc (encode_utf8_all r.ready) w.out some.1.0))
+          ] in
+          record {
+            bytes = r.done ++ chunk;
+            at = length r.done + n;
+            list = list;
+            read = read_to form (ends_of i₀ i₂ o₀ o₂) r.done chunk n taken_chunk r.utf8 next.prefix (omega (arith, chunk_size, next.fits));
+            cause = cause;
+            out = out;
+            written = Appends-trans o₀ o₁ o₂ (encode_utf8_all r.ready) w.out r.written w.written;
+            front = written list out front;
+          }
+
+      pub cut_piece_by : (o₂ : Option (List ℕ)) (fault : RunFault) → (fault ≡ WriteFailed) ⊎ (fault ≡ Memory) → IsPieceCut s o₁ o₂ (chars (take n chunk)) → IsRunCut v form (ends_of i₀ i₂ o₀ o₂) fault
+      cut_piece_by o₂ fault by w =
+          elim by [
+            | inl write ↦ subst (IsRunCut v form (ends_of i₀ i₂ o₀ o₂)) (sym write) (cut_piece o₂ WriteFailed w tt (λ list out h. h))
+            | inr none ↦ subst (IsRunCut v form (ends_of i₀ i₂ o₀ o₂)) (sym none) (cut_piece o₂ Memory w tt (λ list out h. h))
+          ]
+
+  -- ---- the end of the input, where no byte is left
+
+  module _ (form : Form) (i₀ i₁ o₀ o₁ : Option (List ℕ)) (total count : ℕ) (s : StreamState) (r : IsRunning v form i₀ i₁ o₀ o₁ [] total count s) (end : IsAtEnd i₁) (fits : total ≤ 4294967295) where
+    fed : IsStreaming s.version s.form (chars r.done) r.ready s.pending
+    fed = to_state v form s (chars r.done) r.ready s.pending r.version r.form_is r.streaming
+
+    taken_whole : Consumes i₀ i₁ r.done
+    taken_whole = subst (Consumes i₀ i₁) (append-nil r.done) r.taken
+
+    pub run_whole : (o₂ : Option (List ℕ)) (after : ℕ) → IsRestWritten s o₁ o₂ count after → IsRunWhole v form (ends_of i₀ i₁ o₀ o₂) after
+    run_whole o₂ after w =
+        record {
+          bytes = r.done;
+          taken = taken_whole;
+          end = end;
+          size = omega (arith, r.size);
+          utf8 = r.utf8;
+          list = r.ready ++ w.more;
+          normal = form_from_state v form s (chars r.done) (r.ready ++ w.more) r.version r.form_is (w.whole (chars r.done) r.ready fed);
+          written = subst (Appends o₀ o₂) (sym (encodes-append r.ready w.more)) (Appends-trans o₀ o₁ o₂ (encode_utf8_all r.ready) (encode_utf8_all w.more) r.written w.written);
+          count_is = omega (arith, w.count_is, r.count_is, ap length (encodes-append r.ready w.more), length-append (encode_utf8_all r.ready) (encode_utf8_all w.more));
+        }
+
+    pub cut_rest : (o₂ : Option (List ℕ)) (fault : RunFault) → IsRestCut s o₁ o₂ → IsCauseOf (ends_of i₀ i₁ o₀ o₂) r.done (length r.done) fault → ((list out : List ℕ) → IsFrontOfForm list out → IsWrittenOf v list out fault) → IsRunCut v form (ends_of i₀ i₁ o₀ o₂) fault
+    cut_rest o₂ fault w cause written =
+        let list = normal_form v form (chars r.done) in
+        let out = encode_utf8_all r.ready ++ w.out in
+        let all : take (length r.done) r.done ≡ r.done = take_all (length r.done) r.done (omega arith) in
+        let front : IsFrontOfForm list out =
+        elim w.front [
+          | inl none ↦
+              let f = form_front form (chars r.done) r.ready s.pending [] r.streaming in
+              ready_front list r.ready f.0 out [] (ap (normal_form v form) (sym (append-nil (chars r.done))) ∙ f.1)
+              (sym (append-nil out ∙ ap (λ l. encode_utf8_all r.ready ++ l) none ∙ append-nil (encode_utf8_all r.ready)))
+          | inr some ↦
+              let whole = form_from_state v form s (chars r.done) (r.ready ++ some.0) r.version r.form_is (some.1.2 (chars r.done) r.ready fed) in
+              ready_front list (r.ready ++ some.0) [] out some.1.0 (sym (append-nil (r.ready ++ some.0) ∙ normal_form_is v sound form (chars r.done) (r.ready ++ some.0) whole))
+              (encodes-append r.ready some.0 ∙ ap (λ l. encode_utf8_all r.ready ++ l) some.1.1 ∙ sym (append_assoc (encode_utf8_all r.ready) w.out some.1.0))
+        ] in
+        record {
+          bytes = r.done;
+          at = length r.done;
+          list = list;
+          read = record {
+            taken = taken_whole;
+            size = omega (arith, r.size);
+            valid = whole_prefix r.done (length r.done) refl r.utf8;
+            normal = subst (λ l. IsNormalForm v form (chars l) list) (sym all) (IsNormalForm-normal_form v sound form (chars r.done));
+          };
+          cause = cause;
+          out = out;
+          written = Appends-trans o₀ o₁ o₂ (encode_utf8_all r.ready) w.out r.written w.written;
+          front = written list out front;
+        }
+
+    pub cut_rest_by : (o₂ : Option (List ℕ)) (fault : RunFault) → (fault ≡ WriteFailed) ⊎ (fault ≡ Memory) → IsRestCut s o₁ o₂ → IsRunCut v form (ends_of i₀ i₁ o₀ o₂) fault
+    cut_rest_by o₂ fault by w =
+        elim by [
+          | inl write ↦ subst (IsRunCut v form (ends_of i₀ i₁ o₀ o₂)) (sym write) (cut_rest o₂ WriteFailed w tt (λ list out h. h))
+          | inr none ↦ subst (IsRunCut v form (ends_of i₀ i₁ o₀ o₂)) (sym none) (cut_rest o₂ Memory w tt (λ list out h. h))
+        ]
+
+  -- nothing was read or written
+  pub run_start : (form : Form) (i₀ o₀ : Option (List ℕ)) (s : StreamState) → s.version ≡ v → s.form ≡ form → s.ready ≡ [] → IsStreaming v form [] [] s.pending → IsRunning v form i₀ i₀ o₀ o₀ [] 0 0 s
+  run_start form i₀ o₀ s version same moved begins =
+      record {
+        done = [];
+        taken = Consumes-nothing i₀;
+        utf8 = IsUtf8-nil;
+        cut = whole_prefix [] 0 refl IsUtf8-nil;
+        size = omega arith;
+        ready = [];
+        written = Appends-nothing o₀;
+        count_is = refl;
+        streaming = subst (λ l. IsStreaming v form l [] s.pending) (sym chars-nil) begins;
+        version = version;
+        form_is = same;
+        moved = moved;
+      }
+
+  -- want of memory before the first read
+  pub cut_start : (form : Form) (i₀ o₀ : Option (List ℕ)) (s : StreamState) → s.version ≡ v → s.form ≡ form → s.ready ≡ [] → IsStreaming v form [] [] s.pending → IsRunCut v form (ends_of i₀ i₀ o₀ o₀) Memory
+  cut_start form i₀ o₀ s version same moved begins =
+      cut_input form i₀ i₀ o₀ o₀ [] 0 0 s (run_start form i₀ o₀ s version same moved begins) i₀ Memory
+      (record { came = []; taken = Consumes-nothing i₀; size = omega arith; cause = tt })
+
+  -- ---- from the begin
+
+  module _ (form : Form) (i i' o o' : Option (List ℕ)) (kept : List ℕ) (total : ℕ) (s : StreamState) (same_in : i' ≡ i) (same_out : o' ≡ o) (version : s.version ≡ v) (form_is : s.form ≡ form) (moved : s.ready ≡ []) (begins : IsStreaming v form [] [] s.pending) (none : kept ≡ []) (zero_read : total ≡ 0) where
+    begun : IsRunning s.version form i' i' o' o' kept total 0 s
+    begun =
+        subst (λ n. IsRunning s.version form i' i' o' o' kept n 0 s) (sym zero_read)
+        (subst (λ l. IsRunning s.version form i' i' o' o' l 0 0 s) (sym none)
+        (subst (λ u. IsRunning u form i' i' o' o' [] 0 0 s) (sym version) (run_start form i' o' s version form_is moved begins)))
+
+    pub cut_all : (i₂ o₂ : Option (List ℕ)) (fault : RunFault) → Stops s i' i₂ o' o₂ kept total 0 fault → IsRunCut v form (ends_of i i₂ o o₂) fault
+    cut_all i₂ o₂ fault stops =
+        subst (λ u. IsRunCut u form (ends_of i i₂ o o₂) fault) version
+        (subst (λ x. IsRunCut s.version form (ends_of x i₂ o o₂) fault) same_in
+        (subst (λ x. IsRunCut s.version form (ends_of i' i₂ x o₂) fault) same_out (stops form i' o' begun)))
+
+    pub went_all : (i₂ o₂ : Option (List ℕ)) (left : List ℕ) (new after : ℕ) (t : StreamState) → Goes s t i' i₂ o' o₂ kept left total new 0 after → IsRunning v form i i₂ o o₂ left new after t
+    went_all i₂ o₂ left new after t goes =
+        subst (λ u. IsRunning u form i i₂ o o₂ left new after t) version
+        (subst (λ x. IsRunning s.version form x i₂ o o₂ left new after t) same_in
+        (subst (λ x. IsRunning s.version form i' i₂ x o₂ left new after t) same_out (goes form i' o' begun)))

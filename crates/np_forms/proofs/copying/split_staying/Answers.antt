@@ -1,0 +1,29 @@
+use Rattle.std.proofs.Common.{◌++◌, length, take, drop, chars, encode_utf8, encode_utf8_all, refl, sym, ap, subst, ◌∙◌, inl, inr}
+use Rattle.np_forms.proofs.CopyLemmas.{cut_at-front, cut_at-back, cut_boundary, IsCopied-whole, IsCopied-boundary, IsCopied-last, without_last-boundary}
+use Rattle.np_forms.proofs.copying.split_staying.Goals as goal
+
+pub split_at-requires : goal.split_at-requires
+split_at-requires g c = cut_boundary (g.T.NormTable.model c.args.table.now) c.args.form c.args.text.now c.staying.result c.staying.ensures
+
+pub split_at-requires-in-Some-2 : goal.split_at-requires-in-Some-2
+split_at-requires-in-Some-2 g c =
+    without_last-boundary (g.T.NormTable.model c.args.table.now) c.args.form c.args.text.now c.staying.result c.staying.ensures
+    c.split_at.result.0.now c.without_last.result.now c.split_at.ensures.front c.utf8.text c.without_last.utf8 c.without_last.ensures
+
+pub returns-in-None : goal.returns-in-None
+returns-in-None g c =
+    IsCopied-whole (g.T.NormTable.model c.args.table.now) c.meets_conditions.ensures c.args.form c.args.text.now c.staying.result c.staying.ensures
+    c.split_at.result.0.now c.split_at.result.1.now c.split_at.ensures.front c.split_at.ensures.back
+    (ap length (sym c.chars-behind.ensures.rest) ∙ c.in-None.ensures.steps.0.0)
+
+pub returns-in-Some : goal.returns-in-Some
+returns-in-Some g c =
+    IsCopied-boundary (g.T.NormTable.model c.args.table.now) c.meets_conditions.ensures c.args.form c.args.text.now c.staying.result c.staying.ensures
+    c.split_at.result.0.now c.split_at.result.1.now c.split_at.ensures.front c.split_at.ensures.back
+    c.in-Some.next _ (sym c.chars-behind.ensures.rest ∙ c.in-Some.ensures.steps.0) (c.is_boundary.ensures c.if-is_boundary.true)
+
+pub returns-in-Some-2 : goal.returns-in-Some-2
+returns-in-Some-2 g c =
+    IsCopied-last (g.T.NormTable.model c.args.table.now) c.args.form c.args.text.now c.staying.result c.staying.ensures
+    c.split_at.result.0.now c.without_last.result.now c.split_at.ensures.front c.utf8.text c.without_last.utf8 c.meets_conditions.ensures
+    c.split_at-in-Some-2.result.0.now c.split_at-in-Some-2.result.1.now c.without_last.ensures c.split_at-in-Some-2.ensures.front c.split_at-in-Some-2.ensures.back

@@ -1,0 +1,9 @@
+use Rattle.std.proofs.Common.{◌≡◌, ◌++◌, take, drop, string_bytes, sym, ap, subst, ◌∙◌}
+use Rattle.std.proofs.lemmas.List.{take-append-drop}
+use Rattle.np_forms.proofs.runs.write_text_out.Goals as goal
+
+pub returns-in_default-clause-err : goal.returns-in_default-clause-err
+returns-in_default-clause-err g c =
+    let w = c.in_default.ensures.err in
+    let bytes = c.as_bytes.result.now in
+    (take w.0 bytes, (drop w.0 bytes, sym c.as_bytes.ensures.value ∙ sym (take-append-drop w.0 bytes), w.2))

@@ -1,0 +1,27 @@
+-- Texts cut where their forms part.
+use Rattle.std.specs.Prelude.{◌≡◌, ℕ, ⊤, List, [], ◌∷◌, ◌++◌, ◌⊎◌, chars, encode_utf8, encode_utf8_all, IsUtf8}
+use Rattle.np_code_points.specs.declared.forms.Form.{Form}
+use Rattle.np_forms.specs.inside.NormalForms.{normal_form}
+use Rattle.np_tables.specs.Boundaries.{IsBoundary}
+use Rattle.np_tables.specs.Versions.{VersionData}
+
+-- the form parts before the list: it is empty, or begins with a boundary
+abbrev pub BeginsAtBoundary : VersionData → Form → List ℕ → Type 0
+BeginsAtBoundary v form [] = ⊤
+BeginsAtBoundary v form (c ∷ cs) = IsBoundary v form c
+
+-- a text is cut in two, of which the front stands in the form as it is
+pub record IsCopied (v : VersionData) (form : Form) (text front back : List ℕ) : Type 0 where
+  pub parts : text ≡ front ++ back
+  pub utf8 : IsUtf8 back
+  pub copied : encode_utf8_all (normal_form v form (chars text)) ≡ front ++ encode_utf8_all (normal_form v form (chars back))
+
+-- a text is cut in two, whose forms are each for itself
+pub record IsParted (v : VersionData) (form : Form) (text front back : List ℕ) : Type 0 where
+  pub parts : text ≡ front ++ back
+  pub utf8 : IsUtf8 back
+  pub parted : normal_form v form (chars text) ≡ normal_form v form (chars front) ++ normal_form v form (chars back)
+
+-- a text without its last character; the empty one stays
+abbrev pub LosesLast : List ℕ → List ℕ → Type 0
+LosesLast text rest = ((text ≡ []) × (rest ≡ [])) ⊎ ((c : ℕ) × (text ≡ rest ++ encode_utf8 c))

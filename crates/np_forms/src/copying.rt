@@ -1,0 +1,95 @@
+//! The form of a whole text, in which what stays is copied, and what is left goes segment by segment
+//! through decomposition, ordering and composition (UAX #15, section 9.1).
+ghost use Rattle.std.specs.Prelude.{◌≡◌, ◌<◌, ◌++◌, length, chars, string_bytes, encode_utf8_all, OnOk};
+ghost use Rattle.np_forms.specs.inside.Copies.{IsCopied, IsParted, LosesLast};
+ghost use Rattle.np_forms.specs.inside.NormalForms.{normal_form};
+
+use crate::decomposing::decompose_into;
+use crate::held::settle;
+use crate::written::append_chars;
+use np_code_points::{Form, Memory};
+use np_tables::NormTable;
+use std::alloc::Global;
+
+/// A text without its last code point.
+fn without_last(text: &str) -> &str
+    ensures { LosesLast text.now result.now }
+{
+    let mut iter = text.chars();
+    // the last one is what is left out
+    let _last = iter.next_back();
+    iter.as_str()
+}
+
+/// Cuts off the longest front that is known to stand in the form as it is.
+fn split_staying<'a, T: NormTable>(table: &T, form: Form, text: &'a str) -> (&'a str, &'a str)
+    ensures { IsCopied (T.model table.now) form text.now result.0.now result.1.now }
+{
+    table.meets_conditions();
+    let (front, back) = text.split_at(table.staying(form, text));
+    let mut behind = back.chars();
+    match behind.next() {
+        None => (front, back),
+        Some(next) if table.is_boundary(form, next) => (front, back),
+        Some(_) => text.split_at(without_last(front).len()),
+    }
+}
+
+/// Cuts before the first code point behind the first one at which the form is known to part.
+fn split_segment<'a, T: NormTable>(table: &T, form: Form, text: &'a str) -> (&'a str, &'a str)
+    ensures parted { IsParted (T.model table.now) form text.now result.0.now result.1.now }
+    ensures some { 0 < length text.now → 0 < length result.0.now }
+{
+    table.meets_conditions();
+    let mut iter = text.chars();
+    // a segment has at least one code point
+    let _first = iter.next();
+    'scan: loop {
+        let here = iter.as_str();
+        let Some(c) = iter.next() else {
+            return (text, here);
+        };
+        if table.is_boundary(form, c) {
+            return (&text[..text.len() - here.len()], here);
+        }
+    }
+}
+
+/// Appends the form of a segment. The list is room that is used again.
+fn write_segment<T: NormTable>(
+    alloc: Global,
+    table: &T,
+    form: Form,
+    segment: &str,
+    list: &mut Vec<char>,
+    out: &mut String,
+) -> Result<(), Memory>
+    ensures { OnOk result (string_bytes out.new ≡ string_bytes out.old ++ encode_utf8_all (normal_form (T.model table.now) form (chars segment.now))) }
+{
+    decompose_into(table, form.compat(), segment, list)?;
+    settle(alloc, table, form.composes(), list)?;
+    append_chars(out, list)
+}
+
+/// Appends the form of a text: what is known to stay is copied, and each segment of what is left is
+/// made by itself.
+pub(crate) fn write_form<T: NormTable>(
+    alloc: Global,
+    table: &T,
+    form: Form,
+    text: &str,
+    out: &mut String,
+) -> Result<(), Memory>
+    ensures { OnOk result (string_bytes out.new ≡ string_bytes out.old ++ encode_utf8_all (normal_form (T.model table.now) form (chars text.now))) }
+{
+    let mut list = Vec::new(alloc);
+    let mut rest = text;
+    'segments: while !rest.is_empty() {
+        let (stays, behind) = split_staying(table, form, rest);
+        out.push_str(stays)?;
+        let (segment, later) = split_segment(table, form, behind);
+        write_segment(alloc, table, form, segment, &mut list, out)?;
+        rest = later;
+    }
+    Ok(())
+}
