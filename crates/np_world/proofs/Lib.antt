@@ -1,0 +1,5 @@
+pub mod ReportLemmas
+pub mod RunLemmas
+pub mod StepLemmas
+pub mod StringLemmas
+pub mod TurnLemmas

@@ -1,0 +1,137 @@
+-- A run of the machine, event by event.
+use Rattle.std.proofs.Common.{◌≡◌, ℕ, zero, suc, ◌+◌, ◌<◌, List, [], ◌∷◌, ◌++◌, length, get_or, map, take, slice_get, None, Some, refl, sym, ap, subst, ◌∙◌, arith}
+use Rattle.std.proofs.lemmas.List.{length-map, take_more, map-append, get_or-map}
+use Rattle.std.specs.Prelude.{slice_set}
+use Rattle.std.specs.declared.vec.Vec.{Vec}
+use Rattle.std.specs.declared.alloc.Global.{Global}
+use Rattle.np_chain.specs.Chain.{StandsAt}
+use Rattle.np_node.specs.Nodes.{NodeState}
+use Rattle.np_tables.specs.Versions.{VersionData}
+use Rattle.np_code_points.specs.declared.forms.Form.{Form}
+use Rattle.np_world.specs.Events.{Event, ScheduleData, node_of}
+use Rattle.np_world.specs.Schedules.{IsStandable, NameNodes}
+use Rattle.np_world.specs.World.{Setting, MachineNode, World, IsStep, IsRun, first_node, start}
+use Rattle.np_world.specs.declared.events.EventLine.{EventLine}
+use Rattle.np_world.specs.declared.members.Member.{Member}
+use Rattle.np_world.specs.declared.replies.Reply.{Reply}
+use Rattle.np_world.specs.inside.Mirrors.{Rules, setting_of, Mirrors, AreRules}
+use Rattle.np_world.specs.declared.report.Report.{Report}
+use Rattle.np_world.specs.inside.Played.{IsPlayed}
+use Rattle.np_world.specs.inside.Rust.{event_of}
+use Rattle.np_world.specs.inside.Worlds.{AreMirrored, IsShown, Steps, Begins, EndsRun}
+
+run-push : (setting : Setting) (before : World) (events : List Event) (replies : List Reply) (between : World) (event : Event) (reply : Reply) (after : World)
+    → IsRun setting before events replies between → IsStep setting between event reply after → IsRun setting before (events ++ event ∷ []) (replies ++ reply ∷ []) after
+run-push setting before [] replies between event reply after run step =
+    (reply, [], after, ap (λ l. l ++ reply ∷ []) run.0, subst (λ w. IsStep setting w event reply after) run.1 step, (refl, refl))
+run-push setting before (e ∷ es) replies between event reply after run step =
+    (run.0, run.1 ++ reply ∷ [], run.2, ap (λ l. l ++ reply ∷ []) run.3, run.4, run-push setting run.2 es run.1 between event reply after run.5 step)
+
+module _ {T : Type 0} (model : T → VersionData) (rules : Rules T) where
+  pub length-mirrored : (members : List (Member T)) (nodes : List MachineNode) → AreMirrored model rules members nodes → length members ≡ length nodes
+  length-mirrored [] [] are = refl
+  length-mirrored (m ∷ ms) (n ∷ ns) are = ap suc (length-mirrored ms ns are.1)
+  length-mirrored [] (n ∷ ns) are = absurd are
+  length-mirrored (m ∷ ms) [] are = absurd are
+
+  pub mirrored-push : (members : List (Member T)) (nodes : List MachineNode) (member : Member T) (node : MachineNode) → AreMirrored model rules members nodes → Mirrors model rules member node → AreMirrored model rules (members ++ member ∷ []) (nodes ++ node ∷ [])
+  mirrored-push [] [] member node are is = (is, tt)
+  mirrored-push (m ∷ ms) (n ∷ ns) member node are is = (are.0, mirrored-push ms ns member node are.1 is)
+  mirrored-push [] (n ∷ ns) member node are is = absurd are
+  mirrored-push (m ∷ ms) [] member node are is = absurd are
+
+  -- nothing happened yet
+  pub ends-nothing : (starts : List ℕ) (events : List EventLine) (members : List (Member T)) → Begins model rules members starts → EndsRun model rules starts (map event_of (take 0 events)) [] members []
+  ends-nothing starts events members begins = record { world = start starts; run = (refl, refl); shows = record { nodes = begins; sent = tt } }
+
+  -- one event more
+  pub ends-more : (starts : List ℕ) (events : List EventLine) (i : ℕ) (event : EventLine) (replies : List Reply) (members new : List (Member T)) (told new_told : List (Vec ℕ Global)) (reply : Reply) (more_replies : List Reply) → i < length events
+      → more_replies ≡ replies ++ reply ∷ [] → event ≡ get_or events i event → AreRules model rules
+      → EndsRun model rules starts (map event_of (take i events)) replies members told → Steps model rules members told (event_of event) reply new new_told
+      → EndsRun model rules starts (map event_of (take (i + 1) events)) more_replies new new_told
+  ends-more starts events i event replies members new told new_told reply more_replies lt pushed here are ends steps =
+      let step = steps ends.world are ends.shows in
+      let more : map event_of (take (i + 1) events) ≡ map event_of (take i events) ++ event_of event ∷ [] =
+      ap (map event_of) (take_more events i event lt) ∙ map-append event_of (take i events) (get_or events i event ∷ []) ∙ ap (λ e. map event_of (take i events) ++ event_of e ∷ []) (sym here) in
+      record {
+        world = step.0;
+        run = subst (λ rs. IsRun (setting_of model rules) (start starts) (map event_of (take (i + 1) events)) rs step.0) (sym pushed)
+            (subst (λ es. IsRun (setting_of model rules) (start starts) es (replies ++ reply ∷ []) step.0) (sym more)
+            (run-push (setting_of model rules) (start starts) (map event_of (take i events)) replies ends.world (event_of event) reply step.0 ends.run step.1));
+        shows = step.2;
+      }
+
+  -- the nodes stay as many as there were
+  pub length-set : (nodes : List MachineNode) (k : ℕ) (node : MachineNode) → length (slice_set nodes k node) ≡ length nodes
+  length-set [] k node = refl
+  length-set (n ∷ ns) zero node = refl
+  length-set (n ∷ ns) (suc k) node = ap suc (length-set ns k node)
+
+  pub length-run : (setting : Setting) (before : World) (events : List Event) (replies : List Reply) (after : World) → IsRun setting before events replies after → length after.nodes ≡ length before.nodes
+  length-run setting before [] replies after run = ap (λ w. length w.nodes) run.1
+  length-run setting before (e ∷ es) replies after run =
+      length-run setting run.2 es run.1 after run.5 ∙ ap length run.4.nodes ∙ length-set before.nodes (node_of e) run.4.new
+
+  pub count_ends : (starts : List ℕ) (events : List Event) (replies : List Reply) (members : List (Member T)) (told : List (Vec ℕ Global)) → EndsRun model rules starts events replies members told → length members ≡ length starts
+  count_ends starts events replies members told ends =
+      length-mirrored members ends.world.nodes ends.shows.nodes
+      ∙ length-run (setting_of model rules) (start starts) events replies ends.world ends.run
+      ∙ length-map starts first_node
+
+  -- ---- the nodes at the start
+
+  pub new_mirrors : (index : ℕ) (table : T) (node : NodeState T) → AreRules model rules → slice_get rules.tables index ≡ Some table → StandsAt (map model rules.tables) index (model table)
+      → node ≡ record { table = table; form = rules.form; room = rules.room; entries = [] } → Mirrors model rules (record { index = index; node = node; image = None }) (first_node index)
+  new_mirrors index table node are here stands is =
+      subst (λ n. Mirrors model rules (record { index = index; node = n; image = None }) (first_node index)) (sym is)
+      (record {
+        index = refl;
+        table = here;
+        form = refl;
+        room = refl;
+        node = record { sound = stands.sound; entries = λ k d lt. absurd (omega arith); unlike = λ i j d lt within. absurd (omega arith); fits = omega arith; room = are.room };
+        strings = refl;
+        saved = refl;
+      })
+
+  pub begins-more : (members more : List (Member T)) (starts : List ℕ) (i : ℕ) (member : Member T) → i < length starts → more ≡ members ++ member ∷ [] → Begins model rules members (take i starts)
+      → Mirrors model rules member (first_node (get_or starts i 0)) → Begins model rules more (take (i + 1) starts)
+  begins-more members more starts i member lt pushed begins is =
+      let grown : (start (take (i + 1) starts)).nodes ≡ (start (take i starts)).nodes ++ first_node (get_or starts i 0) ∷ [] =
+      ap (map first_node) (take_more starts i 0 lt) ∙ map-append first_node (take i starts) (get_or starts i 0 ∷ []) in
+      subst (λ l. AreMirrored model rules l (start (take (i + 1) starts)).nodes) (sym pushed)
+      (subst (AreMirrored model rules (members ++ member ∷ [])) (sym grown) (mirrored-push members (start (take i starts)).nodes member (first_node (get_or starts i 0)) begins is))
+
+  pub shown : (starts : List ℕ) (events : List Event) (replies : List Reply) (members : List (Member T)) (told : List (Vec ℕ Global)) → AreRules model rules → EndsRun model rules starts events replies members told → IsShown model rules members told
+  shown starts events replies members told are ends = record { rules_hold = are; world = ends.world; shows = ends.shows }
+
+-- an event names one of the nodes
+pub named_at : (nodes : ℕ) (events : List EventLine) (i : ℕ) (d : EventLine) → NameNodes nodes (map event_of events) → i < length events → node_of (event_of (get_or events i d)) < nodes
+named_at nodes events i d names lt =
+    let there = names i (event_of d) (omega (arith, lt, length-map events event_of)) in
+    subst (λ e. node_of e < nodes) (get_or-map event_of events i d (event_of d) lt) there
+
+-- the versions at which the nodes begin are among those of the chain
+pub starts_within : (schedule : ScheduleData) (starts : List ℕ) (n : ℕ) → IsStandable schedule → schedule.versions ≡ n → starts ≡ schedule.starts → (i : ℕ) → i < length starts → get_or starts i 0 < n
+starts_within schedule starts n stands over same i lt =
+    let within = stands.starts i 0 (omega (arith, lt, ap length same)) in
+    omega (arith, within, over, ap (λ l. get_or l i 0) same)
+
+pub names_within : (schedule : ScheduleData) (starts : List ℕ) (events : List Event) → IsStandable schedule → starts ≡ schedule.starts → events ≡ schedule.events → NameNodes (length starts) events
+names_within schedule starts events stands same all =
+    subst (λ es. NameNodes (length starts) es) (sym all) (subst (λ l. NameNodes (length l) schedule.events) (sym same) stands.events)
+
+abbrev pub rules_with : {T : Type 0} → List T → Form → ℕ → Rules T
+rules_with tables form room = record { tables = tables; form = form; room = room }
+
+pub played : {T : Type 0} (model : T → VersionData) (tables : List T) (form : Form) (schedule : ScheduleData) (report : Report T) (room : ℕ) (starts : List ℕ) (events : List Event) (members : List (Member T))
+    → AreRules model (rules_with tables form room) → room ≡ schedule.room → starts ≡ schedule.starts → events ≡ schedule.events → members ≡ report.members.items
+    → EndsRun model (rules_with tables form room) starts events report.replies.items members report.sent.items → IsPlayed model tables form schedule report
+played model tables form schedule report room starts events members are size same all kept ends =
+    record {
+      rules_hold = subst (λ r. AreRules model (rules_with tables form r)) size are;
+      ends = subst (λ r. EndsRun model (rules_with tables form r) schedule.starts schedule.events report.replies.items report.members.items report.sent.items) size
+          (subst (λ ms. EndsRun model (rules_with tables form room) schedule.starts schedule.events report.replies.items ms report.sent.items) kept
+          (subst (λ es. EndsRun model (rules_with tables form room) schedule.starts es report.replies.items members report.sent.items) all
+          (subst (λ ss. EndsRun model (rules_with tables form room) ss events report.replies.items members report.sent.items) same ends)));
+    }

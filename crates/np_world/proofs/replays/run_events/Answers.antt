@@ -1,0 +1,23 @@
+use Rattle.std.proofs.Common.{◌<◌, length, map, subst, sym, take}
+use Rattle.np_world.specs.Events.{node_of}
+use Rattle.np_world.specs.inside.Mirrors.{rules_of}
+use Rattle.np_world.specs.inside.Rust.{event_of}
+use Rattle.np_world.proofs.RunLemmas.{count_ends, ends-more, named_at}
+use Rattle.np_world.proofs.replays.run_events.Goals as goal
+
+pub step-requires-clause-named : goal.step-requires-clause-named
+step-requires-clause-named g c =
+    let model = g.T.NormTable.model in
+    let rules = rules_of c.args.common.now in
+    let i = c.loop-event.event-index in
+    let count = count_ends model rules c.args.starts.now (map event_of (take i c.args.events.now)) c.loop-event.replies.items c.loop-event.members c.loop-event.sent.items c.loop-event.invariant in
+    let named = named_at (length c.args.starts.now) c.args.events.now i c.event-item.result c.requires.named c.loop-event-test.true in
+    subst (λ n. node_of (event_of c.event-item.result) < n) (sym count) (subst (λ e. node_of (event_of e) < length c.args.starts.now) (sym c.event-item.is) named)
+
+pub loop-event-preserved : goal.loop-event-preserved
+loop-event-preserved g c =
+    let model = g.T.NormTable.model in
+    let rules = rules_of c.args.common.now in
+    let i = c.loop-event.event-index in
+    ends-more model rules c.args.starts.now c.args.events.now i c.event-item.result c.loop-event.replies.items c.loop-event.members c.step.new.members c.loop-event.sent.items c.step.new.sent.items c.in_ok-step.field-0
+    c.push.new.self.items c.loop-event-test.true c.in_ok-push.ensures.items c.event-item.is c.requires.rules c.loop-event.invariant c.in_ok-step.ensures

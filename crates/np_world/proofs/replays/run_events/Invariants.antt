@@ -1,0 +1,8 @@
+use Rattle.std.proofs.Common.{take, map}
+use Rattle.np_world.specs.inside.Mirrors.{rules_of}
+use Rattle.np_world.specs.inside.Rust.{event_of}
+use Rattle.np_world.specs.inside.Worlds.{EndsRun}
+use Rattle.np_world.proofs.replays.run_events.Given as goal
+
+abbrev pub invariant-loop-event : goal.invariant-loop-event
+invariant-loop-event g l = EndsRun g.T.NormTable.model (rules_of l.common) l.starts (map event_of (take l.event-index l.events)) l.replies.items l.members l.sent.items

@@ -1,0 +1,26 @@
+-- The events of a schedule. Nodes and messages are named by their numbers, from 0; a string is the list of its code points.
+use Rattle.std.specs.Prelude.{ℕ, List}
+
+pub data Event : Type 0 where
+  Accept : (node : ℕ) (string : List ℕ) → Event
+  Deliver : (node message : ℕ) → Event
+  Upgrade : (node : ℕ) → Event
+  Save : (node : ℕ) → Event
+  Restart : (node : ℕ) → Event
+  Ask : (node : ℕ) (left right : List ℕ) → Event
+
+-- the node that an event names
+abbrev pub node_of : Event → ℕ
+node_of (Accept node string) = node
+node_of (Deliver node message) = node
+node_of (Upgrade node) = node
+node_of (Save node) = node
+node_of (Restart node) = node
+node_of (Ask node left right) = node
+
+-- the number of versions, the room of each node, the place of each node's first version, and the events
+pub record ScheduleData : Type 0 where
+  pub versions : ℕ
+  pub room : ℕ
+  pub starts : List ℕ
+  pub events : List Event

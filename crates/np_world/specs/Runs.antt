@@ -1,0 +1,64 @@
+-- What a replay tells: the machine's run over a schedule, and what stands beside it in the report.
+use Rattle.std.specs.Prelude.{◌≡◌, ◌↔◌, ℕ, ◌-◌, List, length, map, chars, slice_get, Option, Some, All}
+use Rattle.np_code_points.specs.declared.forms.Form.{Form}
+use Rattle.np_code_points.specs.Forms.{is_compat}
+use Rattle.np_forms.specs.Forms.{IsEquivalent}
+use Rattle.np_node.specs.Images.{image_bytes}
+use Rattle.np_node.specs.Messages.{message_bytes}
+use Rattle.np_node.specs.Nodes.{NodeState, strings_of, IsKept}
+use Rattle.np_node.specs.Strings.{Entry, IsKey}
+use Rattle.np_tables.specs.Versions.{VersionData}
+use Rattle.np_world.specs.Events.{ScheduleData}
+use Rattle.np_world.specs.World.{Setting, World, start, IsRun}
+use Rattle.np_world.specs.declared.replies.Reply.{Reply}
+
+-- the versions of a chain, the form, and the schedule's room
+abbrev pub setting_over : {T : Type 0} → (T → VersionData) → List T → Form → ScheduleData → Setting
+setting_over model tables form schedule = record { versions = map model tables; form = form; room = schedule.room }
+
+-- a property of the replies and the last world of the machine's run over a schedule
+pub record InTheRun (setting : Setting) (schedule : ScheduleData) (P : List Reply → World → Type 0) : Type 0 where
+  pub replies : List Reply
+  pub world : World
+  pub run : IsRun setting (start schedule.starts) schedule.events replies world
+  pub holds : P replies world
+
+-- the last version
+abbrev pub IsLast : Setting → VersionData → Type 0
+IsLast setting v = slice_get setting.versions (length setting.versions - 1) ≡ Some v
+
+-- each key is that of its string under a version
+abbrev pub AreKeysUnder : VersionData → Form → List Entry → Type 0
+AreKeysUnder v form entries = All (λ e. IsKey v form e.string e.key) entries
+
+-- the strings of entries in order, as code points
+abbrev pub texts_in : List Entry → List (List ℕ)
+texts_in entries = map chars (strings_of entries)
+
+-- the node has the table of its place in the chain, the form and the room
+pub record IsNodeOf {T : Type 0} (tables : List T) (form : Form) (room : ℕ) (index : Option ℕ) (node : NodeState T) : Type 0 where
+  pub place : ℕ
+  pub index_is : index ≡ Some place
+  pub table_is : slice_get tables place ≡ Some node.table
+  pub form_is : node.form ≡ form
+  pub room_is : node.room ≡ room
+
+-- the message of a string with its key under a version
+pub record IsMessageUnder (v : VersionData) (form : Form) (string bytes : List ℕ) : Type 0 where
+  pub entry : Entry
+  pub text : chars entry.string ≡ string
+  pub key : IsKey v form entry.string entry.key
+  pub spelling : bytes ≡ message_bytes (record { form = form; entry = entry })
+
+-- the image of a list of strings, each beside its key under a version
+pub record IsImageUnder (v : VersionData) (form : Form) (strings : List (List ℕ)) (bytes : List ℕ) : Type 0 where
+  pub entries : List Entry
+  pub texts : texts_in entries ≡ strings
+  pub keys : AreKeysUnder v form entries
+  pub spelling : bytes ≡ image_bytes (record { form = form; entries = entries })
+
+-- what a node with this version tells of two strings that it keeps is whether they are equivalent under the last version
+abbrev pub TellsOf : VersionData → VersionData → Form → List Entry → Type 0
+TellsOf version last form entries =
+    (left right : List ℕ) → IsKept entries left → IsKept entries right
+    → IsEquivalent version (is_compat form) (chars left) (chars right) ↔ IsEquivalent last (is_compat form) (chars left) (chars right)

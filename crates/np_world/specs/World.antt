@@ -1,0 +1,132 @@
+-- The world as a machine: nodes that keep strings, and all strings that were ever sent. It knows no keys. What an event does
+-- is read from above to below: the first case that fits holds.
+use Rattle.std.specs.Prelude.{◌≡◌, ℕ, ◌+◌, ◌-◌, ◌<◌, ◌≤◌, ◌⊎◌, List, [], ◌∷◌, ◌++◌, length, map, slice_get, slice_set, Some, MatchOption, encode_utf8_all}
+use Rattle.std.specs.List.{Contains}
+use Rattle.np_code_points.specs.declared.forms.Form.{Form}
+use Rattle.np_code_points.specs.Forms.{is_compat}
+use Rattle.np_forms.specs.Assigned.{IsAssigned, IsFirstUnassigned}
+use Rattle.np_forms.specs.Forms.{IsEquivalent}
+use Rattle.np_tables.specs.Versions.{VersionData}
+use Rattle.np_world.specs.Events.{Event, Accept, Deliver, Upgrade, Save, Restart, Ask, node_of}
+use Rattle.np_world.specs.declared.replies.Reply.{Reply}
+use Rattle.np_world.specs.declared.replies.Reply.TheVariants.{Sent, Kept, Known, Full, TooLong, Unassigned, NoMessage, Version, LastVersion, Saved, Restarted, NotKept, Equal, Different}
+
+-- ---- what there is
+
+-- what holds for all nodes: the versions in a row, the form, and how many strings a node may keep
+pub record Setting : Type 0 where
+  pub versions : List VersionData
+  pub form : Form
+  pub room : ℕ
+
+-- a node: the place of its version in the row, the strings that it keeps, in the order in which it came to keep them, and those
+-- that it saved last
+pub record MachineNode : Type 0 where
+  pub index : ℕ
+  pub strings : List (List ℕ)
+  pub saved : List (List ℕ)
+
+-- the nodes, and all strings that were ever sent, in that order
+pub record World : Type 0 where
+  pub nodes : List MachineNode
+  pub sent : List (List ℕ)
+
+-- at the start node I has the version that stands at place I of the list, and nothing is kept, saved or sent
+abbrev pub first_node : ℕ → MachineNode
+first_node index = record { index = index; strings = []; saved = [] }
+
+abbrev pub start : List ℕ → World
+start indices = record { nodes = map first_node indices; sent = [] }
+
+-- what an event meets and leaves: the node that it names, and what was sent
+pub record Scene : Type 0 where
+  pub node : MachineNode
+  pub sent : List (List ℕ)
+
+-- ---- what an event does
+
+-- where the condition holds the first, and else the second
+abbrev pub If : Type 0 → Type 0 → Type 0 → Type 0
+If condition first second = (condition × first) ⊎ ((¬ condition) × second)
+
+abbrev pub byte_length : List ℕ → ℕ
+byte_length string = length (encode_utf8_all string)
+
+abbrev pub with_string : MachineNode → List ℕ → MachineNode
+with_string node string = record node { strings = node.strings ++ string ∷ [] }
+
+-- the reply names the first code point that the version lacks, and its place in bytes
+abbrev pub NamesUnassigned : VersionData → List ℕ → Reply → Type 0
+NamesUnassigned version string reply = (at : ℕ) × (code : ℕ) × IsFirstUnassigned version string at code × (reply ≡ Unassigned at code)
+
+-- a string comes to a node; the last case says what follows where the node keeps it
+abbrev pub Comes : Setting → VersionData → List ℕ → Scene → Reply → Scene → Type 0 → Type 0
+Comes setting version string before reply after kept =
+    If (¬ (IsAssigned version string)) (NamesUnassigned version string reply × (after ≡ before))
+    (If (Contains before.node.strings string) ((reply ≡ Known) × (after ≡ before))
+    (If (setting.room ≤ length before.node.strings) ((reply ≡ Full) × (after ≡ before)) kept))
+
+-- a node is given a string: it keeps and sends it
+abbrev pub Accepts : Setting → VersionData → List ℕ → Scene → Reply → Scene → Type 0
+Accepts setting version string before reply after =
+    If (4096 < byte_length string) ((reply ≡ TooLong) × (after ≡ before))
+    (Comes setting version string before reply after
+    ((reply ≡ Sent (length before.sent)) × (after ≡ record { node = with_string before.node string; sent = before.sent ++ string ∷ [] })))
+
+-- the string that was sent under this number reaches a node: it keeps it
+abbrev pub Delivers : Setting → VersionData → ℕ → Scene → Reply → Scene → Type 0
+Delivers setting version message before reply after =
+    MatchOption (slice_get before.sent message) ((reply ≡ NoMessage) × (after ≡ before))
+    (λ string. Comes setting version string before reply after ((reply ≡ Kept) × (after ≡ record before { node = with_string before.node string })))
+
+-- a node goes on to the next version, and keeps what it keeps
+abbrev pub Upgrades : Setting → Scene → Reply → Scene → Type 0
+Upgrades setting before reply after =
+    If (before.node.index + 1 < length setting.versions)
+    ((reply ≡ Version (before.node.index + 1)) × (after ≡ record before { node = record before.node { index = before.node.index + 1 } }))
+    ((reply ≡ LastVersion) × (after ≡ before))
+
+-- a node saves what it keeps
+abbrev pub Saves : Scene → Reply → Scene → Type 0
+Saves before reply after = (reply ≡ Saved) × (after ≡ record before { node = record before.node { saved = before.node.strings } })
+
+-- a node loses what it keeps, and has again what it saved last; its version stays
+abbrev pub Restarts : Scene → Reply → Scene → Type 0
+Restarts before reply after = (reply ≡ Restarted) × (after ≡ record before { node = record before.node { strings = before.node.saved } })
+
+-- a node is asked about two strings: are they equivalent under the last version?
+abbrev pub Asks : Setting → VersionData → List ℕ → List ℕ → Scene → Reply → Scene → Type 0
+Asks setting last left right before reply after =
+    (after ≡ before)
+    × If (Contains before.node.strings left × Contains before.node.strings right)
+    (If (IsEquivalent last (is_compat setting.form) left right) (reply ≡ Equal) (reply ≡ Different)) (reply ≡ NotKept)
+
+-- `version` is the node's present one, `last` the last of the row
+abbrev pub Does : Setting → VersionData → VersionData → Event → Scene → Reply → Scene → Type 0
+Does setting version last (Accept node string) before reply after = Accepts setting version string before reply after
+Does setting version last (Deliver node message) before reply after = Delivers setting version message before reply after
+Does setting version last (Upgrade node) before reply after = Upgrades setting before reply after
+Does setting version last (Save node) before reply after = Saves before reply after
+Does setting version last (Restart node) before reply after = Restarts before reply after
+Does setting version last (Ask node left right) before reply after = Asks setting last left right before reply after
+
+-- ---- one event after another
+
+-- an event and its reply: the node that the event names changes, and no other
+pub record IsStep (setting : Setting) (before : World) (event : Event) (reply : Reply) (after : World) : Type 0 where
+  pub old : MachineNode
+  pub new : MachineNode
+  pub version : VersionData
+  pub last : VersionData
+  pub named : slice_get before.nodes (node_of event) ≡ Some old
+  pub present : slice_get setting.versions old.index ≡ Some version
+  pub final : slice_get setting.versions (length setting.versions - 1) ≡ Some last
+  pub does : Does setting version last event (record { node = old; sent = before.sent }) reply (record { node = new; sent = after.sent })
+  pub nodes : after.nodes ≡ slice_set before.nodes (node_of event) new
+
+-- a list of events, with a reply to each
+abbrev pub IsRun : Setting → World → List Event → List Reply → World → Type 0
+IsRun setting before [] replies after = (replies ≡ []) × (after ≡ before)
+IsRun setting before (event ∷ events) replies after =
+    (reply : Reply) × (rest : List Reply) × (between : World)
+    × (replies ≡ reply ∷ rest) × IsStep setting before event reply between × IsRun setting between events rest after

@@ -1,0 +1,4 @@
+pub mod Mirrors
+pub mod Played
+pub mod Rust
+pub mod Worlds

@@ -1,0 +1,16 @@
+//! Schedules of events, and what nodes make of them.
+#![tactic(auto)]
+
+mod events;
+mod members;
+mod replays;
+mod replies;
+mod report;
+mod schedules;
+mod steps;
+mod turns;
+
+pub use replays::replay;
+pub use replies::Reply;
+pub use report::Report;
+pub use schedules::Schedule;

@@ -1,0 +1,145 @@
+//! Schedules, replayed by real nodes.
+ghost use Rattle.std.specs.Prelude.{◌≡◌, ◌<◌, ◌≤◌, ℕ, length, map, slice_get, Some, slice_index, None, [], IfOk, IfSome, IsSomeAnd, MatchOption};
+ghost use Rattle.std.specs.Option.{option_map};
+ghost use Rattle.np_tables.specs.Versions.{VersionData};
+ghost use Rattle.np_world.specs.Reports.{image_at, index_at, message_at, node_at, replies_of};
+ghost use Rattle.np_world.specs.Runs.{setting_over, AreKeysUnder, InTheRun, IsImageUnder, IsLast, IsMessageUnder, IsNodeOf, TellsOf, texts_in};
+ghost use Rattle.np_world.specs.inside.Mirrors.{rules_of, AreRules};
+ghost use Rattle.np_world.specs.inside.Played.{IsPlayed};
+ghost use Rattle.np_world.specs.inside.Worlds.{Begins, EndsRun};
+ghost use Rattle.np_world.specs.Schedules.{NameNodes};
+ghost use Rattle.np_world.specs.inside.Rust.{event_of};
+
+use crate::events::EventLine;
+use crate::members::{Common, Member};
+use crate::replies::Reply;
+use crate::report::Report;
+use crate::schedules::Schedule;
+use crate::steps::step;
+use np_chain::Chain;
+use np_code_points::{Form, Memory};
+use np_node::Node;
+use np_tables::NormTable;
+use std::alloc::Global;
+
+/// Each node at the start: it keeps nothing, under the version that the schedule gives it.
+fn first_members<'t, T: NormTable>(
+    common: &Common<'_, 't, T>,
+    starts: &[usize],
+) -> Result<Vec<Member<'t, T>>, Memory>
+    requires rules { AreRules T.model (rules_of common.now) }
+    requires starts { (i : ℕ) → i < length starts.now → slice_index starts.now i < length common.now.chain.now }
+    ensures { IfOk result (λ members. Begins T.model (rules_of common.now) members.items starts.now) }
+{
+    let mut members = Vec::with_capacity(common.alloc, starts.len())?;
+    for start in starts {
+        let table = common.chain.at(*start);
+        members.push(Member {
+            index: *start,
+            node: Node::new(common.alloc, table, common.form, common.room),
+            image: None,
+        })?;
+    }
+    Ok(members)
+}
+
+/// A reply to each event, and the messages that were sent.
+#[derive(Drop)]
+struct Told {
+    replies: Vec<Reply>,
+    sent: Vec<Vec<u8>>,
+}
+
+/// Lets the events happen, one after another.
+fn run_events<'t, T: NormTable>(
+    common: &Common<'_, 't, T>,
+    members: &mut [Member<'t, T>],
+    starts: &[usize],
+    events: &[EventLine],
+) -> Result<Told, Memory>
+    requires rules { AreRules T.model (rules_of common.now) }
+    requires begun { Begins T.model (rules_of common.now) members.old starts.now }
+    requires named { NameNodes (length starts.now) (map event_of events.now) }
+    ensures { IfOk result (λ told. EndsRun T.model (rules_of common.now) starts.now (map event_of events.now) told.replies.items members.new told.sent.items) }
+{
+    let mut replies = Vec::with_capacity(common.alloc, events.len())?;
+    let mut sent = Vec::new(common.alloc);
+    for event in events {
+        replies.push(step(common, members, &mut sent, event)?)?;
+    }
+    Ok(Told { replies, sent })
+}
+
+/// Replays a schedule by nodes.
+fn play<'t, T: NormTable>(
+    alloc: Global,
+    chain: &Chain<'t, T>,
+    form: Form,
+    schedule: &Schedule,
+) -> Result<Report<'t, T>, Memory>
+    requires { schedule.now.versions ≡ length chain.now }
+    ensures { IfOk result (λ report. IsPlayed T.model chain.now form schedule.now report) }
+{
+    let room = schedule.room();
+    // A chain's versions extend one another.
+    chain.meets_conditions();
+    let common = Common {
+        alloc,
+        chain,
+        form,
+        room,
+    };
+    let starts = schedule.starts();
+    let mut members = first_members(&common, starts)?;
+    let Told { replies, sent } = run_events(&common, &mut members, starts, schedule.events())?;
+    Ok(Report {
+        replies,
+        sent,
+        members,
+    })
+}
+
+/// What happens to nodes over the versions of a chain: each node keeps strings beside their keys of
+/// one form, tells them to others in messages, saves and restarts, and goes on from version to
+/// version, as the schedule has it. Each reply is that of the machine that keeps strings alone,
+/// each node keeps at the end exactly the machine's strings, each key is that of its string under
+/// the chain's last version, and what two nodes tell of two strings that both keep is the same.
+///
+/// An event costs what the node's call costs: a string one normal form and one look-up by hash, an
+/// upgrade one comparison of two versions, a save or a restart time linear in what the node keeps.
+///
+/// # Errors
+///
+/// `Memory` where memory ran out.
+pub fn replay<'t, T: NormTable>(
+    alloc: Global,
+    chain: &Chain<'t, T>,
+    form: Form,
+    schedule: &Schedule,
+) -> Result<Report<'t, T>, Memory>
+    requires { schedule.now.versions ≡ length chain.now }
+    ensures replies { IfOk result (λ report. InTheRun (setting_over T.model chain.now form schedule.now) schedule.now
+        (λ replies world. replies_of report ≡ replies)) }
+    ensures indices { IfOk result (λ report. InTheRun (setting_over T.model chain.now form schedule.now) schedule.now
+        (λ replies world. (i : ℕ) → index_at report i ≡ option_map (λ node. node.index) (slice_get world.nodes i))) }
+    ensures strings { IfOk result (λ report. InTheRun (setting_over T.model chain.now form schedule.now) schedule.now
+        (λ replies world. (i : ℕ) → option_map (λ node. texts_in node.entries) (node_at report i) ≡ option_map (λ node. node.strings) (slice_get world.nodes i))) }
+    ensures keys { IfOk result (λ report. (last : VersionData) → IsLast (setting_over T.model chain.now form schedule.now) last
+        → (i : ℕ) → IfSome (node_at report i) (λ node. AreKeysUnder last form node.entries)) }
+    ensures nodes { IfOk result (λ report. (i : ℕ) → MatchOption (node_at report i) (index_at report i ≡ None)
+        (λ node. IsNodeOf chain.now form schedule.now.room (index_at report i) node)) }
+    ensures sent { IfOk result (λ report. (last : VersionData) → IsLast (setting_over T.model chain.now form schedule.now) last
+        → InTheRun (setting_over T.model chain.now form schedule.now) schedule.now
+        (λ replies world. (i : ℕ) → MatchOption (slice_get world.sent i) (message_at report i ≡ None) (λ string. IsSomeAnd (message_at report i) (IsMessageUnder last form string)))) }
+    ensures saved { IfOk result (λ report. (last : VersionData) → IsLast (setting_over T.model chain.now form schedule.now) last
+        → InTheRun (setting_over T.model chain.now form schedule.now) schedule.now
+        (λ replies world. (i : ℕ) → MatchOption (slice_get world.nodes i) (image_at report i ≡ None)
+        (λ node. MatchOption (image_at report i) (node.saved ≡ []) (IsImageUnder last form node.saved)))) }
+    ensures alike { IfOk result (λ report. (last : VersionData) → IsLast (setting_over T.model chain.now form schedule.now) last
+        → (i : ℕ) → IfSome (node_at report i) (λ node. TellsOf (T.model node.table) last form node.entries)) }
+{
+    // Along a chain forms stay, and equal forms are equivalence.
+    np_chain::laws::stability();
+    np_chain::laws::idempotence();
+    play(alloc, chain, form, schedule)
+}

@@ -1,0 +1,34 @@
+//! What a node replies to an event.
+
+/// The reply to one event of a schedule.
+#[derive(Clone, Copy, Debug, PartialEq, Eq)]
+pub enum Reply {
+    /// The string was kept, and was sent as the message of this number, from 0.
+    Sent { message: usize },
+    /// What was delivered was kept.
+    Kept,
+    /// The string is kept already.
+    Known,
+    /// As many strings are kept as there is room for.
+    Full,
+    /// The string has more than 4,096 bytes.
+    TooLong,
+    /// The node's version doesn't assign `code`, whose byte place is `at`, from 0; the first such.
+    Unassigned { at: usize, code: char },
+    /// No message of that number was sent.
+    NoMessage,
+    /// The node has the version at this place of the chain now, from 0.
+    Version { index: usize },
+    /// The node has the chain's last version, and keeps it.
+    LastVersion,
+    /// What is kept was saved.
+    Saved,
+    /// The node keeps what it had saved, or nothing where it never did.
+    Restarted,
+    /// The node doesn't keep both strings.
+    NotKept,
+    /// The two kept strings have one key: they are equivalent.
+    Equal,
+    /// The two kept strings have unlike keys: they are not equivalent.
+    Different,
+}

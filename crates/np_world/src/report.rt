@@ -1,0 +1,50 @@
+//! What a replay answers.
+ghost use Rattle.std.specs.Prelude.{◌≡◌};
+ghost use Rattle.std.specs.Option.{option_map};
+ghost use Rattle.np_world.specs.Reports.{image_at, message_at, node_at};
+
+use crate::members::Member;
+use crate::replies::Reply;
+use np_node::Node;
+use np_tables::NormTable;
+
+/// What a replay answers: a reply to each event, the messages sent, and the nodes at the end.
+#[derive(Drop)]
+pub struct Report<'t, T: NormTable> {
+    pub(crate) replies: Vec<Reply>,
+    pub(crate) sent: Vec<Vec<u8>>,
+    pub(crate) members: Vec<Member<'t, T>>,
+}
+
+impl<'t, T: NormTable> Report<'t, T> {
+    /// The node of this number, from 0, at the end; none where there is no such node.
+    pub fn node(&self, number: usize) -> Option<&Node<'t, T>>
+        ensures { option_map (λ n. n.now) result ≡ node_at self.now number }
+    {
+        match self.members.get(number) {
+            Some(member) => Some(&member.node),
+            None => None,
+        }
+    }
+
+    /// The message of this number, from 0, as it was sent; none where no such message was.
+    pub fn sent(&self, number: usize) -> Option<&[u8]>
+        ensures { option_map (λ b. b.now) result ≡ message_at self.now number }
+    {
+        match self.sent.get(number) {
+            Some(message) => Some(message.as_slice()),
+            None => None,
+        }
+    }
+
+    /// The last image of the node of this number, from 0; none where it never saved, and where there
+    /// is no such node.
+    pub fn saved(&self, number: usize) -> Option<&[u8]>
+        ensures { option_map (λ b. b.now) result ≡ image_at self.now number }
+    {
+        match &self.members.get(number)?.image {
+            Some(image) => Some(image.as_slice()),
+            None => None,
+        }
+    }
+}

@@ -1,0 +1,60 @@
+//! Schedules: what happens to nodes, one event a line.
+ghost use Rattle.std.specs.Prelude.{◌≡◌, ◌≤◌, map};
+ghost use Rattle.np_world.specs.inside.Rust.{event_of};
+ghost use Rattle.np_world.specs.Schedules.{IsStandable};
+
+use crate::events::EventLine;
+use std::marker::Model;
+
+/// What happens to some nodes over a chain of versions: the room of each node, the place of each
+/// node's first version, and the events in their order.
+#[derive(Drop)]
+pub struct Schedule {
+    versions: usize,
+    room: u32,
+    starts: Vec<usize>,
+    events: Vec<EventLine>,
+}
+
+impl Model for Schedule {
+    ghost use Rattle.np_world.specs.Events.{ScheduleData};
+    ghost use Rattle.np_world.specs.Schedules.{IsStandable};
+    ghost use Rattle.np_world.specs.inside.Rust.{schedule_data};
+
+    ghost Value = { ScheduleData };
+
+    ghost view = { λ a. schedule_data a.versions a.room a.starts.items a.events.items };
+
+    ghost invariant = { λ a. IsStandable (schedule_data a.versions a.room a.starts.items a.events.items) };
+}
+
+impl Schedule {
+    /// How many versions the chain has over which the schedule stands.
+    pub fn versions(&self) -> usize
+        ensures { result ≡ self.now.versions }
+    {
+        self.versions
+    }
+
+    /// The most strings that each node keeps.
+    pub(crate) fn room(&self) -> u32
+        ensures room { result ≡ self.now.room }
+        ensures stands { IsStandable self.now }
+    {
+        self.room
+    }
+
+    /// The place of each node's first version.
+    pub(crate) fn starts(&self) -> &[usize]
+        ensures { result.now ≡ self.now.starts }
+    {
+        self.starts.as_slice()
+    }
+
+    /// The events in their order.
+    pub(crate) fn events(&self) -> &[EventLine]
+        ensures { map event_of result.now ≡ self.now.events }
+    {
+        self.events.as_slice()
+    }
+}

@@ -1,0 +1,43 @@
+//! One event after another.
+ghost use Rattle.std.specs.Prelude.{◌≡◌, ◌<◌, length, IfOk};
+ghost use Rattle.np_world.specs.Events.{node_of};
+ghost use Rattle.np_world.specs.inside.Mirrors.{rules_of};
+ghost use Rattle.np_world.specs.inside.Rust.{event_of};
+ghost use Rattle.np_world.specs.inside.Worlds.{IsShown, Steps};
+
+use crate::events::EventLine;
+use crate::members::{Common, Member};
+use crate::replies::Reply;
+use crate::turns::{accept, ask, deliver, restart, save, upgrade};
+use np_code_points::Memory;
+use np_tables::NormTable;
+
+/// What an event does to the nodes and to what was sent.
+pub(crate) fn step<'t, T: NormTable>(
+    common: &Common<'_, 't, T>,
+    members: &mut [Member<'t, T>],
+    sent: &mut Vec<Vec<u8>>,
+    event: &EventLine,
+) -> Result<Reply, Memory>
+    requires shown { IsShown T.model (rules_of common.now) members.old sent.old.items }
+    requires named { node_of (event_of event.now) < length members.old }
+    ensures { IfOk result (λ reply. Steps T.model (rules_of common.now) members.old sent.old.items (event_of event.now) reply members.new sent.new.items) }
+{
+    match event {
+        EventLine::Accept { node, string } => {
+            accept(common, &mut members[*node], sent, string.as_str())
+        }
+        EventLine::Deliver { node, message } => {
+            deliver(common, &mut members[*node], sent, *message)
+        }
+        EventLine::Upgrade { node } => Ok(upgrade(common, &mut members[*node])),
+        EventLine::Save { node } => save(common, &mut members[*node]),
+        EventLine::Restart { node } => restart(common, &mut members[*node]),
+        EventLine::Ask { node, left, right } => Ok(ask(
+            common,
+            &members[*node],
+            left.as_str(),
+            right.as_str(),
+        )),
+    }
+}

@@ -1,0 +1,179 @@
+//! What each event does to a node of a replay.
+ghost use Rattle.std.specs.Prelude.{◌≡◌, ◌≤◌, chars, IfOk};
+ghost use Rattle.np_world.specs.World.{Accepts, Asks, Delivers, Restarts, Saves, Upgrades};
+ghost use Rattle.np_world.specs.inside.Mirrors.{rules_of, setting_of, AreSent, IsReady, Turns};
+
+use crate::members::{Common, Member};
+use crate::replies::Reply;
+use np_code_points::Memory;
+use np_node::{Accepted, Node, NodeFault, Taken};
+use np_tables::NormTable;
+
+/// The node is given a string, and what it tells is sent.
+pub(crate) fn accept<T: NormTable>(
+    common: &Common<'_, '_, T>,
+    member: &mut Member<'_, T>,
+    sent: &mut Vec<Vec<u8>>,
+    string: &str,
+) -> Result<Reply, Memory>
+    ensures { IfOk result (λ reply. Turns T.model (rules_of common.now)
+        (λ version last. Accepts (setting_of T.model (rules_of common.now)) version (chars string.now))
+        member.old sent.old.items reply member.new sent.new.items) }
+{
+    let number = sent.len();
+    match member.node.accept(string.as_bytes()) {
+        Ok(Accepted::Kept(message)) => {
+            sent.push(message)?;
+            Ok(Reply::Sent { message: number })
+        }
+        Ok(Accepted::Known) => Ok(Reply::Known),
+        Err(NodeFault::TooLong) => Ok(Reply::TooLong),
+        Err(NodeFault::Unassigned { at, code }) => Ok(Reply::Unassigned { at, code }),
+        Err(NodeFault::Full) => Ok(Reply::Full),
+        Err(NodeFault::Memory) => Err(Memory),
+        // A text is UTF-8, and only a message can be of another form or have another key.
+        Err(
+            NodeFault::NotUtf8 { .. }
+            | NodeFault::Malformed { .. }
+            | NodeFault::OtherForm
+            | NodeFault::KeyDiffers,
+        ) => unreachable!(),
+    }
+}
+
+/// The message of this number reaches the node.
+pub(crate) fn deliver<T: NormTable>(
+    common: &Common<'_, '_, T>,
+    member: &mut Member<'_, T>,
+    sent: &Vec<Vec<u8>>,
+    message: usize,
+) -> Result<Reply, Memory>
+    requires ready { IsReady T.model (rules_of common.now) member.old }
+    requires sent { AreSent (setting_of T.model (rules_of common.now)) sent.now.items }
+    ensures { IfOk result (λ reply. Turns T.model (rules_of common.now)
+        (λ version last. Delivers (setting_of T.model (rules_of common.now)) version message)
+        member.old sent.now.items reply member.new sent.now.items) }
+{
+    if message >= sent.len() {
+        return Ok(Reply::NoMessage);
+    }
+    let bytes = &sent[message];
+    // What one node sent, another never refuses for its key.
+    np_node::laws::exchange();
+    np_node::laws::messages();
+    match member.node.take(bytes.as_slice()) {
+        Ok(Taken::Kept) => Ok(Reply::Kept),
+        Ok(Taken::Known) => Ok(Reply::Known),
+        Err(NodeFault::Unassigned { at, code }) => Ok(Reply::Unassigned { at, code }),
+        Err(NodeFault::Full) => Ok(Reply::Full),
+        Err(NodeFault::Memory) => Err(Memory),
+        Err(NodeFault::TooLong) => unreachable!(),
+        Err(NodeFault::NotUtf8 { at: _at }) => unreachable!(),
+        Err(NodeFault::Malformed { at: _at }) => unreachable!(),
+        Err(NodeFault::OtherForm) => unreachable!(),
+        Err(NodeFault::KeyDiffers) => unreachable!(),
+    }
+}
+
+/// The node goes on to the next version of the chain.
+pub(crate) fn upgrade<'t, T: NormTable>(
+    common: &Common<'_, 't, T>,
+    member: &mut Member<'t, T>,
+) -> Reply
+    requires { IsReady T.model (rules_of common.now) member.old }
+    ensures { (messages : _) → Turns T.model (rules_of common.now)
+        (λ version last. Upgrades (setting_of T.model (rules_of common.now)))
+        member.old messages result member.new messages }
+{
+    // What a node keeps and saved holds under the next version too.
+    np_node::laws::saved();
+    if member.index >= common.chain.len() - 1 {
+        return Reply::LastVersion;
+    }
+    let next = member.index + 1;
+    member.node.upgrade(common.chain.at(next)).unwrap();
+    member.index = next;
+    Reply::Version { index: next }
+}
+
+/// The node saves what it keeps.
+pub(crate) fn save<T: NormTable>(
+    common: &Common<'_, '_, T>,
+    member: &mut Member<'_, T>,
+) -> Result<Reply, Memory>
+    ensures { (messages : _) → IfOk result (λ reply. Turns T.model (rules_of common.now)
+        (λ version last. Saves) member.old messages reply member.new messages) }
+{
+    let image = member.node.image()?;
+    member.image = Some(image);
+    Ok(Reply::Saved)
+}
+
+/// The one fault that a saved image can meet.
+fn want_of_memory(fault: NodeFault) -> Memory
+    requires { fault ≡ NodeFault.Memory }
+{
+    match fault {
+        NodeFault::Memory => Memory,
+        NodeFault::Malformed { .. } => unreachable!(),
+        NodeFault::OtherForm => unreachable!(),
+        NodeFault::TooLong => unreachable!(),
+        NodeFault::NotUtf8 { .. } => unreachable!(),
+        NodeFault::Unassigned { .. } => unreachable!(),
+        NodeFault::KeyDiffers => unreachable!(),
+        NodeFault::Full => unreachable!(),
+    }
+}
+
+/// The node begins again under its version with what it saved last, or with nothing.
+pub(crate) fn restart<'t, T: NormTable>(
+    common: &Common<'_, 't, T>,
+    member: &mut Member<'t, T>,
+) -> Result<Reply, Memory>
+    requires { IsReady T.model (rules_of common.now) member.old }
+    ensures { (messages : _) → IfOk result (λ reply. Turns T.model (rules_of common.now)
+        (λ version last. Restarts) member.old messages reply member.new messages) }
+{
+    let table = member.node.table();
+    let Some(image) = &member.image else {
+        member.node = Node::new(common.alloc, table, common.form, common.room);
+        return Ok(Reply::Restarted);
+    };
+    // An image that a node saved is never refused under its own or a later version.
+    np_node::laws::saved();
+    np_node::laws::images();
+    match Node::restore(
+        common.alloc,
+        table,
+        common.form,
+        common.room,
+        image.as_slice(),
+    ) {
+        Ok(node) => {
+            member.node = node;
+            Ok(Reply::Restarted)
+        }
+        Err(refused) => Err(want_of_memory(refused.fault)),
+    }
+}
+
+/// The node is asked whether two strings that it keeps are equal.
+pub(crate) fn ask<T: NormTable>(
+    common: &Common<'_, '_, T>,
+    member: &Member<'_, T>,
+    left: &str,
+    right: &str,
+) -> Reply
+    ensures { (messages : _) → Turns T.model (rules_of common.now)
+        (λ version last. Asks (setting_of T.model (rules_of common.now)) last (chars left.now) (chars right.now))
+        member.now messages result member.now messages }
+{
+    // Along a chain forms stay, and equal forms are equivalence.
+    np_chain::laws::stability();
+    np_chain::laws::idempotence();
+    match member.node.same(left, right) {
+        None => Reply::NotKept,
+        Some(true) => Reply::Equal,
+        Some(false) => Reply::Different,
+    }
+}
