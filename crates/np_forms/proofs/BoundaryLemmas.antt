@@ -43,7 +43,7 @@ module _ (v : VersionData) where
       decomposed-boundary compat [] c s rest ys full starter ∙ ap (λ l. l ++ s ∷ canonical_order (class_of v) (rest ++ flat_map (full_of v compat) ys)) (decomposed-nil compat)
 
   -- the last step parts before a starter that goes into nothing
-  ended-boundary : (b : Bool) (xs : List ℕ) (s : ℕ) (ys : List ℕ) → class_of v s ≡ 0 → (b ≡ true → (a : ℕ) → composite v a s ≡ None) →
+  pub ended-boundary : (b : Bool) (xs : List ℕ) (s : ℕ) (ys : List ℕ) → class_of v s ≡ 0 → (b ≡ true → (a : ℕ) → composite v a s ≡ None) →
       ended v b (xs ++ s ∷ ys) ≡ ended v b xs ++ ended v b (s ∷ ys)
   unfolding compose_of
   ended-boundary true xs s ys starter apart = compose-at_boundary (class_of v) (composite v) xs s ys (omega arith) (apart refl)
@@ -60,7 +60,7 @@ module _ (v : VersionData) where
       ∙ ap (λ l. ended v b (decomposed v compat xs) ++ ended v b l) (sym (decomposed-begins compat c s rest ys full starter))
 
   -- no pair with this second part has a composite
-  composite-never : (s : ℕ) → ((a p : ℕ) → ¬ (IsCompositeOf v a s p)) → (a : ℕ) → composite v a s ≡ None
+  pub composite-never : (s : ℕ) → ((a p : ℕ) → ¬ (IsCompositeOf v a s p)) → (a : ℕ) → composite v a s ≡ None
   composite-never s never a =
       elim (cases_Option (composite v a s)) [
         | inr some ↦ absurd (never a some.0 (composite-some v a s some.0 some.1))
@@ -68,7 +68,7 @@ module _ (v : VersionData) where
       ]
 
 -- the full decomposition that a boundary names is that of the function
-full_of-boundary : (v : VersionData) (form : Form) (c : ℕ) → IsSound v → (at : IsBoundary v form c) → full_of v (is_compat form) c ≡ at.first ∷ at.rest
+pub full_of-boundary : (v : VersionData) (form : Form) (c : ℕ) → IsSound v → (at : IsBoundary v form c) → full_of v (is_compat form) c ≡ at.first ∷ at.rest
 full_of-boundary v form c sound at =
     sym (append-nil (full_of v (is_compat form) c)) ∙ sym (full_decomposition-flat_map v (is_compat form) sound.shallow (c ∷ []) (at.first ∷ at.rest) at.decomposes)
 

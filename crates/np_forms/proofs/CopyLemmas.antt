@@ -23,7 +23,7 @@ unfolding compose_of
 ended-nil v true = compose-nil (class_of v) (composite v)
 ended-nil v false = refl
 
-normal_form-nil : (v : VersionData) (form : Form) → normal_form v form [] ≡ []
+pub normal_form-nil : (v : VersionData) (form : Form) → normal_form v form [] ≡ []
 unfolding normal_form decomposed
 normal_form-nil v form = ap (ended v (composes form)) (canonical_order-nil (class_of v)) ∙ ended-nil v (composes form)
 
@@ -205,3 +205,21 @@ one_more_segment v form whole before pushed written rest stays behind segment la
 pub form-end : (v : VersionData) (form : Form) (whole out rest : List ℕ) → out ++ encode_utf8_all (normal_form v form (chars rest)) ≡ whole → length rest ≡ 0 → out ≡ whole
 form-end v form whole out rest all none =
     sym (append-nil out) ∙ ap (λ l. out ++ l) (sym (ap (λ l. encode_utf8_all (normal_form v form l)) (ap chars (nil_from_length rest none) ∙ chars-nil) ∙ ap encode_utf8_all (normal_form-nil v form))) ∙ all
+
+-- ---- where a text is cut behind a front of its own
+
+pub front_boundary : (text front rest : List ℕ) → text ≡ front ++ rest → IsUtf8 text → IsUtf8 front → IsCharBoundary text (length front)
+front_boundary text front rest e utf8 of_front =
+    IsCharBoundary-from_take text (length front) utf8 (omega (arith, ap length e, length-append front rest))
+    (subst IsUtf8 (sym (ap (take (length front)) e ∙ take_at front rest (length front) refl)) of_front)
+
+pub utf8_behind : (text front later rest : List ℕ) → text ≡ front ++ rest → IsUtf8 text → IsUtf8 front → later ≡ drop (length front) text → IsUtf8 later
+utf8_behind text front later rest e utf8 of_front is =
+    subst IsUtf8 (sym is) (IsUtf8-drop text (length front) utf8 (front_boundary text front rest e utf8 of_front))
+
+pub begins_behind : (v : VersionData) (form : Form) (text front later : List ℕ) (c : ℕ) (back : List ℕ) → text ≡ front ++ (encode_utf8 c ++ back) → IsUtf8 text → IsUtf8 front → later ≡ drop (length front) text →
+    IsBoundary v form c → BeginsAtBoundary v form (chars later)
+begins_behind v form text front later c back e utf8 of_front is at =
+    let rest = encode_utf8 c ++ back in
+    let its : later ≡ rest = is ∙ ap (drop (length front)) e ∙ drop_at front rest (length front) refl in
+    subst (BeginsAtBoundary v form) (sym (chars_past_char later back c (utf8_behind text front later rest e utf8 of_front is) its)) at

@@ -1,5 +1,6 @@
 pub mod AnswerLemmas
 pub mod BoundaryLemmas
+pub mod ChunkLemmas
 pub mod ComposeLemmas
 pub mod ComposerLemmas
 pub mod CopyLemmas

@@ -11,7 +11,7 @@ use Rattle.np_forms.specs.inside.Written.{Writes, WritesEnd}
 use Rattle.np_forms.proofs.FormLemmas.{IsNormalForm-normal_form, normal_form_is}
 
 -- a stream under the version and the form of another state
-same_streaming : (a b : StreamState) (fed out pending : List ℕ) → b.version ≡ a.version → b.form ≡ a.form → IsStreaming a.version a.form fed out pending → IsStreaming b.version b.form fed out pending
+pub same_streaming : (a b : StreamState) (fed out pending : List ℕ) → b.version ≡ a.version → b.form ≡ a.form → IsStreaming a.version a.form fed out pending → IsStreaming b.version b.form fed out pending
 same_streaming a b fed out pending version form s =
     subst (λ v. IsStreaming v b.form fed out pending) (sym version) (subst (λ f. IsStreaming a.version f fed out pending) (sym form) s)
 
@@ -42,7 +42,7 @@ pub WritesEnd-finished : (old mid : StreamState) (before after : List ℕ) → o
 WritesEnd-finished old mid before after empty f is =
     record { more = f.more; written = is ∙ ap (λ l. before ++ encode_utf8_all l) (f.ready ∙ ap (λ l. l ++ f.more) empty); whole = f.whole }
 
-more_bytes : (x y z xs ys : List ℕ) → y ≡ x ++ encode_utf8_all xs → z ≡ y ++ encode_utf8_all ys → z ≡ x ++ encode_utf8_all (xs ++ ys)
+pub more_bytes : (x y z xs ys : List ℕ) → y ≡ x ++ encode_utf8_all xs → z ≡ y ++ encode_utf8_all ys → z ≡ x ++ encode_utf8_all (xs ++ ys)
 more_bytes x y z xs ys of_y of_z =
     of_z ∙ ap (λ l. l ++ encode_utf8_all ys) of_y ∙ append_assoc x (encode_utf8_all xs) (encode_utf8_all ys) ∙ ap (λ l. x ++ l) (sym (encodes-append xs ys))
 

@@ -1,7 +1,7 @@
 //! The form of a whole text, in which what stays is copied, and what is left goes segment by segment
 //! through decomposition, ordering and composition (UAX #15, section 9.1).
-ghost use Rattle.std.specs.Prelude.{◌≡◌, ◌<◌, ◌++◌, length, chars, string_bytes, encode_utf8_all, OnOk};
-ghost use Rattle.np_forms.specs.inside.Copies.{IsCopied, IsParted, LosesLast};
+ghost use Rattle.std.specs.Prelude.{◌≡◌, ◌<◌, ◌++◌, length, chars, string_bytes, encode_utf8_all, IsUtf8, OnOk};
+ghost use Rattle.np_forms.specs.inside.Copies.{BeginsAtBoundary, IsCopied, IsParted, LosesLast};
 ghost use Rattle.np_forms.specs.inside.NormalForms.{normal_form};
 
 use crate::decomposing::decompose_into;
@@ -51,6 +51,54 @@ fn split_segment<'a, T: NormTable>(table: &T, form: Form, text: &'a str) -> (&'a
         };
         if table.is_boundary(form, c) {
             return (&text[..text.len() - here.len()], here);
+        }
+    }
+}
+
+/// Cuts before the first code point at which the form is known to part.
+pub(crate) fn split_head<'a, T: NormTable>(
+    table: &T,
+    form: Form,
+    text: &'a str,
+) -> (&'a str, &'a str)
+    ensures parts { text.now ≡ result.0.now ++ result.1.now }
+    ensures front { IsUtf8 result.0.now }
+    ensures back { IsUtf8 result.1.now }
+    ensures at { BeginsAtBoundary (T.model table.now) form (chars result.1.now) }
+{
+    let mut iter = text.chars();
+    'scan: loop {
+        let here = iter.as_str();
+        let Some(c) = iter.next() else {
+            return (text, here);
+        };
+        if table.is_boundary(form, c) {
+            return (&text[..text.len() - here.len()], here);
+        }
+    }
+}
+
+/// Cuts a text that begins at a boundary before the last code point at which the form is known to
+/// part.
+pub(crate) fn split_tail<'a, T: NormTable>(
+    table: &T,
+    form: Form,
+    text: &'a str,
+) -> (&'a str, &'a str)
+    requires { BeginsAtBoundary (T.model table.now) form (chars text.now) }
+    ensures parts { text.now ≡ result.0.now ++ result.1.now }
+    ensures front { IsUtf8 result.0.now }
+    ensures back { IsUtf8 result.1.now }
+    ensures at { BeginsAtBoundary (T.model table.now) form (chars result.1.now) }
+    ensures some { 0 < length text.now → 0 < length result.1.now }
+{
+    let mut iter = text.chars();
+    'scan: loop {
+        let Some(c) = iter.next_back() else {
+            return ("", text);
+        };
+        if table.is_boundary(form, c) {
+            return text.split_at(iter.as_str().len());
         }
     }
 }

@@ -67,6 +67,14 @@ impl<'t, T: NormTable> Stream<'t, T> {
         }
     }
 
+    /// What the stream goes by, for those who write a part of the text beside it.
+    pub(crate) fn rules(&self) -> (Global, &'t T, Form)
+        ensures version { T.model result.1.now ≡ self.now.version }
+        ensures form { result.2 ≡ self.now.form }
+    {
+        (self.alloc, self.table, self.form)
+    }
+
     /// Takes in the next code point of the text.
     ///
     /// # Errors

@@ -1,7 +1,8 @@
 //! Texts written as a stream gives them.
 ghost use Rattle.std.specs.Prelude.{◌≡◌, ◌++◌, ◌∷◌, [], chars as chars_in, string_bytes, encode_utf8_all, OnOk};
-ghost use Rattle.np_forms.specs.inside.Written.{Writes, WritesEnd};
+ghost use Rattle.np_forms.specs.inside.Written.{Breaks, Writes, WritesEnd};
 
+use crate::copying::{split_head, split_tail, write_form};
 use crate::streams::Stream;
 use np_code_points::Memory;
 use np_tables::NormTable;
@@ -40,8 +41,8 @@ fn write_char<T: NormTable>(
     Ok(())
 }
 
-/// Feeds a text, and writes what became ready.
-pub(crate) fn write_text<T: NormTable>(
+/// Feeds a text code point by code point, and writes what became ready.
+fn write_chars<T: NormTable>(
     stream: &mut Stream<'_, T>,
     out: &mut String,
     text: &str,
@@ -66,4 +67,37 @@ pub(crate) fn write_end<T: NormTable>(
     stream.finish()?;
     take_ready(stream, out)?;
     Ok(())
+}
+
+/// Ends the text, writes the rest of its normal form, and begins a new text.
+fn write_break<T: NormTable>(stream: &mut Stream<'_, T>, out: &mut String) -> Result<(), Memory>
+    requires { stream.old.ready ≡ [] }
+    ensures { OnOk result (Breaks stream.old stream.new (string_bytes out.old) (string_bytes out.new)) }
+{
+    stream.finish()?;
+    take_ready(stream, out)?;
+    Ok(())
+}
+
+/// Takes a text in, and writes what became ready. The stream takes what stands before the first
+/// boundary and what begins at the last one; what lies between has its form for itself.
+pub(crate) fn write_text<T: NormTable>(
+    stream: &mut Stream<'_, T>,
+    out: &mut String,
+    text: &str,
+) -> Result<(), Memory>
+    requires { stream.old.ready ≡ [] }
+    ensures { OnOk result (Writes stream.old stream.new (string_bytes out.old) (string_bytes out.new) (chars_in text.now)) }
+{
+    let (alloc, table, form) = stream.rules();
+    table.meets_conditions();
+    let (head, body) = split_head(table, form, text);
+    write_chars(stream, out, head)?;
+    if body.is_empty() {
+        return Ok(());
+    }
+    let (middle, tail) = split_tail(table, form, body);
+    write_break(stream, out)?;
+    write_form(alloc, table, form, middle, out)?;
+    write_chars(stream, out, tail)
 }

@@ -1,18 +1,16 @@
-use Rattle.std.proofs.Common.{◌≡◌, ◌∷◌, [], chars, string_bytes, sym, subst, ◌∙◌}
-use Rattle.std.proofs.lemmas.Iterator.{YieldsList-from_chars}
-use Rattle.std.proofs.lemmas.Iterator.Consumers.{YieldsList-end}
-use Rattle.std.proofs.lemmas.List.{map-id}
-use Rattle.np_forms.specs.inside.Written.{Writes}
-use Rattle.np_forms.proofs.WrittenLemmas.{Writes-start, Writes-next}
+use Rattle.std.proofs.Common.{◌≡◌, chars, string_bytes, OnOk, rules}
+use Rattle.std.proofs.lemmas.Result.{on_ok_weaker}
+use Rattle.np_forms.proofs.ChunkLemmas.{Writes-text}
 use Rattle.np_forms.proofs.written.write_text.Goals as goal
-
-pub loop-c-init : goal.loop-c-init
-loop-c-init g c = Writes-start c.args.stream.now (string_bytes c.args.out.now) c.requires
-
-pub loop-c-preserved : goal.loop-c-preserved
-loop-c-preserved g c = Writes-next _ _ _ _ _ _ c.loop-c.yielded (c.in-Some.c ∷ []) c.loop-c.invariant c.in_ok-write_char.ensures
 
 pub returns : goal.returns
 returns g c =
-    let all = YieldsList-end (YieldsList-from_chars c.args.text.now c.utf8.text cc) c.loop-c.yielded _ c.loop-c.yielded_by _ _ c.in-None.is c.next.ensures.steps in
-    subst (Writes c.args.stream.now c.loop-c.stream (string_bytes c.args.out.now) (string_bytes c.loop-c.out)) (sym (map-id c.loop-c.yielded) ∙ all.0) c.loop-c.invariant
+    on_ok_weaker c.write_chars-2.result
+    (λ last.
+    Writes-text c.args.stream.now c.write_chars.new.stream c.write_break.new.stream c.write_chars-2.new.stream
+    (string_bytes c.args.out.now) (string_bytes c.write_chars.new.out) (string_bytes c.write_break.new.out) (string_bytes c.write_form.new.out) (string_bytes c.write_chars-2.new.out)
+    (g.T.NormTable.model c.rules-form.result.1.now) c.rules-form.result.2 c.args.text.now c.split_head.result.0.now c.split_head.result.1.now c.split_tail.result.0.now c.split_tail.result.1.now
+    c.meets_conditions.ensures c.rules-form.ensures.version c.rules-form.ensures.form c.split_head.ensures.parts c.split_tail.ensures.parts
+    c.split_head.ensures.front c.split_tail.ensures.front c.split_tail.ensures.back (c.split_tail.ensures.some (search rules)) c.split_head.ensures.at c.split_tail.ensures.at
+    c.in_ok-write_chars.ensures c.in_ok-write_break.ensures c.in_ok-write_form.ensures last)
+    c.write_chars-2.ensures

@@ -1,0 +1,9 @@
+use Rattle.std.proofs.Common.{◌≡◌, List, ◌++◌, ℕ, length}
+use Rattle.std.specs.Str.Iter.{chars_rest}
+use Rattle.np_forms.proofs.copying.split_head.Given as goal
+
+abbrev pub invariant-scan : goal.invariant-scan
+invariant-scan g l = (front : List ℕ) × (l.text ≡ front ++ chars_rest l.iter)
+
+abbrev pub decreases-scan : goal.decreases-scan
+decreases-scan g l = length (chars_rest l.iter)
