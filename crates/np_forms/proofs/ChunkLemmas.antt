@@ -1,5 +1,5 @@
 -- A stream that is begun anew at a boundary, behind the form of what came before.
-use Rattle.std.proofs.Common.{◌≡◌, ℕ, ◌<◌, ◌≤◌, Bool, true, false, List, [], ◌∷◌, ◌++◌, length, IsUtf8, chars, encode_utf8, encode_utf8_all, flat_map, Option, Some, None, refl, sym, ap, subst, ◌∙◌, arith, inl, inr, append_assoc, append-nil}
+use Rattle.std.proofs.Common.{◌≡◌, ℕ, ◌<◌, ◌≤◌, Bool, true, false, List, [], ◌∷◌, ◌++◌, length, IsUtf8, chars, encode_utf8_all, flat_map, refl, sym, ap, subst, ◌∙◌, arith, append_assoc, append-nil}
 use Rattle.std.proofs.lemmas.Grind.{flat_map-append}
 use Rattle.std.proofs.lemmas.Str.{chars-append, encodes-chars}
 use Rattle.std.proofs.lemmas.List.{nil_from_length}
@@ -16,7 +16,7 @@ use Rattle.np_forms.specs.Forms.{IsNormalForm}
 use Rattle.np_forms.specs.Starters.{is_non_starter}
 use Rattle.np_forms.specs.Streams.{IsStreaming, StreamState}
 use Rattle.np_forms.specs.inside.CanonicalOrder.{canonical_order}
-use Rattle.np_forms.specs.inside.Composing.{compose, compose_after, compose_of}
+use Rattle.np_forms.specs.inside.Composing.{compose_after}
 use Rattle.np_forms.specs.inside.Copies.{BeginsAtBoundary}
 use Rattle.np_forms.specs.inside.Held.{Shape, no_starter, starter, IsHeld}
 use Rattle.np_forms.specs.inside.NormalForms.{decomposed, ended, normal_form}
@@ -24,7 +24,7 @@ use Rattle.np_forms.specs.inside.Written.{Writes, Breaks}
 use Rattle.np_forms.proofs.BoundaryLemmas.{composite-never, ended-boundary, full_of-boundary, normal_form-parts}
 use Rattle.np_forms.proofs.ComposeLemmas.{compose-starter, compose_after-nil, compose_after-cases}
 use Rattle.np_forms.proofs.CopyLemmas.{normal_form-nil}
-use Rattle.np_forms.proofs.FormLemmas.{normal_form_is, IsNormalForm-normal_form}
+use Rattle.np_forms.proofs.FormLemmas.{normal_form_is}
 use Rattle.np_forms.proofs.HeldLemmas.{IsStreaming-held, held_streaming, non_starters_ended}
 use Rattle.np_forms.proofs.OrderLemmas.{canonical_order-at_starter, canonical_order-nil, list_all-canonical_order}
 use Rattle.np_forms.proofs.StreamLemmas.{compose_of_is, non_starter_or_starter}

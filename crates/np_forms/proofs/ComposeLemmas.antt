@@ -9,7 +9,7 @@ use Rattle.np_forms.specs.inside.Composing.{is_free, joined, compose_after, comp
 use Rattle.np_forms.specs.Starters.{is_starter}
 use Rattle.np_tables.proofs.MappingLemmas.{list_all-append}
 use Rattle.np_tables.proofs.CompositeLemmas.{cases_Option}
-use Rattle.np_forms.proofs.OrderLemmas.{is_reorderable-true, is_ordered-tail, is_ordered-front, is_ordered-back, is_ordered-at_starter, is_ordered-without_non_starter, canonical_order-behind, canonical_order-over}
+use Rattle.np_forms.proofs.OrderLemmas.{is_reorderable-true, is_ordered-tail, is_ordered-without_non_starter, canonical_order-behind, canonical_order-over}
 
 module _ (ccc : ℕ → ℕ) where
   -- what is no starter is a non-starter
@@ -194,37 +194,6 @@ module _ (ccc : ℕ → ℕ) (join : ℕ → ℕ → Option ℕ) where
           (λ non_starter.
           ap (λ l. order (l ++ flat_map parts_of (compose ccc join cs))) (itself c both.0)
           ∙ canonical_order-behind ccc (c ∷ []) _ cs (decomposed-compose cs both.1))
-
-  -- ---- an ordered list composes to an ordered one
-
-  module _ (starts : (a b p : ℕ) → join a b ≡ Some p → ccc p ≤ 0) where
-    -- xs was written before
-    is_ordered-compose_after : (xs : List ℕ) (s : ℕ) (bs cs : List ℕ) → ccc s ≤ 0 → is_ordered ccc (xs ++ s ∷ (bs ++ cs)) ≡ true → is_ordered ccc (xs ++ compose_after ccc join s bs cs) ≡ true
-    is_ordered-compose_after xs s bs [] low h =
-        ap (λ l. is_ordered ccc (xs ++ l)) (compose_after-nil s bs ∙ ap (λ l. s ∷ l) (sym (append-nil bs))) ∙ h
-    is_ordered-compose_after xs s bs (c ∷ cs) low h =
-        compose_after-cases s bs c cs (λ l. is_ordered ccc (xs ++ l) ≡ true)
-        (λ p free pair.
-        let later = is_ordered-remove ccc bs c cs free (is_ordered-tail ccc s (bs ++ c ∷ cs) (is_ordered-back ccc xs (s ∷ (bs ++ c ∷ cs)) h)) in
-        is_ordered-compose_after xs p bs cs (starts s c p pair) (is_ordered-at_starter ccc xs p (bs ++ cs) (starts s c p pair) (is_ordered-front ccc xs (s ∷ (bs ++ c ∷ cs)) h) later))
-        (λ none first.
-        ap (is_ordered ccc) (sym (append_assoc xs (s ∷ bs) (compose_after ccc join c [] cs)))
-        ∙ is_ordered-compose_after (xs ++ s ∷ bs) c [] cs first (ap (is_ordered ccc) (append_assoc xs (s ∷ bs) (c ∷ cs)) ∙ h))
-        (λ none non_starter. is_ordered-compose_after xs s (bs ++ c ∷ []) cs low (ap (λ l. is_ordered ccc (xs ++ s ∷ l)) (append_assoc bs (c ∷ []) cs) ∙ h))
-
-    -- ms was written before
-    is_ordered-compose_behind : (ms cs : List ℕ) → is_ordered ccc (ms ++ cs) ≡ true → is_ordered ccc (ms ++ compose ccc join cs) ≡ true
-    is_ordered-compose_behind ms [] h = ap (λ l. is_ordered ccc (ms ++ l)) compose-nil ∙ h
-    is_ordered-compose_behind ms (c ∷ cs) h =
-        compose-cases c cs (λ l. is_ordered ccc (ms ++ l) ≡ true)
-        (λ low. is_ordered-compose_after ms c [] cs low h)
-        (λ non_starter.
-        ap (is_ordered ccc) (sym (append_assoc ms (c ∷ []) (compose ccc join cs)))
-        ∙ is_ordered-compose_behind (ms ++ c ∷ []) cs (ap (is_ordered ccc) (append_assoc ms (c ∷ []) cs) ∙ h))
-
-    -- the composition is ordered
-    pub is_ordered-compose : (cs : List ℕ) → is_ordered ccc cs ≡ true → is_ordered ccc (compose ccc join cs) ≡ true
-    is_ordered-compose = is_ordered-compose_behind []
 
   -- ---- what each composite has, the composition has
 

@@ -1,7 +1,7 @@
 -- What stays is copied, and segments are made each for itself.
-use Rattle.std.proofs.Common.{◌≡◌, ℕ, ◌<◌, ◌-◌, List, [], ◌∷◌, ◌++◌, length, chars, IsUtf8, encode_utf8, encode_utf8_all, refl, sym, ap, subst, ◌∙◌, arith, inl, inr, append_assoc, append-nil, length-append, take_at, drop_at, All, Bool, true, false, suc, take, drop, slice_range, IsCharBoundary, flat_map, zero}
+use Rattle.std.proofs.Common.{◌≡◌, ℕ, ◌-◌, List, [], ◌∷◌, ◌++◌, length, chars, IsUtf8, encode_utf8, encode_utf8_all, refl, sym, ap, subst, ◌∙◌, arith, inl, inr, append_assoc, append-nil, length-append, take_at, drop_at, All, Bool, true, false, suc, take, drop, slice_range, IsCharBoundary, flat_map, zero}
 use Rattle.std.proofs.lemmas.List.{append_cancel_right, nil_from_length}
-use Rattle.std.proofs.lemmas.Str.{chars-nil, chars-append, chars_past_char, encodes-append, encodes-chars, IsUtf8-past_char, IsCharBoundary-at_seam, IsCharBoundary-from_take, IsUtf8-drop}
+use Rattle.std.proofs.lemmas.Str.{chars-nil, chars-append, chars_past_char, encodes-append, encodes-chars, IsCharBoundary-at_seam, IsCharBoundary-from_take, IsUtf8-drop}
 use Rattle.np_code_points.specs.declared.forms.Form.{Form}
 use Rattle.np_forms.specs.inside.CanonicalOrder.{canonical_order}
 use Rattle.np_forms.specs.inside.Composing.{compose_of}

@@ -1,5 +1,5 @@
 -- The state of a stream, which each code point of the full decomposition carries on.
-use Rattle.std.proofs.Common.{◌≡◌, ℕ, ◌+◌, ◌<◌, ◌≤◌, ◌⊎◌, Bool, true, false, List, [], ◌∷◌, ◌++◌, length, flat_map, Some, None, refl, sym, ap, subst, ◌∙◌, arith, inl, inr, append_assoc, append-nil}
+use Rattle.std.proofs.Common.{◌≡◌, ℕ, ◌+◌, ◌<◌, ◌≤◌, ◌⊎◌, Bool, true, false, List, [], ◌∷◌, ◌++◌, length, flat_map, refl, sym, ap, subst, ◌∙◌, arith, inl, inr, append_assoc, append-nil}
 use Rattle.std.proofs.lemmas.Bool.{and_from, and_parts, cases_lt, not-true, not_from_false}
 use Rattle.std.proofs.lemmas.Grind.{flat_map-append}
 use Rattle.std.specs.List.{list_all}
@@ -10,10 +10,9 @@ use Rattle.np_tables.specs.Versions.{VersionData, class_of}
 use Rattle.np_tables.specs.inside.CompositeSearch.{composite}
 use Rattle.np_tables.specs.inside.FullDecompositions.{full_of}
 use Rattle.np_tables.proofs.MappingLemmas.{list_all-append, IsFullDecomposition-flat_map, full_decomposition-flat_map}
-use Rattle.np_forms.specs.Forms.{EndsAs, IsNormalForm}
+use Rattle.np_forms.specs.Forms.{IsNormalForm}
 use Rattle.np_forms.specs.Starters.{is_non_starter}
-use Rattle.np_forms.specs.StreamSafe.{HasRunOver}
-use Rattle.np_forms.specs.Streams.{BeginsAtLastStarter, HasNoStarter, IsCutAtLastStarter, IsOrderedAndComposed, IsHeldBack, IsStreaming}
+use Rattle.np_forms.specs.Streams.{IsCutAtLastStarter, IsOrderedAndComposed, IsStreaming}
 use Rattle.np_forms.specs.inside.CanonicalOrder.{canonical_order}
 use Rattle.np_forms.specs.inside.Composing.{compose}
 use Rattle.np_forms.specs.inside.Held.{Shape, no_starter, starter, IsHeld, Advances}

@@ -1,11 +1,10 @@
 -- A normal form is at most so long: 64 code points for each code point of the text, and 256 bytes for each byte.
-use Rattle.std.proofs.Common.{◌≡◌, ◌≢◌, ℕ, zero, suc, ◌+◌, ◌*◌, ◌<◌, ◌≤◌, ◌^◌, Bool, true, false, List, [], ◌∷◌, ◌++◌, length, flat_map, Option, Some, None, chars, IsUtf8, encode_utf8, encode_utf8_all, refl, sym, ap, subst, ◌∙◌, inl, inr, arith, length-append, append-nil}
+use Rattle.std.proofs.Common.{◌≡◌, ◌≢◌, ℕ, zero, suc, ◌+◌, ◌*◌, ◌≤◌, Bool, true, false, List, [], ◌∷◌, ◌++◌, length, flat_map, Option, chars, IsUtf8, encode_utf8, encode_utf8_all, refl, sym, ap, ◌∙◌, inl, inr, arith, length-append, append-nil}
 use Rattle.std.proofs.lemmas.Bool.{cond-true, cond-false, cases_Bool}
 use Rattle.std.proofs.lemmas.Str.{encodes-chars, length-encode, len_utf8_bounds, length-le-encodes}
-use Rattle.std.specs.List.{list_all}
 use Rattle.np_code_points.proofs.StepsLemmas.{join}
 use Rattle.np_code_points.specs.Forms.{is_compat, composes}
-use Rattle.np_code_points.specs.Steps.{ReachesIn, Reaches}
+use Rattle.np_code_points.specs.Steps.{ReachesIn}
 use Rattle.np_code_points.specs.declared.forms.Form.{Form}
 use Rattle.np_forms.proofs.ComposeLemmas.{compose_after-nil, compose_after-cases, compose-nil, compose-cases}
 use Rattle.np_forms.proofs.FormLemmas.{normal_form_is}

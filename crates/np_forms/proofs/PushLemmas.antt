@@ -1,5 +1,5 @@
 -- A stream's state, where a starter comes: it goes into the starter that is held back, or what is held back is ready.
-use Rattle.std.proofs.Common.{◌≡◌, ℕ, ◌<◌, ◌≤◌, Bool, true, false, List, [], ◌∷◌, ◌++◌, Option, Some, None, refl, sym, ap, ◌∙◌, arith}
+use Rattle.std.proofs.Common.{◌≡◌, ℕ, ◌≤◌, Bool, true, false, List, [], ◌∷◌, ◌++◌, Some, None, refl, sym, ap, ◌∙◌, arith}
 use Rattle.std.proofs.lemmas.Bool.{and_left, and_parts, not-true}
 use Rattle.std.specs.List.{list_all}
 use Rattle.np_tables.specs.Conditions.{IsSound}
@@ -8,7 +8,7 @@ use Rattle.np_tables.specs.inside.CompositeSearch.{composite}
 use Rattle.np_tables.proofs.CompositeLemmas.{composite_first, composite-some, composite-starter}
 use Rattle.np_forms.specs.Starters.{is_non_starter}
 use Rattle.np_forms.specs.inside.CanonicalOrder.{canonical_order}
-use Rattle.np_forms.specs.inside.Composing.{joined, compose_after, compose}
+use Rattle.np_forms.specs.inside.Composing.{joined, compose}
 use Rattle.np_forms.specs.inside.NormalForms.{ended}
 use Rattle.np_forms.proofs.OrderLemmas.{list_all-canonical_order, not_reorderable_rising}
 use Rattle.np_forms.proofs.ComposeLemmas.{is_starter-false, joined-none, joined-blocked}

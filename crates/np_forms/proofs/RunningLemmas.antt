@@ -1,5 +1,5 @@
 -- A run over a whole input, chunk by chunk.
-use Rattle.std.proofs.Common.{◌≡◌, ◌≢◌, ℕ, ◌+◌, ◌-◌, ◌<◌, ◌≤◌, ◌⊎◌, List, [], ◌∷◌, ◌++◌, length, take, drop, chars, encode_utf8_all, flat_map, IsUtf8, Option, None, Some, refl, sym, ap, subst, ◌∙◌, arith, inl, inr, append_assoc, append-nil, length-append}
+use Rattle.std.proofs.Common.{◌≡◌, ℕ, ◌+◌, ◌<◌, ◌≤◌, ◌⊎◌, List, [], ◌++◌, length, take, drop, chars, encode_utf8_all, flat_map, IsUtf8, Option, None, Some, refl, sym, ap, subst, ◌∙◌, arith, inl, inr, append_assoc, append-nil, length-append}
 use Rattle.std.proofs.KnownBytes.{Appends-trans, Consumes-trans}
 use Rattle.std.proofs.lemmas.Grind.{flat_map-append}
 use Rattle.std.proofs.lemmas.List.{take_all, take-append-drop, drop_at, drop-drop}
@@ -13,13 +13,13 @@ use Rattle.np_tables.specs.Conditions.{IsSound}
 use Rattle.np_tables.specs.Versions.{VersionData, class_of}
 use Rattle.np_tables.specs.inside.FullDecompositions.{full_of}
 use Rattle.np_forms.specs.Forms.{IsNormalForm}
-use Rattle.np_forms.specs.RunEnds.{BeginsText, Ends, IsRunWhole, IsReadTo, IsNoText, IsCauseOf, IsCutForm, IsFrontOfForm, IsWrittenOf, IsRunCut}
+use Rattle.np_forms.specs.RunEnds.{BeginsText, Ends, IsRunWhole, IsReadTo, IsCauseOf, IsFrontOfForm, IsWrittenOf, IsRunCut}
 use Rattle.np_forms.specs.Streams.{IsStreaming, StreamState}
 use Rattle.np_forms.specs.declared.runs.RunFault.{RunFault}
 use Rattle.np_forms.specs.declared.runs.RunFault.TheVariants.{NotUtf8, ReadFailed, WriteFailed, TooLarge, Memory}
 use Rattle.np_forms.specs.inside.CanonicalOrder.{canonical_order}
 use Rattle.np_forms.specs.inside.NormalForms.{decomposed, ended, normal_form}
-use Rattle.np_forms.specs.inside.Running.{IsRunning, MayBegin, MayNotBegin, IsChunkFault, IsNextChunk, IsInputFault, IsPieceWritten, IsPieceCut, IsRestWritten, IsRestCut, Goes, Stops}
+use Rattle.np_forms.specs.inside.Running.{IsRunning, MayBegin, MayNotBegin, IsNextChunk, IsInputFault, IsPieceWritten, IsPieceCut, IsRestWritten, IsRestCut, Goes, Stops}
 use Rattle.np_forms.proofs.FormLemmas.{IsNormalForm-normal_form, normal_form_is}
 use Rattle.np_forms.proofs.HeldLemmas.{held_streaming}
 use Rattle.np_forms.proofs.RunTextLemmas.{take_past, prefix_past, prefix_left, one_prefix, longest_prefix, whole_prefix}

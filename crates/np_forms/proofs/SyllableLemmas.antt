@@ -1,14 +1,14 @@
 -- Full decompositions of code points, syllables by arithmetic included.
-use Rattle.std.proofs.Common.{◌≡◌, ℕ, zero, suc, ◌+◌, ◌-◌, ◌/◌, ◌%◌, ◌<◌, ◌≤◌, ◌⊎◌, Bool, true, false, ◌&&◌, ◌==◌, List, [], ◌∷◌, ◌++◌, length, flat_map, refl, sym, ap, ◌∙◌, ◌||◌, arith, inl, inr, length-append, eqb-true, eq-eqb}
-use Rattle.std.proofs.lemmas.Bool.{cases_Bool, cond-true, cond-false, and_parts, and_from, and_left, and_right, leb-true, ltb-true, lt-leb, le-leb, lt-ltb, eqb-false, or_from}
+use Rattle.std.proofs.Common.{◌≡◌, ℕ, zero, suc, ◌<◌, ◌⊎◌, Bool, true, false, ◌&&◌, List, [], ◌∷◌, ◌++◌, length, flat_map, refl, sym, ap, ◌∙◌, ◌||◌, arith, inl, inr, length-append}
+use Rattle.std.proofs.lemmas.Bool.{cases_Bool, cond-true, cond-false, or_from}
 use Rattle.np_code_points.specs.Hangul.{is_syllable, syllable_pair}
 use Rattle.np_tables.specs.Conditions.{IsSound}
-use Rattle.np_tables.specs.Mappings.{counts, parts, is_final}
+use Rattle.np_tables.specs.Mappings.{parts, is_final}
 use Rattle.np_tables.specs.inside.FullDecompositions.{full, full_of, table_full}
-use Rattle.np_tables.specs.Versions.{VersionData, is_empty, file_mapping, decomposition_kind, decomposition_mapping, has_hangul}
+use Rattle.np_tables.specs.Versions.{VersionData, is_empty, has_hangul}
 use Rattle.np_tables.proofs.FullLemmas.{parts-syllable}
 use Rattle.np_tables.proofs.HangulLemmas.{IsJamo, IsLv, jamo_bare, shape_of}
-use Rattle.np_tables.proofs.MappingLemmas.{is_empty-true, parts-cases, full_of-final, full_of-mapped}
+use Rattle.np_tables.proofs.MappingLemmas.{parts-cases, full_of-final, full_of-mapped}
 use Rattle.np_forms.specs.inside.Syllables.{pair_or_self, syllable_parts}
 
 -- ---- what the arithmetic gives

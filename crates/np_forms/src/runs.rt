@@ -331,7 +331,7 @@ pub fn run<R: Read, W: Write, T: NormTable>(
 {
     source.clear();
     target.clear();
-    table.version();
+    table.meets_conditions();
     let mut stream = Stream::new(alloc, table, form);
     let Ok(mut input) = new_input(alloc) else {
         return Err(RunFault::Memory);

@@ -53,7 +53,7 @@ impl<'t, T: NormTable> Stream<'t, T> {
         ensures ready { result.ready ≡ [] }
         ensures begins { IsStreaming (T.model table.now) form [] [] result.pending }
     {
-        table.version();
+        table.meets_conditions();
         Stream {
             table,
             form,
@@ -84,7 +84,7 @@ impl<'t, T: NormTable> Stream<'t, T> {
         ensures ok { OnOk result (TakesIn self.old self.new c) }
         ensures err { OnErr result (self.new ≡ self.old) }
     {
-        self.table.version();
+        self.table.meets_conditions();
         let hangul = self.table.hangul();
         self.parts.clear();
         append(&mut self.parts, self.table, hangul, self.form.compat(), c)?;
@@ -142,7 +142,7 @@ impl<'t, T: NormTable> Stream<'t, T> {
         ensures ok { OnOk result (Finishes self.old self.new) }
         ensures err { OnErr result (self.new ≡ self.old) }
     {
-        self.table.version();
+        self.table.meets_conditions();
         copy_to(&mut self.kept, &self.held.pending)?;
         let ready = self.held.ready.len();
         match finish(self.alloc, self.table, self.form.composes(), &mut self.held) {

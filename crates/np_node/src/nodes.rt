@@ -59,7 +59,7 @@ impl<'t, T: NormTable> Node<'t, T> {
         requires { room ≤ MOST_ROOM }
         ensures { result ≡ record { table = table.now; form = form; room = room; entries = [] } }
     {
-        let _sound = table.version();
+        table.meets_conditions();
         Node {
             table,
             form,

@@ -51,6 +51,6 @@ pub(crate) fn key_for<T: NormTable>(
     ensures key { IfOk result (λ key. IsKey (T.model table.now) form text.now (string_bytes key)) }
     ensures size { IfOk result (λ key. length (string_bytes key) < 2 ^ 32) }
 {
-    let _sound = table.version();
+    table.meets_conditions();
     form_of(alloc, table, form, text)
 }

@@ -1,4 +1,4 @@
-use Rattle.std.proofs.Common.{◌++◌, length, encode_utf8, sym, ap, subst, ◌∙◌, arith, append_assoc, length-append}
+use Rattle.std.proofs.Common.{◌++◌, length, encode_utf8, sym, ap, ◌∙◌, arith, append_assoc, length-append}
 use Rattle.np_forms.proofs.CopyLemmas.{seam, front_of, IsParted-at, IsParted-whole}
 use Rattle.np_forms.proofs.copying.split_segment.Goals as goal
 

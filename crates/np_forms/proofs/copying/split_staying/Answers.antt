@@ -1,5 +1,5 @@
-use Rattle.std.proofs.Common.{◌++◌, length, take, drop, chars, encode_utf8, encode_utf8_all, refl, sym, ap, subst, ◌∙◌, inl, inr}
-use Rattle.np_forms.proofs.CopyLemmas.{cut_at-front, cut_at-back, cut_boundary, IsCopied-whole, IsCopied-boundary, IsCopied-last, without_last-boundary}
+use Rattle.std.proofs.Common.{length, sym, ap, ◌∙◌}
+use Rattle.np_forms.proofs.CopyLemmas.{cut_boundary, IsCopied-whole, IsCopied-boundary, IsCopied-last, without_last-boundary}
 use Rattle.np_forms.proofs.copying.split_staying.Goals as goal
 
 pub split_at-requires : goal.split_at-requires

@@ -1,4 +1,4 @@
-use Rattle.std.proofs.Common.{◌++◌, length, chars, string_bytes, encode_utf8_all, refl, sym, ap, ◌∙◌, arith, rules}
+use Rattle.std.proofs.Common.{refl, rules}
 use Rattle.np_forms.proofs.CopyLemmas.{one_more_segment, form-end}
 use Rattle.np_forms.proofs.copying.write_form.Goals as goal
 

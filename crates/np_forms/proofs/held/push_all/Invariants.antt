@@ -1,4 +1,4 @@
-use Rattle.std.proofs.Common.{◌≡◌, List, ◌++◌, ℕ, take}
+use Rattle.std.proofs.Common.{take}
 use Rattle.np_forms.specs.inside.Held.{Advances}
 use Rattle.np_forms.proofs.held.push_all.Given as goal
 

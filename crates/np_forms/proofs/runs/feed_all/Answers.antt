@@ -1,4 +1,4 @@
-use Rattle.std.proofs.Common.{◌≡◌, ◌++◌, [], take, chars, length, length-append, sym, ap, subst, ◌∙◌, rules, arith}
+use Rattle.std.proofs.Common.{take, chars, length, length-append, ap, subst, ◌∙◌, rules, arith}
 use Rattle.std.proofs.lemmas.List.{length-drop}
 use Rattle.std.proofs.lemmas.Result.{err_from_is_err_and}
 use Rattle.np_code_points.specs.Watched.{device_of}

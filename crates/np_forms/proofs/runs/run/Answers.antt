@@ -1,4 +1,4 @@
-use Rattle.std.proofs.Common.{◌≡◌, ◌<◌, ◌+◌, [], length, vec_len, sym, ap, subst, ◌∙◌, arith, eqb-true}
+use Rattle.std.proofs.Common.{◌≡◌, ◌<◌, [], length, vec_len, sym, ap, subst, ◌∙◌, arith, eqb-true}
 use Rattle.std.proofs.lemmas.Bool.{eqb-false}
 use Rattle.std.proofs.lemmas.List.{nil_from_length}
 use Rattle.std.proofs.lemmas.Result.{err_from_is_err_and}
@@ -12,7 +12,7 @@ use Rattle.np_forms.proofs.runs.run.Goals as goal
 pub returns-in_default-clause-ends : goal.returns-in_default-clause-ends
 returns-in_default-clause-ends g c =
     let v = g.T.NormTable.model c.args.table.now in
-    let sound = c.version.ensures.sound in
+    let sound = c.meets_conditions.ensures in
     let form = c.args.form in
     let i = g.R.Read.remaining (device_of c.args.source.now) in
     let i' = g.R.Read.remaining (device_of c.clear.new.self) in
@@ -27,7 +27,7 @@ returns-in_default-clause-ends g c =
 pub returns-in_err-feed_all-clause-ends : goal.returns-in_err-feed_all-clause-ends
 returns-in_err-feed_all-clause-ends g c =
     let v = g.T.NormTable.model c.args.table.now in
-    let sound = c.version.ensures.sound in
+    let sound = c.meets_conditions.ensures in
     let form = c.args.form in
     let i = g.R.Read.remaining (device_of c.args.source.now) in
     let i' = g.R.Read.remaining (device_of c.clear.new.self) in
@@ -47,7 +47,7 @@ returns-in_err-feed_all-clause-ends g c =
 pub returns-then-not-is_empty-clause-ends : goal.returns-then-not-is_empty-clause-ends
 returns-then-not-is_empty-clause-ends g c =
     let v = g.T.NormTable.model c.args.table.now in
-    let sound = c.version.ensures.sound in
+    let sound = c.meets_conditions.ensures in
     let form = c.args.form in
     let i = g.R.Read.remaining (device_of c.args.source.now) in
     let i' = g.R.Read.remaining (device_of c.clear.new.self) in
@@ -71,7 +71,7 @@ returns-then-not-is_empty-clause-ends g c =
 pub returns-in_err-write_rest-clause-ends : goal.returns-in_err-write_rest-clause-ends
 returns-in_err-write_rest-clause-ends g c =
     let v = g.T.NormTable.model c.args.table.now in
-    let sound = c.version.ensures.sound in
+    let sound = c.meets_conditions.ensures in
     let form = c.args.form in
     let i = g.R.Read.remaining (device_of c.args.source.now) in
     let i' = g.R.Read.remaining (device_of c.clear.new.self) in
@@ -99,7 +99,7 @@ returns-in_err-write_rest-clause-ends g c =
 pub returns-clause-ends : goal.returns-clause-ends
 returns-clause-ends g c =
     let v = g.T.NormTable.model c.args.table.now in
-    let sound = c.version.ensures.sound in
+    let sound = c.meets_conditions.ensures in
     let form = c.args.form in
     let i = g.R.Read.remaining (device_of c.args.source.now) in
     let i' = g.R.Read.remaining (device_of c.clear.new.self) in

@@ -1,4 +1,4 @@
-use Rattle.std.proofs.Common.{◌≡◌, ◌++◌, [], string_bytes, encode_utf8_all, inr, sym, ap, ◌∙◌}
+use Rattle.std.proofs.Common.{◌++◌, encode_utf8_all, inr, sym, ap, ◌∙◌}
 use Rattle.std.proofs.lemmas.Result.{on_err_weaker}
 use Rattle.np_forms.proofs.runs.write_piece.Goals as goal
 

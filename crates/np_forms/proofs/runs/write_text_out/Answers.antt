@@ -1,4 +1,4 @@
-use Rattle.std.proofs.Common.{◌≡◌, ◌++◌, take, drop, string_bytes, sym, ap, subst, ◌∙◌}
+use Rattle.std.proofs.Common.{take, drop, sym, ◌∙◌}
 use Rattle.std.proofs.lemmas.List.{take-append-drop}
 use Rattle.np_forms.proofs.runs.write_text_out.Goals as goal
 

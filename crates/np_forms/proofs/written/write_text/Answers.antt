@@ -1,4 +1,4 @@
-use Rattle.std.proofs.Common.{◌≡◌, chars, string_bytes, OnOk, rules}
+use Rattle.std.proofs.Common.{string_bytes, rules}
 use Rattle.std.proofs.lemmas.Result.{on_ok_weaker}
 use Rattle.np_forms.proofs.ChunkLemmas.{Writes-text}
 use Rattle.np_forms.proofs.written.write_text.Goals as goal

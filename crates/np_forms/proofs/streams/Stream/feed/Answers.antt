@@ -1,9 +1,9 @@
 use Rattle.std.proofs.Common.{◌≡◌, ◌++◌, ◌∷◌, [], refl, sym, ap, subst, ◌∙◌}
-use Rattle.np_code_points.specs.Forms.{is_compat, composes}
+use Rattle.np_code_points.specs.Forms.{composes}
 use Rattle.np_tables.specs.inside.FullDecompositions.{full_of}
 use Rattle.std.specs.List.{list_all}
 use Rattle.np_forms.specs.Starters.{is_non_starter}
-use Rattle.np_forms.specs.Streams.{IsStreaming, TakesIn}
+use Rattle.np_forms.specs.Streams.{IsStreaming}
 use Rattle.np_forms.proofs.HeldLemmas.{Advances-non_starters, Advances-streams}
 use Rattle.np_forms.proofs.streams.Stream.feed.Goals as goal
 
@@ -18,7 +18,7 @@ returns-in-Ok-clause-ok g c =
       ready = a.ready_is;
       version = refl;
       form = refl;
-      carries = λ fed out s. Advances-streams v c.version.ensures.sound c.self.inside.form c.compat.result c.composes-composes.result c.args.c _ _ _ _ _ c.compat.ensures c.composes-composes.ensures of_c a fed out s;
+      carries = λ fed out s. Advances-streams v c.meets_conditions.ensures c.self.inside.form c.compat.result c.composes-composes.result c.args.c _ _ _ _ _ c.compat.ensures c.composes-composes.ensures of_c a fed out s;
     })
 
 pub returns-then-are_non_starters-clause-ok : goal.returns-then-are_non_starters-clause-ok
@@ -31,7 +31,7 @@ returns-then-are_non_starters-clause-ok g c =
     let parts = c.append.new.list.items in
     let of_c : parts ≡ full_of v compat c.args.c = c.in_ok-append.ensures ∙ ap (λ l. l ++ full_of v compat c.args.c) c.clear.ensures.items in
     let all = ap (list_all (is_non_starter v)) (sym c.deref.ensures.value) ∙ c.are_non_starters.ensures c.if-are_non_starters.true in
-    let a = Advances-non_starters v c.version.ensures.sound (composes form) ready pending parts all in
+    let a = Advances-non_starters v c.meets_conditions.ensures (composes form) ready pending parts all in
     let grown : pending ++ parts ≡ c.extend_from_slice.new.self.items = sym (c.in_ok-extend_from_slice.ensures.items ∙ ap (λ l. pending ++ l) c.deref-then-are_non_starters.ensures.value) in
     rw (← c.self.view_is)
     (record {
@@ -41,5 +41,5 @@ returns-then-are_non_starters-clause-ok g c =
       form = refl;
       carries = λ fed out s.
           subst (IsStreaming v form (fed ++ c.args.c ∷ []) (out ++ a.more)) grown
-          (Advances-streams v c.version.ensures.sound form compat (composes form) c.args.c parts ready pending ready (pending ++ parts) c.compat.ensures refl of_c a fed out s);
+          (Advances-streams v c.meets_conditions.ensures form compat (composes form) c.args.c parts ready pending ready (pending ++ parts) c.compat.ensures refl of_c a fed out s);
     })

@@ -1,6 +1,6 @@
 use Rattle.std.proofs.Common.{[], refl, sym, subst}
 use Rattle.np_tables.specs.Versions.{class_of}
-use Rattle.np_forms.specs.Streams.{Finishes, IsStreaming}
+use Rattle.np_forms.specs.Streams.{IsStreaming}
 use Rattle.np_forms.specs.inside.CanonicalOrder.{canonical_order}
 use Rattle.np_forms.specs.inside.NormalForms.{ended}
 use Rattle.np_forms.proofs.HeldLemmas.{IsStreaming-start, whole_streams}
@@ -18,6 +18,6 @@ returns-in-Ok-clause-ok g c =
       version = refl;
       form = refl;
       nothing = c.in-Ok.ensures.nothing;
-      whole = λ fed out s. whole_streams v c.version.ensures.sound form c.composes.result pending fed out c.composes.ensures s;
-      begins = subst (IsStreaming v form [] []) (sym c.in-Ok.ensures.nothing) (IsStreaming-start v c.version.ensures.sound form);
+      whole = λ fed out s. whole_streams v c.meets_conditions.ensures form c.composes.result pending fed out c.composes.ensures s;
+      begins = subst (IsStreaming v form [] []) (sym c.in-Ok.ensures.nothing) (IsStreaming-start v c.meets_conditions.ensures form);
     })

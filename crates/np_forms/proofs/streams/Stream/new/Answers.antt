@@ -6,4 +6,4 @@ use Rattle.np_forms.proofs.streams.Stream.new.Goals as goal
 pub returns-clause-begins : goal.returns-clause-begins
 returns-clause-begins g c =
     let v = g.T.NormTable.model c.args.table.now in
-    subst (IsStreaming v c.args.form [] []) (sym c.new-2.ensures.items) (IsStreaming-start v c.version.ensures.sound c.args.form)
+    subst (IsStreaming v c.args.form [] []) (sym c.new-2.ensures.items) (IsStreaming-start v c.meets_conditions.ensures c.args.form)
