@@ -12,5 +12,5 @@ pub returns-clause-size : goal.returns-clause-size
 returns-clause-size g c =
     let v = g.T.NormTable.model c.args.table.now in
     IfOk-weaker c.form.result _ _
-    (λ t is. small_key v c.version-sound.ensures.sound c.args.form c.args.text.now (string_bytes t) c.requires c.utf8.text (record { utf8 = IsUtf8-string_bytes t; normal = is }))
+    (λ t is. small_key v c.meets_conditions.ensures c.args.form c.args.text.now (string_bytes t) c.requires c.utf8.text (record { utf8 = IsUtf8-string_bytes t; normal = is }))
     c.form.ensures.normal
