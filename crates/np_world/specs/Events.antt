@@ -8,6 +8,7 @@ pub data Event : Type 0 where
   Save : (node : ℕ) → Event
   Restart : (node : ℕ) → Event
   Ask : (node : ℕ) (left right : List ℕ) → Event
+  Forge : (node : ℕ) (bytes : List ℕ) → Event
 
 -- the node that an event names
 abbrev pub node_of : Event → ℕ
@@ -17,6 +18,7 @@ node_of (Upgrade node) = node
 node_of (Save node) = node
 node_of (Restart node) = node
 node_of (Ask node left right) = node
+node_of (Forge node bytes) = node
 
 -- the number of versions, the room of each node, the place of each node's first version, and the events
 pub record ScheduleData : Type 0 where

@@ -7,7 +7,7 @@ use Rattle.np_code_points.specs.Forms.{is_compat}
 use Rattle.np_forms.specs.Assigned.{IsAssigned, IsFirstUnassigned}
 use Rattle.np_forms.specs.Forms.{IsEquivalent}
 use Rattle.np_tables.specs.Versions.{VersionData}
-use Rattle.np_world.specs.Events.{Event, Accept, Deliver, Upgrade, Save, Restart, Ask, node_of}
+use Rattle.np_world.specs.Events.{Event, Accept, Deliver, Upgrade, Save, Restart, Ask, Forge, node_of}
 use Rattle.np_world.specs.declared.replies.Reply.{Reply}
 use Rattle.np_world.specs.declared.replies.Reply.TheVariants.{Sent, Kept, Known, Full, TooLong, Unassigned, NoMessage, Version, LastVersion, Saved, Restarted, NotKept, Equal, Different}
 
@@ -109,6 +109,7 @@ Does setting version last (Upgrade node) before reply after = Upgrades setting b
 Does setting version last (Save node) before reply after = Saves before reply after
 Does setting version last (Restart node) before reply after = Restarts before reply after
 Does setting version last (Ask node left right) before reply after = Asks setting last left right before reply after
+Does setting version last (Forge node bytes) before reply after = ⊥
 
 -- ---- one event after another
 

@@ -31,4 +31,9 @@ pub(crate) enum EventLine {
         left: String,
         right: String,
     },
+    /// Bytes that no node sent reach the node as a message.
+    Forge {
+        node: usize,
+        bytes: Vec<u8>,
+    },
 }

@@ -31,4 +31,13 @@ pub enum Reply {
     Equal,
     /// The two kept strings have unlike keys: they are not equivalent.
     Different,
+    /// What was forged is no message: `at` is the place, from 0, of its first field that isn't whole
+    /// or isn't allowed, or of the first byte behind a whole message.
+    Malformed { at: usize },
+    /// What was forged is a message of another form.
+    OtherForm,
+    /// The string of a forged message isn't UTF-8; `at` is the length of its longest valid prefix.
+    NotUtf8 { at: usize },
+    /// The key of a forged message isn't that of its string.
+    KeyDiffers,
 }

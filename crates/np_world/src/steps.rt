@@ -39,5 +39,6 @@ pub(crate) fn step<'t, T: NormTable>(
             left.as_str(),
             right.as_str(),
         )),
+        EventLine::Forge { .. } => Err(Memory),
     }
 }

@@ -3,7 +3,7 @@ use Rattle.std.specs.Prelude.{ℕ, List, [], ◌∷◌, Bool, false, ◌==◌}
 use Rattle.std.specs.declared.vec.Vec.{Vec}
 use Rattle.std.specs.declared.alloc.Global.{Global}
 use Rattle.np_tables.specs.Versions.{VersionData}
-use Rattle.np_world.specs.Events.{Event, Accept, Deliver, Upgrade, Save, Restart, Ask}
+use Rattle.np_world.specs.Events.{Event, Accept, Deliver, Upgrade, Save, Restart, Ask, Forge}
 use Rattle.np_world.specs.World.{MachineNode, World, IsStep, IsRun, start}
 use Rattle.np_world.specs.declared.members.Member.{Member}
 use Rattle.np_world.specs.declared.replies.Reply.{Reply}
@@ -40,6 +40,7 @@ saves_node node (Upgrade i) = false
 saves_node node (Save i) = i == node
 saves_node node (Restart i) = false
 saves_node node (Ask i left right) = false
+saves_node node (Forge i bytes) = false
 
 -- each node is as at the start
 abbrev pub Begins : {T : Type 0} → (T → VersionData) → Rules T → List (Member T) → List ℕ → Type 0
