@@ -1,9 +1,10 @@
 -- Code points in hex digits, as UnicodeData.txt has them (UAX #44).
-use Rattle.std.specs.Prelude.{ℕ, ◌+◌, ◌-◌, Bool, ◌&&◌, nat_le, nat_lt, List, ◌++◌, map, length, replicate, Option, Some, None, if◌then◌else◌}
+use Rattle.std.specs.Prelude.{◌≡◌, ℕ, ◌+◌, ◌-◌, Bool, true, ◌&&◌, nat_le, nat_lt, List, ◌++◌, map, length, replicate, Option, Some, None, if◌then◌else◌}
 use Rattle.std.specs.Char.{digit_value}
 use Rattle.std.specs.Int.Digits.{digits_of}
 use Rattle.std.specs.List.{list_all}
 use Rattle.std.specs.Str.Parse.{digits_value}
+use lib.Utf8.{scalar}
 
 -- a hex digit of either case
 abbrev pub is_hex_digit : ℕ → Bool
@@ -18,6 +19,10 @@ is_code bytes =
 -- the number that a code stands for
 unfoldable pub code_value : List ℕ → Option ℕ
 code_value bytes = if is_code bytes then Some (digits_value 16 bytes) else None
+
+-- a word that is a code point, and no surrogate
+abbrev pub IsScalarOf : List ℕ → ℕ → Type 0
+IsScalarOf word code = (code_value word ≡ Some code) × (scalar code ≡ true)
 
 -- the upper-case hex digit of a number below 16
 abbrev pub hex_digit : ℕ → ℕ

@@ -13,7 +13,8 @@ use Rattle.np_code_points.proofs.LineGrammar.{before_free, joined_some, after_at
 use Rattle.np_code_points.proofs.WordGrammar.{divided, after_all_in_front, only_dividers, dividers_only, word_first, are_words, only_words}
 use Rattle.np_code_points.proofs.WordLemmas.{words_after_all, words_none}
 use Rattle.np_ucd.specs.Entries.{MapKind, Plain, Canonical, Compatibility}
-use Rattle.np_ucd.specs.Mappings.{Mapping, IsScalarOf, AreCodes, IsTagged, IsMapping}
+use Rattle.np_ucd.specs.Mappings.{Mapping, AreCodes, IsTagged, IsMapping}
+use Rattle.np_code_points.specs.Codes.{IsScalarOf}
 use Rattle.np_ucd.specs.inside.FieldReading.{if_scalar, scalar_value, scalars_of, if_short, short_scalars, listed_mapping, mapping_at, mapping_value}
 use Rattle.np_ucd.proofs.SpanGrammar.{taken}
 

@@ -1,8 +1,7 @@
 -- Decomposition_Type and Decomposition_Mapping, as they stand in their field (UAX #44, table 9).
-use Rattle.std.specs.Prelude.{◌≡◌, ℕ, ◌≤◌, true, List, [], ◌∷◌, ◌++◌, length, Some, ◌⊎◌}
+use Rattle.std.specs.Prelude.{◌≡◌, ℕ, ◌≤◌, List, [], ◌∷◌, ◌++◌, length, ◌⊎◌}
 use Rattle.std.specs.List.{AllZip}
-use lib.Utf8.{scalar}
-use Rattle.np_code_points.specs.Codes.{code_value}
+use Rattle.np_code_points.specs.Codes.{IsScalarOf}
 use Rattle.np_code_points.specs.Lines.{HasNo}
 use Rattle.np_code_points.specs.Words.{AreDividers, AreWords}
 use Rattle.np_code_points.specs.declared.words.Dividers.TheVariants.{Spaces}
@@ -12,10 +11,6 @@ use Rattle.np_ucd.specs.Entries.{MapKind, Plain, Canonical, Compatibility}
 pub record Mapping : Type 0 where
   pub kind : MapKind
   pub codes : List ℕ
-
--- a word that is a code point, and no surrogate
-abbrev pub IsScalarOf : List ℕ → ℕ → Type 0
-IsScalarOf word code = (code_value word ≡ Some code) × (scalar code ≡ true)
 
 -- at least one of them, and at most so many, divided by spaces
 pub record AreCodes (most : ℕ) (text codes : List ℕ) : Type 0 where

@@ -3,6 +3,7 @@
 
 mod events;
 mod members;
+mod reading;
 mod replays;
 mod replies;
 mod report;
@@ -10,6 +11,7 @@ mod schedules;
 mod steps;
 mod turns;
 
+pub use reading::{ScheduleFault, read_schedule};
 pub use replays::replay;
 pub use replies::Reply;
 pub use report::Report;
