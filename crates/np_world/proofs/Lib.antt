@@ -1,3 +1,5 @@
+pub mod CaseLemmas
+pub mod MachineLemmas
 pub mod ReportLemmas
 pub mod RunLemmas
 pub mod StepLemmas

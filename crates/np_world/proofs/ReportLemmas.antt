@@ -17,9 +17,10 @@ use Rattle.np_node.specs.Nodes.{NodeState}
 use Rattle.np_node.specs.Strings.{IsKeepable, IsKey}
 use Rattle.np_tables.specs.Versions.{VersionData}
 use Rattle.np_world.specs.Events.{ScheduleData}
+use Rattle.np_world.specs.Laws.{OneRun}
 use Rattle.np_world.specs.Reports.{image_at, image_in, index_at, message_at, node_at, replies_of}
-use Rattle.np_world.specs.Runs.{setting_over, AreKeysUnder, InTheRun, IsImageUnder, IsLast, IsMessageUnder, IsNodeOf, TellsOf, texts_in}
-use Rattle.np_world.specs.World.{MachineNode, World}
+use Rattle.np_world.specs.Runs.{setting_over, AreKeysUnder, HasOneRun, InTheRun, IsImageUnder, IsLast, IsMessageUnder, IsNodeOf, TellsOf, texts_in}
+use Rattle.np_world.specs.World.{MachineNode, World, IsRun, start}
 use Rattle.np_world.specs.declared.members.Member.{Member}
 use Rattle.np_world.specs.declared.replies.Reply.{Reply}
 use Rattle.np_world.specs.declared.report.Report.{Report}
@@ -75,21 +76,31 @@ module _ {T : Type 0} (model : T → VersionData) (tables : List T) (form : Form
   abbrev at : (i : ℕ) → ((slice_get report.members.items i ≡ None) × (slice_get is.ends.world.nodes i ≡ None)) ⊎ AreBoth model (rules_over tables form schedule) report.members.items is.ends.world.nodes i
   at i = both_at model rules report.members.items is.ends.world.nodes i is.ends.shows.nodes
 
-  in_the_run : (P : List Reply → World → Type 0) → P report.replies.items is.ends.world → InTheRun (setting_over model tables form schedule) schedule P
-  in_the_run P holds = record { replies = report.replies.items; world = is.ends.world; run = is.ends.run; holds = holds }
+  -- the run that the nodes mirror is the only one
+  only_run : OneRun → (others : List Reply) (other : World) → IsRun (setting_over model tables form schedule) (start schedule.starts) schedule.events others other
+      → (others ≡ report.replies.items) × (other ≡ is.ends.world)
+  only_run once others other run = once (setting_over model tables form schedule) (start schedule.starts) schedule.events others report.replies.items other is.ends.world run is.ends.run
 
-  pub replies_are : InTheRun (setting_over model tables form schedule) schedule (λ replies world. replies_of report ≡ replies)
-  replies_are = in_the_run (λ replies world. replies_of report ≡ replies) refl
+  pub one_is : OneRun → HasOneRun (setting_over model tables form schedule) schedule
+  one_is once = record { replies = report.replies.items; world = is.ends.world; is = is.ends.run; only = only_run once }
 
-  pub indices_are : InTheRun (setting_over model tables form schedule) schedule (λ replies world. (i : ℕ) → index_at report i ≡ option_map (λ node. node.index) (slice_get world.nodes i))
-  indices_are = in_the_run (λ replies world. (i : ℕ) → index_at report i ≡ option_map (λ node. node.index) (slice_get world.nodes i)) (λ i.
+  in_the_run : OneRun → (P : List Reply → World → Type 0) → P report.replies.items is.ends.world → InTheRun (setting_over model tables form schedule) schedule P
+  in_the_run once P holds others other run =
+      let same = only_run once others other run in
+      subst (λ rs. P rs other) (sym same.0) (subst (P report.replies.items) (sym same.1) holds)
+
+  pub replies_are : OneRun → InTheRun (setting_over model tables form schedule) schedule (λ replies world. replies_of report ≡ replies)
+  replies_are once = in_the_run once (λ replies world. replies_of report ≡ replies) refl
+
+  pub indices_are : OneRun → InTheRun (setting_over model tables form schedule) schedule (λ replies world. (i : ℕ) → index_at report i ≡ option_map (λ node. node.index) (slice_get world.nodes i))
+  indices_are once = in_the_run once (λ replies world. (i : ℕ) → index_at report i ≡ option_map (λ node. node.index) (slice_get world.nodes i)) (λ i.
       elim (at i) [
         | inl none ↦ ap (option_map (λ (m : Member T). m.index)) none.0 ∙ sym (ap (option_map (λ (n : MachineNode). n.index)) none.1)
         | inr both ↦ ap (option_map (λ (m : Member T). m.index)) both.first ∙ ap Some both.mirrors.index ∙ sym (ap (option_map (λ (n : MachineNode). n.index)) both.second)
       ])
 
-  pub strings_are : InTheRun (setting_over model tables form schedule) schedule (λ replies world. (i : ℕ) → option_map (λ node. texts_in node.entries) (node_at report i) ≡ option_map (λ node. node.strings) (slice_get world.nodes i))
-  strings_are = in_the_run (λ replies world. (i : ℕ) → option_map (λ node. texts_in node.entries) (node_at report i) ≡ option_map (λ node. node.strings) (slice_get world.nodes i)) (λ i.
+  pub strings_are : OneRun → InTheRun (setting_over model tables form schedule) schedule (λ replies world. (i : ℕ) → option_map (λ node. texts_in node.entries) (node_at report i) ≡ option_map (λ node. node.strings) (slice_get world.nodes i))
+  strings_are once = in_the_run once (λ replies world. (i : ℕ) → option_map (λ node. texts_in node.entries) (node_at report i) ≡ option_map (λ node. node.strings) (slice_get world.nodes i)) (λ i.
       elim (at i) [
         | inl none ↦ ap (λ o. option_map (λ (n : NodeState T). texts_in n.entries) (option_map (λ (m : Member T). m.node) o)) none.0 ∙ sym (ap (option_map (λ (n : MachineNode). n.strings)) none.1)
         | inr both ↦ ap (λ o. option_map (λ (n : NodeState T). texts_in n.entries) (option_map (λ (m : Member T). m.node) o)) both.first ∙ ap Some (sym both.mirrors.strings) ∙ sym (ap (option_map (λ (n : MachineNode). n.strings)) both.second)
@@ -111,7 +122,7 @@ module _ {T : Type 0} (model : T → VersionData) (tables : List T) (form : Form
         | inr both ↦ subst (λ o. IfSome (option_map (λ (m : Member T). m.node) o) P) (sym both.first) (each both.member both.node both.mirrors)
       ]
 
-  module _ (stability : Stability) (forms : SameForms) (last : VersionData) (end : IsLast (setting_over model tables form schedule) last) where
+  module _ (once : OneRun) (stability : Stability) (forms : SameForms) (last : VersionData) (end : IsLast (setting_over model tables form schedule) last) where
     ends_at : slice_get (map model tables) (length tables - 1) ≡ Some last
     ends_at = ap (λ n. slice_get (map model tables) (n - 1)) (sym (length-map tables model)) ∙ end
 
@@ -138,7 +149,7 @@ module _ {T : Type 0} (model : T → VersionData) (tables : List T) (form : Form
 
     pub sent_are : InTheRun (setting_over model tables form schedule) schedule
         (λ replies world. (i : ℕ) → MatchOption (slice_get world.sent i) (message_at report i ≡ None) (λ string. IsSomeAnd (message_at report i) (IsMessageUnder last form string)))
-    sent_are = in_the_run (λ replies world. (i : ℕ) → MatchOption (slice_get world.sent i) (message_at report i ≡ None) (λ string. IsSomeAnd (message_at report i) (IsMessageUnder last form string))) (λ i.
+    sent_are = in_the_run once (λ replies world. (i : ℕ) → MatchOption (slice_get world.sent i) (message_at report i ≡ None) (λ string. IsSomeAnd (message_at report i) (IsMessageUnder last form string))) (λ i.
         elim (sent_at (map model tables) form schedule.room report.sent.items is.ends.world.sent i is.ends.shows.sent) [
           | inl none ↦ subst (λ o. MatchOption o (message_at report i ≡ None) (λ string. IsSomeAnd (message_at report i) (IsMessageUnder last form string))) (sym none.1) (ap (option_map (λ (v : Vec ℕ Global). v.items)) none.0)
           | inr both ↦
@@ -164,7 +175,7 @@ module _ {T : Type 0} (model : T → VersionData) (tables : List T) (form : Form
 
     pub saved_are : InTheRun (setting_over model tables form schedule) schedule
         (λ replies world. (i : ℕ) → MatchOption (slice_get world.nodes i) (image_at report i ≡ None) (λ node. MatchOption (image_at report i) (node.saved ≡ []) (IsImageUnder last form node.saved)))
-    saved_are = in_the_run (λ replies world. (i : ℕ) → MatchOption (slice_get world.nodes i) (image_at report i ≡ None) (λ node. MatchOption (image_at report i) (node.saved ≡ []) (IsImageUnder last form node.saved))) (λ i.
+    saved_are = in_the_run once (λ replies world. (i : ℕ) → MatchOption (slice_get world.nodes i) (image_at report i ≡ None) (λ node. MatchOption (image_at report i) (node.saved ≡ []) (IsImageUnder last form node.saved))) (λ i.
         elim (at i) [
           | inl none ↦ subst (λ o. MatchOption o (image_at report i ≡ None) (λ node. MatchOption (image_at report i) (node.saved ≡ []) (IsImageUnder last form node.saved))) (sym none.1) (ap (option_and_then image_in) none.0)
           | inr both ↦

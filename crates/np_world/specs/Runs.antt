@@ -16,12 +16,17 @@ use Rattle.np_world.specs.declared.replies.Reply.{Reply}
 abbrev pub setting_over : {T : Type 0} → (T → VersionData) → List T → Form → ScheduleData → Setting
 setting_over model tables form schedule = record { versions = map model tables; form = form; room = schedule.room }
 
--- a property of the replies and the last world of the machine's run over a schedule
-pub record InTheRun (setting : Setting) (schedule : ScheduleData) (P : List Reply → World → Type 0) : Type 0 where
+-- the machine has exactly one run over a schedule
+pub record HasOneRun (setting : Setting) (schedule : ScheduleData) : Type 0 where
   pub replies : List Reply
   pub world : World
-  pub run : IsRun setting (start schedule.starts) schedule.events replies world
-  pub holds : P replies world
+  pub is : IsRun setting (start schedule.starts) schedule.events replies world
+  pub only : (others : List Reply) (other : World) → IsRun setting (start schedule.starts) schedule.events others other → (others ≡ replies) × (other ≡ world)
+
+-- the replies and the last world of the machine's run over a schedule have a property; that there is exactly one such run says `HasOneRun`
+abbrev pub InTheRun : Setting → ScheduleData → (List Reply → World → Type 0) → Type 0
+InTheRun setting schedule P =
+    (replies : List Reply) (world : World) → IsRun setting (start schedule.starts) schedule.events replies world → P replies world
 
 -- the last version
 abbrev pub IsLast : Setting → VersionData → Type 0

@@ -3,7 +3,7 @@ ghost use Rattle.std.specs.Prelude.{◌≡◌, ◌<◌, ◌≤◌, ℕ, length, 
 ghost use Rattle.std.specs.Option.{option_map};
 ghost use Rattle.np_tables.specs.Versions.{VersionData};
 ghost use Rattle.np_world.specs.Reports.{image_at, index_at, message_at, node_at, replies_of};
-ghost use Rattle.np_world.specs.Runs.{setting_over, AreKeysUnder, InTheRun, IsImageUnder, IsLast, IsMessageUnder, IsNodeOf, TellsOf, texts_in};
+ghost use Rattle.np_world.specs.Runs.{setting_over, AreKeysUnder, HasOneRun, InTheRun, IsImageUnder, IsLast, IsMessageUnder, IsNodeOf, TellsOf, texts_in};
 ghost use Rattle.np_world.specs.inside.Mirrors.{rules_of, AreRules};
 ghost use Rattle.np_world.specs.inside.Played.{IsPlayed};
 ghost use Rattle.np_world.specs.inside.Worlds.{Begins, EndsRun};
@@ -118,6 +118,7 @@ pub fn replay<'t, T: NormTable>(
     schedule: &Schedule,
 ) -> Result<Report<'t, T>, Memory>
     requires { schedule.now.versions ≡ length chain.now }
+    ensures run { IfOk result (λ report. HasOneRun (setting_over T.model chain.now form schedule.now) schedule.now) }
     ensures replies { IfOk result (λ report. InTheRun (setting_over T.model chain.now form schedule.now) schedule.now
         (λ replies world. replies_of report ≡ replies)) }
     ensures indices { IfOk result (λ report. InTheRun (setting_over T.model chain.now form schedule.now) schedule.now
@@ -138,6 +139,8 @@ pub fn replay<'t, T: NormTable>(
     ensures alike { IfOk result (λ report. (last : VersionData) → IsLast (setting_over T.model chain.now form schedule.now) last
         → (i : ℕ) → IfSome (node_at report i) (λ node. TellsOf (T.model node.table) last form node.entries)) }
 {
+    // All clauses speak of one run: there is no other.
+    crate::laws::one_run();
     // Along a chain forms stay, and equal forms are equivalence.
     np_chain::laws::stability();
     np_chain::laws::idempotence();

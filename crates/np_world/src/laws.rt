@@ -1,0 +1,8 @@
+//! The law of the machine, over the definitions alone.
+ghost use Rattle.np_world.specs.Laws.{OneRun};
+
+/// From each world on, the machine has at most one run over a list of events: its replies and the
+/// world at its end are determined. Nothing is asked of the versions.
+pub fn one_run()
+    ensures { OneRun }
+{}
