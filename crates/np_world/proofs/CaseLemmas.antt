@@ -5,7 +5,7 @@ use Rattle.std.specs.List.{Contains, list_all}
 use Rattle.std.specs.Prelude.{MatchOption, encode_utf8_all}
 use Rattle.np_forms.specs.Assigned.{IsAssigned}
 use Rattle.np_tables.specs.Versions.{VersionData, is_assigned}
-use Rattle.np_world.specs.World.{Setting, Scene, If, NamesUnassigned, Comes}
+use Rattle.np_world.specs.World.{Setting, Scene, If, NamesUnassigned, Finds, Comes}
 use Rattle.np_world.specs.declared.replies.Reply.{Reply}
 use Rattle.np_world.specs.declared.replies.Reply.TheVariants.{Unassigned}
 
@@ -59,10 +59,13 @@ pub same_as : (reply other told : Reply) (after next left : Scene) → (reply �
 same_as reply other told after next left one two = (both reply other told one.0 two.0, both after next left one.1 two.1)
 
 module _ (setting : Setting) (v : VersionData) (before : Scene) (reply other : Reply) (after next : Scene) where
+  pub one_finding : (s : List ℕ) (K L : Type 0) → (K → L → Same reply other after next) → Finds setting s before reply after K → Finds setting s before other next L → Same reply other after next
+  one_finding s K L kept one two =
+      one_if (Contains before.node.strings s) _ _ _ _ (Same reply other after next) (same_as reply other _ after next before)
+      (λ a b. one_if (setting.room ≤ length before.node.strings) _ _ _ _ (Same reply other after next) (same_as reply other _ after next before) kept a b) one two
+
   pub one_coming : (s : List ℕ) (K L : Type 0) → (K → L → Same reply other after next) → Comes setting v s before reply after K → Comes setting v s before other next L → Same reply other after next
   one_coming s K L kept one two =
       one_if (¬ (IsAssigned v s)) _ _ _ _ (Same reply other after next)
       (λ a b. (one_name v s reply other a.0 b.0, both after next before a.1 b.1))
-      (λ a b. one_if (Contains before.node.strings s) _ _ _ _ (Same reply other after next) (same_as reply other _ after next before)
-      (λ c d. one_if (setting.room ≤ length before.node.strings) _ _ _ _ (Same reply other after next) (same_as reply other _ after next before) kept c d) a b)
-      one two
+      (λ a b. one_finding s K L kept a b) one two

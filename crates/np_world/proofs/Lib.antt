@@ -1,7 +1,13 @@
+pub mod AcceptLemmas
+pub mod AskLemmas
 pub mod CaseLemmas
+pub mod DeliverLemmas
+pub mod ForgeLemmas
 pub mod MachineLemmas
 pub mod ReportLemmas
 pub mod RunLemmas
+pub mod SaveLemmas
+pub mod SentLemmas
 pub mod StepLemmas
 pub mod StringLemmas
 pub mod TurnLemmas

@@ -27,7 +27,8 @@ use Rattle.np_world.specs.declared.report.Report.{Report}
 use Rattle.np_world.specs.inside.Mirrors.{Rules, setting_of, Mirrors, IsMessageOf, AreMessages, HasSaved}
 use Rattle.np_world.specs.inside.Played.{IsPlayed, rules_over}
 use Rattle.np_world.specs.inside.Worlds.{AreMirrored}
-use Rattle.np_world.proofs.TurnLemmas.{equivalent_last, table_here}
+use Rattle.np_world.proofs.AskLemmas.{equivalent_last}
+use Rattle.np_world.proofs.TurnLemmas.{table_here}
 
 -- ---- what stands at a place of mirrored lists
 
@@ -137,7 +138,7 @@ module _ {T : Type 0} (model : T → VersionData) (tables : List T) (form : Form
 
     pub keys_are : (i : ℕ) → IfSome (node_at report i) (λ node. AreKeysUnder last form node.entries)
     keys_are = if_node (λ node. AreKeysUnder last form node.entries) (λ member node m k d lt.
-        let here = table_here model rules member node [] last m in
+        let here = table_here model rules member node m in
         let entry = m.node.entries k d lt in
         let e = get_or member.node.entries k d in
         last_key member.index (model member.node.table) here e.string e.key entry.keepable (subst (λ f. IsKey (model member.node.table) f e.string e.key) m.form entry.key))
@@ -145,7 +146,7 @@ module _ {T : Type 0} (model : T → VersionData) (tables : List T) (form : Form
     pub tells_alike : (i : ℕ) → IfSome (node_at report i) (λ node. TellsOf (model node.table) last form node.entries)
     tells_alike = if_node (λ node. TellsOf (model node.table) last form node.entries) (λ member node m left right one other.
         subst (λ f. IsEquivalent (model member.node.table) (is_compat f) (chars left) (chars right) ↔ IsEquivalent last (is_compat form) (chars left) (chars right)) m.form
-        (equivalent_last model rules member node [] last m is.rules_hold stability forms ends_at left right one other))
+        (equivalent_last model rules member node last m is.rules_hold stability forms ends_at left right one other))
 
     pub sent_are : InTheRun (setting_over model tables form schedule) schedule
         (λ replies world. (i : ℕ) → MatchOption (slice_get world.sent i) (message_at report i ≡ None) (λ string. IsSomeAnd (message_at report i) (IsMessageUnder last form string)))
@@ -162,7 +163,7 @@ module _ {T : Type 0} (model : T → VersionData) (tables : List T) (form : Form
         → MatchOption (option_map (λ (v : Vec ℕ Global). v.items) image) (node.saved ≡ []) (IsImageUnder last form node.saved)
     image_is member node m None has = has
     image_is member node m (Some bytes) has =
-        let here = table_here model rules member node [] last m in
+        let here = table_here model rules member node m in
         record {
           entries = has.entries;
           texts = sym has.strings;

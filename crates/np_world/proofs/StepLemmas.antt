@@ -66,7 +66,7 @@ module _ {T : Type 0} (model : T → VersionData) (rules : Rules T) where
         let at = twin_at members world.nodes k d shows.nodes within in
         let old = get_or members k d in
         let vs = map model rules.tables in
-        let stands = table_here model rules old at.twin [] (model old.node.table) at.mirrors in
+        let stands = table_here model rules old at.twin at.mirrors in
         let version = ap (slice_get vs) (sym at.mirrors.index) ∙ stands in
         let some : length rules.tables - 1 < length vs = omega (arith, some_version vs are.chain.chain, length-map rules.tables model) in
         let last = some_at vs (length rules.tables - 1) some in

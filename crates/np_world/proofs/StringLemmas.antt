@@ -1,13 +1,14 @@
 -- The strings of a node as bytes and as code points.
-use Rattle.std.proofs.Common.{◌≡◌, ◌≢◌, ℕ, zero, suc, ◌<◌, List, [], ◌∷◌, ◌++◌, length, get_or, map, refl, sym, ap, subst, ◌∙◌, arith}
-use Rattle.std.proofs.lemmas.Bool.{both_ways, and_parts}
-use Rattle.std.proofs.lemmas.List.{get_or-map, length-map, map-append, length_push}
+use Rattle.std.proofs.Common.{◌≡◌, ◌≢◌, ℕ, zero, suc, ◌<◌, List, [], ◌∷◌, ◌++◌, length, get_or, map, take, refl, sym, ap, subst, ◌∙◌, arith}
+use Rattle.std.proofs.lemmas.Bool.{both_ways, and_parts, true_from_ne_false}
+use Rattle.std.proofs.lemmas.List.{get_or-map, length-map, map-append, length_push, take_all}
 use Rattle.std.proofs.lemmas.List.Elements.{All-push}
 use Rattle.std.proofs.lemmas.List.Folds.{list_all-append}
 use Rattle.std.proofs.lemmas.List.Quantifiers.{all_pairs_push}
 use Rattle.std.proofs.lemmas.Str.{encodes-chars}
 use Rattle.std.specs.List.{AllPairs, Contains, list_all}
 use Rattle.std.specs.Prelude.{chars, encode_utf8_all, IsUtf8}
+use Rattle.np_code_points.specs.Text.{IsLongestValidPrefix}
 use Rattle.np_forms.specs.Assigned.{IsAssigned, IsFirstUnassigned}
 use Rattle.np_node.specs.Nodes.{State, strings_of, IsKept, IsNode, HasPlace}
 use Rattle.np_node.specs.Strings.{Entry, IsEntry, IsKey}
@@ -22,6 +23,16 @@ byte_length-chars bytes utf8 = ap length (encodes-chars bytes utf8)
 
 same_bytes : (a b : List ℕ) → IsUtf8 a → IsUtf8 b → chars a ≡ chars b → a ≡ b
 same_bytes a b first second h = sym (encodes-chars a first) ∙ ap encode_utf8_all h ∙ encodes-chars b second
+
+-- bytes whose longest valid prefix isn't all of them are no text
+pub not_utf8 : (bytes : List ℕ) (at : ℕ) → IsLongestValidPrefix bytes at → at < length bytes → ¬ (IsUtf8 bytes)
+not_utf8 bytes at longest short utf8 =
+    let whole : IsUtf8 (take (length bytes) bytes) = subst IsUtf8 (sym (take_all (length bytes) bytes (omega arith))) utf8 in
+    absurd (omega (arith, short, longest.longest (length bytes) (omega arith) whole))
+
+-- a text that is not unassigned is assigned
+pub assigned_stable : (v : VersionData) (xs : List ℕ) → ¬ (¬ (IsAssigned v xs)) → IsAssigned v xs
+assigned_stable v xs not = true_from_ne_false _ (λ lacks. not (λ all. both_ways _ lacks all))
 
 -- a text with a first unassigned place is not assigned
 pub not_assigned : (v : VersionData) (xs : List ℕ) (at code : ℕ) → IsFirstUnassigned v xs at code → ¬ (IsAssigned v xs)

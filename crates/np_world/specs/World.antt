@@ -1,15 +1,18 @@
--- The world as a machine: nodes that keep strings, and all strings that were ever sent. It knows no keys. What an event does
+-- The world as a machine: nodes that keep strings, and all strings that were ever sent. It keeps no keys. What an event does
 -- is read from above to below: the first case that fits holds.
-use Rattle.std.specs.Prelude.{◌≡◌, ℕ, ◌+◌, ◌-◌, ◌<◌, ◌≤◌, ◌⊎◌, List, [], ◌∷◌, ◌++◌, length, map, slice_get, slice_set, Some, MatchOption, encode_utf8_all}
+use Rattle.std.specs.Prelude.{◌≡◌, ◌≢◌, ℕ, ◌+◌, ◌-◌, ◌<◌, ◌≤◌, ◌⊎◌, List, [], ◌∷◌, ◌++◌, length, map, slice_get, slice_set, Some, MatchOption, chars, encode_utf8_all, IsUtf8}
 use Rattle.std.specs.List.{Contains}
 use Rattle.np_code_points.specs.declared.forms.Form.{Form}
 use Rattle.np_code_points.specs.Forms.{is_compat}
+use Rattle.np_code_points.specs.Text.{IsLongestValidPrefix}
 use Rattle.np_forms.specs.Assigned.{IsAssigned, IsFirstUnassigned}
 use Rattle.np_forms.specs.Forms.{IsEquivalent}
+use Rattle.np_node.specs.Messages.{Message, IsMessage, IsMessageFault}
+use Rattle.np_node.specs.Strings.{IsKey}
 use Rattle.np_tables.specs.Versions.{VersionData}
 use Rattle.np_world.specs.Events.{Event, Accept, Deliver, Upgrade, Save, Restart, Ask, Forge, node_of}
 use Rattle.np_world.specs.declared.replies.Reply.{Reply}
-use Rattle.np_world.specs.declared.replies.Reply.TheVariants.{Sent, Kept, Known, Full, TooLong, Unassigned, NoMessage, Version, LastVersion, Saved, Restarted, NotKept, Equal, Different}
+use Rattle.np_world.specs.declared.replies.Reply.TheVariants.{Sent, Kept, Known, Full, TooLong, Unassigned, NoMessage, Version, LastVersion, Saved, Restarted, NotKept, Equal, Different, Malformed, OtherForm, NotUtf8, KeyDiffers}
 
 -- ---- what there is
 
@@ -59,12 +62,20 @@ with_string node string = record node { strings = node.strings ++ string ∷ [] 
 abbrev pub NamesUnassigned : VersionData → List ℕ → Reply → Type 0
 NamesUnassigned version string reply = (at : ℕ) × (code : ℕ) × IsFirstUnassigned version string at code × (reply ≡ Unassigned at code)
 
--- a string comes to a node; the last case says what follows where the node keeps it
+-- a string that is assigned comes to a node; the last case says what follows where the node has room for it
+abbrev pub Finds : Setting → List ℕ → Scene → Reply → Scene → Type 0 → Type 0
+Finds setting string before reply after kept =
+    If (Contains before.node.strings string) ((reply ≡ Known) × (after ≡ before))
+    (If (setting.room ≤ length before.node.strings) ((reply ≡ Full) × (after ≡ before)) kept)
+
+-- a string comes to a node
 abbrev pub Comes : Setting → VersionData → List ℕ → Scene → Reply → Scene → Type 0 → Type 0
 Comes setting version string before reply after kept =
-    If (¬ (IsAssigned version string)) (NamesUnassigned version string reply × (after ≡ before))
-    (If (Contains before.node.strings string) ((reply ≡ Known) × (after ≡ before))
-    (If (setting.room ≤ length before.node.strings) ((reply ≡ Full) × (after ≡ before)) kept))
+    If (¬ (IsAssigned version string)) (NamesUnassigned version string reply × (after ≡ before)) (Finds setting string before reply after kept)
+
+-- the node keeps the string, and sends nothing
+abbrev pub Keeps : List ℕ → Scene → Reply → Scene → Type 0
+Keeps string before reply after = (reply ≡ Kept) × (after ≡ record before { node = with_string before.node string })
 
 -- a node is given a string: it keeps and sends it
 abbrev pub Accepts : Setting → VersionData → List ℕ → Scene → Reply → Scene → Type 0
@@ -77,7 +88,30 @@ Accepts setting version string before reply after =
 abbrev pub Delivers : Setting → VersionData → ℕ → Scene → Reply → Scene → Type 0
 Delivers setting version message before reply after =
     MatchOption (slice_get before.sent message) ((reply ≡ NoMessage) × (after ≡ before))
-    (λ string. Comes setting version string before reply after ((reply ≡ Kept) × (after ≡ record before { node = with_string before.node string })))
+    (λ string. Comes setting version string before reply after (Keeps string before reply after))
+
+-- the reply names the place in bytes up to which they are UTF-8
+abbrev pub NamesNotUtf8 : List ℕ → Reply → Type 0
+NamesNotUtf8 bytes reply = (at : ℕ) × IsLongestValidPrefix bytes at × (reply ≡ NotUtf8 at)
+
+-- a string and a key, as bytes, reach a node in a message of its form: the string comes to it, but it keeps none whose key
+-- isn't that of the string under its version
+abbrev pub Reaches : Setting → VersionData → List ℕ → List ℕ → Scene → Reply → Scene → Type 0
+Reaches setting version string key before reply after =
+    If (4096 < length string) ((reply ≡ TooLong) × (after ≡ before))
+    (If (¬ (IsUtf8 string)) (NamesNotUtf8 string reply × (after ≡ before))
+    (If (¬ (IsAssigned version (chars string))) (NamesUnassigned version (chars string) reply × (after ≡ before))
+    (If (¬ (IsKey version setting.form string key)) ((reply ≡ KeyDiffers) × (after ≡ before))
+    (Finds setting (chars string) before reply after (Keeps (chars string) before reply after)))))
+
+-- bytes that need not have been sent reach a node: they are no message, and the reply names their fault place, or they are a
+-- message
+abbrev pub Forges : Setting → VersionData → List ℕ → Scene → Reply → Scene → Type 0
+Forges setting version bytes before reply after =
+    ((at : ℕ) × IsMessageFault bytes at × (reply ≡ Malformed at) × (after ≡ before))
+    ⊎ ((message : Message) × IsMessage bytes message
+    × If (message.form ≢ setting.form) ((reply ≡ OtherForm) × (after ≡ before))
+    (Reaches setting version message.entry.string message.entry.key before reply after))
 
 -- a node goes on to the next version, and keeps what it keeps
 abbrev pub Upgrades : Setting → Scene → Reply → Scene → Type 0
@@ -109,7 +143,7 @@ Does setting version last (Upgrade node) before reply after = Upgrades setting b
 Does setting version last (Save node) before reply after = Saves before reply after
 Does setting version last (Restart node) before reply after = Restarts before reply after
 Does setting version last (Ask node left right) before reply after = Asks setting last left right before reply after
-Does setting version last (Forge node bytes) before reply after = ⊥
+Does setting version last (Forge node bytes) before reply after = Forges setting version bytes before reply after
 
 -- ---- one event after another
 

@@ -5,4 +5,7 @@ ghost use Rattle.np_world.specs.Laws.{OneRun};
 /// world at its end are determined. Nothing is asked of the versions.
 pub fn one_run()
     ensures { OneRun }
-{}
+{
+    // Bytes spell one message at most, and have one fault place at most.
+    np_node::laws::messages();
+}

@@ -1,13 +1,30 @@
 //! What each event does to a node of a replay.
 ghost use Rattle.std.specs.Prelude.{◌≡◌, ◌≤◌, chars, IfOk};
-ghost use Rattle.np_world.specs.World.{Accepts, Asks, Delivers, Restarts, Saves, Upgrades};
-ghost use Rattle.np_world.specs.inside.Mirrors.{rules_of, setting_of, AreSent, IsReady, Turns};
+ghost use Rattle.np_world.specs.World.{Accepts, Asks, Delivers, Forges, Restarts, Saves, Upgrades};
+ghost use Rattle.np_world.specs.inside.Mirrors.{rules_of, setting_of, IsReady, Turns};
+ghost use Rattle.np_world.specs.inside.Told.{refusal_of};
 
 use crate::members::{Common, Member};
 use crate::replies::Reply;
 use np_code_points::Memory;
 use np_node::{Accepted, Node, NodeFault, Taken};
 use np_tables::NormTable;
+
+/// The reply that tells a refusal; want of memory is none.
+fn refusal(fault: NodeFault) -> Result<Reply, Memory>
+    ensures { result ≡ refusal_of fault }
+{
+    match fault {
+        NodeFault::Malformed { at } => Ok(Reply::Malformed { at }),
+        NodeFault::OtherForm => Ok(Reply::OtherForm),
+        NodeFault::TooLong => Ok(Reply::TooLong),
+        NodeFault::NotUtf8 { at } => Ok(Reply::NotUtf8 { at }),
+        NodeFault::Unassigned { at, code } => Ok(Reply::Unassigned { at, code }),
+        NodeFault::KeyDiffers => Ok(Reply::KeyDiffers),
+        NodeFault::Full => Ok(Reply::Full),
+        NodeFault::Memory => Err(Memory),
+    }
+}
 
 /// The node is given a string, and what it tells is sent.
 pub(crate) fn accept<T: NormTable>(
@@ -27,29 +44,17 @@ pub(crate) fn accept<T: NormTable>(
             Ok(Reply::Sent { message: number })
         }
         Ok(Accepted::Known) => Ok(Reply::Known),
-        Err(NodeFault::TooLong) => Ok(Reply::TooLong),
-        Err(NodeFault::Unassigned { at, code }) => Ok(Reply::Unassigned { at, code }),
-        Err(NodeFault::Full) => Ok(Reply::Full),
-        Err(NodeFault::Memory) => Err(Memory),
-        // A text is UTF-8, and only a message can be of another form or have another key.
-        Err(
-            NodeFault::NotUtf8 { .. }
-            | NodeFault::Malformed { .. }
-            | NodeFault::OtherForm
-            | NodeFault::KeyDiffers,
-        ) => unreachable!(),
+        Err(fault) => refusal(fault),
     }
 }
 
-/// The message of this number reaches the node.
+/// The message of this number reaches the node, which trusts what was sent no more than other bytes.
 pub(crate) fn deliver<T: NormTable>(
     common: &Common<'_, '_, T>,
     member: &mut Member<'_, T>,
     sent: &Vec<Vec<u8>>,
     message: usize,
 ) -> Result<Reply, Memory>
-    requires ready { IsReady T.model (rules_of common.now) member.old }
-    requires sent { AreSent (setting_of T.model (rules_of common.now)) sent.now.items }
     ensures { IfOk result (λ reply. Turns T.model (rules_of common.now)
         (λ version last. Delivers (setting_of T.model (rules_of common.now)) version message)
         member.old sent.now.items reply member.new sent.now.items) }
@@ -57,21 +62,28 @@ pub(crate) fn deliver<T: NormTable>(
     if message >= sent.len() {
         return Ok(Reply::NoMessage);
     }
-    let bytes = &sent[message];
-    // What one node sent, another never refuses for its key.
+    // What one node sent, another never refuses for its shape or its key.
     np_node::laws::exchange();
     np_node::laws::messages();
-    match member.node.take(bytes.as_slice()) {
+    forge(common, member, sent[message].as_slice())
+}
+
+/// Bytes reach the node as a message, whoever made them.
+pub(crate) fn forge<T: NormTable>(
+    common: &Common<'_, '_, T>,
+    member: &mut Member<'_, T>,
+    bytes: &[u8],
+) -> Result<Reply, Memory>
+    ensures { (messages : _) → IfOk result (λ reply. Turns T.model (rules_of common.now)
+        (λ version last. Forges (setting_of T.model (rules_of common.now)) version bytes.now)
+        member.old messages reply member.new messages) }
+{
+    // Bytes spell one message at most.
+    np_node::laws::messages();
+    match member.node.take(bytes) {
         Ok(Taken::Kept) => Ok(Reply::Kept),
         Ok(Taken::Known) => Ok(Reply::Known),
-        Err(NodeFault::Unassigned { at, code }) => Ok(Reply::Unassigned { at, code }),
-        Err(NodeFault::Full) => Ok(Reply::Full),
-        Err(NodeFault::Memory) => Err(Memory),
-        Err(NodeFault::TooLong) => unreachable!(),
-        Err(NodeFault::NotUtf8 { at: _at }) => unreachable!(),
-        Err(NodeFault::Malformed { at: _at }) => unreachable!(),
-        Err(NodeFault::OtherForm) => unreachable!(),
-        Err(NodeFault::KeyDiffers) => unreachable!(),
+        Err(fault) => refusal(fault),
     }
 }
 

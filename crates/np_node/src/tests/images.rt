@@ -22,6 +22,9 @@ const TWO_KEYS: &[u8] = b"NPS1C\0\0\0\x02\0\0\0\x01a\0\0\0\x01a\0\0\0\x01a\0\0\0
 /// The one entry 16D67, which the first fixture lacks.
 const LATER: &[u8] = b"NPS1C\0\0\0\x01\0\0\0\x04\xf0\x96\xb5\xa7\0\0\0\x04\xf0\x96\xb5\xa7";
 
+/// The one entry FFFE, a noncharacter, beside itself as key.
+const NONE: &[u8] = b"NPS1C\0\0\0\x01\0\0\0\x03\xef\xbf\xbe\0\0\0\x03\xef\xbf\xbe";
+
 fn made(alloc: Global, table: &RowTable) -> Result<(), Fail> {
     let mut node = Node::new(alloc, table, Form::Nfc, 4);
     want(
@@ -131,7 +134,15 @@ fn refused(alloc: Global, table: &RowTable) -> Result<(), Fail> {
             code: '\u{16D67}',
         },
     };
-    wants_fault(alloc, table, 4, LATER, lacks, "a later letter")
+    wants_fault(alloc, table, 4, LATER, lacks, "a later letter")?;
+    let none = ImageFault {
+        entry: Some(0),
+        fault: NodeFault::Unassigned {
+            at: 0,
+            code: '\u{FFFE}',
+        },
+    };
+    wants_fault(alloc, table, 4, NONE, none, "a noncharacter")
 }
 
 fn images(alloc: Global, table: &RowTable) -> Result<(), Fail> {

@@ -98,7 +98,3 @@ pub record IsReady {T : Type 0} (model : T → VersionData) (rules : Rules T) (m
   pub rules_hold : AreRules model rules
   pub twin : MachineNode
   pub mirrors : Mirrors model rules member twin
-
--- the messages are those of some strings
-abbrev pub AreSent : Setting → List (Vec ℕ Global) → Type 0
-AreSent setting told = (strings : List (List ℕ)) × AreMessages setting told strings

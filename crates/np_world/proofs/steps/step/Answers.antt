@@ -1,15 +1,10 @@
 use Rattle.std.proofs.Common.{ap, sym, ◌∙◌, arith}
 use Rattle.std.specs.Prelude.{chars, string_bytes}
-use Rattle.np_world.specs.Events.{Accept, Deliver, Upgrade, Save, Restart, Ask, node_of}
+use Rattle.np_world.specs.Events.{Accept, Deliver, Upgrade, Save, Restart, Ask, Forge, node_of}
 use Rattle.np_world.specs.inside.Mirrors.{rules_of}
 use Rattle.np_world.specs.inside.Rust.{event_of}
 use Rattle.np_world.proofs.StepLemmas.{if_ok, ready_at, stepped, unchanged}
 use Rattle.np_world.proofs.steps.step.Goals as goal
-
-pub deliver-requires-clause-ready : goal.deliver-requires-clause-ready
-deliver-requires-clause-ready g c =
-    let within = ap node_of (ap event_of c.in-Deliver.is) in
-    ready_at g.T.NormTable.model (rules_of c.args.common.now) c.args.members.now c.args.sent.now.items c.in-Deliver.node c.index-members-node-in-Deliver.result c.requires.shown (omega (arith, c.requires.named, within))
 
 pub upgrade-requires : goal.upgrade-requires
 upgrade-requires g c =
@@ -65,3 +60,12 @@ returns-in-Ask g c =
     unchanged model rules c.args.members.now c.args.sent.now.items c.in-Ask.node c.index-members-node-in-Ask.result (event_of c.args.event.now) c.ask.result
     (stepped model rules c.args.members.now c.args.sent.now.items c.args.sent.now.items (Ask c.in-Ask.node (chars c.as_str-in-Ask.result.now) (chars c.as_str-in-Ask-2.result.now)) (event_of c.args.event.now) same c.requires.named c.index-members-node-in-Ask.result
     c.ask.result _ (c.ask.ensures c.args.sent.now.items))
+
+pub returns-in-Forge : goal.returns-in-Forge
+returns-in-Forge g c =
+    let model = g.T.NormTable.model in
+    let rules = rules_of c.args.common.now in
+    let told = c.args.sent.now.items in
+    let same = ap event_of c.in-Forge.is ∙ ap (Forge c.in-Forge.node) (sym c.as_slice.ensures.value) in
+    if_ok _ _ _ (λ reply turns. stepped model rules c.args.members.now told told (Forge c.in-Forge.node c.as_slice.result.now) (event_of c.args.event.now) same c.requires.named c.index-members-node-in-Forge.result reply c.forge.new.member turns)
+    (c.forge.ensures told)
