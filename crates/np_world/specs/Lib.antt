@@ -1,4 +1,5 @@
 pub mod Events
+pub mod ReportTexts
 pub mod Reports
 pub mod Runs
 pub mod ScheduleFiles
