@@ -1,4 +1,5 @@
 pub mod ReportLemmas
+pub mod ReportTextLemmas
 pub mod RunLemmas
 pub mod StepLemmas
 pub mod StringLemmas

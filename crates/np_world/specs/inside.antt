@@ -1,4 +1,5 @@
 pub mod Mirrors
 pub mod Played
+pub mod ReportWriting
 pub mod Rust
 pub mod Worlds
