@@ -183,9 +183,7 @@ def usage_cases():
     wrong = ["--help", "-h", "help", "--version", "help key", "key --help", "key", "nothing", "--",
              "key --form nfx D E", "key --form NFC D E", "key D E", "key --form nfc D",
              "key --form nfc D E F", "key --form nfc --form nfc D E", "audit A B C",
-             "audit A B C D E", "audit A B --form nfc C D", "compare --form nfc D", "normalize --form nfc", "replay --form nfc S",
-             # until the command comes
-             "replay --form nfc S D E"]
+             "audit A B C D E", "audit A B --form nfc C D", "compare --form nfc D", "normalize --form nfc"]
     for words in wrong:
         yield Case(words.split(), err=USAGE, status=WRONG_WORDS)
 

@@ -3,9 +3,9 @@
 
 Takes the files of the folder, or of Debian's package unicode-data. Worked examples of each command;
 all of NormalizationTest.txt; random texts against two implementations that no one here wrote; the
-count of records and of assigned code points; a break of each kind; and versions of several ages
-against each other. What can't be done here is skipped, with the reason. Ends in a line 'N passed, M
-failed'.
+count of records and of assigned code points; a break of each kind; versions of several ages against
+each other; and long histories of nodes over these versions against a model (histories.py). What can't
+be done here is skipped, with the reason. Ends in a line 'N passed, M failed'.
 
 Strings go through the program joined by LF, a starter that composes with nothing, so one run serves
 a form. Nothing here is drawn by chance: the seed is fixed.
@@ -25,6 +25,7 @@ sys.dont_write_bytecode = True
 
 import ucd
 from harness import FORMS, Tally, built_program, run
+from histories import check_histories
 
 # The column, from 0, that the form of each of the five columns is.
 WANTED = {
@@ -353,6 +354,7 @@ def main():
         check_compared_pairs(tally, program, published)
         check_breaks(tally, program, published, Path(folder))
         check_ages(tally, program, published, Path(folder))
+        check_histories(tally, program, published, AGES, Path(folder))
     tally.finish()
 
 

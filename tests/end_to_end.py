@@ -1,9 +1,9 @@
 #!/usr/bin/env python3
 """Runs the built program end to end: tests/end_to_end.py PROGRAM [LAUNCHER].
 
-The program runs in a folder of its own that holds copies of the fixtures and the files of
-versions.py. Each case of cases.py is one run, judged by its status, standard output and standard
-error. Then come devices that fail, closed streams (streams.py), bounds on memory (limits.py), the
+The program runs in a folder of its own that holds copies of the fixtures, the files of versions.py and
+the schedules of replays.py. Each case of cases.py and replays.py is one run, judged by its status,
+standard output and standard error. Then come devices that fail, closed streams (streams.py), bounds on memory (limits.py), the
 launcher (launching.py too), the README's commands, and whether every file is as it was. Ends in a line
 'N passed, M failed'.
 """
@@ -24,6 +24,7 @@ from cases import DEVICE, USAGE, WRONG_WORDS, all_cases, text
 from harness import ROOT, Tally, built_program, run, shown
 from launching import check_building
 from limits import check_memory, check_usage
+from replays import replay, replay_cases, schedules
 from streams import check_closed, check_words
 from versions import V1, write_all
 
@@ -43,6 +44,7 @@ def device_runs():
     for command in ("key", "normalize", "compare"):
         yield [command, "--form", "nfc", *V1], b"a\na" if command == "compare" else b"a"
     yield ["audit", *V1, *V1], b""
+    yield replay("no-events.schedule", *V1), b""
 
 
 def check_devices(tally, program, folder):
@@ -54,7 +56,7 @@ def check_devices(tally, program, folder):
         status, out, _ = run(program, ["nothing"], b"", folder, stderr=full)
         tally.same("usage into a full device", (status, out), (WRONG_WORDS, b""))
     for words, _ in device_runs():
-        if words[0] != "audit":
+        if words[0] not in ("audit", "replay"):
             got = run_on_folder(program, words, folder)
             tally.same(f"{words[0]} from a folder", got, (DEVICE, b"", b"input: ReadFailed\n"))
 
@@ -110,8 +112,10 @@ def main():
         folder = Path(name) / "files"
         shutil.copytree(FIXTURES, folder)
         write_all(folder)
+        for schedule, text_of_it in schedules().items():
+            (folder / schedule).write_bytes(text_of_it.encode())
         before = state_of(folder)
-        for case in all_cases():
+        for case in (*all_cases(), *replay_cases()):
             check_case(tally, program, folder, case)
         check_devices(tally, program, folder)
         check_usage(tally, program, folder)

@@ -4,18 +4,23 @@
 Those texts are constants of the crates, since a test can't read the repository's files. A constant
 is paired with a file by its name: V1_DATA with v1/UnicodeData.txt, V1_EXCLUSIONS with
 v1/CompositionExclusions.txt, EXCHANGE_SCHEDULE and EXCHANGE_REPORT with scripts/exchange.schedule
-and scripts/exchange.report. Each has to have the other. The usage text of docs/FORMATS.md is compared
-with that of the stored run. Ends in a line 'N passed, M failed'.
+and scripts/exchange.report. Each has to have the other. The reports of the scripts are compared with those
+of history_model.py, and the usage text of docs/FORMATS.md with that of the stored run. Ends in a line
+'N passed, M failed'.
 """
 
 import re
 import sys
+import unicodedata
 from pathlib import Path
 
 # Nothing is written into the tree.
 sys.dont_write_bytecode = True
 
+import history_model
+import ucd
 from harness import Tally
+from replays import SCRIPTS
 
 ROOT = Path(__file__).resolve().parent.parent
 FILES = {
@@ -59,8 +64,25 @@ def files(wanted):
     return {name: text for name, text in found.items() if has_scripts or not name.startswith("scripts/")}
 
 
+# Keys that are younger than some Python.
+YOUNG_KEYS = {history_model.string_of(["16D63", "16D67", "16D67"]): history_model.string_of(["16D6A"])}
+
+
+def check_model(tally):
+    """The model of histories gives each script's report."""
+    folder = ROOT / "fixtures"
+    for name, files, form in SCRIPTS:
+        versions = [{code for row in ucd.rows((folder / data).read_text(encoding="utf-8")) for code in row.codes()}
+                    for data in files[::2]]
+        schedule = (folder / "scripts" / f"{name}.schedule").read_text(encoding="utf-8")
+        got = history_model.report_of(schedule, versions, form,
+                                      lambda string: YOUNG_KEYS.get(string) or unicodedata.normalize(form.upper(), string))
+        tally.same(f"the model's report of {name}", got, (folder / "scripts" / f"{name}.report").read_text(encoding="utf-8"))
+
+
 def main():
     tally = Tally()
+    check_model(tally)
     wanted = constants()
     got = files(wanted)
     for name in sorted(wanted.keys() | got.keys()):

@@ -7,8 +7,8 @@ memory and no output; or the C library can't start it at all. Both of the first 
 import resource
 
 from cases import DEVICE, text
-from harness import run, shown
-from versions import V1
+from harness import ROOT, run, shown
+from versions import V1, V2
 
 MEMORY = 6
 WANT = (MEMORY, b"", b"out of memory\n")
@@ -28,6 +28,8 @@ def bounded_runs():
     yield ["normalize", "--form", "nfd", *V1], given, (0, text("0061 0323 0302"), b"")
     yield ["compare", "--form", "nfc", *V1], given + b"\n" + given, (0, b"equal\n", b"")
     yield ["audit", *V1, *V1], b"", (0, b"extends\n", b"")
+    report = (ROOT / "fixtures" / "scripts" / "restart.report").read_bytes()
+    yield ["replay", "--form", "nfc", "scripts/restart.schedule", *V1, *V2], b"", (0, report, b"")
     yield (["key", "--form", "nfc", "d" * LONG, "e" * LONG], b"",
            (DEVICE, b"", b"cannot open " + b"d" * LONG + b"\n"))
 

@@ -17,6 +17,7 @@ RUNS = [
     (["normalize", "--form", "nfd", *V1], text("1EAD"), text("0061 0323 0302"), 0),
     (["compare", "--form", "nfc", *V1], b"A\na\n", b"different\n", DIFFERENT),
     (["audit", *V1, *V1], b"", b"extends\n", 0),
+    (["replay", "--form", "nfc", "no-events.schedule", *V1], b"", b"node 0 version 0 entries 0\n", 0),
     (["key", "--form", "nfc", "nothing", V1[1]], b"a", b"", DEVICE),
 ]
 

@@ -5,6 +5,7 @@ pub mod DeliverLemmas
 pub mod ForgeLemmas
 pub mod MachineLemmas
 pub mod ReportLemmas
+pub mod ReportTextLemmas
 pub mod RunLemmas
 pub mod SaveLemmas
 pub mod SentLemmas

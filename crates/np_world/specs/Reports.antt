@@ -1,7 +1,8 @@
 -- What contracts see of a report.
-use Rattle.std.specs.Prelude.{ℕ, List, slice_get, Option}
+use Rattle.std.specs.Prelude.{ℕ, List, map, slice_get, Option}
 use Rattle.std.specs.Option.{option_map, option_and_then}
 use Rattle.np_node.specs.Nodes.{NodeState}
+use Rattle.np_node.specs.Strings.{Entry}
 use Rattle.np_world.specs.declared.members.Member.{Member}
 use Rattle.np_world.specs.declared.replies.Reply.{Reply}
 use Rattle.np_world.specs.declared.report.Report.{Report}
@@ -26,3 +27,15 @@ image_at report k = option_and_then image_in (slice_get report.members.items k)
 -- the message of a number
 abbrev pub message_at : {T : Type 0} → Report T → ℕ → Option (List ℕ)
 message_at report k = option_map (λ v. v.items) (slice_get report.sent.items k)
+
+-- a node in short: the place of its version in the chain, and what it keeps
+pub record NodeReport : Type 0 where
+  pub index : ℕ
+  pub entries : List Entry
+
+abbrev pub node_report : {T : Type 0} → Member T → NodeReport
+node_report member = record { index = member.index; entries = member.node.entries }
+
+-- the nodes in the order of their numbers
+abbrev pub nodes_of : {T : Type 0} → Report T → List NodeReport
+nodes_of report = map node_report report.members.items

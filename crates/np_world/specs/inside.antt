@@ -1,5 +1,6 @@
 pub mod Mirrors
 pub mod Played
+pub mod ReportWriting
 pub mod Rust
 pub mod Told
 pub mod Worlds

@@ -1,0 +1,165 @@
+//! The text of a report.
+ghost use Rattle.std.specs.Prelude.{◌≡◌, ◌++◌, chars, flat_map, map, IfOk, string_bytes};
+ghost use Rattle.std.specs.List.{enumerate_from};
+ghost use Rattle.np_code_points.specs.Codes.{code_digits};
+ghost use Rattle.np_world.specs.Reports.{node_report};
+ghost use Rattle.np_world.specs.inside.ReportWriting.{gap};
+ghost use Rattle.np_world.specs.declared.replies.Reply.TheVariants.{Unassigned};
+ghost use Rattle.np_world.specs.ReportTexts.{codes_text, entry_line, node_lines, reply_line, reply_text, text_of_report};
+
+use crate::members::Member;
+use crate::replies::Reply;
+use crate::report::Report;
+use np_code_points::Memory;
+use np_code_points::codes::write_code;
+use np_node::Node;
+use np_tables::NormTable;
+use std::alloc::Global;
+
+/// Adds a code point in hex digits, behind a space where it isn't the first.
+fn write_next(out: &mut String, is_first: bool, code: char) -> Result<(), Memory>
+    ensures { IfOk result (λ _. string_bytes out.new ≡ string_bytes out.old ++ (gap is_first ++ code_digits code)) }
+{
+    if !is_first {
+        out.push_str(" ")?;
+    }
+    write_code(out, u32::from(code))
+}
+
+/// Adds the code points of a text in hex digits with a space between; a dash where there are none.
+fn write_codes(out: &mut String, text: &str) -> Result<(), Memory>
+    ensures { IfOk result (λ _. string_bytes out.new ≡ string_bytes out.old ++ codes_text (chars text.now)) }
+{
+    let mut is_first = true;
+    for code in text.chars() {
+        write_next(out, is_first, code)?;
+        is_first = false;
+    }
+    if is_first {
+        out.push_str("-")?;
+    }
+    Ok(())
+}
+
+/// Adds a reply that names a code point.
+fn write_unassigned(out: &mut String, at: usize, code: char) -> Result<(), Memory>
+    ensures { IfOk result (λ _. string_bytes out.new ≡ string_bytes out.old ++ reply_text (Unassigned at code)) }
+{
+    out.push_str("unassigned ")?;
+    write_code(out, u32::from(code))?;
+    write!(out, " at byte {at}")?;
+    Ok(())
+}
+
+/// Adds a reply.
+fn write_reply(out: &mut String, reply: &Reply) -> Result<(), Memory>
+    ensures { IfOk result (λ _. string_bytes out.new ≡ string_bytes out.old ++ reply_text reply.now) }
+{
+    match *reply {
+        Reply::Sent { message } => write!(out, "kept {message}")?,
+        Reply::Kept => out.push_str("kept")?,
+        Reply::Known => out.push_str("known")?,
+        Reply::Full => out.push_str("full")?,
+        Reply::TooLong => out.push_str("too long")?,
+        Reply::Unassigned { at, code } => write_unassigned(out, at, code)?,
+        Reply::NoMessage => out.push_str("no message")?,
+        Reply::Version { index } => write!(out, "version {index}")?,
+        Reply::LastVersion => out.push_str("last version")?,
+        Reply::Saved => out.push_str("saved")?,
+        Reply::Restarted => out.push_str("restarted")?,
+        Reply::NotKept => out.push_str("not kept")?,
+        Reply::Equal => out.push_str("equal")?,
+        Reply::Different => out.push_str("different")?,
+        Reply::Malformed { at } => write!(out, "malformed at {at}")?,
+        Reply::OtherForm => out.push_str("other form")?,
+        Reply::NotUtf8 { at } => write!(out, "not UTF-8 at byte {at}")?,
+        Reply::KeyDiffers => out.push_str("key differs")?,
+    }
+    Ok(())
+}
+
+/// Adds the line of an event.
+fn write_reply_line(out: &mut String, event: usize, reply: &Reply) -> Result<(), Memory>
+    ensures { IfOk result (λ _. string_bytes out.new ≡ string_bytes out.old ++ reply_line event reply.now) }
+{
+    write!(out, "{event} ")?;
+    write_reply(out, reply)?;
+    out.push_str("\n")?;
+    Ok(())
+}
+
+/// Adds the line of a string that is kept.
+fn write_entry(out: &mut String, string: &str, key: &str) -> Result<(), Memory>
+    ensures { IfOk result (λ _. string_bytes out.new ≡ string_bytes out.old ++ entry_line (record { string = string.now; key = key.now })) }
+{
+    out.push_str("entry ")?;
+    write_codes(out, string)?;
+    out.push_str(" / ")?;
+    write_codes(out, key)?;
+    out.push_str("\n")?;
+    Ok(())
+}
+
+/// Adds a line for each string that a node keeps.
+fn write_entries<T: NormTable>(out: &mut String, node: &Node<'_, T>) -> Result<(), Memory>
+    ensures { IfOk result (λ _. string_bytes out.new ≡ string_bytes out.old ++ flat_map entry_line node.now.entries) }
+{
+    for number in 0..node.len() {
+        if let Some((string, key)) = node.entry(number) {
+            write_entry(out, string, key)?;
+        }
+    }
+    Ok(())
+}
+
+/// Adds the lines of a node.
+fn write_node<T: NormTable>(
+    out: &mut String,
+    number: usize,
+    member: &Member<'_, T>,
+) -> Result<(), Memory>
+    ensures { IfOk result (λ _. string_bytes out.new ≡ string_bytes out.old ++ node_lines number (node_report member.now)) }
+{
+    let index = member.index;
+    let entries = member.node.len();
+    write!(out, "node {number} version {index} entries {entries}\n")?;
+    write_entries(out, &member.node)
+}
+
+/// Adds the lines of the events.
+fn write_replies(out: &mut String, replies: &[Reply]) -> Result<(), Memory>
+    ensures { IfOk result (λ _. string_bytes out.new ≡ string_bytes out.old ++ flat_map (λ p. reply_line p.0 p.1) (enumerate_from 0 replies.now)) }
+{
+    for event in 0..replies.len() {
+        write_reply_line(out, event, &replies[event])?;
+    }
+    Ok(())
+}
+
+/// Adds the lines of the nodes.
+fn write_nodes<T: NormTable>(out: &mut String, members: &[Member<'_, T>]) -> Result<(), Memory>
+    ensures { IfOk result (λ _. string_bytes out.new ≡ string_bytes out.old ++ flat_map (λ p. node_lines p.0 p.1) (enumerate_from 0 (map node_report members.now))) }
+{
+    for number in 0..members.len() {
+        write_node(out, number, &members[number])?;
+    }
+    Ok(())
+}
+
+/// The text of a report, in lines that end with LF: for each event its number, from 0, and the reply;
+/// then for each node in order `node I version V entries N`, with the node's number, the place of its
+/// version in the chain and how many strings it keeps, and for each of these strings a line
+/// `entry STRING / KEY`. Code points are written in at least four upper-case hex digits with one
+/// space between, and a dash stands where there are none. The time is linear in the text's length.
+///
+/// # Errors
+///
+/// `Memory` where memory ran out.
+pub fn report_text<T: NormTable>(alloc: Global, report: &Report<'_, T>) -> Result<String, Memory>
+    ensures text { IfOk result (λ text. string_bytes text ≡ text_of_report report.now) }
+{
+    let mut text = String::new(alloc);
+    write_replies(&mut text, report.replies.as_slice())?;
+    write_nodes(&mut text, report.members.as_slice())?;
+    Ok(text)
+}
