@@ -1,9 +1,6 @@
 pub mod Events
-<<<<<<< HEAD
 pub mod Laws
-=======
 pub mod ReportTexts
->>>>>>> report
 pub mod Reports
 pub mod Runs
 pub mod ScheduleFiles
