@@ -1,3 +1,4 @@
+pub mod LineReading
 pub mod Mirrors
 pub mod Played
 pub mod ReportWriting

@@ -2,6 +2,8 @@
 ghost use Rattle.std.specs.Prelude.{◌≡◌, IfErr, IfOk};
 ghost use Rattle.np_world.specs.ScheduleFiles.{NamesLine, SaysSchedule};
 
+mod lines;
+
 use crate::schedules::Schedule;
 use std::alloc::Global;
 use thiserror::Error;

@@ -1,0 +1,13 @@
+-- What was read of a line: what it says, or why it says nothing.
+use Rattle.std.specs.Prelude.{ℕ}
+use Rattle.np_world.specs.declared.reading.lines.LineFault.{LineFault}
+use Rattle.np_world.specs.declared.reading.lines.LineFault.TheVariants.{Unfit, Memory}
+
+-- it is so of none
+abbrev pub IsNoneOf : {A : Type 0} → (A → Type 0) → Type 0
+IsNoneOf {A} P = (a : A) → P a → ⊥
+
+-- an unfit line says none; want of memory says nothing of the line
+abbrev pub Refuses : {A : Type 0} → (A → Type 0) → LineFault → Type 0
+Refuses P Unfit = IsNoneOf P
+Refuses P Memory = Unit {0}
