@@ -66,23 +66,24 @@ below_five n i h le = let top = pow-le-pow_right {n = 16} (lit< tt) {i = i} {j =
 pub one_more_digit : (n d i : ℕ) → n < 16 ^ i → d < 16 → n * 16 + d < 16 ^ (i + 1)
 one_more_digit n d i h hd = rw (add-one, pow-suc 16 i) (omega arith)
 
--- the byte x at a place is no digit
-pub no_digit_at : (bs : List ℕ) (i x : ℕ) → i < length bs → x ≡ get_or bs i 0 → (digit_value x < 16 → ⊥) → code_value bs ≡ None
-no_digit_at bs i x lt e h =
-    code_value-no_digit bs (list_all_at is_hex_digit bs i 0 lt
-    (ap is_hex_digit (sym e) ∙ false_from_ne_true (is_hex_digit x) (λ t. h (ltb-true (digit_value x) 16 t))))
+-- the byte at a place is no digit
+pub no_digit_at : (bs : List ℕ) (i : ℕ) → i < length bs → (is_hex_digit (get_or bs i 0) ≡ true → ⊥) → code_value bs ≡ None
+no_digit_at bs i lt h =
+    code_value-no_digit bs (list_all_at is_hex_digit bs i 0 lt (false_from_ne_true (is_hex_digit (get_or bs i 0)) h))
 
 -- it is one
-pub digit_at : (bs : List ℕ) (i x : ℕ) → i < length bs → x ≡ get_or bs i 0 → list_all is_hex_digit (take i bs) ≡ true
-    → digit_value x < 16 → list_all is_hex_digit (take (i + 1) bs) ≡ true
-digit_at bs i x lt e before h =
-    list_all_more is_hex_digit bs i 0 lt ∙ and_from _ _ before (ap is_hex_digit (sym e) ∙ lt-ltb (digit_value x) 16 h)
+pub digit_at : (bs : List ℕ) (i : ℕ) → i < length bs → list_all is_hex_digit (take i bs) ≡ true
+    → is_hex_digit (get_or bs i 0) ≡ true → list_all is_hex_digit (take (i + 1) bs) ≡ true
+digit_at bs i lt before h = list_all_more is_hex_digit bs i 0 lt ∙ and_from _ _ before h
 
-pub value_at : (bs : List ℕ) (i x d n : ℕ) → i < length bs → x ≡ get_or bs i 0 → n ≡ digits_value 16 (take i bs)
-    → d ≡ digit_value x → n * 16 + d ≡ digits_value 16 (take (i + 1) bs)
-value_at bs i x d n lt e before h =
+pub digit_below : (bs : List ℕ) (i d : ℕ) → is_hex_digit (get_or bs i 0) ≡ true → d ≡ digit_value (get_or bs i 0) → d < 16
+digit_below bs i d h e = let below = ltb-true (digit_value (get_or bs i 0)) 16 h in omega (arith, e)
+
+pub value_at : (bs : List ℕ) (i d n : ℕ) → i < length bs → n ≡ digits_value 16 (take i bs)
+    → d ≡ digit_value (get_or bs i 0) → n * 16 + d ≡ digits_value 16 (take (i + 1) bs)
+value_at bs i d n lt before h =
     ap (λ (k : ℕ). k * 16 + d) before
-    ∙ ap (λ (k : ℕ). digits_value 16 (take i bs) * 16 + k) (h ∙ ap digit_value e)
+    ∙ ap (λ (k : ℕ). digits_value 16 (take i bs) * 16 + k) h
     ∙ sym (digits_value_more 16 bs i lt)
 
 -- after the last byte

@@ -1,12 +1,21 @@
 //! Code points in hex digits, as UnicodeData.txt has them (UAX #44).
-ghost use Rattle.std.specs.Prelude.{◌≡◌, ◌<◌, ◌++◌, ◌↔◌, false, IsNone, IfSome, is_ok, string_bytes, if◌then◌else◌};
+ghost use Rattle.std.specs.Char.{digit_value};
+ghost use Rattle.std.specs.Prelude.{◌≡◌, ◌<◌, ◌++◌, ◌↔◌, ℕ, true, false, IsNone, IfSome, MatchOption, SomeIff, is_ok, string_bytes, if◌then◌else◌};
 ghost use Rattle.std.specs.Str.{IsAscii};
-ghost use Rattle.np_code_points.specs.Codes.{code_digits, code_value, hex_digit as upper_hex_digit, is_code};
+ghost use Rattle.np_code_points.specs.Codes.{IsScalarOf, code_digits, code_value, hex_digit as upper_hex_digit, is_code, is_hex_digit};
+ghost use Rattle.np_code_points.specs.inside.Scalars.{scalar_value};
 
 use crate::Memory;
 
 /// How many code points there are: each is below this number (The Unicode Standard, D9 and D10).
 pub const CODE_POINTS: u32 = 0x11_0000;
+
+/// The value of a hex digit of either case. `None` for other bytes.
+pub fn hex_value(byte: u8) -> Option<u32>
+    ensures { SomeIff result (is_hex_digit byte ≡ true) (digit_value byte) }
+{
+    char::from(byte).to_digit(16)
+}
 
 /// The code point that the bytes stand for: exactly four to six hex digits of either case, with a
 /// value of at most 10FFFF. `None` for all other bytes.
@@ -20,10 +29,20 @@ pub fn code_of(bytes: &[u8]) -> Option<u32>
     }
     let mut code: u32 = 0;
     for byte in bytes {
-        let digit = char::from(*byte).to_digit(16)?;
+        let digit = hex_value(*byte)?;
         code = code * 16 + digit;
     }
     if code <= 0x10FFFF { Some(code) } else { None }
+}
+
+/// The code point that a word writes as `code_of` reads it, where it is no surrogate (The Unicode
+/// Standard, D76). `None` for all other words.
+#[tactic(auto, unfolding(crate::specs::inside::Scalars::scalar_value))]
+pub fn scalar_of(word: &[u8]) -> Option<char>
+    ensures value { result ≡ scalar_value word.now }
+    ensures scalar { MatchOption result ((code : ℕ) → IsScalarOf word.now code → ⊥) (IsScalarOf word.now) }
+{
+    char::from_u32(code_of(word)?)
 }
 
 /// The upper-case hex digit of a number below 16.

@@ -2,63 +2,21 @@
 use Rattle.std.proofs.Common.{◌≡◌, ◌≢◌, ℕ, ◌≤◌, Bool, true, false, ◌&&◌, cond, eqb, leb, List, [], ◌∷◌, ◌++◌, length, Option, Some, None, option_map, refl, sym, ap, subst, ◌∙◌, inl, inr, ⊎_elim, arith}
 use Rattle.std.specs.List.{AllZip, list_all}
 use Rattle.std.specs.Option.{option_and_then}
-use lib.Utf8.{scalar}
 use Rattle.std.proofs.lemmas.Bool.{false≢true, eqb-true, ne_eqb, leb-true, le-leb, cond-true, cond-false, and_parts, and_from}
-use Rattle.np_code_points.specs.Codes.{is_hex_digit, is_code, code_value}
+use Rattle.np_code_points.specs.Codes.{IsScalarOf, is_hex_digit, is_code, code_value}
 use Rattle.np_code_points.specs.Words.{AreDividers, AreWords}
 use Rattle.np_code_points.specs.declared.words.Dividers.TheVariants.{Spaces}
 use Rattle.np_code_points.specs.inside.LineCuts.{before_byte, after_byte}
 use Rattle.np_code_points.specs.inside.WordCuts.{divides, after_all, words_of}
 use Rattle.np_code_points.proofs.LineGrammar.{before_free, joined_some, after_at}
 use Rattle.np_code_points.proofs.WordGrammar.{divided, after_all_in_front, only_dividers, dividers_only, word_first, are_words, only_words}
+use Rattle.np_code_points.proofs.ScalarGrammar.{zip_from, from_zip}
 use Rattle.np_code_points.proofs.WordLemmas.{words_after_all, words_none}
 use Rattle.np_ucd.specs.Entries.{MapKind, Plain, Canonical, Compatibility}
 use Rattle.np_ucd.specs.Mappings.{Mapping, AreCodes, IsTagged, IsMapping}
-use Rattle.np_code_points.specs.Codes.{IsScalarOf}
-use Rattle.np_ucd.specs.inside.FieldReading.{if_scalar, scalar_value, scalars_of, if_short, short_scalars, listed_mapping, mapping_at, mapping_value}
+use Rattle.np_code_points.specs.inside.Scalars.{scalars_of}
+use Rattle.np_ucd.specs.inside.FieldReading.{if_short, short_scalars, listed_mapping, mapping_at, mapping_value}
 use Rattle.np_ucd.proofs.SpanGrammar.{taken}
-
--- The code points that words write.
-scalar_test : (t : Bool) (n c : ℕ) → scalar n ≡ t → cond t (Some n) None ≡ Some c → (n ≡ c) × (scalar c ≡ true)
-scalar_test true n c e h = let same : n ≡ c = cc in (same, ap scalar (sym same) ∙ e)
-scalar_test false n c e h = absurd (cc)
-
-scalar_step : (o : Option ℕ) (c : ℕ) → option_and_then if_scalar o ≡ Some c → (o ≡ Some c) × (scalar c ≡ true)
-scalar_step None c h = absurd (cc)
-scalar_step (Some n) c h = let is = scalar_test (scalar n) n c refl h in (ap Some is.0, is.1)
-
-scalar_from : (word : List ℕ) (c : ℕ) → scalar_value word ≡ Some c → IsScalarOf word c
-unfolding scalar_value
-scalar_from word c h = scalar_step (code_value word) c h
-
-from_scalar : (word : List ℕ) (c : ℕ) → IsScalarOf word c → scalar_value word ≡ Some c
-unfolding scalar_value
-from_scalar word c h = ap (option_and_then if_scalar) h.0 ∙ cond-true (scalar c) (Some c) None h.1
-
-zip_step : (word : List ℕ) (words : List (List ℕ)) (codes : List ℕ) (first : Option ℕ) (rest : Option (List ℕ)) → scalar_value word ≡ first → ((cs : List ℕ) → rest ≡ Some cs → AllZip IsScalarOf words cs) → option_and_then (λ code. option_map (λ codes. code ∷ codes) rest) first ≡ Some codes → AllZip IsScalarOf (word ∷ words) codes
-zip_step word words codes None rest e ih h = absurd (cc)
-zip_step word words codes (Some c) None e ih h = absurd (cc)
-zip_step word words codes (Some c) (Some cs) e ih h =
-    let same : c ∷ cs ≡ codes = cc in
-    subst (AllZip IsScalarOf (word ∷ words)) same (scalar_from word c e, ih cs refl)
-
-zip_none : (codes : List ℕ) → Some [] ≡ Some codes → AllZip IsScalarOf [] codes
-zip_none [] h = tt
-zip_none (c ∷ codes) h = absurd (cc)
-
-zip_from : (words : List (List ℕ)) (codes : List ℕ) → scalars_of words ≡ Some codes → AllZip IsScalarOf words codes
-unfolding scalars_of
-zip_from [] codes h = zip_none codes h
-zip_from (word ∷ words) codes h = zip_step word words codes (scalar_value word) (scalars_of words) refl (zip_from words) h
-
-from_zip : (words : List (List ℕ)) (codes : List ℕ) → AllZip IsScalarOf words codes → scalars_of words ≡ Some codes
-unfolding scalars_of
-from_zip [] [] h = refl
-from_zip [] (c ∷ codes) h = absurd h
-from_zip (word ∷ words) [] h = absurd h
-from_zip (word ∷ words) (c ∷ codes) h =
-    ap (option_and_then (λ code. option_map (λ codes. code ∷ codes) (scalars_of words))) (from_scalar word c h.0)
-    ∙ ap (option_map (λ codes. c ∷ codes)) (from_zip words codes h.1)
 
 -- So many of them.
 abbrev is_few : ℕ → List ℕ → Bool

@@ -12,7 +12,8 @@ use Rattle.np_code_points.specs.inside.LineCuts.{data_lines_in, is_empty, after_
 use Rattle.np_code_points.specs.inside.WordCuts.{words_of}
 use Rattle.np_ucd.specs.Mappings.{Mapping}
 use Rattle.np_ucd.specs.Tests.{UcdFault, RangeOpen}
-use Rattle.np_ucd.specs.inside.FieldReading.{is_class, class_value, scalar_value, if_scalar, scalars_of, if_short, short_scalars, listed_mapping, mapping_at, mapping_value}
+use Rattle.np_code_points.specs.inside.Scalars.{scalar_value, if_scalar, scalars_of}
+use Rattle.np_ucd.specs.inside.FieldReading.{is_class, class_value, if_short, short_scalars, listed_mapping, mapping_at, mapping_value}
 use Rattle.np_code_points.specs.declared.words.Dividers.TheVariants.{Spaces}
 use Rattle.np_code_points.specs.inside.WordCuts.{divides, after_all}
 use Rattle.np_ucd.specs.inside.FileReading.{end_fault, fault_after, rows_after, first_fault, rows_in}

@@ -5,31 +5,16 @@ use Rattle.std.proofs.lemmas.List.{append_assoc, append-nil, length-append}
 use Rattle.std.proofs.lemmas.Bool.{cond-true, cond-false, true≢false, eqb-true, lt-leb, le-leb, and_from, and_right, eq-eqb, ne_eqb}
 use Rattle.np_code_points.specs.declared.words.Dividers.TheVariants.{Spaces}
 use Rattle.np_code_points.specs.inside.LineCuts.{after_byte, is_empty}
+use Rattle.np_code_points.specs.inside.Scalars.{scalar_value, scalars_of}
 use Rattle.np_code_points.specs.inside.WordCuts.{divides, after_all, words_of}
+use Rattle.np_code_points.proofs.ScalarGrammar.{joined, joined_bad, joined_more}
 use Rattle.np_ucd.specs.Entries.{Plain, Canonical, Compatibility}
-use Rattle.np_ucd.specs.inside.FieldReading.{scalar_value, scalars_of, if_short, short_scalars, listed_mapping, mapping_at, mapping_value}
-
--- The code points so far, and those of the words that are left.
-abbrev pub joined : List ℕ → Option (List ℕ) → Option (List ℕ)
-joined done rest = option_map (λ codes. done ++ codes) rest
-
-scalars_word : (words : List (List ℕ)) (word : List ℕ) (more : List (List ℕ)) → words ≡ word ∷ more → scalars_of words ≡ option_and_then (λ code. option_map (λ codes. code ∷ codes) (scalars_of more)) (scalar_value word)
-unfolding scalars_of
-scalars_word words word more h = ap scalars_of h
+use Rattle.np_ucd.specs.inside.FieldReading.{if_short, short_scalars, listed_mapping, mapping_at, mapping_value}
 
 pub scalars_bad : (most : ℕ) (text done : List ℕ) (words : List (List ℕ)) (word : List ℕ) (more : List (List ℕ)) → scalars_of (words_of Spaces text) ≡ joined done (scalars_of words) → words ≡ word ∷ more → scalar_value word ≡ None → short_scalars most text ≡ None
 unfolding short_scalars
 scalars_bad most text done words word more total split bad =
-    ap (option_and_then (if_short most)) (total ∙ ap (joined done) (scalars_word words word more split ∙ ap (option_and_then (λ code. option_map (λ codes. code ∷ codes) (scalars_of more))) bad))
-
-joined_step : (code : ℕ) (done : List ℕ) (rest : Option (List ℕ)) → joined done (option_map (λ codes. code ∷ codes) rest) ≡ joined (done ++ code ∷ []) rest
-joined_step code done None = refl
-joined_step code done (Some codes) = ap Some (sym (append_assoc done (code ∷ []) codes))
-
-pub scalars_more : (text done : List ℕ) (words : List (List ℕ)) (word : List ℕ) (more : List (List ℕ)) (code : ℕ) → scalars_of (words_of Spaces text) ≡ joined done (scalars_of words) → words ≡ word ∷ more → scalar_value word ≡ Some code → scalars_of (words_of Spaces text) ≡ joined (done ++ code ∷ []) (scalars_of more)
-scalars_more text done words word more code total split good =
-    total ∙ ap (joined done) (scalars_word words word more split ∙ ap (option_and_then (λ code. option_map (λ codes. code ∷ codes) (scalars_of more))) good)
-    ∙ joined_step code done (scalars_of more)
+    ap (option_and_then (if_short most)) (joined_bad (scalars_of (words_of Spaces text)) done words word more total split bad)
 
 too_long : (most code : ℕ) (done : List ℕ) (rest : Option (List ℕ)) → most ≤ length done → option_and_then (if_short most) (joined (done ++ code ∷ []) rest) ≡ None
 too_long most code done None l = refl
@@ -41,7 +26,7 @@ too_long most code done (Some codes) l =
 pub scalars_long : (most : ℕ) (text done : List ℕ) (words : List (List ℕ)) (word : List ℕ) (more : List (List ℕ)) (code : ℕ) → scalars_of (words_of Spaces text) ≡ joined done (scalars_of words) → words ≡ word ∷ more → scalar_value word ≡ Some code → most ≤ length done → short_scalars most text ≡ None
 unfolding short_scalars
 scalars_long most text done words word more code total split good l =
-    ap (option_and_then (if_short most)) (scalars_more text done words word more code total split good)
+    ap (option_and_then (if_short most)) (joined_more (scalars_of (words_of Spaces text)) done words word more code total split good)
     ∙ too_long most code done (scalars_of more) l
 
 short_all : (most : ℕ) (done : List ℕ) → length done ≤ most → if_short most done ≡ cond (not (is_empty done)) (Some done) None
@@ -55,13 +40,6 @@ unfolding short_scalars scalars_of
 scalars_all most text done words total none l =
     ap (option_and_then (if_short most)) (total ∙ ap (λ ws. joined done (scalars_of ws)) none ∙ ap Some (append-nil done))
     ∙ short_all most done l
-
-joined_nil : (rest : Option (List ℕ)) → rest ≡ joined [] rest
-joined_nil None = refl
-joined_nil (Some codes) = refl
-
-pub joined_none : (done : List ℕ) (rest : Option (List ℕ)) → done ≡ [] → rest ≡ joined done rest
-joined_none done rest h = joined_nil rest ∙ ap (λ items. joined items rest) (sym h)
 
 pub is_empty-length : (xs : List ℕ) → is_empty xs ≡ eqb (length xs) 0
 is_empty-length [] = refl

@@ -1,11 +1,11 @@
 //! The mappings of records.
 ghost use Rattle.std.specs.Prelude.{◌≡◌, [], option_map, if◌then◌else◌, IfOk};
-ghost use Rattle.np_ucd.specs.inside.FieldReading.{scalar_value, short_scalars, listed_mapping, mapping_value};
+ghost use Rattle.np_ucd.specs.inside.FieldReading.{short_scalars, listed_mapping, mapping_value};
 ghost use Rattle.np_ucd.specs.inside.MappingValues.{mapping_of};
 
 use crate::rows::MapKind;
 use np_code_points::Memory;
-use np_code_points::codes::code_of;
+use np_code_points::codes::scalar_of;
 use np_code_points::lines::cut;
 use np_code_points::words::{Dividers, Words, after_dividers};
 use smallvec::SmallVec;
@@ -20,14 +20,6 @@ const COMPATIBILITY_MOST: usize = 32;
 pub(crate) struct Mapping {
     pub kind: MapKind,
     pub codes: SmallVec<char, 2>,
-}
-
-/// The code point of a word, where it is one and no surrogate.
-#[tactic(auto, unfolding(crate::specs::inside::FieldReading::scalar_value))]
-fn scalar_of(word: &[u8]) -> Option<char>
-    ensures { result ≡ scalar_value word.now }
-{
-    char::from_u32(code_of(word)?)
 }
 
 /// Reads the code points that a text writes, and answers whether it writes at least one and at

@@ -1,6 +1,6 @@
 //! Texts, codes, forms' names and syllables.
 use super::want;
-use crate::codes::{code_of, write_code};
+use crate::codes::{code_of, hex_value, scalar_of, write_code};
 use crate::hangul::{hangul_pair, hangul_parts};
 use crate::text::{NotUtf8, chars_of, string_of, text_of};
 use crate::{Form, Memory};
@@ -34,6 +34,29 @@ fn read_codes(rows: &[(&[u8], Option<u32>)]) -> Result<(), Fail> {
         want(code_of(bytes) == *code, "a code")?;
     }
     Ok(())
+}
+
+// (bytes, the code point that they write, where it is no surrogate)
+const SCALARS: [(&[u8], Option<char>); 5] = [
+    (b"0061", Some('a')),
+    (b"D7FF", Some('\u{D7FF}')),
+    (b"D800", None),
+    (b"dfff", None),
+    (b"10fffF", Some('\u{10FFFF}')),
+];
+
+fn read_scalars(rows: &[(&[u8], Option<char>)]) -> Result<(), Fail> {
+    for (word, scalar) in rows {
+        want(scalar_of(word) == *scalar, "a scalar")?;
+    }
+    Ok(())
+}
+
+#[test]
+fn surrogates_are_no_scalars(_rt: HostRuntime) -> Result<(), Fail> {
+    want(hex_value(b'f') == Some(15), "a digit")?;
+    want(hex_value(b'G').is_none(), "no digit")?;
+    read_scalars(&SCALARS)
 }
 
 fn written(alloc: Global, code: u32) -> Result<String, Memory> {

@@ -1,10 +1,9 @@
 -- What single fields of UnicodeData.txt say, as functions of their bytes; `specs/Fields` and `specs/Mappings` say it in relations.
 use Rattle.std.specs.Prelude.{ℕ, ◌+◌, ◌-◌, ◌*◌, Bool, not, ◌&&◌, ◌||◌, ◌==◌, nat_le, List, [], ◌∷◌, length, fold, Option, Some, None, option_map, option_and_then, if◌then◌else◌, codes, nat_eq}
 use Rattle.std.specs.List.{list_all, slice_split, ends_with}
-use lib.Utf8.{scalar}
-use Rattle.np_code_points.specs.Codes.{code_value}
 use Rattle.np_code_points.specs.declared.words.Dividers.TheVariants.{Spaces}
 use Rattle.np_code_points.specs.inside.LineCuts.{after_byte}
+use Rattle.np_code_points.specs.inside.Scalars.{scalars_of}
 use Rattle.np_code_points.specs.inside.WordCuts.{divides, after_all, words_of}
 use Rattle.np_ucd.specs.Entries.{MapKind, Plain, Canonical, Compatibility}
 use Rattle.np_ucd.specs.Mappings.{Mapping}
@@ -36,18 +35,6 @@ is_class digits =
 
 unfoldable pub class_value : List ℕ → Option ℕ
 class_value digits = if is_class digits then Some (number_of digits) else None
-
--- a code point that is no surrogate
-abbrev pub if_scalar : ℕ → Option ℕ
-if_scalar code = if scalar code then Some code else None
-
-unfoldable pub scalar_value : List ℕ → Option ℕ
-scalar_value word = option_and_then if_scalar (code_value word)
-
--- the code points that the words write, where each of them writes one
-unfoldable pub scalars_of : List (List ℕ) → Option (List ℕ)
-scalars_of [] = Some []
-scalars_of (word ∷ words) = option_and_then (λ code. option_map (λ codes. code ∷ codes) (scalars_of words)) (scalar_value word)
 
 -- at least one and at most so many
 abbrev pub if_short : ℕ → List ℕ → Option (List ℕ)

@@ -1,6 +1,6 @@
 use Rattle.std.proofs.Common.{◌≡◌, ◌↔◌, ℕ, List, Option, None, IsNone, IfSome, false, ◌<◌, sym, arith, length, Some}
 use Rattle.np_code_points.specs.Codes.{is_code, code_value}
-use Rattle.np_code_points.proofs.CodeLemmas.{above_in_all, answer_bound, none_exactly, below_five, code_value-long, code_value-short, digit_at, found_in_all, no_digit_at, one_more_digit, value_at}
+use Rattle.np_code_points.proofs.CodeLemmas.{above_in_all, answer_bound, none_exactly, below_five, code_value-long, code_value-short, digit_at, digit_below, found_in_all, no_digit_at, one_more_digit, value_at}
 use Rattle.np_code_points.proofs.codes.code_of.Goals as goal
 use Rattle.np_code_points.proofs.codes.code_of.Goals.{then-bytes-lt4-via-then-bytes-lt4, then-bytes-lt4-via-else-bytes-lt4+then-bytes-gt6}
 
@@ -17,7 +17,7 @@ returns-then-bytes-lt4 c = elim c.then-bytes-lt4.branch [
 pub returns-in_err-digit : goal.returns-in_err-digit
 returns-in_err-digit c = answers c.args.bytes.now c.from_residual.result
     (rw c.from_residual.ensures
-    (sym (no_digit_at c.args.bytes.now c.loop-byte.byte-index c.from.result (omega arith) c.from.ensures c.in_err-digit.ensures.value)))
+    (sym (no_digit_at c.args.bytes.now c.loop-byte.byte-index (omega arith) c.in_err-digit.ensures)))
 
 pub overflow_mul-code : goal.overflow_mul-code
 overflow_mul-code c =
@@ -26,17 +26,18 @@ overflow_mul-code c =
 pub overflow_add-code : goal.overflow_add-code
 overflow_add-code c =
     let small = below_five c.loop-byte.code c.loop-byte.byte-index c.loop-byte.invariant.bound (omega arith) in
-    omega (arith, small, c.in_ok-digit.ensures.value)
+    let digit : c.in_ok-digit.digit < 16 = digit_below c.args.bytes.now c.loop-byte.byte-index c.in_ok-digit.digit c.in_ok-digit.ensures.0 c.in_ok-digit.ensures.1 in
+    omega (arith, small)
 
 pub loop-byte-preserved : goal.loop-byte-preserved
 loop-byte-preserved c =
     let lt : c.loop-byte.byte-index < length c.args.bytes.now = omega arith in
     record {
-      value = value_at c.args.bytes.now c.loop-byte.byte-index c.from.result c.in_ok-digit.digit c.loop-byte.code lt c.from.ensures
-          c.loop-byte.invariant.value c.in_ok-digit.ensures.value.1;
-      hex = digit_at c.args.bytes.now c.loop-byte.byte-index c.from.result lt c.from.ensures c.loop-byte.invariant.hex c.in_ok-digit.ensures.value.0;
+      value = value_at c.args.bytes.now c.loop-byte.byte-index c.in_ok-digit.digit c.loop-byte.code lt
+          c.loop-byte.invariant.value c.in_ok-digit.ensures.1;
+      hex = digit_at c.args.bytes.now c.loop-byte.byte-index lt c.loop-byte.invariant.hex c.in_ok-digit.ensures.0;
       bound = one_more_digit c.loop-byte.code c.in_ok-digit.digit c.loop-byte.byte-index c.loop-byte.invariant.bound
-          (omega (arith, c.in_ok-digit.ensures.value));
+          (digit_below c.args.bytes.now c.loop-byte.byte-index c.in_ok-digit.digit c.in_ok-digit.ensures.0 c.in_ok-digit.ensures.1);
     }
 
 pub returns-then-code-le1114111 : goal.returns-then-code-le1114111

@@ -1,7 +1,10 @@
 use Rattle.std.proofs.Common.{not, cond, length, Some, None, sym, ap, ◌∙◌, arith}
 use Rattle.std.proofs.lemmas.List.{length_push}
-use Rattle.np_ucd.specs.inside.FieldReading.{scalars_of}
-use Rattle.np_ucd.proofs.ScalarLemmas.{joined, joined_none, scalars_bad, scalars_long, scalars_more, scalars_all, is_empty-length}
+use Rattle.np_code_points.specs.declared.words.Dividers.TheVariants.{Spaces}
+use Rattle.np_code_points.specs.inside.Scalars.{scalars_of}
+use Rattle.np_code_points.specs.inside.WordCuts.{words_of}
+use Rattle.np_code_points.proofs.ScalarGrammar.{joined, joined_none, joined_more}
+use Rattle.np_ucd.proofs.ScalarLemmas.{scalars_bad, scalars_long, scalars_all, is_empty-length}
 use Rattle.np_ucd.proofs.mappings.read_scalars.Goals as goal
 
 pub loop-word-init : goal.loop-word-init
@@ -14,18 +17,18 @@ loop-word-init c = record {
 pub returns-in_default : goal.returns-in_default
 returns-in_default c =
     scalars_bad c.args.most c.args.text.now c.loop-word.codes.items c.loop-word.word-iterator c.in-Some.word.now c.next.new.self
-    c.loop-word.invariant.total c.in-Some.ensures.steps (sym c.scalar_of.ensures ∙ c.in_default.is)
+    c.loop-word.invariant.total c.in-Some.ensures.steps (sym c.scalar_of.ensures.value ∙ c.in_default.is)
 
 pub returns-then-len-most : goal.returns-then-len-most
 returns-then-len-most c =
     scalars_long c.args.most c.args.text.now c.loop-word.codes.items c.loop-word.word-iterator c.in-Some.word.now c.next.new.self c.in-Some-scalar_of.code
-    c.loop-word.invariant.total c.in-Some.ensures.steps (sym c.scalar_of.ensures ∙ c.in-Some-scalar_of.is) (omega arith)
+    c.loop-word.invariant.total c.in-Some.ensures.steps (sym c.scalar_of.ensures.value ∙ c.in-Some-scalar_of.is) (omega arith)
 
 pub loop-word-preserved : goal.loop-word-preserved
 loop-word-preserved c = record {
   total =
-      scalars_more c.args.text.now c.loop-word.codes.items c.loop-word.word-iterator c.in-Some.word.now c.next.new.self c.in-Some-scalar_of.code
-      c.loop-word.invariant.total c.in-Some.ensures.steps (sym c.scalar_of.ensures ∙ c.in-Some-scalar_of.is)
+      joined_more (scalars_of (words_of Spaces c.args.text.now)) c.loop-word.codes.items c.loop-word.word-iterator c.in-Some.word.now c.next.new.self c.in-Some-scalar_of.code
+      c.loop-word.invariant.total c.in-Some.ensures.steps (sym c.scalar_of.ensures.value ∙ c.in-Some-scalar_of.is)
       ∙ ap (λ items. joined items (scalars_of c.next.new.self)) (sym c.in_ok-push.ensures.ok);
   room = omega (arith, ap length c.in_ok-push.ensures.ok, length_push c.loop-word.codes.items c.in-Some-scalar_of.code);
 }
