@@ -10,4 +10,4 @@ pub mod LineGrammar
 pub mod DataLineGrammar
 pub mod StepsLemmas
 pub mod TextLemmas
-pub mod ScalarGrammar
+pub mod ValueGrammar

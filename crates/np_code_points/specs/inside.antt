@@ -1,5 +1,5 @@
 pub mod Devices
 pub mod HangulParts
 pub mod LineCuts
-pub mod Scalars
+pub mod WordValues
 pub mod WordCuts

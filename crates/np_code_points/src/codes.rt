@@ -3,7 +3,7 @@ ghost use Rattle.std.specs.Char.{digit_value};
 ghost use Rattle.std.specs.Prelude.{◌≡◌, ◌<◌, ◌++◌, ◌↔◌, ℕ, true, false, IsNone, IfSome, MatchOption, SomeIff, is_ok, string_bytes, if◌then◌else◌};
 ghost use Rattle.std.specs.Str.{IsAscii};
 ghost use Rattle.np_code_points.specs.Codes.{IsScalarOf, code_digits, code_value, hex_digit as upper_hex_digit, is_code, is_hex_digit};
-ghost use Rattle.np_code_points.specs.inside.Scalars.{scalar_value};
+ghost use Rattle.np_code_points.specs.inside.WordValues.{scalar_value};
 
 use crate::Memory;
 
@@ -37,7 +37,7 @@ pub fn code_of(bytes: &[u8]) -> Option<u32>
 
 /// The code point that a word writes as `code_of` reads it, where it is no surrogate (The Unicode
 /// Standard, D76). `None` for all other words.
-#[tactic(auto, unfolding(crate::specs::inside::Scalars::scalar_value))]
+#[tactic(auto, unfolding(crate::specs::inside::WordValues::scalar_value))]
 pub fn scalar_of(word: &[u8]) -> Option<char>
     ensures value { result ≡ scalar_value word.now }
     ensures scalar { MatchOption result ((code : ℕ) → IsScalarOf word.now code → ⊥) (IsScalarOf word.now) }

@@ -1,8 +1,8 @@
 -- What is read of a mapping's field is what the grammar says.
-use Rattle.std.proofs.Common.{◌≡◌, ◌≢◌, ℕ, ◌≤◌, Bool, true, false, ◌&&◌, cond, eqb, leb, List, [], ◌∷◌, ◌++◌, length, Option, Some, None, option_map, refl, sym, ap, subst, ◌∙◌, inl, inr, ⊎_elim, arith}
+use Rattle.std.proofs.Common.{◌≡◌, ◌≢◌, ℕ, ◌≤◌, Bool, true, false, cond, eqb, List, [], ◌∷◌, ◌++◌, length, Option, Some, None, option_map, refl, sym, ap, ◌∙◌, inl, inr, ⊎_elim, arith}
 use Rattle.std.specs.List.{AllZip, list_all}
 use Rattle.std.specs.Option.{option_and_then}
-use Rattle.std.proofs.lemmas.Bool.{false≢true, eqb-true, ne_eqb, leb-true, le-leb, cond-true, cond-false, and_parts, and_from}
+use Rattle.std.proofs.lemmas.Bool.{false≢true, eqb-true, ne_eqb, cond-false, and_parts}
 use Rattle.np_code_points.specs.Codes.{IsScalarOf, is_hex_digit, is_code, code_value}
 use Rattle.np_code_points.specs.Words.{AreDividers, AreWords}
 use Rattle.np_code_points.specs.declared.words.Dividers.TheVariants.{Spaces}
@@ -10,46 +10,33 @@ use Rattle.np_code_points.specs.inside.LineCuts.{before_byte, after_byte}
 use Rattle.np_code_points.specs.inside.WordCuts.{divides, after_all, words_of}
 use Rattle.np_code_points.proofs.LineGrammar.{before_free, joined_some, after_at}
 use Rattle.np_code_points.proofs.WordGrammar.{divided, after_all_in_front, only_dividers, dividers_only, word_first, are_words, only_words}
-use Rattle.np_code_points.proofs.ScalarGrammar.{zip_from, from_zip}
+use Rattle.np_code_points.proofs.ValueGrammar.{scalar_from, from_scalar, zip_from, from_zip, short_from, from_short}
 use Rattle.np_code_points.proofs.WordLemmas.{words_after_all, words_none}
 use Rattle.np_ucd.specs.Entries.{MapKind, Plain, Canonical, Compatibility}
 use Rattle.np_ucd.specs.Mappings.{Mapping, AreCodes, IsTagged, IsMapping}
-use Rattle.np_code_points.specs.inside.Scalars.{scalars_of}
-use Rattle.np_ucd.specs.inside.FieldReading.{if_short, short_scalars, listed_mapping, mapping_at, mapping_value}
+use Rattle.np_code_points.specs.inside.WordValues.{scalar_value, values_of, scalars_of, if_short}
+use Rattle.np_ucd.specs.inside.FieldReading.{short_scalars, listed_mapping, mapping_at, mapping_value}
 use Rattle.np_ucd.proofs.SpanGrammar.{taken}
 
 -- So many of them.
-abbrev is_few : ℕ → List ℕ → Bool
-is_few most codes = leb 1 (length codes) && leb (length codes) most
-
-few_test : (t : Bool) (most : ℕ) (cs codes : List ℕ) → is_few most cs ≡ t → cond t (Some cs) None ≡ Some codes → (cs ≡ codes) × (is_few most codes ≡ true)
-few_test true most cs codes e h = let same : cs ≡ codes = cc in (same, ap (is_few most) (sym same) ∙ e)
-few_test false most cs codes e h = absurd (cc)
-
-codes_step : (most : ℕ) (text codes : List ℕ) (o : Option (List ℕ)) → scalars_of (words_of Spaces text) ≡ o → option_and_then (if_short most) o ≡ Some codes → AreCodes most text codes
-codes_step most text codes None e h = absurd (cc)
-codes_step most text codes (Some cs) e h =
-    let is = few_test (is_few most cs) most cs codes refl h in
-    let both = and_parts (leb 1 (length codes)) (leb (length codes) most) is.1 in
+codes_from : (most : ℕ) (text codes : List ℕ) → short_scalars most text ≡ Some codes → AreCodes most text codes
+unfolding short_scalars
+codes_from most text codes h =
+    let is = short_from most (scalars_of (words_of Spaces text)) codes h in
     record {
       words = words_of Spaces text;
       are = are_words Spaces text;
-      say = zip_from (words_of Spaces text) codes (e ∙ ap Some is.0);
-      some = leb-true 1 (length codes) both.0;
-      few = leb-true (length codes) most both.1;
+      say = zip_from scalar_value IsScalarOf scalar_from (words_of Spaces text) codes is.0;
+      some = is.1;
+      few = is.2;
     }
-
-codes_from : (most : ℕ) (text codes : List ℕ) → short_scalars most text ≡ Some codes → AreCodes most text codes
-unfolding short_scalars
-codes_from most text codes h = codes_step most text codes (scalars_of (words_of Spaces text)) refl h
 
 from_codes : (most : ℕ) (text codes : List ℕ) → AreCodes most text codes → short_scalars most text ≡ Some codes
 unfolding short_scalars
 from_codes most text codes h =
     ap (λ ws. option_and_then (if_short most) (scalars_of ws)) (sym (only_words Spaces text h.words h.are))
-    ∙ ap (option_and_then (if_short most)) (from_zip h.words codes h.say)
-    ∙ cond-true (is_few most codes) (Some codes) None
-    (and_from (leb 1 (length codes)) (leb (length codes) most) (le-leb 1 (length codes) h.some) (le-leb (length codes) most h.few))
+    ∙ ap (option_and_then (if_short most)) (from_zip scalar_value IsScalarOf from_scalar h.words codes h.say)
+    ∙ from_short most codes h.some h.few
 
 abbrev to_mapping : MapKind → List ℕ → Mapping
 to_mapping kind codes = record { kind = kind; codes = codes }
@@ -135,7 +122,7 @@ first_no_tag field b bs (word ∷ words) (c ∷ codes) e are say some =
     no_tag word are.1 b bs c are.4 say.0.0 (sym e ∙ at)
 
 not_empty : (field codes : List ℕ) → after_all (divides Spaces) field ≡ [] → short_scalars 2 field ≡ Some codes → ⊥
-unfolding short_scalars scalars_of
+unfolding short_scalars values_of
 not_empty field codes e h =
     let none : option_and_then (if_short 2) (scalars_of (words_of Spaces field)) ≡ None =
     ap (λ ws. option_and_then (if_short 2) (scalars_of ws)) (words_none (divides Spaces) field [] (sym e) refl) in

@@ -12,8 +12,8 @@ use Rattle.np_code_points.specs.inside.LineCuts.{data_lines_in, is_empty, after_
 use Rattle.np_code_points.specs.inside.WordCuts.{words_of}
 use Rattle.np_ucd.specs.Mappings.{Mapping}
 use Rattle.np_ucd.specs.Tests.{UcdFault, RangeOpen}
-use Rattle.np_code_points.specs.inside.Scalars.{scalar_value, if_scalar, scalars_of}
-use Rattle.np_ucd.specs.inside.FieldReading.{is_class, class_value, if_short, short_scalars, listed_mapping, mapping_at, mapping_value}
+use Rattle.np_code_points.specs.inside.WordValues.{scalar_value, if_scalar, values_of, scalars_of, if_short}
+use Rattle.np_ucd.specs.inside.FieldReading.{is_class, class_value, short_scalars, listed_mapping, mapping_at, mapping_value}
 use Rattle.np_code_points.specs.declared.words.Dividers.TheVariants.{Spaces}
 use Rattle.np_code_points.specs.inside.WordCuts.{divides, after_all}
 use Rattle.np_ucd.specs.inside.FileReading.{end_fault, fault_after, rows_after, first_fault, rows_in}
@@ -57,7 +57,7 @@ scalars_step None rest one all = tt
 scalars_step (Some c) rest one all = scalars_rest c rest one all
 
 scalars_are : (words : List (List ℕ)) → AreScalars (scalars_of words)
-unfolding scalars_of
+unfolding values_of
 scalars_are [] = refl
 scalars_are (word ∷ words) = scalars_step (scalar_value word) (scalars_of words) (scalar_is word) (scalars_are words)
 

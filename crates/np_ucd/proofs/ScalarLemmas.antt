@@ -1,49 +1,28 @@
 -- The code points that the words of a mapping write.
-use Rattle.std.proofs.Common.{◌≡◌, ℕ, ◌<◌, ◌≤◌, true, false, not, cond, eqb, leb, ◌&&◌, List, [], ◌∷◌, ◌++◌, length, get_or, drop, Option, Some, None, option_map, refl, sym, ap, ◌∙◌, arith}
+use Rattle.std.proofs.Common.{◌≡◌, ℕ, ◌≤◌, true, false, not, cond, eqb, List, [], ◌∷◌, length, get_or, drop, Option, Some, None, sym, ap, ◌∙◌, arith}
 use Rattle.std.specs.Option.{option_and_then}
-use Rattle.std.proofs.lemmas.List.{append_assoc, append-nil, length-append}
-use Rattle.std.proofs.lemmas.Bool.{cond-true, cond-false, true≢false, eqb-true, lt-leb, le-leb, and_from, and_right, eq-eqb, ne_eqb}
+use Rattle.std.proofs.lemmas.Bool.{cond-true, cond-false, true≢false, eqb-true, eq-eqb, ne_eqb}
 use Rattle.np_code_points.specs.declared.words.Dividers.TheVariants.{Spaces}
 use Rattle.np_code_points.specs.inside.LineCuts.{after_byte, is_empty}
-use Rattle.np_code_points.specs.inside.Scalars.{scalar_value, scalars_of}
+use Rattle.np_code_points.specs.inside.WordValues.{scalar_value, scalars_of, if_short}
 use Rattle.np_code_points.specs.inside.WordCuts.{divides, after_all, words_of}
-use Rattle.np_code_points.proofs.ScalarGrammar.{joined, joined_bad, joined_more}
+use Rattle.np_code_points.proofs.ValueGrammar.{joined, joined_bad, short_long, short_all}
 use Rattle.np_ucd.specs.Entries.{Plain, Canonical, Compatibility}
-use Rattle.np_ucd.specs.inside.FieldReading.{if_short, short_scalars, listed_mapping, mapping_at, mapping_value}
+use Rattle.np_ucd.specs.inside.FieldReading.{short_scalars, listed_mapping, mapping_at, mapping_value}
 
 pub scalars_bad : (most : ℕ) (text done : List ℕ) (words : List (List ℕ)) (word : List ℕ) (more : List (List ℕ)) → scalars_of (words_of Spaces text) ≡ joined done (scalars_of words) → words ≡ word ∷ more → scalar_value word ≡ None → short_scalars most text ≡ None
 unfolding short_scalars
 scalars_bad most text done words word more total split bad =
-    ap (option_and_then (if_short most)) (joined_bad (scalars_of (words_of Spaces text)) done words word more total split bad)
-
-too_long : (most code : ℕ) (done : List ℕ) (rest : Option (List ℕ)) → most ≤ length done → option_and_then (if_short most) (joined (done ++ code ∷ []) rest) ≡ None
-too_long most code done None l = refl
-too_long most code done (Some codes) l =
-    let longer : most < length (done ++ code ∷ [] ++ codes) = omega (arith, length-append (done ++ code ∷ []) codes, length-append done (code ∷ [])) in
-    let n = length (done ++ code ∷ [] ++ codes) in
-    cond-false (leb 1 n && leb n most) (Some (done ++ code ∷ [] ++ codes)) None (and_right (leb 1 n) (leb n most) (lt-leb n most longer))
+    ap (option_and_then (if_short most)) (joined_bad scalar_value (scalars_of (words_of Spaces text)) done words word more total split bad)
 
 pub scalars_long : (most : ℕ) (text done : List ℕ) (words : List (List ℕ)) (word : List ℕ) (more : List (List ℕ)) (code : ℕ) → scalars_of (words_of Spaces text) ≡ joined done (scalars_of words) → words ≡ word ∷ more → scalar_value word ≡ Some code → most ≤ length done → short_scalars most text ≡ None
 unfolding short_scalars
 scalars_long most text done words word more code total split good l =
-    ap (option_and_then (if_short most)) (joined_more (scalars_of (words_of Spaces text)) done words word more code total split good)
-    ∙ too_long most code done (scalars_of more) l
-
-short_all : (most : ℕ) (done : List ℕ) → length done ≤ most → if_short most done ≡ cond (not (is_empty done)) (Some done) None
-short_all most [] l = refl
-short_all most (x ∷ xs) l =
-    let n = length (x ∷ xs) in
-    cond-true (leb 1 n && leb n most) (Some (x ∷ xs)) None (and_from (leb 1 n) (leb n most) (le-leb 1 n (omega arith)) (le-leb n most l))
+    short_long scalar_value most (scalars_of (words_of Spaces text)) done words word more code total split good l
 
 pub scalars_all : (most : ℕ) (text done : List ℕ) (words : List (List ℕ)) → scalars_of (words_of Spaces text) ≡ joined done (scalars_of words) → words ≡ [] → length done ≤ most → short_scalars most text ≡ cond (not (is_empty done)) (Some done) None
-unfolding short_scalars scalars_of
-scalars_all most text done words total none l =
-    ap (option_and_then (if_short most)) (total ∙ ap (λ ws. joined done (scalars_of ws)) none ∙ ap Some (append-nil done))
-    ∙ short_all most done l
-
-pub is_empty-length : (xs : List ℕ) → is_empty xs ≡ eqb (length xs) 0
-is_empty-length [] = refl
-is_empty-length (x ∷ xs) = sym (ne_eqb (length (x ∷ xs)) 0 (λ e. omega arith))
+unfolding short_scalars
+scalars_all most text done words total none l = short_all scalar_value most (scalars_of (words_of Spaces text)) done words total none l
 
 -- What a mapping's field says, by its first byte that is no space.
 pub mapping_empty : (field s : List ℕ) → s ≡ after_all (divides Spaces) field → eqb (length s) 0 ≡ true → mapping_value field ≡ Some (record { kind = Plain; codes = [] })

@@ -3,7 +3,7 @@ use Rattle.std.specs.Prelude.{ℕ, ◌+◌, ◌-◌, ◌*◌, Bool, not, ◌&&�
 use Rattle.std.specs.List.{list_all, slice_split, ends_with}
 use Rattle.np_code_points.specs.declared.words.Dividers.TheVariants.{Spaces}
 use Rattle.np_code_points.specs.inside.LineCuts.{after_byte}
-use Rattle.np_code_points.specs.inside.Scalars.{scalars_of}
+use Rattle.np_code_points.specs.inside.WordValues.{scalars_of, if_short}
 use Rattle.np_code_points.specs.inside.WordCuts.{divides, after_all, words_of}
 use Rattle.np_ucd.specs.Entries.{MapKind, Plain, Canonical, Compatibility}
 use Rattle.np_ucd.specs.Mappings.{Mapping}
@@ -35,10 +35,6 @@ is_class digits =
 
 unfoldable pub class_value : List ℕ → Option ℕ
 class_value digits = if is_class digits then Some (number_of digits) else None
-
--- at least one and at most so many
-abbrev pub if_short : ℕ → List ℕ → Option (List ℕ)
-if_short most codes = if nat_le 1 (length codes) && nat_le (length codes) most then Some codes else None
 
 -- the code points that a text writes, where it writes at least one and at most so many
 unfoldable pub short_scalars : ℕ → List ℕ → Option (List ℕ)

@@ -1,10 +1,10 @@
 use Rattle.std.proofs.Common.{not, cond, length, Some, None, sym, ap, ◌∙◌, arith}
 use Rattle.std.proofs.lemmas.List.{length_push}
 use Rattle.np_code_points.specs.declared.words.Dividers.TheVariants.{Spaces}
-use Rattle.np_code_points.specs.inside.Scalars.{scalars_of}
+use Rattle.np_code_points.specs.inside.WordValues.{scalar_value, scalars_of}
 use Rattle.np_code_points.specs.inside.WordCuts.{words_of}
-use Rattle.np_code_points.proofs.ScalarGrammar.{joined, joined_none, joined_more}
-use Rattle.np_ucd.proofs.ScalarLemmas.{scalars_bad, scalars_long, scalars_all, is_empty-length}
+use Rattle.np_code_points.proofs.ValueGrammar.{joined, joined_none, joined_more, is_empty-length}
+use Rattle.np_ucd.proofs.ScalarLemmas.{scalars_bad, scalars_long, scalars_all}
 use Rattle.np_ucd.proofs.mappings.read_scalars.Goals as goal
 
 pub loop-word-init : goal.loop-word-init
@@ -27,7 +27,7 @@ returns-then-len-most c =
 pub loop-word-preserved : goal.loop-word-preserved
 loop-word-preserved c = record {
   total =
-      joined_more (scalars_of (words_of Spaces c.args.text.now)) c.loop-word.codes.items c.loop-word.word-iterator c.in-Some.word.now c.next.new.self c.in-Some-scalar_of.code
+      joined_more scalar_value (scalars_of (words_of Spaces c.args.text.now)) c.loop-word.codes.items c.loop-word.word-iterator c.in-Some.word.now c.next.new.self c.in-Some-scalar_of.code
       c.loop-word.invariant.total c.in-Some.ensures.steps (sym c.scalar_of.ensures.value ∙ c.in-Some-scalar_of.is)
       ∙ ap (λ items. joined items (scalars_of c.next.new.self)) (sym c.in_ok-push.ensures.ok);
   room = omega (arith, ap length c.in_ok-push.ensures.ok, length_push c.loop-word.codes.items c.in-Some-scalar_of.code);

@@ -1,8 +1,8 @@
 use Rattle.std.proofs.Common.{◌≡◌, ◌≤◌, length}
 use Rattle.np_code_points.specs.declared.words.Dividers.TheVariants.{Spaces}
-use Rattle.np_code_points.specs.inside.Scalars.{scalars_of}
+use Rattle.np_code_points.specs.inside.WordValues.{scalars_of}
 use Rattle.np_code_points.specs.inside.WordCuts.{words_of}
-use Rattle.np_code_points.proofs.ScalarGrammar.{joined}
+use Rattle.np_code_points.proofs.ValueGrammar.{joined}
 use Rattle.np_ucd.proofs.mappings.read_scalars.Given as goal
 
 abbrev pub invariant-loop-word : goal.invariant-loop-word

@@ -1,5 +1,5 @@
 use Rattle.std.proofs.Common.{not, option_map, inr, sym, ap, ◌∙◌}
-use Rattle.np_ucd.proofs.ScalarLemmas.{is_empty-length}
+use Rattle.np_code_points.proofs.ValueGrammar.{is_empty-length}
 use Rattle.np_ucd.proofs.RecordLemmas.{fault_mapping, fault_late, row_is}
 use Rattle.np_ucd.specs.inside.MappingValues.{mapping_of}
 use Rattle.np_ucd.specs.inside.RecordValues.{neighbour_value}
