@@ -12,3 +12,5 @@ pub mod SentLemmas
 pub mod StepLemmas
 pub mod StringLemmas
 pub mod TurnLemmas
+pub mod LineGrammar
+pub mod LineLemmas

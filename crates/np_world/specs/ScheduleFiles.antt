@@ -41,10 +41,10 @@ pub record IsUnfit (bytes : List ℕ) (versions line : ℕ) : Type 0 where
 
 -- the file ends before its line of nodes; the number is that of the line behind its last one
 pub record EndsEarly (bytes : List ℕ) (versions line : ℕ) : Type 0 where
-  pub data : List Numbered
-  pub data_lines : AreDataLines bytes data
-  pub stand : MayStand versions data
-  pub early : length data < 2
+  pub taken : List Numbered
+  pub data_lines : AreDataLines bytes taken
+  pub stand : MayStand versions taken
+  pub early : length taken < 2
   pub lines : List (List ℕ)
   pub are : AreLines bytes lines
   pub here : line ≡ length lines + 1

@@ -1,4 +1,5 @@
 pub mod LineReading
+pub mod LineValues
 pub mod Mirrors
 pub mod Played
 pub mod ReportWriting

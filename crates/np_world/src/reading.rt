@@ -2,7 +2,12 @@
 ghost use Rattle.std.specs.Prelude.{◌≡◌, IfErr, IfOk};
 ghost use Rattle.np_world.specs.ScheduleFiles.{NamesLine, SaysSchedule};
 
+mod arms;
+mod faults;
 mod lines;
+mod numbers;
+mod payloads;
+mod verbs;
 
 use crate::schedules::Schedule;
 use std::alloc::Global;
