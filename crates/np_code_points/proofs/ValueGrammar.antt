@@ -76,7 +76,7 @@ module _ (value : List ℕ → Option ℕ) where
 abbrev pub joined : List ℕ → Option (List ℕ) → Option (List ℕ)
 joined done rest = option_map (λ codes. done ++ codes) rest
 
-joined_step : (code : ℕ) (done : List ℕ) (rest : Option (List ℕ)) → joined done (option_map (λ codes. code ∷ codes) rest) ≡ joined (done ++ code ∷ []) rest
+pub joined_step : (code : ℕ) (done : List ℕ) (rest : Option (List ℕ)) → joined done (option_map (λ codes. code ∷ codes) rest) ≡ joined (done ++ code ∷ []) rest
 joined_step code done None = refl
 joined_step code done (Some codes) = ap Some (sym (append_assoc done (code ∷ []) codes))
 

@@ -14,3 +14,5 @@ pub mod StringLemmas
 pub mod TurnLemmas
 pub mod LineGrammar
 pub mod LineLemmas
+pub mod NumberLemmas
+pub mod PayloadLemmas

@@ -224,7 +224,7 @@ slash_between (word ∷ words) second h =
     behind_step (is_slash word) word words (up_to_slash words) second (behind_slash words) refl (slash_between words second) h
 
 -- a code point is no '/'
-no_slash : (word : List ℕ) (code : ℕ) → IsScalarOf word code → is_slash word ≡ false
+pub no_slash : (word : List ℕ) (code : ℕ) → IsScalarOf word code → is_slash word ≡ false
 no_slash word code h =
     false_from_ne_true (is_slash word)
     (λ e. let none = code_value-short word (let long = ap length (same_bytes word (codes "/") e) in omega (arith, long)) in

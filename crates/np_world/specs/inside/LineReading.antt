@@ -1,5 +1,5 @@
 -- What was read of a line: what it says, or why it says nothing.
-use Rattle.std.specs.Prelude.{◌≡◌, ℕ, Option, Some, None, Ok, Err, Result}
+use Rattle.std.specs.Prelude.{◌≡◌, Option, None}
 use Rattle.np_world.specs.declared.reading.faults.LineFault.{LineFault}
 use Rattle.np_world.specs.declared.reading.faults.LineFault.TheVariants.{Unfit, Memory}
 

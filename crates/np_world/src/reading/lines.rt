@@ -65,11 +65,7 @@ fn places_of(alloc: Global, words: Words<'_>, bound: usize) -> Result<Vec<usize>
 }
 
 /// The place of each node's first version that words say.
-fn starts_of(
-    alloc: Global,
-    mut words: Words<'_>,
-    versions: usize,
-) -> Result<Vec<usize>, LineFault>
+fn starts_of(alloc: Global, mut words: Words<'_>, versions: usize) -> Result<Vec<usize>, LineFault>
     ensures starts { IfOk result (λ starts. starts_value versions words.entry ≡ Some starts.items) }
     ensures refused { IfErr result (Lacks (starts_value versions words.entry)) }
 {
@@ -134,10 +130,5 @@ pub(crate) fn event_in(alloc: Global, text: &[u8], nodes: usize) -> Result<Event
     ensures ok { IfOk result (λ event. IsEventLine nodes text.now (event_of event)) }
     ensures refused { IfErr result (Refuses (IsEventLine nodes text.now)) }
 {
-    event_of_words(
-        alloc,
-        text.len(),
-        Words::new(text, Dividers::Blanks),
-        nodes,
-    )
+    event_of_words(alloc, text.len(), Words::new(text, Dividers::Blanks), nodes)
 }

@@ -14,8 +14,10 @@ pub(crate) fn number_in(word: &[u8]) -> Option<u32>
     if word.is_empty() || word.len() > MOST_DIGITS || word[0] == b'+' {
         return None;
     }
-    let text = str::from_utf8(word).ok()?;
-    text.parse::<u32>().ok()
+    match str::from_utf8(word) {
+        Ok(text) => text.parse::<u32>().ok(),
+        Err(_) => None,
+    }
 }
 
 /// The number that a word writes, where it is below a bound.
