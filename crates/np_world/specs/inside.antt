@@ -4,5 +4,6 @@ pub mod Mirrors
 pub mod Played
 pub mod ReportWriting
 pub mod Rust
+pub mod ScheduleReading
 pub mod Told
 pub mod Worlds

@@ -1,6 +1,10 @@
 //! Schedules, read from their bytes.
-ghost use Rattle.std.specs.Prelude.{◌≡◌, IfErr, IfOk};
-ghost use Rattle.np_world.specs.ScheduleFiles.{NamesLine, SaysSchedule};
+ghost use Rattle.std.specs.Prelude.{◌≡◌, ◌+◌, ◌∷◌, ◌<◌, ◌^◌, [], length, map, IfErr, IfOk, OnOk};
+ghost use Rattle.np_code_points.specs.Lines.{numbered};
+ghost use Rattle.np_world.specs.ScheduleFiles.{AreEventLines, NamesLine, SaysSchedule};
+ghost use Rattle.np_world.specs.ScheduleLines.{IsEventLine, IsNodesLine, IsRoomLine};
+ghost use Rattle.np_world.specs.inside.Rust.{event_of};
+ghost use Rattle.np_world.specs.inside.ScheduleReading.{fault_of, AddsEvent, AddsNone, Misses, NamesUnfit, NextRefuses, NextSays};
 
 mod arms;
 mod faults;
@@ -9,12 +13,18 @@ mod numbers;
 mod payloads;
 mod verbs;
 
+use crate::events::EventLine;
 use crate::schedules::Schedule;
-use std::alloc::Global;
+use lines::{LineFault, event_in, room_in, starts_in};
+use np_code_points::lines::{DataLine, DataLines};
+use std::alloc::{AllocError, AllocFailed, Global};
 use thiserror::Error;
 
+/// The most events of a schedule.
+const MOST_EVENTS: usize = 1_000_000;
+
 /// Why bytes are no schedule.
-#[derive(Clone, Copy, Debug, PartialEq, Eq, Drop, Error)]
+#[derive(Clone, Copy, Debug, PartialEq, Eq, Error)]
 pub enum ScheduleFault {
     /// The first line, from 1, that can't stand after the lines before it; where the file ends
     /// before its line of nodes, the line behind the last one.
@@ -23,6 +33,126 @@ pub enum ScheduleFault {
     /// Memory ran out.
     #[error("out of memory")]
     Memory,
+}
+
+impl From<AllocError> for ScheduleFault {
+    ghost use Rattle.np_world.specs.declared.reading.ScheduleFault.{ScheduleFault};
+
+    ghost from_gives = { λ _ e. e ≡ ScheduleFault.Memory };
+
+    fn from(_refused: AllocError) -> ScheduleFault {
+        ScheduleFault::Memory
+    }
+}
+
+impl<T: Drop> From<AllocFailed<T>> for ScheduleFault {
+    ghost use Rattle.np_world.specs.declared.reading.ScheduleFault.{ScheduleFault};
+
+    ghost from_gives = { λ _ e. e ≡ ScheduleFault.Memory };
+
+    fn from(_refused: AllocFailed<T>) -> ScheduleFault {
+        ScheduleFault::Memory
+    }
+}
+
+/// The fault of the line of this number, which gave nothing.
+fn fault_at(line: u64, fault: LineFault) -> ScheduleFault
+    ensures { result ≡ fault_of line fault }
+{
+    match fault {
+        LineFault::Unfit => ScheduleFault::Line { line },
+        LineFault::Memory => ScheduleFault::Memory,
+    }
+}
+
+/// The next line that holds data. Where there is none the file ends too early: the fault is the
+/// line behind its last one.
+fn next_line<'a>(lines: &mut DataLines<'a>) -> Result<DataLine<'a>, ScheduleFault>
+    requires { lines.old.total + 1 < 2 ^ 64 }
+    ensures line { IfOk result (λ line. lines.old.left ≡ numbered line ∷ lines.new.left) }
+    ensures total { lines.new.total ≡ lines.old.total }
+    ensures end { IfErr result (λ fault. (lines.old.left ≡ []) × (fault ≡ ScheduleFault.Line (lines.old.total + 1))) }
+{
+    match lines.next() {
+        Some(line) => Ok(line),
+        None => Err(ScheduleFault::Line {
+            line: lines.passed() + 1,
+        }),
+    }
+}
+
+/// The room of each node, as the next line says it.
+fn read_room(lines: &mut DataLines<'_>) -> Result<u32, ScheduleFault>
+    requires { lines.old.total + 1 < 2 ^ 64 }
+    ensures room { IfOk result (λ room. NextSays IsRoomLine lines.old room lines.new) }
+    ensures refused { IfErr result (NextRefuses IsRoomLine lines.old) }
+{
+    let line = next_line(lines)?;
+    match room_in(line.text) {
+        Some(room) => Ok(room),
+        None => Err(ScheduleFault::Line { line: line.number }),
+    }
+}
+
+/// The place of each node's first version, as the next line says it, of so many versions.
+fn read_starts(
+    alloc: Global,
+    lines: &mut DataLines<'_>,
+    versions: usize,
+) -> Result<Vec<usize>, ScheduleFault>
+    requires { lines.old.total + 1 < 2 ^ 64 }
+    ensures starts { IfOk result (λ starts. NextSays (IsNodesLine versions) lines.old starts.items lines.new) }
+    ensures refused { IfErr result (NextRefuses (IsNodesLine versions) lines.old) }
+{
+    let line = next_line(lines)?;
+    match starts_in(alloc, line.text, versions) {
+        Ok(starts) => Ok(starts),
+        Err(fault) => Err(fault_at(line.number, fault)),
+    }
+}
+
+/// The event that a line says, where there are so many nodes.
+fn read_event(alloc: Global, line: DataLine<'_>, nodes: usize) -> Result<EventLine, ScheduleFault>
+    ensures event { IfOk result (λ event. IsEventLine nodes line.entry.text.now (event_of event)) }
+    ensures refused { IfErr result (Misses line.entry.number (IsEventLine nodes line.entry.text.now)) }
+{
+    match event_in(alloc, line.text, nodes) {
+        Ok(event) => Ok(event),
+        Err(fault) => Err(fault_at(line.number, fault)),
+    }
+}
+
+/// Adds the event that a line says, unless there are as many as a schedule has at most.
+fn take_event(
+    alloc: Global,
+    events: &mut Vec<EventLine>,
+    line: DataLine<'_>,
+    nodes: usize,
+) -> Result<(), ScheduleFault>
+    ensures event { OnOk result (AddsEvent nodes (map event_of events.old.items) line.entry.text.now (map event_of events.new.items)) }
+    ensures refused { IfErr result (AddsNone nodes (map event_of events.old.items) (numbered line.entry)) }
+{
+    if events.len() >= MOST_EVENTS {
+        return Err(ScheduleFault::Line { line: line.number });
+    }
+    events.push(read_event(alloc, line, nodes)?)?;
+    Ok(())
+}
+
+/// The events that all lines left say, where there are so many nodes.
+fn read_events(
+    alloc: Global,
+    lines: DataLines<'_>,
+    nodes: usize,
+) -> Result<Vec<EventLine>, ScheduleFault>
+    ensures events { IfOk result (λ events. AreEventLines nodes lines.entry.left (map event_of events.items)) }
+    ensures refused { IfErr result (NamesUnfit nodes lines.entry.left) }
+{
+    let mut events = Vec::new(alloc);
+    for line in lines {
+        take_event(alloc, &mut events, line, nodes)?;
+    }
+    Ok(events)
 }
 
 /// Reads a schedule over so many versions (`docs/FORMATS.md`). In time linear in the bytes, with
@@ -40,5 +170,11 @@ pub fn read_schedule(
     ensures schedule { IfOk result (SaysSchedule bytes.now) }
     ensures refused { IfErr result (NamesLine bytes.now versions) }
 {
-    Err(ScheduleFault::Memory)
+    // Bytes are cut into lines in one way, and have no more lines than bytes.
+    np_code_points::laws::lines();
+    let mut lines = DataLines::new(bytes);
+    let room = read_room(&mut lines)?;
+    let starts = read_starts(alloc, &mut lines, versions)?;
+    let events = read_events(alloc, lines, starts.len())?;
+    Ok(Schedule::new(versions, room, starts, events))
 }

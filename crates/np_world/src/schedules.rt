@@ -1,6 +1,6 @@
 //! Schedules: what happens to nodes, one event a line.
 ghost use Rattle.std.specs.Prelude.{◌≡◌, ◌≤◌, map};
-ghost use Rattle.np_world.specs.inside.Rust.{event_of};
+ghost use Rattle.np_world.specs.inside.Rust.{event_of, schedule_data};
 ghost use Rattle.np_world.specs.Schedules.{IsStandable};
 
 use crate::events::EventLine;
@@ -29,6 +29,24 @@ impl Model for Schedule {
 }
 
 impl Schedule {
+    /// A schedule of what was read.
+    pub(crate) fn new(
+        versions: usize,
+        room: u32,
+        starts: Vec<usize>,
+        events: Vec<EventLine>,
+    ) -> Schedule
+        requires { IsStandable (schedule_data versions room starts.items events.items) }
+        ensures { result ≡ schedule_data versions room starts.items events.items }
+    {
+        Schedule {
+            versions,
+            room,
+            starts,
+            events,
+        }
+    }
+
     /// How many versions the chain has over which the schedule stands.
     pub fn versions(&self) -> usize
         ensures { result ≡ self.now.versions }
