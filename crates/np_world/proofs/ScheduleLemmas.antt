@@ -17,7 +17,7 @@ use Rattle.np_world.specs.inside.LineReading.{IsNoneOf}
 use Rattle.np_world.specs.inside.ScheduleReading.{AddsEvent, AddsNoEvent, AddsNone, NextSays, NextFalls, WalkEnds, NextRefuses, HasTaken, IsUnfitEvent, NamesUnfit}
 use Rattle.np_world.proofs.LineLemmas.{one_starts}
 
-abbrev EventHere : ℕ → Numbered → Event → Type 0
+abbrev pub EventHere : ℕ → Numbered → Event → Type 0
 EventHere nodes line event = IsEventLine nodes line.text event
 
 -- the last line says some event

@@ -1,5 +1,13 @@
-//! The law of the machine, over the definitions alone.
+//! The laws of schedules and of the machine, over the definitions alone: each function is empty,
+//! and its contract is what is proved.
 ghost use Rattle.np_world.specs.Laws.{OneRun};
+ghost use Rattle.np_world.specs.ReadingLaws.{HaveOneReading};
+
+/// Bytes say one schedule over so many versions, or one of their lines is the first that can't
+/// stand; and never both.
+pub fn one_schedule()
+    ensures { HaveOneReading }
+{}
 
 /// From each world on, the machine has at most one run over a list of events: its replies and the
 /// world at its end are determined. Nothing is asked of the versions.
