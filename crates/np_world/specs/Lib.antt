@@ -1,5 +1,6 @@
 pub mod Events
 pub mod Laws
+pub mod ReadingLaws
 pub mod ReportTexts
 pub mod Reports
 pub mod Runs

@@ -1,4 +1,4 @@
-//! The laws of schedules and of the machine, over the definitions alone: each function is empty,
+//! The laws of schedules and of the machine, over the definitions alone: each function does nothing,
 //! and its contract is what is proved.
 ghost use Rattle.np_world.specs.Laws.{OneRun};
 ghost use Rattle.np_world.specs.ReadingLaws.{HaveOneReading};

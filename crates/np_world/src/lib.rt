@@ -2,6 +2,7 @@
 #![tactic(auto)]
 
 mod events;
+pub mod fixtures;
 pub mod laws;
 mod members;
 mod reading;
