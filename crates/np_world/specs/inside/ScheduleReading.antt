@@ -6,8 +6,8 @@ use Rattle.np_world.specs.ScheduleFiles.{AreEventLines}
 use Rattle.np_world.specs.ScheduleLines.{IsEventLine}
 use Rattle.np_world.specs.declared.reading.ScheduleFault.{ScheduleFault}
 use Rattle.np_world.specs.declared.reading.ScheduleFault.TheVariants.{Line, Memory}
-use Rattle.np_world.specs.declared.reading.lines.LineFault.{LineFault}
-use Rattle.np_world.specs.declared.reading.lines.LineFault.TheVariants as told
+use Rattle.np_world.specs.declared.reading.faults.LineFault.{LineFault}
+use Rattle.np_world.specs.declared.reading.faults.LineFault.TheVariants as told
 use Rattle.np_world.specs.inside.LineReading.{IsNoneOf}
 
 -- the fault of a line that gave nothing

@@ -22,6 +22,7 @@ const MOST_ROOM: u32 = 65_536;
 const MOST_NODES: usize = 64;
 
 /// The room that words say.
+#[tactic(auto, unfolding(crate::specs::inside::LineValues::room_value, crate::specs::inside::LineValues::below_value))]
 fn room_of(mut words: Words<'_>) -> Option<u32>
     ensures { result ≡ room_value words.entry }
 {
@@ -65,6 +66,7 @@ fn places_of(alloc: Global, words: Words<'_>, bound: usize) -> Result<Vec<usize>
 }
 
 /// The place of each node's first version that words say.
+#[tactic(auto, unfolding(crate::specs::inside::LineValues::starts_value))]
 fn starts_of(alloc: Global, mut words: Words<'_>, versions: usize) -> Result<Vec<usize>, LineFault>
     ensures starts { IfOk result (λ starts. starts_value versions words.entry ≡ Some starts.items) }
     ensures refused { IfErr result (Lacks (starts_value versions words.entry)) }
@@ -96,6 +98,7 @@ pub(crate) fn starts_in(
 }
 
 /// The event that words say.
+#[tactic(auto, unfolding(crate::specs::inside::LineValues::event_value))]
 fn event_of_words(
     alloc: Global,
     most: usize,
