@@ -7,11 +7,14 @@ use std::str;
 /// The most digits of a number.
 const MOST_DIGITS: usize = 9;
 
+/// A sign, which `parse` would take.
+const PLUS: u8 = b'+';
+
 /// The number that a word of one to nine decimal digits writes. `None` for other words.
 pub(crate) fn number_in(word: &[u8]) -> Option<u32>
     ensures { result ≡ number_value word.now }
 {
-    if word.is_empty() || word.len() > MOST_DIGITS || word[0] == b'+' {
+    if word.is_empty() || word.len() > MOST_DIGITS || word[0] == PLUS {
         return None;
     }
     match str::from_utf8(word) {
