@@ -1,4 +1,5 @@
 pub mod Accepting
+pub mod Comparing
 pub mod Fields
 pub mod Images
 pub mod Laws

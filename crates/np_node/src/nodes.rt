@@ -1,13 +1,12 @@
 //! The strings that a node keeps, each beside its key.
-ghost use Rattle.std.specs.Prelude.{◌≡◌, ◌↔◌, ◌≤◌, [], length, slice_get, IsOk, IsTrue, IfOk, IfErr, IfSome, IfNone, OnOk, OnErr, OnSome, Contains};
+ghost use Rattle.std.specs.Prelude.{◌≡◌, ◌↔◌, ◌≤◌, [], length, slice_get, IsOk, IsTrue, IfOk, IfErr, IfSome, IfNone, OnOk, OnErr, Contains};
 ghost use Rattle.std.specs.Option.{option_map};
 ghost use Rattle.np_chain.specs.Breaks.{IsFirstBreak};
 ghost use Rattle.np_chain.specs.Chain.{Extends};
-ghost use Rattle.np_code_points.specs.Forms.{is_compat};
-ghost use Rattle.np_forms.specs.Forms.{IsEquivalent};
+ghost use Rattle.np_node.specs.Comparing.{AnswersSame};
 ghost use Rattle.np_node.specs.Nodes.{state_of, with_entry, HasPlace, IsKept, IsNode};
 ghost use Rattle.np_node.specs.Strings.{IsKey};
-ghost use Rattle.std.specs.Prelude.{chars, string_bytes};
+ghost use Rattle.std.specs.Prelude.{string_bytes};
 
 use crate::entries::Entries;
 use crate::fields::same_bytes;
@@ -125,9 +124,7 @@ impl<'t, T: NormTable> Node<'t, T> {
     /// NFKC), which their keys tell; none where one of them is not kept. Two look-ups by hash and
     /// one comparison of bytes.
     pub fn same(&self, left: &str, right: &str) -> Option<bool>
-        ensures some { IfSome result (λ b. IsTrue b ↔ IsEquivalent (T.model self.now.table) (is_compat self.now.form) (chars left.now) (chars right.now)) }
-        ensures kept { OnSome result (IsKept self.now.entries left.now × IsKept self.now.entries right.now) }
-        ensures none { IfNone result (¬ (IsKept self.now.entries left.now × IsKept self.now.entries right.now)) }
+        ensures { AnswersSame (state_of T.model self.now) left.now right.now result }
     {
         let _node = &self.table;
         let first = self.key_of(left)?;

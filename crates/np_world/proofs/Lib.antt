@@ -3,6 +3,7 @@ pub mod AskLemmas
 pub mod CaseLemmas
 pub mod DeliverLemmas
 pub mod ForgeLemmas
+pub mod ImageLemmas
 pub mod LineGrammar
 pub mod LineLemmas
 pub mod MachineLemmas

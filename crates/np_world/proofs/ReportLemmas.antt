@@ -1,9 +1,9 @@
 -- What a report that mirrors the machine's run says.
-use Rattle.std.proofs.Common.{◌≡◌, ℕ, zero, suc, ◌-◌, ◌≤◌, ◌⊎◌, ◌↔◌, List, [], ◌∷◌, length, get_or, map, slice_get, Option, Some, None, refl, sym, ap, subst, ◌∙◌, arith, inl, inr}
+use Rattle.std.proofs.Common.{◌≡◌, ℕ, zero, suc, ◌-◌, ◌≤◌, ◌⊎◌, ◌↔◌, List, [], ◌∷◌, length, get_or, map, slice_get, Option, Some, None, Bool, true, false, IsTrue, refl, sym, ap, subst, ◌∙◌, arith, inl, inr}
 use Rattle.std.proofs.lemmas.List.{length-map}
 use Rattle.std.proofs.lemmas.Option.{slice_get_within}
 use Rattle.std.specs.Option.{option_map, option_and_then}
-use Rattle.std.specs.Prelude.{chars, IfSome, IsSomeAnd, MatchOption}
+use Rattle.std.specs.Prelude.{chars, Contains, IfSome, IsSome, IsSomeAnd, MatchOption}
 use Rattle.std.specs.declared.vec.Vec.{Vec}
 use Rattle.std.specs.declared.alloc.Global.{Global}
 use Rattle.np_chain.proofs.ChainLemmas.{StandsAt-from}
@@ -13,13 +13,14 @@ use Rattle.np_code_points.specs.Forms.{is_compat}
 use Rattle.np_forms.specs.Forms.{IsEquivalent}
 use Rattle.np_forms.specs.Laws.{SameForms}
 use Rattle.np_node.proofs.KeyLemmas.{later_key}
-use Rattle.np_node.specs.Nodes.{NodeState}
+use Rattle.np_node.specs.Comparing.{AnswersSame}
+use Rattle.np_node.specs.Nodes.{NodeState, state_of, IsKept}
 use Rattle.np_node.specs.Strings.{IsKeepable, IsKey}
 use Rattle.np_tables.specs.Versions.{VersionData}
-use Rattle.np_world.specs.Events.{ScheduleData}
+use Rattle.np_world.specs.Events.{ScheduleData, Save}
 use Rattle.np_world.specs.Laws.{OneRun}
 use Rattle.np_world.specs.Reports.{image_at, image_in, index_at, message_at, node_at, replies_of}
-use Rattle.np_world.specs.Runs.{setting_over, AreKeysUnder, HasOneRun, InTheRun, IsImageUnder, IsLast, IsMessageUnder, IsNodeOf, TellsOf, texts_in}
+use Rattle.np_world.specs.Runs.{setting_over, AgreeOn, AnswerAlike, AreKeysUnder, HasOneRun, InTheRun, IsImageUnder, IsLast, IsMessageUnder, IsNodeOf, texts_in}
 use Rattle.np_world.specs.World.{MachineNode, World, IsRun, start}
 use Rattle.np_world.specs.declared.members.Member.{Member}
 use Rattle.np_world.specs.declared.replies.Reply.{Reply}
@@ -70,6 +71,19 @@ sent_at versions form room (b ∷ bs) (s ∷ ss) (suc k) are =
       | inr both ↦ inr (record { bytes = both.bytes; string = both.string; first = both.first; second = both.second; is = both.is })
     ]
 
+-- ---- two answers
+
+record TellsIn (v : VersionData) (form : Form) (left right : List ℕ) (answer : Option Bool) : Type 0 where
+  equal : Bool
+  is : answer ≡ Some equal
+  tells : IsTrue equal ↔ IsEquivalent v (is_compat form) (chars left) (chars right)
+
+same_truth : (a b : Bool) → (IsTrue a → IsTrue b) → (IsTrue b → IsTrue a) → a ≡ b
+same_truth true true there back = refl
+same_truth true false there back = sym (there refl)
+same_truth false true there back = back refl
+same_truth false false there back = refl
+
 module _ {T : Type 0} (model : T → VersionData) (tables : List T) (form : Form) (schedule : ScheduleData) (report : Report T) (is : IsPlayed model tables form schedule report) where
   abbrev rules : Rules T
   rules = rules_over tables form schedule
@@ -115,6 +129,9 @@ module _ {T : Type 0} (model : T → VersionData) (tables : List T) (form : Form
             (record { place = both.member.index; index_is = refl; table_is = both.mirrors.table; form_is = both.mirrors.form; room_is = both.mirrors.room })
       ]
 
+  pub images_are : (i : ℕ) → IsSome (image_at report i) ↔ Contains schedule.events (Save i)
+  images_are = is.ends.images
+
   -- a fact of each node
   if_node : (P : NodeState T → Type 0) → ((member : Member T) (node : MachineNode) → Mirrors model (rules_over tables form schedule) member node → P member.node) → (i : ℕ) → IfSome (node_at report i) P
   if_node P each i =
@@ -143,10 +160,27 @@ module _ {T : Type 0} (model : T → VersionData) (tables : List T) (form : Form
         let e = get_or member.node.entries k d in
         last_key member.index (model member.node.table) here e.string e.key entry.keepable (subst (λ f. IsKey (model member.node.table) f e.string e.key) m.form entry.key))
 
-    pub tells_alike : (i : ℕ) → IfSome (node_at report i) (λ node. TellsOf (model node.table) last form node.entries)
-    tells_alike = if_node (λ node. TellsOf (model node.table) last form node.entries) (λ member node m left right one other.
+    pub agree_on : (i : ℕ) → IfSome (node_at report i) (λ node. AgreeOn (model node.table) last form node.entries)
+    agree_on = if_node (λ node. AgreeOn (model node.table) last form node.entries) (λ member node m left right one other.
         subst (λ f. IsEquivalent (model member.node.table) (is_compat f) (chars left) (chars right) ↔ IsEquivalent last (is_compat form) (chars left) (chars right)) m.form
         (equivalent_last model rules member node last m is.rules_hold stability forms ends_at left right one other))
+
+    -- what a node answers of two strings that it keeps is whether they are equivalent under the last version
+    answer_is : (member : Member T) (node : MachineNode) → Mirrors model (rules_over tables form schedule) member node → (left right : List ℕ) → IsKept member.node.entries left → IsKept member.node.entries right
+        → (answer : Option Bool) → AnswersSame (state_of model member.node) left right answer → TellsIn last form left right answer
+    answer_is member node m left right one other None answers = absurd (answers (one, other))
+    answer_is member node m left right one other (Some equal) answers =
+        let same = equivalent_last model rules member node last m is.rules_hold stability forms ends_at left right one other in
+        record { equal = equal; is = refl; tells = (λ t. same.0 (answers.2.0 t), λ e. answers.2.1 (same.1 e)) }
+
+    pub tells_alike : (i j : ℕ) → IfSome (node_at report i) (λ node. IfSome (node_at report j) (λ other. AnswerAlike last form (state_of model node) (state_of model other)))
+    tells_alike i j =
+        if_node (λ node. IfSome (node_at report j) (λ other. AnswerAlike last form (state_of model node) (state_of model other))) (λ member node m.
+        if_node (λ other. AnswerAlike last form (state_of model member.node) (state_of model other)) (λ next twin n left right one other here there first second answers says.
+        let a = answer_is member node m left right one other first answers in
+        let b = answer_is next twin n left right here there second says in
+        let same = same_truth b.equal a.equal (λ t. a.tells.1 (b.tells.0 t)) (λ t. b.tells.1 (a.tells.0 t)) in
+        record { equal = a.equal; first = a.is; second = b.is ∙ ap Some same; tells = a.tells }) j) i
 
     pub sent_are : InTheRun (setting_over model tables form schedule) schedule
         (λ replies world. (i : ℕ) → MatchOption (slice_get world.sent i) (message_at report i ≡ None) (λ string. IsSomeAnd (message_at report i) (IsMessageUnder last form string)))

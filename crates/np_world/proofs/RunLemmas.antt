@@ -18,7 +18,8 @@ use Rattle.np_world.specs.inside.Mirrors.{Rules, setting_of, Mirrors, AreRules}
 use Rattle.np_world.specs.declared.report.Report.{Report}
 use Rattle.np_world.specs.inside.Played.{IsPlayed}
 use Rattle.np_world.specs.inside.Rust.{event_of}
-use Rattle.np_world.specs.inside.Worlds.{AreMirrored, IsShown, Steps, Begins, EndsRun}
+use Rattle.np_world.specs.inside.Worlds.{AreMirrored, HaveImages, IsShown, LeavesImages, Steps, Begins, EndsRun}
+use Rattle.np_world.proofs.ImageLemmas.{images_lack, images_more, images_none}
 
 run-push : (setting : Setting) (before : World) (events : List Event) (replies : List Reply) (between : World) (event : Event) (reply : Reply) (after : World)
     → IsRun setting before events replies between → IsStep setting between event reply after → IsRun setting before (events ++ event ∷ []) (replies ++ reply ∷ []) after
@@ -42,14 +43,14 @@ module _ {T : Type 0} (model : T → VersionData) (rules : Rules T) where
 
   -- nothing happened yet
   pub ends-nothing : (starts : List ℕ) (events : List EventLine) (members : List (Member T)) → Begins model rules members starts → EndsRun model rules starts (map event_of (take 0 events)) [] members []
-  ends-nothing starts events members begins = record { world = start starts; run = (refl, refl); shows = record { nodes = begins; sent = tt } }
+  ends-nothing starts events members begins = record { world = start starts; run = (refl, refl); shows = record { nodes = begins.nodes; sent = tt }; images = begins.images }
 
   -- one event more
   pub ends-more : (starts : List ℕ) (events : List EventLine) (i : ℕ) (event : EventLine) (replies : List Reply) (members new : List (Member T)) (told new_told : List (Vec ℕ Global)) (reply : Reply) (more_replies : List Reply) → i < length events
       → more_replies ≡ replies ++ reply ∷ [] → event ≡ get_or events i event → AreRules model rules
-      → EndsRun model rules starts (map event_of (take i events)) replies members told → Steps model rules members told (event_of event) reply new new_told
+      → EndsRun model rules starts (map event_of (take i events)) replies members told → Steps model rules members told (event_of event) reply new new_told → LeavesImages (event_of event) members new
       → EndsRun model rules starts (map event_of (take (i + 1) events)) more_replies new new_told
-  ends-more starts events i event replies members new told new_told reply more_replies lt pushed here are ends steps =
+  ends-more starts events i event replies members new told new_told reply more_replies lt pushed here are ends steps leaves =
       let step = steps ends.world are ends.shows in
       let more : map event_of (take (i + 1) events) ≡ map event_of (take i events) ++ event_of event ∷ [] =
       ap (map event_of) (take_more events i event lt) ∙ map-append event_of (take i events) (get_or events i event ∷ []) ∙ ap (λ e. map event_of (take i events) ++ event_of e ∷ []) (sym here) in
@@ -59,6 +60,7 @@ module _ {T : Type 0} (model : T → VersionData) (rules : Rules T) where
             (subst (λ es. IsRun (setting_of model rules) (start starts) es (replies ++ reply ∷ []) step.0) (sym more)
             (run-push (setting_of model rules) (start starts) (map event_of (take i events)) replies ends.world (event_of event) reply step.0 ends.run step.1));
         shows = step.2;
+        images = subst (HaveImages new) (sym more) (images_more members new (map event_of (take i events)) (event_of event) ends.images leaves);
       }
 
   -- the nodes stay as many as there were
@@ -94,13 +96,19 @@ module _ {T : Type 0} (model : T → VersionData) (rules : Rules T) where
         saved = refl;
       })
 
+  pub begins-nothing : (members : List (Member T)) (starts : List ℕ) → members ≡ [] → Begins model rules members (take 0 starts)
+  begins-nothing members starts none = subst (λ l. Begins model rules l (take 0 starts)) (sym none) (record { nodes = tt; images = images_none T })
+
   pub begins-more : (members more : List (Member T)) (starts : List ℕ) (i : ℕ) (member : Member T) → i < length starts → more ≡ members ++ member ∷ [] → Begins model rules members (take i starts)
-      → Mirrors model rules member (first_node (get_or starts i 0)) → Begins model rules more (take (i + 1) starts)
-  begins-more members more starts i member lt pushed begins is =
+      → member.image ≡ None → Mirrors model rules member (first_node (get_or starts i 0)) → Begins model rules more (take (i + 1) starts)
+  begins-more members more starts i member lt pushed begins none is =
       let grown : (start (take (i + 1) starts)).nodes ≡ (start (take i starts)).nodes ++ first_node (get_or starts i 0) ∷ [] =
       ap (map first_node) (take_more starts i 0 lt) ∙ map-append first_node (take i starts) (get_or starts i 0 ∷ []) in
-      subst (λ l. AreMirrored model rules l (start (take (i + 1) starts)).nodes) (sym pushed)
-      (subst (AreMirrored model rules (members ++ member ∷ [])) (sym grown) (mirrored-push members (start (take i starts)).nodes member (first_node (get_or starts i 0)) begins is))
+      subst (λ l. Begins model rules l (take (i + 1) starts)) (sym pushed)
+      (record {
+        nodes = subst (AreMirrored model rules (members ++ member ∷ [])) (sym grown) (mirrored-push members (start (take i starts)).nodes member (first_node (get_or starts i 0)) begins.nodes is);
+        images = images_lack members member none begins.images;
+      })
 
   pub shown : (starts : List ℕ) (events : List Event) (replies : List Reply) (members : List (Member T)) (told : List (Vec ℕ Global)) → AreRules model rules → EndsRun model rules starts events replies members told → IsShown model rules members told
   shown starts events replies members told are ends = record { rules_hold = are; world = ends.world; shows = ends.shows }

@@ -1,11 +1,12 @@
 -- What a replay tells: the machine's run over a schedule, and what stands beside it in the report.
-use Rattle.std.specs.Prelude.{◌≡◌, ◌↔◌, ℕ, ◌-◌, List, length, map, chars, slice_get, Option, Some, All}
+use Rattle.std.specs.Prelude.{◌≡◌, ◌↔◌, ℕ, ◌-◌, List, length, map, chars, slice_get, Bool, IsTrue, Option, Some, All}
 use Rattle.np_code_points.specs.declared.forms.Form.{Form}
 use Rattle.np_code_points.specs.Forms.{is_compat}
 use Rattle.np_forms.specs.Forms.{IsEquivalent}
+use Rattle.np_node.specs.Comparing.{AnswersSame}
 use Rattle.np_node.specs.Images.{image_bytes}
 use Rattle.np_node.specs.Messages.{message_bytes}
-use Rattle.np_node.specs.Nodes.{NodeState, strings_of, IsKept}
+use Rattle.np_node.specs.Nodes.{NodeState, State, strings_of, IsKept}
 use Rattle.np_node.specs.Strings.{Entry, IsKey}
 use Rattle.np_tables.specs.Versions.{VersionData}
 use Rattle.np_world.specs.Events.{ScheduleData}
@@ -62,8 +63,22 @@ pub record IsImageUnder (v : VersionData) (form : Form) (strings : List (List �
   pub keys : AreKeysUnder v form entries
   pub spelling : bytes ≡ image_bytes (record { form = form; entries = entries })
 
--- what a node with this version tells of two strings that it keeps is whether they are equivalent under the last version
-abbrev pub TellsOf : VersionData → VersionData → Form → List Entry → Type 0
-TellsOf version last form entries =
+-- the version of a node and another one agree whether two strings that it keeps are equivalent
+abbrev pub AgreeOn : VersionData → VersionData → Form → List Entry → Type 0
+AgreeOn version last form entries =
     (left right : List ℕ) → IsKept entries left → IsKept entries right
     → IsEquivalent version (is_compat form) (chars left) (chars right) ↔ IsEquivalent last (is_compat form) (chars left) (chars right)
+
+-- two answers of `same` to two strings are one: whether these are equivalent under a version
+pub record IsOneAnswer (v : VersionData) (form : Form) (left right : List ℕ) (answer other : Option Bool) : Type 0 where
+  pub equal : Bool
+  pub first : answer ≡ Some equal
+  pub second : other ≡ Some equal
+  pub tells : IsTrue equal ↔ IsEquivalent v (is_compat form) (chars left) (chars right)
+
+-- of two strings that both nodes keep, `same` answers the same at both: whether they are equivalent under a version
+abbrev pub AnswerAlike : VersionData → Form → State → State → Type 0
+AnswerAlike v form node other =
+    (left right : List ℕ) → IsKept node.entries left → IsKept node.entries right → IsKept other.entries left → IsKept other.entries right
+    → (first second : Option Bool) → AnswersSame node left right first → AnswersSame other left right second
+    → IsOneAnswer v form left right first second

@@ -1,9 +1,11 @@
 //! Schedules, replayed by real nodes.
-ghost use Rattle.std.specs.Prelude.{◌≡◌, ◌<◌, ◌≤◌, ℕ, length, map, slice_get, Some, slice_index, None, [], IfOk, IfSome, IsSomeAnd, MatchOption};
+ghost use Rattle.std.specs.Prelude.{◌≡◌, ◌<◌, ◌≤◌, ◌↔◌, ℕ, length, map, slice_get, Some, slice_index, None, [], Contains, IfOk, IfSome, IsSome, IsSomeAnd, MatchOption};
 ghost use Rattle.std.specs.Option.{option_map};
 ghost use Rattle.np_tables.specs.Versions.{VersionData};
+ghost use Rattle.np_node.specs.Nodes.{state_of};
+ghost use Rattle.np_world.specs.Events.{Save};
 ghost use Rattle.np_world.specs.Reports.{image_at, index_at, message_at, node_at, replies_of};
-ghost use Rattle.np_world.specs.Runs.{setting_over, AreKeysUnder, HasOneRun, InTheRun, IsImageUnder, IsLast, IsMessageUnder, IsNodeOf, TellsOf, texts_in};
+ghost use Rattle.np_world.specs.Runs.{setting_over, AgreeOn, AnswerAlike, AreKeysUnder, HasOneRun, InTheRun, IsImageUnder, IsLast, IsMessageUnder, IsNodeOf, texts_in};
 ghost use Rattle.np_world.specs.inside.Mirrors.{rules_of, AreRules};
 ghost use Rattle.np_world.specs.inside.Played.{IsPlayed};
 ghost use Rattle.np_world.specs.inside.Worlds.{Begins, EndsRun};
@@ -136,8 +138,12 @@ pub fn replay<'t, T: NormTable>(
         → InTheRun (setting_over T.model chain.now form schedule.now) schedule.now
         (λ replies world. (i : ℕ) → MatchOption (slice_get world.nodes i) (image_at report i ≡ None)
         (λ node. MatchOption (image_at report i) (node.saved ≡ []) (IsImageUnder last form node.saved)))) }
+    ensures images { IfOk result (λ report. (i : ℕ) → IsSome (image_at report i) ↔ Contains schedule.now.events (Save i)) }
+    ensures equivalence { IfOk result (λ report. (last : VersionData) → IsLast (setting_over T.model chain.now form schedule.now) last
+        → (i : ℕ) → IfSome (node_at report i) (λ node. AgreeOn (T.model node.table) last form node.entries)) }
     ensures alike { IfOk result (λ report. (last : VersionData) → IsLast (setting_over T.model chain.now form schedule.now) last
-        → (i : ℕ) → IfSome (node_at report i) (λ node. TellsOf (T.model node.table) last form node.entries)) }
+        → (i j : ℕ) → IfSome (node_at report i) (λ node. IfSome (node_at report j)
+        (λ other. AnswerAlike last form (state_of T.model node) (state_of T.model other)))) }
 {
     // All clauses speak of one run: there is no other.
     crate::laws::one_run();

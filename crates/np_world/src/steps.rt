@@ -3,7 +3,7 @@ ghost use Rattle.std.specs.Prelude.{◌≡◌, ◌<◌, length, IfOk};
 ghost use Rattle.np_world.specs.Events.{node_of};
 ghost use Rattle.np_world.specs.inside.Mirrors.{rules_of};
 ghost use Rattle.np_world.specs.inside.Rust.{event_of};
-ghost use Rattle.np_world.specs.inside.Worlds.{IsShown, Steps};
+ghost use Rattle.np_world.specs.inside.Worlds.{IsShown, LeavesImages, Steps};
 
 use crate::events::EventLine;
 use crate::members::{Common, Member};
@@ -21,7 +21,8 @@ pub(crate) fn step<'t, T: NormTable>(
 ) -> Result<Reply, Memory>
     requires shown { IsShown T.model (rules_of common.now) members.old sent.old.items }
     requires named { node_of (event_of event.now) < length members.old }
-    ensures { IfOk result (λ reply. Steps T.model (rules_of common.now) members.old sent.old.items (event_of event.now) reply members.new sent.new.items) }
+    ensures step { IfOk result (λ reply. Steps T.model (rules_of common.now) members.old sent.old.items (event_of event.now) reply members.new sent.new.items) }
+    ensures images { IfOk result (λ reply. LeavesImages (event_of event.now) members.old members.new) }
 {
     match event {
         EventLine::Accept { node, string } => {

@@ -1,5 +1,5 @@
 //! What each event does to a node of a replay.
-ghost use Rattle.std.specs.Prelude.{◌≡◌, ◌≤◌, chars, IfOk};
+ghost use Rattle.std.specs.Prelude.{◌≡◌, ◌≤◌, chars, IfOk, IsSome};
 ghost use Rattle.np_world.specs.World.{Accepts, Asks, Delivers, Forges, Restarts, Saves, Upgrades};
 ghost use Rattle.np_world.specs.inside.Mirrors.{rules_of, setting_of, IsReady, Turns};
 ghost use Rattle.np_world.specs.inside.Told.{refusal_of};
@@ -33,9 +33,10 @@ pub(crate) fn accept<T: NormTable>(
     sent: &mut Vec<Vec<u8>>,
     string: &str,
 ) -> Result<Reply, Memory>
-    ensures { IfOk result (λ reply. Turns T.model (rules_of common.now)
+    ensures turn { IfOk result (λ reply. Turns T.model (rules_of common.now)
         (λ version last. Accepts (setting_of T.model (rules_of common.now)) version (chars string.now))
         member.old sent.old.items reply member.new sent.new.items) }
+    ensures image { member.new.image ≡ member.old.image }
 {
     let number = sent.len();
     match member.node.accept(string.as_bytes()) {
@@ -55,9 +56,10 @@ pub(crate) fn deliver<T: NormTable>(
     sent: &Vec<Vec<u8>>,
     message: usize,
 ) -> Result<Reply, Memory>
-    ensures { IfOk result (λ reply. Turns T.model (rules_of common.now)
+    ensures turn { IfOk result (λ reply. Turns T.model (rules_of common.now)
         (λ version last. Delivers (setting_of T.model (rules_of common.now)) version message)
         member.old sent.now.items reply member.new sent.now.items) }
+    ensures image { member.new.image ≡ member.old.image }
 {
     if message >= sent.len() {
         return Ok(Reply::NoMessage);
@@ -74,9 +76,10 @@ pub(crate) fn forge<T: NormTable>(
     member: &mut Member<'_, T>,
     bytes: &[u8],
 ) -> Result<Reply, Memory>
-    ensures { (messages : _) → IfOk result (λ reply. Turns T.model (rules_of common.now)
+    ensures turn { (messages : _) → IfOk result (λ reply. Turns T.model (rules_of common.now)
         (λ version last. Forges (setting_of T.model (rules_of common.now)) version bytes.now)
         member.old messages reply member.new messages) }
+    ensures image { member.new.image ≡ member.old.image }
 {
     // Bytes spell one message at most.
     np_node::laws::messages();
@@ -93,9 +96,10 @@ pub(crate) fn upgrade<'t, T: NormTable>(
     member: &mut Member<'t, T>,
 ) -> Reply
     requires { IsReady T.model (rules_of common.now) member.old }
-    ensures { (messages : _) → Turns T.model (rules_of common.now)
+    ensures turn { (messages : _) → Turns T.model (rules_of common.now)
         (λ version last. Upgrades (setting_of T.model (rules_of common.now)))
         member.old messages result member.new messages }
+    ensures image { member.new.image ≡ member.old.image }
 {
     // What a node keeps and saved holds under the next version too.
     np_node::laws::saved();
@@ -113,8 +117,9 @@ pub(crate) fn save<T: NormTable>(
     common: &Common<'_, '_, T>,
     member: &mut Member<'_, T>,
 ) -> Result<Reply, Memory>
-    ensures { (messages : _) → IfOk result (λ reply. Turns T.model (rules_of common.now)
+    ensures turn { (messages : _) → IfOk result (λ reply. Turns T.model (rules_of common.now)
         (λ version last. Saves) member.old messages reply member.new messages) }
+    ensures image { IfOk result (λ reply. IsSome member.new.image) }
 {
     let image = member.node.image()?;
     member.image = Some(image);
@@ -143,8 +148,9 @@ pub(crate) fn restart<'t, T: NormTable>(
     member: &mut Member<'t, T>,
 ) -> Result<Reply, Memory>
     requires { IsReady T.model (rules_of common.now) member.old }
-    ensures { (messages : _) → IfOk result (λ reply. Turns T.model (rules_of common.now)
+    ensures turn { (messages : _) → IfOk result (λ reply. Turns T.model (rules_of common.now)
         (λ version last. Restarts) member.old messages reply member.new messages) }
+    ensures image { member.new.image ≡ member.old.image }
 {
     let table = member.node.table();
     let Some(image) = &member.image else {

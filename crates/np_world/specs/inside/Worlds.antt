@@ -1,9 +1,11 @@
 -- How the nodes and messages of a replay mirror the machine's world.
-use Rattle.std.specs.Prelude.{ℕ, List, [], ◌∷◌, Bool, false, ◌==◌}
+use Rattle.std.specs.Prelude.{◌≡◌, ◌↔◌, ◌⊎◌, ℕ, List, [], ◌∷◌, Option, slice_get, Contains, IsSome}
+use Rattle.std.specs.Option.{option_and_then}
 use Rattle.std.specs.declared.vec.Vec.{Vec}
 use Rattle.std.specs.declared.alloc.Global.{Global}
 use Rattle.np_tables.specs.Versions.{VersionData}
-use Rattle.np_world.specs.Events.{Event, Accept, Deliver, Upgrade, Save, Restart, Ask, Forge}
+use Rattle.np_world.specs.Events.{Event, Save}
+use Rattle.np_world.specs.Reports.{image_in}
 use Rattle.np_world.specs.World.{MachineNode, World, IsStep, IsRun, start}
 use Rattle.np_world.specs.declared.members.Member.{Member}
 use Rattle.np_world.specs.declared.replies.Reply.{Reply}
@@ -32,22 +34,26 @@ Steps model rules old sent event reply new told =
     (world : World) → AreRules model rules → ShowsWorld model rules old sent world
     → (after : World) × IsStep (setting_of model rules) world event reply after × ShowsWorld model rules new told after
 
--- an event saves a node
-abbrev pub saves_node : ℕ → Event → Bool
-saves_node node (Accept i string) = false
-saves_node node (Deliver i message) = false
-saves_node node (Upgrade i) = false
-saves_node node (Save i) = i == node
-saves_node node (Restart i) = false
-saves_node node (Ask i left right) = false
-saves_node node (Forge i bytes) = false
+-- the image of the member of a number
+abbrev pub image_of : {T : Type 0} → List (Member T) → ℕ → Option (List ℕ)
+image_of members k = option_and_then image_in (slice_get members k)
+
+-- an event saves the node that it names, and leaves the image of each other one
+abbrev pub LeavesImages : {T : Type 0} → Event → List (Member T) → List (Member T) → Type 0
+LeavesImages event old new = (k : ℕ) → IsSome (image_of new k) ↔ (IsSome (image_of old k) ⊎ (event ≡ Save k))
+
+-- there is an image of a node exactly where an event saves it
+abbrev pub HaveImages : {T : Type 0} → List (Member T) → List Event → Type 0
+HaveImages members events = (k : ℕ) → IsSome (image_of members k) ↔ Contains events (Save k)
 
 -- each node is as at the start
-abbrev pub Begins : {T : Type 0} → (T → VersionData) → Rules T → List (Member T) → List ℕ → Type 0
-Begins model rules members starts = AreMirrored model rules members (start starts).nodes
+pub record Begins {T : Type 0} (model : T → VersionData) (rules : Rules T) (members : List (Member T)) (starts : List ℕ) : Type 0 where
+  pub nodes : AreMirrored model rules members (start starts).nodes
+  pub images : HaveImages members []
 
--- the machine's run over events ends in a world that is shown
+-- the machine's run over events ends in a world that is shown, and the images are those of the nodes that an event saved
 pub record EndsRun {T : Type 0} (model : T → VersionData) (rules : Rules T) (starts : List ℕ) (events : List Event) (replies : List Reply) (members : List (Member T)) (told : List (Vec ℕ Global)) : Type 0 where
   pub world : World
   pub run : IsRun (setting_of model rules) (start starts) events replies world
   pub shows : ShowsWorld model rules members told world
+  pub images : HaveImages members events

@@ -18,7 +18,7 @@ returns g c =
     let v = c.in_ok-members.members in
     let ws = c.run_events.new.members in
     let starts = c.starts-starts.result.now in
-    let begun = length-mirrored model rules v.items (start starts).nodes c.in_ok-members.ensures in
+    let begun = length-mirrored model rules v.items (start starts).nodes c.in_ok-members.ensures.nodes in
     let many = length-map starts first_node in
     let ended = count_ends model rules starts (map event_of c.events.result.now) c.in_ok-replies.field-0.replies.items ws c.in_ok-replies.field-0.sent.items c.in_ok-replies.ensures in
     played model c.args.chain.now c.args.form c.args.schedule.now _ c.room-room.result starts (map event_of c.events.result.now) ws

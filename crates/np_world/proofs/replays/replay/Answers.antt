@@ -1,4 +1,4 @@
-use Rattle.np_world.proofs.ReportLemmas.{indices_are, keys_are, nodes_are, one_is, replies_are, saved_are, sent_are, strings_are, tells_alike}
+use Rattle.np_world.proofs.ReportLemmas.{agree_on, images_are, indices_are, keys_are, nodes_are, one_is, replies_are, saved_are, sent_are, strings_are, tells_alike}
 use Rattle.np_world.proofs.StepLemmas.{if_ok}
 use Rattle.np_world.proofs.replays.replay.Goals as goal
 
@@ -25,6 +25,12 @@ returns-clause-sent g c = if_ok _ _ _ (λ report is. sent_are g.T.NormTable.mode
 
 pub returns-clause-saved : goal.returns-clause-saved
 returns-clause-saved g c = if_ok _ _ _ (λ report is. saved_are g.T.NormTable.model c.args.chain.now c.args.form c.args.schedule.now report is c.one_run.ensures c.stability.ensures c.idempotence.ensures.same) c.play.ensures
+
+pub returns-clause-images : goal.returns-clause-images
+returns-clause-images g c = if_ok _ _ _ (λ report is. images_are g.T.NormTable.model c.args.chain.now c.args.form c.args.schedule.now report is) c.play.ensures
+
+pub returns-clause-equivalence : goal.returns-clause-equivalence
+returns-clause-equivalence g c = if_ok _ _ _ (λ report is. agree_on g.T.NormTable.model c.args.chain.now c.args.form c.args.schedule.now report is c.one_run.ensures c.stability.ensures c.idempotence.ensures.same) c.play.ensures
 
 pub returns-clause-alike : goal.returns-clause-alike
 returns-clause-alike g c = if_ok _ _ _ (λ report is. tells_alike g.T.NormTable.model c.args.chain.now c.args.form c.args.schedule.now report is c.one_run.ensures c.stability.ensures c.idempotence.ensures.same) c.play.ensures

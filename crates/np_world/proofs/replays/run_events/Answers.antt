@@ -20,4 +20,4 @@ loop-event-preserved g c =
     let rules = rules_of c.args.common.now in
     let i = c.loop-event.event-index in
     ends-more model rules c.args.starts.now c.args.events.now i c.event-item.result c.loop-event.replies.items c.loop-event.members c.step.new.members c.loop-event.sent.items c.step.new.sent.items c.in_ok-step.field-0
-    c.push.new.self.items c.loop-event-test.true c.in_ok-push.ensures.items c.event-item.is c.requires.rules c.loop-event.invariant c.in_ok-step.ensures
+    c.push.new.self.items c.loop-event-test.true c.in_ok-push.ensures.items c.event-item.is c.requires.rules c.loop-event.invariant c.in_ok-step.ensures.step c.in_ok-step.ensures.images

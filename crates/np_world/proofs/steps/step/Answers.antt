@@ -3,6 +3,7 @@ use Rattle.std.specs.Prelude.{chars, string_bytes}
 use Rattle.np_world.specs.Events.{Accept, Deliver, Upgrade, Save, Restart, Ask, Forge, node_of}
 use Rattle.np_world.specs.inside.Mirrors.{rules_of}
 use Rattle.np_world.specs.inside.Rust.{event_of}
+use Rattle.np_world.proofs.ImageLemmas.{images_kept, images_saved, images_stay, ok_any, saves}
 use Rattle.np_world.proofs.StepLemmas.{if_ok, ready_at, stepped, unchanged}
 use Rattle.np_world.proofs.steps.step.Goals as goal
 
@@ -16,44 +17,44 @@ restart-requires g c =
     let within = ap node_of (ap event_of c.in-Restart.is) in
     ready_at g.T.NormTable.model (rules_of c.args.common.now) c.args.members.now c.args.sent.now.items c.in-Restart.node c.index-members-node-in-Restart.result c.requires.shown (omega (arith, c.requires.named, within))
 
-pub returns-in-Accept : goal.returns-in-Accept
-returns-in-Accept g c =
+pub returns-in-Accept-clause-step : goal.returns-in-Accept-clause-step
+returns-in-Accept-clause-step g c =
     let model = g.T.NormTable.model in
     let rules = rules_of c.args.common.now in
     let same = ap event_of c.in-Accept.is ∙ ap (λ b. Accept c.in-Accept.node (chars b)) (sym c.as_str.ensures.value) in
-    if_ok _ _ _ (λ reply turns. stepped model rules c.args.members.now c.args.sent.now.items c.accept.new.sent.items (Accept c.in-Accept.node (chars c.as_str.result.now)) (event_of c.args.event.now) same c.requires.named c.index-members-node.result reply c.accept.new.member turns) c.accept.ensures
+    if_ok _ _ _ (λ reply turns. stepped model rules c.args.members.now c.args.sent.now.items c.accept.new.sent.items (Accept c.in-Accept.node (chars c.as_str.result.now)) (event_of c.args.event.now) same c.requires.named c.index-members-node.result reply c.accept.new.member turns) c.accept.ensures.turn
 
-pub returns-in-Deliver : goal.returns-in-Deliver
-returns-in-Deliver g c =
+pub returns-in-Deliver-clause-step : goal.returns-in-Deliver-clause-step
+returns-in-Deliver-clause-step g c =
     let model = g.T.NormTable.model in
     let rules = rules_of c.args.common.now in
     let same = ap event_of c.in-Deliver.is in
-    if_ok _ _ _ (λ reply turns. stepped model rules c.args.members.now c.args.sent.now.items c.args.sent.now.items (Deliver c.in-Deliver.node c.in-Deliver.message) (event_of c.args.event.now) same c.requires.named c.index-members-node-in-Deliver.result reply c.deliver.new.member turns) c.deliver.ensures
+    if_ok _ _ _ (λ reply turns. stepped model rules c.args.members.now c.args.sent.now.items c.args.sent.now.items (Deliver c.in-Deliver.node c.in-Deliver.message) (event_of c.args.event.now) same c.requires.named c.index-members-node-in-Deliver.result reply c.deliver.new.member turns) c.deliver.ensures.turn
 
-pub returns-in-Save : goal.returns-in-Save
-returns-in-Save g c =
+pub returns-in-Save-clause-step : goal.returns-in-Save-clause-step
+returns-in-Save-clause-step g c =
     let model = g.T.NormTable.model in
     let rules = rules_of c.args.common.now in
     let same = ap event_of c.in-Save.is in
-    if_ok _ _ _ (λ reply turns. stepped model rules c.args.members.now c.args.sent.now.items c.args.sent.now.items (Save c.in-Save.node) (event_of c.args.event.now) same c.requires.named c.index-members-node-in-Save.result reply c.save.new.member turns) (c.save.ensures c.args.sent.now.items)
+    if_ok _ _ _ (λ reply turns. stepped model rules c.args.members.now c.args.sent.now.items c.args.sent.now.items (Save c.in-Save.node) (event_of c.args.event.now) same c.requires.named c.index-members-node-in-Save.result reply c.save.new.member turns) (c.save.ensures.turn c.args.sent.now.items)
 
-pub returns-in-Restart : goal.returns-in-Restart
-returns-in-Restart g c =
+pub returns-in-Restart-clause-step : goal.returns-in-Restart-clause-step
+returns-in-Restart-clause-step g c =
     let model = g.T.NormTable.model in
     let rules = rules_of c.args.common.now in
     let same = ap event_of c.in-Restart.is in
-    if_ok _ _ _ (λ reply turns. stepped model rules c.args.members.now c.args.sent.now.items c.args.sent.now.items (Restart c.in-Restart.node) (event_of c.args.event.now) same c.requires.named c.index-members-node-in-Restart.result reply c.restart.new.member turns) (c.restart.ensures c.args.sent.now.items)
+    if_ok _ _ _ (λ reply turns. stepped model rules c.args.members.now c.args.sent.now.items c.args.sent.now.items (Restart c.in-Restart.node) (event_of c.args.event.now) same c.requires.named c.index-members-node-in-Restart.result reply c.restart.new.member turns) (c.restart.ensures.turn c.args.sent.now.items)
 
-pub returns-in-Upgrade : goal.returns-in-Upgrade
-returns-in-Upgrade g c =
+pub returns-in-Upgrade-clause-step : goal.returns-in-Upgrade-clause-step
+returns-in-Upgrade-clause-step g c =
     let model = g.T.NormTable.model in
     let rules = rules_of c.args.common.now in
     let same = ap event_of c.in-Upgrade.is in
     stepped model rules c.args.members.now c.args.sent.now.items c.args.sent.now.items (Upgrade c.in-Upgrade.node) (event_of c.args.event.now) same c.requires.named c.index-members-node-in-Upgrade.result
-    c.upgrade.result c.upgrade.new.member (c.upgrade.ensures c.args.sent.now.items)
+    c.upgrade.result c.upgrade.new.member (c.upgrade.ensures.turn c.args.sent.now.items)
 
-pub returns-in-Ask : goal.returns-in-Ask
-returns-in-Ask g c =
+pub returns-in-Ask-clause-step : goal.returns-in-Ask-clause-step
+returns-in-Ask-clause-step g c =
     let model = g.T.NormTable.model in
     let rules = rules_of c.args.common.now in
     let same = ap event_of c.in-Ask.is ∙ ap (λ b. Ask c.in-Ask.node (chars b) (chars (string_bytes c.in-Ask.right))) (sym c.as_str-in-Ask.ensures.value) ∙ ap (λ b. Ask c.in-Ask.node (chars c.as_str-in-Ask.result.now) (chars b)) (sym c.as_str-in-Ask-2.ensures.value) in
@@ -61,11 +62,38 @@ returns-in-Ask g c =
     (stepped model rules c.args.members.now c.args.sent.now.items c.args.sent.now.items (Ask c.in-Ask.node (chars c.as_str-in-Ask.result.now) (chars c.as_str-in-Ask-2.result.now)) (event_of c.args.event.now) same c.requires.named c.index-members-node-in-Ask.result
     c.ask.result _ (c.ask.ensures c.args.sent.now.items))
 
-pub returns-in-Forge : goal.returns-in-Forge
-returns-in-Forge g c =
+pub returns-in-Forge-clause-step : goal.returns-in-Forge-clause-step
+returns-in-Forge-clause-step g c =
     let model = g.T.NormTable.model in
     let rules = rules_of c.args.common.now in
     let told = c.args.sent.now.items in
     let same = ap event_of c.in-Forge.is ∙ ap (Forge c.in-Forge.node) (sym c.as_slice.ensures.value) in
     if_ok _ _ _ (λ reply turns. stepped model rules c.args.members.now told told (Forge c.in-Forge.node c.as_slice.result.now) (event_of c.args.event.now) same c.requires.named c.index-members-node-in-Forge.result reply c.forge.new.member turns)
-    (c.forge.ensures told)
+    (c.forge.ensures.turn told)
+
+pub returns-in-Accept-clause-images : goal.returns-in-Accept-clause-images
+returns-in-Accept-clause-images g c =
+    ok_any _ _ (λ reply. images_kept (event_of c.args.event.now) c.args.members.now c.in-Accept.node c.index-members-node.result c.accept.new.member (ap saves (ap event_of c.in-Accept.is)) c.accept.ensures.image)
+
+pub returns-in-Deliver-clause-images : goal.returns-in-Deliver-clause-images
+returns-in-Deliver-clause-images g c =
+    ok_any _ _ (λ reply. images_kept (event_of c.args.event.now) c.args.members.now c.in-Deliver.node c.index-members-node-in-Deliver.result c.deliver.new.member (ap saves (ap event_of c.in-Deliver.is)) c.deliver.ensures.image)
+
+pub returns-in-Restart-clause-images : goal.returns-in-Restart-clause-images
+returns-in-Restart-clause-images g c =
+    ok_any _ _ (λ reply. images_kept (event_of c.args.event.now) c.args.members.now c.in-Restart.node c.index-members-node-in-Restart.result c.restart.new.member (ap saves (ap event_of c.in-Restart.is)) c.restart.ensures.image)
+
+pub returns-in-Upgrade-clause-images : goal.returns-in-Upgrade-clause-images
+returns-in-Upgrade-clause-images g c =
+    images_kept (event_of c.args.event.now) c.args.members.now c.in-Upgrade.node c.index-members-node-in-Upgrade.result c.upgrade.new.member (ap saves (ap event_of c.in-Upgrade.is)) c.upgrade.ensures.image
+
+pub returns-in-Forge-clause-images : goal.returns-in-Forge-clause-images
+returns-in-Forge-clause-images g c =
+    ok_any _ _ (λ reply. images_kept (event_of c.args.event.now) c.args.members.now c.in-Forge.node c.index-members-node-in-Forge.result c.forge.new.member (ap saves (ap event_of c.in-Forge.is)) c.forge.ensures.image)
+
+pub returns-in-Save-clause-images : goal.returns-in-Save-clause-images
+returns-in-Save-clause-images g c =
+    if_ok _ _ _ (λ reply some. images_saved (event_of c.args.event.now) c.args.members.now c.in-Save.node c.save.new.member (ap event_of c.in-Save.is) (omega (arith, c.requires.named, ap node_of (ap event_of c.in-Save.is))) some) c.save.ensures.image
+
+pub returns-in-Ask-clause-images : goal.returns-in-Ask-clause-images
+returns-in-Ask-clause-images g c = images_stay (event_of c.args.event.now) c.args.members.now (ap saves (ap event_of c.in-Ask.is))

@@ -9,8 +9,8 @@ use Rattle.np_world.proofs.AcceptLemmas.{accept_answers, accept_leaves, accepts-
 use Rattle.np_world.proofs.TurnLemmas.{same_member}
 use Rattle.np_world.proofs.turns.accept.Goals as goal
 
-pub returns-in-Ok-Known : goal.returns-in-Ok-Known
-returns-in-Ok-Known g c =
+pub returns-in-Ok-Known-clause-turn : goal.returns-in-Ok-Known-clause-turn
+returns-in-Ok-Known-clause-turn g c =
     let model = g.T.NormTable.model in
     let old = c.args.member.now in
     let same = c.in-Ok-Known.is ∙ ap Ok c.in-Ok-Known.field-0-is in
@@ -18,8 +18,8 @@ returns-in-Ok-Known g c =
     let leaves = accept_leaves model old.node c.accept.new.self c.as_bytes.result.now c.args.string.now c.accept.result (Ok answer.Known) c.as_bytes.ensures.value same c.accept.ensures.node in
     accepts-known model (rules_of c.args.common.now) old _ c.args.string.now c.args.sent.now.items answers.0 answers.1 (same_member _ _ refl leaves refl)
 
-pub returns-in-Err : goal.returns-in-Err
-returns-in-Err g c =
+pub returns-in-Err-clause-turn : goal.returns-in-Err-clause-turn
+returns-in-Err-clause-turn g c =
     let model = g.T.NormTable.model in
     let rules = rules_of c.args.common.now in
     let old = c.args.member.now in
@@ -30,8 +30,8 @@ returns-in-Err g c =
     subst (λ (r : Result Reply Memory). IfOk r (λ reply. Turns model rules (deed_accept model rules old new c.args.string.now) old told reply new told)) (sym c.refusal.ensures)
     (accepts-refused model rules old new c.args.string.now told c.in-Err.fault c.utf8.string answers (same_member _ _ refl leaves refl))
 
-pub returns-in_ok-push-in-Ok-Kept : goal.returns-in_ok-push-in-Ok-Kept
-returns-in_ok-push-in-Ok-Kept g c =
+pub returns-in_ok-push-in-Ok-Kept-clause-turn : goal.returns-in_ok-push-in-Ok-Kept-clause-turn
+returns-in_ok-push-in-Ok-Kept-clause-turn g c =
     let model = g.T.NormTable.model in
     let old = c.args.member.now in
     let same = c.in-Ok-Kept.is ∙ ap Ok c.in-Ok-Kept.field-0-is in

@@ -6,14 +6,14 @@ use Rattle.np_world.proofs.turns.ask.Goals as goal
 
 pub returns-in-None : goal.returns-in-None
 returns-in-None g c = λ messages.
-    asks-none g.T.NormTable.model (rules_of c.args.common.now) c.args.member.now _ c.args.left.now c.args.right.now messages refl c.utf8.left c.utf8.right c.in-None.ensures.none
+    asks-none g.T.NormTable.model (rules_of c.args.common.now) c.args.member.now _ c.args.left.now c.args.right.now messages refl c.utf8.left c.utf8.right c.in-None.ensures
 
 pub returns-in-Some-true : goal.returns-in-Some-true
 returns-in-Some-true g c = λ messages.
     asks-equal g.T.NormTable.model (rules_of c.args.common.now) c.args.member.now _ c.args.left.now c.args.right.now messages refl c.stability.ensures c.idempotence.ensures.same
-    c.in-Some-true.ensures.kept.0 c.in-Some-true.ensures.kept.1 (c.in-Some-true.ensures.some.0 c.in-Some-true.field-0-test)
+    c.in-Some-true.ensures.0 c.in-Some-true.ensures.1 (c.in-Some-true.ensures.2.0 c.in-Some-true.field-0-test)
 
 pub returns-in-Some-false : goal.returns-in-Some-false
 returns-in-Some-false g c = λ messages.
     asks-different g.T.NormTable.model (rules_of c.args.common.now) c.args.member.now _ c.args.left.now c.args.right.now messages refl c.stability.ensures c.idempotence.ensures.same
-    c.in-Some-false.ensures.kept.0 c.in-Some-false.ensures.kept.1 (λ is. both_ways c.in-Some-false.field-0 c.in-Some-false.field-0-test (c.in-Some-false.ensures.some.1 is))
+    c.in-Some-false.ensures.0 c.in-Some-false.ensures.1 (λ is. both_ways c.in-Some-false.field-0 c.in-Some-false.field-0-test (c.in-Some-false.ensures.2.1 is))

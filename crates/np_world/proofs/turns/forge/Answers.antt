@@ -9,8 +9,8 @@ use Rattle.np_world.proofs.ForgeLemmas.{deed_forge, forges-kept, forges-known, f
 use Rattle.np_world.proofs.TurnLemmas.{same_member}
 use Rattle.np_world.proofs.turns.forge.Goals as goal
 
-pub returns-in-Ok-Known : goal.returns-in-Ok-Known
-returns-in-Ok-Known g c = λ messages.
+pub returns-in-Ok-Known-clause-turn : goal.returns-in-Ok-Known-clause-turn
+returns-in-Ok-Known-clause-turn g c = λ messages.
     let model = g.T.NormTable.model in
     let old = c.args.member.now in
     let bytes = c.args.bytes.now in
@@ -19,8 +19,8 @@ returns-in-Ok-Known g c = λ messages.
     let leaves = take_leaves old.node c.take.new.self bytes c.take.result (Ok taken.Known) same c.take.ensures.node in
     forges-known model (rules_of c.args.common.now) old _ bytes messages answers (same_member _ _ refl leaves refl)
 
-pub returns-in-Ok-Kept : goal.returns-in-Ok-Kept
-returns-in-Ok-Kept g c = λ messages.
+pub returns-in-Ok-Kept-clause-turn : goal.returns-in-Ok-Kept-clause-turn
+returns-in-Ok-Kept-clause-turn g c = λ messages.
     let model = g.T.NormTable.model in
     let old = c.args.member.now in
     let bytes = c.args.bytes.now in
@@ -29,8 +29,8 @@ returns-in-Ok-Kept g c = λ messages.
     let leaves = take_leaves old.node c.take.new.self bytes c.take.result (Ok taken.Kept) same c.take.ensures.node in
     forges-kept model (rules_of c.args.common.now) old _ bytes messages c.messages.ensures.one answers leaves refl refl
 
-pub returns-in-Err : goal.returns-in-Err
-returns-in-Err g c = λ messages.
+pub returns-in-Err-clause-turn : goal.returns-in-Err-clause-turn
+returns-in-Err-clause-turn g c = λ messages.
     let model = g.T.NormTable.model in
     let rules = rules_of c.args.common.now in
     let old = c.args.member.now in

@@ -6,8 +6,8 @@ use Rattle.np_world.proofs.SaveLemmas.{make_node, refused_for_memory, restarts-e
 use Rattle.np_world.proofs.TurnLemmas.{turned}
 use Rattle.np_world.proofs.turns.restart.Goals as goal
 
-pub returns-in_default : goal.returns-in_default
-returns-in_default g c = λ messages.
+pub returns-in_default-clause-turn : goal.returns-in_default-clause-turn
+returns-in_default-clause-turn g c = λ messages.
     let model = g.T.NormTable.model in
     let rules = rules_of c.args.common.now in
     let old = c.args.member.now in
@@ -25,8 +25,8 @@ want_of_memory-requires g c =
     let bytes = subst (λ l. IsRestoreFault (model old.node.table) rules.form rules.room l c.in-Err.refused.entry c.in-Err.refused.fault) c.as_slice.ensures.value here in
     refused_for_memory model rules old c.requires.twin c.requires.mirrors c.in-Some.image c.in-Err.refused.entry c.in-Err.refused.fault c.requires.rules_hold c.saved.ensures c.in-Some.is bytes
 
-pub returns-in-Ok : goal.returns-in-Ok
-returns-in-Ok g c = λ messages.
+pub returns-in-Ok-clause-turn : goal.returns-in-Ok-clause-turn
+returns-in-Ok-clause-turn g c = λ messages.
     let model = g.T.NormTable.model in
     let rules = rules_of c.args.common.now in
     let old = c.args.member.now in

@@ -5,8 +5,8 @@ use Rattle.np_world.proofs.SaveLemmas.{saves}
 use Rattle.np_world.proofs.TurnLemmas.{turned}
 use Rattle.np_world.proofs.turns.save.Goals as goal
 
-pub returns : goal.returns
-returns g c = λ messages.
+pub returns-clause-turn : goal.returns-clause-turn
+returns-clause-turn g c = λ messages.
     let model = g.T.NormTable.model in
     let rules = rules_of c.args.common.now in
     let old = c.args.member.now in

@@ -13,16 +13,16 @@ unwrap-requires g c =
     c.upgrade.ensures.extends.1
     (next_extends model (rules_of c.args.common.now) c.args.member.now c.requires.twin c.requires.mirrors c.requires.rules_hold (model c.at.result.now) c.at.ensures.stands)
 
-pub returns-then-member-len : goal.returns-then-member-len
-returns-then-member-len g c = λ messages.
+pub returns-then-member-len-clause-turn : goal.returns-then-member-len-clause-turn
+returns-then-member-len-clause-turn g c = λ messages.
     let model = g.T.NormTable.model in
     let rules = rules_of c.args.common.now in
     let old = c.args.member.now in
     turned model rules _ old _ messages messages LastVersion
     (λ node strings last are m sent end. stays_last model rules old node m strings last _ messages (omega (arith, c.len.ensures.some, c.len.ensures.count)) (omega (arith, c.len.ensures.count)) refl sent)
 
-pub returns : goal.returns
-returns g c = λ messages.
+pub returns-clause-turn : goal.returns-clause-turn
+returns-clause-turn g c = λ messages.
     let model = g.T.NormTable.model in
     let rules = rules_of c.args.common.now in
     let old = c.args.member.now in
