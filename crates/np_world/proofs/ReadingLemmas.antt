@@ -184,8 +184,10 @@ behind_nodes : (bytes : List ℕ) (versions room : ℕ) (starts : List ℕ) (nod
 behind_nodes bytes versions room starts nodes_left left first second =
     ⊎_elim
     (λ unfit. inr (unfit.0, events_refused bytes versions (start_of bytes) (walk_to bytes nodes_left) (walk_to bytes left) room starts (Line unfit.0) (start_begins bytes) first second unfit.1))
-    (λ says. inl (made versions room starts says.0,
-    (says_schedule bytes (start_of bytes) (walk_to bytes nodes_left) (walk_to bytes left) (made versions room starts says.0) (start_begins bytes) first second says.1, refl)))
+    (λ says. inl (
+      made versions room starts says.0,
+      (says_schedule bytes (start_of bytes) (walk_to bytes nodes_left) (walk_to bytes left) (made versions room starts says.0) (start_begins bytes) first second says.1, refl),
+    ))
     (events_outcome (length starts) left left [] (begins_taking (length starts) left left [] refl refl))
 
 behind_room : (bytes : List ℕ) (versions room : ℕ) (left : List Numbered) → NextSays IsRoomLine (start_of bytes) room (walk_to bytes left) → Outcome bytes versions
@@ -194,8 +196,11 @@ behind_room bytes versions room [] first =
 behind_room bytes versions room (line ∷ left) first =
     ⊎_elim
     (λ some. behind_nodes bytes versions room some.0 (line ∷ left) left first (record { line = line; left = refl; total = refl; is = some.1 }))
-    (λ none. inr (line.line, starts_refused bytes versions (start_of bytes) (walk_to bytes (line ∷ left)) room (Line line.line) (start_begins bytes) first
-    (inl (record { line = line; behind = left; left = refl; none = none; here = refl }))))
+    (λ none. inr (
+      line.line,
+      starts_refused bytes versions (start_of bytes) (walk_to bytes (line ∷ left)) room (Line line.line) (start_begins bytes) first
+          (inl (record { line = line; behind = left; left = refl; none = none; here = refl })),
+    ))
     (starts_or_none versions line.text)
 
 outcome_of : (bytes : List ℕ) (versions : ℕ) (lines : List Numbered) → data_lines_in bytes ≡ lines → Outcome bytes versions
@@ -204,8 +209,11 @@ outcome_of bytes versions [] e =
 outcome_of bytes versions (line ∷ left) e =
     ⊎_elim
     (λ some. behind_room bytes versions some.0 left (record { line = line; left = e; total = refl; is = some.1 }))
-    (λ none. inr (line.line, room_refused bytes versions (start_of bytes) (Line line.line) (start_begins bytes)
-    (inl (record { line = line; behind = left; left = e; none = none; here = refl }))))
+    (λ none. inr (
+      line.line,
+      room_refused bytes versions (start_of bytes) (Line line.line) (start_begins bytes)
+          (inl (record { line = line; behind = left; left = e; none = none; here = refl })),
+    ))
     (room_or_none line.text)
 
 pub one_reading : HaveOneReading

@@ -20,3 +20,6 @@ pub use replies::Reply;
 pub use report::Report;
 pub use report_texts::report_text;
 pub use schedules::Schedule;
+
+#[cfg(test)]
+mod tests;

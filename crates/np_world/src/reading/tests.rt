@@ -76,9 +76,7 @@ fn the_third_line_is_named_where_it_is_no_event(rt: HostRuntime) -> Result<(), F
 }
 
 #[test]
-fn comments_blank_lines_and_carriage_returns_are_passed_over(
-    rt: HostRuntime,
-) -> Result<(), Fail> {
+fn comments_blank_lines_and_carriage_returns_are_passed_over(rt: HostRuntime) -> Result<(), Fail> {
     want_faults(
         rt.alloc(),
         &[("# room\r\n\r\nroom 4\r\n \t\nnodes 0\r\n#\r\nsave 1\r\n", 7)],
