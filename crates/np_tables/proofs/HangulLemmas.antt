@@ -139,13 +139,13 @@ pub record IsJamo (c : ℕ) : Type 0 where
   pub hangul : is_hangul c ≡ true
   pub single : is_syllable c ≡ false
 
-leading_jamo : (c : ℕ) → is_among 0x1100 19 c ≡ true → IsJamo c
+pub leading_jamo : (c : ℕ) → is_among 0x1100 19 c ≡ true → IsJamo c
 leading_jamo c h = record { hangul = leading_hangul c h; single = no_syllable 0x1100 19 c (omega arith) h }
 
-vowel_jamo : (c : ℕ) → is_among 0x1161 21 c ≡ true → IsJamo c
+pub vowel_jamo : (c : ℕ) → is_among 0x1161 21 c ≡ true → IsJamo c
 vowel_jamo c h = record { hangul = vowel_hangul c h; single = no_syllable 0x1161 21 c (omega arith) h }
 
-trailing_jamo : (c : ℕ) → is_among 0x11A8 27 c ≡ true → IsJamo c
+pub trailing_jamo : (c : ℕ) → is_among 0x11A8 27 c ≡ true → IsJamo c
 trailing_jamo c h = record { hangul = trailing_hangul c h; single = no_syllable 0x11A8 27 c (omega arith) h }
 
 pub jamo_bare : (v : VersionData) (c : ℕ) → has_hangul v ≡ true → IsJamo c → decomposition_mapping v c ≡ []

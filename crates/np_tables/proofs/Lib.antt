@@ -17,6 +17,8 @@ pub mod HangulLemmas
 pub mod HangulPlaces
 pub mod MappedLemmas
 pub mod MappingLemmas
+pub mod PageApartLemmas
+pub mod PageHintLemmas
 pub mod PageRunLemmas
 pub mod PageSlotLemmas
 pub mod PageWordLemmas

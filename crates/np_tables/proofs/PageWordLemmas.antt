@@ -1,32 +1,30 @@
 -- Words of code points, by rows and by blocks.
-use Rattle.std.proofs.Common.{◌≡◌, ℕ, suc, ◌+◌, ◌-◌, ◌/◌, ◌<◌, ◌≤◌, Bool, true, false, not, ◌&&◌, ◌||◌, List, [], ◌∷◌, ◌++◌, length, get_or, set, slice_index, Some, None, sym, ap, subst, ◌∙◌, arith, inl, inr}
+use Rattle.std.proofs.Common.{◌≡◌, ℕ, suc, ◌+◌, ◌-◌, ◌/◌, ◌<◌, Bool, true, false, ◌&&◌, List, [], ◌∷◌, ◌++◌, length, get_or, set, slice_index, Some, None, sym, ap, subst, ◌∙◌, arith, inl, inr}
 use Rattle.std.specs.List.{slice_get}
 use Rattle.std.specs.Option.{is_some}
 use Rattle.std.proofs.Math.Nat.{mod-lt}
 use Rattle.std.proofs.Math.Seq.{get_or-append_seam}
-use Rattle.std.proofs.lemmas.Bool.{and_from, and_parts, and_right, cases_Bool, cases_eq, cases_lt, both_ways, le-leb, not-true, or_from}
+use Rattle.std.proofs.lemmas.Bool.{and_parts, cases_Bool, cases_eq, cases_lt, both_ways}
 use Rattle.std.proofs.lemmas.List.{get_or_append_left, get_or-map, get_or-set_same, get_or-set_other, length-append, length-map, length-set}
-use Rattle.std.proofs.lemmas.Option.{none-some, same_Some, slice_get_within, slice_get-get_or}
+use Rattle.std.proofs.lemmas.Option.{none-some, same_Some, slice_get_within}
 use Rattle.np_code_points.specs.Hangul.{is_syllable}
 use Rattle.np_ucd.specs.Entries.{Entry, AreRows}
 use Rattle.np_tables.specs.Versions.{VersionData, class_of, class_in, entry_at, file_mapping, mapping_in, has_hangul, is_assigned, is_empty}
-use Rattle.std.specs.List.{list_all}
 use Rattle.np_tables.specs.Conditions.{IsSound}
 use Rattle.np_tables.specs.Composites.{IsCompositeOf}
+use Rattle.np_tables.specs.Mappings.{is_final}
 use Rattle.np_tables.specs.declared.page_words.Word.{Word}
 use Rattle.np_tables.specs.declared.pairs.Composite.{Composite}
 use Rattle.np_tables.specs.inside.FullDecompositions.{table_full}
 use Rattle.np_tables.specs.inside.FullLists.{FullLists, of_kind}
 use Rattle.np_tables.specs.inside.Pages.{word_place}
-use Rattle.np_tables.specs.inside.Pairs.{AreOfFile}
 use Rattle.np_tables.specs.inside.RowPages.{AreRowPages, IsRowNumber}
-use Rattle.np_tables.specs.inside.PageWords.{AreRowWords, AreSecondRows, AreSlots, IsWord, ArePages, no_word, row_word, paged_words, touches}
-use Rattle.np_code_points.specs.Hangul.{is_among}
-use Rattle.np_code_points.proofs.HangulLemmas.{among_bounds}
+use Rattle.np_tables.specs.inside.PageWords.{AreRowWords, AreSecondRows, AreSeconds, AreSlots, IsRowWord, IsWord, ArePages, no_word, row_word, paged_words}
 use Rattle.np_tables.proofs.FullListLemmas.{empty_parts}
-use Rattle.np_tables.proofs.FileRowLemmas.{file_mapping-found}
-use Rattle.np_tables.proofs.HangulLemmas.{IsJamo, by_arithmetic, decomposition_mapping-on, shape_of, syllable_hangul}
-use Rattle.np_tables.proofs.RowLemmas.{at-found, at-row, entry_at-within, firsts-le}
+use Rattle.np_tables.proofs.HangulLemmas.{by_arithmetic, syllable_hangul}
+use Rattle.np_tables.proofs.PageApartLemmas.{apart-unlisted, row-apart}
+use Rattle.np_tables.proofs.PageHintLemmas.{bits-unlisted}
+use Rattle.np_tables.proofs.RowLemmas.{at-found, at-row, firsts-le}
 use Rattle.np_tables.proofs.RowPageLemmas.{ends-rise, some_at}
 use Rattle.np_tables.proofs.TableLemmas.{row-shares, full-none}
 
@@ -95,38 +93,31 @@ seconds-past es cs count seconds here rows so_far is none =
 
 -- ---- words by rows
 
-pub words-none : (es : List Entry) (slots : List ℕ) (seconds : List Bool) (words : List Word) → words ≡ no_word ∷ [] → AreRowWords es slots seconds 0 words
-words-none es slots seconds words is =
+pub words-none : (v : VersionData) (slots : List ℕ) (seconds : List Bool) (words : List Word) → words ≡ no_word ∷ [] → AreRowWords v slots seconds 0 words
+words-none v slots seconds words is =
     record { size = ap length is; none = ap (λ l. get_or l 0 no_word) is; each = λ k e lt. absurd (omega arith) }
 
-pub words-more : (es : List Entry) (slots : List ℕ) (seconds : List Bool) (count : ℕ) (words : List Word) (word : Word) (here : Entry) → AreRowWords es slots seconds count words → slice_get es count ≡ Some here →
-    word ≡ row_word here (slice_index slots count) (get_or seconds count false) → AreRowWords es slots seconds (count + 1) (words ++ word ∷ [])
-words-more es slots seconds count words word here so_far is own =
+pub words-more : (v : VersionData) (slots : List ℕ) (seconds : List Bool) (count : ℕ) (words : List Word) (word : Word) → AreRowWords v slots seconds count words →
+    ((e : Entry) → slice_get v.entries count ≡ Some e → IsRowWord v e (slice_index slots count) (get_or seconds count false) word) → AreRowWords v slots seconds (count + 1) (words ++ word ∷ [])
+words-more v slots seconds count words word so_far own =
     let size = so_far.size in
     record {
       size = (let grown = length-append words (word ∷ []) in omega arith);
       none = get_or_append_left words (word ∷ []) no_word 0 (omega arith) ∙ so_far.none;
       each = λ k e lt h. elim (cases_lt k count) [
-        | inl less ↦ get_or_append_left words (word ∷ []) no_word (k + 1) (omega arith) ∙ so_far.each k e less h
+        | inl less ↦ subst (IsRowWord v e (slice_index slots k) (get_or seconds k false)) (sym (get_or_append_left words (word ∷ []) no_word (k + 1) (omega arith))) (so_far.each k e less h)
         | inr past ↦
             let there : count ≡ k = omega arith in
             let place : length words ≡ k + 1 = omega arith in
-            let same : here ≡ e = same_Some here e (sym is ∙ ap (slice_get es) there ∙ h) in
-            sym (ap (λ n. get_or (words ++ word ∷ []) n no_word) place) ∙ get_or-append_seam words word [] no_word ∙ own
-            ∙ ap (λ n. row_word here (slice_index slots n) (get_or seconds n false)) there
-            ∙ ap (λ (x : Entry). row_word x (slice_index slots k) (get_or seconds k false)) same
+            let read : word ≡ get_or (words ++ word ∷ []) (k + 1) no_word = sym (get_or-append_seam words word [] no_word) ∙ ap (λ n. get_or (words ++ word ∷ []) n no_word) place in
+            subst (IsRowWord v e (slice_index slots k) (get_or seconds k false)) read
+            (subst (λ n. IsRowWord v e (slice_index slots n) (get_or seconds n false) word) there (own e (ap (slice_get v.entries) there ∙ h)))
       ];
     }
 
 -- ---- words by code points
 
--- the second part of a composite is assigned
-second_assigned : (v : VersionData) → IsSound v → (a b p : ℕ) → IsCompositeOf v a b p → is_assigned v b ≡ true
-second_assigned v sound a b p is =
-    let all = sym (ap (list_all (is_assigned v)) is.mapping) ∙ sound.maps_to_assigned p in
-    (and_parts (is_assigned v b) true (and_parts (is_assigned v a) (is_assigned v b && true) all).1).0
-
-class-found : (v : VersionData) (c : ℕ) (e : Entry) → entry_at v.entries c ≡ Some e → e.class ≡ class_of v c
+pub class-found : (v : VersionData) (c : ℕ) (e : Entry) → entry_at v.entries c ≡ Some e → e.class ≡ class_of v c
 unfolding class_of
 class-found v c e h = sym (ap class_in h)
 
@@ -142,38 +133,6 @@ assigned-none : (v : VersionData) (c : ℕ) → entry_at v.entries c ≡ None �
 unfolding is_assigned
 assigned-none v c h = sym (ap is_some h)
 
-none_of_four : (p q r s : Bool) → p ≡ false → q ≡ false → r ≡ false → s ≡ false → (p || q || r || s) ≡ false
-none_of_four p q r s a b c d = or_from _ _ (or_from _ _ (or_from _ _ a b) c) d
-
-jamo_range : (c : ℕ) → IsJamo c → (0x1100 ≤ c) × (c ≤ 0x11C2)
-jamo_range c jamo =
-    elim (cases_Bool (is_among 0x1100 19 c)) [
-      | inl one ↦ (let r = among_bounds 0x1100 19 c one in (omega arith, omega arith))
-      | inr no_one ↦ elim (cases_Bool (is_among 0x1161 21 c)) [
-        | inl two ↦ (let r = among_bounds 0x1161 21 c two in (omega arith, omega arith))
-        | inr no_two ↦ elim (cases_Bool (is_among 0x11A8 27 c)) [
-          | inl three ↦ (let r = among_bounds 0x11A8 27 c three in (omega arith, omega arith))
-          | inr no_three ↦ (let none = none_of_four (is_among 0x1100 19 c) (is_among 0x1161 21 c) (is_among 0x11A8 27 c) (is_syllable c) no_one no_two no_three jamo.single in absurd (both_ways _ none jamo.hangul))
-        ]
-      ]
-    ]
-
--- the second part of a syllable is a jamo
-second_jamo : (v : VersionData) (a c p : ℕ) → (has_hangul v && is_syllable p) ≡ true → IsCompositeOf v a c p → (0x1100 ≤ c) × (c ≤ 0x11C2)
-second_jamo v a c p on is =
-    let shape = shape_of p (and_parts (has_hangul v) (is_syllable p) on).1 in
-    let same : a ∷ c ∷ [] ≡ shape.first ∷ shape.second ∷ [] = sym is.mapping ∙ decomposition_mapping-on v p on ∙ shape.pair in
-    let second : c ≡ shape.second = ap (λ l. get_or l 1 0) same in
-    let range = jamo_range shape.second shape.tail in
-    (omega (arith, range.0, second), omega (arith, range.1, second))
-
-no_syllable : (c : ℕ) (e : Entry) → e.first ≤ c → c ≤ e.last → touches 0xAC00 0xD7A3 e ≡ false → is_syllable c ≡ false
-no_syllable c e low high none =
-    elim (cases_Bool (is_syllable c)) [
-      | inl is ↦ (let range = among_bounds 0xAC00 11172 c is in absurd (both_ways _ none (and_from _ _ (le-leb e.first 0xD7A3 (omega arith)) (le-leb 0xAC00 e.last (omega arith)))))
-      | inr other ↦ other
-    ]
-
 unassigned_single : (v : VersionData) (c : ℕ) → is_assigned v c ≡ false → (has_hangul v && is_syllable c) ≡ false
 unassigned_single v c none =
     elim (cases_Bool (has_hangul v && is_syllable c)) [
@@ -185,45 +144,31 @@ empty_file : (v : VersionData) (c : ℕ) → entry_at v.entries c ≡ None → i
 unfolding file_mapping
 empty_file v c none = ap (λ o. is_empty (mapping_in o)) none
 
-module _ (v : VersionData) (sound : IsSound v) (lists : FullLists) (slots : List ℕ) (are_slots : AreSlots v (length v.entries) lists slots)
-    (cs : List Composite) (file : AreOfFile v cs) (seconds : List Bool) (are_seconds : AreSecondRows v.entries cs (length cs) seconds)
-    (words : List Word) (are_words : AreRowWords v.entries slots seconds (length v.entries) words) where
+module _ (v : VersionData) (sound : IsSound v) (lists : FullLists) (slots : List ℕ) (are_slots : AreSlots v (length v.entries) lists slots) (seconds : List Bool) (marks : AreSeconds v seconds) (words : List Word)
+    (are_words : AreRowWords v slots seconds (length v.entries) words) where
   -- of a code point that a row has
-  word-some : (c k : ℕ) (e : Entry) → slice_get v.entries k ≡ Some e → entry_at v.entries c ≡ Some e → IsWord v lists c (row_word e (slice_index slots k) (get_or seconds k false))
+  word-some : (c k : ℕ) (e : Entry) (w : Word) → slice_get v.entries k ≡ Some e → entry_at v.entries c ≡ Some e → IsRowWord v e (slice_index slots k) (get_or seconds k false) w → IsWord v lists c w
   unfolding row_word
-  word-some c k e here found =
+  word-some c k e w here found row =
       let lt = slice_get_within v.entries k e here in
       let slot = are_slots.each k e lt here in
-      let within = entry_at-within v.entries c e found in
-      record {
+      subst (IsWord v lists c) (sym row.word) (record {
         class = class-found v c e found;
         assigned = assigned-found v c e found;
         slot = record { within = slot.within; lent = λ compat. slot.lent compat ∙ row-shares v compat c k e sound.rows here found };
-        apart = λ is a p composite. (
-            let both = and_parts (not (get_or seconds k false)) (not (touches 0x1100 0x11C2 e)) is in
-            elim (cases_Bool (has_hangul v && is_syllable p)) [
-              | inl on ↦
-                  let range = second_jamo v a c p on composite in
-                  both_ways _ (not-true _ both.1) (and_from _ _ (le-leb e.first 0x11C2 (omega arith)) (le-leb 0x1100 e.last (omega arith)))
-              | inr off ↦
-                  let has = file.all a c p composite off in
-                  let x : Composite = record { first = a; second = c; code = p } in
-                  both_ways _ (not-true _ both.0) (are_seconds.each has.0 x k e has.1 (slice_get-get_or cs has.0 x has.1 ∙ ap Some has.2) here within.0 within.1)
-            ]);
-        bare = λ is compat. (
-            let both = and_parts (is_empty e.mapping) (not (touches 0xAC00 0xD7A3 e)) is in
-            let apart : is_syllable c ≡ false = no_syllable c e within.0 within.1 (not-true _ both.1) in
-            empty_parts v compat c (and_right (has_hangul v) (is_syllable c) apart) (ap is_empty (file_mapping-found v c e found) ∙ both.0));
-      }
+        apart = λ is. row-apart v seconds k e c marks here found is;
+        hints = row.hints c found;
+      })
 
   word-none : (c : ℕ) → entry_at v.entries c ≡ None → IsWord v lists c no_word
   word-none c none =
+      let final : (compat : Bool) → is_final v compat c ≡ true = λ compat. empty_parts v compat c (unassigned_single v c (sym (assigned-none v c none))) (empty_file v c none) in
       record {
         class = class-none v c none;
         assigned = assigned-none v c none;
         slot = record { within = are_slots.some; lent = λ compat. are_slots.none compat ∙ full-none v compat c none };
-        apart = λ _ a p is. both_ways _ (sym (assigned-none v c none)) (second_assigned v sound a c p is);
-        bare = λ _ compat. empty_parts v compat c (unassigned_single v c (sym (assigned-none v c none))) (empty_file v c none);
+        apart = λ _. apart-unlisted v c sound none;
+        hints = bits-unlisted v c sound none (class-none v c none) final;
       }
 
   word-number : (c number : ℕ) → IsRowNumber v.entries c number → IsWord v lists c (get_or words number no_word)
@@ -232,8 +177,9 @@ module _ (v : VersionData) (sound : IsSound v) (lists : FullLists) (slots : List
         | inl some ↦
             let back : number ≡ number - 1 + 1 = omega arith in
             let here = some_at v.entries (number - 1) (is.within some) in
-            let read = ap (λ n. get_or words n no_word) back ∙ are_words.each (number - 1) here.0 (is.within some) here.1 in
-            subst (IsWord v lists c) (sym read) (word-some c (number - 1) here.0 here.1 (sym (is.row some) ∙ here.1))
+            let read = ap (λ n. get_or words n no_word) back in
+            subst (IsWord v lists c) (sym read)
+            (word-some c (number - 1) here.0 (get_or words (number - 1 + 1) no_word) here.1 (sym (is.row some) ∙ here.1) (are_words.each (number - 1) here.0 (is.within some) here.1))
         | inr none ↦
             let zero_is : number ≡ 0 = omega arith in
             let read = ap (λ n. get_or words n no_word) zero_is ∙ are_words.none in

@@ -7,6 +7,7 @@ pub mod FullLists
 pub mod FullParts
 pub mod HangulRows
 pub mod Hints
+pub mod PageHints
 pub mod PageWords
 pub mod Pages
 pub mod Pairs

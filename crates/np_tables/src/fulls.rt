@@ -133,7 +133,7 @@ fn expand(
 }
 
 /// Whether a table lends something for the code point of a row.
-fn is_lent(row: &Row, compat: bool) -> bool
+pub fn is_lent(row: &Row, compat: bool) -> bool
     ensures mapped { IsTrue result → row.now.mapping.items ≢ [] }
     ensures value { result ≡ (counts compat row.now.kind && not (is_empty row.now.mapping.items)) }
 {

@@ -12,6 +12,8 @@ mod hangul_faults;
 mod hangul_rows;
 pub mod laws;
 mod mapped_faults;
+mod page_bits;
+mod page_hints;
 mod page_runs;
 mod page_slots;
 pub mod page_table;

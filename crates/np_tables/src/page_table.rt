@@ -3,7 +3,8 @@
 ghost use Rattle.std.specs.Prelude.{◌≡◌, IfOk};
 
 use crate::fulls::Fulls;
-use crate::page_runs::{keeps, kept_front};
+use crate::page_hints::{parts_place, stays_place};
+use crate::page_runs::{has_bit, kept_front};
 use crate::page_slots::slots_of;
 use crate::page_words::{Word, page_words, row_words, second_rows, word_of};
 use crate::syllables::arithmetic_pair;
@@ -50,11 +51,10 @@ impl PageTable {
     pub fn new(alloc: Global, version: Version) -> Result<PageTable, Memory>
         ensures { IfOk result (λ t. t ≡ version) }
     {
-        let characters = version.characters();
-        let pages = characters.pages();
-        let (fulls, slots) = slots_of(alloc, characters)?;
-        let seconds = second_rows(alloc, characters, version.pairs())?;
-        let rows = row_words(alloc, characters, &slots, &seconds)?;
+        let pages = version.characters().pages();
+        let (fulls, slots) = slots_of(alloc, version.characters())?;
+        let seconds = second_rows(alloc, &version)?;
+        let rows = row_words(alloc, &version, &fulls, &slots, &seconds)?;
         let words = page_words(alloc, &rows, &pages.numbers)?;
         let mut index = Vec::with_capacity(alloc, pages.index.len())?;
         index.extend_from_slice(&pages.index)?;
@@ -102,10 +102,13 @@ impl NormTable for PageTable {
     }
 
     fn is_boundary(&self, form: Form, c: char) -> bool {
-        keeps(word_of(&self.index, &self.words, c), form.composes())
+        has_bit(
+            word_of(&self.index, &self.words, c).hints,
+            parts_place(form),
+        )
     }
 
     fn staying(&self, form: Form, text: &str) -> usize {
-        kept_front(&self.index, &self.words, form.composes(), text)
+        kept_front(&self.index, &self.words, stays_place(form), text)
     }
 }

@@ -1,14 +1,15 @@
 //! One small word for each code point, of which most answers of a table are read.
-ghost use Rattle.std.specs.Prelude.{◌≡◌, ◌+◌, ◌<◌, length, slice_index_or, false, IfOk};
-ghost use Rattle.np_tables.specs.inside.PageWords.{AreRowWords, AreSecondRows, no_word, paged_words, row_word, touches as spec_touches};
-ghost use Rattle.np_ucd.specs.RowValues.{entry_of};
+ghost use Rattle.std.specs.Prelude.{◌≡◌, ◌+◌, ◌<◌, length, slice_get, slice_index_or, false, IfOk, Some};
+ghost use Rattle.np_tables.specs.inside.PageWords.{AreRowWords, AreSeconds, AreSlots, no_word, paged_words, row_word};
 ghost use Rattle.np_tables.specs.inside.Pages.{AreWithin, word_place};
+ghost use Rattle.np_ucd.specs.Entries.{Entry};
 
-use crate::characters::CharacterData;
-use crate::pairs::Pairs;
+use crate::fulls::Fulls;
+use crate::page_bits::{is_row_apart, row_bits};
+use crate::page_hints::are_leads_apart;
 use crate::row_places::row_in;
+use crate::version::Version;
 use np_code_points::Memory;
-use np_ucd::Row;
 use std::alloc::Global;
 
 /// How many code points a block has.
@@ -25,8 +26,8 @@ pub struct Word {
     pub assigned: bool,
     /// Whether no code point of its row is the second part of a primary composite.
     pub apart: bool,
-    /// Whether no code point of its row has a mapping of either kind.
-    pub bare: bool,
+    /// What is known of it under each form, in bits: `page_hints` tells which.
+    pub hints: u8,
 }
 
 /// The word of a code point that no row has.
@@ -35,17 +36,15 @@ const NO_WORD: Word = Word {
     class: 0,
     assigned: false,
     apart: true,
-    bare: true,
+    hints: 255,
 };
 
 /// For each row whether one of its code points is the second part of a composite.
-pub fn second_rows(
-    alloc: Global,
-    characters: &CharacterData,
-    pairs: &Pairs,
-) -> Result<Vec<bool>, Memory>
-    ensures { IfOk result (λ seconds. AreSecondRows characters.now.entries pairs.now (length pairs.now) seconds.items) }
+pub fn second_rows(alloc: Global, version: &Version) -> Result<Vec<bool>, Memory>
+    ensures { IfOk result (λ seconds. AreSeconds version.now seconds.items) }
 {
+    let characters = version.characters();
+    let pairs = version.pairs();
     let mut seconds = vec![in alloc; false; characters.len()]?;
     for place in 0..pairs.len() {
         if let Some(at) = characters.place_of(u32::from(pairs.at(place).second)) {
@@ -55,44 +54,41 @@ pub fn second_rows(
     Ok(seconds)
 }
 
-/// Whether a row has one of the code points from `first` to `last`.
-fn touches(row: &Row, first: u32, last: u32) -> bool
-    ensures { result ≡ spec_touches first last (entry_of row.now) }
-{
-    row.first <= last && first <= row.last
-}
-
-/// The word of a row.
+/// The word of the row at a place, from 0.
 #[tactic(auto, unfolding(crate::specs::inside::PageWords::row_word))]
-fn word_of_row(row: &Row, slot: u32, second: bool) -> Word
-    ensures { result ≡ row_word (entry_of row.now) slot second }
+fn word_of_row(version: &Version, at: usize, slot: u32, second: bool, hints: u8) -> Word
+    requires place { at < length version.now.entries }
+    ensures { (e : Entry) → slice_get version.now.entries at ≡ Some e → result ≡ row_word e slot second hints }
 {
-    let apart = !second && !touches(row, 0x1100, 0x11C2);
-    let bare = row.mapping.is_empty() && !touches(row, 0xAC00, 0xD7A3);
+    let row = row_in(version.characters(), at);
     Word {
         fulls: slot,
         class: row.class,
         assigned: true,
-        apart,
-        bare,
+        apart: is_row_apart(row, second),
+        hints,
     }
 }
 
 /// The word for code points without a row, and behind it the words of the rows.
 pub fn row_words(
     alloc: Global,
-    characters: &CharacterData,
+    version: &Version,
+    fulls: &Fulls,
     slots: &[u32],
     seconds: &[bool],
 ) -> Result<Vec<Word>, Memory>
-    requires slots { length slots.now ≡ length characters.now.entries }
-    requires seconds { length seconds.now ≡ length characters.now.entries }
-    ensures { IfOk result (λ words. AreRowWords characters.now.entries slots.now seconds.now (length characters.now.entries) words.items) }
+    requires slots { AreSlots version.now (length version.now.entries) fulls.now slots.now }
+    requires seconds { AreSeconds version.now seconds.now }
+    ensures { IfOk result (λ words. AreRowWords version.now slots.now seconds.now (length version.now.entries) words.items) }
 {
-    let mut words = Vec::with_capacity(alloc, characters.len() + 1)?;
+    let count = version.characters().len();
+    let leads_apart = are_leads_apart(version, seconds);
+    let mut words = Vec::with_capacity(alloc, count + 1)?;
     words.push(NO_WORD)?;
-    for at in 0..characters.len() {
-        words.push(word_of_row(row_in(characters, at), slots[at], seconds[at]))?;
+    for at in 0..count {
+        let hints = row_bits(version, fulls, seconds, at, slots[at], leads_apart);
+        words.push(word_of_row(version, at, slots[at], seconds[at], hints))?;
     }
     Ok(words)
 }

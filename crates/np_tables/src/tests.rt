@@ -1,5 +1,6 @@
 //! Worked examples.
 use crate::{NormTable, PageTable, RowTable, TableFault, Version};
+use np_code_points::Form;
 use np_code_points::codes::write_code;
 use np_code_points::fixtures::{
     S_DATA, S_EXCLUSIONS, V1_DATA, V1_EXCLUSIONS, V2_DATA, V2_EXCLUSIONS,
@@ -356,6 +357,59 @@ fn pages_answer_by_their_version(rt: HostRuntime) -> Result<(), Fail> {
     answers_fulls(&rt, &table);
     answers_syllables(&rt, &table);
     has_pairs(&table, &PAIRS)
+}
+
+// How many bytes at the front of a text a form leaves as they are: composites and syllables come
+// back, singletons and excluded ones don't, nor what has a mapping that counts.
+const STAYING: [(Form, &str, usize); 10] = [
+    (Form::Nfc, "A\u{E2}\u{1EAD}\u{AC01}\u{D7A3}", 12),
+    (Form::Nfkc, "A\u{E2}\u{1EAD}\u{AC01}\u{D7A3}", 12),
+    (Form::Nfd, "A\u{E2}", 1),
+    (Form::Nfkd, "A\u{AC00}", 1),
+    (Form::Nfc, "\u{E2}\u{302}", 2),
+    (Form::Nfc, "A\u{212B}", 1),
+    (Form::Nfc, "\u{958}", 0),
+    (Form::Nfc, "\u{FB01}", 3),
+    (Form::Nfkc, "\u{FB01}", 0),
+    (Form::Nfc, "\u{AC00}\u{11A8}", 3),
+];
+
+// Whether a form parts before a code point.
+const PARTING: [(Form, char, bool); 8] = [
+    (Form::Nfd, '\u{E2}', true),
+    (Form::Nfc, '\u{E2}', true),
+    (Form::Nfkd, '\u{AC01}', true),
+    (Form::Nfd, '\u{1161}', true),
+    (Form::Nfc, '\u{1161}', false),
+    (Form::Nfc, '\u{1100}', true),
+    (Form::Nfd, '\u{302}', false),
+    (Form::Nfkc, '\u{344}', false),
+];
+
+fn tells_what_stays(table: &PageTable, rows: &[(Form, &str, usize)]) -> Result<(), Fail> {
+    for (form, text, count) in rows {
+        want(table.staying(*form, text) == *count, text)?;
+    }
+    Ok(())
+}
+
+fn tells_where_forms_part(table: &PageTable, rows: &[(Form, char, bool)]) -> Result<(), Fail> {
+    for (form, c, parts) in rows {
+        want(table.is_boundary(*form, *c) == *parts, "parts")?;
+    }
+    Ok(())
+}
+
+#[test]
+fn composites_and_syllables_stay(rt: HostRuntime) -> Result<(), Fail> {
+    let table = pages_of(rt.alloc(), V1_DATA, V1_EXCLUSIONS)?;
+    tells_what_stays(&table, &STAYING)
+}
+
+#[test]
+fn forms_part_before_starters_that_go_into_nothing(rt: HostRuntime) -> Result<(), Fail> {
+    let table = pages_of(rt.alloc(), V1_DATA, V1_EXCLUSIONS)?;
+    tells_where_forms_part(&table, &PARTING)
 }
 
 #[test]

@@ -1,8 +1,8 @@
 -- What a table of pages keeps for a code point.
-use Rattle.std.specs.Prelude.{◌≡◌, ℕ, ◌+◌, ◌<◌, ◌≤◌, ◌&&◌, ◌||◌, ◌==◌, nat_le, not, Bool, true, false, List, [], ◌∷◌, ◌++◌, length, map, slice_get, slice_index, slice_index_or, chars, encode_utf8_all, All, IsUtf8, Some}
+use Rattle.std.specs.Prelude.{◌≡◌, ℕ, ◌+◌, ◌<◌, ◌≤◌, ◌&&◌, nat_le, not, Bool, true, false, List, [], ◌∷◌, ◌++◌, length, map, slice_get, slice_index, slice_index_or, chars, encode_utf8_all, All, IsUtf8, Some}
 use Rattle.np_ucd.specs.Entries.{Entry}
-use Rattle.np_tables.specs.Versions.{VersionData, class_of, is_assigned, is_empty}
-use Rattle.np_tables.specs.Mappings.{is_final}
+use Rattle.np_code_points.specs.Hangul.{is_syllable}
+use Rattle.np_tables.specs.Versions.{VersionData, class_of, entry_at, has_hangul, is_assigned}
 use Rattle.np_tables.specs.Composites.{IsCompositeOf}
 use Rattle.np_tables.specs.Conditions.{IsSound}
 use Rattle.np_tables.specs.declared.fulls.Part.{Part}
@@ -11,6 +11,7 @@ use Rattle.np_tables.specs.declared.pairs.Composite.{Composite}
 use Rattle.np_tables.specs.inside.FullDecompositions.{table_full}
 use Rattle.np_tables.specs.inside.FullLists.{FullLists, of_kind}
 use Rattle.np_tables.specs.inside.FullParts.{AreParts, part_of}
+use Rattle.np_tables.specs.inside.PageHints.{AreBits, has_bit}
 use Rattle.np_tables.specs.inside.Pages.{AreWithin, word_place}
 
 -- ---- slots of full decompositions
@@ -52,6 +53,11 @@ pub record AreSecondRows (es : List Entry) (cs : List Composite) (count : ℕ) (
   pub size : length seconds ≡ length es
   pub each : (j : ℕ) (x : Composite) (k : ℕ) (e : Entry) → j < count → slice_get cs j ≡ Some x → slice_get es k ≡ Some e → e.first ≤ x.second → x.second ≤ e.last → slice_index_or seconds k false ≡ true
 
+-- a row that has the second part of a primary composite is marked, unless it is that of a syllable, which is a jamo
+pub record AreSeconds (v : VersionData) (seconds : List Bool) : Type 0 where
+  pub size : length seconds ≡ length v.entries
+  pub each : (a b p k : ℕ) (e : Entry) → IsCompositeOf v a b p → (has_hangul v && is_syllable p) ≡ false → slice_get v.entries k ≡ Some e → e.first ≤ b → b ≤ e.last → slice_index_or seconds k false ≡ true
+
 -- ---- words
 
 -- whether a row has one of the code points from `first` to `last`
@@ -60,24 +66,31 @@ touches first last e = nat_le e.first last && nat_le first e.last
 
 -- the word of a code point that no row has
 abbrev pub no_word : Word
-no_word = record { fulls = 0; class = 0; assigned = false; apart = true; bare = true }
+no_word = record { fulls = 0; class = 0; assigned = false; apart = true; hints = 255 }
 
--- the word of a row: jamo stand from 1100 to 11C2, syllables from AC00 to D7A3
-unfoldable pub row_word : Entry → ℕ → Bool → Word
-row_word e slot second =
-    record {
-      fulls = slot;
-      class = e.class;
-      assigned = true;
-      apart = not second && not (touches 0x1100 0x11C2 e);
-      bare = is_empty e.mapping && not (touches 0xAC00 0xD7A3 e);
-    }
+-- whether a row has no second part of a composite: the second part of a syllable stands from 1161 to 11C2
+abbrev pub is_row_apart : Entry → Bool → Bool
+is_row_apart e second = not second && not (touches 0x1161 0x11C2 e)
+
+-- what the bits say of each code point of a row is so
+abbrev pub AreRowBits : VersionData → Entry → ℕ → Type 0
+AreRowBits v e bits = (c : ℕ) → entry_at v.entries c ≡ Some e → AreBits v c bits
+
+-- the word of a row, whose bits are left open
+unfoldable pub row_word : Entry → ℕ → Bool → ℕ → Word
+row_word e slot second bits = record { fulls = slot; class = e.class; assigned = true; apart = is_row_apart e second; hints = bits }
+
+-- it has such bits
+pub record IsRowWord (v : VersionData) (e : Entry) (slot : ℕ) (second : Bool) (w : Word) : Type 0 where
+  pub bits : ℕ
+  pub hints : AreRowBits v e bits
+  pub word : w ≡ row_word e slot second bits
 
 -- `no_word`, and behind it the words of the first `count` rows
-pub record AreRowWords (es : List Entry) (slots : List ℕ) (seconds : List Bool) (count : ℕ) (words : List Word) : Type 0 where
+pub record AreRowWords (v : VersionData) (slots : List ℕ) (seconds : List Bool) (count : ℕ) (words : List Word) : Type 0 where
   pub size : length words ≡ count + 1
   pub none : slice_index_or words 0 no_word ≡ no_word
-  pub each : (k : ℕ) (e : Entry) → k < count → slice_get es k ≡ Some e → slice_index_or words (k + 1) no_word ≡ row_word e (slice_index slots k) (slice_index_or seconds k false)
+  pub each : (k : ℕ) (e : Entry) → k < count → slice_get v.entries k ≡ Some e → IsRowWord v e (slice_index slots k) (slice_index_or seconds k false) (slice_index_or words (k + 1) no_word)
 
 -- the words of all blocks, by the row numbers that stand there
 abbrev pub paged_words : List Word → List ℕ → List Word
@@ -90,8 +103,7 @@ pub record IsWord (v : VersionData) (lists : FullLists) (c : ℕ) (w : Word) : T
   pub slot : IsSlot v lists c w.fulls
   -- of no primary composite it is the second part
   pub apart : w.apart ≡ true → (a p : ℕ) → ¬ (IsCompositeOf v a c p)
-  -- it has no mapping of either kind
-  pub bare : w.bare ≡ true → (compat : Bool) → is_final v compat c ≡ true
+  pub hints : AreBits v c w.hints
 
 -- the word of each code point of a version that meets the conditions
 pub record ArePages (v : VersionData) (lists : FullLists) (blocks : List ℕ) (words : List Word) : Type 0 where
@@ -101,20 +113,16 @@ pub record ArePages (v : VersionData) (lists : FullLists) (blocks : List ℕ) (w
 
 -- ---- what stays
 
--- a starter without a mapping, which is no second part of a primary composite either where the form composes
-abbrev pub keeps : Bool → Word → Bool
-keeps composing w = w.class == 0 && w.bare && (w.apart || not composing)
+-- the word of a code point has the bit
+abbrev pub IsKept : List ℕ → List Word → ℕ → ℕ → Type 0
+IsKept blocks words place c = (c < 0x110000) × (has_bit (slice_index_or words (word_place blocks c) no_word).hints place ≡ true)
 
--- the word of a code point says that it stays
-abbrev pub IsKept : List ℕ → List Word → Bool → ℕ → Type 0
-IsKept blocks words composing c = (c < 0x110000) × (keeps composing (slice_index_or words (word_place blocks c) no_word) ≡ true)
-
--- the words of the code points in the first n bytes of a text say so
-pub record AreKept (blocks : List ℕ) (words : List Word) (composing : Bool) (bytes : List ℕ) (n : ℕ) : Type 0 where
+-- the words of the code points in the first n bytes of a text have the bit
+pub record AreKept (blocks : List ℕ) (words : List Word) (bit : ℕ) (bytes : List ℕ) (n : ℕ) : Type 0 where
   pub front : List ℕ
   pub back : List ℕ
   pub split : bytes ≡ encode_utf8_all front ++ back
   pub text : chars bytes ≡ front ++ chars back
   pub utf8 : IsUtf8 back
-  pub kept : All (IsKept blocks words composing) front
+  pub kept : All (IsKept blocks words bit) front
   pub place : n ≡ length (encode_utf8_all front)

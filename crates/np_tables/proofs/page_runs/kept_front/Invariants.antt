@@ -5,7 +5,7 @@ use Rattle.np_tables.proofs.PageRunLemmas.{IsKeptTo}
 use Rattle.np_tables.proofs.page_runs.kept_front.Given as goal
 
 abbrev pub invariant-scan : goal.invariant-scan
-invariant-scan l = IsKeptTo (IsKept l.blocks l.words l.composing) l.text (chars_rest l.iter)
+invariant-scan l = IsKeptTo (IsKept l.blocks l.words l.place) l.text (chars_rest l.iter)
 
 abbrev pub decreases-scan : goal.decreases-scan
 decreases-scan l = length (chars_rest l.iter)

@@ -1,14 +1,15 @@
-use Rattle.std.proofs.Common.{◌+◌, ◌∙◌, ap, sym, subst, Bool, List, Vec, Global}
+use Rattle.std.proofs.Common.{◌≡◌, arith, ◌+◌, ◌∙◌, ap, sym, subst, Bool, List, length, Vec, Global}
 use Rattle.np_tables.specs.Versions.{entry_at}
 use Rattle.np_tables.specs.inside.PageWords.{AreSecondRows}
 use Rattle.np_tables.proofs.PageWordLemmas.{seconds-more, seconds-past}
+use Rattle.np_tables.proofs.PageApartLemmas.{seconds-all}
 use Rattle.np_tables.proofs.page_words.second_rows.Goals as goal
 use Rattle.np_tables.proofs.page_words.second_rows.Goals.{in-Some, in_default}
 
 pub loop-place-preserved : goal.loop-place-preserved
 loop-place-preserved c =
-    let es = c.args.characters.now.entries in
-    let cs = c.args.pairs.now in
+    let es = c.characters-characters.result.now.entries in
+    let cs = c.pairs-pairs.result.now in
     let place = c.loop-place.place in
     elim c.match-place_of.branch [
       | in-Some w ↦
@@ -18,3 +19,14 @@ loop-place-preserved c =
           subst (λ (l : List Bool). AreSecondRows es cs (place + 1) l) (sym (ap (λ (x : Vec Bool Global). x.items) w.seconds-is))
           (seconds-past es cs place c.loop-place.seconds.items c.at.result c.len.ensures.rows c.loop-place.invariant c.at.ensures.place (sym (ap (entry_at es) c.from.ensures) ∙ w.in_default.ensures.none))
     ]
+
+pub returns : goal.returns
+returns c =
+    let v = c.args.version.now in
+    let cs = c.pairs-pairs.result.now in
+    let seconds = c.loop-place.seconds.items in
+    let count = c.len-place-end.ensures.count in
+    let last : c.loop-place.place ≡ length cs = omega arith in
+    seconds-all v cs seconds c.pairs-pairs.ensures
+    (subst (λ w. AreSecondRows w.entries cs (length cs) seconds) c.characters-characters.ensures.same
+    (subst (λ n. AreSecondRows c.characters-characters.result.now.entries cs n seconds) last c.loop-place.invariant))

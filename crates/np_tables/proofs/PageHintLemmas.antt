@@ -1,0 +1,324 @@
+-- What a table of pages keeps of each form is so.
+use Rattle.std.proofs.Common.{◌≡◌, ℕ, ◌+◌, ◌*◌, ◌-◌, ◌/◌, ◌%◌, ◌≤◌, ◌==◌, ◌≢◌, Bool, true, false, not, ◌&&◌, Some, None, List, [], ◌∷◌, ◌++◌, flat_map, MatchBool, if◌then◌else◌, refl, sym, ap, subst, ◌∙◌, arith, inl, inr, eqb-true}
+use Rattle.std.proofs.lemmas.Bool.{and_cases, and_from, and_parts, and_right, cond-true, both_ways, not-false}
+use Rattle.np_code_points.specs.Hangul.{is_among, is_syllable, syllable_pair}
+use Rattle.np_code_points.specs.declared.forms.Form.{Form}
+use Rattle.np_code_points.specs.Forms.{is_compat, composes}
+use Rattle.np_code_points.specs.declared.forms.Form.TheVariants.{Nfd, Nfc, Nfkd, Nfkc}
+use Rattle.np_code_points.proofs.HangulLemmas.{among_bounds, among_from_bounds, pair_exists, pair_kinds}
+use Rattle.np_tables.specs.Boundaries.{IsBoundary, Stays, NeverFalls, FoldsTo}
+use Rattle.np_tables.specs.Composites.{IsCompositeOf}
+use Rattle.np_tables.specs.Conditions.{IsSound}
+use Rattle.np_tables.specs.Mappings.{counts, is_final, parts, IsFullDecomposition}
+use Rattle.np_ucd.specs.Entries.{Entry, IsRow}
+use Rattle.np_tables.specs.Versions.{VersionData, class_of, entry_at, has_hangul, is_empty}
+use Rattle.np_tables.specs.declared.page_hints.Hints.{Hints}
+use Rattle.np_tables.specs.declared.pairs.Composite.{Composite}
+use Rattle.np_tables.specs.inside.FullDecompositions.{full_of, table_full}
+use Rattle.np_tables.specs.inside.PageHints.{AreBits, AreHints, AreLeadsApart, FoldsBy, IsApart, bit, eight_bits, four_bits, has_bit, no_hints, own_hints, parting_hints, parts_place, parts_under, stays_place, stays_under, syllable_hints}
+use Rattle.np_tables.specs.inside.PageWords.{AreRowBits, touches}
+use Rattle.np_tables.specs.inside.Pairs.{AreOfFile}
+use Rattle.np_tables.proofs.FileRowLemmas.{file_kind-found, file_mapping-found, mapped-off}
+use Rattle.np_tables.proofs.FullLemmas.{parts-passed}
+use Rattle.np_tables.proofs.FullListLemmas.{empty_parts, row-lent}
+use Rattle.np_tables.proofs.HangulLemmas.{IsJamo, IsLv, by_arithmetic, decomposition_kind-on, decomposition_mapping-on, jamo_bare, leading_jamo, lv_shape, trailing_jamo, vowel_jamo}
+use Rattle.np_tables.proofs.MappingLemmas.{IsFullDecomposition-full_of, full_of-final, full_of-mapped, is_empty_from, parts-cases}
+use Rattle.np_tables.proofs.PageApartLemmas.{apart-unlisted, no_syllable}
+use Rattle.np_tables.proofs.PrimaryLemmas.{primary-syllable}
+use Rattle.np_tables.proofs.RowLemmas.{entry_at-within}
+
+-- ---- composites of a list are composites
+
+pub folds_by : (v : VersionData) (cs : List Composite) → AreOfFile v cs → (s : ℕ) (bs : List ℕ) (c : ℕ) → FoldsBy cs s bs c → FoldsTo v s bs c
+folds_by v cs file s [] c is = is
+folds_by v cs file s (b ∷ bs) c is = (is.0, file.composites s b is.0 is.1, folds_by v cs file is.0 bs c is.2)
+
+-- ---- by a full decomposition
+
+module _ (v : VersionData) (compat : Bool) (c first : ℕ) (rest : List ℕ) (full : IsFullDecomposition v compat (c ∷ []) (first ∷ rest)) where
+  boundary-of : (form : Form) → is_compat form ≡ compat → class_of v first ≡ 0 → (composes form ≡ true → IsApart v first) → IsBoundary v form c
+  boundary-of form kind starter apart =
+      record { first = first; rest = rest; decomposes = subst (λ b. IsFullDecomposition v b (c ∷ []) (first ∷ rest)) (sym kind) full; starter = starter; apart = apart }
+
+  module _ (h : Hints) (none : h.stays ≡ false) (starter : h.parts ≡ true → class_of v first ≡ 0) (both : h.parts_composing ≡ true → h.parts ≡ true) (apart : h.parts_composing ≡ true → IsApart v first)
+      (too : h.stays_composing ≡ true → h.parts_composing ≡ true) (rises : h.stays_composing ≡ true → NeverFalls (class_of v) rest) (folds : h.stays_composing ≡ true → FoldsTo v first rest c) where
+    by_parts : (form : Form) → is_compat form ≡ compat → (b : Bool) → composes form ≡ b → parts_under b h ≡ true → IsBoundary v form c
+    by_parts form kind false e is = boundary-of form kind (starter is) (λ on. absurd (both_ways _ e on))
+    by_parts form kind true e is = boundary-of form kind (starter (both is)) (λ on. apart is)
+
+    by_stays : (form : Form) → is_compat form ≡ compat → (b : Bool) → composes form ≡ b → stays_under b h ≡ true → Stays v form c
+    unfolding boundary-of
+    by_stays form kind false e is = absurd (both_ways _ none is)
+    by_stays form kind true e is =
+        record {
+          boundary = boundary-of form kind (starter (both (too is))) (λ on. apart (too is));
+          rises = rises is;
+          returns = subst (λ b. MatchBool b (FoldsTo v first rest c) (first ∷ rest ≡ c ∷ [])) (sym e) (folds is);
+        }
+
+    -- it begins with a starter; that is no second part where the form composes; and what is left goes into it
+    pub hints-listed : AreHints v compat c h
+    hints-listed = record { parts = λ form kind is. by_parts form kind (composes form) refl is; stays = λ form kind is. by_stays form kind (composes form) refl is }
+
+pub hints-parting : (v : VersionData) (compat : Bool) (c first : ℕ) (rest : List ℕ) → IsFullDecomposition v compat (c ∷ []) (first ∷ rest) → class_of v first ≡ 0 → AreHints v compat c parting_hints
+hints-parting v compat c first rest full starter =
+    hints-listed v compat c first rest full parting_hints refl (λ _. starter) (λ is. absurd (both_ways _ refl is)) (λ is. absurd (both_ways _ refl is)) (λ is. absurd (both_ways _ refl is)) (λ is. absurd (both_ways _ refl is))
+    (λ is. absurd (both_ways _ refl is))
+
+-- ---- by itself
+
+starter_of : (b : Bool) (class : ℕ) (apart : Bool) → parts_under b (own_hints class apart) ≡ true → class ≡ 0
+starter_of false class apart is = eqb-true class 0 is
+starter_of true class apart is = eqb-true class 0 (and_parts (class == 0) apart is).0
+
+apart_of : (b : Bool) (class : ℕ) (apart : Bool) → parts_under b (own_hints class apart) ≡ true → b ≡ true → apart ≡ true
+apart_of false class apart is on = absurd (both_ways _ refl on)
+apart_of true class apart is on = (and_parts (class == 0) apart is).1
+
+stays_as : (b : Bool) (class : ℕ) (apart : Bool) → stays_under b (own_hints class apart) ≡ true → parts_under b (own_hints class apart) ≡ true
+stays_as false class apart is = is
+stays_as true class apart is = is
+
+returns_itself : (v : VersionData) (c : ℕ) (b : Bool) → MatchBool b (FoldsTo v c [] c) (c ∷ [] ≡ c ∷ [])
+returns_itself v c true = refl
+returns_itself v c false = refl
+
+module _ (v : VersionData) (compat : Bool) (c class : ℕ) (apart : Bool) (final : is_final v compat c ≡ true) (same : class ≡ class_of v c) (alone : apart ≡ true → IsApart v c) where
+  itself : IsFullDecomposition v compat (c ∷ []) (c ∷ [])
+  itself = record { reached = (0, refl); final = and_from _ _ final refl }
+
+  own-boundary : (form : Form) → is_compat form ≡ compat → parts_under (composes form) (own_hints class apart) ≡ true → IsBoundary v form c
+  unfolding boundary-of
+  own-boundary form kind is =
+      boundary-of v compat c c [] itself form kind (sym same ∙ starter_of (composes form) class apart is) (λ on. alone (apart_of (composes form) class apart is on))
+
+  pub hints-own : AreHints v compat c (own_hints class apart)
+  unfolding own-boundary boundary-of
+  hints-own =
+      record {
+        parts = own-boundary;
+        stays = λ form kind is. record { boundary = own-boundary form kind (stays_as (composes form) class apart is); rises = tt; returns = returns_itself v c (composes form) };
+      }
+
+-- ---- where nothing is known
+
+not_under : (b : Bool) → parts_under b no_hints ≡ true → ⊥
+not_under false h = both_ways _ refl h
+not_under true h = both_ways _ refl h
+
+not_stays : (b : Bool) → stays_under b no_hints ≡ true → ⊥
+not_stays false h = both_ways _ refl h
+not_stays true h = both_ways _ refl h
+
+pub hints-none : (v : VersionData) (compat : Bool) (c : ℕ) → AreHints v compat c no_hints
+hints-none v compat c = record { parts = λ form kind is. absurd (not_under (composes form) is); stays = λ form kind is. absurd (not_stays (composes form) is) }
+
+-- ---- syllables
+
+-- a syllable decomposes to a leading consonant and what goes into it
+record Unfolds (v : VersionData) (compat : Bool) (c : ℕ) : Type 0 where
+  first : ℕ
+  rest : List ℕ
+  full : full_of v compat c ≡ first ∷ rest
+  lead : is_among 0x1100 19 first ≡ true
+  rises : NeverFalls (class_of v) rest
+  folds : FoldsTo v first rest c
+
+module _ (v : VersionData) (sound : IsSound v) (on : has_hangul v ≡ true) (compat : Bool) where
+  counted : (c : ℕ) → is_syllable c ≡ true → parts v compat c ≡ syllable_pair c
+  unfolding parts
+  counted c h =
+      let both = and_from _ _ on h in
+      cond-true _ _ _ (ap (counts compat) (decomposition_kind-on v c both)) ∙ decomposition_mapping-on v c both
+
+  jamo_full : (c : ℕ) → IsJamo c → full_of v compat c ≡ c ∷ []
+  jamo_full c jamo = full_of-final v compat sound.shallow c (parts-cases v compat (λ l. is_empty l ≡ true) refl c (ap is_empty (jamo_bare v c on jamo)))
+
+  pair_full : (c a b : ℕ) → is_syllable c ≡ true → syllable_pair c ≡ a ∷ b ∷ [] → full_of v compat c ≡ full_of v compat a ++ (full_of v compat b ++ [])
+  pair_full c a b h pair =
+      let its = counted c h ∙ pair in
+      full_of-mapped v compat sound.shallow c (ap is_empty its) ∙ ap (flat_map (full_of v compat)) its
+
+  pair_composite : (c a b : ℕ) → is_syllable c ≡ true → syllable_pair c ≡ a ∷ b ∷ [] → IsCompositeOf v a b c
+  pair_composite c a b h pair =
+      let both = and_from _ _ on h in
+      record { primary = primary-syllable v c sound.rows both; mapping = decomposition_mapping-on v c both ∙ pair }
+
+  -- the first part of a syllable of two jamo is a leading consonant
+  leading : (c : ℕ) (is : IsLv c) → is_among 0x1100 19 is.leading ≡ true
+  leading c is =
+      elim (pair_kinds c is.leading is.vowel is.syllable is.pair) [
+        | inl lv ↦ lv.0
+        | inr lvt ↦ absurd (both_ways _ is.first.single (and_parts (is_syllable is.leading) _ lvt.0).0)
+      ]
+
+  lv_full : (c : ℕ) (is : IsLv c) → full_of v compat c ≡ is.leading ∷ is.vowel ∷ []
+  lv_full c is =
+      pair_full c is.leading is.vowel is.syllable is.pair
+      ∙ ap (λ l. l ++ (full_of v compat is.vowel ++ [])) (jamo_full is.leading is.first)
+      ∙ ap (λ l. is.leading ∷ (l ++ [])) (jamo_full is.vowel is.second)
+
+  jamo_class : (c : ℕ) → IsJamo c → class_of v c ≡ 0
+  jamo_class c jamo = (by_arithmetic v on c jamo.hangul).class
+
+  unfolds-two : (c : ℕ) → IsLv c → Unfolds v compat c
+  unfolds-two c is =
+      record { first = is.leading; rest = is.vowel ∷ []; full = lv_full c is; lead = leading c is; rises = tt; folds = (c, pair_composite c is.leading is.vowel is.syllable is.pair, refl) }
+
+  unfolds-three : (c a b : ℕ) → is_syllable c ≡ true → syllable_pair c ≡ a ∷ b ∷ [] → IsLv a → IsJamo b → Unfolds v compat c
+  unfolds-three c a b h pair is jamo =
+      let vowel = jamo_class is.vowel is.second in
+      record {
+        first = is.leading;
+        rest = is.vowel ∷ b ∷ [];
+        full = pair_full c a b h pair ∙ ap (λ l. l ++ (full_of v compat b ++ [])) (lv_full a is) ∙ ap (λ l. (is.leading ∷ is.vowel ∷ []) ++ (l ++ [])) (jamo_full b jamo);
+        lead = leading a is;
+        rises = (omega arith, tt);
+        folds = (a, pair_composite a is.leading is.vowel is.syllable is.pair, (c, pair_composite c a b h pair, refl));
+      }
+
+  unfolds : (c : ℕ) → is_syllable c ≡ true → Unfolds v compat c
+  unfolds c h =
+      let pair = pair_exists c in
+      elim (pair_kinds c pair.0 pair.1 h pair.2) [
+        | inl lv ↦
+            let is : IsLv c = record { syllable = h; leading = pair.0; vowel = pair.1; pair = pair.2; first = leading_jamo pair.0 lv.0; second = vowel_jamo pair.1 lv.1 } in
+            unfolds-two c is
+        | inr lvt ↦
+            let front = and_parts (is_syllable pair.0) _ lvt.0 in
+            unfolds-three c pair.0 pair.1 h pair.2 (lv_shape pair.0 front.0 (eqb-true _ 0 front.1)) (trailing_jamo pair.1 lvt.1)
+      ]
+
+  pub hints-syllable : (c : ℕ) → is_syllable c ≡ true → AreLeadsApart v → AreHints v compat c syllable_hints
+  hints-syllable c h leads =
+      let is = unfolds c h in
+      let range = among_bounds 0x1100 19 is.first is.lead in
+      let back : 0x1100 + (is.first - 0x1100) ≡ is.first = omega arith in
+      hints-listed v compat c is.first is.rest (subst (IsFullDecomposition v compat (c ∷ [])) is.full (IsFullDecomposition-full_of v compat sound.shallow c)) syllable_hints
+      refl (λ _. jamo_class is.first (leading_jamo is.first is.lead)) (λ _. refl) (λ _. subst (IsApart v) back (leads (is.first - 0x1100) (omega arith))) (λ _. refl) (λ _. is.rises) (λ _. is.folds)
+
+-- ---- both kinds in one number
+
+bit-one : (b : Bool) → bit b ≡ 1 → b ≡ true
+bit-one false h = absurd (omega arith)
+bit-one true h = refl
+
+bit-low : (b : Bool) → bit b ≤ 1
+bit-low false = omega arith
+bit-low true = omega arith
+
+-- four bits and what stands above them
+bit_0 : (p q r s m : ℕ) → p ≤ 1 → (p + 2 * q + 4 * r + 8 * s + 16 * m) / 1 % 2 ≡ 1 → p ≡ 1
+bit_0 p q r s m lp h = omega arith
+
+bit_1 : (p q r s m : ℕ) → p ≤ 1 → q ≤ 1 → (p + 2 * q + 4 * r + 8 * s + 16 * m) / 2 % 2 ≡ 1 → q ≡ 1
+bit_1 p q r s m lp lq h = omega arith
+
+bit_2 : (p q r s m : ℕ) → p ≤ 1 → q ≤ 1 → r ≤ 1 → (p + 2 * q + 4 * r + 8 * s + 16 * m) / 4 % 2 ≡ 1 → r ≡ 1
+bit_2 p q r s m lp lq lr h = omega arith
+
+bit_3 : (p q r s m : ℕ) → p ≤ 1 → q ≤ 1 → r ≤ 1 → s ≤ 1 → (p + 2 * q + 4 * r + 8 * s + 16 * m) / 8 % 2 ≡ 1 → s ≡ 1
+bit_3 p q r s m lp lq lr ls h = omega arith
+
+bit_4 : (n p q r s : ℕ) → n ≤ 15 → p ≤ 1 → (n + 16 * (p + 2 * q + 4 * r + 8 * s)) / 16 % 2 ≡ 1 → p ≡ 1
+bit_4 n p q r s ln lp h = omega arith
+
+bit_5 : (n p q r s : ℕ) → n ≤ 15 → p ≤ 1 → q ≤ 1 → (n + 16 * (p + 2 * q + 4 * r + 8 * s)) / 32 % 2 ≡ 1 → q ≡ 1
+bit_5 n p q r s ln lp lq h = omega arith
+
+bit_6 : (n p q r s : ℕ) → n ≤ 15 → p ≤ 1 → q ≤ 1 → r ≤ 1 → (n + 16 * (p + 2 * q + 4 * r + 8 * s)) / 64 % 2 ≡ 1 → r ≡ 1
+bit_6 n p q r s ln lp lq lr h = omega arith
+
+bit_7 : (n p q r s : ℕ) → n ≤ 15 → p ≤ 1 → q ≤ 1 → r ≤ 1 → s ≤ 1 → (n + 16 * (p + 2 * q + 4 * r + 8 * s)) / 128 % 2 ≡ 1 → s ≡ 1
+bit_7 n p q r s ln lp lq lr ls h = omega arith
+
+four_low : (h : Hints) → four_bits h ≤ 15
+four_low h =
+    let p = bit-low h.parts in
+    let q = bit-low h.parts_composing in
+    let r = bit-low h.stays in
+    let s = bit-low h.stays_composing in
+    omega arith
+
+module _ (a b : Hints) where
+  parts-bit : (form : Form) → has_bit (eight_bits a b) (parts_place form) ≡ true → parts_under (composes form) (if is_compat form then b else a) ≡ true
+  parts-bit Nfd h = bit-one a.parts (bit_0 (bit a.parts) (bit a.parts_composing) (bit a.stays) (bit a.stays_composing) (four_bits b) (bit-low a.parts) (eqb-true _ 1 h))
+  parts-bit Nfc h = bit-one a.parts_composing (bit_1 (bit a.parts) (bit a.parts_composing) (bit a.stays) (bit a.stays_composing) (four_bits b) (bit-low a.parts) (bit-low a.parts_composing) (eqb-true _ 1 h))
+  parts-bit Nfkd h = bit-one b.parts (bit_4 (four_bits a) (bit b.parts) (bit b.parts_composing) (bit b.stays) (bit b.stays_composing) (four_low a) (bit-low b.parts) (eqb-true _ 1 h))
+  parts-bit Nfkc h =
+      bit-one b.parts_composing (bit_5 (four_bits a) (bit b.parts) (bit b.parts_composing) (bit b.stays) (bit b.stays_composing) (four_low a) (bit-low b.parts) (bit-low b.parts_composing) (eqb-true _ 1 h))
+
+  stays-bit : (form : Form) → has_bit (eight_bits a b) (stays_place form) ≡ true → stays_under (composes form) (if is_compat form then b else a) ≡ true
+  stays-bit Nfd h =
+      bit-one a.stays (bit_2 (bit a.parts) (bit a.parts_composing) (bit a.stays) (bit a.stays_composing) (four_bits b) (bit-low a.parts) (bit-low a.parts_composing) (bit-low a.stays) (eqb-true _ 1 h))
+  stays-bit Nfc h =
+      bit-one a.stays_composing
+      (bit_3 (bit a.parts) (bit a.parts_composing) (bit a.stays) (bit a.stays_composing) (four_bits b) (bit-low a.parts) (bit-low a.parts_composing) (bit-low a.stays) (bit-low a.stays_composing) (eqb-true _ 1 h))
+  stays-bit Nfkd h =
+      bit-one b.stays (bit_6 (four_bits a) (bit b.parts) (bit b.parts_composing) (bit b.stays) (bit b.stays_composing) (four_low a) (bit-low b.parts) (bit-low b.parts_composing) (bit-low b.stays) (eqb-true _ 1 h))
+  stays-bit Nfkc h =
+      bit-one b.stays_composing
+      (bit_7 (four_bits a) (bit b.parts) (bit b.parts_composing) (bit b.stays) (bit b.stays_composing) (four_low a) (bit-low b.parts) (bit-low b.parts_composing) (bit-low b.stays) (bit-low b.stays_composing) (eqb-true _ 1 h))
+
+  module _ (v : VersionData) (c : ℕ) (canonical : AreHints v false c a) (compatible : AreHints v true c b) where
+    parts-both : (form : Form) → (k : Bool) → is_compat form ≡ k → parts_under (composes form) (if k then b else a) ≡ true → IsBoundary v form c
+    parts-both form false e is = canonical.parts form e is
+    parts-both form true e is = compatible.parts form e is
+
+    stays-both : (form : Form) → (k : Bool) → is_compat form ≡ k → stays_under (composes form) (if k then b else a) ≡ true → Stays v form c
+    stays-both form false e is = canonical.stays form e is
+    stays-both form true e is = compatible.stays form e is
+
+    pub bits-hints : AreBits v c (eight_bits a b)
+    bits-hints = record { parts = λ form is. parts-both form (is_compat form) refl (parts-bit form is); stays = λ form is. stays-both form (is_compat form) refl (stays-bit form is) }
+
+-- ---- the bits of rows
+
+module _ (v : VersionData) (e : Entry) where
+  -- no mapping, and no syllable
+  pub bits-bare : (own : Hints) → e.mapping ≡ [] → touches 0xAC00 0xD7A3 e ≡ false →
+      ((compat : Bool) (c : ℕ) → entry_at v.entries c ≡ Some e → is_final v compat c ≡ true → AreHints v compat c own) → AreRowBits v e (eight_bits own own)
+  bits-bare own none far each c found =
+      let within = entry_at-within v.entries c e found in
+      let final : (compat : Bool) → is_final v compat c ≡ true = λ compat.
+      empty_parts v compat c (and_right (has_hangul v) (is_syllable c) (no_syllable c e within.0 within.1 far)) (ap is_empty (file_mapping-found v c e found ∙ none)) in
+      bits-hints own own v c (each false c found (final false)) (each true c found (final true))
+
+  pub bits-syllables : IsSound v → has_hangul v ≡ true → AreLeadsApart v → 0xAC00 ≤ e.first → e.last ≤ 0xD7A3 → AreRowBits v e (eight_bits syllable_hints syllable_hints)
+  bits-syllables sound on leads low high c found =
+      let within = entry_at-within v.entries c e found in
+      let is : is_syllable c ≡ true = among_from_bounds 0xAC00 11172 c (omega arith) (omega arith) in
+      bits-hints syllable_hints syllable_hints v c (hints-syllable v sound on false c is leads) (hints-syllable v sound on true c is leads)
+
+  pub bits-none : AreRowBits v e (eight_bits no_hints no_hints)
+  bits-none c found = bits-hints no_hints no_hints v c (hints-none v false c) (hints-none v true c)
+
+  -- a code point with a mapping stands alone
+  pub bits-mapped : (canonical compatible : Hints) → IsRow e → e.mapping ≢ [] → AreHints v false e.first canonical → AreHints v true e.first compatible → AreRowBits v e (eight_bits canonical compatible)
+  bits-mapped canonical compatible row some one two c found =
+      let within = entry_at-within v.entries c e found in
+      let alone = row.alone some in
+      let same : e.first ≡ c = omega arith in
+      subst (λ d. AreBits v d (eight_bits canonical compatible)) same (bits-hints canonical compatible v e.first one two)
+
+  -- what a table lends is the full decomposition
+  pub lent-decomposes : (compat : Bool) (lent : List ℕ) → IsSound v → entry_at v.entries e.first ≡ Some e → (counts compat e.kind && not (is_empty e.mapping)) ≡ true → lent ≡ table_full v compat e.first →
+      IsFullDecomposition v compat (e.first ∷ []) lent
+  unfolding full_of
+  lent-decomposes compat lent sound found is same =
+      subst (IsFullDecomposition v compat (e.first ∷ [])) (sym (same ∙ row-lent v compat e.first e found is)) (IsFullDecomposition-full_of v compat sound.shallow e.first)
+
+  pub not_lent-final : (compat : Bool) → e.mapping ≢ [] → entry_at v.entries e.first ≡ Some e → (counts compat e.kind && not (is_empty e.mapping)) ≡ false → is_final v compat e.first ≡ true
+  not_lent-final compat some found none =
+      let mapping = file_mapping-found v e.first e found in
+      let off = mapped-off v e.first (ap is_empty mapping ∙ is_empty_from e.mapping some) in
+      elim (and_cases (counts compat e.kind) (not (is_empty e.mapping)) none) [
+        | inl passed ↦ ap is_empty (parts-passed v compat e.first off (ap (counts compat) (file_kind-found v e.first e found) ∙ passed))
+        | inr empty ↦ empty_parts v compat e.first off (ap is_empty mapping ∙ not-false _ empty)
+      ]
+
+-- a code point that no row has
+pub bits-unlisted : (v : VersionData) (c : ℕ) → IsSound v → entry_at v.entries c ≡ None → 0 ≡ class_of v c → ((compat : Bool) → is_final v compat c ≡ true) → AreBits v c 255
+bits-unlisted v c sound none class final =
+    let alone = apart-unlisted v c sound none in
+    bits-hints (own_hints 0 true) (own_hints 0 true) v c (hints-own v false c 0 true (final false) class (λ _. alone)) (hints-own v true c 0 true (final true) class (λ _. alone))

@@ -1,0 +1,125 @@
+//! The hints of the code points of each row, in eight bits.
+ghost use Rattle.std.specs.Prelude.{◌≡◌, ◌≢◌, ◌<◌, [], ℕ, Bool, length, slice_get, slice_index_or, true, false, IsTrue, Some};
+ghost use Rattle.np_tables.specs.Mappings.{is_final};
+ghost use Rattle.np_tables.specs.Versions.{entry_at, has_hangul};
+ghost use Rattle.np_tables.specs.inside.PageHints.{AreHints, AreLeadsApart, AreRowHints};
+ghost use Rattle.np_tables.specs.inside.PageWords.{AreRowBits, AreSeconds, IsSlot, is_row_apart as spec_is_row_apart, touches as spec_touches};
+ghost use Rattle.np_ucd.specs.Entries.{Entry, IsRow};
+ghost use Rattle.np_ucd.specs.RowValues.{entry_of};
+
+use crate::fulls::{Fulls, is_lent};
+use crate::page_hints::{Hints, NO_HINTS, SYLLABLE, eight_bits, list_hints, own_hints};
+use crate::row_places::{mapped_code, row_in};
+use crate::version::Version;
+use np_ucd::Row;
+
+/// Whether a row has one of the code points from `first` to `last`.
+fn touches(row: &Row, first: u32, last: u32) -> bool
+    ensures { result ≡ spec_touches first last (entry_of row.now) }
+{
+    row.first <= last && first <= row.last
+}
+
+/// Whether no code point of a row is the second part of a primary composite: that of a syllable
+/// stands from 1161 to 11C2.
+pub fn is_row_apart(row: &Row, second: bool) -> bool
+    ensures { result ≡ spec_is_row_apart (entry_of row.now) second }
+{
+    !second && !touches(row, 0x1161, 0x11C2)
+}
+
+/// What is known of the code point of a row with a mapping, under a kind of decomposition.
+fn kind_hints(
+    version: &Version,
+    fulls: &Fulls,
+    seconds: &[bool],
+    row: &Row,
+    slot: u32,
+    own: Hints,
+    compat: bool,
+) -> Hints
+    requires seconds { AreSeconds version.now seconds.now }
+    requires row { IsRow (entry_of row.now) }
+    requires first { entry_at version.now.entries row.now.first ≡ Some (entry_of row.now) }
+    requires mapped { row.now.mapping.items ≢ [] }
+    requires slot { IsSlot version.now fulls.now row.now.first slot }
+    requires own { is_final version.now compat row.now.first ≡ true → AreHints version.now compat row.now.first own }
+    ensures { AreHints version.now compat row.now.first result }
+{
+    version.meets_conditions();
+    if is_lent(row, compat) {
+        list_hints(
+            version,
+            seconds,
+            fulls.lent(slot as usize, compat),
+            mapped_code(row),
+        )
+    } else {
+        own
+    }
+}
+
+/// The bits of the code point of a row with a mapping.
+fn mapped_bits(
+    version: &Version,
+    fulls: &Fulls,
+    seconds: &[bool],
+    row: &Row,
+    slot: u32,
+    own: Hints,
+) -> u8
+    requires seconds { AreSeconds version.now seconds.now }
+    requires row { IsRow (entry_of row.now) }
+    requires first { entry_at version.now.entries row.now.first ≡ Some (entry_of row.now) }
+    requires mapped { row.now.mapping.items ≢ [] }
+    requires slot { IsSlot version.now fulls.now row.now.first slot }
+    requires own { (compat : Bool) → is_final version.now compat row.now.first ≡ true → AreHints version.now compat row.now.first own }
+    ensures { AreRowBits version.now (entry_of row.now) result }
+{
+    let canonical = kind_hints(version, fulls, seconds, row, slot, own, false);
+    let compatible = kind_hints(version, fulls, seconds, row, slot, own, true);
+    eight_bits(canonical, compatible)
+}
+
+/// The bits of the code points of a row without a mapping.
+fn bare_bits(version: &Version, row: &Row, own: Hints, leads_apart: bool) -> u8
+    requires rows { IsRow (entry_of row.now) }
+    requires bare { row.now.mapping.items ≡ [] }
+    requires leads { IsTrue leads_apart → AreLeadsApart version.now }
+    requires own { (compat : Bool) (c : ℕ) → entry_at version.now.entries c ≡ Some (entry_of row.now) → is_final version.now compat c ≡ true → AreHints version.now compat c own }
+    ensures { AreRowBits version.now (entry_of row.now) result }
+{
+    version.meets_conditions();
+    if !touches(row, 0xAC00, 0xD7A3) {
+        eight_bits(own, own)
+    } else if leads_apart && version.has_hangul() && 0xAC00 <= row.first && row.last <= 0xD7A3 {
+        eight_bits(SYLLABLE, SYLLABLE)
+    } else {
+        eight_bits(NO_HINTS, NO_HINTS)
+    }
+}
+
+/// The bits of the code points of the row at a place, from 0.
+pub fn row_bits(
+    version: &Version,
+    fulls: &Fulls,
+    seconds: &[bool],
+    at: usize,
+    slot: u32,
+    leads_apart: bool,
+) -> u8
+    requires place { at < length version.now.entries }
+    requires seconds { AreSeconds version.now seconds.now }
+    requires slot { (e : Entry) → slice_get version.now.entries at ≡ Some e → IsSlot version.now fulls.now e.first slot }
+    requires leads { IsTrue leads_apart → AreLeadsApart version.now }
+    ensures { (e : Entry) → slice_get version.now.entries at ≡ Some e → AreRowBits version.now e result }
+{
+    version.meets_conditions();
+    let row = row_in(version.characters(), at);
+    let own = own_hints(row.class, is_row_apart(row, seconds[at]));
+    if row.mapping.is_empty() {
+        bare_bits(version, row, own, leads_apart)
+    } else {
+        mapped_bits(version, fulls, seconds, row, slot, own)
+    }
+}

@@ -1,0 +1,228 @@
+//! What a table of pages keeps of each form for a code point: whether the form parts before it, and
+//! whether it leaves it as it is (UAX #15, section 9.1).
+ghost use Rattle.std.specs.Prelude.{◌≡◌, ◌∷◌, ◌<◌, ◌≤◌, [], ℕ, Bool, true, false, length, IsTrue};
+ghost use Rattle.np_code_points.specs.declared.forms.Form.{Form};
+ghost use Rattle.np_tables.specs.Boundaries.{FoldsTo, NeverFalls};
+ghost use Rattle.np_tables.specs.Mappings.{IsFullDecomposition};
+ghost use Rattle.np_tables.specs.Versions.{class_of};
+ghost use Rattle.np_tables.specs.inside.PageHints.{AreHints, AreLeadsApart, FoldsBy, IsApart, bit as spec_bit, eight_bits as spec_eight_bits, four_bits as spec_four_bits, is_late_jamo as spec_is_late_jamo, own_hints as spec_own_hints, parts_place as spec_parts_place, stays_place as spec_stays_place};
+ghost use Rattle.np_tables.specs.inside.PageWords.{AreSeconds};
+
+use crate::pairs::Pairs;
+use crate::version::Version;
+use np_code_points::Form;
+use np_code_points::hangul::{L_BASE, L_COUNT};
+
+/// What is known of a code point under the two forms of one kind of decomposition.
+#[derive(Clone, Copy, Debug)]
+pub struct Hints {
+    /// The form that only decomposes parts before it.
+    pub parts: bool,
+    /// The form that composes too parts before it.
+    pub parts_composing: bool,
+    /// The form that only decomposes leaves it as it is.
+    pub stays: bool,
+    /// The form that composes too leaves it as it is.
+    pub stays_composing: bool,
+}
+
+/// Nothing is known.
+pub const NO_HINTS: Hints = Hints {
+    parts: false,
+    parts_composing: false,
+    stays: false,
+    stays_composing: false,
+};
+
+/// The form that only decomposes parts before it.
+const PARTING: Hints = Hints {
+    parts: true,
+    parts_composing: false,
+    stays: false,
+    stays_composing: false,
+};
+
+/// A syllable of the arithmetic: it begins with a leading consonant, which goes into nothing, and
+/// comes back where the form composes.
+pub const SYLLABLE: Hints = Hints {
+    parts: true,
+    parts_composing: true,
+    stays: false,
+    stays_composing: true,
+};
+
+/// What is known of a code point without a mapping of the kind.
+pub fn own_hints(class: u8, apart: bool) -> Hints
+    ensures { result ≡ spec_own_hints class apart }
+{
+    let starter = class == 0;
+    let alone = starter && apart;
+    Hints {
+        parts: starter,
+        parts_composing: alone,
+        stays: starter,
+        stays_composing: alone,
+    }
+}
+
+/// Whether a code point is a vowel or a trailing consonant of a syllable, or stands between them.
+fn is_late_jamo(code: u32) -> bool
+    ensures { result ≡ spec_is_late_jamo code }
+{
+    0x1161 <= code && code <= 0x11C2
+}
+
+/// Whether a code point is known to be the second part of no primary composite: the second part of
+/// a syllable is a vowel or a trailing consonant.
+fn is_apart(version: &Version, seconds: &[bool], code: u32) -> bool
+    requires { AreSeconds version.now seconds.now }
+    ensures { IsTrue result → IsApart version.now code }
+{
+    version.meets_conditions();
+    if is_late_jamo(code) {
+        return false;
+    }
+    match version.characters().place_of(code) {
+        Some(at) => !seconds[at],
+        None => true,
+    }
+}
+
+/// Whether the leading consonants of syllables are known to be second parts of no primary composite.
+pub fn are_leads_apart(version: &Version, seconds: &[bool]) -> bool
+    requires { AreSeconds version.now seconds.now }
+    ensures { IsTrue result → AreLeadsApart version.now }
+{
+    for lead in 0..L_COUNT {
+        if !is_apart(version, seconds, L_BASE + lead) {
+            return false;
+        }
+    }
+    true
+}
+
+/// Whether no combining class is less than the one before.
+fn never_falls(version: &Version, list: &[char]) -> bool
+    ensures { IsTrue result → NeverFalls (class_of version.now) list.now }
+{
+    match list {
+        [first, rest @ ..] => match rest {
+            [second, ..] => {
+                version.class_of(u32::from(*first)) <= version.class_of(u32::from(*second))
+                    && never_falls(version, rest)
+            }
+            [] => true,
+        },
+        [] => true,
+    }
+}
+
+/// Whether a starter and the code points behind it compose, one after the other, to `own`.
+fn folds_to(pairs: &Pairs, first: char, rest: &[char], own: char) -> bool
+    ensures { IsTrue result → FoldsBy pairs.now first rest.now own }
+{
+    match rest {
+        [next, later @ ..] => match pairs.find(first, *next) {
+            Some(composite) => folds_to(pairs, composite, later, own),
+            None => false,
+        },
+        [] => first == own,
+    }
+}
+
+/// Whether a starter and the code points behind it come back to `own` where the form composes.
+fn comes_back(version: &Version, first: char, rest: &[char], own: char) -> bool
+    ensures rises { IsTrue result → NeverFalls (class_of version.now) rest.now }
+    ensures folds { IsTrue result → FoldsTo version.now first rest.now own }
+{
+    never_falls(version, rest) && folds_to(version.pairs(), first, rest, own)
+}
+
+/// What is known of a code point by its full decomposition, in its parts.
+fn hints_by_parts(
+    version: &Version,
+    seconds: &[bool],
+    first: char,
+    rest: &[char],
+    own: char,
+) -> Hints
+    requires { AreSeconds version.now seconds.now }
+    ensures { (compat : Bool) → IsFullDecomposition version.now compat (own ∷ []) (first ∷ rest.now) → AreHints version.now compat own result }
+{
+    let code = u32::from(first);
+    if version.class_of(code) != 0 {
+        return NO_HINTS;
+    }
+    if !is_apart(version, seconds, code) {
+        return PARTING;
+    }
+    let stays_composing = comes_back(version, first, rest, own);
+    Hints {
+        parts: true,
+        parts_composing: true,
+        stays: false,
+        stays_composing,
+    }
+}
+
+/// What is known of a code point by its full decomposition.
+pub fn list_hints(version: &Version, seconds: &[bool], list: &[char], own: char) -> Hints
+    requires { AreSeconds version.now seconds.now }
+    ensures { (compat : Bool) → IsFullDecomposition version.now compat (own ∷ []) list.now → AreHints version.now compat own result }
+{
+    match list {
+        [first, rest @ ..] => hints_by_parts(version, seconds, *first, rest, own),
+        [] => NO_HINTS,
+    }
+}
+
+/// A bit.
+fn bit(holds: bool) -> u8
+    ensures { result ≡ spec_bit holds }
+{
+    if holds { 1 } else { 0 }
+}
+
+/// Hints as four bits.
+fn four_bits(hints: Hints) -> u8
+    ensures value { result ≡ spec_four_bits hints }
+    ensures bound { result < 16 }
+{
+    bit(hints.parts)
+        + 2 * bit(hints.parts_composing)
+        + 4 * bit(hints.stays)
+        + 8 * bit(hints.stays_composing)
+}
+
+/// The hints of both kinds of decomposition in eight bits.
+pub fn eight_bits(canonical: Hints, compatible: Hints) -> u8
+    ensures { result ≡ spec_eight_bits canonical compatible }
+{
+    four_bits(canonical) + 16 * four_bits(compatible)
+}
+
+/// Which bit tells whether a form parts before a code point.
+pub fn parts_place(form: Form) -> u32
+    ensures place { result ≡ spec_parts_place form }
+    ensures bound { result < 8 }
+{
+    match form {
+        Form::Nfd => 0,
+        Form::Nfc => 1,
+        Form::Nfkd => 4,
+        Form::Nfkc => 5,
+    }
+}
+
+/// Which bit tells whether a form leaves a code point as it is.
+pub fn stays_place(form: Form) -> u32
+    ensures place { result ≡ spec_stays_place form }
+    ensures bound { result < 8 }
+{
+    match form {
+        Form::Nfd => 2,
+        Form::Nfc => 3,
+        Form::Nfkd => 6,
+        Form::Nfkc => 7,
+    }
+}
