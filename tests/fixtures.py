@@ -5,7 +5,7 @@ Those texts are constants of the crates, since a test can't read the repository'
 is paired with a file by its name: V1_DATA with v1/UnicodeData.txt, V1_EXCLUSIONS with
 v1/CompositionExclusions.txt, EXCHANGE_SCHEDULE and EXCHANGE_REPORT with scripts/exchange.schedule
 and scripts/exchange.report. Each has to have the other. The usage text of docs/FORMATS.md is compared
-with that of the stored run. Ends in a line 'N passed, M failed'.
+with that of the stored run, and the Rust example of the README and of two crates with the unit test that runs it. Ends in a line 'N passed, M failed'.
 """
 
 import re
@@ -18,6 +18,7 @@ sys.dont_write_bytecode = True
 from harness import Tally
 
 ROOT = Path(__file__).resolve().parent.parent
+CRATES = ROOT / "crates"
 FILES = {
     "DATA": "{}/UnicodeData.txt",
     "EXCLUSIONS": "{}/CompositionExclusions.txt",
@@ -59,6 +60,17 @@ def files(wanted):
     return {name: text for name, text in found.items() if has_scripts or not name.startswith("scripts/")}
 
 
+def check_example(tally):
+    """The Rust example of the README and of the crates' heads is the one that a unit test runs."""
+    tested = (CRATES / "np_forms" / "src" / "tests" / "example.rt").read_text(encoding="utf-8")
+    for page, fence, sign in ((ROOT / "README.md", "```rust\n", ""), (CRATES / "np_forms/src/lib.rt", "//! ```\n", "//! "),
+                              (CRATES / "np_tables/src/lib.rt", "//! ```\n", "//! ")):
+        block = page.read_text(encoding="utf-8").split(fence)[1].split("```")[0]
+        lines = [line.removeprefix(sign).strip() for line in block.splitlines() if line.strip("/! ")]
+        tally.check(f"{page.relative_to(ROOT)} has the tested example",
+                    lines and all(f"    {line}\n" in tested for line in lines), f"{lines} in example.rt")
+
+
 def main():
     tally = Tally()
     wanted = constants()
@@ -69,6 +81,7 @@ def main():
     tally.check("docs/FORMATS.md has the usage text",
                 f"\n```\n{usage}```\n" in (ROOT / "docs" / "FORMATS.md").read_text(encoding="utf-8"))
     tally.check("there are fixtures", got, "fixtures/ has no file")
+    check_example(tally)
     tally.finish()
 
 
