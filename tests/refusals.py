@@ -14,6 +14,7 @@ nothing is tried. Ends in a line 'N passed, M failed'.
 
 import os
 import shutil
+import signal
 import subprocess
 import sys
 import tempfile
@@ -28,6 +29,8 @@ from versions import V1, write_all
 
 FIXTURES = ROOT / "fixtures"
 MEMORY = (6, b"", b"out of memory\n")
+# The status of a unit test that failed by its result.
+FAILED = 101
 
 # How a read or a write fails.
 WAYS = {"read": ("error", "interrupt"), "write": ("error", "interrupt", "nothing")}
@@ -76,6 +79,14 @@ def told(got):
     return (status, out) == (DEVICE, b"") and err.endswith(b": ReadFailed\n") and err.count(b"\n") == 1
 
 
+def is_want(got, ample, words):
+    """Whether a run ends well for want of memory: with nothing written, or, as `normalize` does, a prefix of the
+    form."""
+    status, out, err = got
+    return got == MEMORY or (words[:1] == ["normalize"] and (status, err) == (MEMORY[0], MEMORY[2])
+                             and ample[1].startswith(out))
+
+
 def is_read_failed(got, ample, words):
     """Whether a run ends well after a failed read: in its line, with nothing written, or as `normalize`
     does, a prefix of the form."""
@@ -97,7 +108,7 @@ def is_write_failed(got, ample):
 def check_memory(tally, refusals, program, words, stdin, ample, count):
     """Each allocation refused in turn."""
     ends = [refusals.run(program, words, stdin, f"memory:{place}") for place in range(1, count + 1)]
-    wrong = [(place, got) for place, got in enumerate(ends, 1) if got not in (MEMORY, ample)]
+    wrong = [(place, got) for place, got in enumerate(ends, 1) if got != ample and not is_want(got, ample, words)]
     tally.check(f"{' '.join(words)} with each of {count} allocations refused", not wrong, f"got {shown(wrong[:1])}")
     return MEMORY in ends
 
@@ -130,9 +141,9 @@ def check_tests(tally, refusals, program):
 
 
 def wants_memory(got):
-    """Whether a test ended because memory ran out, and by no signal."""
+    """Whether a test failed because memory ran out, by its result or by an assertion that names it."""
     status, out, err = got
-    return status is not None and status > 0 and b"emory" in out + err
+    return status in (FAILED, -signal.SIGABRT) and any(word in out + err for word in (b"emory", b"AllocError"))
 
 
 def main():
