@@ -1,5 +1,16 @@
 //! The normalization forms, stabilized strings and equivalence (The Unicode Standard, chapter 3,
 //! and UAX #15), over a table of a version.
+//!
+//! From two files to a key, where `data` and `exclusions` are readers (`np_tables` makes the table, and
+//! `np_ucd` reads the files):
+//!
+//! ```
+//! let rows = read_rows(alloc, &mut Watched::new(data))?;
+//! let listed = read_exclusions(alloc, &mut Watched::new(exclusions))?;
+//! let version = Version::build(alloc, rows, listed)?;
+//! let table = PageTable::new(alloc, version)?;
+//! let key = npss(alloc, &table, Form::Nfc, "a\u{302}\u{323}")?;
+//! ```
 #![tactic(auto)]
 
 mod assigned;

@@ -3,6 +3,7 @@ mod answers;
 mod hosts;
 mod images;
 mod messages;
+mod refused;
 
 use crate::{Accepted, Node, NodeFault, Taken};
 use np_code_points::watched::Watched;

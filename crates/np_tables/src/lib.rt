@@ -1,4 +1,13 @@
 //! Versions of the character tables, and tables over them.
+//!
+//! From two files to a table, where `data` and `exclusions` are readers:
+//!
+//! ```
+//! let rows = read_rows(alloc, &mut Watched::new(data))?;
+//! let listed = read_exclusions(alloc, &mut Watched::new(exclusions))?;
+//! let version = Version::build(alloc, rows, listed)?;
+//! let table = PageTable::new(alloc, version)?;
+//! ```
 #![tactic(auto)]
 
 mod ambiguity;
