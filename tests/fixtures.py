@@ -65,9 +65,31 @@ def files(wanted):
     return {name: text for name, text in found.items() if has_scripts or not name.startswith("scripts/")}
 
 
-and scripts/exchange.report. Each has to have the other. The reports of the scripts are compared with those
-of history_model.py, the usage text of docs/FORMATS.md with that of the stored run, and the Rust example of
-the README and of two crates with the unit test that runs it. Ends in a line 'N passed, M failed'.
+# Keys that are younger than some Python.
+YOUNG_KEYS = {history_model.string_of(["16D63", "16D67", "16D67"]): history_model.string_of(["16D6A"])}
+
+
+def check_model(tally):
+    """The model of histories gives each script's report."""
+    folder = ROOT / "fixtures"
+    for name, files, form in SCRIPTS:
+        versions = [{code for row in ucd.rows((folder / data).read_text(encoding="utf-8")) for code in row.codes()}
+                    for data in files[::2]]
+        schedule = (folder / "scripts" / f"{name}.schedule").read_text(encoding="utf-8")
+        got = history_model.report_of(schedule, versions, form,
+                                      lambda string: YOUNG_KEYS.get(string) or unicodedata.normalize(form.upper(), string))
+        tally.same(f"the model's report of {name}", got, (folder / "scripts" / f"{name}.report").read_text(encoding="utf-8"))
+
+
+def check_example(tally):
+    """The Rust example of the README and of the crates' heads is the one that a unit test runs."""
+    tested = (CRATES / "np_forms" / "src" / "tests" / "example.rt").read_text(encoding="utf-8")
+    for page, fence, sign in ((ROOT / "README.md", "```rust\n", ""), (CRATES / "np_forms/src/lib.rt", "//! ```\n", "//! "),
+                              (CRATES / "np_tables/src/lib.rt", "//! ```\n", "//! ")):
+        block = page.read_text(encoding="utf-8").split(fence)[1].split("```")[0]
+        lines = [line.removeprefix(sign).strip() for line in block.splitlines() if line.strip("/! ")]
+        tally.check(f"{page.relative_to(ROOT)} has the tested example",
+                    lines and all(f"    {line}\n" in tested for line in lines), f"{lines} in example.rt")
 
 
 def main():
