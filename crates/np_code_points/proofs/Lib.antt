@@ -4,6 +4,7 @@ pub mod HangulLemmas
 pub mod Elements
 pub mod BlankLemmas
 pub mod LineLemmas
+pub mod PlaceLemmas
 pub mod WordLemmas
 pub mod WordGrammar
 pub mod LineGrammar

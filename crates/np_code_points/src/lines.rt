@@ -1,10 +1,59 @@
 //! The lines of a file, as the Unicode Character Database has them (UAX #44, section 4.2).
-ghost use Rattle.std.specs.Prelude.{◌≡◌, ◌<◌, ◌+◌, ◌∷◌, ◌≢◌, ℕ, List, [], length, option_map, MatchOption, Some, None};
-ghost use Rattle.std.specs.List.{list_all};
+ghost use Rattle.std.specs.Prelude.{◌≡◌, ◌<◌, ◌≤◌, ◌+◌, ◌∷◌, ◌≢◌, ℕ, List, [], length, drop, option_map, MatchOption, Some, None};
+ghost use Rattle.std.specs.List.{list_all, prefix_len};
+ghost use lib.Lanes.{chunk};
 ghost use Rattle.np_code_points.specs.Lines.{AreDataLines, AreLines};
-ghost use Rattle.np_code_points.specs.inside.LineCuts.{before_byte, after_byte, data_lines_in, lines_of, without_return as returned, is_blank as blank, is_comment as comment, is_skipped as skipped};
+ghost use Rattle.np_code_points.specs.inside.LineCuts.{before_byte, after_byte, data_lines_in, lines_of, without_return as returned, is_blank as blank, is_comment as comment, is_skipped as skipped, is_other};
 
 use std::marker::Model;
+use std::simd::prelude::*;
+
+/// How many bytes a step of a search looks at.
+const STEP: usize = 16;
+
+/// How many of the `STEP` bytes from a place on stand before the first such byte: all where there
+/// is none.
+#[inline(always)]
+fn before_in_step(bytes: &[u8], from: usize, byte: u8) -> usize
+    requires room { from + 16 ≤ length bytes.now }
+    ensures { result ≡ prefix_len (is_other byte) (chunk from 16 bytes.now) }
+{
+    let found = u8x16::from_slice(&bytes[from..])
+        .simd_eq(u8x16::splat(byte))
+        .to_bitmask();
+    if found == 0 {
+        STEP
+    } else {
+        found.trailing_zeros() as usize
+    }
+}
+
+/// How many bytes stand before the first such byte from a place on; all where there is none.
+fn before_from(bytes: &[u8], from: usize, byte: u8) -> usize
+    requires within { from ≤ length bytes.now }
+    ensures { result ≡ from + prefix_len (is_other byte) (drop from bytes.now) }
+{
+    let mut at = from;
+    while at < bytes.len() && bytes[at] != byte {
+        at += 1;
+    }
+    at
+}
+
+/// How many bytes stand before the first such byte; all where there is none.
+fn before(bytes: &[u8], byte: u8) -> usize
+    ensures { result ≡ prefix_len (is_other byte) bytes.now }
+{
+    let mut at = 0;
+    while bytes.len() - at >= STEP {
+        let passed = before_in_step(bytes, at, byte);
+        if passed < STEP {
+            return at + passed;
+        }
+        at += STEP;
+    }
+    before_from(bytes, at, byte)
+}
 
 /// What stands before the first such byte, and what stands behind it where there is one. In time
 /// linear in what stands before it.
@@ -12,12 +61,12 @@ pub fn cut(bytes: &[u8], byte: u8) -> (&[u8], Option<&[u8]>)
     ensures before { result.0.now ≡ before_byte byte bytes.now }
     ensures after { option_map (λ rest. rest.now) result.1 ≡ after_byte byte bytes.now }
 {
-    for (at, b) in bytes.iter().enumerate() {
-        if *b == byte {
-            return (&bytes[..at], Some(&bytes[at + 1..]));
-        }
+    let at = before(bytes, byte);
+    if at < bytes.len() {
+        (&bytes[..at], Some(&bytes[at + 1..]))
+    } else {
+        (bytes, None)
     }
-    (bytes, None)
 }
 
 /// The first line without its LF, and what is behind it.

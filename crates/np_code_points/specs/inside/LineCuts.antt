@@ -1,5 +1,5 @@
 -- How a file is cut into lines, as functions of its bytes; `specs/Lines` says it in relations.
-use Rattle.std.specs.Prelude.{ℕ, ◌+◌, Bool, true, false, ◌||◌, ◌==◌, List, [], ◌∷◌, length, Option, Some, None, if◌then◌else◌}
+use Rattle.std.specs.Prelude.{ℕ, ◌+◌, Bool, true, false, not, ◌||◌, ◌==◌, List, [], ◌∷◌, length, Option, Some, None, if◌then◌else◌}
 use Rattle.std.specs.List.{list_all, slice_split}
 use Rattle.np_code_points.specs.Lines.{Numbered, Walk}
 
@@ -19,6 +19,10 @@ before_byte byte = before_first (λ b. b == byte)
 
 abbrev pub after_byte : ℕ → List ℕ → Option (List ℕ)
 after_byte byte = after_first (λ b. b == byte)
+
+-- another byte than this one
+abbrev pub is_other : ℕ → ℕ → Bool
+is_other byte b = not (b == byte)
 
 abbrev pub is_empty : {X : Type 0} → List X → Bool
 is_empty [] = true
