@@ -1,10 +1,12 @@
 pub mod Bytes
 pub mod CodeLemmas
+pub mod HexLemmas
 pub mod HangulLemmas
 pub mod Elements
 pub mod BlankLemmas
 pub mod LineLemmas
 pub mod PlaceLemmas
+pub mod CountLemmas
 pub mod WordLemmas
 pub mod WordGrammar
 pub mod LineGrammar

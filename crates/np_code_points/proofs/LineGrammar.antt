@@ -3,8 +3,8 @@ use Rattle.std.proofs.Common.{◌≡◌, ◌≢◌, ℕ, zero, suc, ◌≤◌, B
 use Rattle.std.proofs.lemmas.Bool.{eqb-true, eqb-false, eq-eqb, ne_eqb}
 use Rattle.std.proofs.lemmas.List.Elements.{All-nil, All-cons, All-head, All-tail}
 use Rattle.np_code_points.specs.Lines.{HasNo, AreLines, DropsReturn}
-use Rattle.np_code_points.specs.inside.LineCuts.{before_byte, after_byte, lines_of, without_return}
-use Rattle.np_code_points.proofs.LineLemmas.{is_byte, lines_cut, lines_lone, length-after_first}
+use Rattle.np_code_points.specs.inside.LineCuts.{is_byte, before_byte, after_byte, lines_of, without_return}
+use Rattle.np_code_points.proofs.LineLemmas.{lines_cut, lines_lone, length-after_first}
 
 -- What stands before the first such byte, and behind it.
 abbrev pub not_byte : ℕ → ℕ → Type 0

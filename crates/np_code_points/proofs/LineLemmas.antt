@@ -3,7 +3,7 @@ use Rattle.std.proofs.Common.{◌≡◌, ◌≢◌, ℕ, zero, suc, ◌+◌, ◌
 use Rattle.std.specs.List.{slice_split, onto_first}
 use Rattle.std.proofs.lemmas.List.{at_drop_more, at_drop_all, take_more, append_assoc, append-nil, take_all}
 use Rattle.std.proofs.lemmas.Bool.{cond-true, cond-false, ne_eqb, eq-eqb}
-use Rattle.np_code_points.specs.inside.LineCuts.{before_first, after_first, before_byte, after_byte, without_last_empty, lines_of, without_return}
+use Rattle.np_code_points.specs.inside.LineCuts.{before_first, after_first, before_byte, after_byte, is_byte, without_last_empty, lines_of, without_return}
 
 -- A loop that seeks the first element that passes.
 module _ (p : ℕ → Bool) where
@@ -58,9 +58,6 @@ module _ (p : ℕ → Bool) where
   length-after_first [] rest h = absurd (cc)
   length-after_first (x ∷ xs) rest h =
       let l = behind_step (p x) xs rest (after_first p xs) (length-after_first xs rest) h in omega arith
-
-abbrev pub is_byte : ℕ → ℕ → Bool
-is_byte byte b = eqb b byte
 
 lines_step : (before : List ℕ) (parts : List (List ℕ)) (part : List ℕ) (more : List (List ℕ)) → parts ≡ part ∷ more → without_last_empty (before ∷ parts) ≡ before ∷ without_last_empty parts
 lines_step before parts part more h =

@@ -10,11 +10,35 @@ use crate::Memory;
 /// How many code points there are: each is below this number (The Unicode Standard, D9 and D10).
 pub const CODE_POINTS: u32 = 0x11_0000;
 
+/// The value of each byte that is a hex digit; 255 for the others. One look-up is quicker than the
+/// tests of `char::to_digit`, and codes are most of what is read of a data file.
+const HEX_VALUES: [u8; 256] = [
+    255, 255, 255, 255, 255, 255, 255, 255, 255, 255, 255, 255, 255, 255, 255, 255, 255, 255, 255,
+    255, 255, 255, 255, 255, 255, 255, 255, 255, 255, 255, 255, 255, 255, 255, 255, 255, 255, 255,
+    255, 255, 255, 255, 255, 255, 255, 255, 255, 255, 0, 1, 2, 3, 4, 5, 6, 7, 8, 9, 255, 255, 255,
+    255, 255, 255, 255, 10, 11, 12, 13, 14, 15, 255, 255, 255, 255, 255, 255, 255, 255, 255, 255,
+    255, 255, 255, 255, 255, 255, 255, 255, 255, 255, 255, 255, 255, 255, 255, 255, 10, 11, 12, 13,
+    14, 15, 255, 255, 255, 255, 255, 255, 255, 255, 255, 255, 255, 255, 255, 255, 255, 255, 255,
+    255, 255, 255, 255, 255, 255, 255, 255, 255, 255, 255, 255, 255, 255, 255, 255, 255, 255, 255,
+    255, 255, 255, 255, 255, 255, 255, 255, 255, 255, 255, 255, 255, 255, 255, 255, 255, 255, 255,
+    255, 255, 255, 255, 255, 255, 255, 255, 255, 255, 255, 255, 255, 255, 255, 255, 255, 255, 255,
+    255, 255, 255, 255, 255, 255, 255, 255, 255, 255, 255, 255, 255, 255, 255, 255, 255, 255, 255,
+    255, 255, 255, 255, 255, 255, 255, 255, 255, 255, 255, 255, 255, 255, 255, 255, 255, 255, 255,
+    255, 255, 255, 255, 255, 255, 255, 255, 255, 255, 255, 255, 255, 255, 255, 255, 255, 255, 255,
+    255, 255, 255, 255, 255, 255, 255, 255, 255, 255, 255, 255, 255, 255, 255, 255, 255, 255, 255,
+    255, 255, 255,
+];
+
 /// The value of a hex digit of either case. `None` for other bytes.
 pub fn hex_value(byte: u8) -> Option<u32>
     ensures { SomeIff result (is_hex_digit byte ≡ true) (digit_value byte) }
 {
-    char::from(byte).to_digit(16)
+    let value = HEX_VALUES[usize::from(byte)];
+    if value < 16 {
+        Some(u32::from(value))
+    } else {
+        None
+    }
 }
 
 /// The code point that the bytes stand for: exactly four to six hex digits of either case, with a

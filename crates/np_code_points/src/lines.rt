@@ -1,9 +1,9 @@
 //! The lines of a file, as the Unicode Character Database has them (UAX #44, section 4.2).
-ghost use Rattle.std.specs.Prelude.{◌≡◌, ◌<◌, ◌≤◌, ◌+◌, ◌∷◌, ◌≢◌, ℕ, List, [], length, drop, option_map, MatchOption, Some, None};
-ghost use Rattle.std.specs.List.{list_all, prefix_len};
+ghost use Rattle.std.specs.Prelude.{◌≡◌, ◌==◌, ◌<◌, ◌≤◌, ◌+◌, ◌∷◌, ◌≢◌, ℕ, List, [], length, drop, option_map, MatchOption, Some, None};
+ghost use Rattle.std.specs.List.{count_by, list_all, prefix_len};
 ghost use lib.Lanes.{chunk};
 ghost use Rattle.np_code_points.specs.Lines.{AreDataLines, AreLines};
-ghost use Rattle.np_code_points.specs.inside.LineCuts.{before_byte, after_byte, data_lines_in, lines_of, without_return as returned, is_blank as blank, is_comment as comment, is_skipped as skipped, is_other};
+ghost use Rattle.np_code_points.specs.inside.LineCuts.{before_byte, after_byte, data_lines_in, lines_of, without_return as returned, is_blank as blank, is_comment as comment, is_skipped as skipped, is_byte, is_other};
 
 use std::marker::Model;
 use std::simd::prelude::*;
@@ -66,6 +66,46 @@ pub fn cut(bytes: &[u8], byte: u8) -> (&[u8], Option<&[u8]>)
         (&bytes[..at], Some(&bytes[at + 1..]))
     } else {
         (bytes, None)
+    }
+}
+
+/// How many of the `STEP` bytes from a place on, but for the first `skipped`, are this byte.
+#[inline(always)]
+fn counted_in_step(bytes: &[u8], from: usize, skipped: usize, byte: u8) -> usize
+    requires room { from + 16 ≤ length bytes.now }
+    requires skipped { skipped ≤ 16 }
+    ensures { result ≡ count_by (is_byte byte) (drop skipped (chunk from 16 bytes.now)) }
+{
+    let found = u8x16::from_slice(&bytes[from..])
+        .simd_eq(u8x16::splat(byte))
+        .to_bitmask();
+    (found >> skipped).count_ones() as usize
+}
+
+/// How many of these bytes, at least `STEP`, are this byte.
+fn counted_by_steps(bytes: &[u8], byte: u8) -> usize
+    requires long { 16 ≤ length bytes.now }
+    ensures { result ≡ count_by (is_byte byte) bytes.now }
+{
+    let mut at = 0;
+    let mut count = 0;
+    while bytes.len() - at >= STEP {
+        count += counted_in_step(bytes, at, 0, byte);
+        at += STEP;
+    }
+    // the last step begins among bytes that are counted already
+    let left = bytes.len() - at;
+    count + counted_in_step(bytes, bytes.len() - STEP, STEP - left, byte)
+}
+
+/// How often a byte stands among these. In time linear in their number.
+pub fn count(bytes: &[u8], byte: u8) -> usize
+    ensures { result ≡ count_by (λ b. b == byte) bytes.now }
+{
+    if bytes.len() < STEP {
+        bytes.iter().filter(|b| **b == byte).count()
+    } else {
+        counted_by_steps(bytes, byte)
     }
 }
 

@@ -10,9 +10,9 @@ use Rattle.std.proofs.lemmas.List.Splits.{join_with_byte-slice_split}
 use Rattle.std.proofs.lemmas.Slice.Eq.{ends_is}
 use Rattle.std.proofs.lemmas.Str.{digit_value_digit}
 use Rattle.np_code_points.specs.Lines.{HasNo}
-use Rattle.np_code_points.specs.inside.LineCuts.{before_byte}
+use Rattle.np_code_points.specs.inside.LineCuts.{is_byte, before_byte}
 use Rattle.np_code_points.proofs.LineGrammar.{not_byte, joined_none, before_at, after_at, after_none}
-use Rattle.np_code_points.proofs.LineLemmas.{is_byte, rest_parts, split_cut}
+use Rattle.np_code_points.proofs.LineLemmas.{rest_parts, split_cut}
 use Rattle.np_ucd.specs.Fields.{AreFields, Fields, HasFields, IsLetter, IsCategory, IsDigit, IsClassOf, IsFirstName, IsLastName}
 use Rattle.np_ucd.specs.inside.FieldReading.{fields_of, is_letter, category_value, is_digit, number_of, is_class, class_value, opens_range, closes_range}
 use Rattle.np_ucd.specs.inside.RecordReading.{field}

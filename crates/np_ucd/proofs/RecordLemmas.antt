@@ -3,8 +3,8 @@ use Rattle.std.proofs.Common.{◌≡◌, ◌≢◌, ℕ, Bool, true, false, not,
 use Rattle.std.proofs.lemmas.Bool.{cond-true, cond-false, ne_eqb, eq-eqb}
 use Rattle.np_code_points.specs.Codes.{code_value}
 use Rattle.np_ucd.specs.Entries.{Entry, Plain}
-use Rattle.np_code_points.proofs.LineLemmas.{split_cut, rest_parts, is_byte}
-use Rattle.np_code_points.specs.inside.LineCuts.{is_empty, before_byte, after_byte}
+use Rattle.np_code_points.proofs.LineLemmas.{split_cut, rest_parts}
+use Rattle.np_code_points.specs.inside.LineCuts.{is_byte, is_empty, before_byte, after_byte}
 use Rattle.np_ucd.specs.Mappings.{Mapping}
 use Rattle.np_ucd.specs.Tests.{FieldCount, BadCode, OutOfOrder, BadCategory, BadClass, BadMapping}
 use Rattle.np_ucd.specs.inside.FieldReading.{fields_of, category_value, class_value, mapping_value}
@@ -20,10 +20,10 @@ pub fields_none : (xs : List ℕ) → after_byte 59 xs ≡ None → length (fiel
 unfolding fields_of
 fields_none xs h = ap length (split_cut (is_byte 59) xs ∙ ap (λ o. before_byte 59 xs ∷ rest_parts (is_byte 59) o) h)
 
-pub fifteen : (text rest a b c d e f : List ℕ) → fields_of text ≡ a ∷ b ∷ c ∷ d ∷ e ∷ f ∷ fields_of rest → length (fields_of rest) ≡ 9 → (length (fields_of text) ≡ 15) × (a ≡ field 0 text) × (b ≡ field 1 text) × (c ≡ field 2 text) × (d ≡ field 3 text) × (f ≡ field 5 text)
+pub fifteen : (text rest a b c d e f : List ℕ) → fields_of text ≡ a ∷ b ∷ c ∷ d ∷ e ∷ f ∷ fields_of rest → length (fields_of text) ≡ 15 → (length (fields_of text) ≡ 15) × (a ≡ field 0 text) × (b ≡ field 1 text) × (c ≡ field 2 text) × (d ≡ field 3 text) × (f ≡ field 5 text)
 unfolding field
-fifteen text rest a b c d e f h nine = (
-  omega (arith, ap length h),
+fifteen text rest a b c d e f h count = (
+  count,
   sym (ap (λ ps. get_or ps 0 []) h),
   sym (ap (λ ps. get_or ps 1 []) h),
   sym (ap (λ ps. get_or ps 2 []) h),

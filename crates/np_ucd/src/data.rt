@@ -11,6 +11,10 @@ use crate::rows::{Row, Rows};
 use np_code_points::lines::{DataLine, DataLines};
 use std::alloc::Global;
 
+/// The fewest bytes of a record with its LF: a code of four digits, a category, a class, and the
+/// fourteen `;` between its fields.
+const SHORTEST: usize = 22;
+
 /// Reads a record behind the record before, adds its row, unless it is the first one of a range,
 /// and answers what the next record is held against.
 fn take_record(
@@ -64,7 +68,8 @@ pub(crate) fn rows_of(alloc: Global, bytes: &[u8]) -> Result<Rows, UcdFault>
     ensures rows { IfOk result (λ rows. rows ≡ rows_in bytes.now) }
     ensures fault { IfErr result (λ e. IsMemoryOr (first_fault bytes.now) e) }
 {
-    let mut rows = Vec::new(alloc);
+    // room for as many rows as the bytes can hold, so that the list is not copied as it grows
+    let mut rows = Vec::with_capacity(alloc, bytes.len() / SHORTEST + 1)?;
     take_rows(alloc, &mut rows, bytes)?;
     Ok(Rows::from_rows(rows))
 }

@@ -20,7 +20,10 @@ before_byte byte = before_first (λ b. b == byte)
 abbrev pub after_byte : ℕ → List ℕ → Option (List ℕ)
 after_byte byte = after_first (λ b. b == byte)
 
--- another byte than this one
+-- this byte, or another one
+abbrev pub is_byte : ℕ → ℕ → Bool
+is_byte byte b = b == byte
+
 abbrev pub is_other : ℕ → ℕ → Bool
 is_other byte b = not (b == byte)
 

@@ -1,6 +1,6 @@
 use Rattle.std.proofs.Common.{List, [], ℕ, Bor, option_map, sym, ap, ◌∙◌, ◌∷◌}
-use Rattle.np_code_points.specs.inside.LineCuts.{lines_of}
-use Rattle.np_code_points.proofs.LineLemmas.{lines_cut, lines_lone, length-after_first, is_byte, filled}
+use Rattle.np_code_points.specs.inside.LineCuts.{is_byte, lines_of}
+use Rattle.np_code_points.proofs.LineLemmas.{lines_cut, lines_lone, length-after_first, filled}
 use Rattle.np_code_points.proofs.lines.cut_line.Goals as goal
 
 pub returns-in-Some : goal.returns-in-Some
