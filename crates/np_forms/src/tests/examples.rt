@@ -1,11 +1,11 @@
 //! What each call answers on worked examples.
-use super::{table_of, want, wants_form};
+use super::{Made, table_of, want, wants_form};
 use crate::{NpssFault, equivalent, first_unassigned, is_form, is_stream_safe, npss};
 use np_code_points::fixtures::{
     S_DATA, S_EXCLUSIONS, V1_DATA, V1_EXCLUSIONS, V2_DATA, V2_EXCLUSIONS,
 };
 use np_code_points::{Form, Memory};
-use np_tables::RowTable;
+use np_tables::{NormTable, PageTable, RowTable};
 use std::alloc::Global;
 use std::test::Fail;
 
@@ -100,9 +100,9 @@ const CANONICAL: [(&str, &str, &str); 27] = [
 ];
 
 /// Fails unless the stabilized form of `text` is `normal`.
-fn wants_npss(
+fn wants_npss<T: NormTable>(
     alloc: Global,
-    table: &RowTable,
+    table: &T,
     wanted: Form,
     text: &str,
     normal: &str,
@@ -112,9 +112,9 @@ fn wants_npss(
 }
 
 /// Fails unless `text` is refused for this code point.
-fn wants_refusal(
+fn wants_refusal<T: NormTable>(
     alloc: Global,
-    table: &RowTable,
+    table: &T,
     wanted: Form,
     text: &str,
     fault: NpssFault,
@@ -123,9 +123,9 @@ fn wants_refusal(
 }
 
 /// Fails unless the texts are equivalent.
-fn wants_equivalent(
+fn wants_equivalent<T: NormTable>(
     alloc: Global,
-    table: &RowTable,
+    table: &T,
     compat: bool,
     left: &str,
     right: &str,
@@ -133,7 +133,11 @@ fn wants_equivalent(
     want(equivalent(alloc, table, compat, left, right)?, left)
 }
 
-fn canonical(alloc: Global, table: &RowTable, rows: &[(&str, &str, &str)]) -> Result<(), Fail> {
+fn canonical<T: NormTable>(
+    alloc: Global,
+    table: &T,
+    rows: &[(&str, &str, &str)],
+) -> Result<(), Fail> {
     for (text, nfd, nfc) in rows {
         wants_form(alloc, table, Form::Nfd, text, nfd)?;
         wants_npss(alloc, table, Form::Nfc, text, nfc)?;
@@ -142,7 +146,7 @@ fn canonical(alloc: Global, table: &RowTable, rows: &[(&str, &str, &str)]) -> Re
     Ok(())
 }
 
-fn told_from_others(alloc: Global, table: &RowTable) -> Result<(), Fail> {
+fn told_from_others<T: NormTable>(alloc: Global, table: &T) -> Result<(), Fail> {
     want(is_form(alloc, table, Form::Nfc, "\u{1EAD}")?, "is NFC")?;
     want(!is_form(alloc, table, Form::Nfd, "\u{1EAD}")?, "is not NFD")?;
     // as long as its form, and not its form
@@ -152,13 +156,18 @@ fn told_from_others(alloc: Global, table: &RowTable) -> Result<(), Fail> {
     want(is_form(alloc, table, Form::Nfd, ordered)?, "is ordered")
 }
 
-#[test]
-fn a_text_is_told_from_others_of_its_length(rt: HostRuntime) -> Result<(), Fail> {
-    let table = table_of(rt.alloc(), V1_DATA, V1_EXCLUSIONS)?;
-    told_from_others(rt.alloc(), &table)
+fn told_from_others_over<T: Made>(alloc: Global) -> Result<(), Fail> {
+    let table: T = table_of(alloc, V1_DATA, V1_EXCLUSIONS)?;
+    told_from_others(alloc, &table)
 }
 
-fn prefixes(alloc: Global, table: &RowTable) -> Result<(), Fail> {
+#[test]
+fn a_text_is_told_from_others_of_its_length(rt: HostRuntime) -> Result<(), Fail> {
+    told_from_others_over::<RowTable>(rt.alloc())?;
+    told_from_others_over::<PageTable>(rt.alloc())
+}
+
+fn prefixes<T: NormTable>(alloc: Global, table: &T) -> Result<(), Fail> {
     want(
         !equivalent(alloc, table, false, "\u{61}\u{302}", "\u{61}")?,
         "a text and its prefix",
@@ -171,19 +180,29 @@ fn prefixes(alloc: Global, table: &RowTable) -> Result<(), Fail> {
     wants_equivalent(alloc, table, false, "\u{16D6A}", "\u{16D6A}")
 }
 
+fn prefixes_over<T: Made>(alloc: Global) -> Result<(), Fail> {
+    let table: T = table_of(alloc, V1_DATA, V1_EXCLUSIONS)?;
+    prefixes(alloc, &table)
+}
+
 #[test]
 fn a_text_is_not_equivalent_with_its_prefix(rt: HostRuntime) -> Result<(), Fail> {
-    let table = table_of(rt.alloc(), V1_DATA, V1_EXCLUSIONS)?;
-    prefixes(rt.alloc(), &table)
+    prefixes_over::<RowTable>(rt.alloc())?;
+    prefixes_over::<PageTable>(rt.alloc())
+}
+
+fn canonical_over<T: Made>(alloc: Global) -> Result<(), Fail> {
+    let table: T = table_of(alloc, V1_DATA, V1_EXCLUSIONS)?;
+    canonical(alloc, &table, &CANONICAL)
 }
 
 #[test]
 fn canonical_forms(rt: HostRuntime) -> Result<(), Fail> {
-    let table = table_of(rt.alloc(), V1_DATA, V1_EXCLUSIONS)?;
-    canonical(rt.alloc(), &table, &CANONICAL)
+    canonical_over::<RowTable>(rt.alloc())?;
+    canonical_over::<PageTable>(rt.alloc())
 }
 
-fn ligature(alloc: Global, table: &RowTable) -> Result<(), Fail> {
+fn ligature<T: NormTable>(alloc: Global, table: &T) -> Result<(), Fail> {
     wants_form(alloc, table, Form::Nfkd, "\u{FB01}", "fi")?;
     wants_form(alloc, table, Form::Nfkc, "\u{FB01}", "fi")?;
     wants_equivalent(alloc, table, true, "\u{FB01}", "fi")?;
@@ -193,10 +212,15 @@ fn ligature(alloc: Global, table: &RowTable) -> Result<(), Fail> {
     )
 }
 
+fn ligature_over<T: Made>(alloc: Global) -> Result<(), Fail> {
+    let table: T = table_of(alloc, V1_DATA, V1_EXCLUSIONS)?;
+    ligature(alloc, &table)
+}
+
 #[test]
 fn a_ligature_is_compatible_with_its_letters(rt: HostRuntime) -> Result<(), Fail> {
-    let table = table_of(rt.alloc(), V1_DATA, V1_EXCLUSIONS)?;
-    ligature(rt.alloc(), &table)
+    ligature_over::<RowTable>(rt.alloc())?;
+    ligature_over::<PageTable>(rt.alloc())
 }
 
 #[test]
@@ -206,7 +230,7 @@ fn a_refusal_is_told_in_words(rt: HostRuntime) -> Result<(), Fail> {
     want(told.as_str() == "unassigned 00C5 at byte 12", "a refusal")
 }
 
-fn lacks_kirat_rai(alloc: Global, v1: &RowTable) -> Result<(), Fail> {
+fn lacks_kirat_rai<T: NormTable>(alloc: Global, v1: &T) -> Result<(), Fail> {
     let text = "\u{41}\u{16D67}";
     let fault = NpssFault::Unassigned {
         at: 1,
@@ -229,7 +253,7 @@ fn lacks_kirat_rai(alloc: Global, v1: &RowTable) -> Result<(), Fail> {
     )
 }
 
-fn has_kirat_rai(alloc: Global, v2: &RowTable) -> Result<(), Fail> {
+fn has_kirat_rai<T: NormTable>(alloc: Global, v2: &T) -> Result<(), Fail> {
     let text = "\u{41}\u{16D67}";
     wants_npss(alloc, v2, Form::Nfc, text, text)?;
     want(
@@ -238,20 +262,30 @@ fn has_kirat_rai(alloc: Global, v2: &RowTable) -> Result<(), Fail> {
     )
 }
 
+fn lacks_kirat_rai_over<T: Made>(alloc: Global) -> Result<(), Fail> {
+    let v1: T = table_of(alloc, V1_DATA, V1_EXCLUSIONS)?;
+    lacks_kirat_rai(alloc, &v1)
+}
+
 #[test]
 fn unassigned_code_points_are_refused(rt: HostRuntime) -> Result<(), Fail> {
-    let v1 = table_of(rt.alloc(), V1_DATA, V1_EXCLUSIONS)?;
-    lacks_kirat_rai(rt.alloc(), &v1)
+    lacks_kirat_rai_over::<RowTable>(rt.alloc())?;
+    lacks_kirat_rai_over::<PageTable>(rt.alloc())
+}
+
+fn has_kirat_rai_over<T: Made>(alloc: Global) -> Result<(), Fail> {
+    let v2: T = table_of(alloc, V2_DATA, V2_EXCLUSIONS)?;
+    has_kirat_rai(alloc, &v2)
 }
 
 #[test]
 fn code_points_assigned_later_are_taken(rt: HostRuntime) -> Result<(), Fail> {
-    let v2 = table_of(rt.alloc(), V2_DATA, V2_EXCLUSIONS)?;
-    has_kirat_rai(rt.alloc(), &v2)
+    has_kirat_rai_over::<RowTable>(rt.alloc())?;
+    has_kirat_rai_over::<PageTable>(rt.alloc())
 }
 
 /// Fails unless a text of more than 2 MiB has a form of 3 bytes for each 2 of its own.
-fn grows(alloc: Global, table: &RowTable) -> Result<(), Fail> {
+fn grows<T: NormTable>(alloc: Global, table: &T) -> Result<(), Fail> {
     let text = repeated(alloc, "", '\u{C5}', 1_048_577)?;
     let made = npss(alloc, table, Form::Nfd, text.as_str())?;
     want(made.len() == 3_145_731, "the form's bytes")?;
@@ -266,26 +300,36 @@ fn grows(alloc: Global, table: &RowTable) -> Result<(), Fail> {
     )
 }
 
-#[test]
-fn long_texts_have_memory(rt: HostRuntime) -> Result<(), Fail> {
-    let table = table_of(rt.alloc(), V1_DATA, V1_EXCLUSIONS)?;
-    grows(rt.alloc(), &table)
+fn grows_over<T: Made>(alloc: Global) -> Result<(), Fail> {
+    let table: T = table_of(alloc, V1_DATA, V1_EXCLUSIONS)?;
+    grows(alloc, &table)
 }
 
-fn starters(alloc: Global, table: &RowTable) -> Result<(), Fail> {
+#[test]
+fn long_texts_have_memory(rt: HostRuntime) -> Result<(), Fail> {
+    grows_over::<RowTable>(rt.alloc())?;
+    grows_over::<PageTable>(rt.alloc())
+}
+
+fn starters<T: NormTable>(alloc: Global, table: &T) -> Result<(), Fail> {
     let three = "\u{16D67}\u{16D67}\u{16D67}";
     wants_form(alloc, table, Form::Nfc, three, "\u{16D68}\u{16D67}")?;
     let nested = "\u{16D63}\u{16D67}\u{16D67}";
     wants_form(alloc, table, Form::Nfc, nested, "\u{16D6A}")
 }
 
-#[test]
-fn starters_compose_from_the_left(rt: HostRuntime) -> Result<(), Fail> {
-    let table = table_of(rt.alloc(), V2_DATA, V2_EXCLUSIONS)?;
-    starters(rt.alloc(), &table)
+fn starters_over<T: Made>(alloc: Global) -> Result<(), Fail> {
+    let table: T = table_of(alloc, V2_DATA, V2_EXCLUSIONS)?;
+    starters(alloc, &table)
 }
 
-fn passed_non_starters(alloc: Global, table: &RowTable) -> Result<(), Fail> {
+#[test]
+fn starters_compose_from_the_left(rt: HostRuntime) -> Result<(), Fail> {
+    starters_over::<RowTable>(rt.alloc())?;
+    starters_over::<PageTable>(rt.alloc())
+}
+
+fn passed_non_starters<T: NormTable>(alloc: Global, table: &T) -> Result<(), Fail> {
     wants_form(
         alloc,
         table,
@@ -303,10 +347,15 @@ fn passed_non_starters(alloc: Global, table: &RowTable) -> Result<(), Fail> {
     wants_refusal(alloc, table, Form::Nfd, "\u{AC00}", fault)
 }
 
+fn passed_non_starters_over<T: Made>(alloc: Global) -> Result<(), Fail> {
+    let table: T = table_of(alloc, S_DATA, S_EXCLUSIONS)?;
+    passed_non_starters(alloc, &table)
+}
+
 #[test]
 fn passed_non_starters_are_not_visited_again(rt: HostRuntime) -> Result<(), Fail> {
-    let table = table_of(rt.alloc(), S_DATA, S_EXCLUSIONS)?;
-    passed_non_starters(rt.alloc(), &table)
+    passed_non_starters_over::<RowTable>(rt.alloc())?;
+    passed_non_starters_over::<PageTable>(rt.alloc())
 }
 
 // (what stands before, the code point, how many of it are stream-safe)
@@ -318,9 +367,9 @@ const SAFE: [(&str, char, u32); 4] = [
 ];
 
 /// Fails unless `count` times `c` behind `before` is stream-safe, or is not, as told.
-fn wants_safe(
+fn wants_safe<T: NormTable>(
     alloc: Global,
-    table: &RowTable,
+    table: &T,
     before: &str,
     c: char,
     count: u32,
@@ -330,7 +379,11 @@ fn wants_safe(
     want(is_stream_safe(alloc, table, text.as_str())? == safe, before)
 }
 
-fn stream_safe(alloc: Global, table: &RowTable, rows: &[(&str, char, u32)]) -> Result<(), Fail> {
+fn stream_safe<T: NormTable>(
+    alloc: Global,
+    table: &T,
+    rows: &[(&str, char, u32)],
+) -> Result<(), Fail> {
     for (before, c, most) in rows {
         wants_safe(alloc, table, before, *c, *most, true)?;
         wants_safe(alloc, table, before, *c, most.saturating_add(1), false)?;
@@ -338,8 +391,13 @@ fn stream_safe(alloc: Global, table: &RowTable, rows: &[(&str, char, u32)]) -> R
     Ok(())
 }
 
+fn stream_safe_over<T: Made>(alloc: Global) -> Result<(), Fail> {
+    let table: T = table_of(alloc, V1_DATA, V1_EXCLUSIONS)?;
+    stream_safe(alloc, &table, &SAFE)
+}
+
 #[test]
 fn thirty_non_starters_are_stream_safe(rt: HostRuntime) -> Result<(), Fail> {
-    let table = table_of(rt.alloc(), V1_DATA, V1_EXCLUSIONS)?;
-    stream_safe(rt.alloc(), &table, &SAFE)
+    stream_safe_over::<RowTable>(rt.alloc())?;
+    stream_safe_over::<PageTable>(rt.alloc())
 }

@@ -1,11 +1,11 @@
 //! The laws on worked examples: a form is its own form, and a later version keeps it.
-use super::{table_of, want, wants_form};
+use super::{Made, table_of, want, wants_form};
 use crate::form;
 use np_code_points::Form;
 use np_code_points::fixtures::{
     S_DATA, S_EXCLUSIONS, V1_DATA, V1_EXCLUSIONS, V2_DATA, V2_EXCLUSIONS,
 };
-use np_tables::RowTable;
+use np_tables::{NormTable, PageTable, RowTable};
 use std::alloc::Global;
 use std::test::Fail;
 
@@ -38,16 +38,21 @@ const OTHERS: [&str; 4] = [
 ];
 
 /// Fails unless the form of the form of `text` is that form.
-fn wants_itself(alloc: Global, table: &RowTable, wanted: Form, text: &str) -> Result<(), Fail> {
+fn wants_itself<T: NormTable>(
+    alloc: Global,
+    table: &T,
+    wanted: Form,
+    text: &str,
+) -> Result<(), Fail> {
     let once = form(alloc, table, wanted, text)?;
     wants_form(alloc, table, wanted, once.as_str(), once.as_str())
 }
 
 /// Fails unless both tables give `text` one form.
-fn wants_same(
+fn wants_same<T: NormTable>(
     alloc: Global,
-    first: &RowTable,
-    second: &RowTable,
+    first: &T,
+    second: &T,
     wanted: Form,
     text: &str,
 ) -> Result<(), Fail> {
@@ -55,7 +60,7 @@ fn wants_same(
     wants_form(alloc, second, wanted, text, earlier.as_str())
 }
 
-fn keeps_forms(alloc: Global, table: &RowTable, texts: &[&str]) -> Result<(), Fail> {
+fn keeps_forms<T: NormTable>(alloc: Global, table: &T, texts: &[&str]) -> Result<(), Fail> {
     for text in texts {
         for wanted in FORMS {
             wants_itself(alloc, table, wanted, text)?;
@@ -64,23 +69,28 @@ fn keeps_forms(alloc: Global, table: &RowTable, texts: &[&str]) -> Result<(), Fa
     Ok(())
 }
 
-fn keeps_of(alloc: Global, data: &str, exclusions: &str) -> Result<(), Fail> {
-    let table = table_of(alloc, data, exclusions)?;
+fn keeps_of<T: Made>(alloc: Global, data: &str, exclusions: &str) -> Result<(), Fail> {
+    let table: T = table_of(alloc, data, exclusions)?;
     keeps_forms(alloc, &table, &KEPT)?;
     keeps_forms(alloc, &table, &OTHERS)
 }
 
-#[test]
-fn a_form_is_its_own_form(rt: HostRuntime) -> Result<(), Fail> {
-    keeps_of(rt.alloc(), V1_DATA, V1_EXCLUSIONS)?;
-    keeps_of(rt.alloc(), V2_DATA, V2_EXCLUSIONS)?;
-    keeps_of(rt.alloc(), S_DATA, S_EXCLUSIONS)
+fn keeps_over<T: Made>(alloc: Global) -> Result<(), Fail> {
+    keeps_of::<T>(alloc, V1_DATA, V1_EXCLUSIONS)?;
+    keeps_of::<T>(alloc, V2_DATA, V2_EXCLUSIONS)?;
+    keeps_of::<T>(alloc, S_DATA, S_EXCLUSIONS)
 }
 
-fn are_same(
+#[test]
+fn a_form_is_its_own_form(rt: HostRuntime) -> Result<(), Fail> {
+    keeps_over::<RowTable>(rt.alloc())?;
+    keeps_over::<PageTable>(rt.alloc())
+}
+
+fn are_same<T: NormTable>(
     alloc: Global,
-    first: &RowTable,
-    second: &RowTable,
+    first: &T,
+    second: &T,
     texts: &[&str],
 ) -> Result<(), Fail> {
     for text in texts {
@@ -91,13 +101,18 @@ fn are_same(
     Ok(())
 }
 
-fn second_as(alloc: Global, first: &RowTable) -> Result<(), Fail> {
-    let second = table_of(alloc, V2_DATA, V2_EXCLUSIONS)?;
+fn second_as<T: Made>(alloc: Global, first: &T) -> Result<(), Fail> {
+    let second: T = table_of(alloc, V2_DATA, V2_EXCLUSIONS)?;
     are_same(alloc, first, &second, &KEPT)
+}
+
+fn later_over<T: Made>(alloc: Global) -> Result<(), Fail> {
+    let first: T = table_of(alloc, V1_DATA, V1_EXCLUSIONS)?;
+    second_as(alloc, &first)
 }
 
 #[test]
 fn a_later_version_gives_the_same_forms(rt: HostRuntime) -> Result<(), Fail> {
-    let first = table_of(rt.alloc(), V1_DATA, V1_EXCLUSIONS)?;
-    second_as(rt.alloc(), &first)
+    later_over::<RowTable>(rt.alloc())?;
+    later_over::<PageTable>(rt.alloc())
 }

@@ -1,11 +1,11 @@
 //! Runs over whole inputs on worked examples.
-use super::{table_of, want};
+use super::{Made, table_of, want};
 use crate::{RunFault, run};
 use np_code_points::Form;
 use np_code_points::devices::{Failure, Room, Trickle};
 use np_code_points::fixtures::{V1_DATA, V1_EXCLUSIONS};
 use np_code_points::watched::Watched;
-use np_tables::RowTable;
+use np_tables::{NormTable, PageTable, RowTable};
 use std::alloc::Global;
 use std::io::Read;
 use std::test::Fail;
@@ -14,9 +14,9 @@ use std::test::Fail;
 const LETTER: [u8; 5] = [0x61, 0xcc, 0x82, 0xcc, 0xa3];
 
 /// Fails unless a run over the source answers this, and writes these bytes.
-fn wants_run<R: Read + Drop>(
+fn wants_run<R: Read + Drop, T: NormTable>(
     alloc: Global,
-    table: &RowTable,
+    table: &T,
     form: Form,
     mut source: Watched<R>,
     wanted: Result<u64, RunFault>,
@@ -30,7 +30,7 @@ fn wants_run<R: Read + Drop>(
 }
 
 /// The five bytes in the two pieces that end at `at`, each read `piece` bytes at a time.
-fn cut_letter(alloc: Global, table: &RowTable, at: usize, piece: usize) -> Result<(), Fail> {
+fn cut_letter<T: NormTable>(alloc: Global, table: &T, at: usize, piece: usize) -> Result<(), Fail> {
     let (first, second) = LETTER.split_at(at.min(5));
     let source = Trickle::new(first, piece).chain(Trickle::new(second, 5));
     wants_run(
@@ -44,7 +44,7 @@ fn cut_letter(alloc: Global, table: &RowTable, at: usize, piece: usize) -> Resul
 }
 
 /// Each place, and pieces of one, two and five bytes before it: all cuttings of five bytes.
-fn cuttings(alloc: Global, table: &RowTable) -> Result<(), Fail> {
+fn cuttings<T: NormTable>(alloc: Global, table: &T) -> Result<(), Fail> {
     for at in 0..6 {
         for piece in 1..5 {
             cut_letter(alloc, table, at, piece)?;
@@ -68,7 +68,7 @@ const ROWS: [Row; 9] = [
     (Form::Nfd, b"\xc3\x85A", Ok(4), b"A\xcc\x8aA"),
 ];
 
-fn wants_rows(alloc: Global, table: &RowTable) -> Result<(), Fail> {
+fn wants_rows<T: NormTable>(alloc: Global, table: &T) -> Result<(), Fail> {
     for (form, input, wanted, bytes) in &ROWS {
         let whole = Watched::new(Trickle::new(input, 64));
         wants_run(alloc, table, *form, whole, *wanted, bytes)?;
@@ -77,13 +77,18 @@ fn wants_rows(alloc: Global, table: &RowTable) -> Result<(), Fail> {
 }
 
 /// A read that fails at a call that is counted from 0.
-fn wants_failed_read(alloc: Global, table: &RowTable, call: u64, bytes: &[u8]) -> Result<(), Fail> {
+fn wants_failed_read<T: NormTable>(
+    alloc: Global,
+    table: &T,
+    call: u64,
+    bytes: &[u8],
+) -> Result<(), Fail> {
     let source = Trickle::new(b"a\xcc\x82A", 1).failing_at(call, Failure::Interrupted);
     let fault = Err(RunFault::ReadFailed);
     wants_run(alloc, table, Form::Nfc, Watched::new(source), fault, bytes)
 }
 
-fn failed_reads(alloc: Global, table: &RowTable) -> Result<(), Fail> {
+fn failed_reads<T: NormTable>(alloc: Global, table: &T) -> Result<(), Fail> {
     for call in 0..4 {
         wants_failed_read(alloc, table, call, b"")?;
     }
@@ -91,7 +96,7 @@ fn failed_reads(alloc: Global, table: &RowTable) -> Result<(), Fail> {
 }
 
 /// A write or the flush that fails at a call that is counted from 0.
-fn wants_failed_write(alloc: Global, table: &RowTable, call: u64) -> Result<(), Fail> {
+fn wants_failed_write<T: NormTable>(alloc: Global, table: &T, call: u64) -> Result<(), Fail> {
     let mut source = Watched::new(Trickle::new(b"a\xcc\x82A", 1));
     let room = Room::new(alloc, 64, 64)?.failing_at(call, Failure::Error);
     let mut target = Watched::new(room);
@@ -100,33 +105,53 @@ fn wants_failed_write(alloc: Global, table: &RowTable, call: u64) -> Result<(), 
     want(made == Err(RunFault::WriteFailed), "the answer")
 }
 
-fn failed_writes(alloc: Global, table: &RowTable) -> Result<(), Fail> {
+fn failed_writes<T: NormTable>(alloc: Global, table: &T) -> Result<(), Fail> {
     for call in 0..3 {
         wants_failed_write(alloc, table, call)?;
     }
     Ok(())
 }
 
+fn cuttings_over<T: Made>(alloc: Global) -> Result<(), Fail> {
+    let table: T = table_of(alloc, V1_DATA, V1_EXCLUSIONS)?;
+    cuttings(alloc, &table)
+}
+
 #[test]
 fn pieces_decide_nothing(rt: HostRuntime) -> Result<(), Fail> {
-    let table = table_of(rt.alloc(), V1_DATA, V1_EXCLUSIONS)?;
-    cuttings(rt.alloc(), &table)
+    cuttings_over::<RowTable>(rt.alloc())?;
+    cuttings_over::<PageTable>(rt.alloc())
+}
+
+fn wants_rows_over<T: Made>(alloc: Global) -> Result<(), Fail> {
+    let table: T = table_of(alloc, V1_DATA, V1_EXCLUSIONS)?;
+    wants_rows(alloc, &table)
 }
 
 #[test]
 fn runs_write_the_form_of_the_whole_input(rt: HostRuntime) -> Result<(), Fail> {
-    let table = table_of(rt.alloc(), V1_DATA, V1_EXCLUSIONS)?;
-    wants_rows(rt.alloc(), &table)
+    wants_rows_over::<RowTable>(rt.alloc())?;
+    wants_rows_over::<PageTable>(rt.alloc())
+}
+
+fn failed_reads_over<T: Made>(alloc: Global) -> Result<(), Fail> {
+    let table: T = table_of(alloc, V1_DATA, V1_EXCLUSIONS)?;
+    failed_reads(alloc, &table)
 }
 
 #[test]
 fn a_failed_read_leaves_what_is_ready(rt: HostRuntime) -> Result<(), Fail> {
-    let table = table_of(rt.alloc(), V1_DATA, V1_EXCLUSIONS)?;
-    failed_reads(rt.alloc(), &table)
+    failed_reads_over::<RowTable>(rt.alloc())?;
+    failed_reads_over::<PageTable>(rt.alloc())
+}
+
+fn failed_writes_over<T: Made>(alloc: Global) -> Result<(), Fail> {
+    let table: T = table_of(alloc, V1_DATA, V1_EXCLUSIONS)?;
+    failed_writes(alloc, &table)
 }
 
 #[test]
 fn failed_writes_and_a_failed_flush_are_told(rt: HostRuntime) -> Result<(), Fail> {
-    let table = table_of(rt.alloc(), V1_DATA, V1_EXCLUSIONS)?;
-    failed_writes(rt.alloc(), &table)
+    failed_writes_over::<RowTable>(rt.alloc())?;
+    failed_writes_over::<PageTable>(rt.alloc())
 }

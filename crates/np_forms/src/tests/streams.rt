@@ -1,10 +1,10 @@
 //! Streams on worked examples.
-use super::{table_of, want};
+use super::{Made, table_of, want};
 use crate::Stream;
 use np_code_points::Form;
 use np_code_points::fixtures::{V1_DATA, V1_EXCLUSIONS, V2_DATA, V2_EXCLUSIONS};
 use np_code_points::text::string_of;
-use np_tables::RowTable;
+use np_tables::{NormTable, PageTable, RowTable};
 use std::alloc::Global;
 use std::test::Fail;
 
@@ -57,7 +57,7 @@ fn wants_text(alloc: Global, chars: &[char], text: &str) -> Result<(), Fail> {
 }
 
 /// Fails unless a stream gives what the row says.
-fn wants_row(alloc: Global, table: &RowTable, row: &Row) -> Result<(), Fail> {
+fn wants_row<T: NormTable>(alloc: Global, table: &T, row: &Row) -> Result<(), Fail> {
     let (form, text, ready, most, whole) = *row;
     let mut stream = Stream::new(alloc, table, form);
     for c in text.chars() {
@@ -70,7 +70,7 @@ fn wants_row(alloc: Global, table: &RowTable, row: &Row) -> Result<(), Fail> {
     wants_text(alloc, stream.ready(), whole)
 }
 
-fn wants_rows(alloc: Global, table: &RowTable, rows: &[Row]) -> Result<(), Fail> {
+fn wants_rows<T: NormTable>(alloc: Global, table: &T, rows: &[Row]) -> Result<(), Fail> {
     for row in rows {
         wants_row(alloc, table, row)?;
     }
@@ -78,7 +78,7 @@ fn wants_rows(alloc: Global, table: &RowTable, rows: &[Row]) -> Result<(), Fail>
 }
 
 /// A text behind another, of which nothing came.
-fn begins_anew(alloc: Global, table: &RowTable) -> Result<(), Fail> {
+fn begins_anew<T: NormTable>(alloc: Global, table: &T) -> Result<(), Fail> {
     let mut stream = Stream::new(alloc, table, Form::Nfc);
     stream.finish()?;
     wants_text(alloc, stream.ready(), "")?;
@@ -91,20 +91,35 @@ fn begins_anew(alloc: Global, table: &RowTable) -> Result<(), Fail> {
     wants_text(alloc, stream.ready(), "\u{302}")
 }
 
+fn old_rows_over<T: Made>(alloc: Global) -> Result<(), Fail> {
+    let table: T = table_of(alloc, V1_DATA, V1_EXCLUSIONS)?;
+    wants_rows(alloc, &table, &OLD)
+}
+
 #[test]
 fn what_is_ready_is_the_form_before_its_last_starter(rt: HostRuntime) -> Result<(), Fail> {
-    let table = table_of(rt.alloc(), V1_DATA, V1_EXCLUSIONS)?;
-    wants_rows(rt.alloc(), &table, &OLD)
+    old_rows_over::<RowTable>(rt.alloc())?;
+    old_rows_over::<PageTable>(rt.alloc())
+}
+
+fn new_rows_over<T: Made>(alloc: Global) -> Result<(), Fail> {
+    let table: T = table_of(alloc, V2_DATA, V2_EXCLUSIONS)?;
+    wants_rows(alloc, &table, &NEW)
 }
 
 #[test]
 fn starters_go_into_a_pending_starter(rt: HostRuntime) -> Result<(), Fail> {
-    let table = table_of(rt.alloc(), V2_DATA, V2_EXCLUSIONS)?;
-    wants_rows(rt.alloc(), &table, &NEW)
+    new_rows_over::<RowTable>(rt.alloc())?;
+    new_rows_over::<PageTable>(rt.alloc())
+}
+
+fn begins_anew_over<T: Made>(alloc: Global) -> Result<(), Fail> {
+    let table: T = table_of(alloc, V1_DATA, V1_EXCLUSIONS)?;
+    begins_anew(alloc, &table)
 }
 
 #[test]
 fn a_new_text_begins_behind_a_finished_one(rt: HostRuntime) -> Result<(), Fail> {
-    let table = table_of(rt.alloc(), V1_DATA, V1_EXCLUSIONS)?;
-    begins_anew(rt.alloc(), &table)
+    begins_anew_over::<RowTable>(rt.alloc())?;
+    begins_anew_over::<PageTable>(rt.alloc())
 }

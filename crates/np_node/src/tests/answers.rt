@@ -1,14 +1,14 @@
 //! What a node answers to strings.
-use super::{table_of, want, wants_kept, wants_known, wants_refused, wants_taken};
+use super::{Made, table_of, want, wants_kept, wants_known, wants_refused, wants_taken};
 use crate::{Node, NodeFault, Taken};
 use np_chain::{Break, BreakKind};
 use np_code_points::fixtures::{V1_DATA, V1_EXCLUSIONS, V2_DATA, V2_EXCLUSIONS};
 use np_code_points::{Form, Memory};
-use np_tables::{NormTable, RowTable};
+use np_tables::{NormTable, PageTable, RowTable};
 use std::alloc::Global;
 use std::test::Fail;
 
-fn empty_string(alloc: Global, table: &RowTable) -> Result<(), Fail> {
+fn empty_string<T: NormTable>(alloc: Global, table: &T) -> Result<(), Fail> {
     let mut node = Node::new(alloc, table, Form::Nfc, 4);
     wants_kept(&mut node, b"", b"C\0\0\0\0\0\0\0\0", "the empty string")?;
     wants_known(&mut node, b"", "the empty string again")?;
@@ -16,7 +16,7 @@ fn empty_string(alloc: Global, table: &RowTable) -> Result<(), Fail> {
     want(node.entry(1).is_none(), "no other entry")
 }
 
-fn no_room(alloc: Global, table: &RowTable) -> Result<(), Fail> {
+fn no_room<T: NormTable>(alloc: Global, table: &T) -> Result<(), Fail> {
     let mut node = Node::new(alloc, table, Form::Nfc, 0);
     wants_refused(
         &mut node,
@@ -33,7 +33,7 @@ fn no_room(alloc: Global, table: &RowTable) -> Result<(), Fail> {
     want(node.is_empty() && node.room() == 0, "nothing is kept")
 }
 
-fn little_room(alloc: Global, table: &RowTable) -> Result<(), Fail> {
+fn little_room<T: NormTable>(alloc: Global, table: &T) -> Result<(), Fail> {
     let mut node = Node::new(alloc, table, Form::Nfc, 1);
     wants_kept(&mut node, b"a", b"C\0\0\0\x01a\0\0\0\x01a", "a")?;
     wants_refused(&mut node, b"A", NodeFault::Full, "A by accept")?;
@@ -58,7 +58,7 @@ fn letters(alloc: Global, count: usize) -> Result<Vec<u8>, Memory> {
     Ok(vec![in alloc; b'a'; count]?)
 }
 
-fn longest(alloc: Global, table: &RowTable) -> Result<(), Fail> {
+fn longest<T: NormTable>(alloc: Global, table: &T) -> Result<(), Fail> {
     let mut node = Node::new(alloc, table, Form::Nfc, 4);
     let over = letters(alloc, 4097)?;
     wants_refused(&mut node, &over, NodeFault::TooLong, "4,097 bytes")?;
@@ -67,7 +67,7 @@ fn longest(alloc: Global, table: &RowTable) -> Result<(), Fail> {
     wants_known(&mut node, &most, "4,096 bytes again")
 }
 
-fn unlike_strings(alloc: Global, table: &RowTable) -> Result<(), Fail> {
+fn unlike_strings<T: NormTable>(alloc: Global, table: &T) -> Result<(), Fail> {
     let mut node = Node::new(alloc, table, Form::Nfc, 4);
     let angstrom = "\u{212B}";
     let letter = "\u{C5}";
@@ -86,13 +86,18 @@ fn unlike_strings(alloc: Global, table: &RowTable) -> Result<(), Fail> {
     want(node.same(angstrom, "b").is_none(), "not kept")
 }
 
-#[test]
-fn strings_are_kept_once(rt: HostRuntime) -> Result<(), Fail> {
-    let table = table_of(rt.alloc(), V1_DATA, V1_EXCLUSIONS)?;
-    kept_once(rt.alloc(), &table)
+fn kept_once_over<T: Made>(alloc: Global) -> Result<(), Fail> {
+    let table: T = table_of(alloc, V1_DATA, V1_EXCLUSIONS)?;
+    kept_once(alloc, &table)
 }
 
-fn kept_once(alloc: Global, table: &RowTable) -> Result<(), Fail> {
+#[test]
+fn strings_are_kept_once(rt: HostRuntime) -> Result<(), Fail> {
+    kept_once_over::<RowTable>(rt.alloc())?;
+    kept_once_over::<PageTable>(rt.alloc())
+}
+
+fn kept_once<T: NormTable>(alloc: Global, table: &T) -> Result<(), Fail> {
     empty_string(alloc, table)?;
     no_room(alloc, table)?;
     little_room(alloc, table)?;
@@ -100,7 +105,7 @@ fn kept_once(alloc: Global, table: &RowTable) -> Result<(), Fail> {
     unlike_strings(alloc, table)
 }
 
-fn lacking(alloc: Global, table: &RowTable) -> Result<(), Fail> {
+fn lacking<T: NormTable>(alloc: Global, table: &T) -> Result<(), Fail> {
     let mut node = Node::new(alloc, table, Form::Nfc, 4);
     let fault = NodeFault::Unassigned {
         at: 1,
@@ -127,13 +132,18 @@ fn lacking(alloc: Global, table: &RowTable) -> Result<(), Fail> {
     )
 }
 
-#[test]
-fn unassigned_code_points_are_refused(rt: HostRuntime) -> Result<(), Fail> {
-    let table = table_of(rt.alloc(), V1_DATA, V1_EXCLUSIONS)?;
-    lacking(rt.alloc(), &table)
+fn lacking_over<T: Made>(alloc: Global) -> Result<(), Fail> {
+    let table: T = table_of(alloc, V1_DATA, V1_EXCLUSIONS)?;
+    lacking(alloc, &table)
 }
 
-fn later_letter(alloc: Global, table: &RowTable) -> Result<(), Fail> {
+#[test]
+fn unassigned_code_points_are_refused(rt: HostRuntime) -> Result<(), Fail> {
+    lacking_over::<RowTable>(rt.alloc())?;
+    lacking_over::<PageTable>(rt.alloc())
+}
+
+fn later_letter<T: NormTable>(alloc: Global, table: &T) -> Result<(), Fail> {
     let mut node = Node::new(alloc, table, Form::Nfc, 4);
     want(
         node.accept("A\u{16D67}".as_bytes()).is_ok(),
@@ -154,14 +164,19 @@ fn later_letter(alloc: Global, table: &RowTable) -> Result<(), Fail> {
     )
 }
 
+fn later_letter_over<T: Made>(alloc: Global) -> Result<(), Fail> {
+    let table: T = table_of(alloc, V2_DATA, V2_EXCLUSIONS)?;
+    later_letter(alloc, &table)
+}
+
 #[test]
 fn later_letters_are_kept(rt: HostRuntime) -> Result<(), Fail> {
-    let table = table_of(rt.alloc(), V2_DATA, V2_EXCLUSIONS)?;
-    later_letter(rt.alloc(), &table)
+    later_letter_over::<RowTable>(rt.alloc())?;
+    later_letter_over::<PageTable>(rt.alloc())
 }
 
 /// A node goes on to a later version and to its own, and not back.
-fn upgrades<'t>(alloc: Global, first: &'t RowTable, second: &'t RowTable) -> Result<(), Fail> {
+fn upgrades<'t, T: NormTable>(alloc: Global, first: &'t T, second: &'t T) -> Result<(), Fail> {
     let mut node = Node::new(alloc, first, Form::Nfc, 4);
     want(node.accept(b"a").is_ok(), "a")?;
     want(node.upgrade(first).is_ok(), "the same version")?;
@@ -179,13 +194,18 @@ fn upgrades<'t>(alloc: Global, first: &'t RowTable, second: &'t RowTable) -> Res
     )
 }
 
-fn upgrades_to(alloc: Global, first: &RowTable) -> Result<(), Fail> {
-    let second = table_of(alloc, V2_DATA, V2_EXCLUSIONS)?;
+fn upgrades_to<T: Made>(alloc: Global, first: &T) -> Result<(), Fail> {
+    let second: T = table_of(alloc, V2_DATA, V2_EXCLUSIONS)?;
     upgrades(alloc, first, &second)
+}
+
+fn upgrades_to_over<T: Made>(alloc: Global) -> Result<(), Fail> {
+    let first: T = table_of(alloc, V1_DATA, V1_EXCLUSIONS)?;
+    upgrades_to(alloc, &first)
 }
 
 #[test]
 fn upgrades_go_forward_alone(rt: HostRuntime) -> Result<(), Fail> {
-    let first = table_of(rt.alloc(), V1_DATA, V1_EXCLUSIONS)?;
-    upgrades_to(rt.alloc(), &first)
+    upgrades_to_over::<RowTable>(rt.alloc())?;
+    upgrades_to_over::<PageTable>(rt.alloc())
 }

@@ -1,11 +1,11 @@
 //! Images, and nodes restored from them.
 ghost use Rattle.std.specs.Prelude.{◌≤◌};
 
-use super::{table_of, want};
+use super::{Made, table_of, want};
 use crate::{ImageFault, Node, NodeFault};
 use np_code_points::Form;
 use np_code_points::fixtures::{V1_DATA, V1_EXCLUSIONS, V2_DATA, V2_EXCLUSIONS};
-use np_tables::RowTable;
+use np_tables::{NormTable, PageTable, RowTable};
 use std::alloc::Global;
 use std::test::Fail;
 
@@ -25,7 +25,7 @@ const LATER: &[u8] = b"NPS1C\0\0\0\x01\0\0\0\x04\xf0\x96\xb5\xa7\0\0\0\x04\xf0\x
 /// The one entry FFFE, a noncharacter, beside itself as key.
 const NONE: &[u8] = b"NPS1C\0\0\0\x01\0\0\0\x03\xef\xbf\xbe\0\0\0\x03\xef\xbf\xbe";
 
-fn made(alloc: Global, table: &RowTable) -> Result<(), Fail> {
+fn made<T: NormTable>(alloc: Global, table: &T) -> Result<(), Fail> {
     let mut node = Node::new(alloc, table, Form::Nfc, 4);
     want(
         node.accept("a\u{302}".as_bytes()).is_ok(),
@@ -40,7 +40,7 @@ fn made(alloc: Global, table: &RowTable) -> Result<(), Fail> {
 }
 
 /// The image gives a node with its two entries.
-fn restored(alloc: Global, table: &RowTable) -> Result<(), Fail> {
+fn restored<T: NormTable>(alloc: Global, table: &T) -> Result<(), Fail> {
     let node = Node::restore(alloc, table, Form::Nfc, 4, IMAGE)?;
     want(node.len() == 2 && node.room() == 4, "two entries")?;
     want(node.entry(0) == Some(("a\u{302}", "\u{E2}")), "the first")?;
@@ -50,9 +50,9 @@ fn restored(alloc: Global, table: &RowTable) -> Result<(), Fail> {
 }
 
 /// Restoring is refused so.
-fn wants_fault(
+fn wants_fault<T: NormTable>(
     alloc: Global,
-    table: &RowTable,
+    table: &T,
     room: u32,
     image: &[u8],
     wanted: ImageFault,
@@ -73,7 +73,7 @@ fn malformed(at: usize) -> ImageFault {
     }
 }
 
-fn cut(alloc: Global, table: &RowTable) -> Result<(), Fail> {
+fn cut<T: NormTable>(alloc: Global, table: &T) -> Result<(), Fail> {
     for length in 0..IMAGE.len() {
         let at = match length {
             0..=3 => 0,
@@ -101,7 +101,7 @@ fn cut(alloc: Global, table: &RowTable) -> Result<(), Fail> {
     wants_fault(alloc, table, 4, b"NPS1\0\0\0\0\0", malformed(4), "no form")
 }
 
-fn refused(alloc: Global, table: &RowTable) -> Result<(), Fail> {
+fn refused<T: NormTable>(alloc: Global, table: &T) -> Result<(), Fail> {
     let full = ImageFault {
         entry: None,
         fault: NodeFault::Full,
@@ -145,21 +145,31 @@ fn refused(alloc: Global, table: &RowTable) -> Result<(), Fail> {
     wants_fault(alloc, table, 4, NONE, none, "a noncharacter")
 }
 
-fn images(alloc: Global, table: &RowTable) -> Result<(), Fail> {
+fn images<T: NormTable>(alloc: Global, table: &T) -> Result<(), Fail> {
     made(alloc, table)?;
     restored(alloc, table)?;
     cut(alloc, table)?;
     refused(alloc, table)
 }
 
+fn images_over<T: Made>(alloc: Global) -> Result<(), Fail> {
+    let table: T = table_of(alloc, V1_DATA, V1_EXCLUSIONS)?;
+    images(alloc, &table)
+}
+
 #[test]
 fn an_image_is_read_whole_or_not_at_all(rt: HostRuntime) -> Result<(), Fail> {
-    let table = table_of(rt.alloc(), V1_DATA, V1_EXCLUSIONS)?;
-    images(rt.alloc(), &table)
+    images_over::<RowTable>(rt.alloc())?;
+    images_over::<PageTable>(rt.alloc())
+}
+
+fn restored_over<T: Made>(alloc: Global) -> Result<(), Fail> {
+    let table: T = table_of(alloc, V2_DATA, V2_EXCLUSIONS)?;
+    restored(alloc, &table)
 }
 
 #[test]
 fn a_later_version_takes_the_image(rt: HostRuntime) -> Result<(), Fail> {
-    let table = table_of(rt.alloc(), V2_DATA, V2_EXCLUSIONS)?;
-    restored(rt.alloc(), &table)
+    restored_over::<RowTable>(rt.alloc())?;
+    restored_over::<PageTable>(rt.alloc())
 }

@@ -1,9 +1,9 @@
 //! What a node answers to messages.
-use super::{table_of, want, wants_taken};
+use super::{Made, table_of, want, wants_taken};
 use crate::{Accepted, Node, NodeFault, Taken};
 use np_code_points::Form;
 use np_code_points::fixtures::{V1_DATA, V1_EXCLUSIONS};
-use np_tables::RowTable;
+use np_tables::{NormTable, PageTable, RowTable};
 use std::alloc::Global;
 use std::test::Fail;
 
@@ -19,7 +19,7 @@ const OTHER: &[u8] = b"D\0\0\0\x03a\xcc\x82\0\0\0\x02\xc3\xa2";
 /// The right message and one byte more.
 const MORE: &[u8] = b"C\0\0\0\x03a\xcc\x82\0\0\0\x02\xc3\xa2\0";
 
-fn keys_are_checked(alloc: Global, table: &RowTable) -> Result<(), Fail> {
+fn keys_are_checked<T: NormTable>(alloc: Global, table: &T) -> Result<(), Fail> {
     let mut node = Node::new(alloc, table, Form::Nfc, 4);
     wants_taken(&mut node, FORGED, Err(NodeFault::KeyDiffers), "forged")?;
     wants_taken(&mut node, RIGHT, Ok(Taken::Kept), "right")?;
@@ -38,7 +38,7 @@ fn keys_are_checked(alloc: Global, table: &RowTable) -> Result<(), Fail> {
     )
 }
 
-fn shapes_are_checked(alloc: Global, table: &RowTable) -> Result<(), Fail> {
+fn shapes_are_checked<T: NormTable>(alloc: Global, table: &T) -> Result<(), Fail> {
     let mut node = Node::new(alloc, table, Form::Nfc, 4);
     wants_taken(
         &mut node,
@@ -76,7 +76,7 @@ fn shapes_are_checked(alloc: Global, table: &RowTable) -> Result<(), Fail> {
     want(node.is_empty(), "nothing is kept")
 }
 
-fn strings_are_checked(alloc: Global, table: &RowTable) -> Result<(), Fail> {
+fn strings_are_checked<T: NormTable>(alloc: Global, table: &T) -> Result<(), Fail> {
     let mut node = Node::new(alloc, table, Form::Nfc, 4);
     let lacks = NodeFault::Unassigned {
         at: 0,
@@ -102,7 +102,7 @@ fn strings_are_checked(alloc: Global, table: &RowTable) -> Result<(), Fail> {
     )
 }
 
-fn told_to_its_sender(alloc: Global, table: &RowTable) -> Result<(), Fail> {
+fn told_to_its_sender<T: NormTable>(alloc: Global, table: &T) -> Result<(), Fail> {
     let mut node = Node::new(alloc, table, Form::Nfc, 4);
     match node.accept("a\u{302}".as_bytes())? {
         Accepted::Kept(message) => {
@@ -113,15 +113,20 @@ fn told_to_its_sender(alloc: Global, table: &RowTable) -> Result<(), Fail> {
     }
 }
 
-fn checked(alloc: Global, table: &RowTable) -> Result<(), Fail> {
+fn checked<T: NormTable>(alloc: Global, table: &T) -> Result<(), Fail> {
     keys_are_checked(alloc, table)?;
     shapes_are_checked(alloc, table)?;
     strings_are_checked(alloc, table)?;
     told_to_its_sender(alloc, table)
 }
 
+fn checked_over<T: Made>(alloc: Global) -> Result<(), Fail> {
+    let table: T = table_of(alloc, V1_DATA, V1_EXCLUSIONS)?;
+    checked(alloc, &table)
+}
+
 #[test]
 fn messages_are_never_trusted(rt: HostRuntime) -> Result<(), Fail> {
-    let table = table_of(rt.alloc(), V1_DATA, V1_EXCLUSIONS)?;
-    checked(rt.alloc(), &table)
+    checked_over::<RowTable>(rt.alloc())?;
+    checked_over::<PageTable>(rt.alloc())
 }
