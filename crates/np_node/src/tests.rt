@@ -58,7 +58,11 @@ fn wants_kept<T: NormTable>(
 }
 
 /// The node has the string already.
-fn wants_known<T: NormTable>(node: &mut Node<'_, T>, string: &[u8], what: &str) -> Result<(), Fail> {
+fn wants_known<T: NormTable>(
+    node: &mut Node<'_, T>,
+    string: &[u8],
+    what: &str,
+) -> Result<(), Fail> {
     match node.accept(string)? {
         Accepted::Known => Ok(()),
         Accepted::Kept(_) => Err(Fail::new(what)),
