@@ -103,8 +103,8 @@ def forged(source, names, world):
         bad = string.encode() + source.choice((b"\xff", b"\xcc", b"\xed\xa0\x80", b"\xe1\xba"))
         data = message(form, bad, key.encode())
     elif kind == 25:
-        data = message(form, (string + "a").encode() * 4_097, b"")[:9_000]
-        data = message(form, data[5:5 + source.choice((4_096, 4_097))], key.encode())
+        long = ((string + "a").encode() * 4_097)[:source.choice((4_096, 4_097))]
+        data = message(form, long, key.encode())
     return data
 
 
