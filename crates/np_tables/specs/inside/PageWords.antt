@@ -126,3 +126,11 @@ pub record AreKept (blocks : List ℕ) (words : List Word) (bit : ℕ) (bytes : 
   pub utf8 : IsUtf8 back
   pub kept : All (IsKept blocks words bit) front
   pub place : n ≡ length (encode_utf8_all front)
+
+-- a text behind some first code points that pass
+pub record IsPast (P : ℕ → Type 0) (text rest : List ℕ) : Type 0 where
+  pub front : List ℕ
+  pub split : text ≡ encode_utf8_all front ++ rest
+  pub text_is : chars text ≡ front ++ chars rest
+  pub utf8 : IsUtf8 rest
+  pub passed : All P front
