@@ -8,9 +8,11 @@ use Rattle.np_node.proofs.nodes.Node.same.Goals as goal
 
 -- the string of an entry is kept
 entry_is_kept : (entries : List Entry) (e : Entry) → Contains entries e → IsKept entries e.string
-entry_is_kept entries e has =
-    (has.0, omega (arith, has.1, length-map entries (λ (x : Entry). x.string)),
-    get_or-map (λ (x : Entry). x.string) entries has.0 e e.string has.1 ∙ ap (λ (x : Entry). x.string) has.2)
+entry_is_kept entries e has = (
+  has.0,
+  omega (arith, has.1, length-map entries (λ (x : Entry). x.string)),
+  get_or-map (λ (x : Entry). x.string) entries has.0 e e.string has.1 ∙ ap (λ (x : Entry). x.string) has.2,
+)
 
 pub returns : goal.returns
 returns g c =
@@ -19,6 +21,8 @@ returns g c =
     let sound = subst (λ n. IsSound (model n.table)) c.self.view_is c.self.invariant.sound in
     let keys = same_keys (model node.table) sound node.form c.args.left.now c.args.right.now c.in_ok-first.first.now c.in_ok-second.second.now c.in_ok-first.ensures.key c.in_ok-second.ensures.key in
     let first = c.as_bytes.ensures.value in
-    let second = c.as_bytes-2.ensures.value in
-    (entry_is_kept node.entries _ c.in_ok-first.ensures.some, entry_is_kept node.entries _ c.in_ok-second.ensures.some,
-    (λ h. keys.0 (sym first ∙ c.same_bytes.ensures.0 h ∙ second), λ e. c.same_bytes.ensures.1 (first ∙ keys.1 e ∙ sym second)))
+    let second = c.as_bytes-2.ensures.value in (
+      entry_is_kept node.entries _ c.in_ok-first.ensures.some,
+      entry_is_kept node.entries _ c.in_ok-second.ensures.some,
+      (λ h. keys.0 (sym first ∙ c.same_bytes.ensures.0 h ∙ second), λ e. c.same_bytes.ensures.1 (first ∙ keys.1 e ∙ sym second)),
+    )
