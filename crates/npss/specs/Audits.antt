@@ -1,10 +1,10 @@
 -- How `audit` ends.
-use Rattle.std.specs.Prelude.{◌≡◌, ◌⊎◌, ℕ, Bool, true, false, List, [], ◌∷◌, ◌++◌, flat_map, codes}
-use Rattle.np_chain.specs.Breaks.{AreBreaks, name_of}
+use Rattle.std.specs.Prelude.{◌≡◌, ◌⊎◌, ℕ, Bool, true, false, List, [], ◌∷◌, flat_map, codes}
+use Rattle.np_chain.specs.Breaks.{AreBreaks}
 use Rattle.np_chain.specs.declared.breaks.Break.{Break}
-use Rattle.np_code_points.specs.Codes.{code_digits}
 use Rattle.np_tables.specs.Versions.{VersionData}
 use Rattle.npss.specs.Ends.{Ends}
+use Rattle.npss.specs.Lines.{break_line}
 use Rattle.npss.specs.Streams.{Stream, IsUntouched}
 use Rattle.npss.specs.Versions.{WasBuilt, IsVersionFault}
 use Rattle.npss.specs.declared.jobs.faults.JobFault.{JobFault}
@@ -17,10 +17,6 @@ pub record AuditReaders : Type 0 where
   pub old_exclusions_file : Stream
   pub new_data_file : Stream
   pub new_exclusions_file : Stream
-
--- the kind of a break, and its code point
-abbrev pub break_line : Break → List ℕ
-break_line b = name_of b.kind ++ (codes " " ++ (code_digits b.code ++ codes "\n"))
 
 -- a line for each break, or one that says that there is none
 abbrev pub audit_text : List Break → List ℕ

@@ -1,7 +1,8 @@
 -- The commands, options and places of the command line, as `clap` reads them.
 use Rattle.std.specs.Prelude.{true, Some, codes}
+use Rattle.clap.specs.Lexer.{usize_max}
 use Rattle.clap.specs.Words.{App, Rule, Text, new_app, new_rule, with_rule, with_subcommand}
-use Rattle.clap.specs.declared.builder.action.ArgAction.TheVariants.{Set}
+use Rattle.clap.specs.declared.builder.action.ArgAction.TheVariants.{Append, Set}
 
 -- --form FORM, once
 abbrev pub form_rule : Rule
@@ -15,6 +16,14 @@ form_rule = record (new_rule (codes "form")) {
 abbrev pub file_rule : Text → Rule
 file_rule name = record (new_rule name) { required = true; action = Some Set }
 
+-- files, at least one; options may stand between them
+abbrev pub files_rule : Text → Rule
+files_rule name = record (new_rule name) {
+  range = Some (record { start_inclusive = 1; end_inclusive = usize_max });
+  required = true;
+  action = Some Append;
+}
+
 -- the two files of a version
 abbrev pub with_files : App → Text → Text → App
 with_files a data_file exclusions_file = with_rule (with_rule a (file_rule data_file)) (file_rule exclusions_file)
@@ -27,6 +36,10 @@ text_app name = with_files (with_rule (new_app name) form_rule) (codes "DATA") (
 abbrev pub audit_app : App
 audit_app = with_files (with_files (new_app (codes "audit")) (codes "OLDDATA") (codes "OLDEXCL")) (codes "NEWDATA") (codes "NEWEXCL")
 
+-- replay --form FORM SCHEDULE FILES..
+abbrev pub replay_app : App
+replay_app = with_rule (with_rule (with_rule (new_app (codes "replay")) form_rule) (file_rule (codes "SCHEDULE"))) (files_rule (codes "FILES"))
+
 -- the words begin with a command
 abbrev pub with_settings : App → App
 with_settings a = record a { top = record a.top { no_binary_name = true; subcommand_required = true } }
@@ -36,4 +49,4 @@ texts_app = with_subcommand (with_subcommand (with_subcommand (with_settings (ne
     (text_app (codes "normalize")).top) (text_app (codes "key")).top) (text_app (codes "compare")).top
 
 abbrev pub program_app : App
-program_app = with_subcommand texts_app audit_app.top
+program_app = with_subcommand (with_subcommand texts_app audit_app.top) replay_app.top

@@ -1,10 +1,12 @@
 pub mod Audits
+pub mod Chains
 pub mod Commands
 pub mod Comparisons
 pub mod Ends
 pub mod Keys
 pub mod Lines
 pub mod NormalForms
+pub mod Replays
 pub mod Statuses
 pub mod Streams
 pub mod Texts

@@ -1,6 +1,8 @@
 -- The line that is told on a refusal.
 use Rattle.std.specs.Prelude.{ℕ, Bool, true, false, ◌==◌, List, [], ◌++◌, Option, Some, None, codes, unwrap_or, if◌then◌else◌}
 use Rattle.std.specs.Fmt.{decimal}
+use Rattle.np_chain.specs.Breaks.{name_of}
+use Rattle.np_chain.specs.declared.breaks.Break.{Break}
 use Rattle.np_code_points.specs.Codes.{code_digits}
 use Rattle.np_code_points.specs.declared.input.InputFault.{InputFault}
 use Rattle.np_code_points.specs.declared.input.InputFault.TheVariants as Inputs
@@ -10,7 +12,9 @@ use Rattle.np_ucd.specs.Faults as files
 use Rattle.np_ucd.specs.declared.faults.UcdFault.{UcdFault}
 use Rattle.npss.specs.Statuses.{version_status}
 use Rattle.npss.specs.declared.jobs.faults.JobFault.{JobFault}
-use Rattle.npss.specs.declared.jobs.faults.JobFault.TheVariants.{Version, Text, WriteFailed, Memory}
+use Rattle.npss.specs.declared.jobs.faults.JobFault.TheVariants.{Version, Text, Replay, WriteFailed, Memory}
+use Rattle.npss.specs.declared.jobs.faults.ReplayFault.{ReplayFault}
+use Rattle.npss.specs.declared.jobs.faults.ReplayFault.TheVariants as Replays
 use Rattle.npss.specs.declared.jobs.faults.TextFault.{TextFault}
 use Rattle.npss.specs.declared.jobs.faults.TextFault.TheVariants as Texts
 use Rattle.npss.specs.declared.jobs.faults.VersionFault.{VersionFault}
@@ -63,10 +67,26 @@ text_line (Texts.FirstUnassigned at code) = unassigned_line (codes "first: ") at
 text_line (Texts.SecondUnassigned at code) = unassigned_line (codes "second: ") at code
 text_line Texts.Memory = memory_line
 
+-- KIND CODE: the kind of a break, and its code point
+abbrev pub break_line : Break → List ℕ
+break_line b = name_of b.kind ++ (codes " " ++ (code_digits b.code ++ codes "\n"))
+
+abbrev pub schedule_line : InputFault → List ℕ
+schedule_line Inputs.TooLarge = codes "schedule: TooLarge\n"
+schedule_line Inputs.ReadFailed = codes "schedule: ReadFailed\n"
+schedule_line Inputs.Memory = memory_line
+
+abbrev pub replay_line : ReplayFault → List ℕ
+replay_line (Replays.NotExtension version brk) = codes "not an extension: version " ++ (decimal version ++ (codes " " ++ break_line brk))
+replay_line (Replays.Schedule fault) = schedule_line fault
+replay_line (Replays.Line line) = codes "schedule: line " ++ (decimal line ++ codes "\n")
+replay_line Replays.Memory = memory_line
+
 -- the line of a refusal
 abbrev pub line_of : JobFault → List ℕ
 line_of (Version fault) = version_line fault
 line_of (Text fault) = text_line fault
+line_of (Replay fault) = replay_line fault
 line_of WriteFailed = codes "output: WriteFailed\n"
 line_of Memory = memory_line
 
@@ -80,8 +100,15 @@ is_text_told_freely (Texts.FirstUnassigned at code) = false
 is_text_told_freely (Texts.SecondUnassigned at code) = false
 is_text_told_freely Texts.Memory = true
 
+abbrev pub is_replay_told_freely : ReplayFault → Bool
+is_replay_told_freely (Replays.NotExtension version brk) = false
+is_replay_told_freely (Replays.Schedule fault) = true
+is_replay_told_freely (Replays.Line line) = false
+is_replay_told_freely Replays.Memory = true
+
 abbrev pub is_told_freely : JobFault → Bool
 is_told_freely (Version fault) = version_status fault == 6
 is_told_freely (Text fault) = is_text_told_freely fault
+is_told_freely (Replay fault) = is_replay_told_freely fault
 is_told_freely WriteFailed = true
 is_told_freely Memory = true

@@ -1,12 +1,12 @@
 -- What words ask for, by `clap`'s reading of them.
-use Rattle.std.specs.Prelude.{List, [], ◌∷◌, ◌++◌, option_map, option_and_then, string_bytes, Option, Some, None, codes, if◌then◌else◌}
+use Rattle.std.specs.Prelude.{Bool, List, [], ◌∷◌, ◌++◌, ◌≤◌, ◌%◌, ◌==◌, ◌&&◌, nat_le, length, vec_len, flat_map, option_map, option_and_then, string_bytes, Option, Some, None, codes, if◌then◌else◌}
 use Rattle.std.specs.Str.{bytes_eq}
 use Rattle.np_code_points.specs.declared.forms.Form.{Form}
 use Rattle.np_code_points.specs.Forms.{form_named}
 use Rattle.npss.specs.declared.words.Job.{Job}
 use Rattle.npss.specs.declared.words.VersionFiles.{VersionFiles}
-use Rattle.npss.specs.declared.words.Job.TheVariants.{Help, Normalize, Key, Compare, Audit}
-use Rattle.clap.specs.Words.{Kinds, Row, Text, fault_of, first_of, subcommand_of}
+use Rattle.npss.specs.declared.words.Job.TheVariants.{Help, Normalize, Key, Compare, Audit, Replay}
+use Rattle.clap.specs.Words.{Kinds, Row, Text, all_of, fault_of, first_of, subcommand_of}
 use Rattle.npss.specs.Commands.{program_app}
 
 -- how the program is used, a line per command
@@ -34,6 +34,20 @@ asked_of (Normalize form files) = record { command = codes "normalize"; form = S
 asked_of (Key form files) = record { command = codes "key"; form = Some form; files = names_of files }
 asked_of (Compare form files) = record { command = codes "compare"; form = Some form; files = names_of files }
 asked_of (Audit old new) = record { command = codes "audit"; form = None; files = names_of old ++ names_of new }
+asked_of (Replay form schedule_file version_files) = record {
+  command = codes "replay";
+  form = Some form;
+  files = string_bytes schedule_file ∷ flat_map names_of version_files.items;
+}
+
+-- a schedule is replayed over at least one version
+abbrev pub HasVersions : Job → Type 0
+HasVersions Help = Unit {0}
+HasVersions (Normalize form files) = Unit {0}
+HasVersions (Key form files) = Unit {0}
+HasVersions (Compare form files) = Unit {0}
+HasVersions (Audit old new) = Unit {0}
+HasVersions (Replay form schedule_file version_files) = 1 ≤ vec_len version_files
 
 -- the form that the value of --form names
 abbrev pub form_of : List Row → Option Form
@@ -57,13 +71,34 @@ audit_asked rows = option_and_then (λ old.
     option_map (λ new. record { command = codes "audit"; form = None; files = old ++ new }) (files_of (codes "NEWDATA") (codes "NEWEXCL") rows))
     (files_of (codes "OLDDATA") (codes "OLDEXCL") rows)
 
+-- an even number of files, at least two
+abbrev pub are_paired : List Text → Bool
+are_paired files = nat_le 2 (length files) && (length files % 2 == 0)
+
+-- the values of the last place, two for each version
+abbrev pub paired_files_of : List Row → Option (List Text)
+paired_files_of rows = option_and_then (λ files. if are_paired files then Some files else None) (all_of (codes "FILES") rows)
+
+-- the schedule, and behind it the files of the versions
+abbrev pub replay_files_of : List Row → Option (List Text)
+replay_files_of rows = option_and_then (λ schedule_file.
+    option_map (λ files. schedule_file ∷ files) (paired_files_of rows))
+    (first_of (codes "SCHEDULE") rows)
+
+-- the replay of a schedule over versions
+abbrev pub replay_asked : List Row → Option Asked
+replay_asked rows = option_and_then (λ form.
+    option_map (λ files. record { command = codes "replay"; form = Some form; files = files }) (replay_files_of rows))
+    (form_of rows)
+
 -- what the command of this name asks for, by what is read behind it
 abbrev pub asked_in : Text → List Row → Option Asked
 asked_in name rows =
     if bytes_eq name (codes "normalize") then text_asked (codes "normalize") rows
     else (if bytes_eq name (codes "key") then text_asked (codes "key") rows
     else (if bytes_eq name (codes "compare") then text_asked (codes "compare") rows
-    else (if bytes_eq name (codes "audit") then audit_asked rows else None)))
+    else (if bytes_eq name (codes "audit") then audit_asked rows
+    else (if bytes_eq name (codes "replay") then replay_asked rows else None))))
 
 -- what is read in words, where `clap` has no fault to find in them
 abbrev pub asked_unless : Kinds → Option (Text × List Row) → Option Asked

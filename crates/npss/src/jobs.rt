@@ -1,12 +1,14 @@
 //! What each command does, over any readers and writers.
 
 mod audit;
+mod chains;
 mod compare;
 mod ending;
 mod faults;
 mod key;
 mod lines;
 mod normalize;
+mod replay;
 #[cfg(test)]
 mod tests;
 mod texts;
@@ -18,3 +20,4 @@ pub use ending::{DONE, refuse, tell};
 pub use faults::{FAILED, JobFault};
 pub use key::key_job;
 pub use normalize::normalize_job;
+pub use replay::replay_job;

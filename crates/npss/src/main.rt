@@ -1,10 +1,10 @@
 //! Stabilized Unicode strings over tables that are read from files: the program.
 #![tactic(auto)]
 
-ghost use Rattle.std.specs.Prelude.{◌≡◌};
+ghost use Rattle.std.specs.Prelude.{◌≡◌, ◌≤◌, length};
 ghost use Rattle.npss.specs.Ends.{IsTold};
 ghost use Rattle.npss.specs.Streams.{stream_of};
-ghost use Rattle.npss.specs.Words.{usage_lines};
+ghost use Rattle.npss.specs.Words.{HasVersions, usage_lines};
 ghost use Rattle.npss.specs.Usage.{ShowsUsage};
 
 mod jobs;
@@ -12,11 +12,13 @@ mod opening;
 mod standard;
 mod words;
 
-use jobs::{DONE, JobFault, audit_job, compare_job, key_job, normalize_job, refuse, tell};
+use jobs::{
+    DONE, JobFault, audit_job, compare_job, key_job, normalize_job, refuse, replay_job, tell,
+};
 use np_code_points::Form;
 use np_code_points::output::write_out;
 use np_code_points::watched::Watched;
-use opening::open_version;
+use opening::{open_file, open_version, open_versions};
 use standard::{Standard, take_standard};
 use std::alloc::Global;
 use std::io::{Error, ErrorKind, Write};
@@ -150,14 +152,55 @@ fn run_audit(
     ))
 }
 
+/// Runs `replay`; an `Err` is the status of a file that can't be opened.
+fn run_replay(
+    rt: &HostRuntime,
+    form: Form,
+    schedule_file: &str,
+    version_files: &[VersionFiles],
+    streams: &mut Standard,
+) -> Result<u8, u8>
+    requires { 1 ≤ length version_files.now }
+{
+    let alloc = rt.alloc();
+    let Standard {
+        input: _,
+        output,
+        error,
+    } = streams;
+    let mut schedule = open_file(rt, alloc, error, schedule_file)?;
+    let mut files = open_versions(rt, alloc, error, version_files)?;
+    Ok(replay_job(
+        alloc,
+        form,
+        &mut schedule,
+        files.as_mut_slice(),
+        output,
+        error,
+    ))
+}
+
 /// Runs a job; an `Err` is the status of a file that can't be opened.
-fn run(rt: &HostRuntime, job: &Job, streams: &mut Standard) -> Result<u8, u8> {
+fn run(rt: &HostRuntime, job: &Job, streams: &mut Standard) -> Result<u8, u8>
+    requires { HasVersions job.now }
+{
     match job {
         Job::Help => Ok(show_usage(rt.alloc(), &mut streams.output, &mut streams.error)),
         Job::Normalize { form, files } => run_normalize(rt, *form, files, streams),
         Job::Key { form, files } => run_key(rt, *form, files, streams),
         Job::Compare { form, files } => run_compare(rt, *form, files, streams),
         Job::Audit { old, new } => run_audit(rt, old, new, streams),
+        Job::Replay {
+            form,
+            schedule_file,
+            version_files,
+        } => run_replay(
+            rt,
+            *form,
+            schedule_file.as_str(),
+            version_files.as_slice(),
+            streams,
+        ),
     }
 }
 

@@ -1,6 +1,6 @@
 //! The files of a job are opened before any of them is read.
 
-ghost use Rattle.std.specs.Prelude.{◌≡◌, IfOk, IfErr};
+ghost use Rattle.std.specs.Prelude.{◌≡◌, ◌*◌, length, vec_len, IfOk, IfErr};
 ghost use Rattle.npss.specs.Streams.{stream_of};
 ghost use Rattle.npss.specs.Usage.{IsUnopened};
 
@@ -62,4 +62,29 @@ where
     let data = open_file(rt, alloc, error, files.data_file.as_str())?;
     let exclusions = open_file(rt, alloc, error, files.exclusions_file.as_str())?;
     Ok((data, exclusions))
+}
+
+/// Opens the files of versions in their order, two for each.
+///
+/// # Errors
+///
+/// The status that was told, where one of them can't be opened, or memory ran out.
+pub fn open_versions<R: Files, E: Write>(
+    rt: &R,
+    alloc: Global,
+    error: &mut Watched<E>,
+    versions: &[VersionFiles],
+) -> Result<Vec<Watched<R::File>>, u8>
+where
+    R::File: Drop,
+    ensures { IfOk result (λ files. vec_len files ≡ 2 * length versions.now) }
+{
+    let mut files = Vec::new(alloc);
+    for version in versions {
+        let (data, exclusions) = open_version(rt, alloc, error, version)?;
+        if files.push(data).is_err() || files.push(exclusions).is_err() {
+            return Err(refuse(alloc, error, &JobFault::Memory));
+        }
+    }
+    Ok(files)
 }

@@ -1,7 +1,7 @@
 //! What a command line asks for.
-ghost use Rattle.std.specs.Prelude.{◌≡◌, ◌≢◌, ◌∷◌, [], codes, IfOk, Some, None, Err, map, string_bytes};
+ghost use Rattle.std.specs.Prelude.{◌≡◌, ◌≢◌, ◌≤◌, ◌∷◌, ◌/◌, ◌%◌, [], codes, length, vec_len, flat_map, IfOk, IsTrue, Some, None, Err, map, string_bytes};
 ghost use Rattle.clap.specs.Words.{Text, first_of, found_of, kind_of, rows_of, subcommand_rows_of};
-ghost use Rattle.npss.specs.Words.{asked_among, asked_by, asked_in, asked_of, asked_unless, audit_asked, files_of, form_of, names_of, text_asked};
+ghost use Rattle.npss.specs.Words.{HasVersions, are_paired, asked_among, asked_by, asked_in, asked_of, asked_unless, audit_asked, files_of, form_of, names_of, paired_files_of, replay_asked, text_asked};
 
 mod command;
 #[cfg(test)]
@@ -12,7 +12,7 @@ use clap::error::ErrorKind;
 use clap::{ArgMatches, Error as ClapError};
 use command::matches_in;
 use np_code_points::Form;
-use std::alloc::Global;
+use std::alloc::{AllocError, Global};
 use thiserror::Error;
 pub use usage::usage_text;
 
@@ -47,6 +47,12 @@ pub enum Job {
     Audit {
         old: VersionFiles,
         new: VersionFiles,
+    },
+    /// What happens to nodes, as a schedule has it, over a chain of versions.
+    Replay {
+        form: Form,
+        schedule_file: String,
+        version_files: Vec<VersionFiles>,
     },
 }
 
@@ -141,6 +147,7 @@ fn form_and_files(alloc: Global, found: &ArgMatches<'_>) -> Result<(Form, Versio
 fn audit_in(alloc: Global, found: &ArgMatches<'_>) -> Result<Job, WordsFault>
     ensures ok { IfOk result (λ job. audit_asked (rows_of (found_of found.now)) ≡ Some (asked_of job)) }
     ensures command { IfOk result (λ job. job ≢ Job.Help) }
+    ensures versions { IfOk result HasVersions }
     ensures usage { result ≡ Err WordsFault.Usage → audit_asked (rows_of (found_of found.now)) ≡ None }
 {
     let old = files_in(alloc, found, "OLDDATA", "OLDEXCL")?;
@@ -148,10 +155,76 @@ fn audit_in(alloc: Global, found: &ArgMatches<'_>) -> Result<Job, WordsFault>
     Ok(Job::Audit { old, new })
 }
 
+/// Whether the files of versions are an even number, at least two.
+fn are_paired(names: &[&str]) -> bool
+    ensures test { result ≡ are_paired (map (λ name. name.now) names.now) }
+    ensures even { IsTrue result → length names.now % 2 ≡ 0 }
+    ensures some { IsTrue result → 2 ≤ length names.now }
+{
+    names.len() >= 2 && names.len() % 2 == 0
+}
+
+/// The names of files, two for each version.
+fn in_pairs(alloc: Global, names: &[&str]) -> Result<Vec<VersionFiles>, AllocError>
+    requires { length names.now % 2 ≡ 0 }
+    ensures names { IfOk result (λ versions. flat_map names_of versions.items ≡ map (λ name. name.now) names.now) }
+    ensures count { IfOk result (λ versions. vec_len versions ≡ length names.now / 2) }
+{
+    let mut versions = Vec::new(alloc);
+    for number in 0..names.len() / 2 {
+        let data_file = String::from_str(alloc, names[2 * number])?;
+        let exclusions_file = String::from_str(alloc, names[2 * number + 1])?;
+        versions.push(VersionFiles {
+            data_file,
+            exclusions_file,
+        })?;
+    }
+    Ok(versions)
+}
+
+/// The files of versions that the words name, two for each version.
+#[tactic(auto, using(crate::proofs::MatchLemmas::raw_values_in_rows))]
+fn version_files_in(alloc: Global, found: &ArgMatches<'_>) -> Result<Vec<VersionFiles>, WordsFault>
+    ensures ok { IfOk result (λ versions. paired_files_of (rows_of (found_of found.now)) ≡ Some (flat_map names_of versions.items)) }
+    ensures some { IfOk result (λ versions. 1 ≤ vec_len versions) }
+    ensures usage { result ≡ Err WordsFault.Usage → paired_files_of (rows_of (found_of found.now)) ≡ None }
+{
+    let Some(names) = found.get_strs("FILES") else {
+        return Err(WordsFault::Usage);
+    };
+    if !are_paired(names) {
+        return Err(WordsFault::Usage);
+    }
+    match in_pairs(alloc, names) {
+        Ok(versions) => Ok(versions),
+        Err(_) => Err(WordsFault::Memory),
+    }
+}
+
+/// The replay that the words ask for.
+fn replay_in(alloc: Global, found: &ArgMatches<'_>) -> Result<Job, WordsFault>
+    ensures ok { IfOk result (λ job. replay_asked (rows_of (found_of found.now)) ≡ Some (asked_of job)) }
+    ensures command { IfOk result (λ job. job ≢ Job.Help) }
+    ensures versions { IfOk result HasVersions }
+    ensures usage { result ≡ Err WordsFault.Usage → replay_asked (rows_of (found_of found.now)) ≡ None }
+{
+    let Some(form) = form_in(found) else {
+        return Err(WordsFault::Usage);
+    };
+    let schedule_file = file_in(alloc, found, "SCHEDULE")?;
+    let version_files = version_files_in(alloc, found)?;
+    Ok(Job::Replay {
+        form,
+        schedule_file,
+        version_files,
+    })
+}
+
 /// The job of the command of this name.
 fn job_from(alloc: Global, name: &str, found: &ArgMatches<'_>) -> Result<Job, WordsFault>
     ensures ok { IfOk result (λ job. asked_in name.now (rows_of (found_of found.now)) ≡ Some (asked_of job)) }
     ensures command { IfOk result (λ job. job ≢ Job.Help) }
+    ensures versions { IfOk result HasVersions }
     ensures usage { result ≡ Err WordsFault.Usage → asked_in name.now (rows_of (found_of found.now)) ≡ None }
 {
     match name {
@@ -168,6 +241,7 @@ fn job_from(alloc: Global, name: &str, found: &ArgMatches<'_>) -> Result<Job, Wo
             Ok(Job::Compare { form, files })
         }
         "audit" => audit_in(alloc, found),
+        "replay" => replay_in(alloc, found),
         _ => Err(WordsFault::Usage),
     }
 }
@@ -176,6 +250,7 @@ fn job_from(alloc: Global, name: &str, found: &ArgMatches<'_>) -> Result<Job, Wo
 fn parse_some(alloc: Global, words: &[String]) -> Result<Job, WordsFault>
     ensures ok { IfOk result (λ job. asked_among (map string_bytes words.now) ≡ Some (asked_of job)) }
     ensures command { IfOk result (λ job. job ≢ Job.Help) }
+    ensures versions { IfOk result HasVersions }
     ensures usage { result ≡ Err WordsFault.Usage → asked_among (map string_bytes words.now) ≡ None }
 {
     let matches = matches_or_fault(alloc, words)?;
@@ -195,6 +270,7 @@ fn parse_some(alloc: Global, words: &[String]) -> Result<Job, WordsFault>
 pub fn parse(alloc: Global, words: &[String]) -> Result<Job, WordsFault>
     ensures ok { IfOk result (λ job. asked_by (map string_bytes words.now) ≡ Some (asked_of job)) }
     ensures help { IfOk result (λ job. job ≡ Job.Help → words.now ≡ []) }
+    ensures versions { IfOk result HasVersions }
     ensures usage { result ≡ Err WordsFault.Usage → asked_by (map string_bytes words.now) ≡ None }
 {
     match words {

@@ -1,30 +1,19 @@
 //! The command `audit`: what a later version breaks of an earlier one.
-ghost use Rattle.std.specs.Prelude.{◌≡◌, ◌++◌, IfOk, IfErr, string_bytes};
-ghost use Rattle.npss.specs.Audits.{AuditEnds, IsAudit, MakesAudit, RefusesAudit, audit_text, break_line};
+ghost use Rattle.std.specs.Prelude.{◌≡◌, IfOk, IfErr, string_bytes};
+ghost use Rattle.npss.specs.Audits.{AuditEnds, IsAudit, MakesAudit, RefusesAudit, audit_text};
 ghost use Rattle.npss.specs.Streams.{stream_of};
 ghost use Rattle.npss.specs.inside.AuditSteps.{LacksAgainst, MakesAgainst};
 
 use super::ending::{Made, finish};
 use super::faults::JobFault;
+use super::lines::write_break;
 use super::versions::read_version;
 use np_chain::{Break, audit};
 use np_code_points::Memory;
-use np_code_points::codes::write_code;
 use np_code_points::watched::Watched;
 use np_tables::Version;
 use std::alloc::Global;
 use std::io::{Read, Write};
-
-/// Adds the line of a break.
-fn write_break(text: &mut String, found: &Break) -> Result<(), Memory>
-    ensures { IfOk result (λ _. string_bytes text.new ≡ string_bytes text.old ++ break_line found.now) }
-{
-    text.push_str(found.kind.name())?;
-    text.push_str(" ")?;
-    write_code(text, found.code)?;
-    text.push_str("\n")?;
-    Ok(())
-}
 
 /// The lines of the breaks.
 fn lines_of(alloc: Global, breaks: &[Break]) -> Result<String, Memory>

@@ -1,17 +1,21 @@
 //! Why a job is refused, and the status of each refusal.
 ghost use Rattle.std.specs.Prelude.{◌≡◌};
-ghost use Rattle.npss.specs.Statuses.{file_status, input_status, status_of, tables_status, text_status, version_status};
-ghost use Rattle.npss.specs.inside.Groups.{of_text, of_version};
+ghost use Rattle.npss.specs.Statuses.{file_status, input_status, replay_status, status_of, tables_status, text_status, version_status};
+ghost use Rattle.npss.specs.inside.Groups.{of_replay, of_text, of_version};
 
+use np_chain::Break;
 use np_code_points::input::InputFault;
 use np_tables::TableFault;
 use np_ucd::UcdFault;
 use thiserror::Error;
 
+/// The status of a job whose answer is no, and of versions that do not extend one another.
+pub const DIFFERENT: u8 = 1;
+
 /// The status of a code point that is not assigned.
 const UNASSIGNED: u8 = 3;
 
-/// The status of bad data or text.
+/// The status of bad data, text or schedule.
 const BAD: u8 = 4;
 
 /// The status of a device that failed, or a file that can't be opened.
@@ -25,13 +29,13 @@ pub const MEMORY: u8 = 6;
 pub enum VersionFault {
     /// The data file was not read, or has a fault.
     #[error("version {version} data: {fault}")]
-    Data { version: u32, fault: UcdFault },
+    Data { version: usize, fault: UcdFault },
     /// The exclusions file was not read, or has a fault.
     #[error("version {version} exclusions: {fault}")]
-    Exclusions { version: u32, fault: UcdFault },
+    Exclusions { version: usize, fault: UcdFault },
     /// The tables that both files make have a fault.
     #[error("version {version} tables: {fault}")]
-    Tables { version: u32, fault: TableFault },
+    Tables { version: usize, fault: TableFault },
 }
 
 /// Why a text is not answered. Places are bytes from 0.
@@ -60,6 +64,25 @@ pub enum TextFault {
     Memory,
 }
 
+/// Why versions that were built and a schedule give no report. Versions are numbered from 0, lines
+/// from 1.
+#[derive(Clone, Copy, Debug, PartialEq, Eq, Drop, Error)]
+pub enum ReplayFault {
+    /// The version of this number does not extend the one before, the first that does not, and
+    /// `brk` is its first break.
+    #[error("not an extension: version {version} {brk}")]
+    NotExtension { version: usize, brk: Break },
+    /// The schedule was not read whole.
+    #[error("schedule: {fault}")]
+    Schedule { fault: InputFault },
+    /// The first line of the schedule that can't stand.
+    #[error("schedule: line {line}")]
+    Line { line: u64 },
+    /// Memory ran out after the schedule was read.
+    #[error("out of memory")]
+    Memory,
+}
+
 /// Why a job is refused.
 #[derive(Clone, Copy, Debug, PartialEq, Eq, Drop, Error)]
 pub enum JobFault {
@@ -69,6 +92,9 @@ pub enum JobFault {
     /// The text of the input is not answered.
     #[error("{fault}")]
     Text { fault: TextFault },
+    /// The versions are no chain, or the schedule is not replayed.
+    #[error("{fault}")]
+    Replay { fault: ReplayFault },
     /// A write or the flush of the output failed.
     #[error("output: write failed")]
     WriteFailed,
@@ -90,6 +116,14 @@ impl From<TextFault> for JobFault {
 
     fn from(fault: TextFault) -> JobFault {
         JobFault::Text { fault }
+    }
+}
+
+impl From<ReplayFault> for JobFault {
+    ghost from_gives = { λ fault e. e ≡ of_replay fault };
+
+    fn from(fault: ReplayFault) -> JobFault {
+        JobFault::Replay { fault }
     }
 }
 
@@ -165,6 +199,20 @@ impl TextFault {
     }
 }
 
+impl ReplayFault {
+    /// The status of the refusal.
+    pub fn status(&self) -> u8
+        ensures { result ≡ replay_status self.now }
+    {
+        match self {
+            ReplayFault::NotExtension { .. } => DIFFERENT,
+            ReplayFault::Schedule { fault } => status_of_input(fault),
+            ReplayFault::Line { .. } => BAD,
+            ReplayFault::Memory => MEMORY,
+        }
+    }
+}
+
 impl JobFault {
     /// The status of the refusal.
     pub fn status(&self) -> u8
@@ -173,6 +221,7 @@ impl JobFault {
         match self {
             JobFault::Version { fault } => fault.status(),
             JobFault::Text { fault } => fault.status(),
+            JobFault::Replay { fault } => fault.status(),
             JobFault::WriteFailed => FAILED,
             JobFault::Memory => MEMORY,
         }

@@ -1,12 +1,13 @@
 //! The line that is told on a refusal.
-ghost use Rattle.std.specs.Prelude.{◌≡◌, ◌==◌, false, IfOk, OnErr, string_bytes};
+ghost use Rattle.std.specs.Prelude.{◌≡◌, ◌==◌, ◌++◌, false, IfOk, OnErr, string_bytes};
 ghost use Rattle.np_code_points.specs.Codes.{code_digits};
 ghost use Rattle.npss.specs.Lines as lines;
-ghost use Rattle.npss.specs.Lines.{is_text_told_freely, is_told_freely};
+ghost use Rattle.npss.specs.Lines.{is_replay_told_freely, is_text_told_freely, is_told_freely};
 ghost use Rattle.npss.specs.Statuses.{version_status};
 ghost use Rattle.npss.specs.inside.Groups.{line_bytes};
 
-use super::faults::{JobFault, MEMORY, TextFault, VersionFault};
+use super::faults::{JobFault, MEMORY, ReplayFault, TextFault, VersionFault};
+use np_chain::Break;
 use np_code_points::Memory;
 use np_code_points::codes::write_code;
 use np_code_points::input::InputFault;
@@ -48,7 +49,7 @@ fn code_text(alloc: Global, code: u32) -> Result<String, Memory>
 }
 
 /// The line on a file of a version.
-fn file_line(alloc: Global, version: u32, file: &str, fault: &UcdFault) -> Result<Line, Memory>
+fn file_line(alloc: Global, version: usize, file: &str, fault: &UcdFault) -> Result<Line, Memory>
     ensures line { IfOk result (λ line. line_bytes line ≡ lines.file_line version file.now fault.now) }
 {
     let name = fault.name();
@@ -61,7 +62,7 @@ fn file_line(alloc: Global, version: u32, file: &str, fault: &UcdFault) -> Resul
 }
 
 /// The line on the tables of a version.
-fn tables_line(alloc: Global, version: u32, fault: &TableFault) -> Result<Line, Memory>
+fn tables_line(alloc: Global, version: usize, fault: &TableFault) -> Result<Line, Memory>
     ensures line { IfOk result (λ line. line_bytes line ≡ lines.tables_line version fault.now) }
 {
     let name = fault.name();
@@ -123,6 +124,50 @@ fn text_line(alloc: Global, fault: &TextFault) -> Result<Line, Memory>
     }
 }
 
+/// Adds the line of a break.
+pub(super) fn write_break(text: &mut String, found: &Break) -> Result<(), Memory>
+    ensures { IfOk result (λ _. string_bytes text.new ≡ string_bytes text.old ++ lines.break_line found.now) }
+{
+    text.push_str(found.kind.name())?;
+    text.push_str(" ")?;
+    write_code(text, found.code)?;
+    text.push_str("\n")?;
+    Ok(())
+}
+
+/// The line on a version that does not extend the one before.
+fn extension_line(alloc: Global, version: usize, brk: &Break) -> Result<Line, Memory>
+    ensures { IfOk result (λ line. line_bytes line ≡ lines.replay_line (ReplayFault.NotExtension version brk.now)) }
+{
+    let mut text = format!(in alloc; "not an extension: version {version} ")?;
+    write_break(&mut text, brk)?;
+    Ok(Line::Made(text))
+}
+
+/// The line on a schedule that was not read whole.
+fn schedule_line(fault: &InputFault) -> &'static str
+    ensures { result.now ≡ lines.schedule_line fault.now }
+{
+    match fault {
+        InputFault::TooLarge => "schedule: TooLarge\n",
+        InputFault::ReadFailed => "schedule: ReadFailed\n",
+        InputFault::Memory => OUT_OF_MEMORY,
+    }
+}
+
+/// The line on versions and a schedule that give no report.
+fn replay_line(alloc: Global, fault: &ReplayFault) -> Result<Line, Memory>
+    ensures line { IfOk result (λ line. line_bytes line ≡ lines.replay_line fault.now) }
+    ensures free { OnErr result (is_replay_told_freely fault.now ≡ false) }
+{
+    match fault {
+        ReplayFault::NotExtension { version, brk } => extension_line(alloc, *version, brk),
+        ReplayFault::Schedule { fault } => Ok(Line::Fixed(schedule_line(fault))),
+        ReplayFault::Line { line } => Ok(Line::Made(format!(in alloc; "schedule: line {line}\n")?)),
+        ReplayFault::Memory => Ok(Line::Fixed(OUT_OF_MEMORY)),
+    }
+}
+
 /// The line on a refusal, with its line end.
 ///
 /// # Errors
@@ -135,6 +180,7 @@ pub fn line_of(alloc: Global, fault: &JobFault) -> Result<Line, Memory>
     match fault {
         JobFault::Version { fault } => version_line(alloc, fault),
         JobFault::Text { fault } => text_line(alloc, fault),
+        JobFault::Replay { fault } => replay_line(alloc, fault),
         JobFault::WriteFailed => Ok(Line::Fixed("output: WriteFailed\n")),
         JobFault::Memory => Ok(Line::Fixed(OUT_OF_MEMORY)),
     }

@@ -3,6 +3,7 @@
 mod commands;
 mod devices;
 mod refusals;
+mod replays;
 
 use std::test::Fail;
 

@@ -14,7 +14,7 @@ use std::io::Read;
 /// The rows of a data file.
 fn rows_of<R: Read>(
     alloc: Global,
-    version: u32,
+    version: usize,
     data_file: &mut Watched<R>,
 ) -> Result<Rows, VersionFault>
     ensures rows { IfOk result (HasRows (stream_of R.remaining data_file.old data_file.new)) }
@@ -29,7 +29,7 @@ fn rows_of<R: Read>(
 /// The code points that an exclusions file lists.
 fn exclusions_of<R: Read>(
     alloc: Global,
-    version: u32,
+    version: usize,
     exclusions_file: &mut Watched<R>,
 ) -> Result<Exclusions, VersionFault>
     ensures listed { IfOk result (HasExclusions (stream_of R.remaining exclusions_file.old exclusions_file.new)) }
@@ -44,7 +44,7 @@ fn exclusions_of<R: Read>(
 /// The version of rows and exclusions.
 fn version_of(
     alloc: Global,
-    version: u32,
+    version: usize,
     rows: Rows,
     exclusions: Exclusions,
 ) -> Result<Version, VersionFault>
@@ -68,7 +68,7 @@ fn version_of(
 /// a fault of what it was wanted for.
 pub fn read_version<R: Read>(
     alloc: Global,
-    version: u32,
+    version: usize,
     data_file: &mut Watched<R>,
     exclusions_file: &mut Watched<R>,
 ) -> Result<Version, VersionFault>
@@ -88,7 +88,7 @@ pub fn read_version<R: Read>(
 /// As `read_version`; want of memory for the table is a fault of the tables.
 pub fn read_table<R: Read>(
     alloc: Global,
-    version: u32,
+    version: usize,
     data_file: &mut Watched<R>,
     exclusions_file: &mut Watched<R>,
 ) -> Result<PageTable, VersionFault>

@@ -2,7 +2,7 @@
 ghost use Rattle.std.specs.Prelude.{◌≡◌, IfOk, false, map, string_bytes};
 ghost use Rattle.clap.specs.Words.{FailsBy, app_of, fault_of, rule_of, subcommand_of, subcommand_rows_of, with_subcommand};
 ghost use Rattle.clap.specs.declared.builder.command.Command.TheViews.{out-Command as fields_of};
-ghost use Rattle.npss.specs.Commands.{audit_app, file_rule, form_rule, text_app, texts_app, program_app, with_files};
+ghost use Rattle.npss.specs.Commands.{audit_app, file_rule, files_rule, form_rule, replay_app, text_app, texts_app, program_app, with_files};
 
 use clap::{Arg, ArgAction, ArgMatches, Command, Error};
 use std::alloc::{AllocError, Global};
@@ -24,6 +24,17 @@ fn file_arg<'a>(alloc: Global, name: &'a str) -> Arg<'a>
     ensures local { result.global ≡ false }
 {
     Arg::new(alloc, name).required(true).action(ArgAction::Set)
+}
+
+/// The last place of a command, which takes several files.
+fn files_arg<'a>(alloc: Global, name: &'a str) -> Arg<'a>
+    ensures rule { rule_of result ≡ files_rule name.entry.now }
+    ensures local { result.global ≡ false }
+{
+    Arg::new(alloc, name)
+        .num_args(1..)
+        .required(true)
+        .action(ArgAction::Append)
 }
 
 /// The command with the places of a version's two files.
@@ -60,6 +71,17 @@ fn audit_command<'a>(alloc: Global) -> Result<Command<'a>, AllocError>
     with_files(alloc, command, "NEWDATA", "NEWEXCL")
 }
 
+/// The command that replays a schedule over versions.
+fn replay_command<'a>(alloc: Global) -> Result<Command<'a>, AllocError>
+    ensures app { IfOk result (λ c. app_of c ≡ replay_app) }
+    ensures local { IfOk result (λ c. (fields_of c).has_globals ≡ false) }
+{
+    Command::new(alloc, "replay")
+        .arg(form_arg(alloc))?
+        .arg(file_arg(alloc, "SCHEDULE"))?
+        .arg(files_arg(alloc, "FILES"))
+}
+
 /// The program with one more command.
 fn with_command<'a>(program: Command<'a>, command: Command<'a>) -> Result<Command<'a>, AllocError>
     requires { (fields_of command).has_globals ≡ false }
@@ -84,8 +106,8 @@ fn program_of_texts<'a>(alloc: Global) -> Result<Command<'a>, AllocError>
 fn program_command<'a>(alloc: Global) -> Result<Command<'a>, AllocError>
     ensures { IfOk result (λ c. app_of c ≡ program_app) }
 {
-    let program = program_of_texts(alloc)?;
-    with_command(program, audit_command(alloc)?)
+    let program = with_command(program_of_texts(alloc)?, audit_command(alloc)?)?;
+    with_command(program, replay_command(alloc)?)
 }
 
 /// What `clap` finds in the words.

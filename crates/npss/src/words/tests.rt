@@ -76,6 +76,29 @@ fn reads_words_that_name_a_job(rt: HostRuntime) -> Result<(), Fail> {
 }
 
 #[test]
+fn reads_words_that_name_a_replay(rt: HostRuntime) -> Result<(), Fail> {
+    let alloc = rt.alloc();
+    let one =
+        r#"Replay { form: Nfc, schedule_file: "S", version_files: [VersionFiles { data_file: "D", exclusions_file: "E" }] }"#;
+    let table = [
+        ("replay --form nfc S D E", one),
+        ("replay --form=nfc S D E", one),
+        ("replay S D E --form nfc", one),
+        ("replay S --form nfc D E", one),
+        ("replay S D --form nfc E", one),
+        ("replay --form nfc -- S D E", one),
+        (
+            "replay --form nfkd S D E F -- -G",
+            r#"Replay { form: Nfkd, schedule_file: "S", version_files: [VersionFiles { data_file: "D", exclusions_file: "E" }, VersionFiles { data_file: "F", exclusions_file: "-G" }] }"#,
+        ),
+    ];
+    for (text, want) in table {
+        assert_eq!(rt; read(alloc, text)?.as_str(), want, "at {text}");
+    }
+    Ok(())
+}
+
+#[test]
 fn refuses_every_other_word(rt: HostRuntime) -> Result<(), Fail> {
     let alloc = rt.alloc();
     let table = [
@@ -104,7 +127,17 @@ fn refuses_every_other_word(rt: HostRuntime) -> Result<(), Fail> {
         "audit A B C",
         "audit A B C D E",
         "audit --form nfc A B C D",
-        "replay --form nfc S D E",
+        "replay --form nfc",
+        "replay --form nfc S",
+        "replay --form nfc S D",
+        "replay --form nfc S D E F",
+        "replay S D E",
+        "replay --form nfx S D E",
+        "replay --form nfc --form nfd S D E",
+        "replay --form nfc -D S D E",
+        "replay --help",
+        "replay --form nfc --help S D E",
+        "help replay",
     ];
     for text in table {
         assert_eq!(rt; read(alloc, text)?.as_str(), "Usage", "at {text}");

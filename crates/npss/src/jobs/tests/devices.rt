@@ -1,6 +1,6 @@
 //! Devices that fail in mid-stream, and marks from before.
 use super::want;
-use crate::jobs::{audit_job, key_job};
+use crate::jobs::{audit_job, key_job, replay_job};
 use np_code_points::Form;
 use np_code_points::devices::{Failure, Room, Trickle};
 use np_code_points::fixtures::{V1_DATA, V1_EXCLUSIONS};
@@ -272,4 +272,60 @@ fn audit_reads_the_old_version_first(rt: HostRuntime) -> Result<(), Fail> {
         audit_calls(alloc, 3) == (5, [rows, listed, rows, 1]),
         "new exclusions",
     )
+}
+
+/// The status of a replay over two versions, whose file of this number fails at its first read; 4
+/// is the schedule's. And what it tells, and whether the schedule was read.
+fn replay_fails(alloc: Global, failing: usize) -> (u8, Vec<u8>, bool) {
+    let mut files = [
+        file(0, failing),
+        file(1, failing),
+        file(2, failing),
+        file(3, failing),
+    ];
+    let script = Trickle::new(b"room 1\nnodes 0\n".as_slice(), 1);
+    let script = if failing == 4 {
+        script.failing_at(0, Failure::Error)
+    } else {
+        script
+    };
+    let mut schedule = Watched::new(script);
+    let mut output = Watched::new(Vec::new(alloc));
+    let mut error = Watched::new(Vec::new(alloc));
+    let status = replay_job(
+        alloc,
+        Form::Nfc,
+        &mut schedule,
+        &mut files,
+        &mut output,
+        &mut error,
+    );
+    let _: Vec<u8> = output.into_inner();
+    (
+        status,
+        error.into_inner(),
+        schedule.into_inner().calls() > 0,
+    )
+}
+
+/// Whether a replay ends so, with status 5.
+fn is_replay_failure(alloc: Global, failing: usize, line: &str, is_read: bool) -> bool {
+    let (status, told, read) = replay_fails(alloc, failing);
+    status == 5 && told.as_slice() == line.as_bytes() && read == is_read
+}
+
+#[test]
+fn replay_reads_the_versions_in_order_and_then_the_schedule(rt: HostRuntime) -> Result<(), Fail> {
+    let alloc = rt.alloc();
+    let rows = [
+        (0, "version 0 data: ReadFailed\n", false),
+        (1, "version 0 exclusions: ReadFailed\n", false),
+        (2, "version 1 data: ReadFailed\n", false),
+        (3, "version 1 exclusions: ReadFailed\n", false),
+        (4, "schedule: ReadFailed\n", true),
+    ];
+    for (failing, line, is_read) in rows {
+        want(is_replay_failure(alloc, failing, line, is_read), line)?;
+    }
+    Ok(())
 }

@@ -1,7 +1,8 @@
 //! The line and the status of each refusal, as docs/FORMATS.md has them.
 use super::want;
 use crate::jobs::ending::refuse;
-use crate::jobs::faults::{JobFault, TextFault, VersionFault};
+use crate::jobs::faults::{JobFault, ReplayFault, TextFault, VersionFault};
+use np_chain::{Break, BreakKind};
 use np_code_points::input::InputFault;
 use np_code_points::watched::Watched;
 use np_tables::TableFault;
@@ -221,6 +222,64 @@ fn faults_of_texts_have_lines(rt: HostRuntime) -> Result<(), Fail> {
             ),
             (JobFault::from(TextFault::Memory), 6, "out of memory\n"),
             (JobFault::Memory, 6, "out of memory\n"),
+        ],
+    )
+}
+
+fn schedule(fault: InputFault) -> JobFault {
+    JobFault::from(ReplayFault::Schedule { fault })
+}
+
+#[test]
+fn faults_of_schedules_have_lines(rt: HostRuntime) -> Result<(), Fail> {
+    are_told(
+        rt.alloc(),
+        &[
+            (schedule(InputFault::TooLarge), 4, "schedule: TooLarge\n"),
+            (
+                schedule(InputFault::ReadFailed),
+                5,
+                "schedule: ReadFailed\n",
+            ),
+            (schedule(InputFault::Memory), 6, "out of memory\n"),
+            (
+                JobFault::from(ReplayFault::Line { line: 16777217 }),
+                4,
+                "schedule: line 16777217\n",
+            ),
+            (JobFault::from(ReplayFault::Memory), 6, "out of memory\n"),
+        ],
+    )
+}
+
+#[test]
+fn versions_that_are_no_chain_have_lines(rt: HostRuntime) -> Result<(), Fail> {
+    let (lost, composed) = (BreakKind::Lost, BreakKind::NewComposite);
+    are_told(
+        rt.alloc(),
+        &[
+            (
+                JobFault::from(ReplayFault::NotExtension {
+                    version: 1,
+                    brk: Break {
+                        kind: lost,
+                        code: 0x1DFA,
+                    },
+                }),
+                1,
+                "not an extension: version 1 Lost 1DFA\n",
+            ),
+            (
+                JobFault::from(ReplayFault::NotExtension {
+                    version: 12,
+                    brk: Break {
+                        kind: composed,
+                        code: 0xC1,
+                    },
+                }),
+                1,
+                "not an extension: version 12 NewComposite 00C1\n",
+            ),
         ],
     )
 }
