@@ -18,6 +18,7 @@ import signal
 import subprocess
 import sys
 import tempfile
+from concurrent.futures import ThreadPoolExecutor
 from pathlib import Path
 
 # Nothing is written into the tree.
@@ -25,7 +26,7 @@ sys.dont_write_bytecode = True
 
 from cases import DEVICE, text
 from harness import ROOT, Tally, run, shown
-from versions import V1, write_all
+from versions import V1, V2, write_all
 
 FIXTURES = ROOT / "fixtures"
 MEMORY = (6, b"", b"out of memory\n")
@@ -45,8 +46,11 @@ def runs():
     yield ["compare", "--form", "nfkc", *V1], text("FB01") + b"\n" + text("0066 0069")
     yield ["key", "--form", "nfc", *V1], text("0041 16D67")
     yield ["audit", *V1, *V1], b""
-    yield ["audit", "v2/UnicodeData.txt", "v2/CompositionExclusions.txt", *V1], b""
+    yield ["audit", *V2, *V1], b""
     yield ["key", "--form", "nfc", "nothing", V1[1]], b""
+    for script, form in (("exchange", "nfc"), ("restart", "nfc"), ("forged", "nfkd")):
+        yield ["replay", "--form", form, f"scripts/{script}.schedule", *V1, *V2], b""
+    yield ["replay", "--form", "nfc", "scripts/exchange.schedule", *V2, *V1], b""
     yield ["nothing"], b""
     yield [], b""
 
@@ -59,18 +63,25 @@ class Refusals:
         self.folder = folder
         self.counts = folder.parent / "counts"
 
-    def run(self, program, words, stdin, asked=None):
-        """The run with these calls refused."""
-        calls = {"LD_PRELOAD": str(self.shim), "REFUSE_COUNTS": str(self.counts)}
-        if asked:
-            calls["REFUSE"] = asked
-        self.counts.unlink(missing_ok=True)
-        return run(program, words, stdin, self.folder, env={**os.environ, **calls})
+    def run(self, program, words, stdin, **calls):
+        """The run with the shim loaded, which is told what to do by these variables."""
+        return run(program, words, stdin, self.folder, env={**os.environ, "LD_PRELOAD": str(self.shim), **calls})
 
     def counted(self, program, words, stdin):
         """The run with nothing refused, and its numbers of allocations, reads and writes."""
-        got = self.run(program, words, stdin)
+        self.counts.unlink(missing_ok=True)
+        got = self.run(program, words, stdin, REFUSE_COUNTS=str(self.counts))
         return got, dict(zip(("memory", "read", "write"), map(int, self.counts.read_text().split())))
+
+    def ends(self, program, words, stdin, asked):
+        """The ends of a run for each thing that is refused, with that."""
+        with ThreadPoolExecutor(os.cpu_count()) as pool:
+            return list(zip(asked, pool.map(lambda it: self.run(program, words, stdin, REFUSE=it), asked)))
+
+
+def each(kind, count, way=""):
+    """What is asked of the shim to refuse each call of a kind."""
+    return [f"{kind}:{place}:{way}" for place in range(1, count + 1)]
 
 
 def told(got):
@@ -107,23 +118,22 @@ def is_write_failed(got, ample):
 
 def check_memory(tally, refusals, program, words, stdin, ample, count):
     """Each allocation refused in turn."""
-    ends = [refusals.run(program, words, stdin, f"memory:{place}") for place in range(1, count + 1)]
-    wrong = [(place, got) for place, got in enumerate(ends, 1) if got != ample and not is_want(got, ample, words)]
+    ends = refusals.ends(program, words, stdin, each("memory", count))
+    wrong = [end for end in ends if end[1] != ample and not is_want(end[1], ample, words)]
     tally.check(f"{' '.join(words)} with each of {count} allocations refused", not wrong, f"got {shown(wrong[:1])}")
-    return MEMORY in ends
+    return any(got == MEMORY for _, got in ends)
 
 
 def check_devices(tally, refusals, program, words, stdin, ample, counts):
     """Each read and each write failed in turn, in each way; and all of one byte."""
     for kind, ways in WAYS.items():
         for way in ways:
-            ends = [refusals.run(program, words, stdin, f"{kind}:{place}:{way}")
-                    for place in range(1, counts[kind] + 1)]
-            wrong = [(place, got) for place, got in enumerate(ends, 1)
+            ends = refusals.ends(program, words, stdin, each(kind, counts[kind], way))
+            wrong = [(asked, got) for asked, got in ends
                      if not (is_read_failed(got, ample, words) if kind == "read" else is_write_failed(got, ample))]
             tally.check(f"{' '.join(words)} with each of {counts[kind]} {kind}s failed by {way}", not wrong,
                         f"got {shown(wrong[:1])}")
-        got = refusals.run(program, words, stdin, f"{kind}:0:one")
+        got = refusals.run(program, words, stdin, REFUSE=f"{kind}:0:one")
         tally.same(f"{' '.join(words)} with {kind}s of one byte", got, ample)
 
 
@@ -135,8 +145,8 @@ def check_tests(tally, refusals, program):
     for name in names:
         got, counts = refusals.counted(program, [name], b"")
         tally.check(f"{name} with memory", got[0] == 0, f"got {shown(got)}")
-        ends = [refusals.run(program, [name], b"", f"memory:{place}") for place in range(1, counts["memory"] + 1)]
-        wrong = [(place, got) for place, got in enumerate(ends, 1) if got[0] != 0 and not wants_memory(got)]
+        ends = refusals.ends(program, [name], b"", each("memory", counts["memory"]))
+        wrong = [(asked, got) for asked, got in ends if got[0] != 0 and not wants_memory(got)]
         tally.check(f"{name} with each of {counts['memory']} allocations refused", not wrong, f"got {shown(wrong[:1])}")
 
 
