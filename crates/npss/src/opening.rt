@@ -1,6 +1,6 @@
 //! The files of a job are opened before any of them is read.
 
-ghost use Rattle.std.specs.Prelude.{◌≡◌, ◌*◌, length, vec_len, IfOk, IfErr};
+ghost use Rattle.std.specs.Prelude.{◌≡◌, ◌+◌, ◌*◌, length, vec_len, IfOk, IfErr, OnOk};
 ghost use Rattle.npss.specs.Streams.{stream_of};
 ghost use Rattle.npss.specs.Usage.{IsUnopened};
 
@@ -64,6 +64,25 @@ where
     Ok((data, exclusions))
 }
 
+/// Puts an opened file behind others.
+///
+/// # Errors
+///
+/// The status that was told, where memory ran out.
+fn keep_file<F: Drop, E: Write>(
+    alloc: Global,
+    error: &mut Watched<E>,
+    files: &mut Vec<Watched<F>>,
+    file: Watched<F>,
+) -> Result<(), u8>
+    ensures { OnOk result (vec_len files.new ≡ vec_len files.old + 1) }
+{
+    match files.push(file) {
+        Ok(()) => Ok(()),
+        Err(_) => Err(refuse(alloc, error, &JobFault::Memory)),
+    }
+}
+
 /// Opens the files of versions in their order, two for each.
 ///
 /// # Errors
@@ -82,9 +101,8 @@ where
     let mut files = Vec::new(alloc);
     for version in versions {
         let (data, exclusions) = open_version(rt, alloc, error, version)?;
-        if files.push(data).is_err() || files.push(exclusions).is_err() {
-            return Err(refuse(alloc, error, &JobFault::Memory));
-        }
+        keep_file(alloc, error, &mut files, data)?;
+        keep_file(alloc, error, &mut files, exclusions)?;
     }
     Ok(files)
 }
