@@ -14,10 +14,10 @@ use std::alloc::Global;
 use std::test::Fail;
 
 /// Whether the replay over these files, under NFC, ends with this status, output and line.
-fn ends(
+fn ends<'a>(
     alloc: Global,
-    schedule: &str,
-    files: &mut [Watched<&[u8]>],
+    schedule: &'a str,
+    files: &mut [Watched<&'a [u8]>],
     status: u8,
     output: &str,
     error: &str,
