@@ -5,8 +5,9 @@ Each command of the program runs over the fixtures once for each of its allocati
 refused; then once for each of its reads and writes, in each way in which these fail. Each run has to end
 as it does with ample memory and devices that work, or in the status and the line of the refusal, with
 nothing on standard output, or, where a write failed, a prefix of the output. The unit tests of a crate,
-as `rt ci` leaves them in out/NAME_tests, run once for each of their allocations too: a test ends well, or
-tells that memory ran out, and nothing else.
+as `rt ci` leaves them in out/NAME_tests, run once for each of their allocations too. Those named `a_refused_..`
+look at what a refused call left, and call again: each of them passes, or tells that memory ran out. Any other
+test may fail by what it wants to see, but not die.
 
 tests/refusals/refuse.c is what refuses; it is compiled with `cc`. Where there is none that is told, and
 nothing is tried. Ends in a line 'N passed, M failed'.
@@ -146,14 +147,16 @@ def check_tests(tally, refusals, program):
         got, counts = refusals.counted(program, [name], b"")
         tally.check(f"{name} with memory", got[0] == 0, f"got {shown(got)}")
         ends = refusals.ends(program, [name], b"", each("memory", counts["memory"]))
-        wrong = [(asked, got) for asked, got in ends if got[0] != 0 and not wants_memory(got)]
+        wrong = [(asked, got) for asked, got in ends if not is_test_end(name, got)]
         tally.check(f"{name} with each of {counts['memory']} allocations refused", not wrong, f"got {shown(wrong[:1])}")
 
 
-def wants_memory(got):
-    """Whether a test failed because memory ran out, by its result or by an assertion that names it."""
+def is_test_end(name, got):
+    """Whether a test ends well with an allocation refused."""
     status, out, err = got
-    return status in (FAILED, -signal.SIGABRT) and any(word in out + err for word in (b"emory", b"AllocError"))
+    if "::a_refused_" in name:
+        return status == 0 or (status == FAILED and any(word in out + err for word in (b"emory", b"AllocError")))
+    return status in (0, FAILED, -signal.SIGABRT)
 
 
 def main():
