@@ -7,8 +7,8 @@ Takes some minutes, prints its figures, and ends in a line 'N passed, M failed'.
 """
 
 import hashlib
-import os
 import random
+import re
 import subprocess
 import sys
 import tempfile
@@ -31,19 +31,30 @@ SAME = 1.0
 
 
 def peak(program, words, give, take):
-    """A run that is given pieces and whose output is taken: its status, its line, its seconds and its peak in MiB."""
+    """A run that is given pieces and whose output is taken: its status, its line, its seconds and its peak in MiB, looked
+    at whenever output comes."""
     began = time.monotonic()
     with tempfile.TemporaryFile() as told:
         run = subprocess.Popen([program, *words], stdin=subprocess.PIPE, stdout=subprocess.PIPE, stderr=told, cwd=ROOT)
         feeder = threading.Thread(target=feed, args=(run.stdin, give))
         feeder.start()
+        most = 0.0
         while piece := run.stdout.read(1 << 20):
+            most = max(most, resident(run.pid))
             take(piece)
-        _, status, used = os.wait4(run.pid, 0)
-        run.returncode = os.waitstatus_to_exitcode(status)
+        run.wait()
         feeder.join()
         told.seek(0)
-        return run.returncode, told.read(), time.monotonic() - began, used.ru_maxrss / 1024
+        return run.returncode, told.read(), time.monotonic() - began, most
+
+
+def resident(number):
+    """The peak so far of a process, in MiB: its own, since what `wait` tells counts the memory of this one too."""
+    try:
+        found = re.search(r"^VmHWM:\s*(\d+)", Path(f"/proc/{number}/status").read_text(encoding="ascii"), re.MULTILINE)
+    except FileNotFoundError:
+        return 0.0
+    return int(found[1]) / 1024 if found else 0.0
 
 
 def feed(pipe, pieces):
