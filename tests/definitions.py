@@ -2,11 +2,13 @@
 """Checks the reading list of docs/DEFINITIONS.md and each path that the documents name.
 
 docs/DEFINITIONS.md has a table: a promise, the files that a reader must believe for it in reading order,
-and their lines. Each file has to exist, what it imports has to stand before it in its row, each file of
-definitions that a contract may cite has to be there, none of them may import one of `inside`, and the
-lines have to be right. `--write` puts all of this right but for the imports of `inside`: it adds to a row
-what its files import, and at the end a row for the files of a crate that no row has. In the table 'Where is' of docs/ARCHITECTURE.md each name has to stand in the file before it.
-Prints the sums, also without imports and blank lines, and ends in a line 'N passed, M failed'.
+how many lines of statements they have, which are neither blank nor comment nor import, and how many lines
+in all. Each file has to exist, what it imports has to stand before it in its row, each file of definitions
+that a contract may cite has to be there, none of them may import one of `inside`, and the numbers have to
+be right; the table's last row has those of all files, each counted once. `--write` puts all of this right
+but for the imports of `inside`: it adds to a row what its files import, and at the end a row for the files
+of a crate that no row has. In the table 'Where is' of docs/ARCHITECTURE.md each name has to stand in the
+file before it. Prints the sums, and ends in a line 'N passed, M failed'.
 """
 
 import re
@@ -28,8 +30,9 @@ ROOTS = ("", "crates")
 ENDINGS = ("", ".antt", ".rt")
 # The folders that each crate may have, of which documents speak in general.
 OF_A_CRATE = ("src", "specs", "proofs", "must-fail", "out")
-# A line of a table's cells that names how much is to be read.
-ROW = re.compile(r"^\| (?P<promise>[^|]+) \| (?P<files>[^|]*`[^|]*) \| (?P<lines>[\d,]+) \|$")
+# A row of the table: a promise, its files, and how much is to be read; and the last one, for all files.
+ROW = re.compile(r"^\| (?P<promise>[^|]+) \| (?P<files>[^|]*`[^|]*) \| (?P<said>[\d,]+) \| (?P<lines>[\d,]+) \|$")
+WHOLE = re.compile(r"^\| all of it \| each file once \| (?P<said>[\d,]+) \| (?P<lines>[\d,]+) \|$")
 
 
 def documents():
@@ -79,17 +82,33 @@ def lines_of(path):
 
 
 def said_in(path):
-    """How many lines say something: neither blank nor an import."""
+    """How many lines are statements: neither blank nor a comment nor an import."""
     lines = path.read_text(encoding="utf-8").splitlines()
-    return sum(1 for line in lines if line.strip() and not re.match(r"(pub )?use ", line))
+    return sum(1 for line in lines if line.strip() and not re.match(r"\s*--|(pub )?use ", line))
+
+
+def sums(paths):
+    """The lines of statements of these files, and their lines."""
+    return sum(map(said_in, paths)), sum(map(lines_of, paths))
+
+
+def numbers(match):
+    """The two numbers of a row, as written."""
+    return tuple(int(match[name].replace(",", "")) for name in ("said", "lines"))
 
 
 def reading_list(text):
-    """The rows of the table: promise, files as written, lines as written."""
+    """The rows of the table: promise, files as written, the two numbers as written."""
     for line in text.splitlines():
         match = ROW.match(line)
         if match:
-            yield match["promise"], CODE.findall(match["files"]), int(match["lines"].replace(",", ""))
+            yield match["promise"], CODE.findall(match["files"]), numbers(match)
+
+
+def whole(text):
+    """The two numbers of the last row, as written, or None."""
+    matches = list(filter(None, map(WHOLE.match, text.splitlines())))
+    return numbers(matches[0]) if len(matches) == 1 else None
 
 
 def in_order(paths, before=()):
@@ -106,7 +125,8 @@ def row_of(promise, paths):
     """The row of a promise, for which these files are to be believed."""
     ordered = in_order(paths)
     names = ", ".join(f"`{path.relative_to(ROOT / 'crates').with_suffix('')}`" for path in ordered)
-    return f"| {promise} | {names} | {sum(map(lines_of, ordered)):,} |"
+    said, lines = sums(ordered)
+    return f"| {promise} | {names} | {said:,} | {lines:,} |"
 
 
 def put_right(text):
@@ -118,19 +138,31 @@ def put_right(text):
             paths = [path for path in map(found, CODE.findall(match["files"])) if path]
             listed.update(in_order(paths))
             line, last = row_of(match["promise"], paths), len(lines) + 1
+        if WHOLE.match(line):
+            continue
         lines.append(line)
     others = sorted(believed() - listed)
     for crate in sorted({path.parts[-3] for path in others}):
         rest = [path for path in others if path.parts[-3] == crate]
         lines.insert(last, row_of(f"what else the contracts of {crate} say", rest))
         last += 1
+    said, all_lines = sums(believed())
+    lines.insert(last, f"| all of it | each file once | {said:,} | {all_lines:,} |")
     return "".join(line + "\n" for line in lines)
+
+
+def check_sums(tally, what, files, written):
+    """The numbers of a row are those of its files. Prints them."""
+    said, lines = sums(files)
+    tally.check(f"{what}: sums", (said, lines) == written,
+                f"{said} and {lines}, and not {written}: run tests/definitions.py --write")
+    print(f"{what}: {len(files)} files, {said} lines of statements, {lines} lines in all")
 
 
 def check_reading_list(tally):
     """Each file is there, none imports what is inside, all are listed, and the lines are right."""
-    listed = set()
-    for promise, names, lines in reading_list(DEFINITIONS.read_text(encoding="utf-8")):
+    listed, text = set(), DEFINITIONS.read_text(encoding="utf-8")
+    for promise, names, written in reading_list(text):
         files = [found(name) for name in names]
         for name, path in zip(names, files):
             tally.check(f"{promise}: {name}", path is not None and path.is_file(), "no such file")
@@ -140,18 +172,14 @@ def check_reading_list(tally):
             missing = [here.relative_to(ROOT) for here in imported(path) if here not in files[:at]]
             tally.check(f"{promise}: what {path.relative_to(ROOT)} imports stands before it", not missing,
                         f"not so: {', '.join(map(str, missing))}")
-        count = sum(map(lines_of, files))
-        tally.check(f"{promise}: lines", count == lines,
-                    f"{count} and not {lines}: run tests/definitions.py --write")
-        print(f"{promise}: {len(files)} files, {count} lines, of which {sum(map(said_in, files))} say something")
+        check_sums(tally, promise, files, written)
     for path in sorted(believed()):
         name = path.relative_to(ROOT)
         tally.check(f"{name} is in docs/DEFINITIONS.md", path in listed, "it is not")
         tally.check(f"{name} imports nothing of inside", not INSIDE.search(path.read_text(encoding="utf-8")),
                     "it does")
     tally.check("there is a reading list", listed, "the table has no row")
-    print(f"all: {len(listed)} files, {sum(map(lines_of, listed))} lines, "
-          f"of which {sum(map(said_in, listed))} say something")
+    check_sums(tally, "all of it, each file once", listed, whole(text))
 
 
 def check_paths(tally):

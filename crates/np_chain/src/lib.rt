@@ -1,9 +1,9 @@
 //! Versions in a row: what a later version keeps of an earlier one.
 #![tactic(auto)]
 
-pub mod audits;
-pub mod breaks;
-pub mod chains;
+mod audits;
+mod breaks;
+mod chains;
 pub mod laws;
 #[cfg(test)]
 mod tests;

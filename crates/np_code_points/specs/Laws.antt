@@ -1,11 +1,8 @@
 -- The laws of lines and words: each relation holds of one list, and of no other.
-use Rattle.std.specs.Prelude.{◌≡◌, ℕ, List}
+use Rattle.std.specs.Prelude.{ℕ, List}
 use Rattle.np_code_points.specs.Lines.{AreLines, DropsReturn, AreDataLines}
+use Rattle.np_code_points.specs.One.{HasOne}
 use Rattle.np_code_points.specs.Words.{Dividers, AreWords}
-
--- this is so of one value, and of no other
-abbrev pub HasOne : {X : Type 0} → (X → Type 0) → Type 0
-HasOne {X} P = (x : X) × P x × ((y : X) → P y → y ≡ x)
 
 -- bytes are cut into lines in one way
 abbrev pub HasOneCut : Type 0

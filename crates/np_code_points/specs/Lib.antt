@@ -4,6 +4,7 @@ pub mod Hangul
 pub mod Inputs
 pub mod Laws
 pub mod Lines
+pub mod One
 pub mod Steps
 pub mod Text
 pub mod Watched

@@ -1,6 +1,6 @@
 -- What a clause reads of a `Watched` device.
 use Rattle.std.specs.Prelude.{ℕ, Bool, true, false, List, [], ◌∷◌, Ok, Err, Result, eqb}
-use Rattle.np_code_points.specs.declared.watched.Watched.{Watched}
+use Rattle.np_code_points.specs.declared.channels.watched.Watched.{Watched}
 
 -- the device inside
 abbrev pub device_of : {D : Type 0} → Watched D → D

@@ -1,23 +1,23 @@
-//! Code points and texts, and readers and writers that keep in mind whether they failed.
+//! Code points and texts, and in rooms of their own readers and writers that keep in mind whether
+//! they failed (`channels`), and what tests use (`testing`).
 #![tactic(auto)]
 
 ghost use Rattle.std.specs.Prelude.{◌≡◌};
 
+mod channels;
 pub mod codes;
-pub mod devices;
-pub mod fixtures;
-pub mod forms;
+mod forms;
 pub mod hangul;
-pub mod input;
 pub mod laws;
 pub mod lines;
-pub mod output;
+mod testing;
 pub mod text;
-pub mod watched;
 pub mod words;
 
+pub use channels::{input, output, watched};
 pub use forms::Form;
 use std::alloc::{AllocError, AllocFailed};
+pub use testing::{devices, fixtures};
 use thiserror::Error;
 
 /// A growth was refused: memory ran out.

@@ -53,4 +53,4 @@ module _ (v : VersionData) (sound : IsSound v) where
 
 pub one_form : OneForm
 one_form v form xs sound =
-    record { list = normal_form v form xs; is = IsNormalForm-normal_form v sound form xs; only = λ ys h. normal_form_is v sound form xs ys h }
+    (normal_form v form xs, IsNormalForm-normal_form v sound form xs, λ ys h. normal_form_is v sound form xs ys h)

@@ -20,4 +20,4 @@ module _ (ccc : ℕ → ℕ) where
 
 pub one_ordered_form : OneOrderedForm
 one_ordered_form ccc xs =
-    record { list = canonical_order ccc xs; is = IsOrderedForm-canonical_order ccc xs; only = λ ys h. ordered_form-canonical_order ccc xs ys h }
+    (canonical_order ccc xs, IsOrderedForm-canonical_order ccc xs, λ ys h. ordered_form-canonical_order ccc xs ys h)

@@ -1,31 +1,21 @@
 -- The laws of the forms, over the definitions alone.
-use Rattle.std.specs.Prelude.{◌≡◌, ℕ, true, List, ◌↔◌}
+use Rattle.std.specs.Prelude.{◌≡◌, ℕ, true, List, [], ◌↔◌}
 use Rattle.np_tables.specs.Composites.{IsCompositeOf}
 use Rattle.np_tables.specs.Conditions.{IsSound}
-use Rattle.np_tables.specs.Examples.{without_rows, with_rows, with_hangul}
 use Rattle.np_code_points.specs.declared.forms.Form.{Form}
 use Rattle.np_code_points.specs.Forms.{is_compat}
+use Rattle.np_code_points.specs.One.{HasOne}
 use Rattle.np_forms.specs.Forms.{IsDecomposed, IsNormalForm, IsEquivalent}
 use Rattle.np_forms.specs.Order.{IsOrderedForm}
 use Rattle.np_tables.specs.Versions.{VersionData, class_of, has_hangul}
 
 -- a list has exactly one ordered form, whatever gives the combining classes
-pub record HasOneOrderedForm (ccc : ℕ → ℕ) (xs : List ℕ) : Type 0 where
-  pub list : List ℕ
-  pub is : IsOrderedForm ccc xs list
-  pub only : (ys : List ℕ) → IsOrderedForm ccc xs ys → ys ≡ list
-
 abbrev pub OneOrderedForm : Type 0
-OneOrderedForm = (ccc : ℕ → ℕ) (xs : List ℕ) → HasOneOrderedForm ccc xs
+OneOrderedForm = (ccc : ℕ → ℕ) (xs : List ℕ) → HasOne (IsOrderedForm ccc xs)
 
 -- a text has exactly one normal form
-pub record HasOneForm (v : VersionData) (form : Form) (xs : List ℕ) : Type 0 where
-  pub list : List ℕ
-  pub is : IsNormalForm v form xs list
-  pub only : (ys : List ℕ) → IsNormalForm v form xs ys → ys ≡ list
-
 abbrev pub OneForm : Type 0
-OneForm = (v : VersionData) (form : Form) (xs : List ℕ) → IsSound v → HasOneForm v form xs
+OneForm = (v : VersionData) (form : Form) (xs : List ℕ) → IsSound v → HasOne (IsNormalForm v form xs)
 
 -- a normal form is its own normal form, and keeps the ordered full decomposition
 abbrev pub Idempotence : Type 0
@@ -39,9 +29,10 @@ SameForms =
     (v : VersionData) (form : Form) (xs ys ks ls : List ℕ) → IsSound v → IsNormalForm v form xs ks → IsNormalForm v form ys ls →
     (ks ≡ ls) ↔ IsEquivalent v (is_compat form) xs ys
 
--- the premise of these laws on a version is met: by the version of empty files; by one of three rows, a starter, a
--- non-starter of class 230 and their primary composite; and by one with the Hangul arithmetic on
+-- the premise of these laws on a version is met: by the version of empty files; by one with a starter, a non-starter of
+-- class 230 and their primary composite; and by one with the Hangul arithmetic on
 abbrev pub PremisesAreMet : Type 0
 PremisesAreMet =
-    IsSound without_rows × IsSound with_rows × (class_of with_rows 0x30A ≡ 230) × IsCompositeOf with_rows 0x41 0x30A 0xC5 ×
-    IsSound with_hangul × (has_hangul with_hangul ≡ true)
+    IsSound (record { entries = []; exclusions = [] })
+    × ((v : VersionData) × IsSound v × (class_of v 0x30A ≡ 230) × IsCompositeOf v 0x41 0x30A 0xC5)
+    × ((v : VersionData) × IsSound v × (has_hangul v ≡ true))

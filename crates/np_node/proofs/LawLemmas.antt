@@ -41,10 +41,10 @@ exchange vs i j v w form string key in_v in_w has_v has_w is =
       | inl before ↦
           let ext : Extends w v = v_stands.earlier j w (omega (arith, before)) in_w.here in
           let other = one_form w form (chars string) w_stands.sound in
-          let moved = (stability w v form (chars string) other.list w_stands.sound v_stands.sound ext has_w other.is).0 in
-          let same : other.list ≡ chars key =
-          normal_form_is v v_stands.sound form (chars string) other.list moved ∙ sym (normal_form_is v v_stands.sound form (chars string) (chars key) is.normal) in
-          record { utf8 = is.utf8; normal = subst (λ l. IsNormalForm w form (chars string) l) same other.is }
+          let moved = (stability w v form (chars string) other.0 w_stands.sound v_stands.sound ext has_w other.1).0 in
+          let same : other.0 ≡ chars key =
+          normal_form_is v v_stands.sound form (chars string) other.0 moved ∙ sym (normal_form_is v v_stands.sound form (chars string) (chars key) is.normal) in
+          record { utf8 = is.utf8; normal = subst (λ l. IsNormalForm w form (chars string) l) same other.1 }
       | inr behind ↦
           let ext : Extends v w = v_stands.later j w behind in_w.here in
           record { utf8 = is.utf8; normal = (stability v w form (chars string) (chars key) v_stands.sound w_stands.sound ext has_v is.normal).0 }

@@ -2,21 +2,21 @@
 //! them as an image.
 #![tactic(auto)]
 
-pub mod accepting;
+mod accepting;
 mod entries;
-pub mod faults;
+mod faults;
 mod fields;
 mod images;
 pub mod laws;
 mod messages;
-pub mod nodes;
+mod nodes;
 mod restoring;
 mod strings;
-pub mod taking;
+mod taking;
 #[cfg(test)]
 mod tests;
 
 pub use accepting::Accepted;
 pub use faults::{ImageFault, NodeFault};
-pub use nodes::Node;
+pub use nodes::{MOST_ROOM, Node};
 pub use taking::Taken;

@@ -11,10 +11,10 @@
 #![tactic(auto)]
 
 mod ambiguity;
-pub mod characters;
+mod characters;
 mod counts;
 mod depths;
-pub mod faults;
+mod faults;
 mod first_faults;
 mod fulls;
 mod hangul_faults;
@@ -26,19 +26,20 @@ mod page_hints;
 mod page_runs;
 mod page_settled;
 mod page_slots;
-pub mod page_table;
+mod page_table;
 mod page_words;
 mod pairs;
 mod row_index;
 mod row_pages;
 mod row_places;
-pub mod row_table;
+mod row_table;
 mod syllables;
-pub mod tables;
+mod tables;
 #[cfg(test)]
 mod tests;
-pub mod version;
+mod version;
 
+pub use characters::CharacterData;
 pub use faults::TableFault;
 pub use page_table::PageTable;
 pub use row_table::RowTable;

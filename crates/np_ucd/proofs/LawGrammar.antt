@@ -3,7 +3,7 @@ use Rattle.std.proofs.Common.{◌≡◌, ℕ, ◌≤◌, ◌<◌, ◌⊎◌, zer
 use Rattle.std.specs.List.{AllPairs}
 use Rattle.np_code_points.specs.Lines.{Numbered}
 use Rattle.np_code_points.specs.inside.LineCuts.{data_lines_in}
-use Rattle.np_code_points.specs.Laws.{HasOne}
+use Rattle.np_code_points.specs.One.{HasOne}
 use Rattle.np_code_points.proofs.DataLineGrammar.{are_data_lines, only_data_lines}
 use Rattle.np_code_points.proofs.Elements.{same_end, same_place}
 use Rattle.np_ucd.specs.Exclusions.{IsFirstBadLine, AreReadable}

@@ -1,6 +1,6 @@
 -- The laws of the grammar: what its relations determine.
 use Rattle.std.specs.Prelude.{◌≡◌, ℕ, List, ◌⊎◌}
-use Rattle.np_code_points.specs.Laws.{HasOne}
+use Rattle.np_code_points.specs.One.{HasOne}
 use Rattle.np_ucd.specs.AllRows.{AreAllRows}
 use Rattle.np_ucd.specs.Exclusions.{SaysText, ListsNothing, ListsSpan, IsFirstBadLine, AreReadable}
 use Rattle.np_ucd.specs.Fields.{AreFields}

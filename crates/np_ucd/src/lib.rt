@@ -2,14 +2,14 @@
 #![tactic(auto)]
 
 mod data;
-pub mod exclusions;
-pub mod faults;
+mod exclusions;
+mod faults;
 mod fields;
 pub mod laws;
 mod mappings;
 mod readers;
 mod records;
-pub mod rows;
+mod rows;
 mod spans;
 
 pub use exclusions::Exclusions;

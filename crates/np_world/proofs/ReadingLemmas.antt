@@ -3,7 +3,7 @@ use Rattle.std.proofs.Common.{◌≡◌, ℕ, ◌+◌, ◌<◌, ◌≤◌, ◌�
 use Rattle.std.specs.List.{AllZip}
 use Rattle.std.proofs.lemmas.Bool.{cases_lt}
 use Rattle.std.proofs.lemmas.List.{append_assoc, length-append}
-use Rattle.np_code_points.specs.Laws.{HasOne}
+use Rattle.np_code_points.specs.One.{HasOne}
 use Rattle.np_code_points.specs.Lines.{Numbered, Walk, AreDataLines, AreLines}
 use Rattle.np_code_points.specs.inside.LineCuts.{data_lines_in, lines_of}
 use Rattle.np_code_points.proofs.DataLineGrammar.{are_data_lines, only_data_lines}

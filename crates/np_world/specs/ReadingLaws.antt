@@ -1,6 +1,6 @@
 -- The law of reading: bytes say one schedule, or one line of them is the first that can't stand.
 use Rattle.std.specs.Prelude.{◌≡◌, ℕ, List, ◌⊎◌}
-use Rattle.np_code_points.specs.Laws.{HasOne}
+use Rattle.np_code_points.specs.One.{HasOne}
 use Rattle.np_world.specs.Events.{ScheduleData}
 use Rattle.np_world.specs.ScheduleFiles.{IsFaultyLine, SaysSchedule}
 

@@ -5,7 +5,7 @@ use Rattle.std.proofs.lemmas.List.Elements.{All-cons, All-nil}
 use Rattle.std.proofs.lemmas.Result.{IfErr-weaker, IfOk-weaker}
 use Rattle.std.specs.List.{AllZip}
 use Rattle.np_code_points.specs.Watched.{device_of, has_failed}
-use Rattle.np_code_points.specs.declared.watched.Watched.{Watched}
+use Rattle.np_code_points.specs.declared.channels.watched.Watched.{Watched}
 use Rattle.np_tables.specs.TableFaults.{IsFaultless}
 use Rattle.np_tables.specs.Versions.{VersionData}
 use Rattle.np_tables.specs.declared.faults.TableFault.TheVariants.{Memory}

@@ -1,7 +1,7 @@
 -- From what a job made, or why it was refused, to its end.
 use Rattle.std.proofs.Common.{◌≡◌, ℕ, inl, inr, Bool, List, Option, Result, Ok, Err, IfOk, IfErr, string_bytes, ap}
 use Rattle.np_code_points.specs.Watched.{device_of, has_failed}
-use Rattle.np_code_points.specs.declared.watched.Watched.{Watched}
+use Rattle.np_code_points.specs.declared.channels.watched.Watched.{Watched}
 use Rattle.npss.specs.Ends.{Ends}
 use Rattle.npss.specs.Streams.{Stream, stream_of}
 use Rattle.npss.specs.inside.Endings.{EndsWith}

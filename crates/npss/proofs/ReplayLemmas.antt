@@ -14,7 +14,7 @@ use Rattle.np_world.specs.World.{MachineNode}
 use Rattle.np_world.specs.declared.members.Member.{Member}
 use Rattle.np_world.specs.declared.report.Report.{Report}
 use Rattle.np_code_points.specs.Watched.{device_of}
-use Rattle.np_code_points.specs.declared.watched.Watched.{Watched}
+use Rattle.np_code_points.specs.declared.channels.watched.Watched.{Watched}
 use Rattle.npss.specs.Chains.{VersionReaders, WereBuilt}
 use Rattle.npss.specs.Replays.{IsNodeTold, IsReplay, LacksReport, RefusesReplay}
 use Rattle.npss.specs.Streams.{stream_of}

@@ -1,7 +1,7 @@
 -- How a job reads the files of a chain's versions, two for each.
 use Rattle.std.specs.Prelude.{◌≡◌, ℕ, List, [], ◌∷◌, ◌++◌, length, All, Option}
 use Rattle.std.specs.List.{AllZip}
-use Rattle.np_code_points.specs.declared.watched.Watched.{Watched}
+use Rattle.np_code_points.specs.declared.channels.watched.Watched.{Watched}
 use Rattle.np_tables.specs.Versions.{VersionData}
 use Rattle.npss.specs.Streams.{Stream, IsUntouched, stream_of}
 use Rattle.npss.specs.Versions.{WasBuilt, IsVersionFault}

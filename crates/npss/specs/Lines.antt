@@ -4,8 +4,8 @@ use Rattle.std.specs.Fmt.{decimal}
 use Rattle.np_chain.specs.Breaks.{name_of}
 use Rattle.np_chain.specs.declared.breaks.Break.{Break}
 use Rattle.np_code_points.specs.Codes.{code_digits}
-use Rattle.np_code_points.specs.declared.input.InputFault.{InputFault}
-use Rattle.np_code_points.specs.declared.input.InputFault.TheVariants as Inputs
+use Rattle.np_code_points.specs.declared.channels.input.InputFault.{InputFault}
+use Rattle.np_code_points.specs.declared.channels.input.InputFault.TheVariants as Inputs
 use Rattle.np_tables.specs.TableFaults as tables
 use Rattle.np_tables.specs.declared.faults.TableFault.{TableFault}
 use Rattle.np_ucd.specs.Faults as files

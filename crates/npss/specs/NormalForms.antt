@@ -1,7 +1,7 @@
 -- How `normalize` ends.
 use Rattle.std.specs.Prelude.{◌≡◌, ◌⊎◌, ◌↔◌, ℕ, true, false, Ok, Err}
 use Rattle.np_code_points.specs.declared.forms.Form.{Form}
-use Rattle.np_code_points.specs.declared.input.InputFault.TheVariants as Inputs
+use Rattle.np_code_points.specs.declared.channels.input.InputFault.TheVariants as Inputs
 use Rattle.np_forms.specs.RunEnds.{Ends as RunDevices, RunEnds}
 use Rattle.np_forms.specs.declared.runs.RunFault.{RunFault}
 use Rattle.np_forms.specs.declared.runs.RunFault.TheVariants as Runs

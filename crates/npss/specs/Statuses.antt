@@ -1,7 +1,7 @@
 -- The statuses of refusals: 1 for versions that don't extend one another, 3 for a code point that is not assigned, 4 for bad data, text or schedule, 5 for a device that failed, 6 for want of memory.
 use Rattle.std.specs.Prelude.{ℕ}
-use Rattle.np_code_points.specs.declared.input.InputFault.{InputFault}
-use Rattle.np_code_points.specs.declared.input.InputFault.TheVariants as Inputs
+use Rattle.np_code_points.specs.declared.channels.input.InputFault.{InputFault}
+use Rattle.np_code_points.specs.declared.channels.input.InputFault.TheVariants as Inputs
 use Rattle.np_tables.specs.declared.faults.TableFault.{TableFault}
 use Rattle.np_tables.specs.declared.faults.TableFault.TheVariants as Tables
 use Rattle.np_ucd.specs.declared.faults.UcdFault.{UcdFault}
@@ -16,27 +16,13 @@ use Rattle.npss.specs.declared.jobs.faults.VersionFault.{VersionFault}
 use Rattle.npss.specs.declared.jobs.faults.VersionFault.TheVariants as Versions
 
 abbrev pub file_status : UcdFault → ℕ
-file_status (Files.FieldCount line) = 4
-file_status (Files.BadCode line) = 4
-file_status (Files.OutOfOrder line) = 4
-file_status (Files.BadCategory line) = 4
-file_status (Files.BadClass line) = 4
-file_status (Files.BadMapping line) = 4
-file_status (Files.RangeOpen line) = 4
-file_status (Files.RangeLone line) = 4
-file_status (Files.RangeDiffers line) = 4
-file_status (Files.RangeMaps line) = 4
-file_status Files.TooLarge = 4
 file_status Files.ReadFailed = 5
 file_status Files.Memory = 6
+file_status other = 4
 
 abbrev pub tables_status : TableFault → ℕ
-tables_status (Tables.MapsToUnassigned code) = 4
-tables_status (Tables.TooDeep code) = 4
-tables_status (Tables.TooLong code) = 4
-tables_status (Tables.AmbiguousPair code) = 4
-tables_status (Tables.HangulWrong code) = 4
 tables_status Tables.Memory = 6
+tables_status other = 4
 
 abbrev pub input_status : InputFault → ℕ
 input_status Inputs.TooLarge = 4

@@ -3,9 +3,9 @@ use Rattle.std.specs.Prelude.{◌≡◌, ℕ, ◌≤◌, ◌↔◌, Bool, true, 
 use Rattle.std.specs.Io.KnownBytes.{Appends, Consumes}
 use Rattle.np_code_points.specs.Inputs.{IsReadWhole, IsReadPastLimit}
 use Rattle.np_code_points.specs.Watched.{device_of, has_failed}
-use Rattle.np_code_points.specs.declared.input.InputFault.{InputFault}
-use Rattle.np_code_points.specs.declared.input.InputFault.TheVariants.{TooLarge, ReadFailed}
-use Rattle.np_code_points.specs.declared.watched.Watched.{Watched}
+use Rattle.np_code_points.specs.declared.channels.input.InputFault.{InputFault}
+use Rattle.np_code_points.specs.declared.channels.input.InputFault.TheVariants.{TooLarge, ReadFailed}
+use Rattle.np_code_points.specs.declared.channels.watched.Watched.{Watched}
 
 -- a device: the bytes that it tells before a job and after it, those left of a reader or held by a writer, and whether it failed
 pub record Stream : Type 0 where

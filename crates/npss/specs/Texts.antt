@@ -1,7 +1,7 @@
 -- How a job on one text is refused, and what it makes.
 use Rattle.std.specs.Prelude.{◌≡◌, ◌⊎◌, ℕ, Bool, List, IsUtf8}
 use Rattle.np_code_points.specs.Text.{IsLongestValidPrefix}
-use Rattle.np_code_points.specs.declared.input.InputFault.{InputFault}
+use Rattle.np_code_points.specs.declared.channels.input.InputFault.{InputFault}
 use Rattle.np_tables.specs.Versions.{VersionData}
 use Rattle.npss.specs.Streams.{Stream, IsUntouched, WasRead, WasNotRead}
 use Rattle.npss.specs.Versions.{WasBuilt, IsVersionFault}

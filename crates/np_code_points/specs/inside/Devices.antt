@@ -1,9 +1,9 @@
 -- What a clause reads of the devices for tests.
 use Rattle.std.specs.Prelude.{◌≡◌, ℕ, ◌+◌, ◌<◌, ◌==◌, List, Option, Some, None, if◌then◌else◌}
-use Rattle.np_code_points.specs.declared.devices.Endless.{Endless}
-use Rattle.np_code_points.specs.declared.devices.Failure.{Failure}
-use Rattle.np_code_points.specs.declared.devices.Trickle.{Trickle}
-use Rattle.np_code_points.specs.declared.devices.Room.{Room}
+use Rattle.np_code_points.specs.declared.testing.devices.Endless.{Endless}
+use Rattle.np_code_points.specs.declared.testing.devices.Failure.{Failure}
+use Rattle.np_code_points.specs.declared.testing.devices.Trickle.{Trickle}
+use Rattle.np_code_points.specs.declared.testing.devices.Room.{Room}
 
 -- the bytes that a reader has left
 abbrev pub bytes_left : Trickle → List ℕ

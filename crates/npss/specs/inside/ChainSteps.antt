@@ -1,7 +1,7 @@
 -- Files that are read two by two.
 use Rattle.std.specs.Prelude.{◌≡◌, ℕ, ◌*◌, ◌-◌, ◌<◌, false, List, [], ◌∷◌, ◌++◌, length, Option}
 use Rattle.np_code_points.specs.Watched.{device_of, has_failed}
-use Rattle.np_code_points.specs.declared.watched.Watched.{Watched}
+use Rattle.np_code_points.specs.declared.channels.watched.Watched.{Watched}
 use Rattle.np_tables.specs.Versions.{VersionData}
 use Rattle.npss.specs.Chains.{WereBuilt, readers_of}
 use Rattle.npss.specs.Streams.{Stream, stream_of}

@@ -1,6 +1,6 @@
 use Rattle.std.proofs.Common.{rules}
 use Rattle.np_code_points.proofs.Bytes.{appended_more}
-use Rattle.np_code_points.proofs.output.write_whole.Goals as goal
+use Rattle.np_code_points.proofs.channels.output.write_whole.Goals as goal
 
 pub loop-at-preserved : goal.loop-at-preserved
 loop-at-preserved g c =

@@ -3,7 +3,7 @@ ghost use Rattle.std.specs.Prelude.{◌≡◌, ◌↔◌, ◌≤◌, ◌<◌, �
 ghost use Rattle.std.specs.Io.KnownBytes.{Appends, Keeps};
 ghost use Rattle.np_code_points.specs.Watched.{device_of, has_failed};
 
-use crate::watched::Watched;
+use super::watched::Watched;
 use std::io::Write;
 use thiserror::Error;
 

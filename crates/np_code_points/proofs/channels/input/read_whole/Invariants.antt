@@ -1,7 +1,7 @@
 use Rattle.std.proofs.Common.{◌≡◌, ◌≤◌, ◌-◌, false, vec_len}
 use Rattle.std.specs.Io.KnownBytes.{Consumes}
 use Rattle.np_code_points.specs.Watched.{device_of, has_failed}
-use Rattle.np_code_points.proofs.input.read_whole.Given as goal
+use Rattle.np_code_points.proofs.channels.input.read_whole.Given as goal
 
 abbrev pub invariant-loop-bytes : goal.invariant-loop-bytes
 invariant-loop-bytes g l = record {

@@ -3,8 +3,8 @@ ghost use Rattle.std.specs.Prelude.{◌≡◌, ◌+◌, ◌<◌, ◌≤◌, ◌+
 ghost use Rattle.std.specs.Io.KnownBytes.{Consumes, Keeps, IsAtEnd};
 ghost use Rattle.np_code_points.specs.Watched.{device_of, has_failed};
 
+use super::watched::Watched;
 use crate::Memory;
-use crate::watched::Watched;
 use std::alloc::Global;
 use std::io::Read;
 use thiserror::Error;

@@ -1,6 +1,6 @@
 use Rattle.std.proofs.Common.{ap}
 use Rattle.np_code_points.proofs.Bytes.{on_err, taken_more}
-use Rattle.np_code_points.proofs.input.read_whole.Goals as goal
+use Rattle.np_code_points.proofs.channels.input.read_whole.Goals as goal
 
 pub returns-in_err-read_piece-clause-taken : goal.returns-in_err-read_piece-clause-taken
 returns-in_err-read_piece-clause-taken g c =
