@@ -4,6 +4,7 @@ pub mod ChunkLemmas
 pub mod ComposeLemmas
 pub mod ComposerLemmas
 pub mod CopyLemmas
+pub mod DecomposedLemmas
 pub mod FormLemmas
 pub mod HeldLemmas
 pub mod InPlaceLemmas
@@ -21,5 +22,6 @@ pub mod SortLemmas
 pub mod StreamLemmas
 pub mod StreamSafeLemmas
 pub mod SyllableLemmas
+pub mod SyllableTextLemmas
 pub mod TextLemmas
 pub mod WrittenLemmas

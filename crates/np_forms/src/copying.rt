@@ -4,6 +4,7 @@ ghost use Rattle.std.specs.Prelude.{◌≡◌, ◌<◌, ◌++◌, length, chars,
 ghost use Rattle.np_forms.specs.inside.Copies.{BeginsAtBoundary, IsCopied, IsParted, LosesLast};
 ghost use Rattle.np_forms.specs.inside.NormalForms.{normal_form};
 
+use crate::decomposed_texts::write_decomposed;
 use crate::decomposing::decompose_into;
 use crate::held::settle;
 use crate::written::append_chars;
@@ -36,7 +37,11 @@ fn split_staying<'a, T: NormTable>(table: &T, form: Form, text: &'a str) -> (&'a
 }
 
 /// Cuts before the first code point behind the first one at which the form is known to part.
-fn split_segment<'a, T: NormTable>(table: &T, form: Form, text: &'a str) -> (&'a str, &'a str)
+pub(crate) fn split_segment<'a, T: NormTable>(
+    table: &T,
+    form: Form,
+    text: &'a str,
+) -> (&'a str, &'a str)
     ensures parted { IsParted (T.model table.now) form text.now result.0.now result.1.now }
     ensures some { 0 < length text.now → 0 < length result.0.now }
 {
@@ -104,7 +109,7 @@ pub(crate) fn split_tail<'a, T: NormTable>(
 }
 
 /// Appends the form of a segment. The list is room that is used again.
-fn write_segment<T: NormTable>(
+pub(crate) fn write_segment<T: NormTable>(
     alloc: Global,
     table: &T,
     form: Form,
@@ -130,6 +135,9 @@ pub(crate) fn write_form<T: NormTable>(
 ) -> Result<(), Memory>
     ensures { OnOk result (string_bytes out.new ≡ string_bytes out.old ++ encode_utf8_all (normal_form (T.model table.now) form (chars text.now))) }
 {
+    if !form.composes() {
+        return write_decomposed(alloc, table, form, text, out);
+    }
     let mut list = Vec::new(alloc);
     let mut rest = text;
     'segments: while !rest.is_empty() {

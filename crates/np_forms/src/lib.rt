@@ -16,6 +16,7 @@
 mod assigned;
 mod composing;
 mod copying;
+mod decomposed_texts;
 mod decomposing;
 mod equivalence;
 mod forms;
@@ -26,6 +27,7 @@ mod runs;
 mod stabilized;
 mod stream_safety;
 mod streams;
+mod syllable_texts;
 #[cfg(test)]
 mod tests;
 mod written;

@@ -1,5 +1,5 @@
 -- Fronts of a text that are their own full decomposition, in canonical order.
-use Rattle.std.proofs.Common.{◌≡◌, ℕ, suc, ◌+◌, ◌-◌, ◌<◌, ◌≤◌, Bool, true, false, List, [], ◌∷◌, ◌++◌, length, get_or, chars, IsUtf8, encode_utf8, encode_utf8_all, sym, ap, subst, ◌∙◌, arith, inl, inr, append_assoc, append-nil, length-append}
+use Rattle.std.proofs.Common.{◌≡◌, ℕ, suc, ◌-◌, ◌<◌, ◌≤◌, Bool, true, false, List, [], ◌∷◌, ◌++◌, length, get_or, chars, IsUtf8, encode_utf8, encode_utf8_all, sym, ap, subst, ◌∙◌, arith, inl, inr, append_assoc, append-nil, length-append}
 use Rattle.std.specs.List.{All}
 use Rattle.std.proofs.lemmas.List.Elements.{All-append, All-push, All-weaker}
 use Rattle.std.proofs.lemmas.Str.{chars_past_char, encodes-append, IsUtf8-past_char}
@@ -8,7 +8,6 @@ use Rattle.np_tables.specs.Boundaries.{Stays}
 use Rattle.np_tables.specs.Mappings.{IsFullDecomposition}
 use Rattle.np_tables.specs.Versions.{VersionData, class_of}
 use Rattle.np_tables.specs.declared.page_words.Word.{Word}
-use Rattle.np_tables.specs.inside.FullDecompositions.{table_full}
 use Rattle.np_tables.specs.inside.FullLists.{FullLists, of_kind}
 use Rattle.np_tables.specs.inside.Hints.{AreSettled, IsOwn, Rises}
 use Rattle.np_tables.specs.inside.Pages.{word_place}

@@ -1,5 +1,5 @@
 -- Texts cut where their forms part.
-use Rattle.std.specs.Prelude.{◌≡◌, ℕ, ⊤, List, [], ◌∷◌, ◌++◌, ◌⊎◌, chars, encode_utf8, encode_utf8_all, IsUtf8}
+use Rattle.std.specs.Prelude.{◌≡◌, ℕ, ◌≤◌, ⊤, List, [], ◌∷◌, ◌++◌, ◌⊎◌, length, chars, encode_utf8, encode_utf8_all, IsUtf8}
 use Rattle.np_code_points.specs.declared.forms.Form.{Form}
 use Rattle.np_forms.specs.inside.NormalForms.{normal_form}
 use Rattle.np_tables.specs.Boundaries.{IsBoundary}
@@ -25,3 +25,9 @@ pub record IsParted (v : VersionData) (form : Form) (text front back : List ℕ)
 -- a text without its last character; the empty one stays
 abbrev pub LosesLast : List ℕ → List ℕ → Type 0
 LosesLast text rest = ((text ≡ []) × (rest ≡ [])) ⊎ ((c : ℕ) × (text ≡ rest ++ encode_utf8 c))
+
+-- some front of a text was written in the form, and its rest is left
+pub record GoesOn (v : VersionData) (form : Form) (text rest old new : List ℕ) : Type 0 where
+  pub utf8 : IsUtf8 rest
+  pub shorter : length rest ≤ length text
+  pub written : new ++ encode_utf8_all (normal_form v form (chars rest)) ≡ old ++ encode_utf8_all (normal_form v form (chars text))

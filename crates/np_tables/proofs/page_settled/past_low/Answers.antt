@@ -1,4 +1,4 @@
-use Rattle.std.proofs.Common.{◌≡◌, ◌<◌, ◌≤◌, ℕ, true, length, take, subst}
+use Rattle.std.proofs.Common.{◌≡◌, ◌<◌, ◌≤◌, true, length, take, subst}
 use Rattle.std.specs.Str.{IsAscii}
 use Rattle.np_tables.proofs.PageRunLemmas.{IsPast-ascii, IsPast-none, past_boundary}
 use Rattle.np_tables.proofs.page_settled.past_low.Goals as goal

@@ -1,0 +1,145 @@
+-- Forms that only decompose, written front by front.
+use Rattle.std.proofs.Common.{◌≡◌, ℕ, suc, ◌<◌, Bool, true, false, List, [], ◌∷◌, ◌++◌, length, take, drop, chars, IsUtf8, encode_utf8, encode_utf8_all, flat_map, refl, sym, ap, subst, ◌∙◌, arith, inl, inr, append_assoc, append-nil, length-append}
+use Rattle.std.specs.List.{All}
+use Rattle.std.proofs.lemmas.Bool.{and_right}
+use Rattle.std.proofs.lemmas.Grind.{flat_map-append}
+use Rattle.std.proofs.lemmas.List.{drop_at, take_at, nil_from_length}
+use Rattle.std.proofs.lemmas.Str.{chars-nil, chars_past_char, encodes-append}
+use Rattle.np_code_points.specs.Forms.{is_compat, composes}
+use Rattle.np_code_points.specs.Hangul.{is_syllable}
+use Rattle.np_code_points.specs.declared.forms.Form.{Form}
+use Rattle.np_forms.specs.Order.{is_ordered}
+use Rattle.np_forms.specs.inside.CanonicalOrder.{canonical_order}
+use Rattle.np_forms.specs.inside.Copies.{GoesOn, IsParted}
+use Rattle.np_forms.specs.inside.NormalForms.{decomposed, ended, normal_form}
+use Rattle.np_forms.proofs.OrderLemmas.{canonical_order-behind, canonical_order-ordered, is_ordered-canonical_order, is_ordered-cons, is_ordered-nil, is_ordered-one, is_ordered-parts, is_reorderable-false, not_reorderable_rising, not_reorderable_starter}
+use Rattle.np_forms.proofs.SyllableLemmas.{lent_none, lent_some}
+use Rattle.np_tables.proofs.MappingLemmas.{full_decomposition-flat_map}
+use Rattle.np_tables.specs.Conditions.{IsSound}
+use Rattle.np_tables.specs.Versions.{VersionData, class_of, has_hangul}
+use Rattle.np_tables.specs.inside.FullDecompositions.{full_of, table_full}
+use Rattle.np_tables.specs.inside.Hints.{AreSettled, IsOwn, Rises}
+
+-- ---- classes that rise
+
+module _ (ccc : ℕ → ℕ) where
+  -- they hold no reorderable pair
+  pub is_ordered-rises : (last : ℕ) (xs : List ℕ) → Rises ccc last xs → is_ordered ccc xs ≡ true
+  is_ordered-rises last [] h = is_ordered-nil ccc
+  is_ordered-rises last (a ∷ []) h = is_ordered-one ccc a
+  is_ordered-rises last (a ∷ b ∷ cs) h =
+      is_ordered-cons ccc a b cs (elim h.1.0 [ inl starter ↦ not_reorderable_starter ccc a b (omega arith) | inr rises ↦ not_reorderable_rising ccc a b rises ])
+      (is_ordered-rises (ccc a) (b ∷ cs) h.1)
+
+  rises-behind : (a : ℕ) (cs : List ℕ) → is_ordered ccc (a ∷ cs) ≡ true → Rises ccc (ccc a) cs
+  rises-behind a [] h = tt
+  rises-behind a (b ∷ cs) h =
+      let parts = is_ordered-parts ccc a b cs h in
+      (elim (is_reorderable-false ccc a b parts.0) [ inl low ↦ inl (omega arith) | inr up ↦ inr up ], rises-behind b cs parts.1)
+
+  rises-ordered : (cs : List ℕ) → is_ordered ccc cs ≡ true → Rises ccc 0 cs
+  rises-ordered [] h = tt
+  rises-ordered (a ∷ cs) h = (inr (omega arith), rises-behind a cs h)
+
+  -- nothing moves into a list
+  abbrev pub IsClosed : List ℕ → Type 0
+  IsClosed xs = (later : List ℕ) → Rises ccc 0 later → Rises ccc 0 (xs ++ later)
+
+  pub closed-nil : IsClosed []
+  closed-nil later rises = rises
+
+  pub closed-starter : (s : ℕ) (xs : List ℕ) → ccc s ≡ 0 → IsClosed xs → IsClosed (s ∷ xs)
+  closed-starter s xs starter closed later rises = (inl starter, subst (λ k. Rises ccc k (xs ++ later)) (sym starter) (closed later rises))
+
+  canonical_order-closed : (xs later : List ℕ) → IsClosed xs → canonical_order ccc (xs ++ later) ≡ xs ++ canonical_order ccc later
+  canonical_order-closed xs later closed =
+      let made = canonical_order ccc later in
+      let ordered = is_ordered-canonical_order ccc later in
+      canonical_order-behind ccc xs later made (sym (canonical_order-ordered ccc made ordered))
+      ∙ canonical_order-ordered ccc (xs ++ made) (is_ordered-rises 0 (xs ++ made) (closed made (rises-ordered made ordered)))
+
+-- ---- the form of what is decomposed already
+
+module _ (v : VersionData) (sound : IsSound v) (form : Form) (plain : composes form ≡ false) where
+  pub form-decomposes : (xs : List ℕ) → normal_form v form xs ≡ canonical_order (class_of v) (flat_map (full_of v (is_compat form)) xs)
+  unfolding normal_form decomposed
+  form-decomposes xs = ap (λ b. ended v b (canonical_order (class_of v) (flat_map (full_of v (is_compat form)) xs))) plain
+
+  -- what the front decomposes to stands before everything else
+  pub form-closed : (xs made ys : List ℕ) → flat_map (full_of v (is_compat form)) xs ≡ made → IsClosed (class_of v) made → normal_form v form (xs ++ ys) ≡ made ++ normal_form v form ys
+  form-closed xs made ys full closed =
+      let f = full_of v (is_compat form) in
+      form-decomposes (xs ++ ys) ∙ ap (canonical_order (class_of v)) (flat_map-append f xs ys ∙ ap (λ l. l ++ flat_map f ys) full)
+      ∙ canonical_order-closed (class_of v) made (flat_map f ys) closed ∙ ap (λ l. made ++ l) (sym (form-decomposes ys))
+
+  full_of-own : (c : ℕ) → IsOwn v (is_compat form) c → full_of v (is_compat form) c ≡ c ∷ []
+  full_of-own c own =
+      elim own [
+        | inl is ↦ sym (append-nil (full_of v (is_compat form) c)) ∙ sym (full_decomposition-flat_map v (is_compat form) sound.shallow (c ∷ []) (c ∷ []) is)
+        | inr none ↦ lent_none v (is_compat form) sound c [] (sym none.0) refl (and_right (has_hangul v) (is_syllable c) none.1)
+      ]
+
+  flat_map-own : (xs : List ℕ) → All (IsOwn v (is_compat form)) xs → flat_map (full_of v (is_compat form)) xs ≡ xs
+  flat_map-own [] all = refl
+  flat_map-own (c ∷ cs) all =
+      let f = full_of v (is_compat form) in
+      ap (λ l. l ++ flat_map f cs) (full_of-own c (all 0 c (omega arith))) ∙ ap (λ l. c ∷ l) (flat_map-own cs (λ k d lt. all (suc k) d (omega arith)))
+
+  pub goes-settled : (text : List ℕ) (n : ℕ) (compat : Bool) → compat ≡ is_compat form → AreSettled v compat text n → (settled behind old new : List ℕ) → settled ≡ take n text → behind ≡ drop n text → new ≡ old ++ settled →
+      GoesOn v form text behind old new
+  goes-settled text n compat kind are settled behind old new of_front of_back push =
+      let h = subst (λ b. AreSettled v b text n) kind are in
+      let front = encode_utf8_all h.front in
+      let back : behind ≡ h.back = of_back ∙ ap (drop n) h.split ∙ drop_at front h.back n (sym h.place) in
+      let copied : settled ≡ front = of_front ∙ ap (take n) h.split ∙ take_at front h.back n (sym h.place) in
+      let later = normal_form v form (chars behind) in
+      record {
+        utf8 = subst IsUtf8 (sym back) h.utf8;
+        shorter = omega (arith, ap length h.split, length-append front h.back, ap length back);
+        written = ap (λ l. l ++ encode_utf8_all later) (push ∙ ap (λ l. old ++ l) copied) ∙ append_assoc old front (encode_utf8_all later)
+            ∙ ap (λ l. old ++ l) (sym (encodes-append h.front later)
+            ∙ ap encode_utf8_all (sym (form-closed h.front h.front (chars behind) (flat_map-own h.front h.own) h.ordered) ∙ ap (normal_form v form) (ap (λ l. h.front ++ chars l) back ∙ sym h.text)));
+      }
+
+  -- ---- one code point
+
+  -- its segment
+  pub one-of : (segment rest : List ℕ) (c : ℕ) → IsUtf8 segment → segment ≡ encode_utf8 c ++ rest → length rest ≡ 0 → chars segment ≡ c ∷ []
+  one-of segment rest c utf8 begins none = chars_past_char segment rest c utf8 begins ∙ ap (λ l. c ∷ l) (ap chars (nil_from_length rest none) ∙ chars-nil)
+
+  pub one-own : (segment rest : List ℕ) (c : ℕ) → IsUtf8 segment → segment ≡ encode_utf8 c ++ rest → length rest ≡ 0 → (lent : List ℕ) → lent ≡ table_full v (is_compat form) c → length lent ≡ 0 → is_syllable c ≡ false →
+      segment ≡ encode_utf8_all (normal_form v form (chars segment))
+  one-own segment rest c utf8 begins none lent is empty single =
+      let own : full_of v (is_compat form) c ≡ c ∷ [] = lent_none v (is_compat form) sound c lent is empty (and_right (has_hangul v) (is_syllable c) single) in
+      begins ∙ ap (λ l. encode_utf8 c ++ l) (nil_from_length rest none)
+      ∙ ap encode_utf8_all (sym (canonical_order-ordered (class_of v) (c ∷ []) (is_ordered-one (class_of v) c)) ∙ ap (λ l. canonical_order (class_of v) (l ++ [])) (sym own)
+      ∙ sym (form-decomposes (c ∷ [])) ∙ ap (normal_form v form) (sym (one-of segment rest c utf8 begins none)))
+
+  pub one-lent : (segment rest : List ℕ) (c : ℕ) → IsUtf8 segment → segment ≡ encode_utf8 c ++ rest → length rest ≡ 0 → (lent : List ℕ) → lent ≡ table_full v (is_compat form) c → 0 < length lent → is_ordered (class_of v) lent ≡ true →
+      lent ≡ normal_form v form (chars segment)
+  one-lent segment rest c utf8 begins none lent is some ordered =
+      sym (canonical_order-ordered (class_of v) lent ordered)
+      ∙ ap (canonical_order (class_of v)) (lent_some v (is_compat form) c lent is some ∙ sym (append-nil (full_of v (is_compat form) c)))
+      ∙ sym (form-decomposes (c ∷ [])) ∙ ap (normal_form v form) (sym (one-of segment rest c utf8 begins none))
+
+-- ---- one front behind another
+
+module _ (v : VersionData) (form : Form) where
+  pub goes-start : (text old : List ℕ) → IsUtf8 text → GoesOn v form text text old old
+  goes-start text old utf8 = record { utf8 = utf8; shorter = omega arith; written = refl }
+
+  pub goes-both : (text middle rest old between new : List ℕ) → GoesOn v form text middle old between → GoesOn v form middle rest between new → GoesOn v form text rest old new
+  goes-both text middle rest old between new one two =
+      record { utf8 = two.utf8; shorter = (let a = one.shorter in let b = two.shorter in omega arith); written = two.written ∙ one.written }
+
+  -- a segment
+  pub goes-parted : (text segment later old new : List ℕ) → IsParted v form text segment later → new ≡ old ++ encode_utf8_all (normal_form v form (chars segment)) → GoesOn v form text later old new
+  goes-parted text segment later old new parted push =
+      let made = normal_form v form (chars segment) in
+      let after = normal_form v form (chars later) in
+      record {
+        utf8 = parted.utf8;
+        shorter = omega (arith, ap length parted.parts, length-append segment later);
+        written = ap (λ l. l ++ encode_utf8_all after) push ∙ append_assoc old (encode_utf8_all made) (encode_utf8_all after)
+            ∙ ap (λ l. old ++ l) (sym (encodes-append made after) ∙ ap encode_utf8_all (sym parted.parted));
+      }

@@ -1,0 +1,128 @@
+//! The form of a whole text that only decomposes: what stands in it already is copied, syllables
+//! and single code points are written at once, and only a segment of several code points that is
+//! not in canonical order goes through a list.
+ghost use Rattle.std.specs.Prelude.{◌≡◌, ◌<◌, ◌++◌, length, true, false, chars, string_bytes, encode_utf8_all, IfOk, OnOk};
+ghost use Rattle.np_code_points.specs.Forms.{composes};
+ghost use Rattle.np_forms.specs.Order.{is_ordered};
+ghost use Rattle.np_forms.specs.inside.Copies.{GoesOn};
+ghost use Rattle.np_forms.specs.inside.NormalForms.{normal_form};
+ghost use Rattle.np_tables.specs.Versions.{class_of};
+
+use crate::copying::{split_segment, write_segment};
+use crate::syllable_texts::write_syllables;
+use crate::written::append_chars;
+use np_code_points::hangul::is_syllable;
+use np_code_points::{Form, Memory};
+use np_tables::NormTable;
+use std::alloc::Global;
+
+/// Copies the longest front that is known to stand decomposed and in canonical order, and answers
+/// what follows it.
+fn copy_settled<'a, T: NormTable>(
+    table: &T,
+    form: Form,
+    text: &'a str,
+    out: &mut String,
+) -> Result<&'a str, Memory>
+    requires { composes form ≡ false }
+    ensures { IfOk result (λ rest. GoesOn (T.model table.now) form text.now rest.now (string_bytes out.old) (string_bytes out.new)) }
+{
+    table.meets_conditions();
+    let (settled, behind) = text.split_at(table.settled(form.compat(), text));
+    out.push_str(settled)?;
+    Ok(behind)
+}
+
+/// Whether a list is in canonical order.
+fn are_ordered<T: NormTable>(table: &T, list: &[char]) -> bool
+    ensures { result ≡ true → is_ordered (class_of (T.model table.now)) list.now ≡ true }
+{
+    let mut last = 0;
+    for c in list {
+        let class = table.class(*c);
+        if class != 0 && class < last {
+            return false;
+        }
+        last = class;
+    }
+    true
+}
+
+/// Appends the form of a segment of one code point, and tells whether it was that.
+fn write_one<T: NormTable>(
+    table: &T,
+    form: Form,
+    segment: &str,
+    out: &mut String,
+) -> Result<bool, Memory>
+    requires { composes form ≡ false }
+    ensures one { IfOk result (λ one. one ≡ true → string_bytes out.new ≡ string_bytes out.old ++ encode_utf8_all (normal_form (T.model table.now) form (chars segment.now))) }
+    ensures other { IfOk result (λ one. one ≡ false → string_bytes out.new ≡ string_bytes out.old) }
+{
+    table.meets_conditions();
+    let mut iter = segment.chars();
+    let Some(c) = iter.next() else {
+        return Ok(false);
+    };
+    if !iter.as_str().is_empty() {
+        return Ok(false);
+    }
+    let full = table.full(c, form.compat());
+    if full.is_empty() {
+        if is_syllable(c as u32) {
+            return Ok(false);
+        }
+        out.push_str(segment)?;
+        return Ok(true);
+    }
+    if !are_ordered(table, full) {
+        return Ok(false);
+    }
+    append_chars(out, full)?;
+    Ok(true)
+}
+
+/// Appends the form of some front of a text that isn't empty, and answers what follows it.
+fn write_front<'a, T: NormTable>(
+    alloc: Global,
+    table: &T,
+    form: Form,
+    text: &'a str,
+    list: &mut Vec<char>,
+    out: &mut String,
+) -> Result<&'a str, Memory>
+    requires form { composes form ≡ false }
+    requires some { 0 < length text.now }
+    ensures goes { IfOk result (λ rest. GoesOn (T.model table.now) form text.now rest.now (string_bytes out.old) (string_bytes out.new)) }
+    ensures shorter { IfOk result (λ rest. length rest.now < length text.now) }
+{
+    let behind = copy_settled(table, form, text, out)?;
+    let after = write_syllables(table, form, behind, out)?;
+    if after.is_empty() || after.len() < behind.len() {
+        return Ok(after);
+    }
+    let (segment, later) = split_segment(table, form, after);
+    if !write_one(table, form, segment, out)? {
+        write_segment(alloc, table, form, segment, list, out)?;
+    }
+    Ok(later)
+}
+
+/// Appends the form of a text, where the form only decomposes.
+pub(crate) fn write_decomposed<T: NormTable>(
+    alloc: Global,
+    table: &T,
+    form: Form,
+    text: &str,
+    out: &mut String,
+) -> Result<(), Memory>
+    requires { composes form ≡ false }
+    ensures { OnOk result (string_bytes out.new ≡ string_bytes out.old ++ encode_utf8_all (normal_form (T.model table.now) form (chars text.now))) }
+{
+    let mut list = Vec::new(alloc);
+    let mut rest = text;
+    'fronts: while !rest.is_empty() {
+        rest = write_front(alloc, table, form, rest, &mut list, out)?;
+    }
+    Ok(())
+}

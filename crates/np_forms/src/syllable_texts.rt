@@ -1,0 +1,125 @@
+//! Hangul syllables, decomposed by arithmetic straight into UTF-8 (The Unicode Standard, section
+//! 3.12).
+ghost use Rattle.std.specs.Prelude.{◌≡◌, ◌+◌, ◌/◌, ◌%◌, ◌<◌, ◌≤◌, ◌++◌, ◌∷◌, [], true, false, string_bytes, encode_utf8_all, IfOk, OnOk};
+ghost use Rattle.np_code_points.specs.Forms.{composes};
+ghost use Rattle.np_code_points.specs.Hangul.{is_syllable as in_block};
+ghost use Rattle.np_forms.specs.inside.Copies.{GoesOn};
+ghost use Rattle.np_forms.specs.inside.Syllables.{syllable_parts};
+
+use np_code_points::hangul::{L_BASE, S_BASE, T_BASE, T_COUNT, V_BASE, V_COUNT, is_syllable};
+use np_code_points::{Form, Memory};
+use np_tables::NormTable;
+use std::str::from_utf8_unchecked;
+
+/// The first of the three bytes of a character.
+#[inline(always)]
+fn lead_byte(code: u32) -> u8
+    requires { code < 0xD800 }
+    ensures { result ≡ 224 + code / 4096 }
+{
+    (0xE0 + code / 4096) as u8
+}
+
+/// The second of the three bytes of a character.
+#[inline(always)]
+fn middle_byte(code: u32) -> u8
+    ensures { result ≡ 128 + code / 64 % 64 }
+{
+    (0x80 + code / 64 % 64) as u8
+}
+
+/// The last of the three bytes of a character.
+#[inline(always)]
+fn last_byte(code: u32) -> u8
+    ensures { result ≡ 128 + code % 64 }
+{
+    (0x80 + code % 64) as u8
+}
+
+/// Appends two characters of three bytes each.
+#[inline(always)]
+fn push_two(out: &mut String, a: u32, b: u32) -> Result<(), Memory>
+    requires first { (0x800 ≤ a) × (a < 0xD800) }
+    requires second { (0x800 ≤ b) × (b < 0xD800) }
+    ensures { OnOk result (string_bytes out.new ≡ string_bytes out.old ++ encode_utf8_all (a ∷ b ∷ [])) }
+{
+    let bytes = [
+        lead_byte(a),
+        middle_byte(a),
+        last_byte(a),
+        lead_byte(b),
+        middle_byte(b),
+        last_byte(b),
+    ];
+    out.push_str(unsafe { from_utf8_unchecked(&bytes) })?;
+    Ok(())
+}
+
+/// Appends three characters of three bytes each.
+#[inline(always)]
+fn push_three(out: &mut String, a: u32, b: u32, c: u32) -> Result<(), Memory>
+    requires first { (0x800 ≤ a) × (a < 0xD800) }
+    requires second { (0x800 ≤ b) × (b < 0xD800) }
+    requires third { (0x800 ≤ c) × (c < 0xD800) }
+    ensures { OnOk result (string_bytes out.new ≡ string_bytes out.old ++ encode_utf8_all (a ∷ b ∷ c ∷ [])) }
+{
+    let bytes = [
+        lead_byte(a),
+        middle_byte(a),
+        last_byte(a),
+        lead_byte(b),
+        middle_byte(b),
+        last_byte(b),
+        lead_byte(c),
+        middle_byte(c),
+        last_byte(c),
+    ];
+    out.push_str(unsafe { from_utf8_unchecked(&bytes) })?;
+    Ok(())
+}
+
+/// Appends the full decomposition of a syllable.
+#[inline(always)]
+fn push_syllable(out: &mut String, c: char) -> Result<(), Memory>
+    requires { in_block c ≡ true }
+    ensures { OnOk result (string_bytes out.new ≡ string_bytes out.old ++ encode_utf8_all (syllable_parts c)) }
+{
+    let index = c as u32 - S_BASE;
+    let block = index / T_COUNT;
+    let trailing = index % T_COUNT;
+    let lead = L_BASE + block / V_COUNT;
+    let vowel = V_BASE + block % V_COUNT;
+    if trailing == 0 {
+        push_two(out, lead, vowel)
+    } else {
+        push_three(out, lead, vowel, T_BASE + trailing)
+    }
+}
+
+/// Appends the full decompositions of the syllables at the front of a text, where the arithmetic is
+/// on, and answers what follows them.
+pub(crate) fn write_syllables<'a, T: NormTable>(
+    table: &T,
+    form: Form,
+    text: &'a str,
+    out: &mut String,
+) -> Result<&'a str, Memory>
+    requires { composes form ≡ false }
+    ensures { IfOk result (λ rest. GoesOn (T.model table.now) form text.now rest.now (string_bytes out.old) (string_bytes out.new)) }
+{
+    table.meets_conditions();
+    if !table.hangul() {
+        return Ok(text);
+    }
+    let mut iter = text.chars();
+    'scan: loop {
+        let here = iter.as_str();
+        let Some(c) = iter.next() else {
+            return Ok(here);
+        };
+        if !is_syllable(c as u32) {
+            return Ok(here);
+        }
+        push_syllable(out, c)?;
+    }
+}
