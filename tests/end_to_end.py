@@ -3,9 +3,9 @@
 
 The program runs in a folder of its own that holds copies of the fixtures, the files of versions.py and
 the schedules of replays.py. Each case of cases.py and replays.py is one run, judged by its status,
-standard output and standard error. Then come devices that fail, closed streams (streams.py), bounds on memory (limits.py), the
-launcher (launching.py too), the README's commands, and whether every file is as it was. Ends in a line
-'N passed, M failed'.
+standard output and standard error. Then come devices that fail, closed streams (streams.py), devices that go away
+(vanishing.py), bounds on memory (limits.py), the launcher (launching.py too), the README's commands, and whether
+every file is as it was. Ends in a line 'N passed, M failed'.
 """
 
 import hashlib
@@ -26,6 +26,7 @@ from launching import check_building
 from limits import check_memory, check_usage
 from replays import replay, replay_cases, schedules
 from streams import check_closed, check_words
+from vanishing import check_vanishing
 from versions import V1, write_all
 
 FIXTURES = ROOT / "fixtures"
@@ -121,6 +122,7 @@ def main():
         check_usage(tally, program, folder)
         check_closed(tally, program, folder)
         check_words(tally, program, folder)
+        check_vanishing(tally, program, folder)
         check_memory(tally, program, folder)
         if len(sys.argv) > 2:
             check_launcher(tally, Path(sys.argv[2]).resolve(), folder)

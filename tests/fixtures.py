@@ -5,8 +5,9 @@ Those texts are constants of the crates, since a test can't read the repository'
 is paired with a file by its name: V1_DATA with v1/UnicodeData.txt, V1_EXCLUSIONS with
 v1/CompositionExclusions.txt, EXCHANGE_SCHEDULE and EXCHANGE_REPORT with scripts/exchange.schedule
 and scripts/exchange.report. Each has to have the other. The reports of the scripts are compared with those
-of history_model.py, the usage text of docs/FORMATS.md with that of the stored run, and the Rust example of
-the README and of two crates with the unit test that runs it. Ends in a line 'N passed, M failed'.
+of history_model.py, the usage text of docs/FORMATS.md with that of the stored run, the forged images of a unit
+test and their answers with those of forged_images.py, and the Rust example of the README and of two crates with the
+unit test that runs it. Ends in a line 'N passed, M failed'.
 """
 
 import re
@@ -17,6 +18,7 @@ from pathlib import Path
 # Nothing is written into the tree.
 sys.dont_write_bytecode = True
 
+import forged_images
 import history_model
 import ucd
 from harness import Tally
@@ -103,6 +105,7 @@ def main():
     tally.check("docs/FORMATS.md has the usage text",
                 f"\n```\n{usage}```\n" in (ROOT / "docs" / "FORMATS.md").read_text(encoding="utf-8"))
     tally.check("there are fixtures", got, "fixtures/ has no file")
+    forged_images.check(tally)
     check_example(tally)
     tally.finish()
 

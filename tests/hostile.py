@@ -4,7 +4,8 @@
 Over the first fixture both files are cut at every byte, and every byte is replaced in turn; with
 --published the published files are changed at N places drawn by a fixed seed (2,000 where N isn't
 told). For each changed version the program's status and line are compared with those of the reader
-in judge.py. Ends in a line 'N passed, M failed'.
+in judge.py; and of the first fixture, where there is no fault, the breaks from and to the unchanged one.
+Ends in a line 'N passed, M failed'.
 """
 
 import argparse
@@ -17,19 +18,34 @@ sys.dont_write_bytecode = True
 
 import judge
 import ucd
+from cases import BAD_TEXT, DIFFERENT
 from harness import ROOT, Tally, run
 
+FIXTURE = ROOT / "fixtures" / "v1"
 REPLACEMENTS = b";\n\r<\0\xff"
 SEED = 19
 
 
 def check(tally, program, folder, name, data, exclusions):
-    """Compares what the program and the reader say of one version."""
+    """Compares what the program and the reader say of one version, which is answered where it has no fault."""
     (folder / "data").write_bytes(data)
     (folder / "exclusions").write_bytes(exclusions)
-    status, out, error = run(program, ["key", "--form", "nfc", "data", "exclusions"], folder=folder)
-    want = judge.line_of(data, exclusions)
-    tally.same(name, (status, out, error.decode(errors="replace")), (want[0], b"", want[1]))
+    got = run(program, ["key", "--form", "nfc", "data", "exclusions"], folder=folder)
+    version, line = judge.version_of(data, exclusions)
+    tally.same(name, got, (0 if version else BAD_TEXT, b"", line.encode()))
+    return version
+
+
+def check_rows(tally, program, folder, name, first, version):
+    """Compares the breaks between the first fixture and a changed one: they tell which rows were read. Where the
+    rows are not the same, in both directions."""
+    paths = [str(FIXTURE / file) for file in (ucd.DATA, ucd.EXCLUSIONS)]
+    ways = [([*paths, "data", "exclusions"], first, version), (["data", "exclusions", *paths], version, first)]
+    same = (version.rows, version.spans) == (first.rows, first.spans)
+    for words, old, new in ways[:1] if same else ways:
+        breaks = judge.breaks_of(old, new)
+        wanted = (DIFFERENT, breaks.encode(), b"") if breaks else (0, b"extends\n", b"")
+        tally.same(f"{name}, audit {words[0]}", run(program, ["audit", *words], folder=folder), wanted)
 
 
 def changed(data):
@@ -41,12 +57,15 @@ def changed(data):
 
 
 def check_fixture(tally, program, folder):
-    """All changes of the first fixture."""
-    data, exclusions = ((ROOT / "fixtures" / "v1" / name).read_bytes() for name in (ucd.DATA, ucd.EXCLUSIONS))
-    for name, bad in changed(data):
-        check(tally, program, folder, f"data {name}", bad, exclusions)
-    for name, bad in changed(exclusions):
-        check(tally, program, folder, f"exclusions {name}", data, bad)
+    """All changes of the first fixture: each is refused at its line, or has the rows that it says."""
+    data, exclusions = ((FIXTURE / name).read_bytes() for name in (ucd.DATA, ucd.EXCLUSIONS))
+    first, _ = judge.version_of(data, exclusions)
+    files = [(f"data {name}", bad, exclusions) for name, bad in changed(data)]
+    files += [(f"exclusions {name}", data, bad) for name, bad in changed(exclusions)]
+    for name, *pair in files:
+        version = check(tally, program, folder, name, *pair)
+        if version:
+            check_rows(tally, program, folder, name, first, version)
 
 
 def drawn(chance, data):

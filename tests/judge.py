@@ -287,15 +287,48 @@ class Version:
         return min(faults)[::2] if faults else None
 
 
-def line_of(data, exclusions):
-    """What the program says of the two files of a version: its status and its line."""
+    def is_composite(self, code):
+        """Whether a code point is a primary composite, syllables of the arithmetic among them."""
+        return self.is_primary(code) or (self.hangul and code in SYLLABLES)
+
+    def are_parts_assigned(self, parts):
+        return all(self.row_at(part) is not None for part in parts)
+
+
+def break_at(code, old, new):
+    """How a later version breaks an earlier one at a code point, or None."""
+    before, after = old.row_at(code), new.row_at(code)
+    if before and not after:
+        return "Lost"
+    if before and before.combining != after.combining:
+        return "ClassChanged"
+    if before and before[3:] != after[3:]:
+        return "MappingChanged"
+    if old.is_composite(code) and not new.is_composite(code):
+        return "NowExcluded"
+    if new.is_composite(code) and not old.is_composite(code) and old.are_parts_assigned(new.parts_of(code)):
+        return "NowIncluded" if before else "NewComposite"
+    return None
+
+
+def breaks_of(old, new):
+    """The lines of the breaks between two versions: at code points whose rows differ, or that have a mapping."""
+    rows = set(old.rows) ^ set(new.rows)
+    codes = {code for row in rows for code in range(row.first, row.last + 1)} | old.mapped.keys() | new.mapped.keys()
+    found = ((code, break_at(code, old, new)) for code in sorted(codes))
+    return "".join(f"{kind} {code:04X}\n" for code, kind in found if kind)
+
+
+def version_of(data, exclusions):
+    """The version of two files; or the line that the program says of them."""
     rows, fault = data_of(data)
     if fault:
-        return 4, f"version 0 data: line {fault[0]}: {fault[1]}\n"
+        return None, f"version 0 data: line {fault[0]}: {fault[1]}\n"
     spans, fault = exclusions_of(exclusions)
     if fault:
-        return 4, f"version 0 exclusions: line {fault[0]}: {fault[1]}\n"
-    fault = Version(rows, spans).fault()
+        return None, f"version 0 exclusions: line {fault[0]}: {fault[1]}\n"
+    version = Version(rows, spans)
+    fault = version.fault()
     if fault:
-        return 4, f"version 0 tables: {fault[1]} {fault[0]:04X}\n"
-    return 0, ""
+        return None, f"version 0 tables: {fault[1]} {fault[0]:04X}\n"
+    return version, ""

@@ -53,7 +53,7 @@ fn cut_word(text: &[u8], dividers: Dividers) -> (&[u8], &[u8])
 
 /// The words of a text, in their order: one or more dividers stand between two of them, and those
 /// around all count for nothing. Linear in the text's length; nothing is copied.
-#[derive(Drop)]
+#[derive(Debug, Drop)]
 pub struct Words<'a> {
     rest: &'a [u8],
     dividers: Dividers,

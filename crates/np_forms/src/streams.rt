@@ -27,7 +27,7 @@ fn copy_to(list: &mut Vec<char>, from: &[char]) -> Result<(), Memory>
 /// At most 1 code point is pending, and the longest run of non-starters so far: 31 for stream-safe
 /// text under a compatibility form. Each code point takes constant time, a run of non-starters of
 /// length n besides one stable sort of it.
-#[derive(Drop)]
+#[derive(Debug, Drop)]
 pub struct Stream<'t, T: NormTable> {
     table: &'t T,
     form: Form,

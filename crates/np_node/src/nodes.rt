@@ -14,6 +14,7 @@ use np_chain::Break;
 use np_code_points::{Form, Memory};
 use np_tables::NormTable;
 use std::alloc::Global;
+use std::fmt;
 use std::marker::Model;
 
 /// The most strings that a node may have room for.
@@ -39,6 +40,17 @@ impl<'t, T: NormTable> Model for Node<'t, T> {
     ghost view = { λ a. record { table = a.table.now; form = a.form; room = a.room; entries = a.kept } };
 
     ghost invariant = { λ a. IsNode (record { version = T.model a.table.now; form = a.form; room = a.room; entries = a.kept }) };
+}
+
+/// Shows how many strings are kept, and none of them: they may be names of persons.
+impl<'t, T: NormTable> fmt::Debug for Node<'t, T> {
+    fn fmt<W: fmt::Write>(&self, f: &mut fmt::Formatter<W>) -> fmt::Result {
+        f.debug_struct("Node")
+            .field("form", &self.form)
+            .field("room", &self.room)
+            .field("len", &self.kept.len())
+            .finish_non_exhaustive()
+    }
 }
 
 impl<'t, T: NormTable> Drop for Node<'t, T> {

@@ -1,5 +1,7 @@
 //! What each call answers on worked examples.
 mod answers;
+mod forged;
+mod forged_answers;
 mod hosts;
 mod images;
 mod messages;

@@ -1,6 +1,6 @@
 -- Marks of code points, round by round.
 use Rattle.std.proofs.Common.{◌≡◌, ℕ, zero, suc, ◌<◌, ◌≤◌, Bool, true, false, ◌&&◌, min, List, [], ◌∷◌, map, flat_map, length, refl, sym, ap, subst, ◌∙◌, leb, inl, inr, arith, length-append}
-use Rattle.std.proofs.lemmas.Bool.{cond-true, cond-false, cases_Bool, cases_eq, both_ways}
+use Rattle.std.proofs.lemmas.Bool.{cond-true, cond-false, cases_Bool, cases_eq, both_ways, and_parts, and_from}
 use Rattle.std.specs.List.{list_all}
 use Rattle.np_ucd.specs.Entries.{Entry, AreRows, HasLength}
 use Rattle.np_ucd.specs.declared.rows.MapKind.{MapKind}
@@ -226,3 +226,35 @@ pub marks-from_rows : (v : VersionData) → AreRows v.entries → (m n c : ℕ) 
 unfolding row_marks
 marks-from_rows v rows m n c h other =
     mark-file v rows m c other ∙ map_at (mapping_mark v m) (mapping_mark v n) (bare_mark v m n) v.entries c h ∙ sym (mark-file v rows n c other)
+
+-- ---- a mark that is not 0 stays in the rounds that follow
+
+list_all-weaker : (p q : ℕ → Bool) → ((c : ℕ) → p c ≡ true → q c ≡ true) → (xs : List ℕ) → list_all p xs ≡ true → list_all q xs ≡ true
+list_all-weaker p q weaker [] all = refl
+list_all-weaker p q weaker (x ∷ xs) all =
+    let halves = and_parts (p x) (list_all p xs) all in and_from _ _ (weaker x halves.0) (list_all-weaker p q weaker xs halves.1)
+
+all_empty : (p : ℕ → Bool) (xs : List ℕ) → is_empty xs ≡ true → list_all p xs ≡ true
+all_empty p [] h = refl
+all_empty p (x ∷ xs) h = cc
+
+module _ (v : VersionData) where
+  depth_more : (n c : ℕ) → has_depth v n c ≡ true → has_depth v (suc n) c ≡ true
+  unfolding has_depth
+  depth_more zero c h = all_empty (has_depth v zero) (decomposition_mapping v c) h
+  depth_more (suc n) c h = list_all-weaker (has_depth v n) (has_depth v (suc n)) (depth_more n) (decomposition_mapping v c) h
+
+  kept_parts : (n : ℕ) (xs : List ℕ) → 0 < parts_mark v n xs → parts_mark v (suc n) xs ≡ parts_mark v n xs
+  unfolding parts_mark
+  kept_parts n xs some =
+      let known : list_all (has_depth v n) xs ≡ true = marked-more (list_all (has_depth v n) xs) _ some in
+      let still : list_all (has_depth v (suc n)) xs ≡ true = list_all-weaker (has_depth v n) (has_depth v (suc n)) (depth_more n) xs known in
+      ap (λ b. marked b (length (flat_map (full v true (suc n)) xs))) still
+      ∙ ap (λ l. marked true (length l)) (flat_map-same v true (full v true (suc n)) (full v true n) (has_depth v n) (full-more v true n) xs known)
+      ∙ ap (λ b. marked b (length (flat_map (full v true n) xs))) (sym known)
+
+  pub kept_mark : (n : ℕ) (xs : List ℕ) → 0 < mapping_mark v n xs → mapping_mark v (suc n) xs ≡ mapping_mark v n xs
+  unfolding mapping_mark
+  kept_mark n [] some = refl
+  kept_mark zero (x ∷ xs) some = absurd (omega arith)
+  kept_mark (suc n) (x ∷ xs) some = kept_parts n (x ∷ xs) some

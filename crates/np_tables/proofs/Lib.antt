@@ -20,6 +20,7 @@ pub mod MappingLemmas
 pub mod PageApartLemmas
 pub mod PageHintLemmas
 pub mod PageRunLemmas
+pub mod PageSettledLemmas
 pub mod PageSlotLemmas
 pub mod PageWordLemmas
 pub mod PairLemmas

@@ -193,6 +193,7 @@ module _ (v : VersionData) (sound : IsSound v) (lists : FullLists) (slots : List
       subst (λ i. ArePages v lists i paged) (sym same) (subst (ArePages v lists blocks) (sym is) (record {
         sound = sound;
         within = record { size = pages.within.size; each = λ k lt. (let le = pages.within.each k lt in omega arith) };
+        none = are_slots.none;
         each = λ c lt. (
             let low = mod-lt c {m = 256} (omega arith) in
             let le = pages.within.each (c / 256) (omega arith) in

@@ -121,10 +121,25 @@ fn next_marks(
     let count = characters.len();
     let mut next = Vec::with_capacity(alloc, count)?;
     for at in 0..count {
-        let mapping = mapping_at(characters, at);
-        next.push(next_mark(characters, marks, round, mapping))?;
+        next.push(row_mark(characters, marks, round, at))?;
     }
     Ok(next)
+}
+
+/// The mark of the row at a place in the round after this one. A mark that is known stays, so that
+/// few rows are looked at.
+fn row_mark(characters: &CharacterData, marks: &[u8], round: u32, at: usize) -> u8
+    requires rows { AreRows characters.now.entries }
+    requires marks { marks.now ≡ row_marks characters.now round }
+    requires place { at < length characters.now.entries }
+    ensures { result ≡ mapping_mark characters.now (round + 1) (mapping_in (slice_get characters.now.entries at)) }
+{
+    let known = marks[at];
+    if known == 0 {
+        next_mark(characters, marks, round, mapping_at(characters, at))
+    } else {
+        known
+    }
 }
 
 /// The mark of a mapping in the round after this one.

@@ -24,6 +24,7 @@ mod mapped_faults;
 mod page_bits;
 mod page_hints;
 mod page_runs;
+mod page_settled;
 mod page_slots;
 pub mod page_table;
 mod page_words;

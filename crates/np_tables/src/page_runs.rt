@@ -32,7 +32,7 @@ fn is_kept(blocks: &[u16], words: &[Word], place: u32, c: char) -> bool
 }
 
 /// Whether the words of all ASCII have a bit.
-fn is_ascii_kept(blocks: &[u16], words: &[Word], place: u32) -> bool
+pub fn is_ascii_kept(blocks: &[u16], words: &[Word], place: u32) -> bool
     requires within { AreWithin 4352 blocks.now (length words.now) }
     requires place { place < 8 }
     ensures { IsTrue result → (c : ℕ) → c < 128 → IsKept blocks.now words.now place c }
@@ -46,7 +46,7 @@ fn is_ascii_kept(blocks: &[u16], words: &[Word], place: u32) -> bool
 }
 
 /// How many bytes at the front are ASCII, in whole steps.
-fn ascii_front(bytes: &[u8]) -> usize
+pub fn ascii_front(bytes: &[u8]) -> usize
     ensures fits { result ≤ length bytes.now }
     ensures ascii { IsAscii (take result bytes.now) }
 {

@@ -4,7 +4,8 @@ ghost use Rattle.std.specs.Prelude.{◌≡◌, IfOk};
 
 use crate::fulls::Fulls;
 use crate::page_hints::{parts_place, stays_place};
-use crate::page_runs::{has_bit, kept_front};
+use crate::page_runs::{has_bit, is_ascii_kept, kept_front};
+use crate::page_settled::{own_place, settled_front};
 use crate::page_slots::slots_of;
 use crate::page_words::{Word, page_words, row_words, second_rows, word_of};
 use crate::syllables::arithmetic_pair;
@@ -29,17 +30,21 @@ pub struct PageTable {
     /// The words, block by block.
     words: Vec<Word>,
     fulls: Fulls,
+    /// Whether NFD leaves all ASCII as it is.
+    ascii_canonical: bool,
+    /// Whether NFKD does.
+    ascii_compatible: bool,
 }
 
 impl Model for PageTable {
-    ghost use Rattle.np_tables.specs.inside.PageWords.{ArePages};
+    ghost use Rattle.np_tables.specs.inside.PageWords.{IsPageTable};
     ghost use Rattle.np_tables.specs.Versions.{VersionData};
 
     ghost Value = { VersionData };
 
     ghost view = { λ a. a.version };
 
-    ghost invariant = { λ a. ArePages a.version a.fulls a.index.items a.words.items };
+    ghost invariant = { λ a. IsPageTable a.version a.fulls a.index.items a.words.items a.ascii_canonical a.ascii_compatible };
 }
 
 impl PageTable {
@@ -58,11 +63,15 @@ impl PageTable {
         let words = page_words(alloc, &rows, &pages.numbers)?;
         let mut index = Vec::with_capacity(alloc, pages.index.len())?;
         index.extend_from_slice(&pages.index)?;
+        let ascii_canonical = is_ascii_kept(&index, &words, own_place(false));
+        let ascii_compatible = is_ascii_kept(&index, &words, own_place(true));
         Ok(PageTable {
             version,
             index,
             words,
             fulls,
+            ascii_canonical,
+            ascii_compatible,
         })
     }
 }
@@ -110,5 +119,14 @@ impl NormTable for PageTable {
 
     fn staying(&self, form: Form, text: &str) -> usize {
         kept_front(&self.index, &self.words, stays_place(form), text)
+    }
+
+    fn settled(&self, compat: bool, text: &str) -> usize {
+        let ascii = if compat {
+            self.ascii_compatible
+        } else {
+            self.ascii_canonical
+        };
+        settled_front(&self.index, &self.words, compat, ascii, text)
     }
 }

@@ -6,7 +6,7 @@ ghost use Rattle.np_tables.specs.Composites.{IsCompositeOf};
 ghost use Rattle.np_tables.specs.inside.CompositeSearch.{composite};
 ghost use Rattle.np_tables.specs.Conditions.{IsSound};
 ghost use Rattle.np_tables.specs.Mappings.{IsLent};
-ghost use Rattle.np_tables.specs.inside.Hints.{AreStaying};
+ghost use Rattle.np_tables.specs.inside.Hints.{AreSettled, AreStaying};
 ghost use Rattle.np_tables.specs.inside.FullDecompositions.{table_full};
 ghost use Rattle.np_tables.specs.Versions.{VersionData, class_of, has_hangul, is_assigned};
 
@@ -16,6 +16,14 @@ use np_code_points::Form;
 /// No byte at the front of a text, whose code points stay whatever the version and the form are.
 fn claim_nothing(text: &str) -> usize
     ensures { (v : VersionData) (form : Form) → AreStaying v form text.now result }
+{
+    let _unused = text;
+    0
+}
+
+/// No byte at the front of a text: nothing is in canonical order before anything.
+fn settle_nothing(text: &str) -> usize
+    ensures { (v : VersionData) (compat : Bool) → AreSettled v compat text.now result }
 {
     let _unused = text;
     0
@@ -81,6 +89,17 @@ pub trait NormTable {
         let _unused = form;
         claim_nothing(text)
     }
+
+    /// How many bytes at the front of a text are their own full decomposition, of one kind, and in
+    /// canonical order, whatever follows (The Unicode Standard, D68, D65 and D109). A table may
+    /// answer less, down to 0.
+    fn settled(&self, compat: bool, text: &str) -> usize
+        ensures { AreSettled (model self.now) compat text.now result }
+    {
+        // the same
+        let _unused = compat;
+        settle_nothing(text)
+    }
 }
 
 /// A borrowed table answers as the table itself, so that one serves several owners.
@@ -117,5 +136,9 @@ impl<T: NormTable> NormTable for &T {
 
     fn staying(&self, form: Form, text: &str) -> usize {
         (**self).staying(form, text)
+    }
+
+    fn settled(&self, compat: bool, text: &str) -> usize {
+        (**self).settled(compat, text)
     }
 }

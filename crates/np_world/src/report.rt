@@ -9,7 +9,7 @@ use np_node::Node;
 use np_tables::NormTable;
 
 /// What a replay answers: a reply to each event, the messages sent, and the nodes at the end.
-#[derive(Drop)]
+#[derive(Debug, Drop)]
 pub struct Report<'t, T: NormTable> {
     pub(crate) replies: Vec<Reply>,
     pub(crate) sent: Vec<Vec<u8>>,

@@ -1,5 +1,6 @@
 //! The text of a report.
 ghost use Rattle.std.specs.Prelude.{◌≡◌, ◌++◌, chars, flat_map, map, IfOk, string_bytes};
+ghost use Rattle.std.specs.Fmt.{decimal};
 ghost use Rattle.std.specs.List.{enumerate_from};
 ghost use Rattle.np_code_points.specs.Codes.{code_digits};
 ghost use Rattle.np_world.specs.Reports.{node_report};
@@ -51,31 +52,47 @@ fn write_unassigned(out: &mut String, at: usize, code: char) -> Result<(), Memor
     Ok(())
 }
 
+/// Adds words.
+fn write_words(out: &mut String, words: &str) -> Result<(), Memory>
+    ensures { IfOk result (λ _. string_bytes out.new ≡ string_bytes out.old ++ words.now) }
+{
+    out.push_str(words)?;
+    Ok(())
+}
+
+/// Adds words and a number behind them.
+fn write_number(out: &mut String, words: &str, number: usize) -> Result<(), Memory>
+    ensures { IfOk result (λ _. string_bytes out.new ≡ string_bytes out.old ++ (words.now ++ decimal number)) }
+{
+    out.push_str(words)?;
+    write!(out, "{number}")?;
+    Ok(())
+}
+
 /// Adds a reply.
 fn write_reply(out: &mut String, reply: &Reply) -> Result<(), Memory>
     ensures { IfOk result (λ _. string_bytes out.new ≡ string_bytes out.old ++ reply_text reply.now) }
 {
     match *reply {
-        Reply::Sent { message } => write!(out, "kept {message}")?,
-        Reply::Kept => out.push_str("kept")?,
-        Reply::Known => out.push_str("known")?,
-        Reply::Full => out.push_str("full")?,
-        Reply::TooLong => out.push_str("too long")?,
-        Reply::Unassigned { at, code } => write_unassigned(out, at, code)?,
-        Reply::NoMessage => out.push_str("no message")?,
-        Reply::Version { index } => write!(out, "version {index}")?,
-        Reply::LastVersion => out.push_str("last version")?,
-        Reply::Saved => out.push_str("saved")?,
-        Reply::Restarted => out.push_str("restarted")?,
-        Reply::NotKept => out.push_str("not kept")?,
-        Reply::Equal => out.push_str("equal")?,
-        Reply::Different => out.push_str("different")?,
-        Reply::Malformed { at } => write!(out, "malformed at {at}")?,
-        Reply::OtherForm => out.push_str("other form")?,
-        Reply::NotUtf8 { at } => write!(out, "not UTF-8 at byte {at}")?,
-        Reply::KeyDiffers => out.push_str("key differs")?,
+        Reply::Sent { message } => write_number(out, "kept ", message),
+        Reply::Kept => write_words(out, "kept"),
+        Reply::Known => write_words(out, "known"),
+        Reply::Full => write_words(out, "full"),
+        Reply::TooLong => write_words(out, "too long"),
+        Reply::Unassigned { at, code } => write_unassigned(out, at, code),
+        Reply::NoMessage => write_words(out, "no message"),
+        Reply::Version { index } => write_number(out, "version ", index),
+        Reply::LastVersion => write_words(out, "last version"),
+        Reply::Saved => write_words(out, "saved"),
+        Reply::Restarted => write_words(out, "restarted"),
+        Reply::NotKept => write_words(out, "not kept"),
+        Reply::Equal => write_words(out, "equal"),
+        Reply::Different => write_words(out, "different"),
+        Reply::Malformed { at } => write_number(out, "malformed at ", at),
+        Reply::OtherForm => write_words(out, "other form"),
+        Reply::NotUtf8 { at } => write_number(out, "not UTF-8 at byte ", at),
+        Reply::KeyDiffers => write_words(out, "key differs"),
     }
-    Ok(())
 }
 
 /// Adds the line of an event.

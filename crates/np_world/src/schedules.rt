@@ -8,7 +8,7 @@ use std::marker::Model;
 
 /// What happens to some nodes over a chain of versions: the room of each node, the place of each
 /// node's first version, and the events in their order.
-#[derive(Drop)]
+#[derive(Debug, Drop)]
 pub struct Schedule {
     versions: usize,
     room: u32,

@@ -50,7 +50,17 @@ fn little_room<T: NormTable>(alloc: Global, table: &T) -> Result<(), Fail> {
         Ok(Taken::Known),
         "its own message",
     )?;
-    want(node.len() == 1 && node.form() == Form::Nfc, "one entry")
+    want(node.len() == 1 && node.form() == Form::Nfc, "one entry")?;
+    wants_shown(alloc, &node)
+}
+
+/// No string is shown where a node is printed.
+fn wants_shown<T: NormTable>(alloc: Global, node: &Node<'_, T>) -> Result<(), Fail> {
+    let shown = format!(in alloc; "{node:?}")?;
+    want(
+        shown.as_str() == "Node { form: Nfc, room: 1, len: 1, .. }",
+        "as it is shown",
+    )
 }
 
 /// So many times `a`.

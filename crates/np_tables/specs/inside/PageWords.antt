@@ -11,7 +11,7 @@ use Rattle.np_tables.specs.declared.pairs.Composite.{Composite}
 use Rattle.np_tables.specs.inside.FullDecompositions.{table_full}
 use Rattle.np_tables.specs.inside.FullLists.{FullLists, of_kind}
 use Rattle.np_tables.specs.inside.FullParts.{AreParts, part_of}
-use Rattle.np_tables.specs.inside.PageHints.{AreBits, has_bit}
+use Rattle.np_tables.specs.inside.PageHints.{AreBits, decomposing_place, has_bit}
 use Rattle.np_tables.specs.inside.Pages.{AreWithin, word_place}
 
 -- ---- slots of full decompositions
@@ -109,6 +109,8 @@ pub record IsWord (v : VersionData) (lists : FullLists) (c : ℕ) (w : Word) : T
 pub record ArePages (v : VersionData) (lists : FullLists) (blocks : List ℕ) (words : List Word) : Type 0 where
   pub sound : IsSound v
   pub within : AreWithin 4352 blocks (length words)
+  -- slot 0 is empty
+  pub none : (compat : Bool) → slice_index_or (of_kind compat lists) 0 [] ≡ []
   pub each : (c : ℕ) → c < 0x110000 → IsWord v lists c (slice_index_or words (word_place blocks c) no_word)
 
 -- ---- what stays
@@ -116,6 +118,10 @@ pub record ArePages (v : VersionData) (lists : FullLists) (blocks : List ℕ) (w
 -- the word of a code point has the bit
 abbrev pub IsKept : List ℕ → List Word → ℕ → ℕ → Type 0
 IsKept blocks words place c = (c < 0x110000) × (has_bit (slice_index_or words (word_place blocks c) no_word).hints place ≡ true)
+
+-- where this is said, the words of all ASCII have the bit
+abbrev pub IsAsciiKept : List ℕ → List Word → ℕ → Bool → Type 0
+IsAsciiKept blocks words place said = said ≡ true → (c : ℕ) → c < 128 → IsKept blocks words place c
 
 -- the words of the code points in the first n bytes of a text have the bit
 pub record AreKept (blocks : List ℕ) (words : List Word) (bit : ℕ) (bytes : List ℕ) (n : ℕ) : Type 0 where
@@ -134,3 +140,13 @@ pub record IsPast (P : ℕ → Type 0) (text rest : List ℕ) : Type 0 where
   pub text_is : chars text ≡ front ++ chars rest
   pub utf8 : IsUtf8 rest
   pub passed : All P front
+
+-- a text behind some first ASCII, where `low` asks for that
+abbrev pub IsPastLow : Bool → List ℕ → List ℕ → Type 0
+IsPastLow low = IsPast (λ c. (low ≡ true) × (c < 128))
+
+-- the pages, and for each kind what is said of all ASCII
+pub record IsPageTable (v : VersionData) (lists : FullLists) (blocks : List ℕ) (words : List Word) (canonical compatible : Bool) : Type 0 where
+  pub pages : ArePages v lists blocks words
+  pub canonical_ascii : IsAsciiKept blocks words (decomposing_place false) canonical
+  pub compatible_ascii : IsAsciiKept blocks words (decomposing_place true) compatible

@@ -21,15 +21,22 @@ impl Verb {
     pub(crate) fn of_name(name: &[u8]) -> Option<Verb>
         ensures { result ≡ verb_named name.now }
     {
-        match name {
-            b"accept" => Some(Verb::Accept),
-            b"deliver" => Some(Verb::Deliver),
-            b"upgrade" => Some(Verb::Upgrade),
-            b"save" => Some(Verb::Save),
-            b"restart" => Some(Verb::Restart),
-            b"ask" => Some(Verb::Ask),
-            b"forge" => Some(Verb::Forge),
-            _ => None,
+        if name == b"accept".as_slice() {
+            Some(Verb::Accept)
+        } else if name == b"deliver".as_slice() {
+            Some(Verb::Deliver)
+        } else if name == b"upgrade".as_slice() {
+            Some(Verb::Upgrade)
+        } else if name == b"save".as_slice() {
+            Some(Verb::Save)
+        } else if name == b"restart".as_slice() {
+            Some(Verb::Restart)
+        } else if name == b"ask".as_slice() {
+            Some(Verb::Ask)
+        } else if name == b"forge".as_slice() {
+            Some(Verb::Forge)
+        } else {
+            None
         }
     }
 }
