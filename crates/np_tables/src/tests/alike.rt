@@ -1,0 +1,95 @@
+//! The plain table and the table of pages beside each other.
+use super::{LAST, Made, table_of, want};
+use crate::{NormTable, PageTable, RowTable};
+use np_code_points::fixtures::{
+    S_DATA, S_EXCLUSIONS, V1_DATA, V1_EXCLUSIONS, V2_DATA, V2_EXCLUSIONS,
+};
+use std::alloc::Global;
+use std::test::Fail;
+
+// Second parts of pairs, and neighbours of theirs; 11A7 is no trailing consonant.
+const SECONDS: [char; 12] = [
+    '\u{0}',
+    '\u{301}',
+    '\u{302}',
+    '\u{308}',
+    '\u{30A}',
+    '\u{323}',
+    '\u{93C}',
+    '\u{1161}',
+    '\u{11A7}',
+    '\u{11A8}',
+    '\u{16D67}',
+    '\u{10FFFF}',
+];
+
+// First parts of pairs, and others.
+const FIRSTS: [char; 12] = [
+    '\u{0}',
+    '\u{41}',
+    '\u{61}',
+    '\u{308}',
+    '\u{915}',
+    '\u{1100}',
+    '\u{1EA1}',
+    '\u{AC00}',
+    '\u{AC01}',
+    '\u{D788}',
+    '\u{16D67}',
+    '\u{10FFFF}',
+];
+
+fn same_pairs<T: NormTable, U: NormTable>(one: &T, two: &U, first: char) -> bool {
+    for second in &SECONDS {
+        if one.pair(first, *second) != two.pair(first, *second) {
+            return false;
+        }
+    }
+    true
+}
+
+fn same_answers<T: NormTable, U: NormTable>(one: &T, two: &U, c: char) -> bool {
+    one.class(c) == two.class(c)
+        && one.full(c, false) == two.full(c, false)
+        && one.full(c, true) == two.full(c, true)
+}
+
+fn answer_alike<T: NormTable, U: NormTable>(one: &T, two: &U) -> Result<(), Fail> {
+    want(one.hangul() == two.hangul(), "the arithmetic")?;
+    for code in 0..0x110000 {
+        if let Some(c) = char::from_u32(code) {
+            want(one.assigned(c) == two.assigned(c), "an assigned one")?;
+            if one.assigned(c) {
+                want(same_answers(one, two, c), "a code point")?;
+            }
+        }
+    }
+    for first in &FIRSTS {
+        want(same_pairs(one, two, *first), "a pair")?;
+    }
+    Ok(())
+}
+
+fn answers_like<T: Made, U: NormTable>(
+    alloc: Global,
+    other: &U,
+    data: &str,
+    listed: &str,
+) -> Result<(), Fail> {
+    let table: T = table_of(alloc, data, listed)?;
+    answer_alike(&table, other)
+}
+
+fn alike_over<T: Made, U: Made>(alloc: Global, data: &str, listed: &str) -> Result<(), Fail> {
+    let table: U = table_of(alloc, data, listed)?;
+    answers_like::<T, U>(alloc, &table, data, listed)
+}
+
+#[test]
+fn both_tables_answer_alike_for_every_code_point(rt: HostRuntime) -> Result<(), Fail> {
+    let alloc = rt.alloc();
+    alike_over::<RowTable, PageTable>(alloc, V1_DATA, V1_EXCLUSIONS)?;
+    alike_over::<RowTable, PageTable>(alloc, V2_DATA, V2_EXCLUSIONS)?;
+    alike_over::<RowTable, PageTable>(alloc, S_DATA, S_EXCLUSIONS)?;
+    alike_over::<RowTable, PageTable>(alloc, LAST, "")
+}
