@@ -1,11 +1,12 @@
 #!/usr/bin/env python3
-"""Long runs, on demand: tests/endurance.py [PROGRAM].
+"""Long runs, on demand: tests/endurance.py [PROGRAM] [--only streams|replays] [--events N].
 
 `normalize` over 1 GiB and 3 GiB through a pipe, whose peaks of memory are compared; over 5 GiB, of which it
 reads 4,294,967,296 bytes and says so; and a replay of 1,000,000 events, ten times over one schedule.
 Takes some minutes, prints its figures, and ends in a line 'N passed, M failed'.
 """
 
+import argparse
 import hashlib
 import random
 import re
@@ -119,18 +120,21 @@ def check_streams(tally, program, files):
                 and 0 < output.length <= LIMIT, f"status {status}, {told}, {output.length} bytes")
 
 
+# Names are of one or two of these, so that a million events have fewer than 16,777,216 bytes.
+SIGNS = [*"aeionrstlAEO", "\u0301", "\u0323", "\u00e9", "\u00c5", *map(chr, range(0xAC00, 0xAC28))]
+
+
 def schedule(count):
     """Events of a fixed seed over 8 nodes, with names in Latin and Korean."""
     chance = random.Random(20)
-    names = [" ".join(f"{ord(c):04X}" for c in "".join(chance.choice("aeionrstlAE\u0301\u0323한글é") for _ in range(8)))
-             for _ in range(3000)]
+    names = [" ".join(f"{ord(c):04X}" for c in chance.choices(SIGNS, k=chance.choice((1, 2)))) for _ in range(3000)]
     lines = ["room 4000", "nodes " + " ".join(["0"] * 8)]
     for _ in range(count):
         node, draw = chance.randrange(8), chance.random()
-        if draw < 0.3:
+        if draw < 0.25:
             lines.append(f"accept {node} {chance.choice(names)}")
-        elif draw < 0.7:
-            lines.append(f"deliver {node} {chance.randrange(3000)}")
+        elif draw < 0.9:
+            lines.append(f"deliver {node} {chance.randrange(1000)}")
         elif draw < 0.999:
             lines.append(f"ask {node} {chance.choice(names)} / {chance.choice(names)}")
         else:
@@ -138,11 +142,11 @@ def schedule(count):
     return "\n".join(lines) + "\n"
 
 
-def check_replays(tally, program, files):
+def check_replays(tally, program, files, events):
     """One schedule ten times: the same report, and the same peak."""
     with tempfile.TemporaryDirectory() as name:
         path = Path(name) / "schedule"
-        path.write_text(schedule(1_000_000) if len(sys.argv) < 3 else schedule(int(sys.argv[2])), encoding="ascii")
+        path.write_text(schedule(events), encoding="ascii")
         reports, peaks = set(), []
         for _ in range(10):
             digest = hashlib.sha256()
@@ -156,15 +160,22 @@ def check_replays(tally, program, files):
 
 
 def main():
-    program = Path(sys.argv[1]).resolve() if len(sys.argv) > 1 else built_program()
+    parser = argparse.ArgumentParser(description="long runs")
+    parser.add_argument("program", type=Path, nargs="?")
+    parser.add_argument("--only", choices=("streams", "replays"), help="leave the others out")
+    parser.add_argument("--events", type=int, default=1_000_000)
+    chosen = parser.parse_args()
+    program = chosen.program.resolve() if chosen.program else built_program()
     tally = Tally()
     folder = Path("/usr/share/unicode")
     if not (folder / ucd.DATA).exists():
         print("skipped: long runs: the published files are not there")
         tally.finish()
     files = [folder / ucd.DATA, folder / ucd.EXCLUSIONS]
-    check_streams(tally, program, files)
-    check_replays(tally, program, files)
+    if chosen.only != "replays":
+        check_streams(tally, program, files)
+    if chosen.only != "streams":
+        check_replays(tally, program, files, chosen.events)
     tally.finish()
 
 

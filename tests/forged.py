@@ -2,8 +2,8 @@
 """Cut and forged messages, and broken schedules: tests/forged.py PROGRAM.
 
 Messages over the first fixture are cut at every byte, each byte is replaced by others, each length by
-others, fields are exchanged, repeated and left out; each comes to a node by `forge`. Each line of a schedule
-loses a word, has one twice, or has two exchanged. The report, or the first faulty line, is compared with what
+others, fields are exchanged, repeated and left out; each comes to a node by `forge`, under a bound on memory. Each
+line of a schedule and of the scripts loses a word, has one twice, has two exchanged, or has another in its place. The report, or the first faulty line, is compared with what
 history_model.py and the grammar here say. Ends in a line 'N passed, M failed'.
 """
 
@@ -17,12 +17,16 @@ sys.dont_write_bytecode = True
 import history_model
 import ucd
 from harness import ROOT, Tally, run
+from limits import under
+from replays import SCRIPTS
 
 FIXTURE = ROOT / "fixtures" / "v1"
 # Strings of the fixture, each with its normal form under NFC by hand.
 ENTRIES = [("", ""), ("A", "A"), ("a\u0302", "\u00e2"), ("\u212b", "\u00c5"), ("a\u0302\u0323", "\u1ead")]
 BYTES = (0x00, 0x01, 0x7F, 0x80, 0xFF)
 LENGTHS = (0, 1, 0x7FFFFFFF, 0xFFFFFFFF)
+# What the program may take for all of the messages, in KiB: far less than a great length promises.
+BOUND = 65536
 
 
 class Version:
@@ -110,7 +114,7 @@ def check_messages(tally, program, folder):
         schedule = "\n".join(lines) + "\n"
         (folder / "schedule").write_text(schedule)
         status, out, err = run(program, ["replay", "--form", "nfc", "schedule", FIXTURE / ucd.DATA, FIXTURE / ucd.EXCLUSIONS],
-                               folder=folder)
+                               folder=folder, preexec_fn=under(BOUND))
         tally.check(f"forged messages to a room of {room}", (status, err) == (0, b""), f"{status} {err}")
         wanted = history_model.report_of(schedule, [version.assigned], "nfc", version.key).splitlines()
         got = out.decode().splitlines()
@@ -122,20 +126,20 @@ def check_messages(tally, program, folder):
 
 NUMBER = re.compile(r"[0-9]{1,9}")
 CODE = re.compile(r"(10|0?[0-9A-Fa-f])?[0-9A-Fa-f]{4}")
-NODES = 2
 
 
 def are_codes(words):
     return all(CODE.fullmatch(word) and not 0xD800 <= int(word, 16) <= 0xDFFF for word in words)
 
 
-def stands(number, words):
-    """Whether the words of the data line of this number, from 0, may stand there."""
+def stands(number, words, nodes, versions):
+    """Whether the words of the data line of this number, from 0, may stand in a schedule of so many nodes."""
     if number == 0:
         return len(words) == 2 and words[0] == "room" and bool(NUMBER.fullmatch(words[1])) and int(words[1]) <= 65536
     if number == 1:
-        return words[0] == "nodes" and 0 < len(words) - 1 <= 64 and all(NUMBER.fullmatch(w) and int(w) < 1 for w in words[1:])
-    if len(words) < 2 or not NUMBER.fullmatch(words[1]) or int(words[1]) >= NODES:
+        return words[0] == "nodes" and 0 < len(words) - 1 <= 64 and all(NUMBER.fullmatch(w) and int(w) < versions
+                                                                        for w in words[1:])
+    if len(words) < 2 or not NUMBER.fullmatch(words[1]) or int(words[1]) >= nodes:
         return False
     name, rest = words[0], words[2:]
     if name in ("upgrade", "save", "restart"):
@@ -149,40 +153,51 @@ def stands(number, words):
     return name == "forge" and len(rest) <= 1 and all(re.fullmatch(r"([0-9A-Fa-f]{2})*", word) for word in rest)
 
 
-LINES = ["room 4", f"nodes {' 0' * NODES}", "accept 0 0061 0302", "deliver 1 0", "save 1", "restart 1", "upgrade 0",
+LINES = ["room 4", "nodes 0 0", "accept 0 0061 0302", "deliver 1 0", "save 1", "restart 1", "upgrade 0",
          "ask 1 0061 0302 / 0061", "forge 1 430000000141", "forge 0"]
 WORDS = ["0", "9", "000000001", "999999999", "1234567890", "/", "-1", "+1", "D800", "DFFF", "10FFFF", "110000", "061", "0000061",
          "ab", "abc", "save", "#"]
+NUMBERS = ["999999999", "1234567890"]
 
 
-def changed(line):
+def changed(line, others):
     """A line with a word lost, doubled, exchanged with the next, or replaced, and with one more."""
     words = line.split()
     for at in range(len(words)):
         yield words[:at] + words[at + 1:]
         yield words[:at] + [words[at]] + words[at:]
         yield words[:at] + words[at:at + 2][::-1] + words[at + 2:]
-        for word in WORDS:
+        for word in others:
             yield words[:at] + [word] + words[at + 1:]
-    for word in WORDS:
+    for word in others:
         yield [*words, word]
 
 
-def check_schedules(tally, program, folder):
+def check_lines(tally, program, folder, lines, others, words):
     """Each line of a schedule changed in each way: it is refused at that line, or it isn't."""
-    for number, line in enumerate(LINES):
-        for words in changed(line):
-            if number == 1 and len(words) - 1 != NODES and stands(1, words):
-                continue  # other lines speak of two nodes
-            lines = [*LINES[:number], " \t".join(words), *LINES[number + 1:]]
-            (folder / "schedule").write_text("\n".join(lines))
-            status, _, err = run(program, ["replay", "--form", "nfc", "schedule", FIXTURE / ucd.DATA, FIXTURE / ucd.EXCLUSIONS],
-                                 folder=folder)
+    nodes, versions = len(lines[1].split()) - 1, len(words[3:]) // 2
+    for number, line in enumerate(lines):
+        for those in changed(line, others):
+            if number == 1 and len(those) - 1 != nodes and stands(1, those, nodes, versions):
+                continue  # other lines speak of so many nodes
+            changes = [*lines[:number], " \t".join(those), *lines[number + 1:]]
+            (folder / "schedule").write_text("\n".join(changes))
+            status, _, err = run(program, ["replay", *words[:2], "schedule", *words[3:]], folder=folder)
             # A line without words, or that begins with '#', is skipped, and the next one stands in its place.
-            data = [(at, text.split()) for at, text in enumerate(lines, 1) if text.split() and not text.startswith("#")]
-            faulty = [at for place, (at, those) in enumerate(data) if not stands(place, those)]
+            data = [(at, text.split()) for at, text in enumerate(changes, 1) if text.split() and not text.startswith("#")]
+            faulty = [at for place, (at, found) in enumerate(data) if not stands(place, found, nodes, versions)]
             want = (4, f"schedule: line {faulty[0]}\n".encode()) if faulty else (0, b"")
-            tally.same(f"schedule line {number + 1} as {' '.join(words)}", (status, err), want)
+            tally.same(f"{words[2]} line {number + 1} as {' '.join(those)}", (status, err), want)
+
+
+def check_schedules(tally, program, folder):
+    """A schedule with each kind of event, and the scripts."""
+    files = [FIXTURE / ucd.DATA, FIXTURE / ucd.EXCLUSIONS]
+    check_lines(tally, program, folder, LINES, WORDS, ["--form", "nfc", "schedule", *files])
+    for name, paths, form in SCRIPTS:
+        lines = (ROOT / "fixtures" / "scripts" / f"{name}.schedule").read_text(encoding="utf-8").splitlines()
+        check_lines(tally, program, folder, lines, NUMBERS,
+                    ["--form", form, name, *(ROOT / "fixtures" / path for path in paths)])
 
 
 def main():

@@ -2,12 +2,15 @@
 """Refuses allocations, reads and writes in turn: tests/refusals.py PROGRAM [TEST_PROGRAM..].
 
 Each command of the program runs over the fixtures once for each of its allocations, and that one is
-refused; then once for each of its reads and writes, in each way in which these fail. Each run has to end
-as it does with ample memory and devices that work, or in the status and the line of the refusal, with
-nothing on standard output, or, where a write failed, a prefix of the output. The unit tests of a crate,
-as `rt ci` leaves them in out/NAME_tests, run once for each of their allocations too. Those named `a_refused_..`
-look at what a refused call left, and call again: each of them passes, or tells that memory ran out. Any other
-test may fail by what it wants to see, but not die.
+refused, or that one and all behind it; then once for each of its reads and writes, in each way in which these
+fail. Each run has to end as it does with ample memory and devices that work, or in the status and the line of
+the refusal, with nothing on standard output, or, where a write failed, a prefix of the output; and no device is
+called again behind its failure. The unit tests of a crate, as `rt ci` leaves them in out/NAME_tests, run once
+for each of their allocations too. Those named `a_refused_..` look at what a refused call left, and call again:
+each of them passes, or tells that memory ran out. Any other test may fail by what it wants to see, but not die.
+
+For each call that can answer that memory ran out (CALLS, COMMANDS) it is printed how many of its own allocations
+were refused, each of which its test or its command told and survived; a call with none is a failure.
 
 tests/refusals/refuse.c is what refuses; it is compiled with `cc`. Where there is none that is told, and
 nothing is tried. Ends in a line 'N passed, M failed'.
@@ -34,6 +37,22 @@ MEMORY = (6, b"", b"out of memory\n")
 # The status of a unit test that failed by its result.
 FAILED = 101
 
+# The calls that can answer that memory ran out, by their crates. Each has one test whose name begins with
+# `a_refused_` and the call's name: it makes the call a second time where memory was refused to the first.
+CALLS = {
+    "np_code_points": ("chars_of", "string_of", "write_code"),
+    "np_forms": ("form", "npss", "is_form", "is_stream_safe", "equivalent", "feed", "finish", "run"),
+    "np_node": ("accept", "take", "image", "restore"),
+}
+# The commands of the program, each of which is one call of the crate.
+COMMANDS = ("normalize", "key", "compare", "audit", "replay")
+# Tests that hand over counts and lengths for which nothing is there pass with each allocation refused that is
+# larger than this, in bytes.
+PROMISING = "::each_cut_and_forged_"
+LARGE = 1 << 20
+# At so many places, spread over all of them, an allocation is refused to a test that is no `a_refused_..`.
+MOST = 1000
+
 # How a read or a write fails.
 WAYS = {"read": ("error", "interrupt"), "write": ("error", "interrupt", "nothing")}
 
@@ -43,10 +62,14 @@ def runs():
     given = text("0061 0302 0323")
     for form in ("nfd", "nfc"):
         yield ["key", "--form", form, *V1], given
-        yield ["normalize", "--form", form, *V1], given + text("0041")
-    yield ["compare", "--form", "nfkc", *V1], text("FB01") + b"\n" + text("0066 0069")
+        yield ["normalize", "--form", form, *V1], given
+    yield ["normalize", "--form", "nfc", *V1], given + text("0041")
+    for form in ("nfc", "nfkc"):
+        yield ["compare", "--form", form, *V1], text("FB01") + b"\n" + text("0066 0069") + b"\n"
     yield ["key", "--form", "nfc", *V1], text("0041 16D67")
     yield ["audit", *V1, *V1], b""
+    yield ["audit", *V1, "new-composite.data", V1[1]], b""
+    yield ["audit", *V1, "new-composite.data", "with-00c1.excl"], b""
     yield ["audit", *V2, *V1], b""
     yield ["key", "--form", "nfc", "nothing", V1[1]], b""
     for script, form in (("exchange", "nfc"), ("restart", "nfc"), ("forged", "nfkd")):
@@ -62,22 +85,24 @@ class Refusals:
     def __init__(self, shim, folder):
         self.shim = shim
         self.folder = folder
-        self.counts = folder.parent / "counts"
 
     def run(self, program, words, stdin, **calls):
         """The run with the shim loaded, which is told what to do by these variables."""
         return run(program, words, stdin, self.folder, env={**os.environ, "LD_PRELOAD": str(self.shim), **calls})
 
-    def counted(self, program, words, stdin):
-        """The run with nothing refused, and its numbers of allocations, reads and writes."""
-        self.counts.unlink(missing_ok=True)
-        got = self.run(program, words, stdin, REFUSE_COUNTS=str(self.counts))
-        return got, dict(zip(("memory", "read", "write"), map(int, self.counts.read_text().split())))
+    def counted(self, program, words, stdin, asked=""):
+        """The run with what is asked refused, and its numbers of allocations, reads and writes."""
+        with tempfile.NamedTemporaryFile(dir=self.folder.parent) as counts:
+            got = self.run(program, words, stdin, REFUSE=asked, REFUSE_COUNTS=counts.name)
+            # the program writes the file anew
+            told = Path(counts.name).read_text(encoding="ascii").split()
+        return got, dict(zip(("memory", "read", "write"), map(int, told)))
 
     def ends(self, program, words, stdin, asked):
-        """The ends of a run for each thing that is refused, with that."""
+        """What is refused, the end of the run with that, and its calls, for each thing that is asked."""
         with ThreadPoolExecutor(os.cpu_count()) as pool:
-            return list(zip(asked, pool.map(lambda it: self.run(program, words, stdin, REFUSE=it), asked)))
+            runs = pool.map(lambda it: self.counted(program, words, stdin, it), asked)
+            return [(it, *run) for it, run in zip(asked, runs)]
 
 
 def each(kind, count, way=""):
@@ -118,11 +143,21 @@ def is_write_failed(got, ample):
 
 
 def check_memory(tally, refusals, program, words, stdin, ample, count):
-    """Each allocation refused in turn."""
-    ends = refusals.ends(program, words, stdin, each("memory", count))
-    wrong = [end for end in ends if end[1] != ample and not is_want(end[1], ample, words)]
-    tally.check(f"{' '.join(words)} with each of {count} allocations refused", not wrong, f"got {shown(wrong[:1])}")
-    return any(got == MEMORY for _, got in ends)
+    """Each allocation refused in turn, and all from it on. How many refusals were told."""
+    told = 0
+    for way in ("", "rest"):
+        ends = refusals.ends(program, words, stdin, each("memory", count, way))
+        wrong = [(asked, got) for asked, got, _ in ends if got != ample and not is_want(got, ample, words)]
+        tally.check(f"{' '.join(words)} with each of {count} allocations refused {way}", not wrong,
+                    f"got {shown(wrong[:1])}")
+        told += sum(got != ample for _, got, _ in ends) if not way else 0
+    return told
+
+
+def is_last_call(kind, asked, calls, ample):
+    """Whether no read came behind the one that failed; behind a failed write, none but that of the line."""
+    place = int(asked.split(":")[1])
+    return calls[kind] == place + (kind == "write" and not ample[2])
 
 
 def check_devices(tally, refusals, program, words, stdin, ample, counts):
@@ -130,25 +165,63 @@ def check_devices(tally, refusals, program, words, stdin, ample, counts):
     for kind, ways in WAYS.items():
         for way in ways:
             ends = refusals.ends(program, words, stdin, each(kind, counts[kind], way))
-            wrong = [(asked, got) for asked, got in ends
+            name = f"{' '.join(words)} with each of {counts[kind]} {kind}s failed by {way}"
+            wrong = [(asked, got) for asked, got, _ in ends
                      if not (is_read_failed(got, ample, words) if kind == "read" else is_write_failed(got, ample))]
-            tally.check(f"{' '.join(words)} with each of {counts[kind]} {kind}s failed by {way}", not wrong,
-                        f"got {shown(wrong[:1])}")
+            tally.check(name, not wrong, f"got {shown(wrong[:1])}")
+            wrong = [(asked, calls) for asked, _, calls in ends if not is_last_call(kind, asked, calls, ample)]
+            tally.check(f"{name}, and no call behind it", not wrong, f"got {shown(wrong[:1])}")
         got = refusals.run(program, words, stdin, REFUSE=f"{kind}:0:one")
         tally.same(f"{' '.join(words)} with {kind}s of one byte", got, ample)
 
 
-def check_tests(tally, refusals, program):
-    """Each unit test with each of its allocations refused in turn."""
+def spread(places):
+    """At most MOST of these, with equal steps between them."""
+    step = -(-len(places) // MOST)
+    return places[::max(step, 1)]
+
+
+def tests_of(program):
+    """The names of the unit tests of a program."""
     listed = subprocess.run([program, "--list"], capture_output=True, text=True, check=False).stdout
-    names = [line.removesuffix(": test") for line in listed.splitlines() if line.endswith(": test")]
+    return [line.removesuffix(": test") for line in listed.splitlines() if line.endswith(": test")]
+
+
+def check_tests(tally, refusals, program):
+    """Each unit test with each of its allocations refused in turn. How many refusals each survived."""
+    names = tests_of(program)
     tally.check(f"{program.name} has tests", names, "it lists none")
+    survived = {}
     for name in names:
         got, counts = refusals.counted(program, [name], b"")
         tally.check(f"{name} with memory", got[0] == 0, f"got {shown(got)}")
-        ends = refusals.ends(program, [name], b"", each("memory", counts["memory"]))
-        wrong = [(asked, got) for asked, got in ends if not is_test_end(name, got)]
-        tally.check(f"{name} with each of {counts['memory']} allocations refused", not wrong, f"got {shown(wrong[:1])}")
+        ways = ("", "rest") if "::a_refused_" in name else ("",)
+        for way in ways:
+            asked = each("memory", counts["memory"], way)
+            if len(ways) == 1:
+                asked = spread(asked)
+            ends = refusals.ends(program, [name], b"", asked)
+            wrong = [(asked, got) for asked, got, _ in ends if not is_test_end(name, got)]
+            tally.check(f"{name} with {len(asked)} of {counts['memory']} allocations refused {way}", not wrong,
+                        f"got {shown(wrong[:1])}")
+            if way:
+                # so does a call that answers that memory ran out whatever there is
+                passed = [(asked, got) for asked, got, _ in ends if got[0] == 0]
+                tally.check(f"{name} fails where memory stays refused", not passed, f"got {shown(passed[:1])}")
+            else:
+                survived[name] = sum(got[0] == 0 for _, got, _ in ends)
+        if PROMISING in name:
+            got = refusals.run(program, [name], b"", REFUSE=f"memory:{LARGE}:larger")
+            tally.check(f"{name} with each large allocation refused", got[0] == 0, f"got {shown(got)}")
+    return survived
+
+
+def check_calls(tally, crate, survived):
+    """Each call of the crate has one test in which it was refused memory, and made again."""
+    for call in CALLS[crate]:
+        found = [count for name, count in survived.items() if name.rpartition("::")[2].startswith(f"a_refused_{call}_")]
+        tally.check(f"{crate}: {call} was refused memory", len(found) == 1 and found[0] > 0, f"{found}")
+        print(f"{crate}: {call}: {sum(found)} refused")
 
 
 def is_test_end(name, got):
@@ -173,15 +246,21 @@ def main():
         subprocess.run([compiler, "-O2", "-shared", "-fPIC", "-o", shim, ROOT / "tests/refusals/refuse.c"], check=True)
         refusals = Refusals(shim, folder)
         program = Path(sys.argv[1]).resolve()
-        refused = False
+        refused = dict.fromkeys(COMMANDS, 0)
         for words, stdin in runs():
             ample, counts = refusals.counted(program, words, stdin)
             tally.same(f"{' '.join(words)} with calls counted", ample, run(program, words, stdin, folder))
-            refused |= check_memory(tally, refusals, program, words, stdin, ample, counts["memory"])
+            told = check_memory(tally, refusals, program, words, stdin, ample, counts["memory"])
+            if words[:1] and words[0] in refused:
+                refused[words[0]] += told
             check_devices(tally, refusals, program, words, stdin, ample, counts)
-        tally.check("some run wants memory", refused, "no refused allocation was told")
-        for tests in sys.argv[2:]:
-            check_tests(tally, refusals, Path(tests).resolve())
+        for command, count in refused.items():
+            tally.check(f"{command} was refused memory", count > 0, "no refused allocation was told")
+            print(f"{command}: {count} refused")
+        survived = {path.name.removesuffix("_tests"): check_tests(tally, refusals, path)
+                    for path in map(Path.resolve, map(Path, sys.argv[2:]))}
+        for crate in CALLS if survived else ():
+            check_calls(tally, crate, survived.get(crate, {}))
     tally.finish()
 
 

@@ -1,14 +1,16 @@
 /* Refuses calls of the C library to a program that it is loaded into (LD_PRELOAD), one by one.
 
    REFUSE=WHAT:PLACE:HOW refuses the call of this place, from 1, where WHAT is `memory` (malloc, calloc
-   and realloc, counted together; HOW is not read), `read` or `write`. HOW is `error` (EIO), `interrupt`
-   (EINTR) or `nothing` (no byte is read or taken). With place 0 and HOW `one`, every read or write is
-   of one byte alone.
+   and realloc, counted together), `read` or `write`. For memory HOW is nothing, `rest` (each call from
+   this place on is refused), or `larger` (each call for more than PLACE bytes is refused, and no other).
+   Else it is `error` (EIO), `interrupt` (EINTR) or `nothing` (no byte is read or taken). With place 0 and
+   HOW `one`, every read or write is of one byte alone.
    REFUSE_COUNTS=FILE gets the numbers of calls of each kind, in that order, when the program ends. */
 #define _GNU_SOURCE
 #include <errno.h>
 #include <fcntl.h>
 #include <stddef.h>
+#include <stdint.h>
 #include <stdio.h>
 #include <stdlib.h>
 #include <string.h>
@@ -54,18 +56,27 @@ __attribute__((destructor)) static void end(void) {
 /* Whether the next call of this kind is the one that is refused. */
 static int is_refused(int of) { return ++calls[of] == place && kind == of; }
 
+/* Whether the next call for so many bytes is refused. */
+static int is_memory_refused(size_t size) {
+    unsigned long call = ++calls[MEMORY];
+    if (kind != MEMORY) return 0;
+    return how == 'l' ? size > place : how == 'r' ? call >= place : call == place;
+}
+
 static void *refused(void) {
     errno = ENOMEM;
     return NULL;
 }
 
-void *malloc(size_t size) { return is_refused(MEMORY) ? refused() : __libc_malloc(size); }
+void *malloc(size_t size) { return is_memory_refused(size) ? refused() : __libc_malloc(size); }
 
 void *calloc(size_t count, size_t size) {
-    return is_refused(MEMORY) ? refused() : __libc_calloc(count, size);
+    size_t whole;
+    if (__builtin_mul_overflow(count, size, &whole)) whole = SIZE_MAX;
+    return is_memory_refused(whole) ? refused() : __libc_calloc(count, size);
 }
 
-void *realloc(void *old, size_t size) { return is_refused(MEMORY) ? refused() : __libc_realloc(old, size); }
+void *realloc(void *old, size_t size) { return is_memory_refused(size) ? refused() : __libc_realloc(old, size); }
 
 /* What a refused read or write answers. */
 static ssize_t failed(void) {

@@ -2,6 +2,7 @@
 mod devices;
 mod inputs;
 mod outputs;
+mod refused;
 mod texts;
 
 use crate::devices::Failure;

@@ -80,25 +80,6 @@ fn codes_are_appended(rt: HostRuntime) -> Result<(), Fail> {
     want(text.as_str() == "004116D67", "one behind the other")
 }
 
-/// Appends a code; where memory is refused for it, as `tests/refusals.py` has it in turn, the text is as it
-/// was, and the code is appended after all.
-fn append(text: &mut String, code: u32, before: &str) -> Result<(), Fail> {
-    if write_code(text, code).is_err() {
-        want(text.as_str() == before, "a refused code changes nothing")?;
-        write_code(text, code)?;
-    }
-    Ok(())
-}
-
-#[test]
-fn a_refused_code_leaves_the_text(rt: HostRuntime) -> Result<(), Fail> {
-    let mut text = String::new(rt.alloc());
-    append(&mut text, 0x41, "")?;
-    append(&mut text, 0x16D67, "0041")?;
-    append(&mut text, 0x10FFFF, "004116D67")?;
-    want(text.as_str() == "004116D6710FFFF", "one behind the other")
-}
-
 #[test]
 fn forms_have_names_and_bytes(_rt: HostRuntime) -> Result<(), Fail> {
     want(Form::of_name("nfkc") == Some(Form::Nfkc), "a name")?;

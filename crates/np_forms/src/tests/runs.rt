@@ -76,38 +76,55 @@ fn wants_rows<T: NormTable>(alloc: Global, table: &T) -> Result<(), Fail> {
     Ok(())
 }
 
+/// How a call fails.
+const FAILURES: [Failure; 3] = [Failure::Error, Failure::Interrupted, Failure::TakesNothing];
+
 /// A read that fails at a call that is counted from 0.
 fn wants_failed_read<T: NormTable>(
     alloc: Global,
     table: &T,
     call: u64,
+    failure: Failure,
     bytes: &[u8],
 ) -> Result<(), Fail> {
-    let source = Trickle::new(b"a\xcc\x82A", 1).failing_at(call, Failure::Interrupted);
+    let source = Trickle::new(b"a\xcc\x82A", 1).failing_at(call, failure);
     let fault = Err(RunFault::ReadFailed);
     wants_run(alloc, table, Form::Nfc, Watched::new(source), fault, bytes)
 }
 
-fn failed_reads<T: NormTable>(alloc: Global, table: &T) -> Result<(), Fail> {
+fn failed_reads<T: NormTable>(alloc: Global, table: &T, failure: Failure) -> Result<(), Fail> {
     for call in 0..4 {
-        wants_failed_read(alloc, table, call, b"")?;
+        wants_failed_read(alloc, table, call, failure, b"")?;
     }
-    wants_failed_read(alloc, table, 4, b"\xc3\xa2")
+    wants_failed_read(alloc, table, 4, failure, b"\xc3\xa2")
 }
 
-/// A write or the flush that fails at a call that is counted from 0.
-fn wants_failed_write<T: NormTable>(alloc: Global, table: &T, call: u64) -> Result<(), Fail> {
+/// A write of one byte, or the flush, that fails at a call that is counted from 0: what comes before it is
+/// written, and nothing is tried behind it.
+fn wants_failed_write<T: NormTable>(
+    alloc: Global,
+    table: &T,
+    call: u64,
+    failure: Failure,
+) -> Result<(), Fail> {
     let mut source = Watched::new(Trickle::new(b"a\xcc\x82A", 1));
-    let room = Room::new(alloc, 64, 64)?.failing_at(call, Failure::Error);
+    let room = Room::new(alloc, 64, 1)?.failing_at(call, failure);
     let mut target = Watched::new(room);
     let made = run(alloc, table, Form::Nfc, &mut source, &mut target);
     want(target.failed(), "the target has failed")?;
-    want(made == Err(RunFault::WriteFailed), "the answer")
+    want(made == Err(RunFault::WriteFailed), "the answer")?;
+    let room = target.into_inner();
+    want(
+        b"\xc3\xa2A".starts_with(room.bytes()),
+        "a front of the form",
+    )?;
+    want(room.bytes().len() as u64 == call, "as far as it was taken")?;
+    want(room.calls() == call.saturating_add(1), "no second try")
 }
 
-fn failed_writes<T: NormTable>(alloc: Global, table: &T) -> Result<(), Fail> {
-    for call in 0..3 {
-        wants_failed_write(alloc, table, call)?;
+fn failed_writes<T: NormTable>(alloc: Global, table: &T, failure: Failure) -> Result<(), Fail> {
+    for call in 0..4 {
+        wants_failed_write(alloc, table, call, failure)?;
     }
     Ok(())
 }
@@ -134,9 +151,16 @@ fn runs_write_the_form_of_the_whole_input(rt: HostRuntime) -> Result<(), Fail> {
     wants_rows_over::<PageTable>(rt.alloc())
 }
 
+fn each_failed_read<T: NormTable>(alloc: Global, table: &T) -> Result<(), Fail> {
+    for failure in FAILURES {
+        failed_reads(alloc, table, failure)?;
+    }
+    Ok(())
+}
+
 fn failed_reads_over<T: Made>(alloc: Global) -> Result<(), Fail> {
     let table: T = table_of(alloc, V1_DATA, V1_EXCLUSIONS)?;
-    failed_reads(alloc, &table)
+    each_failed_read(alloc, &table)
 }
 
 #[test]
@@ -145,9 +169,16 @@ fn a_failed_read_leaves_what_is_ready(rt: HostRuntime) -> Result<(), Fail> {
     failed_reads_over::<PageTable>(rt.alloc())
 }
 
+fn each_failed_write<T: NormTable>(alloc: Global, table: &T) -> Result<(), Fail> {
+    for failure in FAILURES {
+        failed_writes(alloc, table, failure)?;
+    }
+    Ok(())
+}
+
 fn failed_writes_over<T: Made>(alloc: Global) -> Result<(), Fail> {
     let table: T = table_of(alloc, V1_DATA, V1_EXCLUSIONS)?;
-    failed_writes(alloc, &table)
+    each_failed_write(alloc, &table)
 }
 
 #[test]
