@@ -1,6 +1,7 @@
 //! The table of pages: one word for each code point in blocks of 256, one flat list of full
 //! decompositions, and one sorted list of pairs.
 ghost use Rattle.std.specs.Prelude.{◌≡◌, IfOk};
+ghost use Rattle.np_tables.specs.inside.PageWords.{ArePages};
 
 use crate::fulls::Fulls;
 use crate::page_hints::{parts_place, stays_place};
@@ -47,6 +48,21 @@ impl Model for PageTable {
     ghost invariant = { λ a. IsPageTable a.version a.fulls a.index.items a.words.items a.ascii_canonical a.ascii_compatible };
 }
 
+/// What a table keeps of a version that is lent: the blocks' numbers, their words, and the full
+/// decompositions.
+fn pages_of(alloc: Global, version: &Version) -> Result<(Vec<u16>, Vec<Word>, Fulls), Memory>
+    ensures { IfOk result (λ r. ArePages version.now r.2 r.0.items r.1.items) }
+{
+    let pages = version.characters().pages();
+    let (fulls, slots) = slots_of(alloc, version.characters())?;
+    let seconds = second_rows(alloc, version)?;
+    let rows = row_words(alloc, version, &fulls, &slots, &seconds)?;
+    let words = page_words(alloc, &rows, &pages.numbers)?;
+    let mut index = Vec::with_capacity(alloc, pages.index.len())?;
+    index.extend_from_slice(&pages.index)?;
+    Ok((index, words, fulls))
+}
+
 impl PageTable {
     /// The table of a version. Time and memory are linear in its rows and blocks.
     ///
@@ -56,13 +72,7 @@ impl PageTable {
     pub fn new(alloc: Global, version: Version) -> Result<PageTable, Memory>
         ensures { IfOk result (λ t. t ≡ version) }
     {
-        let pages = version.characters().pages();
-        let (fulls, slots) = slots_of(alloc, version.characters())?;
-        let seconds = second_rows(alloc, &version)?;
-        let rows = row_words(alloc, &version, &fulls, &slots, &seconds)?;
-        let words = page_words(alloc, &rows, &pages.numbers)?;
-        let mut index = Vec::with_capacity(alloc, pages.index.len())?;
-        index.extend_from_slice(&pages.index)?;
+        let (index, words, fulls) = pages_of(alloc, &version)?;
         let ascii_canonical = is_ascii_kept(&index, &words, own_place(false));
         let ascii_compatible = is_ascii_kept(&index, &words, own_place(true));
         Ok(PageTable {

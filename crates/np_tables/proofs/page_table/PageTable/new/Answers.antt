@@ -1,27 +1,12 @@
-use Rattle.std.proofs.Common.{◌∙◌, ◌++◌, ap, subst, length}
-use Rattle.np_tables.specs.inside.PageWords.{AreRowWords, AreSlots, paged_words}
-use Rattle.np_tables.specs.inside.RowPages.{AreRowPages}
 use Rattle.np_tables.proofs.PageSettledLemmas.{ascii-lent}
-use Rattle.np_tables.proofs.PageWordLemmas.{pages-from}
 use Rattle.np_tables.proofs.page_table.PageTable.new.Goals as goal
 
 pub invariant_of-result : goal.invariant_of-result
 invariant_of-result c =
-    let v = c.args.version in
-    let fulls = c.in_ok-fulls.fulls in
-    let slots = c.in_ok-fulls.slots.items in
-    let seconds = c.in_ok-seconds.seconds.items in
-    let rows = c.in_ok-rows.rows.items in
-    let pages = c.pages-pages.result.now in
-    let words = subst (λ s. AreRowWords v s seconds (length v.entries) rows) c.deref.ensures.value
-    (subst (λ t. AreRowWords v c.deref.result.now t (length v.entries) rows) c.deref-2.ensures.value c.in_ok-rows.ensures) in
-    let index = c.in_ok-extend_from_slice.ensures.items ∙ ap (λ l. l ++ c.deref-5.result.now) c.in_ok-index.ensures.items ∙ c.deref-5.ensures.value in
-    let paged = c.in_ok-words.ensures ∙ ap (λ r. paged_words r c.deref-4.result.now) c.deref-3.ensures.value ∙ ap (paged_words rows) c.deref-4.ensures.value in
-    let blocks = c.extend_from_slice.new.self.items in
-    let kept = c.in_ok-words.words.items in
+    let blocks = c.in_ok-index.index.items in
+    let kept = c.in_ok-index.words.items in
     record {
-      pages = pages-from v c.characters.ensures.sound fulls slots (subst (λ x. AreSlots x (length x.entries) fulls slots) c.characters-2.ensures.same c.in_ok-fulls.ensures) seconds c.in_ok-seconds.ensures
-          rows words pages.index.items pages.numbers.items _ _ (subst (λ x. AreRowPages x.entries pages.index.items pages.numbers.items) c.characters.ensures.same c.pages-pages.ensures) index paged;
-      canonical_ascii = ascii-lent blocks c.deref-6.result.now kept c.deref-7.result.now 2 c.own_place.result c.is_ascii_kept-ascii_canonical.result c.deref-6.ensures.value c.deref-7.ensures.value c.own_place.ensures.place c.is_ascii_kept-ascii_canonical.ensures;
-      compatible_ascii = ascii-lent blocks c.deref-8.result.now kept c.deref-9.result.now 6 c.own_place-2.result c.is_ascii_kept-ascii_compatible.result c.deref-8.ensures.value c.deref-9.ensures.value c.own_place-2.ensures.place c.is_ascii_kept-ascii_compatible.ensures;
+      pages = c.in_ok-index.ensures;
+      canonical_ascii = ascii-lent blocks c.deref.result.now kept c.deref-2.result.now 2 c.own_place.result c.is_ascii_kept-ascii_canonical.result c.deref.ensures.value c.deref-2.ensures.value c.own_place.ensures.place c.is_ascii_kept-ascii_canonical.ensures;
+      compatible_ascii = ascii-lent blocks c.deref-3.result.now kept c.deref-4.result.now 6 c.own_place-2.result c.is_ascii_kept-ascii_compatible.result c.deref-3.ensures.value c.deref-4.ensures.value c.own_place-2.ensures.place c.is_ascii_kept-ascii_compatible.ensures;
     }
