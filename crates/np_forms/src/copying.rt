@@ -22,7 +22,11 @@ fn without_last(text: &str) -> &str
 }
 
 /// Cuts off the longest front that is known to stand in the form as it is.
-fn split_staying<'a, T: NormTable>(table: &T, form: Form, text: &'a str) -> (&'a str, &'a str)
+pub(crate) fn split_staying<'a, T: NormTable>(
+    table: &T,
+    form: Form,
+    text: &'a str,
+) -> (&'a str, &'a str)
     ensures { IsCopied (T.model table.now) form text.now result.0.now result.1.now }
 {
     table.meets_conditions();
@@ -36,7 +40,11 @@ fn split_staying<'a, T: NormTable>(table: &T, form: Form, text: &'a str) -> (&'a
 }
 
 /// Cuts before the first code point behind the first one at which the form is known to part.
-fn split_segment<'a, T: NormTable>(table: &T, form: Form, text: &'a str) -> (&'a str, &'a str)
+pub(crate) fn split_segment<'a, T: NormTable>(
+    table: &T,
+    form: Form,
+    text: &'a str,
+) -> (&'a str, &'a str)
     ensures parted { IsParted (T.model table.now) form text.now result.0.now result.1.now }
     ensures some { 0 < length text.now → 0 < length result.0.now }
 {
@@ -104,7 +112,7 @@ pub(crate) fn split_tail<'a, T: NormTable>(
 }
 
 /// Appends the form of a segment. The list is room that is used again.
-fn write_segment<T: NormTable>(
+pub(crate) fn write_segment<T: NormTable>(
     alloc: Global,
     table: &T,
     form: Form,

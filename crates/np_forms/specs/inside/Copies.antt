@@ -1,5 +1,6 @@
 -- Texts cut where their forms part.
-use Rattle.std.specs.Prelude.{◌≡◌, ℕ, ⊤, List, [], ◌∷◌, ◌++◌, ◌⊎◌, chars, encode_utf8, encode_utf8_all, IsUtf8}
+use Rattle.std.specs.Prelude.{◌≡◌, ◌≢◌, ℕ, ⊤, List, [], ◌∷◌, ◌++◌, ◌⊎◌, Option, MatchOption, chars, encode_utf8, encode_utf8_all, IsUtf8}
+use denote.Ref.{Bor}
 use Rattle.np_code_points.specs.declared.forms.Form.{Form}
 use Rattle.np_forms.specs.inside.NormalForms.{normal_form}
 use Rattle.np_tables.specs.Boundaries.{IsBoundary}
@@ -25,3 +26,7 @@ pub record IsParted (v : VersionData) (form : Form) (text front back : List ℕ)
 -- a text without its last character; the empty one stays
 abbrev pub LosesLast : List ℕ → List ℕ → Type 0
 LosesLast text rest = ((text ≡ []) × (rest ≡ [])) ⊎ ((c : ℕ) × (text ≡ rest ++ encode_utf8 c))
+
+-- what follows a front, where the bytes begin with it
+abbrev pub IsBehind : List ℕ → List ℕ → Option (Bor (List ℕ)) → Type 0
+IsBehind bytes front result = MatchOption result ((rest : List ℕ) → bytes ≢ front ++ rest) (λ rest. bytes ≡ front ++ rest.now)
