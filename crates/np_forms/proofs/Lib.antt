@@ -11,9 +11,11 @@ pub mod InPlaceLemmas
 pub mod KeptLemmas
 pub mod LengthLemmas
 pub mod MachineLemmas
+pub mod MatchLemmas
 pub mod OrderLaws
 pub mod OrderLemmas
 pub mod PendingLemmas
+pub mod PieceLemmas
 pub mod PushLemmas
 pub mod RunLemmas
 pub mod RunTextLemmas

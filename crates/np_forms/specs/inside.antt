@@ -4,6 +4,7 @@ pub mod Composing
 pub mod Copies
 pub mod Held
 pub mod NormalForms
+pub mod Pieces
 pub mod Running
 pub mod Runs
 pub mod Syllables

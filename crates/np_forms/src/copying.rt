@@ -23,7 +23,11 @@ fn without_last(text: &str) -> &str
 }
 
 /// Cuts off the longest front that is known to stand in the form as it is.
-fn split_staying<'a, T: NormTable>(table: &T, form: Form, text: &'a str) -> (&'a str, &'a str)
+pub(crate) fn split_staying<'a, T: NormTable>(
+    table: &T,
+    form: Form,
+    text: &'a str,
+) -> (&'a str, &'a str)
     ensures { IsCopied (T.model table.now) form text.now result.0.now result.1.now }
 {
     table.meets_conditions();

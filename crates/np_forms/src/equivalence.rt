@@ -1,20 +1,30 @@
 //! Canonical and compatibility equivalence (The Unicode Standard, D70 and D67).
-ghost use Rattle.std.specs.Prelude.{◌≡◌, ◌↔◌, IsTrue, chars, IfOk};
+ghost use Rattle.std.specs.Prelude.{◌≡◌, ◌↔◌, false, IsTrue, chars, IfOk};
+ghost use Rattle.np_code_points.specs.Forms.{composes, is_compat};
 ghost use Rattle.np_forms.specs.Forms.{IsEquivalent};
 
-use crate::forms::decomposed;
-use np_code_points::Memory;
+use crate::pieces::have_same_form;
+use np_code_points::{Form, Memory};
 use np_tables::NormTable;
 use std::alloc::Global;
 
-/// Whether two lists are one.
-fn are_same(left: &[char], right: &[char]) -> bool
+/// The form that decomposes by this kind of mappings and does not compose.
+fn decomposing_form(compat: bool) -> Form
+    ensures kind { is_compat result ≡ compat }
+    ensures decomposes { composes result ≡ false }
+{
+    if compat { Form::Nfkd } else { Form::Nfd }
+}
+
+/// Whether two texts have the same bytes.
+fn are_same(left: &str, right: &str) -> bool
     ensures { IsTrue result ↔ (left.now ≡ right.now) }
 {
     left == right
 }
 
-/// Whether two texts are equivalent: compatible where `compat`, else canonical equivalents.
+/// Whether two texts are equivalent: compatible where `compat`, else canonical equivalents. Takes
+/// memory for their longest parts at a time, and none where the texts are the same.
 ///
 /// # Errors
 ///
@@ -29,7 +39,8 @@ pub fn equivalent<T: NormTable>(
     ensures { IfOk result (λ b. IsTrue b ↔ IsEquivalent (T.model table.now) compat (chars left.now) (chars right.now)) }
 {
     table.meets_conditions();
-    let left_list = decomposed(alloc, table, compat, left)?;
-    let right_list = decomposed(alloc, table, compat, right)?;
-    Ok(are_same(&left_list, &right_list))
+    if are_same(left, right) {
+        return Ok(true);
+    }
+    have_same_form(alloc, table, decomposing_form(compat), left, right)
 }

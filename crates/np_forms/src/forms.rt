@@ -1,9 +1,10 @@
 //! The four normalization forms (The Unicode Standard, D118 to D121).
 ghost use Rattle.std.specs.Prelude.{◌≡◌, ◌↔◌, IsTrue, chars, string_bytes, encode_utf8_all, IfOk};
 ghost use Rattle.np_forms.specs.Forms.{IsNormalForm};
+ghost use Rattle.np_forms.specs.inside.Copies.{IsBehind};
 ghost use Rattle.np_forms.specs.inside.NormalForms.{decomposed as decomposed_list, normal_form};
 
-use crate::copying::write_form;
+use crate::copying::{split_segment, split_staying, write_form, write_segment};
 use crate::decomposing::full_decomposition;
 use crate::ordering::order;
 use np_code_points::{Form, Memory};
@@ -45,14 +46,33 @@ pub fn form<T: NormTable>(
     Ok(out)
 }
 
-/// Whether two texts have the same bytes.
-fn are_same(left: &str, right: &str) -> bool
-    ensures { IsTrue result ↔ (left.now ≡ right.now) }
+/// What follows a front, where the bytes begin with it.
+fn behind<'a>(bytes: &'a [u8], front: &[u8]) -> Option<&'a [u8]>
+    ensures { IsBehind bytes.now front.now result }
 {
-    left == right
+    bytes.strip_prefix(front)
 }
 
-/// Whether a text is its own normal form.
+/// What follows the form of a segment, where the bytes begin with it. The list and the text are room
+/// that is used again.
+fn behind_segment<'a, T: NormTable>(
+    alloc: Global,
+    table: &T,
+    form: Form,
+    segment: &str,
+    bytes: &'a [u8],
+    list: &mut Vec<char>,
+    made: &mut String,
+) -> Result<Option<&'a [u8]>, Memory>
+    ensures { IfOk result (IsBehind bytes.now (encode_utf8_all (normal_form (T.model table.now) form (chars segment.now)))) }
+{
+    made.clear();
+    write_segment(alloc, table, form, segment, list, made)?;
+    Ok(behind(bytes, made.as_bytes()))
+}
+
+/// Whether a text is its own normal form. The form is made segment by segment, and no further than
+/// to the first byte that differs.
 ///
 /// # Errors
 ///
@@ -66,6 +86,22 @@ pub fn is_form<T: NormTable>(
     ensures { IfOk result (λ b. IsTrue b ↔ IsNormalForm (T.model table.now) wanted (chars text.now) (chars text.now)) }
 {
     table.meets_conditions();
-    let normal = form(alloc, table, wanted, text)?;
-    Ok(are_same(normal.as_str(), text))
+    let mut list = Vec::new(alloc);
+    let mut made = String::new(alloc);
+    let mut left = text.as_bytes();
+    let mut rest = text;
+    'segments: while !rest.is_empty() {
+        let (stays, after) = split_staying(table, wanted, rest);
+        let (segment, later) = split_segment(table, wanted, after);
+        let Some(past) = behind(left, stays.as_bytes()) else {
+            return Ok(false);
+        };
+        let past = behind_segment(alloc, table, wanted, segment, past, &mut list, &mut made)?;
+        let Some(past) = past else {
+            return Ok(false);
+        };
+        left = past;
+        rest = later;
+    }
+    Ok(left.is_empty())
 }

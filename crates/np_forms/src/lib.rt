@@ -23,6 +23,7 @@ mod forms;
 mod held;
 pub mod laws;
 mod ordering;
+mod pieces;
 mod runs;
 mod stabilized;
 mod stream_safety;

@@ -1,5 +1,6 @@
 -- Texts cut where their forms part.
-use Rattle.std.specs.Prelude.{◌≡◌, ℕ, ◌≤◌, ⊤, List, [], ◌∷◌, ◌++◌, ◌⊎◌, length, chars, encode_utf8, encode_utf8_all, IsUtf8}
+use Rattle.std.specs.Prelude.{◌≡◌, ◌≢◌, ℕ, ◌≤◌, ⊤, List, [], ◌∷◌, ◌++◌, ◌⊎◌, Option, MatchOption, length, chars, encode_utf8, encode_utf8_all, IsUtf8}
+use denote.Ref.{Bor}
 use Rattle.np_code_points.specs.declared.forms.Form.{Form}
 use Rattle.np_forms.specs.inside.NormalForms.{normal_form}
 use Rattle.np_tables.specs.Boundaries.{IsBoundary}
@@ -31,3 +32,7 @@ pub record GoesOn (v : VersionData) (form : Form) (text rest old new : List ℕ)
   pub utf8 : IsUtf8 rest
   pub shorter : length rest ≤ length text
   pub written : new ++ encode_utf8_all (normal_form v form (chars rest)) ≡ old ++ encode_utf8_all (normal_form v form (chars text))
+
+-- what follows a front, where the bytes begin with it
+abbrev pub IsBehind : List ℕ → List ℕ → Option (Bor (List ℕ)) → Type 0
+IsBehind bytes front result = MatchOption result ((rest : List ℕ) → bytes ≢ front ++ rest) (λ rest. bytes ≡ front ++ rest.now)

@@ -1,11 +1,16 @@
-use Rattle.std.proofs.Common.{chars, sym, ◌∙◌}
-use Rattle.np_forms.proofs.AnswerLemmas.{IsEquivalent-lists}
+use Rattle.std.proofs.Common.{◌↔◌, IsTrue, chars}
+use Rattle.std.proofs.lemmas.Result.{IfOk-weaker}
+use Rattle.np_forms.specs.Forms.{IsEquivalent}
+use Rattle.np_forms.proofs.PieceLemmas.{IsEquivalent-same, IsEquivalent-forms}
 use Rattle.np_forms.proofs.equivalence.equivalent.Goals as goal
+
+pub returns-then-are_same : goal.returns-then-are_same
+returns-then-are_same g c =
+    IsEquivalent-same (g.T.NormTable.model c.args.table.now) c.meets_conditions.ensures c.args.compat c.args.left.now c.args.right.now (c.are_same.ensures.0 c.if-are_same.true)
 
 pub returns : goal.returns
 returns g c =
-    let left = c.deref.ensures.value in
-    let right = c.deref-2.ensures.value in
-    let same = c.are_same.ensures in
-    IsEquivalent-lists (g.T.NormTable.model c.args.table.now) c.meets_conditions.ensures c.args.compat (chars c.args.left.now) (chars c.args.right.now) c.in_ok-left_list.left_list.items c.in_ok-right_list.right_list.items
-    c.are_same.result c.in_ok-left_list.ensures c.in_ok-right_list.ensures (λ h. sym left ∙ same.0 h ∙ right, λ e. same.1 (left ∙ e ∙ sym right))
+    let v = g.T.NormTable.model c.args.table.now in
+    IfOk-weaker c.have_same_form.result _ (λ b. IsTrue b ↔ IsEquivalent v c.args.compat (chars c.args.left.now) (chars c.args.right.now))
+    (λ b same. IsEquivalent-forms v c.meets_conditions.ensures c.decomposing_form.result c.args.compat c.args.left.now c.args.right.now b c.decomposing_form.ensures.kind c.decomposing_form.ensures.decomposes same)
+    c.have_same_form.ensures

@@ -1,0 +1,167 @@
+-- A form that is given piece by piece.
+use Rattle.std.proofs.Common.{◌≡◌, ◌≢◌, ℕ, ◌+◌, ◌≤◌, ◌↔◌, min, Bool, true, false, IsTrue, eqb, List, [], ◌∷◌, ◌++◌, length, take, drop, chars, encode_utf8_all, refl, sym, ap, ◌∙◌, append_assoc, ◌⊎◌, ⊎_elim, inl, inr, ◌&&◌, arith}
+use Rattle.std.proofs.lemmas.Bool.{false≢true, eqb-true, and_parts, and_from}
+use Rattle.std.proofs.lemmas.List.{append_cancel_left, nil_from_length, drop-drop, drop_min, take-append-drop, take-append-le}
+use Rattle.np_code_points.specs.declared.forms.Form.{Form}
+use Rattle.std.proofs.lemmas.Str.{encodes_same}
+use Rattle.np_code_points.specs.Forms.{composes, is_compat}
+use Rattle.np_tables.specs.Conditions.{IsSound}
+use Rattle.np_tables.specs.Versions.{VersionData}
+use Rattle.np_forms.specs.Forms.{IsEquivalent}
+use Rattle.np_forms.specs.inside.NormalForms.{decomposed, normal_form}
+use Rattle.np_forms.proofs.AnswerLemmas.{IsEquivalent-lists, normal_form-decomposed}
+use Rattle.np_forms.specs.inside.Copies.{IsCopied, IsParted}
+use Rattle.np_forms.specs.inside.Pieces.{first_of, form_bytes}
+use Rattle.np_forms.proofs.MatchLemmas.{form_cut, rest_nil}
+
+-- nothing stands in front
+pub first_nil : (stays made : List ℕ) → first_of stays made ≡ [] → stays ≡ []
+first_nil [] made e = refl
+first_nil (b ∷ bs) made e = e
+
+pub other_nil : (stays made : List ℕ) → first_of stays made ≡ [] → made ≡ []
+other_nil [] made e = e
+other_nil (b ∷ bs) made e = absurd (cc)
+
+module _ (v : VersionData) (form : Form) where
+  -- where nothing stands in front, only the rest is left
+  pub left_rest : (stays made rest : List ℕ) → first_of stays made ≡ [] → stays ++ (made ++ form_bytes v form rest) ≡ form_bytes v form rest
+  left_rest stays made rest e =
+      ap (λ l. l ++ (made ++ form_bytes v form rest)) (first_nil stays made e) ∙ ap (λ l. l ++ form_bytes v form rest) (other_nil stays made e)
+
+  -- the next piece is cut off the rest
+  pub left_next : (rest stays after segment later made : List ℕ) → IsCopied v form rest stays after → IsParted v form after segment later → made ≡ form_bytes v form segment →
+      stays ++ (made ++ form_bytes v form later) ≡ form_bytes v form rest
+  left_next rest stays after segment later made copied parted is =
+      ap (λ l. stays ++ (l ++ form_bytes v form later)) is ∙ sym (form_cut v form rest stays after segment later copied parted)
+
+  -- nothing in front and no rest
+  pub left_nil : (stays made rest : List ℕ) → first_of stays made ≡ [] → length rest ≡ 0 → stays ++ (made ++ form_bytes v form rest) ≡ []
+  left_nil stays made rest e none = left_rest stays made rest e ∙ rest_nil v form rest none
+
+some_length : (b : ℕ) (bs : List ℕ) → length (b ∷ bs) ≢ 0
+some_length b bs e = omega (arith, e)
+
+first_some : (stays made : List ℕ) → eqb (length stays) 0 ≡ false → first_of stays made ≡ stays
+first_some [] made h = absurd (false≢true (sym h))
+first_some (b ∷ bs) made h = refl
+
+first_none : (stays made : List ℕ) → eqb (length stays) 0 ≡ true → first_of stays made ≡ made
+first_none [] made h = refl
+first_none (b ∷ bs) made h = absurd (some_length b bs (eqb-true (length (b ∷ bs)) 0 h))
+
+-- what is passed of what stays
+pub passed_stays : (stays made more : List ℕ) (n : ℕ) → eqb (length stays) 0 ≡ false → stays ++ (made ++ more) ≡ take n (first_of stays made) ++ (drop n stays ++ (made ++ more))
+passed_stays stays made more n some =
+    ap (λ l. l ++ (made ++ more)) (sym (take-append-drop n stays)) ∙ append_assoc (take n stays) (drop n stays) (made ++ more)
+    ∙ ap (λ l. take n l ++ (drop n stays ++ (made ++ more))) (sym (first_some stays made some))
+
+-- the same of the rest of what stays
+pub passed_stays_to : (stays rest made more : List ℕ) (n : ℕ) → eqb (length stays) 0 ≡ false → rest ≡ drop n stays → stays ++ (made ++ more) ≡ take n (first_of stays made) ++ (rest ++ (made ++ more))
+passed_stays_to stays rest made more n some is =
+    passed_stays stays made more n some ∙ ap (λ l. take n (first_of stays made) ++ (l ++ (made ++ more))) (sym is)
+
+-- what is passed of what was made, of which `taken` bytes were passed before
+pub passed_made : (stays made more : List ℕ) (taken n : ℕ) → eqb (length stays) 0 ≡ true → stays ++ (drop taken made ++ more) ≡ take n (first_of stays (drop taken made)) ++ (stays ++ (drop (taken + n) made ++ more))
+passed_made stays made more taken n none =
+    let empty = nil_from_length stays (eqb-true (length stays) 0 none) in
+    let cut = sym (take-append-drop n (drop taken made)) ∙ ap (λ l. take n (drop taken made) ++ l) (drop-drop n taken made) in
+    ap (λ l. l ++ (drop taken made ++ more)) empty ∙ ap (λ l. l ++ more) cut ∙ append_assoc (take n (drop taken made)) (drop (taken + n) made) more
+    ∙ ap (λ l. take n l ++ (drop (taken + n) made ++ more)) (sym (first_none stays (drop taken made) none))
+    ∙ ap (λ l. take n (first_of stays (drop taken made)) ++ (l ++ (drop (taken + n) made ++ more))) (sym empty)
+
+-- the same where the place was cut at the end of what was made
+pub passed_made_from : (stays made more : List ℕ) (taken n next : ℕ) → eqb (length stays) 0 ≡ true → next ≡ min taken (length made) + n → stays ++ (drop taken made ++ more) ≡ take n (first_of stays (drop taken made)) ++ (stays ++ (drop next made ++ more))
+passed_made_from stays made more taken n next none is =
+    let from = min taken (length made) in
+    let same = drop_min taken made in
+    ap (λ l. stays ++ (l ++ more)) (sym same) ∙ passed_made stays made more from n none
+    ∙ ap (λ l. take n (first_of stays l) ++ (stays ++ (drop (from + n) made ++ more))) same
+    ∙ ap (λ k. take n (first_of stays (drop taken made)) ++ (stays ++ (drop k made ++ more))) (sym is)
+
+-- what stands in front stands in front of all that is left
+left_begins : (stays made more : List ℕ) → (rest : List ℕ) × (stays ++ (made ++ more) ≡ first_of stays made ++ rest)
+left_begins [] made more = (more, refl)
+left_begins (b ∷ bs) made more = (made ++ more, refl)
+
+-- two lists, of each of which the same front was passed
+pub record ArePassed (whole other left right : List ℕ) : Type 0 where
+  pub passed : List ℕ
+  pub whole_is : whole ≡ passed ++ left
+  pub other_is : other ≡ passed ++ right
+
+pub ArePassed-start : (whole other left right : List ℕ) → left ≡ whole → right ≡ other → ArePassed whole other left right
+ArePassed-start whole other left right e f = record { passed = []; whole_is = sym e; other_is = sym f }
+
+pub ArePassed-next : (whole other left right front before later after : List ℕ) → ArePassed whole other left right → left ≡ front ++ later → right ≡ before ++ after → front ≡ before → ArePassed whole other later after
+ArePassed-next whole other left right front before later after p e f same =
+    record {
+      passed = p.passed ++ front;
+      whole_is = p.whole_is ∙ ap (λ l. p.passed ++ l) e ∙ sym (append_assoc p.passed front later);
+      other_is = p.other_is ∙ ap (λ l. p.passed ++ l) (f ∙ ap (λ l. l ++ after) (sym same)) ∙ sym (append_assoc p.passed front after);
+    }
+
+pub ArePassed-same : (whole other left right left₂ right₂ : List ℕ) → ArePassed whole other left right → left₂ ≡ left → right₂ ≡ right → ArePassed whole other left₂ right₂
+ArePassed-same whole other left right left₂ right₂ p e f =
+    record { passed = p.passed; whole_is = p.whole_is ∙ ap (λ l. p.passed ++ l) (sym e); other_is = p.other_is ∙ ap (λ l. p.passed ++ l) (sym f) }
+
+-- one of them is empty where neither is longer than nothing
+pub none_of_both : (front other : List ℕ) (count : ℕ) → count ≡ min (length front) (length other) → count ≡ 0 → (length front ≡ 0) ⊎ (length other ≡ 0)
+none_of_both [] other count e none = inl refl
+none_of_both (b ∷ bs) [] count e none = inr refl
+none_of_both (b ∷ bs) (d ∷ ds) count e none = absurd (omega (arith, e, none))
+
+left_same : (whole other left right : List ℕ) → ArePassed whole other left right → whole ≡ other → left ≡ right
+left_same whole other left right p e = append_cancel_left p.passed left right (sym p.whole_is ∙ e ∙ p.other_is)
+
+-- the fronts differ within a number of bytes
+pub ArePassed-differ : (whole other : List ℕ) (stays made more stays₂ made₂ more₂ : List ℕ) (n : ℕ) → ArePassed whole other (stays ++ (made ++ more)) (stays₂ ++ (made₂ ++ more₂)) →
+    n ≤ length (first_of stays made) → n ≤ length (first_of stays₂ made₂) → take n (first_of stays made) ≢ take n (first_of stays₂ made₂) → IsTrue false ↔ (whole ≡ other)
+ArePassed-differ whole other stays made more stays₂ made₂ more₂ n p fits fits₂ differ =
+    let one = left_begins stays made more in
+    let two = left_begins stays₂ made₂ more₂ in (
+      λ yes. absurd (false≢true yes),
+      λ same.
+          absurd (differ (sym (take-append-le n (first_of stays made) one.0 fits)
+          ∙ ap (take n) (sym one.1 ∙ left_same whole other _ _ p same ∙ two.1) ∙ take-append-le n (first_of stays₂ made₂) two.0 fits₂)),
+    )
+
+front_nil : (front rest : List ℕ) → front ++ rest ≡ [] → front ≡ []
+front_nil [] rest e = refl
+front_nil (b ∷ bs) rest e = absurd (cc)
+
+-- nothing stands in front of one of them, and then nothing is left of it
+pub ArePassed-end : (whole other : List ℕ) (stays made more stays₂ made₂ more₂ : List ℕ) (b : Bool) → ArePassed whole other (stays ++ (made ++ more)) (stays₂ ++ (made₂ ++ more₂)) →
+    (first_of stays made ≡ [] → stays ++ (made ++ more) ≡ []) → (first_of stays₂ made₂ ≡ [] → stays₂ ++ (made₂ ++ more₂) ≡ []) →
+    (length (first_of stays made) ≡ 0) ⊎ (length (first_of stays₂ made₂) ≡ 0) → b ≡ (eqb (length (first_of stays made)) 0 && eqb (length (first_of stays₂ made₂)) 0) → IsTrue b ↔ (whole ≡ other)
+ArePassed-end whole other stays made more stays₂ made₂ more₂ b p empty empty₂ none is =
+    let one = left_begins stays made more in
+    let two = left_begins stays₂ made₂ more₂ in (
+      λ yes.
+          let both = and_parts (eqb (length (first_of stays made)) 0) (eqb (length (first_of stays₂ made₂)) 0) (sym is ∙ yes) in
+          let no_left = empty (nil_from_length (first_of stays made) (eqb-true _ 0 both.0)) in
+          let no_right = empty₂ (nil_from_length (first_of stays₂ made₂) (eqb-true _ 0 both.1)) in
+          p.whole_is ∙ ap (λ l. p.passed ++ l) (no_left ∙ sym no_right) ∙ sym p.other_is,
+      λ same.
+          let alike = left_same whole other _ _ p same in
+          let all : (stays ++ (made ++ more) ≡ []) × (stays₂ ++ (made₂ ++ more₂) ≡ []) = ⊎_elim
+          (λ h. let nil = empty (nil_from_length (first_of stays made) h) in (nil, sym alike ∙ nil))
+          (λ h. let nil = empty₂ (nil_from_length (first_of stays₂ made₂) h) in (alike ∙ nil, nil))
+          none in
+          is ∙ and_from _ _ (ap (λ l. eqb (length l) 0) (front_nil (first_of stays made) one.0 (sym one.1 ∙ all.0))) (ap (λ l. eqb (length l) 0) (front_nil (first_of stays₂ made₂) two.0 (sym two.1 ∙ all.1))),
+    )
+
+-- ---- equivalence by the bytes of forms
+
+module _ (v : VersionData) (sound : IsSound v) where
+  pub IsEquivalent-same : (compat : Bool) (left right : List ℕ) → left ≡ right → IsTrue true ↔ IsEquivalent v compat (chars left) (chars right)
+  IsEquivalent-same compat left right e =
+      IsEquivalent-lists v sound compat (chars left) (chars right) _ _ true refl refl (λ yes. ap (λ l. decomposed v compat (chars l)) e, λ same. refl)
+
+  form_is : (form : Form) (compat : Bool) (text : List ℕ) → is_compat form ≡ compat → composes form ≡ false → normal_form v form (chars text) ≡ decomposed v compat (chars text)
+  form_is form compat text kind off = sym (normal_form-decomposed v form (chars text) (decomposed v compat (chars text)) compat (sym kind) off refl)
+
+  pub IsEquivalent-forms : (form : Form) (compat : Bool) (left right : List ℕ) (b : Bool) → is_compat form ≡ compat → composes form ≡ false → (IsTrue b ↔ (form_bytes v form left ≡ form_bytes v form right)) → IsTrue b ↔ IsEquivalent v compat (chars left) (chars right)
+  IsEquivalent-forms form compat left right b kind off same =
+      IsEquivalent-lists v sound compat (chars left) (chars right) (normal_form v form (chars left)) (normal_form v form (chars right)) b (form_is form compat left kind off) (form_is form compat right kind off)
+      (λ yes. encodes_same (normal_form v form (chars left)) (normal_form v form (chars right)) (same.0 yes), λ e. same.1 (ap encode_utf8_all e))
