@@ -1,16 +1,15 @@
 -- The test of a break and its meaning.
-use Rattle.std.proofs.Common.{◌≡◌, ◌≢◌, ℕ, ◌+◌, ◌<◌, ◌≤◌, Bool, true, false, not, ◌&&◌, ◌==◌, Option, Some, None, if◌then◌else◌, refl, sym, ap, subst, ◌∙◌, arith, inl, inr, eq-eqb, eqb-true}
-use Rattle.std.specs.List.{list_all}
-use Rattle.std.proofs.lemmas.Bool.{and_parts, and_from, both_ways, cases_Bool, cases_eq, cases_lt, eqb-false, ne_eqb, false_from_ne_true}
-use Rattle.np_chain.specs.Breaks.{number_of, IsInBoth, MapsAlike, ComposesOld, HasBreak, IsBreakOf}
-use Rattle.np_chain.specs.inside.BreakTests.{is_lost, is_assigned_in_both, changes_class, maps_alike, changes_mapping, becomes_excluded, has_old_parts, becomes_included, is_new_composite, break_of}
+use Rattle.std.proofs.Common.{◌≡◌, ℕ, ◌+◌, ◌<◌, ◌≤◌, Bool, true, false, not, ◌&&◌, ◌==◌, Option, Some, None, if◌then◌else◌, refl, sym, ap, subst, ◌∙◌, arith, inl, inr}
+use Rattle.std.proofs.lemmas.Bool.{and_parts, and_from, both_ways, cases_eq, cases_lt, eqb-false, ne_eqb, false_from_ne_true}
+use Rattle.np_chain.specs.Breaks.{number_of, IsInBoth, ComposesOld, HasBreak, IsBreakOf}
+use Rattle.np_chain.specs.inside.BreakTests.{is_lost, is_assigned_in_both, changes_class, changes_mapping, becomes_excluded, has_old_parts, becomes_included, is_new_composite, break_of}
 use Rattle.np_chain.specs.declared.breaks.BreakKind.{BreakKind}
 use Rattle.np_chain.specs.declared.breaks.BreakKind.TheVariants.{Lost, ClassChanged, MappingChanged, NowExcluded, NowIncluded, NewComposite}
 use Rattle.np_chain.proofs.BreakLemmas.{alike-same, alike_from}
 use Rattle.np_tables.proofs.CompositeLemmas.{primary-from, primary-test}
 use Rattle.np_tables.specs.inside.Primaries.{is_primary}
 use Rattle.np_tables.specs.Composites.{IsPrimary}
-use Rattle.np_tables.specs.Versions.{VersionData, is_assigned, class_of}
+use Rattle.np_tables.specs.Versions.{VersionData, is_assigned}
 
 not_so : (b : Bool) → not b ≡ true → b ≡ false
 not_so true h = cc

@@ -1,7 +1,7 @@
 -- The table of hex digits.
-use Rattle.std.proofs.Common.{◌≡◌, ℕ, ◌<◌, ◌≤◌, ◌↔◌, Bool, true, false, cond, eqb, get_or, refl, sym, ap, ◌∙◌, arith, inl, inr}
+use Rattle.std.proofs.Common.{◌≡◌, ℕ, ◌<◌, ◌≤◌, true, false, cond, eqb, get_or, refl, ap, ◌∙◌, arith, inl, inr}
 use Rattle.std.specs.Char.{digit_value}
-use Rattle.std.proofs.lemmas.Bool.{agree_below_at, cases_Bool, cond-true, cond-false, eqb-true, ltb-true, lt-ltb, both_ways}
+use Rattle.std.proofs.lemmas.Bool.{agree_below_at, cases_Bool, cond-true, cond-false, eqb-true, ltb-true}
 use mir.Syntax.{w8}
 use mir.Val.{Fits}
 use Rattle.np_code_points.specs.Codes.{is_hex_digit}

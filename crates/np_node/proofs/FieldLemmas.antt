@@ -1,9 +1,9 @@
 -- Fields are read in one way, and where bytes stop being fields is one place.
-use Rattle.std.proofs.Common.{◌≡◌, ℕ, ◌+◌, ◌<◌, ◌≤◌, ◌^◌, ◌⊎◌, inl, inr, List, [], ◌∷◌, ◌++◌, length, refl, sym, ap, ◌∙◌, subst, arith, length-append, append_assoc, w32}
-use Rattle.std.specs.Int.{to_be_bytes, from_be_bytes}
+use Rattle.std.proofs.Common.{◌≡◌, ℕ, ◌+◌, ◌<◌, ◌^◌, inl, inr, List, ◌++◌, length, refl, sym, ap, ◌∙◌, subst, arith, length-append, append_assoc, w32}
+use Rattle.std.specs.Int.{from_be_bytes}
 use Rattle.std.proofs.lemmas.Nat.{from_be_bytes-to_be_bytes_4}
 use Rattle.np_node.proofs.ListLemmas.{same_front, same_back}
-use Rattle.np_node.specs.Fields.{number_bytes, field_bytes, entry_bytes, FitsFields, LacksNumber, LacksBytes, IsFieldFault, LacksKey, IsEntryFault}
+use Rattle.np_node.specs.Fields.{number_bytes, field_bytes, entry_bytes, FitsFields, IsFieldFault, IsEntryFault}
 use Rattle.np_node.specs.Strings.{Entry}
 
 pub length-number_bytes : (n : ℕ) → length (number_bytes n) ≡ 4

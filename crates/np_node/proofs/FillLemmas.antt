@@ -1,5 +1,5 @@
 -- A node that is filled from an image.
-use Rattle.std.proofs.Common.{◌≡◌, ◌≢◌, ℕ, zero, suc, ◌+◌, ◌<◌, ◌≤◌, ◌^◌, ◌⊎◌, inl, inr, List, [], ◌∷◌, ◌++◌, length, take, drop, slice_get, All, Option, Some, None, refl, sym, ap, subst, ◌∙◌, arith, length-append, append-nil, append_assoc}
+use Rattle.std.proofs.Common.{◌≡◌, ℕ, zero, suc, ◌+◌, ◌<◌, ◌≤◌, ◌^◌, inl, inr, List, [], ◌∷◌, ◌++◌, length, take, drop, slice_get, All, Option, Some, None, refl, sym, ap, subst, ◌∙◌, arith, length-append, append-nil}
 use Rattle.std.proofs.lemmas.List.{take_all, length-take-le, take-append-drop}
 use Rattle.std.proofs.lemmas.List.Elements.{All-push, All-head, All-tail, All-cons}
 use Rattle.np_code_points.specs.declared.forms.Form.{Form}
@@ -9,8 +9,8 @@ use Rattle.np_node.proofs.NodeLemmas.{unlike-push}
 use Rattle.np_node.proofs.ReadingLemmas.{take-more, drop-more, entries-push, entries-append}
 use Rattle.np_node.specs.Fields.{entry_bytes, FitsFields, IsEntryFault}
 use Rattle.np_node.specs.Images.{image_bytes, head_bytes, entries_bytes, IsImage, IsImageFault}
-use Rattle.np_node.specs.Nodes.{NodeState, State, state_of, with_entry, IsKept, AreUnlike}
-use Rattle.np_node.specs.Restoring.{AreRight, Holds, IsWrong, IsFirstWrong, IsRestoreFault, IsRestored}
+use Rattle.np_node.specs.Nodes.{NodeState, state_of, with_entry, IsKept, AreUnlike}
+use Rattle.np_node.specs.Restoring.{AreRight, IsWrong, IsRestoreFault, IsRestored}
 use Rattle.np_node.specs.Strings.{Entry, IsEntry}
 use Rattle.np_node.specs.declared.faults.ImageFault.{ImageFault}
 use Rattle.np_node.specs.declared.faults.NodeFault.{NodeFault}

@@ -1,7 +1,7 @@
 -- Bytes are one image or have one fault place.
-use Rattle.std.proofs.Common.{◌≡◌, ◌≢◌, ℕ, zero, suc, ◌+◌, ◌<◌, ◌≤◌, ◌^◌, ◌⊎◌, inl, inr, List, [], ◌∷◌, ◌++◌, length, flat_map, All, Option, Some, None, unwrap_or, is_some, true≢false, refl, sym, ap, subst, ◌∙◌, arith, append-nil, append_assoc, length-append}
+use Rattle.std.proofs.Common.{◌≡◌, ◌≢◌, ℕ, ◌+◌, ◌<◌, ◌^◌, ◌⊎◌, inl, inr, List, [], ◌∷◌, ◌++◌, length, flat_map, All, Option, Some, None, unwrap_or, is_some, true≢false, refl, sym, ap, subst, ◌∙◌, arith, append-nil, append_assoc, length-append}
 use Rattle.std.proofs.lemmas.List.Elements.{All-head, All-tail}
-use Rattle.std.proofs.lemmas.List.{append_cancel_left, nil_from_length}
+use Rattle.std.proofs.lemmas.List.{append_cancel_left}
 use Rattle.np_code_points.specs.Forms.{byte_of}
 use Rattle.np_code_points.specs.declared.forms.Form.{Form}
 use Rattle.np_node.proofs.FieldLemmas.{length-number_bytes, one_number, one_entry, whole_entry, one_entry_fault}

@@ -1,5 +1,5 @@
 -- A string has one key, and keeps it along an extension.
-use Rattle.std.proofs.Common.{◌≡◌, ℕ, ◌+◌, ◌*◌, ◌<◌, ◌≤◌, ◌^◌, ◌↔◌, ◌⊎◌, inl, inr, Bool, IsTrue, List, length, chars, IsUtf8, refl, sym, ap, subst, ◌∙◌, arith}
+use Rattle.std.proofs.Common.{◌≡◌, ℕ, ◌<◌, ◌≤◌, ◌^◌, ◌↔◌, List, length, chars, IsUtf8, sym, ap, ◌∙◌, arith}
 use Rattle.std.proofs.lemmas.Str.{encodes-chars}
 use Rattle.np_chain.specs.Chain.{Extends}
 use Rattle.np_chain.specs.Laws.{Stability}
@@ -7,7 +7,7 @@ use Rattle.np_code_points.specs.Forms.{is_compat}
 use Rattle.np_code_points.specs.declared.forms.Form.{Form}
 use Rattle.np_forms.proofs.FormLemmas.{normal_form_is}
 use Rattle.np_forms.proofs.KeptLemmas.{same_forms}
-use Rattle.np_forms.specs.Forms.{IsEquivalent, IsNormalForm}
+use Rattle.np_forms.specs.Forms.{IsEquivalent}
 use Rattle.np_forms.proofs.LengthLemmas.{length-key}
 use Rattle.np_node.specs.Fields.{FitsFields}
 use Rattle.np_node.specs.Strings.{Entry, most_bytes, IsKeepable, IsKey, IsEntry}

@@ -1,12 +1,12 @@
 -- What is told and saved along a chain.
-use Rattle.std.proofs.Common.{◌≡◌, ◌≢◌, ℕ, zero, suc, ◌+◌, ◌<◌, ◌≤◌, ◌^◌, ◌⊎◌, inl, inr, Bool, true, false, true≢false, List, [], ◌∷◌, ◌++◌, length, take, get_or, slice_get, map, chars, IsUtf8, All, AllPairs, Contains, Option, Some, None, Result, Ok, Err, refl, sym, ap, subst, ◌∙◌, arith, append-nil}
+use Rattle.std.proofs.Common.{◌≡◌, ◌≢◌, ℕ, ◌+◌, ◌<◌, ◌≤◌, inl, inr, true, false, true≢false, List, [], ◌∷◌, ◌++◌, length, take, chars, IsUtf8, All, Option, Some, None, Result, Ok, Err, refl, sym, ap, subst, ◌∙◌, arith, append-nil}
 use Rattle.std.proofs.lemmas.Bool.{and_parts, cases_lt}
 use Rattle.std.proofs.lemmas.List.{take_all}
 use Rattle.std.proofs.lemmas.List.Elements.{All-weaker}
 use Rattle.std.specs.List.{list_all}
 use Rattle.np_chain.proofs.ChainLemmas.{StandsAt-from}
 use Rattle.np_chain.proofs.StabilityLemmas.{stability}
-use Rattle.np_chain.specs.Chain.{Extends, IsSoundChain, StandsAt}
+use Rattle.np_chain.specs.Chain.{Extends, StandsAt}
 use Rattle.np_code_points.specs.Text.{IsLongestValidPrefix}
 use Rattle.np_code_points.specs.declared.forms.Form.{Form}
 use Rattle.np_forms.proofs.FormLemmas.{one_form, normal_form_is}
@@ -18,11 +18,11 @@ use Rattle.np_node.proofs.MessageLemmas.{one_message, one_message_fault}
 use Rattle.np_node.proofs.NodeLemmas.{IsNode-later, All-at, unlike-take}
 use Rattle.np_node.specs.Fields.{FitsFields}
 use Rattle.np_node.specs.Images.{Image, image_bytes, IsImage}
-use Rattle.np_node.specs.Laws.{IsIn, Exchange, IsFairAnswer, FairExchange, IsSavedAs, Saved}
+use Rattle.np_node.specs.Laws.{Exchange, IsFairAnswer, FairExchange, Saved}
 use Rattle.np_node.specs.Messages.{Message, message_bytes, IsMessage}
-use Rattle.np_node.specs.Nodes.{State, strings_of, IsKept, AreUnlike, IsNode}
+use Rattle.np_node.specs.Nodes.{State, IsKept, IsNode}
 use Rattle.np_node.specs.Restoring.{Holds, IsWrong, IsFirstWrong, IsRestoreFault}
-use Rattle.np_node.specs.Strings.{Entry, most_bytes, IsEntry, IsKeepable, IsKey, IsStringFault}
+use Rattle.np_node.specs.Strings.{Entry, most_bytes, IsEntry}
 use Rattle.np_node.specs.Taking.{AnswersTake, AnswersEntry, Tells}
 use Rattle.np_node.specs.declared.faults.NodeFault.{NodeFault}
 use Rattle.np_node.specs.declared.faults.NodeFault.TheVariants.{Malformed, OtherForm, TooLong, NotUtf8, Unassigned, KeyDiffers, Full, Memory}

@@ -1,5 +1,5 @@
 -- What a reader of fields went over.
-use Rattle.std.proofs.Common.{◌≡◌, ◌≢◌, ℕ, zero, suc, ◌+◌, ◌<◌, ◌≤◌, ◌^◌, ◌↔◌, inl, inr, Bool, true, false, true≢false, IsTrue, List, [], ◌∷◌, ◌++◌, length, take, drop, get_or, slice_get, Some, w32, refl, sym, ap, subst, ◌∙◌, arith, append-nil, append_assoc, length-append, MatchBool}
+use Rattle.std.proofs.Common.{◌≡◌, ◌≢◌, ℕ, zero, suc, ◌+◌, ◌<◌, ◌≤◌, ◌^◌, ◌↔◌, inl, inr, Bool, true, false, true≢false, IsTrue, List, [], ◌∷◌, ◌++◌, length, take, drop, get_or, slice_get, Some, w32, refl, sym, ap, subst, ◌∙◌, arith, append-nil, append_assoc, length-append}
 use Rattle.std.proofs.lemmas.Grind.{flat_map-append}
 use Rattle.std.proofs.lemmas.List.{nil_from_length, take_all}
 use Rattle.std.proofs.lemmas.List.Elements.{All-push}
@@ -11,8 +11,8 @@ use Rattle.np_node.proofs.FieldLemmas.{length-number_bytes}
 use Rattle.np_node.proofs.ImageLemmas.{entries-none, image-cut, length-entries-none, length-head_bytes, length-image_bytes}
 use Rattle.np_node.proofs.ListLemmas.{same_front}
 use Rattle.np_node.proofs.MessageLemmas.{message-cut, length-message_bytes}
-use Rattle.np_node.specs.Fields.{number_bytes, field_bytes, entry_bytes, LacksBytes, FitsFields, IsFieldFault, IsEntryFault}
-use Rattle.np_node.specs.Images.{image_name, head_bytes, entries_bytes, image_bytes, IsImage, IsImageFault}
+use Rattle.np_node.specs.Fields.{number_bytes, field_bytes, entry_bytes, FitsFields, IsFieldFault, IsEntryFault}
+use Rattle.np_node.specs.Images.{image_name, head_bytes, entries_bytes, image_bytes, IsImageFault}
 use Rattle.np_node.specs.Messages.{message_bytes, IsMessage, IsMessageFault}
 use Rattle.np_node.specs.Strings.{Entry}
 use Rattle.np_node.specs.declared.fields.Fields.{Fields}

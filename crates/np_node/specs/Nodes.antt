@@ -1,5 +1,5 @@
 -- What contracts see of a node, and what holds of it.
-use Rattle.std.specs.Prelude.{◌≡◌, ◌≢◌, ℕ, ◌≤◌, ◌<◌, List, [], ◌∷◌, ◌++◌, length, map, All, AllPairs, Contains}
+use Rattle.std.specs.Prelude.{◌≢◌, ℕ, ◌≤◌, ◌<◌, List, [], ◌∷◌, ◌++◌, length, map, All, AllPairs, Contains}
 use Rattle.np_code_points.specs.declared.forms.Form.{Form}
 use Rattle.np_node.specs.Strings.{Entry, IsEntry, IsKeepable}
 use Rattle.np_tables.specs.Conditions.{IsSound}

@@ -2,7 +2,7 @@
 use Rattle.std.specs.Prelude.{◌≡◌, ◌≢◌, ℕ, ◌+◌, ◌<◌, ◌≤◌, List, length, take, slice_get, All, Option, Some, None, Result, Ok, Err}
 use Rattle.np_code_points.specs.declared.forms.Form.{Form}
 use Rattle.np_node.specs.Images.{Image, IsImage, IsImageFault, head_bytes, entries_bytes}
-use Rattle.np_node.specs.Nodes.{NodeState, State, IsKept, AreUnlike}
+use Rattle.np_node.specs.Nodes.{NodeState, IsKept, AreUnlike}
 use Rattle.np_node.specs.Strings.{Entry, IsEntry, IsKeepable, IsKey, IsStringFault}
 use Rattle.np_node.specs.declared.faults.ImageFault.{ImageFault}
 use Rattle.np_node.specs.declared.faults.NodeFault.{NodeFault}

@@ -1,5 +1,5 @@
 -- Strings that may be kept, and their keys.
-use Rattle.std.specs.Prelude.{◌≡◌, ℕ, ◌<◌, ◌≤◌, List, length, chars, IsUtf8}
+use Rattle.std.specs.Prelude.{ℕ, ◌<◌, ◌≤◌, List, length, chars, IsUtf8}
 use Rattle.np_code_points.specs.Text.{IsLongestValidPrefix}
 use Rattle.np_code_points.specs.declared.forms.Form.{Form}
 use Rattle.np_forms.specs.Assigned.{IsAssigned, IsFirstUnassigned}

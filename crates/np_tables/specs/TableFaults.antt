@@ -1,5 +1,5 @@
 -- The faults as `TableFault` names them, and which of several is told.
-use Rattle.std.specs.Prelude.{◌≡◌, ℕ, ◌<◌, ◌≤◌, ◌⊎◌, List, Option, Some, None, codes}
+use Rattle.std.specs.Prelude.{◌≡◌, ℕ, ◌<◌, ◌≤◌, ◌⊎◌, List, Option, Some, None, codes, unwrap_or}
 use Rattle.np_tables.specs.declared.faults.TableFault.{TableFault}
 use Rattle.np_tables.specs.declared.faults.TableFault.TheVariants.{MapsToUnassigned, TooDeep, TooLong, AmbiguousPair, HangulWrong, Memory}
 use Rattle.np_tables.specs.Faults.{IsMappedToUnassigned, IsTooDeep, IsTooLong, IsAmbiguous, IsHangulWrong}
@@ -23,12 +23,7 @@ code_of Memory = None
 
 -- the code point where a fault stands
 abbrev pub place_of : TableFault → ℕ
-place_of (MapsToUnassigned code) = code
-place_of (TooDeep code) = code
-place_of (TooLong code) = code
-place_of (AmbiguousPair code) = code
-place_of (HangulWrong code) = code
-place_of Memory = 0
+place_of fault = unwrap_or (code_of fault) 0
 
 -- the numbers of the kinds
 abbrev pub number_of : TableFault → ℕ

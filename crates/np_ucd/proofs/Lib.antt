@@ -9,6 +9,7 @@ pub mod TextGrammar
 pub mod SpanGrammar
 pub mod FieldGrammar
 pub mod MappingGrammar
+pub mod ReadGrammar
 pub mod TestGrammar
 pub mod FaultGrammar
 pub mod RowGrammar

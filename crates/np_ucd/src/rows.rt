@@ -1,9 +1,12 @@
 //! The rows of UnicodeData.txt.
-ghost use Rattle.std.specs.Prelude.{◌≡◌, length, map, option_map, slice_get};
+ghost use Rattle.std.specs.Prelude.{◌≡◌, ◌↔◌, [], length, map, option_map, slice_get, IsTrue};
+ghost use Rattle.std.specs.Iterator.Adapters.{IterYieldsInOrder};
+ghost use Rattle.std.specs.Slice.Iter.{iter_rest};
 ghost use Rattle.np_ucd.specs.Entries.{AreRows};
 
 use smallvec::SmallVec;
 use std::marker::Model;
+use std::slice::Iter;
 
 /// The kind of a mapping (UAX #44, Decomposition_Type).
 #[derive(Clone, Copy, Debug, PartialEq, Eq)]
@@ -52,6 +55,7 @@ impl Model for Rows {
 
 impl Rows {
     ghost use Rattle.np_ucd.specs.RowValues.{entry_of};
+    ghost use Rattle.np_ucd.specs.declared.rows.Row.{Row};
 
     /// Rows that are in order.
     pub(crate) fn from_rows(rows: Vec<Row>) -> Rows
@@ -74,6 +78,21 @@ impl Rows {
         ensures rows { AreRows self.now }
     {
         self.rows.len()
+    }
+
+    /// Whether there is no row.
+    pub fn is_empty(&self) -> bool
+        ensures { IsTrue result ↔ (self.now ≡ []) }
+    {
+        self.rows.is_empty()
+    }
+
+    /// The rows, in the order of their code points.
+    pub fn iter(&self) -> Iter<'_, Row>
+        ensures rows { map entry_of (iter_rest result) ≡ self.now }
+        ensures runs { IterYieldsInOrder Row }
+    {
+        self.rows.iter()
     }
 
     /// The row at a place, from 0.

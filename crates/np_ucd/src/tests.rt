@@ -33,13 +33,28 @@ fn want_faults(alloc: Global, rows: &[(&[u8], Option<UcdFault>)]) -> Result<(), 
     Ok(())
 }
 
+/// Fails unless a walk over the rows meets these two.
+fn walks_over(rows: &Rows, first: u32, second: u32) -> Result<(), Fail> {
+    let mut walk = rows.iter();
+    want(
+        walk.next().map(|row| row.first) == Some(first),
+        "the first row",
+    )?;
+    want(
+        walk.next().map(|row| row.first) == Some(second),
+        "the second row",
+    )?;
+    want(walk.next().is_none(), "no third row")
+}
+
 fn has_two_rows(rows: &Rows) -> Result<(), Fail> {
-    want(rows.len() == 2, "two rows")?;
+    want(rows.len() == 2 && !rows.is_empty(), "two rows")?;
     want(
         rows.get(1).map(|row| row.first) == Some(0x61),
         "0061 is the second",
     )?;
-    want(rows.get(2).is_none(), "no third")
+    want(rows.get(2).is_none(), "no third")?;
+    walks_over(rows, 0x41, 0x61)
 }
 
 #[test]
@@ -52,7 +67,8 @@ fn lines_end_by_lf_or_crlf_or_the_end(rt: HostRuntime) -> Result<(), Fail> {
 #[test]
 fn an_empty_file_has_no_row(rt: HostRuntime) -> Result<(), Fail> {
     let rows = rows_of(rt.alloc(), b"", 1)?;
-    want(rows.len() == 0, "no row")
+    want(rows.is_empty(), "no row")?;
+    want(rows.iter().next().is_none(), "none to walk over")
 }
 
 const FAULTS: [(&[u8], Option<UcdFault>); 10] = [

@@ -7,7 +7,7 @@ use Rattle.std.specs.Option.{option_map}
 use Rattle.std.specs.Prelude.{IfOk}
 use Rattle.std.specs.declared.vec.Vec.{Vec}
 use Rattle.std.specs.declared.alloc.Global.{Global}
-use Rattle.np_world.specs.Events.{Event, Accept, Deliver, Upgrade, Save, Restart, Ask, Forge}
+use Rattle.np_world.specs.Events.{Event, Save}
 use Rattle.np_world.specs.declared.members.Member.{Member}
 use Rattle.np_world.specs.inside.Worlds.{image_of, HaveImages, LeavesImages}
 
@@ -19,13 +19,8 @@ ok_any (Err e) Q all = tt
 
 -- whether an event saves a node
 abbrev pub saves : Event → Bool
-saves (Accept node string) = false
-saves (Deliver node message) = false
-saves (Upgrade node) = false
 saves (Save node) = true
-saves (Restart node) = false
-saves (Ask node left right) = false
-saves (Forge node bytes) = false
+saves other = false
 
 is_some-image : (image : Option (Vec ℕ Global)) → IsSome image → IsSome (option_map (λ (v : Vec ℕ Global). v.items) image)
 is_some-image None some = absurd (both_ways _ refl some)

@@ -2,6 +2,7 @@ pub mod AcceptLemmas
 pub mod AskLemmas
 pub mod CaseLemmas
 pub mod DeliverLemmas
+pub mod EventGrammar
 pub mod ForgeLemmas
 pub mod ImageLemmas
 pub mod LineGrammar

@@ -10,7 +10,8 @@ use Rattle.np_world.specs.declared.reading.faults.LineFault.{LineFault}
 use Rattle.np_world.specs.declared.reading.faults.LineFault.TheVariants.{Unfit, Memory}
 use Rattle.np_world.specs.inside.LineReading.{IsNoneOf, Lacks, Refuses}
 use Rattle.np_world.specs.inside.LineValues.{event_value, room_value, starts_value}
-use Rattle.np_world.proofs.LineGrammar.{room_said, said_room, starts_said, said_starts, event_said, said_event}
+use Rattle.np_world.proofs.EventGrammar.{event_said, said_event}
+use Rattle.np_world.proofs.LineGrammar.{room_said, said_room, starts_said, said_starts}
 
 -- whether there are no places, by their number
 pub empty_is : (places : List ℕ) (n : ℕ) (t : Bool) → n ≡ length places → (n == 0) ≡ t → is_empty places ≡ t

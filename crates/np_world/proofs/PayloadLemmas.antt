@@ -9,7 +9,7 @@ use Rattle.std.proofs.lemmas.Str.{chars_from_encodes, encodes-append, encodes-ch
 use Rattle.np_code_points.specs.Codes.{IsScalarOf, is_hex_digit}
 use Rattle.np_code_points.specs.inside.WordValues.{scalar_value, scalars_of}
 use Rattle.np_code_points.proofs.ValueGrammar.{joined, joined_step, scalar_from, zip_from}
-use Rattle.np_world.proofs.LineGrammar.{no_slash}
+use Rattle.np_world.proofs.EventGrammar.{no_slash}
 use Rattle.np_world.specs.inside.LineReading.{Lacks}
 use Rattle.np_world.specs.inside.LineValues.{is_slash, up_to_slash, behind_slash, halves_value, hex_pairs, hex_words}
 use Rattle.np_world.specs.declared.reading.faults.LineFault.{LineFault}

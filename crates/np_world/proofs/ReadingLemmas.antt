@@ -3,16 +3,14 @@ use Rattle.std.proofs.Common.{◌≡◌, ℕ, ◌+◌, ◌<◌, ◌≤◌, ◌�
 use Rattle.std.specs.List.{AllZip}
 use Rattle.std.proofs.lemmas.Bool.{cases_lt}
 use Rattle.std.proofs.lemmas.List.{append_assoc, length-append}
-use Rattle.np_code_points.specs.One.{HasOne}
-use Rattle.np_code_points.specs.Lines.{Numbered, Walk, AreDataLines, AreLines}
+use Rattle.np_code_points.specs.Lines.{Numbered, Walk}
 use Rattle.np_code_points.specs.inside.LineCuts.{data_lines_in, lines_of}
 use Rattle.np_code_points.proofs.DataLineGrammar.{are_data_lines, only_data_lines}
 use Rattle.np_code_points.proofs.LineGrammar.{are_lines, only_lines}
 use Rattle.np_world.specs.Events.{Event, ScheduleData}
-use Rattle.np_world.specs.ReadingLaws.{SaysOver, HasOneReading, HaveOneReading}
-use Rattle.np_world.specs.ScheduleFiles.{AreEventLines, SaysSchedule, MayStand, IsUnfit, EndsEarly, IsFaultyLine, NamesLine}
+use Rattle.np_world.specs.ReadingLaws.{SaysOver, HaveOneReading}
+use Rattle.np_world.specs.ScheduleFiles.{AreEventLines, SaysSchedule, MayStand, IsUnfit, EndsEarly, IsFaultyLine}
 use Rattle.np_world.specs.ScheduleLines.{IsEventLine, IsNodesLine, IsRoomLine}
-use Rattle.np_world.specs.declared.reading.ScheduleFault.{ScheduleFault}
 use Rattle.np_world.specs.declared.reading.ScheduleFault.TheVariants.{Line}
 use Rattle.np_world.specs.inside.LineReading.{IsNoneOf}
 use Rattle.np_world.specs.inside.ScheduleReading.{AddsEvent, NextSays, HasTaken, IsUnfitEvent}

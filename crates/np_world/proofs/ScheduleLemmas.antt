@@ -8,13 +8,13 @@ use Rattle.np_code_points.specs.Lines.{Numbered, Walk, AreDataLines, AreLines}
 use Rattle.np_code_points.specs.Laws.{HasOneCut}
 use Rattle.np_code_points.proofs.LineLemmas.{filled}
 use Rattle.np_world.specs.Events.{Event, ScheduleData, Accept, Deliver, Upgrade, Save, Restart, Ask, Forge, node_of}
-use Rattle.np_world.specs.ScheduleFiles.{AreEventLines, SaysSchedule, MayStand, IsUnfit, EndsEarly, IsFaultyLine, NamesLine}
+use Rattle.np_world.specs.ScheduleFiles.{AreEventLines, SaysSchedule, MayStand, EndsEarly, NamesLine}
 use Rattle.np_world.specs.ScheduleLines.{SaysOf, IsEventLine, IsNodesLine, IsRoomLine}
 use Rattle.np_world.specs.Schedules.{IsStandable}
 use Rattle.np_world.specs.declared.reading.ScheduleFault.{ScheduleFault}
 use Rattle.np_world.specs.declared.reading.ScheduleFault.TheVariants.{Line, Memory}
 use Rattle.np_world.specs.inside.LineReading.{IsNoneOf}
-use Rattle.np_world.specs.inside.ScheduleReading.{AddsEvent, AddsNoEvent, AddsNone, NextSays, NextFalls, WalkEnds, NextRefuses, HasTaken, IsUnfitEvent, NamesUnfit}
+use Rattle.np_world.specs.inside.ScheduleReading.{AddsEvent, AddsNone, NextSays, NextRefuses, HasTaken, NamesUnfit}
 use Rattle.np_world.proofs.LineLemmas.{one_starts}
 
 abbrev pub EventHere : ℕ → Numbered → Event → Type 0

@@ -1,5 +1,5 @@
 -- Images that are read or written up to some entry.
-use Rattle.std.specs.Prelude.{◌≡◌, ℕ, ◌+◌, ◌≤◌, List, ◌++◌, length, take, drop, All, ◌⊎◌, Option, Some, None}
+use Rattle.std.specs.Prelude.{◌≡◌, ℕ, ◌+◌, ◌≤◌, List, ◌++◌, length, take, drop, All, ◌⊎◌, Some, None}
 use Rattle.np_code_points.specs.declared.forms.Form.{Form}
 use Rattle.np_node.specs.Fields.{FitsFields}
 use Rattle.np_node.specs.Images.{IsImage, head_bytes, entries_bytes}

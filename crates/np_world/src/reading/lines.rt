@@ -13,10 +13,8 @@ pub(crate) use crate::reading::faults::LineFault;
 use crate::reading::numbers::{number_below, number_in};
 use crate::reading::verbs::Verb;
 use np_code_points::words::{Dividers, Words};
+use np_node::MOST_ROOM;
 use std::alloc::Global;
-
-/// The most strings that a node keeps.
-const MOST_ROOM: u32 = 65_536;
 
 /// The most nodes.
 const MOST_NODES: usize = 64;

@@ -1,10 +1,7 @@
-use Rattle.std.proofs.Common.{◌≡◌, ℕ, ◌<◌, ◌≤◌, ◌%◌, ◌^◌, Bool, not, eqb, cond, List, length, map, refl, sym, ap, ◌∙◌, arith}
-use Rattle.std.specs.List.{prefix_len}
-use Rattle.std.proofs.lemmas.Simd.{bitmask_splat, length-chunk, leading_from_mask_l, trailing_mask_l}
-use Rattle.std.proofs.lemmas.Bool.{eqb-true}
-use lib.Lanes.{chunk, mask_l}
+use Rattle.std.proofs.Common.{eqb, length, arith}
+use Rattle.std.proofs.lemmas.Simd.{bitmask_splat, length-chunk}
+use lib.Lanes.{chunk}
 use mir.Syntax.{w8}
-use Rattle.np_code_points.specs.inside.LineCuts.{is_other}
 use Rattle.np_code_points.proofs.PlaceLemmas.{no_bit, lowest_bit}
 use Rattle.np_code_points.proofs.lines.before_in_step.Goals as goal
 

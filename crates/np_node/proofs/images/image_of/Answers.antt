@@ -1,4 +1,4 @@
-use Rattle.std.proofs.Common.{◌≡◌, ◌<◌, ◌++◌, ℕ, [], length, slice_get, Some, refl, ap, sym, ◌∙◌, arith, append-nil}
+use Rattle.std.proofs.Common.{◌≡◌, ◌++◌, ℕ, [], length, slice_get, Some, refl, ap, sym, ◌∙◌, arith, append-nil}
 use Rattle.std.specs.Option.{option_map}
 use Rattle.np_node.proofs.EntryLemmas.{some-at}
 use Rattle.np_node.proofs.FillLemmas.{fits-at}

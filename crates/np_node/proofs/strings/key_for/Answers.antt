@@ -1,4 +1,4 @@
-use Rattle.std.proofs.Common.{length, string_bytes}
+use Rattle.std.proofs.Common.{string_bytes}
 use Rattle.std.proofs.lemmas.Result.{IfOk-weaker}
 use Rattle.std.proofs.lemmas.Str.{IsUtf8-string_bytes}
 use Rattle.np_node.proofs.KeyLemmas.{small_key}

@@ -1,4 +1,4 @@
-use Rattle.std.proofs.Common.{rules, subst, sym}
+use Rattle.std.proofs.Common.{rules}
 use Rattle.np_node.proofs.ReadingLemmas.{passes-number}
 use Rattle.np_node.proofs.fields.Fields.number.Goals as goal
 

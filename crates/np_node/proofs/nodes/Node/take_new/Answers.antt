@@ -1,4 +1,4 @@
-use Rattle.std.proofs.Common.{rules, ◌≡◌, false, string_bytes, ap, sym, subst, ◌∙◌}
+use Rattle.std.proofs.Common.{rules, ◌≡◌, false, string_bytes, sym, subst, ◌∙◌}
 use Rattle.np_node.proofs.NodeLemmas.{other-key}
 use Rattle.np_node.specs.Strings.{IsKeepable, IsKey}
 use Rattle.np_node.proofs.nodes.Node.take_new.Goals as goal

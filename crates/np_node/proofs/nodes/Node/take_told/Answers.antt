@@ -1,7 +1,7 @@
 use Rattle.std.proofs.Common.{List, ℕ, sym, subst, ◌∙◌}
 use Rattle.np_node.proofs.NodeLemmas.{All-Contains, other-key, refuses-entry}
 use Rattle.np_node.specs.Nodes.{state_of}
-use Rattle.np_node.specs.Strings.{Entry, IsEntry, IsKeepable, IsKey}
+use Rattle.np_node.specs.Strings.{IsEntry, IsKeepable, IsKey}
 use Rattle.np_node.proofs.nodes.Node.take_told.Goals as goal
 
 pub returns-in-Err-clause-answer : goal.returns-in-Err-clause-answer

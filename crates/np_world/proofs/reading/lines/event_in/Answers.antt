@@ -4,7 +4,7 @@ use Rattle.np_world.specs.ScheduleLines.{IsEventLine}
 use Rattle.np_world.specs.inside.LineReading.{Lacks, Refuses}
 use Rattle.np_world.specs.inside.LineValues.{event_value}
 use Rattle.np_world.specs.inside.Rust.{event_of}
-use Rattle.np_world.proofs.LineGrammar.{event_said}
+use Rattle.np_world.proofs.EventGrammar.{event_said}
 use Rattle.np_world.proofs.LineLemmas.{event_refused}
 use Rattle.np_world.proofs.reading.lines.event_in.Goals as goal
 
