@@ -82,6 +82,7 @@ struct Front {
 fn front_of(bytes: &[u8]) -> Front
     ensures begins { result.may_begin ≡ true → MayBegin bytes.now result.text }
     ensures ends { result.may_begin ≡ false → MayNotBegin bytes.now result.text }
+    ensures few { result.may_begin ≡ true → length bytes.now ≤ result.text + 3 }
 {
     match simdutf8::compat::from_utf8(bytes) {
         Ok(text) => Front {
@@ -112,6 +113,7 @@ fn judged(chunk: &[u8], total: u64) -> Result<usize, RunFault>
     requires inside { length chunk.now ≤ total }
     requires fits { total ≤ LIMIT + 1 }
     ensures ok { IfOk result (λ n. IsLongestValidPrefix chunk.now n) }
+    ensures few { IfOk result (λ n. length chunk.now ≤ n + 3) }
     ensures limit { OnOk result (total ≤ LIMIT) }
     ensures err { IfErr result (IsChunkFault chunk.now total) }
 {
@@ -157,6 +159,7 @@ fn next_chunk<R: Read>(
     requires fits { input.old.total ≤ LIMIT }
     requires inside { vec_len input.old.kept ≤ input.old.total }
     ensures some { IfOk result (λ next. IfSome next (λ n. IsNextChunk (R.remaining (device_of source.old)) (R.remaining (device_of source.new)) input.old.kept.items input.new.chunk.items input.new.kept.items input.old.total input.new.total n)) }
+    ensures few { IfOk result (λ next. IfSome next (λ _. vec_len input.new.kept ≤ 3)) }
     ensures end { IfOk result (λ next. IfNone next (IsAtEnd (R.remaining (device_of source.new)) × Consumes (R.remaining (device_of source.old)) (R.remaining (device_of source.new)) [])) }
     ensures same { IfOk result (λ next. IfNone next ((input.new.kept.items ≡ input.old.kept.items) × (input.new.total ≡ input.old.total))) }
     ensures err { IfErr result (IsInputFault (R.remaining (device_of source.old)) (R.remaining (device_of source.new)) input.old.kept.items input.old.total) }
