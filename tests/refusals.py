@@ -43,6 +43,7 @@ CALLS = {
     "np_code_points": ("chars_of", "string_of", "write_code"),
     "np_ucd": ("read_rows", "read_exclusions"),
     "np_forms": ("form", "npss", "is_form", "is_stream_safe", "equivalent", "feed", "finish", "run"),
+    "np_chain": ("audit",),
     "np_node": ("accept", "take", "image", "restore"),
 }
 # The commands of the program, each of which is one call of the crate.
