@@ -3,6 +3,7 @@ ghost use Rattle.std.specs.Prelude.{IsTrue, OnOk};
 
 mod audits;
 mod chains;
+mod refused;
 
 use np_code_points::watched::Watched;
 use np_tables::Version;

@@ -54,7 +54,7 @@ fn wants_before(
     wants_breaks(alloc, &old, new, breaks, "the breaks before it")
 }
 
-const LOST: [Break; 6] = [
+pub const LOST: [Break; 6] = [
     Break {
         kind: BreakKind::Lost,
         code: 0x1DFA,
