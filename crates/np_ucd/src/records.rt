@@ -57,12 +57,12 @@ fn next_field(rest: &[u8]) -> Option<(&[u8], &[u8])>
     Some((field, rest?))
 }
 
-/// Whether nine fields are left.
+/// Whether a line has fifteen fields.
 #[tactic(auto, unfolding(crate::specs::inside::FieldReading::fields_of))]
-fn has_nine(rest: &[u8]) -> bool
-    ensures { result ≡ (length (parts rest.now) == 9) }
+fn has_fifteen(text: &[u8]) -> bool
+    ensures { result ≡ (length (parts text.now) == 15) }
 {
-    count(rest, b';') == 8
+    count(text, b';') == 14
 }
 
 /// The fields of a line that has fifteen.
@@ -71,15 +71,15 @@ fn fields_of(text: &[u8]) -> Option<Fields<'_>>
         (λ f. (length (parts text.now) ≡ 15) × (f.code.now ≡ field 0 text.now) × (f.name.now ≡ field 1 text.now)
         × (f.category.now ≡ field 2 text.now) × (f.class.now ≡ field 3 text.now) × (f.mapping.now ≡ field 5 text.now)) }
 {
+    if !has_fifteen(text) {
+        return None;
+    }
     let (code, rest) = next_field(text)?;
     let (name, rest) = next_field(rest)?;
     let (category, rest) = next_field(rest)?;
     let (class, rest) = next_field(rest)?;
     let (_bidi, rest) = next_field(rest)?;
-    let (mapping, rest) = next_field(rest)?;
-    if !has_nine(rest) {
-        return None;
-    }
+    let (mapping, _rest) = next_field(rest)?;
     Some(Fields {
         code,
         name,
