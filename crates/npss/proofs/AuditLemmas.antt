@@ -1,5 +1,5 @@
 -- What `audit` makes and why it is refused, behind an old version that was built.
-use Rattle.std.proofs.Common.{◌≡◌, ◌⊎◌, inl, inr, string_bytes, Result, Ok, Err, IfOk, IfErr}
+use Rattle.std.proofs.Common.{inl, inr, string_bytes, Result, Ok, Err, IfOk, IfErr}
 use Rattle.np_tables.specs.Versions.{VersionData}
 use Rattle.npss.specs.Audits.{AuditReaders, MakesAudit, RefusesAudit}
 use Rattle.npss.specs.Versions.{WasBuilt}

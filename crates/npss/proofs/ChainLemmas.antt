@@ -1,15 +1,14 @@
 -- The files of a chain's versions, read two by two.
-use Rattle.std.proofs.Common.{◌≡◌, ℕ, zero, suc, ◌+◌, ◌-◌, ◌*◌, ◌<◌, ◌≤◌, ◌/◌, false, List, [], ◌∷◌, ◌++◌, length, get_or, set, Option, Result, IfOk, IfErr, inl, inr, refl, sym, ap, subst, ◌∙◌, arith, append_assoc, All}
+use Rattle.std.proofs.Common.{◌≡◌, ℕ, zero, suc, ◌+◌, ◌-◌, ◌*◌, ◌<◌, ◌≤◌, false, List, [], ◌∷◌, ◌++◌, length, get_or, set, Option, Result, IfOk, IfErr, inl, inr, refl, sym, ap, subst, ◌∙◌, arith, append_assoc, All}
 use Rattle.std.proofs.lemmas.List.{append-nil, length-append}
 use Rattle.std.proofs.lemmas.List.Elements.{All-cons, All-nil}
 use Rattle.std.proofs.lemmas.Result.{IfErr-weaker, IfOk-weaker}
 use Rattle.std.specs.List.{AllZip}
 use Rattle.np_code_points.specs.Watched.{device_of, has_failed}
 use Rattle.np_code_points.specs.declared.channels.watched.Watched.{Watched}
-use Rattle.np_tables.specs.TableFaults.{IsFaultless}
 use Rattle.np_tables.specs.Versions.{VersionData}
 use Rattle.np_tables.specs.declared.faults.TableFault.TheVariants.{Memory}
-use Rattle.npss.specs.Chains.{AreUntouched, LacksOne, VersionReaders, WereBuilt, readers_of}
+use Rattle.npss.specs.Chains.{AreUntouched, LacksOne, WereBuilt, readers_of}
 use Rattle.npss.specs.Streams.{Stream, stream_of}
 use Rattle.npss.specs.Versions.{IsVersionFault, WasBuilt}
 use Rattle.npss.specs.declared.jobs.faults.VersionFault.{VersionFault}

@@ -1,5 +1,5 @@
 use Rattle.std.proofs.Common.{IfOk, IfErr, subst}
-use Rattle.npss.specs.Audits.{AuditReaders, RefusesAudit}
+use Rattle.npss.specs.Audits.{AuditReaders}
 use Rattle.npss.specs.Streams.{Stream, stream_of}
 use Rattle.npss.specs.inside.AuditSteps.{LacksAgainst, MakesAgainst}
 use Rattle.npss.proofs.AuditLemmas.{made_against, refused_against}
