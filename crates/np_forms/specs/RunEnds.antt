@@ -7,7 +7,7 @@ use Rattle.np_code_points.specs.declared.forms.Form.{Form}
 use Rattle.np_forms.specs.Forms.{IsNormalForm}
 use Rattle.np_forms.specs.Streams.{IsCutAtLastStarter}
 use Rattle.np_forms.specs.declared.runs.RunFault.{RunFault}
-use Rattle.np_forms.specs.declared.runs.RunFault.TheVariants.{NotUtf8, ReadFailed, TooLarge}
+use Rattle.np_forms.specs.declared.runs.RunFault.TheVariants.{NotUtf8, ReadFailed, WriteFailed, TooLarge, Memory}
 use Rattle.np_tables.specs.Versions.{VersionData}
 
 -- more bytes may make a text of these: what follows their longest front that is UTF-8 is nothing, or ends within a character
@@ -50,8 +50,10 @@ IsNoText ends bytes =
 -- the cause of each fault
 abbrev pub IsCauseOf : Ends → List ℕ → ℕ → RunFault → Type 0
 IsCauseOf ends bytes at (NotUtf8 place) = (place ≡ at) × IsNoText ends bytes
+IsCauseOf ends bytes at ReadFailed = Unit {0}
+IsCauseOf ends bytes at WriteFailed = Unit {0}
 IsCauseOf ends bytes at TooLarge = (length bytes ≡ 4294967296) × BeginsText (take 4294967295 bytes)
-IsCauseOf ends bytes at other = Unit {0}
+IsCauseOf ends bytes at Memory = Unit {0}
 
 -- the bytes of a form cut before its last starter, nothing where it has none
 pub record IsCutForm (v : VersionData) (list out : List ℕ) : Type 0 where
@@ -68,8 +70,11 @@ pub record IsFrontOfForm (list out : List ℕ) : Type 0 where
 
 -- what was written of a form, for each fault
 abbrev pub IsWrittenOf : VersionData → List ℕ → List ℕ → RunFault → Type 0
+IsWrittenOf v list out (NotUtf8 place) = IsFrontOfForm list out
 IsWrittenOf v list out ReadFailed = IsCutForm v list out
-IsWrittenOf v list out other = IsFrontOfForm list out
+IsWrittenOf v list out WriteFailed = IsFrontOfForm list out
+IsWrittenOf v list out TooLarge = IsFrontOfForm list out
+IsWrittenOf v list out Memory = IsFrontOfForm list out
 
 -- the run ended early: what was read, why it ended, and what was written of the form of the text that was read
 pub record IsRunCut (v : VersionData) (form : Form) (ends : Ends) (fault : RunFault) : Type 0 where

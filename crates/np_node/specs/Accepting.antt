@@ -6,7 +6,7 @@ use Rattle.np_node.specs.Strings.{IsKeepable, IsKey, IsStringFault}
 use Rattle.np_node.specs.declared.accepting.Accepted.{Accepted}
 use Rattle.np_node.specs.declared.accepting.Accepted.TheVariants.{Kept, Known}
 use Rattle.np_node.specs.declared.faults.NodeFault.{NodeFault}
-use Rattle.np_node.specs.declared.faults.NodeFault.TheVariants.{TooLong, NotUtf8, Unassigned, Full, Memory}
+use Rattle.np_node.specs.declared.faults.NodeFault.TheVariants.{Malformed, OtherForm, TooLong, NotUtf8, Unassigned, KeyDiffers, Full, Memory}
 use Rattle.np_tables.specs.Versions.{VersionData}
 
 -- each answer's cause, with those of the answers before it absent: too long, not UTF-8, unassigned, known, full, kept. Want
@@ -19,7 +19,9 @@ AnswersAccept node string (Err (NotUtf8 at)) = IsStringFault node.version string
 AnswersAccept node string (Err (Unassigned at code)) = IsStringFault node.version string (Unassigned at code)
 AnswersAccept node string (Err Full) = HasNoPlace node string
 AnswersAccept node string (Err Memory) = HasPlace node string
-AnswersAccept node string (Err other) = ⊥
+AnswersAccept node string (Err (Malformed at)) = ⊥
+AnswersAccept node string (Err OtherForm) = ⊥
+AnswersAccept node string (Err KeyDiffers) = ⊥
 
 -- the string is kept behind the others, beside its key, and the message spells both
 pub record KeepsAndTells {T : Type 0} (model : T → VersionData) (old new : NodeState T) (string message : List ℕ) : Type 0 where
@@ -31,4 +33,5 @@ pub record KeepsAndTells {T : Type 0} (model : T → VersionData) (old new : Nod
 -- `Kept` keeps the string and tells it, every other answer changes nothing
 abbrev pub LeavesAccepted : {T : Type 0} → (T → VersionData) → NodeState T → NodeState T → List ℕ → Result Accepted NodeFault → Type 0
 LeavesAccepted model old new string (Ok (Kept message)) = KeepsAndTells model old new string message.items
-LeavesAccepted model old new string other = new ≡ old
+LeavesAccepted model old new string (Ok Known) = new ≡ old
+LeavesAccepted model old new string (Err fault) = new ≡ old

@@ -10,7 +10,7 @@ use Rattle.np_node.specs.Restoring.{IsRestoreFault}
 use Rattle.np_node.specs.Strings.{Entry, IsEntry, IsKey}
 use Rattle.np_node.specs.Taking.{AnswersTake}
 use Rattle.np_node.specs.declared.faults.NodeFault.{NodeFault}
-use Rattle.np_node.specs.declared.faults.NodeFault.TheVariants.{Unassigned, Full, Memory}
+use Rattle.np_node.specs.declared.faults.NodeFault.TheVariants.{Malformed, OtherForm, TooLong, NotUtf8, Unassigned, KeyDiffers, Full, Memory}
 use Rattle.np_node.specs.declared.taking.Taken.{Taken}
 use Rattle.np_tables.specs.Versions.{VersionData}
 use Rattle.std.specs.Prelude.{chars}
@@ -51,7 +51,11 @@ IsFairAnswer w string (Ok answer) = Unit {0}
 IsFairAnswer w string (Err (Unassigned at code)) = IsFirstUnassigned w (chars string) at code
 IsFairAnswer w string (Err Full) = Unit {0}
 IsFairAnswer w string (Err Memory) = Unit {0}
-IsFairAnswer w string (Err other) = ⊥
+IsFairAnswer w string (Err (Malformed at)) = ⊥
+IsFairAnswer w string (Err OtherForm) = ⊥
+IsFairAnswer w string (Err TooLong) = ⊥
+IsFairAnswer w string (Err (NotUtf8 at)) = ⊥
+IsFairAnswer w string (Err KeyDiffers) = ⊥
 
 -- a message that was made under a version of a chain is taken fairly under every version of it
 abbrev pub FairExchange : Type 0

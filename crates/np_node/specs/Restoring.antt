@@ -34,7 +34,9 @@ IsWrong v form count before e (Unassigned at code) = IsStringFault v e.string (U
 IsWrong v form count before e KeyDiffers = IsKeepable v e.string × ¬ IsKey v form e.string e.key
 IsWrong v form count before e (Malformed at) =
     IsEntry v form e × IsKept before e.string × (at ≡ length (head_bytes form count) + length (entries_bytes before))
-IsWrong v form count before e other = ⊥
+IsWrong v form count before e OtherForm = ⊥
+IsWrong v form count before e Full = ⊥
+IsWrong v form count before e Memory = ⊥
 
 -- entry n is the first that is wrong, and the fault is what is wrong with it
 pub record IsFirstWrong (v : VersionData) (form : Form) (entries : List Entry) (n : ℕ) (fault : NodeFault) : Type 0 where
@@ -50,7 +52,10 @@ IsRestoreFault v form room bytes None (Malformed at) = IsImageFault bytes at
 IsRestoreFault v form room bytes None OtherForm = IsOfOtherForm form bytes
 IsRestoreFault v form room bytes None Full = Holds form bytes (λ es. room < length es)
 IsRestoreFault v form room bytes None Memory = Holds form bytes (λ es. length es ≤ room)
-IsRestoreFault v form room bytes None other = ⊥
+IsRestoreFault v form room bytes None TooLong = ⊥
+IsRestoreFault v form room bytes None (NotUtf8 at) = ⊥
+IsRestoreFault v form room bytes None (Unassigned at code) = ⊥
+IsRestoreFault v form room bytes None KeyDiffers = ⊥
 IsRestoreFault v form room bytes (Some n) fault = Holds form bytes (λ es. (length es ≤ room) × IsFirstWrong v form es n fault)
 
 -- a node with this table, form and room, whose entries are those of the image, in order, each of them right

@@ -5,7 +5,7 @@ use Rattle.np_code_points.specs.declared.forms.Form.{Form}
 use Rattle.np_forms.specs.Assigned.{IsAssigned, IsFirstUnassigned}
 use Rattle.np_forms.specs.Forms.{IsNormalForm}
 use Rattle.np_node.specs.declared.faults.NodeFault.{NodeFault}
-use Rattle.np_node.specs.declared.faults.NodeFault.TheVariants.{TooLong, NotUtf8, Unassigned}
+use Rattle.np_node.specs.declared.faults.NodeFault.TheVariants.{Malformed, OtherForm, TooLong, NotUtf8, Unassigned, KeyDiffers, Full, Memory}
 use Rattle.np_tables.specs.Versions.{VersionData}
 
 -- a string beside its key, both as bytes
@@ -39,4 +39,8 @@ abbrev pub IsStringFault : VersionData → List ℕ → NodeFault → Type 0
 IsStringFault v string TooLong = most_bytes < length string
 IsStringFault v string (NotUtf8 at) = (length string ≤ most_bytes) × IsLongestValidPrefix string at × (at < length string)
 IsStringFault v string (Unassigned at code) = (length string ≤ most_bytes) × IsUtf8 string × IsFirstUnassigned v (chars string) at code
-IsStringFault v string other = ⊥
+IsStringFault v string (Malformed at) = ⊥
+IsStringFault v string OtherForm = ⊥
+IsStringFault v string KeyDiffers = ⊥
+IsStringFault v string Full = ⊥
+IsStringFault v string Memory = ⊥

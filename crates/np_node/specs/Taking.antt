@@ -35,7 +35,8 @@ AnswersEntry node e (Err (Unassigned at code)) = IsStringFault node.version e.st
 AnswersEntry node e (Err KeyDiffers) = HasOtherKey node e
 AnswersEntry node e (Err Full) = IsEntry node.version node.form e × HasNoPlace node e.string
 AnswersEntry node e (Err Memory) = IsNew node e.string
-AnswersEntry node e (Err other) = ⊥
+AnswersEntry node e (Err (Malformed at)) = ⊥
+AnswersEntry node e (Err OtherForm) = ⊥
 
 -- the bytes are a message of the node's form, and the answer is one to its string and key
 abbrev pub AnswersTold : State → List ℕ → Result Taken NodeFault → Type 0
@@ -45,14 +46,22 @@ AnswersTold node bytes answer = Tells node bytes (λ e. AnswersEntry node e answ
 abbrev pub AnswersTake : State → List ℕ → Result Taken NodeFault → Type 0
 AnswersTake node bytes (Err (Malformed at)) = IsMessageFault bytes at
 AnswersTake node bytes (Err OtherForm) = IsOfOtherForm node bytes
-AnswersTake node bytes answer = AnswersTold node bytes answer
+AnswersTake node bytes (Err TooLong) = AnswersTold node bytes (Err TooLong)
+AnswersTake node bytes (Err (NotUtf8 at)) = AnswersTold node bytes (Err (NotUtf8 at))
+AnswersTake node bytes (Err (Unassigned at code)) = AnswersTold node bytes (Err (Unassigned at code))
+AnswersTake node bytes (Err KeyDiffers) = AnswersTold node bytes (Err KeyDiffers)
+AnswersTake node bytes (Err Full) = AnswersTold node bytes (Err Full)
+AnswersTake node bytes (Err Memory) = AnswersTold node bytes (Err Memory)
+AnswersTake node bytes (Ok answer) = AnswersTold node bytes (Ok answer)
 
 -- `Kept` keeps the string and the key behind the others, every other answer changes nothing
 abbrev pub LeavesEntry : {T : Type 0} → NodeState T → NodeState T → Entry → Result Taken NodeFault → Type 0
 LeavesEntry old new e (Ok Kept) = new ≡ with_entry old e
-LeavesEntry old new e other = new ≡ old
+LeavesEntry old new e (Ok Known) = new ≡ old
+LeavesEntry old new e (Err fault) = new ≡ old
 
 -- `Kept` keeps what the message tells, every other answer changes nothing
 abbrev pub LeavesTaken : {T : Type 0} → NodeState T → NodeState T → List ℕ → Result Taken NodeFault → Type 0
 LeavesTaken old new bytes (Ok Kept) = (e : Entry) × IsMessage bytes (record { form = old.form; entry = e }) × (new ≡ with_entry old e)
-LeavesTaken old new bytes other = new ≡ old
+LeavesTaken old new bytes (Ok Known) = new ≡ old
+LeavesTaken old new bytes (Err fault) = new ≡ old

@@ -83,7 +83,9 @@ Fits (RangeOpen _) before text = SaysBehind LeavesRangeOpen before text
 Fits (RangeLone _) before text = Says (ClosesNoRange before) text
 Fits (RangeDiffers _) before text = SaysBehind DiffersInRange before text
 Fits (RangeMaps _) before text = Says MapsInRange text
-Fits other before text = ⊥
+Fits TooLarge before text = ⊥
+Fits ReadFailed before text = ⊥
+Fits Memory before text = ⊥
 
 -- the number of a fault's test
 abbrev pub test_of : UcdFault → ℕ
@@ -97,7 +99,9 @@ test_of (RangeOpen _) = 7
 test_of (RangeLone _) = 8
 test_of (RangeDiffers _) = 9
 test_of (RangeMaps _) = 10
-test_of other = 0
+test_of TooLarge = 0
+test_of ReadFailed = 0
+test_of Memory = 0
 
 -- the fault of a record, at its line: that of the least test that fits
 pub record IsFaultOf (before : Option Fields) (r : Numbered) (fault : UcdFault) : Type 0 where

@@ -16,13 +16,27 @@ use Rattle.npss.specs.declared.jobs.faults.VersionFault.{VersionFault}
 use Rattle.npss.specs.declared.jobs.faults.VersionFault.TheVariants as Versions
 
 abbrev pub file_status : UcdFault → ℕ
+file_status (Files.FieldCount line) = 4
+file_status (Files.BadCode line) = 4
+file_status (Files.OutOfOrder line) = 4
+file_status (Files.BadCategory line) = 4
+file_status (Files.BadClass line) = 4
+file_status (Files.BadMapping line) = 4
+file_status (Files.RangeOpen line) = 4
+file_status (Files.RangeLone line) = 4
+file_status (Files.RangeDiffers line) = 4
+file_status (Files.RangeMaps line) = 4
+file_status Files.TooLarge = 4
 file_status Files.ReadFailed = 5
 file_status Files.Memory = 6
-file_status other = 4
 
 abbrev pub tables_status : TableFault → ℕ
+tables_status (Tables.MapsToUnassigned code) = 4
+tables_status (Tables.TooDeep code) = 4
+tables_status (Tables.TooLong code) = 4
+tables_status (Tables.AmbiguousPair code) = 4
+tables_status (Tables.HangulWrong code) = 4
 tables_status Tables.Memory = 6
-tables_status other = 4
 
 abbrev pub input_status : InputFault → ℕ
 input_status Inputs.TooLarge = 4

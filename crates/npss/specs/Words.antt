@@ -42,8 +42,12 @@ asked_of (Replay form schedule_file version_files) = record {
 
 -- a schedule is replayed over at least one version
 abbrev pub HasVersions : Job → Type 0
+HasVersions Help = Unit {0}
+HasVersions (Normalize form files) = Unit {0}
+HasVersions (Key form files) = Unit {0}
+HasVersions (Compare form files) = Unit {0}
+HasVersions (Audit old new) = Unit {0}
 HasVersions (Replay form schedule_file version_files) = 1 ≤ vec_len version_files
-HasVersions other = Unit {0}
 
 -- the form that the value of --form names
 abbrev pub form_of : List Row → Option Form
