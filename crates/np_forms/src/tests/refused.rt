@@ -45,7 +45,7 @@ fn stabilized<T: NormTable>(alloc: Global, table: &T) -> Result<(), Fail> {
         at: 1,
         code: '\u{16D67}',
     };
-    want(lacking == Some(fault), "what is told without memory")?;
+    want(lacking == Some(fault), "what is told at once")?;
     let made = match npss(alloc, table, Form::Nfc, TEXT) {
         Err(NpssFault::Memory) => npss(alloc, table, Form::Nfc, TEXT)?,
         answer => answer?,
