@@ -42,9 +42,12 @@ FAILED = 101
 CALLS = {
     "np_code_points": ("chars_of", "string_of", "write_code"),
     "np_ucd": ("read_rows", "read_exclusions"),
+    "np_tables": ("build", "row_table", "page_table"),
     "np_forms": ("form", "npss", "is_form", "is_stream_safe", "equivalent", "feed", "finish", "run"),
     "np_chain": ("audit",),
     "np_node": ("accept", "take", "image", "restore"),
+    "np_world": ("read_schedule", "replay", "report_text"),
+    "npss": ("parse",),
 }
 # The commands of the program, each of which is one call of the crate.
 COMMANDS = ("normalize", "key", "compare", "audit", "replay")

@@ -1,18 +1,21 @@
 -- What stays is copied, and segments are made each for itself.
-use Rattle.std.proofs.Common.{◌≡◌, ℕ, ◌-◌, List, [], ◌∷◌, ◌++◌, length, chars, IsUtf8, encode_utf8, encode_utf8_all, refl, sym, ap, subst, ◌∙◌, arith, inl, inr, append_assoc, append-nil, length-append, take_at, drop_at, All, Bool, true, false, suc, take, drop, slice_range, IsCharBoundary, flat_map, zero}
+use Rattle.std.proofs.Common.{◌≡◌, ◌≢◌, ℕ, ◌-◌, ◌<◌, ◌⊎◌, List, [], ◌∷◌, ◌++◌, length, chars, IsUtf8, encode_utf8, encode_utf8_all, refl, sym, ap, subst, ◌∙◌, arith, inl, inr, append_assoc, append-nil, length-append, take_at, drop_at, Bool, true, false, take, drop, slice_range, IsCharBoundary, flat_map}
 use Rattle.std.proofs.lemmas.List.{append_cancel_right, nil_from_length}
+use Rattle.std.proofs.lemmas.Bool.{cases_lt}
 use Rattle.std.proofs.lemmas.Str.{chars-nil, chars-append, chars_past_char, encodes-append, encodes-chars, IsCharBoundary-at_seam, IsCharBoundary-from_take, IsUtf8-drop}
 use Rattle.np_code_points.specs.declared.forms.Form.{Form}
 use Rattle.np_forms.specs.inside.CanonicalOrder.{canonical_order}
 use Rattle.np_forms.specs.inside.Composing.{compose_of}
-use Rattle.np_forms.specs.inside.Copies.{BeginsAtBoundary, IsCopied, IsParted, LosesLast}
+use Rattle.np_forms.specs.inside.Copies.{BeginsAtBoundary, IsCopied, IsParted}
 use Rattle.np_forms.specs.inside.NormalForms.{decomposed, ended, normal_form}
-use Rattle.np_forms.proofs.BoundaryLemmas.{normal_form-parts, normal_form-copies, normal_form-stays}
-use Rattle.np_tables.specs.Boundaries.{IsBoundary, Stays}
+use Rattle.np_forms.proofs.BoundaryLemmas.{normal_form-parts}
+use Rattle.np_forms.proofs.SettledLemmas.{settled_form}
+use Rattle.np_tables.specs.Boundaries.{IsBoundary}
 use Rattle.np_tables.specs.Conditions.{IsSound}
 use Rattle.np_tables.specs.Versions.{VersionData, class_of}
 use Rattle.np_tables.specs.inside.FullDecompositions.{full_of}
-use Rattle.np_tables.specs.inside.Hints.{AreStaying}
+use Rattle.np_tables.specs.inside.Hints.{AreStanding, MayFollow, Walks}
+use Rattle.np_tables.proofs.WalkLemmas.{Walks-front}
 use Rattle.np_code_points.specs.Forms.{is_compat, composes}
 use Rattle.np_forms.proofs.ComposeLemmas.{compose-nil}
 use Rattle.np_forms.proofs.OrderLemmas.{canonical_order-nil}
@@ -27,29 +30,21 @@ pub normal_form-nil : (v : VersionData) (form : Form) → normal_form v form [] 
 unfolding normal_form decomposed
 normal_form-nil v form = ap (ended v (composes form)) (canonical_order-nil (class_of v)) ∙ ended-nil v (composes form)
 
-All-tail : (P : ℕ → Type 0) (c : ℕ) (cs : List ℕ) → All P (c ∷ cs) → All P cs
-All-tail P c cs all k d h = all (suc k) d (omega arith)
-
-All-head : (P : ℕ → Type 0) (c : ℕ) (cs : List ℕ) → All P (c ∷ cs) → P c
-All-head P c cs all = all 0 c (omega arith)
-
 module _ (v : VersionData) (sound : IsSound v) (form : Form) where
-  -- what stays stands before a boundary as it is
-  pub copies : (front rest : List ℕ) → All (Stays v form) front → BeginsAtBoundary v form rest → normal_form v form (front ++ rest) ≡ front ++ normal_form v form rest
-  copies [] rest all at = refl
-  copies (c ∷ []) [] all at = normal_form-stays v sound form c (All-head (Stays v form) c [] all) ∙ ap (λ l. c ∷ l) (sym (normal_form-nil v form))
-  copies (c ∷ []) (d ∷ ds) all at = normal_form-copies v sound form c d ds (All-head (Stays v form) c [] all) at
-  copies (c ∷ b ∷ bs) rest all at =
-      normal_form-copies v sound form c b (bs ++ rest) (All-head (Stays v form) c (b ∷ bs) all) (All-head (Stays v form) b bs (All-tail (Stays v form) c (b ∷ bs) all)).boundary
-      ∙ ap (λ l. c ∷ l) (copies (b ∷ bs) rest (All-tail (Stays v form) c (b ∷ bs) all) at)
+  -- what is settled stands before a boundary as it is
+  copies : (cs : List ℕ) (end : ℕ) (rest : List ℕ) → Walks (MayFollow v form) 0 cs end → BeginsAtBoundary v form rest → normal_form v form (cs ++ rest) ≡ cs ++ normal_form v form rest
+  copies cs end [] walk at =
+      ap (normal_form v form) (append-nil cs) ∙ settled_form v sound form cs end walk ∙ sym (append-nil cs) ∙ ap (λ l. cs ++ l) (sym (normal_form-nil v form))
+  copies cs end (d ∷ ds) walk at =
+      normal_form-parts v sound form cs d ds at ∙ ap (λ l. l ++ normal_form v form (d ∷ ds)) (settled_form v sound form cs end walk)
 
-  -- a text whose front stays, cut behind it
-  pub IsCopied-at : (text front back : List ℕ) (cs : List ℕ) → text ≡ front ++ back → IsUtf8 back → front ≡ encode_utf8_all cs → chars text ≡ cs ++ chars back → All (Stays v form) cs → BeginsAtBoundary v form (chars back) → IsCopied v form text front back
-  IsCopied-at text front back cs parts utf8 spelled text_is all at =
+  -- a text whose front is settled, cut behind it
+  pub IsCopied-at : (text front back : List ℕ) (cs : List ℕ) (end : ℕ) → text ≡ front ++ back → IsUtf8 back → front ≡ encode_utf8_all cs → chars text ≡ cs ++ chars back → Walks (MayFollow v form) 0 cs end → BeginsAtBoundary v form (chars back) → IsCopied v form text front back
+  IsCopied-at text front back cs end parts utf8 spelled text_is walk at =
       record {
         parts = parts;
         utf8 = utf8;
-        copied = ap (λ l. encode_utf8_all (normal_form v form l)) text_is ∙ ap encode_utf8_all (copies cs (chars back) all at)
+        copied = ap (λ l. encode_utf8_all (normal_form v form l)) text_is ∙ ap encode_utf8_all (copies cs end (chars back) walk at)
             ∙ encodes-append cs (normal_form v form (chars back)) ∙ ap (λ l. l ++ encode_utf8_all (normal_form v form (chars back))) (sym spelled);
       }
 
@@ -86,7 +81,7 @@ front_of s front back e =
     let n : length front ≡ length s - length back - 0 = omega (arith, ap length e, length-append front back) in
     ap (take (length s - length back - 0)) e ∙ take_at front back _ n
 
-module _ (v : VersionData) (form : Form) (text : List ℕ) (n : ℕ) (h : AreStaying v form text n) where
+module _ (v : VersionData) (form : Form) (text : List ℕ) (n : ℕ) (h : AreStanding v form text n) where
   pub cut_boundary : IsCharBoundary text n
   cut_boundary = subst (IsCharBoundary text) (sym h.place) (IsCharBoundary-at_seam text (encode_utf8_all h.front) h.back h.split h.utf8)
 
@@ -96,10 +91,10 @@ module _ (v : VersionData) (form : Form) (text : List ℕ) (n : ℕ) (h : AreSta
   pub cut_at-back : drop n text ≡ h.back
   cut_at-back = ap (drop n) h.split ∙ drop_at (encode_utf8_all h.front) h.back n (sym h.place)
 
--- ---- a text cut behind what stays
+-- ---- a text cut behind what is settled
 
 -- where the text ends there, or a boundary follows
-module _ (v : VersionData) (sound : IsSound v) (form : Form) (text : List ℕ) (n : ℕ) (h : AreStaying v form text n) (front back : List ℕ) (of_front : front ≡ take n text) (of_back : back ≡ drop n text) where
+module _ (v : VersionData) (sound : IsSound v) (form : Form) (text : List ℕ) (n : ℕ) (h : AreStanding v form text n) (front back : List ℕ) (of_front : front ≡ take n text) (of_back : back ≡ drop n text) where
   cut-front : front ≡ encode_utf8_all h.front
   cut-front = of_front ∙ cut_at-front v form text n h
 
@@ -111,7 +106,7 @@ module _ (v : VersionData) (sound : IsSound v) (form : Form) (text : List ℕ) (
 
   IsCopied-cut : BeginsAtBoundary v form (chars back) → IsCopied v form text front back
   IsCopied-cut at =
-      IsCopied-at v sound form text front back h.front cut-parts (subst IsUtf8 (sym cut-back) h.utf8) cut-front (h.text ∙ ap (λ l. h.front ++ chars l) (sym cut-back)) h.stay at
+      IsCopied-at v sound form text front back h.front h.end cut-parts (subst IsUtf8 (sym cut-back) h.utf8) cut-front (h.text ∙ ap (λ l. h.front ++ chars l) (sym cut-back)) h.settled at
 
   pub IsCopied-whole : length back ≡ 0 → IsCopied v form text front back
   IsCopied-whole none = IsCopied-cut (subst (BeginsAtBoundary v form) (sym (ap chars (nil_from_length back none) ∙ chars-nil)) tt)
@@ -120,68 +115,65 @@ module _ (v : VersionData) (sound : IsSound v) (form : Form) (text : List ℕ) (
   IsCopied-boundary c later begins at =
       IsCopied-cut (subst (BeginsAtBoundary v form) (sym (chars_past_char back later c (subst IsUtf8 (sym cut-back) h.utf8) begins)) at)
 
--- all but the last of a list: what stays before what stays
-All-front : (P : ℕ → Type 0) (xs : List ℕ) (c : ℕ) → All P (xs ++ c ∷ []) → All P xs
-All-front P [] c all k d h = absurd (omega arith)
-All-front P (x ∷ xs) c all zero d h = all zero d (omega arith)
-All-front P (x ∷ xs) c all (suc k) d h = All-front P xs c (All-tail P x (xs ++ c ∷ []) all) k d (omega arith)
+some_list : (cs : List ℕ) → (cs ≢ []) → 0 < length cs
+some_list [] h = absurd (h refl)
+some_list (c ∷ cs) h = omega arith
 
-All-last : (P : ℕ → Type 0) (xs : List ℕ) (c : ℕ) → All P (xs ++ c ∷ []) → P c
-All-last P [] c all = All-head P c [] all
-All-last P (x ∷ xs) c all = All-last P xs c (All-tail P x (xs ++ c ∷ []) all)
+begins_with : (v : VersionData) (form : Form) (cs ds : List ℕ) → 0 < length cs → BeginsAtBoundary v form cs → BeginsAtBoundary v form (cs ++ ds)
+begins_with v form [] ds some at = absurd (omega arith)
+begins_with v form (c ∷ cs) ds some at = at
 
--- else it is cut before the last that stays
-module _ (v : VersionData) (form : Form) (text : List ℕ) (n : ℕ) (h : AreStaying v form text n) (front own : List ℕ) (of_front : front ≡ take n text) (utf8 : IsUtf8 text) (of_own : IsUtf8 own) where
-  last-front : front ≡ encode_utf8_all h.front
-  last-front = of_front ∙ cut_at-front v form text n h
+some_chars : (text : List ℕ) → IsUtf8 text → 0 < length text → 0 < length (chars text)
+some_chars text utf8 some = some_list (chars text) (λ none. omega (arith, some, ap length (sym (encodes-chars text utf8) ∙ ap encode_utf8_all none)))
 
-  -- without the last code point c, where the front isn't empty
-  last-text : (c : ℕ) → front ≡ own ++ encode_utf8 c → text ≡ own ++ (encode_utf8 c ++ h.back)
-  last-text c e = h.split ∙ ap (λ l. l ++ h.back) (sym last-front ∙ e) ∙ append_assoc own (encode_utf8 c) h.back
+-- else it is cut before the last boundary, where there is one
+module _ (v : VersionData) (form : Form) (text : List ℕ) (n : ℕ) (h : AreStanding v form text n) (front own part : List ℕ) (of_front : front ≡ take n text) (utf8 : IsUtf8 text) (of_own : IsUtf8 own) (of_part : IsUtf8 part)
+    (e : front ≡ own ++ part) where
+  own-text : text ≡ own ++ (part ++ h.back)
+  own-text = h.split ∙ ap (λ l. l ++ h.back) (sym (of_front ∙ cut_at-front v form text n h) ∙ e) ∙ append_assoc own part h.back
 
-  last-boundary : (rest : List ℕ) → text ≡ own ++ rest → IsCharBoundary text (length own)
-  last-boundary rest e =
-      IsCharBoundary-from_take text (length own) utf8 (omega (arith, ap length e, length-append own rest))
-      (subst IsUtf8 (sym (ap (take (length own)) e ∙ take_at own rest (length own) refl)) of_own)
+  pub own-boundary : IsCharBoundary text (length own)
+  own-boundary =
+      IsCharBoundary-from_take text (length own) utf8 (omega (arith, ap length own-text, length-append own (part ++ h.back)))
+      (subst IsUtf8 (sym (ap (take (length own)) own-text ∙ take_at own (part ++ h.back) (length own) refl)) of_own)
 
-  pub without_last-boundary : LosesLast front own → IsCharBoundary text (length own)
-  without_last-boundary (inl nothing) = last-boundary text (ap (λ l. l ++ text) (sym nothing.1))
-  without_last-boundary (inr last) = last-boundary (encode_utf8 last.0 ++ h.back) (last-text last.0 last.1)
+  -- the text behind what is cut off
+  own-drop : drop (length own) text ≡ part ++ h.back
+  own-drop = ap (drop (length own)) own-text ∙ drop_at own (part ++ h.back) (length own) refl
 
-  -- the text behind what stays
-  last-drop : (rest : List ℕ) → text ≡ own ++ rest → drop (length own) text ≡ rest
-  last-drop rest e = ap (drop (length own)) e ∙ drop_at own rest (length own) refl
+  IsCopied-before : (sound : IsSound v) → 0 < length part → BeginsAtBoundary v form (chars part) → IsCopied v form text own (part ++ h.back)
+  IsCopied-before sound some at =
+      let rest = part ++ h.back in
+      let of_rest : IsUtf8 rest = subst IsUtf8 own-drop (IsUtf8-drop text (length own) utf8 own-boundary) in
+      let next : chars rest ≡ chars part ++ chars h.back = chars-append part h.back of_part in
+      let text_is : chars text ≡ chars own ++ chars rest = ap chars own-text ∙ chars-append own rest of_own in
+      let same : h.front ≡ chars own ++ chars part =
+      append_cancel_right h.front (chars own ++ chars part) (chars h.back)
+      (sym h.text ∙ text_is ∙ ap (λ l. chars own ++ l) next ∙ sym (append_assoc (chars own) (chars part) (chars h.back))) in
+      let walk = Walks-front (MayFollow v form) 0 h.end (chars own) (chars part) (subst (λ l. Walks (MayFollow v form) 0 l h.end) same h.settled) in
+      IsCopied-at v sound form text own rest (chars own) walk.0 own-text of_rest (sym (encodes-chars own of_own)) text_is walk.1
+      (subst (BeginsAtBoundary v form) (sym next) (begins_with v form (chars part) (chars h.back) (some_chars part of_part some) at))
 
-  IsCopied-behind : (sound : IsSound v) (c : ℕ) → front ≡ own ++ encode_utf8 c → IsCopied v form text own (encode_utf8 c ++ h.back)
-  IsCopied-behind sound c e =
-      let rest = encode_utf8 c ++ h.back in
-      let parts = last-text c e in
-      let of_rest : IsUtf8 rest = subst IsUtf8 (last-drop rest parts) (IsUtf8-drop text (length own) utf8 (last-boundary rest parts)) in
-      let next = chars_past_char rest h.back c of_rest refl in
-      let text_is : chars text ≡ chars own ++ chars rest = ap chars parts ∙ chars-append own rest of_own in
-      let same : h.front ≡ chars own ++ c ∷ [] =
-      append_cancel_right h.front (chars own ++ c ∷ []) (chars h.back)
-      (sym h.text ∙ text_is ∙ ap (λ l. chars own ++ l) next ∙ sym (append_assoc (chars own) (c ∷ []) (chars h.back))) in
-      let all = subst (All (Stays v form)) same h.stay in
-      let last : Stays v form c = All-last (Stays v form) (chars own) c all in
-      IsCopied-at v sound form text own rest (chars own) parts of_rest (sym (encodes-chars own of_own)) text_is (All-front (Stays v form) (chars own) c all)
-      (subst (BeginsAtBoundary v form) (sym next) last.boundary)
-
-  pub IsCopied-last : (sound : IsSound v) (first later : List ℕ) → LosesLast front own → first ≡ take (length own) text → later ≡ drop (length own) text → IsCopied v form text first later
-  IsCopied-last sound first later (inl nothing) of_first of_later =
-      let none : first ≡ [] = of_first ∙ ap (λ l. take (length l) text) nothing.1 in
-      let all : later ≡ text = of_later ∙ ap (λ l. drop (length l) text) nothing.1 in
-      record {
-        parts = ap (λ l. l ++ text) (sym none) ∙ ap (λ l. first ++ l) (sym all);
-        utf8 = subst IsUtf8 (sym all) utf8;
-        copied = ap (λ l. encode_utf8_all (normal_form v form (chars l))) (sym all) ∙ ap (λ l. l ++ encode_utf8_all (normal_form v form (chars later))) (sym none);
-      }
-  IsCopied-last sound first later (inr last) of_first of_later =
-      let rest = encode_utf8 last.0 ++ h.back in
-      let parts = last-text last.0 last.1 in
-      let mine : first ≡ own = of_first ∙ ap (take (length own)) parts ∙ take_at own rest (length own) refl in
-      let its : later ≡ rest = of_later ∙ last-drop rest parts in
-      subst (λ l. IsCopied v form text first l) (sym its) (subst (λ l. IsCopied v form text l rest) (sym mine) (IsCopied-behind sound last.0 last.1))
+  pub IsCopied-last : (sound : IsSound v) (first later : List ℕ) → (own ≡ []) ⊎ BeginsAtBoundary v form (chars part) → (0 < length front → 0 < length part) → first ≡ take (length own) text → later ≡ drop (length own) text →
+      IsCopied v form text first later
+  IsCopied-last sound first later cut some of_first of_later =
+      elim (cases_lt 0 (length own)) [
+        | inr none ↦
+            let empty : own ≡ [] = nil_from_length own (omega arith) in
+            let nothing : first ≡ [] = of_first ∙ ap (λ l. take (length l) text) empty in
+            let all : later ≡ text = of_later ∙ ap (λ l. drop (length l) text) empty in
+            record {
+              parts = ap (λ l. l ++ text) (sym nothing) ∙ ap (λ l. first ++ l) (sym all);
+              utf8 = subst IsUtf8 (sym all) utf8;
+              copied = ap (λ l. encode_utf8_all (normal_form v form (chars l))) (sym all) ∙ ap (λ l. l ++ encode_utf8_all (normal_form v form (chars later))) (sym nothing);
+            }
+        | inl more ↦
+            let mine : first ≡ own = of_first ∙ ap (take (length own)) own-text ∙ take_at own (part ++ h.back) (length own) refl in
+            let its : later ≡ part ++ h.back = of_later ∙ own-drop in
+            let long = some (omega (arith, more, ap length e, length-append own part)) in
+            let at : BeginsAtBoundary v form (chars part) = elim cut [ inl empty ↦ absurd (omega (arith, more, ap length empty)) | inr begins ↦ begins ] in
+            subst (λ l. IsCopied v form text first l) (sym its) (subst (λ l. IsCopied v form text l (part ++ h.back)) (sym mine) (IsCopied-before sound long at))
+      ]
 
 -- ---- the forms of the segments, one behind the other
 

@@ -1,7 +1,7 @@
 //! The form of a whole text, in which what stays is copied, and what is left goes segment by segment
 //! through decomposition, ordering and composition (UAX #15, section 9.1).
-ghost use Rattle.std.specs.Prelude.{◌≡◌, ◌<◌, ◌++◌, length, chars, string_bytes, encode_utf8_all, IsUtf8, OnOk};
-ghost use Rattle.np_forms.specs.inside.Copies.{BeginsAtBoundary, IsCopied, IsParted, LosesLast};
+ghost use Rattle.std.specs.Prelude.{◌≡◌, ◌<◌, ◌⊎◌, ◌++◌, [], length, chars, string_bytes, encode_utf8_all, IsUtf8, OnOk};
+ghost use Rattle.np_forms.specs.inside.Copies.{BeginsAtBoundary, IsCopied, IsParted};
 ghost use Rattle.np_forms.specs.inside.NormalForms.{normal_form};
 
 use crate::decomposed_texts::write_decomposed;
@@ -12,18 +12,8 @@ use np_code_points::{Form, Memory};
 use np_tables::NormTable;
 use std::alloc::Global;
 
-/// A text without its last code point.
-fn without_last(text: &str) -> &str
-    ensures { LosesLast text.now result.now }
-{
-    let mut iter = text.chars();
-    // the last one is what is left out
-    let _last = iter.next_back();
-    iter.as_str()
-}
-
 /// Cuts off the longest front that is known to stand in the form as it is.
-pub(crate) fn split_staying<'a, T: NormTable>(
+pub(crate) fn split_standing<'a, T: NormTable>(
     table: &T,
     form: Form,
     text: &'a str,
@@ -31,12 +21,16 @@ pub(crate) fn split_staying<'a, T: NormTable>(
     ensures { IsCopied (T.model table.now) form text.now result.0.now result.1.now }
 {
     table.meets_conditions();
-    let (front, back) = text.split_at(table.staying(form, text));
+    let (front, back) = text.split_at(table.standing(form, text));
     let mut behind = back.chars();
     match behind.next() {
         None => (front, back),
         Some(next) if table.is_boundary(form, next) => (front, back),
-        Some(_) => text.split_at(without_last(front).len()),
+        Some(_) => {
+            // what may change begins at the last boundary
+            let (before, _last) = split_tail(table, form, front);
+            text.split_at(before.len())
+        }
     }
 }
 
@@ -87,18 +81,18 @@ pub(crate) fn split_head<'a, T: NormTable>(
     }
 }
 
-/// Cuts a text that begins at a boundary before the last code point at which the form is known to
-/// part.
+/// Cuts a text before the last code point at which the form is known to part; nothing is before it
+/// where there is none.
 pub(crate) fn split_tail<'a, T: NormTable>(
     table: &T,
     form: Form,
     text: &'a str,
 ) -> (&'a str, &'a str)
-    requires { BeginsAtBoundary (T.model table.now) form (chars text.now) }
     ensures parts { text.now ≡ result.0.now ++ result.1.now }
     ensures front { IsUtf8 result.0.now }
     ensures back { IsUtf8 result.1.now }
-    ensures at { BeginsAtBoundary (T.model table.now) form (chars result.1.now) }
+    ensures cut { (result.0.now ≡ []) ⊎ BeginsAtBoundary (T.model table.now) form (chars result.1.now) }
+    ensures at { BeginsAtBoundary (T.model table.now) form (chars text.now) → BeginsAtBoundary (T.model table.now) form (chars result.1.now) }
     ensures some { 0 < length text.now → 0 < length result.1.now }
 {
     let mut iter = text.chars();
@@ -145,7 +139,7 @@ pub(crate) fn write_form<T: NormTable>(
     let mut list = Vec::new(alloc);
     let mut rest = text;
     'segments: while !rest.is_empty() {
-        let (stays, behind) = split_staying(table, form, rest);
+        let (stays, behind) = split_standing(table, form, rest);
         out.push_str(stays)?;
         let (segment, later) = split_segment(table, form, behind);
         write_segment(alloc, table, form, segment, &mut list, out)?;

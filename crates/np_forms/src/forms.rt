@@ -4,7 +4,7 @@ ghost use Rattle.np_forms.specs.Forms.{IsNormalForm};
 ghost use Rattle.np_forms.specs.inside.Copies.{IsBehind};
 ghost use Rattle.np_forms.specs.inside.NormalForms.{decomposed as decomposed_list, normal_form};
 
-use crate::copying::{split_segment, split_staying, write_form, write_segment};
+use crate::copying::{split_segment, split_standing, write_form, write_segment};
 use crate::decomposing::full_decomposition;
 use crate::ordering::order;
 use np_code_points::{Form, Memory};
@@ -91,7 +91,7 @@ pub fn is_form<T: NormTable>(
     let mut left = text.as_bytes();
     let mut rest = text;
     'segments: while !rest.is_empty() {
-        let (stays, after) = split_staying(table, wanted, rest);
+        let (stays, after) = split_standing(table, wanted, rest);
         let (segment, later) = split_segment(table, wanted, after);
         let Some(past) = behind(left, stays.as_bytes()) else {
             return Ok(false);

@@ -4,7 +4,7 @@ ghost use Rattle.np_code_points.specs.declared.forms.Form.{Form};
 ghost use Rattle.np_forms.specs.inside.Pieces.{form_bytes, front_of, left_of};
 ghost use Rattle.np_tables.specs.Versions.{VersionData};
 
-use crate::copying::{split_segment, split_staying, write_segment};
+use crate::copying::{split_segment, split_standing, write_segment};
 use np_code_points::{Form, Memory};
 use np_tables::NormTable;
 use std::alloc::Global;
@@ -72,7 +72,7 @@ impl<'a> Pieces<'a> {
         ensures same { OnOk result (left_of (T.model table.now) form self.new ≡ left_of (T.model table.now) form self.old) }
         ensures shorter { OnOk result (0 < length self.old.rest.now → length self.new.rest.now < length self.old.rest.now) }
     {
-        let (stays, after) = split_staying(table, form, self.rest);
+        let (stays, after) = split_standing(table, form, self.rest);
         let (segment, later) = split_segment(table, form, after);
         self.taken = 0;
         self.made.clear();

@@ -1,5 +1,6 @@
 pub mod AccessLemmas
 pub mod AmbiguityLemmas
+pub mod AsciiLemmas
 pub mod AnswerLemmas
 pub mod CompositeLemmas
 pub mod CountLemmas
@@ -29,6 +30,8 @@ pub mod RightLemmas
 pub mod RoundLemmas
 pub mod RowLemmas
 pub mod RowPageLemmas
+pub mod StandingLemmas
 pub mod SyllableLemmas
 pub mod TableLemmas
 pub mod UniqueLemmas
+pub mod WalkLemmas

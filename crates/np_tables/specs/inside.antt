@@ -16,3 +16,4 @@ pub mod Primaries
 pub mod RowPages
 pub mod RowPlaces
 pub mod Suspects
+pub mod WordLooks

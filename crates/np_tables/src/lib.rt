@@ -11,6 +11,7 @@
 #![tactic(auto)]
 
 mod ambiguity;
+mod ascii_runs;
 mod characters;
 mod counts;
 mod depths;
@@ -33,6 +34,7 @@ mod row_index;
 mod row_pages;
 mod row_places;
 mod row_table;
+mod standing_runs;
 mod syllables;
 mod tables;
 #[cfg(test)]

@@ -1,7 +1,7 @@
 //! The table of pages: one word for each code point in blocks of 256, one flat list of full
 //! decompositions, and one sorted list of pairs.
-ghost use Rattle.std.specs.Prelude.{◌≡◌, IfOk};
-ghost use Rattle.np_tables.specs.inside.PageWords.{ArePages};
+ghost use Rattle.std.specs.Prelude.{◌≡◌, true, IfOk};
+ghost use Rattle.np_tables.specs.inside.PageWords.{ArePages, IsAsciiStaying};
 
 use crate::fulls::Fulls;
 use crate::page_hints::{parts_place, stays_place};
@@ -9,6 +9,7 @@ use crate::page_runs::{has_bit, is_ascii_kept, kept_front};
 use crate::page_settled::{own_place, settled_front};
 use crate::page_slots::slots_of;
 use crate::page_words::{Word, page_words, row_words, second_rows, word_of};
+use crate::standing_runs::{is_ascii_staying, standing_front};
 use crate::syllables::arithmetic_pair;
 use crate::tables::NormTable;
 use crate::version::Version;
@@ -35,6 +36,9 @@ pub struct PageTable {
     ascii_canonical: bool,
     /// Whether NFKD does.
     ascii_compatible: bool,
+    /// Whether all ASCII stays under every form.
+    ascii: bool,
+    ghost ascii_stays: { ascii ≡ true → IsAsciiStaying index.items words.items },
 }
 
 impl Model for PageTable {
@@ -75,6 +79,7 @@ impl PageTable {
         let (index, words, fulls) = pages_of(alloc, &version)?;
         let ascii_canonical = is_ascii_kept(&index, &words, own_place(false));
         let ascii_compatible = is_ascii_kept(&index, &words, own_place(true));
+        let ascii = is_ascii_staying(&index, &words);
         Ok(PageTable {
             version,
             index,
@@ -82,6 +87,7 @@ impl PageTable {
             fulls,
             ascii_canonical,
             ascii_compatible,
+            ascii,
         })
     }
 }
@@ -138,5 +144,9 @@ impl NormTable for PageTable {
             self.ascii_canonical
         };
         settled_front(&self.index, &self.words, compat, ascii, text)
+    }
+
+    fn standing(&self, form: Form, text: &str) -> usize {
+        standing_front(&self.index, &self.words, self.ascii, form, text)
     }
 }

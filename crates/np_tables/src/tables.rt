@@ -6,7 +6,7 @@ ghost use Rattle.np_tables.specs.Composites.{IsCompositeOf};
 ghost use Rattle.np_tables.specs.inside.CompositeSearch.{composite};
 ghost use Rattle.np_tables.specs.Conditions.{IsSound};
 ghost use Rattle.np_tables.specs.Mappings.{IsLent};
-ghost use Rattle.np_tables.specs.inside.Hints.{AreSettled, AreStaying};
+ghost use Rattle.np_tables.specs.inside.Hints.{AreSettled, AreStanding, AreStaying};
 ghost use Rattle.np_tables.specs.inside.FullDecompositions.{table_full};
 ghost use Rattle.np_tables.specs.Versions.{VersionData, class_of, has_hangul, is_assigned};
 
@@ -24,6 +24,15 @@ fn claim_nothing(text: &str) -> usize
 /// No byte at the front of a text: nothing is in canonical order before anything.
 fn settle_nothing(text: &str) -> usize
     ensures { (v : VersionData) (compat : Bool) → AreSettled v compat text.now result }
+{
+    let _unused = text;
+    0
+}
+
+/// No byte at the front of a text, whose code points may stand in a form as they are whatever the
+/// version and the form are.
+fn claim_none_standing(text: &str) -> usize
+    ensures { (v : VersionData) (form : Form) → AreStanding v form text.now result }
 {
     let _unused = text;
     0
@@ -100,6 +109,17 @@ pub trait NormTable {
         let _unused = compat;
         settle_nothing(text)
     }
+
+    /// How many bytes at the front of a text are known to stand in the form as they are, if a
+    /// boundary or nothing follows: code points that stay, and behind them non-starters in canonical
+    /// order that compose with nothing. A table may answer less, down to 0.
+    fn standing(&self, form: Form, text: &str) -> usize
+        ensures { AreStanding (model self.now) form text.now result }
+    {
+        // the same
+        let _unused = form;
+        claim_none_standing(text)
+    }
 }
 
 /// A borrowed table answers as the table itself, so that one serves several owners.
@@ -140,5 +160,9 @@ impl<T: NormTable> NormTable for &T {
 
     fn settled(&self, compat: bool, text: &str) -> usize {
         (**self).settled(compat, text)
+    }
+
+    fn standing(&self, form: Form, text: &str) -> usize {
+        (**self).standing(form, text)
     }
 }

@@ -1,4 +1,6 @@
 //! Scripts, from their bytes to their reports.
+mod refused;
+
 use crate::fixtures::{
     EXCHANGE_REPORT, EXCHANGE_SCHEDULE, FORGED_REPORT, FORGED_SCHEDULE, RESTART_REPORT,
     RESTART_SCHEDULE,

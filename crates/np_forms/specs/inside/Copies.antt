@@ -1,5 +1,5 @@
 -- Texts cut where their forms part.
-use Rattle.std.specs.Prelude.{◌≡◌, ◌≢◌, ℕ, ◌≤◌, ⊤, List, [], ◌∷◌, ◌++◌, ◌⊎◌, Option, MatchOption, length, chars, encode_utf8, encode_utf8_all, IsUtf8}
+use Rattle.std.specs.Prelude.{◌≡◌, ◌≢◌, ℕ, ◌≤◌, ⊤, List, [], ◌∷◌, ◌++◌, Option, MatchOption, length, chars, encode_utf8_all, IsUtf8}
 use denote.Ref.{Bor}
 use Rattle.np_code_points.specs.declared.forms.Form.{Form}
 use Rattle.np_forms.specs.inside.NormalForms.{normal_form}
@@ -22,10 +22,6 @@ pub record IsParted (v : VersionData) (form : Form) (text front back : List ℕ)
   pub parts : text ≡ front ++ back
   pub utf8 : IsUtf8 back
   pub parted : normal_form v form (chars text) ≡ normal_form v form (chars front) ++ normal_form v form (chars back)
-
--- a text without its last character; the empty one stays
-abbrev pub LosesLast : List ℕ → List ℕ → Type 0
-LosesLast text rest = ((text ≡ []) × (rest ≡ [])) ⊎ ((c : ℕ) × (text ≡ rest ++ encode_utf8 c))
 
 -- some front of a text was written in the form, and its rest is left
 pub record GoesOn (v : VersionData) (form : Form) (text rest old new : List ℕ) : Type 0 where

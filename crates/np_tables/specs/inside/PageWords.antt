@@ -1,5 +1,5 @@
 -- What a table of pages keeps for a code point.
-use Rattle.std.specs.Prelude.{◌≡◌, ℕ, ◌+◌, ◌<◌, ◌≤◌, ◌&&◌, nat_le, not, Bool, true, false, List, [], ◌∷◌, ◌++◌, length, map, slice_get, slice_index, slice_index_or, chars, encode_utf8_all, All, IsUtf8, Some}
+use Rattle.std.specs.Prelude.{◌≡◌, ℕ, ◌+◌, ◌<◌, ◌≤◌, ◌⊎◌, ◌&&◌, nat_le, not, Bool, true, false, List, [], ◌∷◌, ◌++◌, length, map, slice_get, slice_index, slice_index_or, chars, encode_utf8_all, All, IsUtf8, Some}
 use Rattle.np_ucd.specs.Entries.{Entry}
 use Rattle.np_code_points.specs.Hangul.{is_syllable}
 use Rattle.np_tables.specs.Versions.{VersionData, class_of, entry_at, has_hangul, is_assigned}
@@ -11,7 +11,10 @@ use Rattle.np_tables.specs.declared.pairs.Composite.{Composite}
 use Rattle.np_tables.specs.inside.FullDecompositions.{table_full}
 use Rattle.np_tables.specs.inside.FullLists.{FullLists, of_kind}
 use Rattle.np_tables.specs.inside.FullParts.{AreParts, part_of}
-use Rattle.np_tables.specs.inside.PageHints.{AreBits, decomposing_place, has_bit}
+use Rattle.np_code_points.specs.declared.forms.Form.{Form}
+use Rattle.np_code_points.specs.Forms.{composes, is_compat}
+use Rattle.np_tables.specs.inside.Hints.{Walks}
+use Rattle.np_tables.specs.inside.PageHints.{AreBits, decomposing, decomposing_place, has_bit, stays_place}
 use Rattle.np_tables.specs.inside.Pages.{AreWithin, word_place}
 
 -- ---- slots of full decompositions
@@ -150,3 +153,34 @@ pub record IsPageTable (v : VersionData) (lists : FullLists) (blocks : List ℕ)
   pub pages : ArePages v lists blocks words
   pub canonical_ascii : IsAsciiKept blocks words (decomposing_place false) canonical
   pub compatible_ascii : IsAsciiKept blocks words (decomposing_place true) compatible
+
+-- ---- what may follow as it is
+
+-- all classes are below this number
+abbrev pub no_class : ℕ
+no_class = 255
+
+-- by its word a code point may stand behind code points of classes up to `last`, and then the classes are up to n: one that
+-- stays, of which nothing but itself is known where its full decomposition is another, or an inert non-starter
+abbrev pub WordFollows : Form → Word → ℕ → ℕ → Type 0
+WordFollows form w last n =
+    ((has_bit w.hints (stays_place form) ≡ true) × ((n ≡ no_class) ⊎ (has_bit w.hints (stays_place (decomposing (is_compat form))) ≡ true)))
+    ⊎ ((0 < w.class) × (w.fulls ≡ 0) × (composes form ≡ true → w.apart ≡ true) × (n ≡ w.class) × (last ≤ n))
+
+abbrev pub Follows : List ℕ → List Word → Form → ℕ → ℕ → ℕ → Type 0
+Follows blocks words form last c n = (c < 0x110000) × WordFollows form (slice_index_or words (word_place blocks c) no_word) last n
+
+-- by their words the code points in the first n bytes of a text may follow one another as they are
+pub record AreFollowing (blocks : List ℕ) (words : List Word) (form : Form) (bytes : List ℕ) (n : ℕ) : Type 0 where
+  pub front : List ℕ
+  pub back : List ℕ
+  pub end : ℕ
+  pub split : bytes ≡ encode_utf8_all front ++ back
+  pub text : chars bytes ≡ front ++ chars back
+  pub utf8 : IsUtf8 back
+  pub follow : Walks (Follows blocks words form) 0 front end
+  pub place : n ≡ length (encode_utf8_all front)
+
+-- all ASCII stays under every form
+abbrev pub IsAsciiStaying : List ℕ → List Word → Type 0
+IsAsciiStaying blocks words = (form : Form) (c : ℕ) → c < 128 → IsKept blocks words (stays_place form) c

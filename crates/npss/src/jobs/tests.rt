@@ -2,6 +2,7 @@
 
 mod commands;
 mod devices;
+mod outputs;
 mod refusals;
 mod replays;
 

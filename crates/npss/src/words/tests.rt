@@ -1,14 +1,20 @@
 //! Which words name a job.
-use super::parse;
+use super::{WordsFault, parse};
 use std::alloc::{AllocError, Global};
 use std::test::Fail;
 
-/// What the words, divided by spaces, are read as.
-fn read(alloc: Global, text: &str) -> Result<String, AllocError> {
+/// The words, divided by spaces.
+fn words_of(alloc: Global, text: &str) -> Result<Vec<String>, AllocError> {
     let mut words = Vec::new(alloc);
     for word in text.split_whitespace() {
         words.push(String::from_str(alloc, word)?)?;
     }
+    Ok(words)
+}
+
+/// What the words, divided by spaces, are read as.
+fn read(alloc: Global, text: &str) -> Result<String, AllocError> {
+    let words = words_of(alloc, text)?;
     match parse(alloc, words.as_slice()) {
         Ok(job) => format!(in alloc; "{job:?}"),
         Err(fault) => format!(in alloc; "{fault:?}"),
@@ -143,4 +149,28 @@ fn refuses_every_other_word(rt: HostRuntime) -> Result<(), Fail> {
         assert_eq!(rt; read(alloc, text)?.as_str(), "Usage", "at {text}");
     }
     Ok(())
+}
+
+/// Fails unless the words name a job, or are refused, as told; they are read a second time where memory was
+/// refused, as `tests/refusals.py` has it in turn.
+fn wants_read(alloc: Global, text: &str, is_job: bool) -> Result<(), Fail> {
+    let words = words_of(alloc, text)?;
+    let read = match parse(alloc, words.as_slice()) {
+        Err(WordsFault::Memory) => parse(alloc, words.as_slice()),
+        answer => answer,
+    };
+    match read {
+        Ok(_) if is_job => Ok(()),
+        Err(WordsFault::Usage) if !is_job => Ok(()),
+        Err(WordsFault::Memory) => Err(WordsFault::Memory.into()),
+        Ok(_) | Err(WordsFault::Usage) => Err(Fail::new(text)),
+    }
+}
+
+#[test]
+fn a_refused_parse_succeeds_after_all(rt: HostRuntime) -> Result<(), Fail> {
+    wants_read(rt.alloc(), "", true)?;
+    wants_read(rt.alloc(), "key --form nfx D E", false)?;
+    wants_read(rt.alloc(), "--help", false)?;
+    wants_read(rt.alloc(), "replay --form nfc S D E", true)
 }

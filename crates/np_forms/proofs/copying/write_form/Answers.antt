@@ -11,7 +11,7 @@ is_empty-requires-text-self g c κs = c.segments.invariant.0
 pub segments-preserved : goal.segments-preserved
 segments-preserved g c = (
   c.split_segment.ensures.parted.utf8,
-  one_more_segment (g.T.NormTable.model c.args.table.now) c.args.form _ _ _ _ _ _ _ _ _ c.split_staying.ensures c.split_segment.ensures.parted
+  one_more_segment (g.T.NormTable.model c.args.table.now) c.args.form _ _ _ _ _ _ _ _ _ c.split_standing.ensures c.split_segment.ensures.parted
       c.in_ok-push_str.ensures.bytes c.in_ok-write_segment.ensures c.segments.invariant.1,
 )
 

@@ -11,6 +11,6 @@ returns g c =
     (string_bytes c.args.out.now) (string_bytes c.write_chars.new.out) (string_bytes c.write_break.new.out) (string_bytes c.write_form.new.out) (string_bytes c.write_chars-2.new.out)
     (g.T.NormTable.model c.rules-form.result.1.now) c.rules-form.result.2 c.args.text.now c.split_head.result.0.now c.split_head.result.1.now c.split_tail.result.0.now c.split_tail.result.1.now
     c.meets_conditions.ensures c.rules-form.ensures.version c.rules-form.ensures.form c.split_head.ensures.parts c.split_tail.ensures.parts
-    c.split_head.ensures.front c.split_tail.ensures.front c.split_tail.ensures.back (c.split_tail.ensures.some (search rules)) c.split_head.ensures.at c.split_tail.ensures.at
+    c.split_head.ensures.front c.split_tail.ensures.front c.split_tail.ensures.back (c.split_tail.ensures.some (search rules)) c.split_head.ensures.at (c.split_tail.ensures.at c.split_head.ensures.at)
     c.in_ok-write_chars.ensures c.in_ok-write_break.ensures c.in_ok-write_form.ensures last)
     c.write_chars-2.ensures

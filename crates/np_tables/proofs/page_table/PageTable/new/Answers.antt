@@ -1,8 +1,8 @@
 use Rattle.np_tables.proofs.PageSettledLemmas.{ascii-lent}
 use Rattle.np_tables.proofs.page_table.PageTable.new.Goals as goal
 
-pub invariant_of-result : goal.invariant_of-result
-invariant_of-result c =
+pub invariant_of-result-2 : goal.invariant_of-result-2
+invariant_of-result-2 c =
     let blocks = c.in_ok-index.index.items in
     let kept = c.in_ok-index.words.items in
     record {

@@ -1,0 +1,139 @@
+-- Runs of code points that may follow one another as they are.
+use Rattle.std.proofs.Common.{◌≡◌, ℕ, ◌+◌, ◌-◌, ◌<◌, ◌≤◌, Bool, true, false, suc, List, [], ◌∷◌, ◌++◌, length, get_or, chars, IsUtf8, encode_utf8, encode_utf8_all, All, sym, ap, subst, ◌∙◌, arith, append_assoc, append-nil, length-append, refl, inl, inr}
+use Rattle.std.proofs.lemmas.Str.{chars_past_char, encodes-append, IsUtf8-past_char}
+use Rattle.std.proofs.lemmas.List.{nil_from_length}
+use Rattle.np_code_points.specs.declared.forms.Form.{Form}
+use Rattle.np_code_points.specs.declared.forms.Form.TheVariants.{Nfd, Nfc, Nfkd, Nfkc}
+use Rattle.np_code_points.specs.Forms.{is_compat, composes}
+use Rattle.np_tables.specs.Boundaries.{IsBoundary, Stays}
+use Rattle.np_tables.specs.Conditions.{IsSound}
+use Rattle.np_tables.specs.Versions.{VersionData, class_of}
+use Rattle.np_tables.specs.declared.page_words.Word.{Word}
+use Rattle.np_tables.specs.inside.FullDecompositions.{full_of}
+use Rattle.np_tables.specs.inside.FullLists.{FullLists, of_kind}
+use Rattle.np_tables.specs.inside.Hints.{AreStanding, IsInert, MayFollow, StaysUpTo, Walks}
+use Rattle.np_tables.specs.inside.Pages.{word_place}
+use Rattle.np_tables.specs.inside.PageWords.{AreFollowing, ArePages, Follows, IsAsciiStaying, IsKept, IsPast, IsWord, WordFollows, no_class, no_word}
+use Rattle.np_tables.specs.inside.PageHints.{decomposing, has_bit, stays_place}
+use Rattle.np_tables.proofs.MappingLemmas.{full_of-only}
+use Rattle.np_tables.proofs.WalkLemmas.{Walks-append, Walks-weaker}
+
+-- ---- what was read of a text is a walk, and `rest` is left
+
+pub record IsWalkedTo (Step : ℕ → ℕ → ℕ → Type 0) (s rest : List ℕ) (last : ℕ) : Type 0 where
+  pub before : List ℕ
+  pub bytes : s ≡ encode_utf8_all before ++ rest
+  pub text : chars s ≡ before ++ chars rest
+  pub walk : Walks Step 0 before last
+  pub utf8 : IsUtf8 rest
+
+module _ (Step : ℕ → ℕ → ℕ → Type 0) where
+  pub IsWalkedTo-start : (s rest : List ℕ) → rest ≡ s → IsUtf8 s → IsWalkedTo Step s rest 0
+  IsWalkedTo-start s rest e utf8 = record { before = []; bytes = sym e; text = ap chars (sym e); walk = refl; utf8 = subst IsUtf8 (sym e) utf8 }
+
+  -- one code point more
+  pub IsWalkedTo-next : (s rest : List ℕ) (last c : ℕ) (later : List ℕ) (n : ℕ) → IsWalkedTo Step s rest last → rest ≡ encode_utf8 c ++ later → Step last c n → IsWalkedTo Step s later n
+  IsWalkedTo-next s rest last c later n r e step =
+      record {
+        before = r.before ++ c ∷ [];
+        bytes = r.bytes ∙ ap (λ l. encode_utf8_all r.before ++ l) e ∙ sym (append_assoc (encode_utf8_all r.before) (encode_utf8 c) later)
+            ∙ ap (λ l. l ++ later) (ap (λ l. encode_utf8_all r.before ++ l) (sym (append-nil (encode_utf8 c))) ∙ sym (encodes-append r.before (c ∷ [])));
+        text = r.text ∙ ap (λ l. r.before ++ l) (chars_past_char rest later c r.utf8 e) ∙ sym (append_assoc r.before (c ∷ []) (chars later));
+        walk = Walks-append Step 0 last n r.before (c ∷ []) r.walk (n, step, refl);
+        utf8 = IsUtf8-past_char rest later c r.utf8 e;
+      }
+
+  walk_past : (P : ℕ → Type 0) → ((c : ℕ) → P c → Step 0 c 0) → (xs : List ℕ) → All P xs → Walks Step 0 xs 0
+  walk_past P each [] all = refl
+  walk_past P each (x ∷ xs) all = (0, each x (all 0 x (omega arith)), walk_past P each xs (λ k d lt. all (suc k) d (omega arith)))
+
+  -- some more at once, each of which leads from 0 to 0
+  pub IsWalkedTo-past : (P : ℕ → Type 0) → ((c : ℕ) → P c → Step 0 c 0) → (s rest later : List ℕ) → IsWalkedTo Step s rest 0 → IsPast P rest later → IsWalkedTo Step s later 0
+  IsWalkedTo-past P each s rest later r past =
+      record {
+        before = r.before ++ past.front;
+        bytes = r.bytes ∙ ap (λ l. encode_utf8_all r.before ++ l) past.split ∙ sym (append_assoc (encode_utf8_all r.before) (encode_utf8_all past.front) later)
+            ∙ ap (λ l. l ++ later) (sym (encodes-append r.before past.front));
+        text = r.text ∙ ap (λ l. r.before ++ l) past.text_is ∙ sym (append_assoc r.before past.front (chars later));
+        walk = Walks-append Step 0 0 0 r.before past.front r.walk (walk_past P each past.front past.passed);
+        utf8 = past.utf8;
+      }
+
+-- ASCII that stays leads from any class to 0
+pub ascii_follows : (blocks : List ℕ) (words : List Word) (form : Form) → IsAsciiStaying blocks words → (last c : ℕ) → c < 128 → Follows blocks words form last c 0
+ascii_follows blocks words form ascii last c lt =
+    let stays = ascii form c lt in
+    (stays.0, inl (stays.1, inr (ascii (decomposing (is_compat form)) c lt).1))
+
+pub following-stop : (blocks : List ℕ) (words : List Word) (form : Form) (s rest : List ℕ) (last n : ℕ) → IsWalkedTo (Follows blocks words form) s rest last → n ≡ length s - length rest → AreFollowing blocks words form s n
+following-stop blocks words form s rest last n r is =
+    record {
+      front = r.before;
+      back = rest;
+      end = last;
+      split = r.bytes;
+      text = r.text;
+      utf8 = r.utf8;
+      follow = r.walk;
+      place = omega (arith, is, ap length r.bytes, length-append (encode_utf8_all r.before) rest);
+    }
+
+-- ---- what the words say is so
+
+module _ (v : VersionData) (sound : IsSound v) where
+  -- the full decomposition that a boundary names is the only one
+  named : (form : Form) (c : ℕ) → (at : IsBoundary v form c) → at.first ∷ at.rest ≡ full_of v (is_compat form) c
+  named form c at = full_of-only v (is_compat form) sound.shallow c (at.first ∷ at.rest) at.decomposes
+
+  decomposed_self : (form : Form) (c : ℕ) → Stays v (decomposing (is_compat form)) c → full_of v (is_compat form) c ≡ c ∷ []
+  decomposed_self Nfd c stays = sym (named Nfd c stays.boundary) ∙ stays.returns
+  decomposed_self Nfc c stays = sym (named Nfd c stays.boundary) ∙ stays.returns
+  decomposed_self Nfkd c stays = sym (named Nfkd c stays.boundary) ∙ stays.returns
+  decomposed_self Nfkc c stays = sym (named Nfkd c stays.boundary) ∙ stays.returns
+
+  -- behind what is its own full decomposition any class may follow
+  up_to-own : (form : Form) (c n : ℕ) → Stays v (decomposing (is_compat form)) c → (stays : Stays v form c) → StaysUpTo v form c n
+  up_to-own form c n own stays =
+      let whole = named form c stays.boundary ∙ decomposed_self form c own in
+      let short : length stays.boundary.rest ≡ 0 = omega (arith, ap length whole) in
+      record { stays = stays; up_to = λ k d lt. absurd (omega (arith, short, lt)) }
+
+  -- no class is above the greatest
+  up_to-any : (form : Form) (c n : ℕ) → n ≡ no_class → (stays : Stays v form c) → StaysUpTo v form c n
+  up_to-any form c n top stays = record { stays = stays; up_to = λ k d lt. (let low = sound.classes (get_or stays.boundary.rest k d) in omega arith) }
+
+module _ (v u : VersionData) (same : u ≡ v) (lists : FullLists) (blocks : List ℕ) (words : List Word) (pages : ArePages u lists blocks words) (form : Form) where
+  word_follows : (last c n : ℕ) → Follows blocks words form last c n → MayFollow u form last c n
+  word_follows last c n h =
+      let word = pages.each c h.0 in
+      elim h.1 [
+        | inl stays ↦
+            let itself = word.hints.stays form stays.0 in
+            elim stays.1 [
+              | inl top ↦ inl (up_to-any u pages.sound form c n top itself)
+              | inr own ↦ inl (up_to-own u pages.sound form c n (word.hints.stays (decomposing (is_compat form)) own) itself)
+            ]
+        | inr goes ↦
+            inr (
+              record {
+                non_starter = subst (λ k. 0 < k) word.class goes.0;
+                unmapped = sym (word.slot.lent (is_compat form)) ∙ ap (λ k. get_or (of_kind (is_compat form) lists) k []) goes.1 ∙ pages.none (is_compat form);
+                apart = λ on. word.apart (goes.2 on);
+              },
+              goes.3 ∙ word.class,
+              goes.4,
+            )
+      ]
+
+  pub following-standing : (text : List ℕ) (n : ℕ) → AreFollowing blocks words form text n → AreStanding v form text n
+  following-standing text n are =
+      record {
+        front = are.front;
+        back = are.back;
+        end = are.end;
+        split = are.split;
+        text = are.text;
+        utf8 = are.utf8;
+        settled = subst (λ x. Walks (MayFollow x form) 0 are.front are.end) same (Walks-weaker (Follows blocks words form) (MayFollow u form) word_follows 0 are.end are.front are.follow);
+        place = are.place;
+      }

@@ -1,0 +1,17 @@
+use Rattle.std.proofs.Common.{◌≤◌, ◌<◌, length, subst, take}
+use Rattle.std.specs.Str.{IsAscii}
+use Rattle.np_tables.proofs.PageRunLemmas.{IsPast-ascii, past_boundary}
+use Rattle.np_tables.proofs.standing_runs.behind_ascii.Goals as goal
+
+pub range_from-requires : goal.range_from-requires
+range_from-requires c = λ _.
+    let n = c.ascii_front.result in
+    let same = c.as_bytes.ensures.value in
+    past_boundary c.args.text.now n c.utf8.text (subst (λ l. n ≤ length l) same c.ascii_front.ensures.fits) (subst (λ l. IsAscii (take n l)) same c.ascii_front.ensures.ascii)
+
+pub returns : goal.returns
+returns c =
+    let n = c.ascii_front.result in
+    let same = c.as_bytes.ensures.value in
+    IsPast-ascii c.args.text.now n c.utf8.text (subst (λ l. n ≤ length l) same c.ascii_front.ensures.fits) (subst (λ l. IsAscii (take n l)) same c.ascii_front.ensures.ascii)
+    (λ d. d < 128) c.range_from.result.now c.range_from.ensures.value (λ d lt. lt)
