@@ -8,7 +8,7 @@ MIB = 1 << 20
 SEED = 12
 # What is drawn; it is then repeated in shuffled order up to the size wanted.
 DRAWN = MIB // 2
-# One run of marks has so many of them, and the corpus at most so many bytes: ICU's time is quadratic
+# One run of non-starters has so many of them, and the corpus at most so many bytes: ICU's time is quadratic
 # in the length of a run.
 RUN = 4_000
 RUNS_LIMIT = MIB // 2
@@ -23,7 +23,7 @@ KANA = [chr(code) for code in [*range(0x3042, 0x3093), *range(0x30A2, 0x30F3)]]
 COMPATIBILITY = ([chr(code) for code in [*range(0xFF66, 0xFF9E), *range(0xFF10, 0xFF5B), *range(0x2460, 0x2474),
                                          *range(0x3300, 0x3358), *range(0xF900, 0xF930)]]
                  + [chr(code) + "\uff9e" for code in range(0xFF76, 0xFF85)])
-# A script's letters, and marks of unlike classes, of which up to two follow a letter in any order.
+# A script's letters, and non-starters of unlike classes, of which up to two follow a letter in any order.
 POINTED = [(range(0x5D0, 0x5EB), [*range(0x5B0, 0x5BA), 0x5BC, 0x5C1, 0x5C2]),
            (range(0x628, 0x63B), range(0x64B, 0x653)),
            (range(0x915, 0x93A), [0x93C, 0x94D, 0x93F, 0x947, 0x951, 0x952]),

@@ -13,7 +13,7 @@ MARKS = [f"{code:04X}" for code in (0x300, 0x301, 0x302, 0x303, 0x308, 0x323)]
 
 
 def drawn_string(source):
-    """Two letters or a letter and a mark, now and then a letter alone: some hundred thousand strings, of
+    """Two letters or a letter and a non-starter, now and then a letter alone: some hundred thousand strings, of
     which some are equivalent."""
     chance = source.random()
     letter = source.choice(LETTERS)

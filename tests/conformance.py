@@ -45,7 +45,7 @@ OTHER_ASSIGNED = 65 + 137_468 + 2_048
 # were not yet stable.
 AGES = ((4, 1), (6, 0), (9, 0), (12, 0), (13, 0), (14, 0))
 
-# Random texts: how many, the least length, and how many marks may stand in a row.
+# Random texts: how many, the least length, and how many non-starters may stand in a row.
 TEXTS = 8_000
 LENGTH = 24
 MARKS = 40
@@ -163,7 +163,7 @@ def icu_forms(form, strings):
 
 def icu_knows(strings):
     """Those that ICU's own data assigns. uconv works on one line after another, and cuts lines also
-    after each UTF-16 unit that has all bits of U+2028, so that it doesn't exchange marks across
+    after each UTF-16 unit that has all bits of U+2028, so that it doesn't exchange non-starters across
     such a place: code points with these bits are left out."""
     return {c for c in icu_rules("::[:Cn:] Remove;", strings) if c} - {c for c in strings if cuts_line(ord(c))}
 
@@ -184,7 +184,7 @@ def others():
 
 
 def pools_of(published, known):
-    """The known code points to draw from: all marks; and ASCII, those with a canonical mapping, with
+    """The known code points to draw from: all non-starters; and ASCII, those with a canonical mapping, with
     a compatibility mapping, parts of mappings, Hangul, any."""
     def within(code_points):
         return [c for c in map(chr, code_points) if c in known]
@@ -198,7 +198,7 @@ def pools_of(published, known):
 
 
 def random_texts(published, known):
-    """Texts of these code points, with marks of any scripts behind many of them: mostly few, seldom
+    """Texts of these code points, with non-starters of any scripts behind many of them: mostly few, seldom
     many."""
     marks, pools = pools_of(published, known)
     source = random.Random(SEED)

@@ -41,7 +41,7 @@ class Names:
         self.made = [""]
 
     def respelled(self, name):
-        """The name with each code point as it is or decomposed, and with some marks in another order."""
+        """The name with each code point as it is or decomposed, and with some non-starters in another order."""
         parts = [unicodedata.normalize("NFD", c) if self.source.random() < 0.5 else c for c in name]
         text = list("".join(parts))
         for at in range(1, len(text)):
@@ -51,7 +51,7 @@ class Names:
 
     def fresh(self):
         """A name of one to three words, now and then with a code point of some later version, with
-        marks of any script, or with one that no version assigns."""
+        non-starters of any script, or with one that no version assigns."""
         source = self.source
         words = [source.choice(self.fixed) for _ in range(source.choice((1, 2, 2, 3)))]
         chance = source.random()
