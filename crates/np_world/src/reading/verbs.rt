@@ -21,6 +21,7 @@ impl Verb {
     pub(crate) fn of_name(name: &[u8]) -> Option<Verb>
         ensures { result ≡ verb_named name.now }
     {
+        // comparisons one by one: a match over the bytes of names is far dearer to prove
         if name == b"accept".as_slice() {
             Some(Verb::Accept)
         } else if name == b"deliver".as_slice() {
