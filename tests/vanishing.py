@@ -21,6 +21,8 @@ SIZE = 1 << 20
 # The least that a pipe can be told to hold.
 PIPE = 4096
 PATIENCE = 60
+# A program that has not read on for so many seconds waits for its output, on a busy machine too.
+STILL = 2
 
 
 def runs():
@@ -63,7 +65,7 @@ def feed(pipe, given):
 def stopped_at(running, handle):
     """The place in a file where the program that reads it waits."""
     place, since = -1, time.monotonic()
-    while time.monotonic() - since < 0.3:
+    while time.monotonic() - since < STILL:
         time.sleep(0.02)
         now = os.lseek(handle, 0, os.SEEK_CUR)
         if now != place or now == 0:
@@ -77,12 +79,15 @@ def shrunken(program, path, size, folder):
     """The run of `normalize` over a file that is cut to this size while the program waits for its output to be
     read: the place where it waited, its status, and what it wrote."""
     handle = os.open(path, os.O_RDONLY)
-    with subprocess.Popen([program, "normalize", "--form", "nfc", *V1], cwd=folder, stdin=handle,
-                          stdout=subprocess.PIPE, stderr=subprocess.PIPE) as running:
-        fcntl.fcntl(running.stdout.fileno(), fcntl.F_SETPIPE_SZ, PIPE)
+    reader, writer = os.pipe()
+    # the pipe is made small before anything is in it
+    fcntl.fcntl(writer, fcntl.F_SETPIPE_SZ, PIPE)
+    with subprocess.Popen([program, "normalize", "--form", "nfc", *V1], cwd=folder, stdin=handle, stdout=writer,
+                          stderr=subprocess.PIPE) as running, open(reader, "rb") as output:
+        os.close(writer)
         place = stopped_at(running, handle)
         os.truncate(path, size)
-        out, told = running.stdout.read(), running.stderr.read()
+        out, told = output.read(), running.stderr.read()
         os.close(handle)
         return place, running.wait(PATIENCE), out, told
 
