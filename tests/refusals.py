@@ -233,7 +233,7 @@ def is_test_end(name, got):
     """Whether a test ends well with an allocation refused."""
     status, out, err = got
     if "::a_refused_" in name:
-        return status == 0 or (status == FAILED and any(word in out + err for word in (b"emory", b"AllocError")))
+        return status == 0 or (status == FAILED and any(word in out + err for word in (b"emory", b"AllocError", b"AllocFailed")))
     return status in (0, FAILED, -signal.SIGABRT)
 
 
