@@ -20,7 +20,7 @@ pub(super) fn repeated(alloc: Global, before: &str, c: char, count: u32) -> Resu
 }
 
 // (text, NFD, NFC)
-const CANONICAL: [(&str, &str, &str); 27] = [
+const CANONICAL: [(&str, &str, &str); 32] = [
     ("", "", ""),
     ("\u{61}\u{302}\u{323}", "\u{61}\u{323}\u{302}", "\u{1EAD}"),
     ("\u{212B}", "\u{41}\u{30A}", "\u{C5}"),
@@ -88,6 +88,29 @@ const CANONICAL: [(&str, &str, &str); 27] = [
         "\u{61}\u{302}\u{323}\u{66}\u{61}",
         "\u{61}\u{323}\u{302}\u{66}\u{61}",
         "\u{1EAD}\u{66}\u{61}",
+    ),
+    // a composite within a segment; non-starters that compose with nothing, in front of one that does,
+    // behind it, and of its class
+    ("\u{E2}\u{301}", "\u{61}\u{302}\u{301}", "\u{E2}\u{301}"),
+    (
+        "\u{61}\u{327}\u{302}",
+        "\u{61}\u{327}\u{302}",
+        "\u{E2}\u{327}",
+    ),
+    (
+        "\u{61}\u{323}\u{302}\u{301}\u{66}\u{302}",
+        "\u{61}\u{323}\u{302}\u{301}\u{66}\u{302}",
+        "\u{1EAD}\u{301}\u{66}\u{302}",
+    ),
+    (
+        "\u{61}\u{301}\u{302}\u{327}",
+        "\u{61}\u{327}\u{301}\u{302}",
+        "\u{61}\u{327}\u{301}\u{302}",
+    ),
+    (
+        "\u{1100}\u{1161}\u{301}",
+        "\u{1100}\u{1161}\u{301}",
+        "\u{AC00}\u{301}",
     ),
     // the last trailing consonant, and the last syllable
     ("\u{AC00}\u{11C2}", "\u{1100}\u{1161}\u{11C2}", "\u{AC1B}"),
