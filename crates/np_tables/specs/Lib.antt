@@ -2,6 +2,7 @@ pub mod Boundaries
 pub mod Composites
 pub mod Conditions
 pub mod Counts
+pub mod Examples
 pub mod Faults
 pub mod Laws
 pub mod Mappings

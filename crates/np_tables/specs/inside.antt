@@ -1,7 +1,6 @@
 pub mod Accessors
 pub mod CompositeSearch
 pub mod Depths
-pub mod Examples
 pub mod FirstFaults
 pub mod FullDecompositions
 pub mod FullLists

@@ -1,4 +1,4 @@
--- Three versions that meet the conditions, so that the laws over all versions that do are not empty.
+-- Three versions that meet the conditions: laws over all versions that do are not empty.
 use Rattle.std.specs.Prelude.{[], ◌∷◌}
 use Rattle.np_ucd.specs.Entries.{Entry}
 use Rattle.np_ucd.specs.declared.rows.MapKind.TheVariants.{Plain, Canonical}
