@@ -28,7 +28,7 @@ fn ascii_in_step(bytes: &[u8], from: usize) -> usize
 
 /// How many bytes at the front are ASCII: all of them, but for the last steps, which may be left.
 #[inline(always)]
-pub fn ascii_front(bytes: &[u8]) -> usize
+pub(crate) fn ascii_front(bytes: &[u8]) -> usize
     ensures fits { result ≤ length bytes.now }
     ensures ascii { IsAscii (take result bytes.now) }
 {

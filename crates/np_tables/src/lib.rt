@@ -41,7 +41,6 @@ mod tables;
 mod tests;
 mod version;
 
-pub use characters::CharacterData;
 pub use faults::TableFault;
 pub use page_table::PageTable;
 pub use row_table::RowTable;

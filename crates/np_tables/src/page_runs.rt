@@ -14,7 +14,7 @@ const STEP: usize = 64;
 
 /// Whether eight bits have the bit at a place.
 #[inline(always)]
-pub fn has_bit(bits: u8, place: u32) -> bool
+pub(crate) fn has_bit(bits: u8, place: u32) -> bool
     requires { place < 8 }
     ensures { result ≡ spec_has_bit bits place }
 {
@@ -32,7 +32,7 @@ fn is_kept(blocks: &[u16], words: &[Word], place: u32, c: char) -> bool
 }
 
 /// Whether the words of all ASCII have a bit.
-pub fn is_ascii_kept(blocks: &[u16], words: &[Word], place: u32) -> bool
+pub(crate) fn is_ascii_kept(blocks: &[u16], words: &[Word], place: u32) -> bool
     requires within { AreWithin 4352 blocks.now (length words.now) }
     requires place { place < 8 }
     ensures { IsTrue result → (c : ℕ) → c < 128 → IsKept blocks.now words.now place c }
@@ -46,7 +46,7 @@ pub fn is_ascii_kept(blocks: &[u16], words: &[Word], place: u32) -> bool
 }
 
 /// How many bytes at the front are ASCII, in whole steps.
-pub fn ascii_front(bytes: &[u8]) -> usize
+pub(crate) fn ascii_front(bytes: &[u8]) -> usize
     ensures fits { result ≤ length bytes.now }
     ensures ascii { IsAscii (take result bytes.now) }
 {
@@ -74,7 +74,7 @@ fn past_ascii<'a>(blocks: &[u16], words: &[Word], place: u32, text: &'a str) -> 
 
 /// How many bytes at the front of a text are code points whose words have a bit. Behind a long run
 /// of ASCII the rest of it is taken in steps.
-pub fn kept_front(blocks: &[u16], words: &[Word], place: u32, text: &str) -> usize
+pub(crate) fn kept_front(blocks: &[u16], words: &[Word], place: u32, text: &str) -> usize
     requires within { AreWithin 4352 blocks.now (length words.now) }
     requires place { place < 8 }
     ensures { AreKept blocks.now words.now place text.now result }

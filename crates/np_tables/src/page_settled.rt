@@ -18,7 +18,7 @@ const SHORT: usize = 32;
 
 /// Which bit tells whether the form that only decomposes leaves a code point as it is.
 #[inline(always)]
-pub fn own_place(compat: bool) -> u32
+pub(crate) fn own_place(compat: bool) -> u32
     ensures place { result ≡ decomposing_place compat }
     ensures bound { result < 8 }
 {
@@ -70,7 +70,13 @@ fn word_at(blocks: &[u16], words: &[Word], c: char) -> Word
 
 /// How many bytes at the front of a text are their own full decomposition, in canonical order, up
 /// to a starter that ends them.
-pub fn settled_front(blocks: &[u16], words: &[Word], compat: bool, ascii: bool, text: &str) -> usize
+pub(crate) fn settled_front(
+    blocks: &[u16],
+    words: &[Word],
+    compat: bool,
+    ascii: bool,
+    text: &str,
+) -> usize
     requires within { AreWithin 4352 blocks.now (length words.now) }
     requires ascii { IsAsciiKept blocks.now words.now (decomposing_place compat) ascii }
     ensures { (v : VersionData) (lists : FullLists) → ArePages v lists blocks.now words.now → AreSettled v compat text.now result }

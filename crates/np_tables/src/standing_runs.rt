@@ -76,7 +76,7 @@ fn class_at(blocks: &[u16], words: &[Word], look: Look, c: char, last: u8) -> Op
 }
 
 /// Whether all ASCII stays under every form.
-pub fn is_ascii_staying(blocks: &[u16], words: &[Word]) -> bool
+pub(crate) fn is_ascii_staying(blocks: &[u16], words: &[Word]) -> bool
     requires { AreWithin 4352 blocks.now (length words.now) }
     ensures { IsTrue result → IsAsciiStaying blocks.now words.now }
 {
@@ -96,7 +96,13 @@ fn behind_ascii(text: &str) -> &str
 
 /// How many bytes at the front of a text are code points that may follow one another as they are.
 /// `ascii` tells that all ASCII stays, which is then passed in steps.
-pub fn standing_front(blocks: &[u16], words: &[Word], ascii: bool, form: Form, text: &str) -> usize
+pub(crate) fn standing_front(
+    blocks: &[u16],
+    words: &[Word],
+    ascii: bool,
+    form: Form,
+    text: &str,
+) -> usize
     requires within { AreWithin 4352 blocks.now (length words.now) }
     requires ascii { ascii ≡ true → IsAsciiStaying blocks.now words.now }
     ensures { AreFollowing blocks.now words.now form text.now result }
