@@ -5,6 +5,7 @@ pub mod Counts
 pub mod Faults
 pub mod Laws
 pub mod Mappings
+pub mod Standing
 pub mod TableFaults
 pub mod Versions
 pub mod inside

@@ -24,8 +24,6 @@ pub mod laws;
 mod mapped_faults;
 mod page_bits;
 mod page_hints;
-mod page_runs;
-mod page_settled;
 mod page_slots;
 mod page_table;
 mod page_words;
@@ -40,6 +38,7 @@ mod tables;
 #[cfg(test)]
 mod tests;
 mod version;
+mod word_bits;
 
 pub use faults::TableFault;
 pub use page_table::PageTable;

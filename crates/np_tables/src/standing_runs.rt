@@ -9,14 +9,13 @@ ghost use Rattle.np_tables.specs.inside.Pages.{AreWithin};
 ghost use Rattle.np_tables.specs.inside.WordLooks.{IsLook};
 
 use crate::ascii_runs::ascii_front;
-use crate::page_hints::stays_place;
-use crate::page_runs::{has_bit, is_ascii_kept};
-use crate::page_settled::own_place;
+use crate::page_hints::{own_place, stays_place};
 use crate::page_words::{Word, word_of};
+use crate::word_bits::{has_bit, is_ascii_kept};
 use np_code_points::Form;
 
-/// Behind a code point of whose full decomposition the last class is not looked up: all classes
-/// are below.
+/// Stands for the last class in the full decomposition of a code point that has another one: that
+/// class is not looked up, and no class is greater.
 const NO_CLASS: u8 = 255;
 
 /// What a scan for a form asks of a word.
