@@ -20,8 +20,8 @@ pub mod PushLemmas
 pub mod RunLemmas
 pub mod RunTextLemmas
 pub mod RunningLemmas
-pub mod SettledLemmas
 pub mod SortLemmas
+pub mod StandingLemmas
 pub mod StreamLemmas
 pub mod StreamSafeLemmas
 pub mod SyllableLemmas

@@ -20,8 +20,6 @@ pub mod MappedLemmas
 pub mod MappingLemmas
 pub mod PageApartLemmas
 pub mod PageHintLemmas
-pub mod PageRunLemmas
-pub mod PageSettledLemmas
 pub mod PageSlotLemmas
 pub mod PageWordLemmas
 pub mod PairLemmas

@@ -6,7 +6,6 @@ pub mod FullDecompositions
 pub mod FullLists
 pub mod FullParts
 pub mod HangulRows
-pub mod Hints
 pub mod PageHints
 pub mod PageWords
 pub mod Pages

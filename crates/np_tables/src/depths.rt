@@ -23,7 +23,7 @@ const TOO_LONG: u8 = 65;
 
 /// The first code points that are too deep or too long, `None` where there is none.
 #[derive(Clone, Copy, Debug)]
-pub struct DepthFaults {
+pub(crate) struct DepthFaults {
     /// The least code point whose depth is over 32; a cycle is too deep.
     pub too_deep: Option<u32>,
     /// The least code point that is not too deep and has a full compatibility decomposition of
@@ -32,7 +32,7 @@ pub struct DepthFaults {
 }
 
 /// The first code points that are too deep or too long.
-pub fn depth_faults(alloc: Global, characters: &CharacterData) -> Result<DepthFaults, Memory>
+pub(crate) fn depth_faults(alloc: Global, characters: &CharacterData) -> Result<DepthFaults, Memory>
     ensures too_deep { IfOk result (λ f. IsFirst (IsTooDeep characters.now) f.too_deep) }
     ensures too_long { IfOk result (λ f. IsFirst (IsTooLong characters.now) f.too_long) }
 {

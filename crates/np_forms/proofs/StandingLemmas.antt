@@ -1,8 +1,6 @@
 -- Code points that may follow one another as they are are their own form.
-use Rattle.std.proofs.Common.{◌≡◌, ℕ, ◌<◌, ◌≤◌, Bool, true, false, suc, ◌&&◌, List, [], ◌∷◌, ◌++◌, All, flat_map, MatchBool, refl, sym, ap, subst, ◌∙◌, arith, inl, inr, append_assoc, append-nil}
-use Rattle.std.proofs.lemmas.Bool.{and_parts, cases_Bool}
+use Rattle.std.proofs.Common.{◌≡◌, ℕ, ◌≤◌, Bool, true, false, suc, List, [], ◌∷◌, ◌++◌, All, flat_map, MatchBool, refl, sym, ap, subst, ◌∙◌, arith, inl, inr, append_assoc, append-nil}
 use Rattle.np_code_points.specs.Forms.{is_compat, composes}
-use Rattle.np_code_points.specs.Hangul.{is_syllable}
 use Rattle.np_code_points.specs.declared.forms.Form.{Form}
 use Rattle.np_forms.specs.Order.{is_ordered}
 use Rattle.np_forms.specs.inside.Composing.{compose, compose_after, compose_of}
@@ -10,25 +8,16 @@ use Rattle.np_forms.specs.inside.NormalForms.{decomposed, ended, normal_form}
 use Rattle.np_forms.proofs.BoundaryLemmas.{composite-never, full_of-boundary}
 use Rattle.np_forms.proofs.ComposeLemmas.{compose-nil, compose-non_starter, compose-starter, compose_after-joined, compose_after-kept, compose_after-nil, compose_after-starter, joined-free, joined-none}
 use Rattle.np_forms.proofs.OrderLemmas.{canonical_order-ordered, is_ordered-cons, is_ordered-nil, is_ordered-one, not_reorderable_rising, not_reorderable_starter}
-use Rattle.np_forms.proofs.SyllableLemmas.{lent_none}
 use Rattle.np_tables.proofs.CompositeLemmas.{composite_from}
-use Rattle.np_tables.proofs.HangulLemmas.{by_arithmetic, syllable_hangul}
+use Rattle.np_tables.proofs.MappingLemmas.{full_of-final}
 use Rattle.np_tables.specs.Boundaries.{FoldsTo, NeverFalls, Stays}
 use Rattle.np_tables.specs.Conditions.{IsSound}
-use Rattle.np_tables.specs.Versions.{VersionData, class_of, has_hangul}
+use Rattle.np_tables.specs.Versions.{VersionData, class_of}
 use Rattle.np_tables.specs.inside.CompositeSearch.{composite}
 use Rattle.np_tables.specs.inside.FullDecompositions.{full_of}
-use Rattle.np_tables.specs.inside.Hints.{IsInert, MayFollow, Walks}
+use Rattle.np_tables.specs.Standing.{IsInert, MayFollow, Walks}
 
 module _ (v : VersionData) (sound : IsSound v) where
-  -- a non-starter is no syllable of the arithmetic
-  plain_non_starter : (c : ℕ) → 0 < class_of v c → (has_hangul v && is_syllable c) ≡ false
-  plain_non_starter c non_starter =
-      elim (cases_Bool (has_hangul v && is_syllable c)) [
-        | inl on ↦ (let both = and_parts (has_hangul v) (is_syllable c) on in absurd (omega (arith, non_starter, (by_arithmetic v both.0 c (syllable_hangul c both.1)).class)))
-        | inr off ↦ off
-      ]
-
   -- composites go in one after the other, whatever follows
   folds_on : (s : ℕ) (bs : List ℕ) (c : ℕ) (ys : List ℕ) → FoldsTo v s bs c → compose_after (class_of v) (composite v) s [] (bs ++ ys) ≡ compose_after (class_of v) (composite v) c [] ys
   folds_on s [] c ys same = ap (λ x. compose_after (class_of v) (composite v) x [] ys) same
@@ -44,7 +33,7 @@ module _ (v : VersionData) (sound : IsSound v) where
     May = MayFollow v form
 
     inert_full : (c : ℕ) → IsInert v form c → full c ≡ c ∷ []
-    inert_full c inert = lent_none v (is_compat form) sound c [] (sym inert.unmapped) refl (plain_non_starter c inert.non_starter)
+    inert_full c inert = full_of-final v (is_compat form) sound.shallow c inert.unmapped
 
     -- ---- the full decomposition is in canonical order
 
@@ -134,8 +123,8 @@ module _ (v : VersionData) (sound : IsSound v) where
     walk_ended true on last cs end walk = walk_composed on last cs end walk
     walk_ended false off last cs end walk = walk_plain off last cs end walk
 
-pub settled_form : (v : VersionData) (sound : IsSound v) (form : Form) (cs : List ℕ) (end : ℕ) → Walks (MayFollow v form) 0 cs end → normal_form v form cs ≡ cs
+pub standing_form : (v : VersionData) (sound : IsSound v) (form : Form) (cs : List ℕ) (end : ℕ) → Walks (MayFollow v form) 0 cs end → normal_form v form cs ≡ cs
 unfolding normal_form decomposed
-settled_form v sound form cs end walk =
+standing_form v sound form cs end walk =
     ap (ended v (composes form)) (canonical_order-ordered (class_of v) (flat_map (full_of v (is_compat form)) cs) (walk_ordered v sound form 0 cs end walk).0)
     ∙ walk_ended v sound form (composes form) refl 0 cs end walk

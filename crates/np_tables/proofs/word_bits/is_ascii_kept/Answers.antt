@@ -1,7 +1,7 @@
 use Rattle.std.proofs.Common.{subst, arith, inl, inr}
 use Rattle.std.proofs.lemmas.Bool.{cases_lt}
 use Rattle.np_tables.specs.inside.PageWords.{IsKept}
-use Rattle.np_tables.proofs.page_runs.is_ascii_kept.Goals as goal
+use Rattle.np_tables.proofs.word_bits.is_ascii_kept.Goals as goal
 
 pub loop-code-preserved : goal.loop-code-preserved
 loop-code-preserved c = λ i lt.
