@@ -1,4 +1,4 @@
--- The line that is told on a refusal.
+-- How each refusal is told: its status, and its line.
 use Rattle.std.specs.Prelude.{ℕ, Bool, true, false, ◌==◌, List, [], ◌++◌, Option, Some, None, codes, unwrap_or, if◌then◌else◌}
 use Rattle.std.specs.Fmt.{decimal}
 use Rattle.np_chain.specs.Breaks.{name_of}
@@ -10,7 +10,7 @@ use Rattle.np_tables.specs.TableFaults as tables
 use Rattle.np_tables.specs.declared.faults.TableFault.{TableFault}
 use Rattle.np_ucd.specs.Faults as files
 use Rattle.np_ucd.specs.declared.faults.UcdFault.{UcdFault}
-use Rattle.npss.specs.Statuses.{version_status}
+use Rattle.npss.specs.Statuses.{input_status, version_status}
 use Rattle.npss.specs.declared.jobs.faults.JobFault.{JobFault}
 use Rattle.npss.specs.declared.jobs.faults.JobFault.TheVariants.{Version, Text, Replay, WriteFailed, Memory}
 use Rattle.npss.specs.declared.jobs.faults.ReplayFault.{ReplayFault}
@@ -20,8 +20,22 @@ use Rattle.npss.specs.declared.jobs.faults.TextFault.TheVariants as Texts
 use Rattle.npss.specs.declared.jobs.faults.VersionFault.{VersionFault}
 use Rattle.npss.specs.declared.jobs.faults.VersionFault.TheVariants as Versions
 
+-- the status of a refusal and its line; and whether the line is always the same, so that telling it takes no memory
+pub record Telling : Type 0 where
+  pub status : ℕ
+  pub line : List ℕ
+  pub is_fixed : Bool
+
+abbrev pub fixed : ℕ → List ℕ → Telling
+fixed status line = record { status = status; line = line; is_fixed = true }
+
+abbrev pub made : ℕ → List ℕ → Telling
+made status line = record { status = status; line = line; is_fixed = false }
+
 abbrev pub memory_line : List ℕ
 memory_line = codes "out of memory\n"
+
+-- ---- versions
 
 -- version K WHAT:
 abbrev pub version_head : ℕ → List ℕ → List ℕ
@@ -46,69 +60,47 @@ named_line (Versions.Data version fault) = file_line version (codes "data") faul
 named_line (Versions.Exclusions version fault) = file_line version (codes "exclusions") fault
 named_line (Versions.Tables version fault) = tables_line version fault
 
-abbrev pub version_line : VersionFault → List ℕ
-version_line fault = if version_status fault == 6 then memory_line else named_line fault
+-- want of memory is told alike for each file and for the tables
+abbrev pub version_telling : VersionFault → Telling
+version_telling fault =
+    record { status = version_status fault; line = if version_status fault == 6 then memory_line else named_line fault; is_fixed = version_status fault == 6 }
 
-abbrev pub input_line : InputFault → List ℕ
-input_line Inputs.TooLarge = codes "input: TooLarge\n"
-input_line Inputs.ReadFailed = codes "input: ReadFailed\n"
-input_line Inputs.Memory = memory_line
+-- ---- texts and schedules
+
+-- WHAT: NAME, for an input that was not read whole
+abbrev pub input_line : List ℕ → InputFault → List ℕ
+input_line what Inputs.TooLarge = what ++ codes ": TooLarge\n"
+input_line what Inputs.ReadFailed = what ++ codes ": ReadFailed\n"
+input_line what Inputs.Memory = memory_line
 
 -- unassigned XXXX at byte N, behind what says of which text
 abbrev pub unassigned_line : List ℕ → ℕ → ℕ → List ℕ
 unassigned_line head at code = head ++ (codes "unassigned " ++ (code_digits code ++ (codes " at byte " ++ (decimal at ++ codes "\n"))))
 
-abbrev pub text_line : TextFault → List ℕ
-text_line (Texts.Input fault) = input_line fault
-text_line (Texts.NotUtf8 at) = codes "input: not UTF-8 at byte " ++ (decimal at ++ codes "\n")
-text_line Texts.TwoLinesWanted = codes "input: two lines wanted\n"
-text_line (Texts.Unassigned at code) = unassigned_line [] at code
-text_line (Texts.FirstUnassigned at code) = unassigned_line (codes "first: ") at code
-text_line (Texts.SecondUnassigned at code) = unassigned_line (codes "second: ") at code
-text_line Texts.Memory = memory_line
+abbrev pub text_telling : TextFault → Telling
+text_telling (Texts.Input fault) = fixed (input_status fault) (input_line (codes "input") fault)
+text_telling (Texts.NotUtf8 at) = made 4 (codes "input: not UTF-8 at byte " ++ (decimal at ++ codes "\n"))
+text_telling Texts.TwoLinesWanted = fixed 4 (codes "input: two lines wanted\n")
+text_telling (Texts.Unassigned at code) = made 3 (unassigned_line [] at code)
+text_telling (Texts.FirstUnassigned at code) = made 3 (unassigned_line (codes "first: ") at code)
+text_telling (Texts.SecondUnassigned at code) = made 3 (unassigned_line (codes "second: ") at code)
+text_telling Texts.Memory = fixed 6 memory_line
 
 -- KIND CODE: the kind of a break, and its code point
 abbrev pub break_line : Break → List ℕ
 break_line b = name_of b.kind ++ (codes " " ++ (code_digits b.code ++ codes "\n"))
 
-abbrev pub schedule_line : InputFault → List ℕ
-schedule_line Inputs.TooLarge = codes "schedule: TooLarge\n"
-schedule_line Inputs.ReadFailed = codes "schedule: ReadFailed\n"
-schedule_line Inputs.Memory = memory_line
+abbrev pub replay_telling : ReplayFault → Telling
+replay_telling (Replays.NotExtension version brk) = made 1 (codes "not an extension: version " ++ (decimal version ++ (codes " " ++ break_line brk)))
+replay_telling (Replays.Schedule fault) = fixed (input_status fault) (input_line (codes "schedule") fault)
+replay_telling (Replays.Line line) = made 4 (codes "schedule: line " ++ (decimal line ++ codes "\n"))
+replay_telling Replays.Memory = fixed 6 memory_line
 
-abbrev pub replay_line : ReplayFault → List ℕ
-replay_line (Replays.NotExtension version brk) = codes "not an extension: version " ++ (decimal version ++ (codes " " ++ break_line brk))
-replay_line (Replays.Schedule fault) = schedule_line fault
-replay_line (Replays.Line line) = codes "schedule: line " ++ (decimal line ++ codes "\n")
-replay_line Replays.Memory = memory_line
+-- ---- all of them
 
--- the line of a refusal
-abbrev pub line_of : JobFault → List ℕ
-line_of (Version fault) = version_line fault
-line_of (Text fault) = text_line fault
-line_of (Replay fault) = replay_line fault
-line_of WriteFailed = codes "output: WriteFailed\n"
-line_of Memory = memory_line
-
--- whether the line is always the same, so that telling it takes no memory
-abbrev pub is_text_told_freely : TextFault → Bool
-is_text_told_freely (Texts.Input fault) = true
-is_text_told_freely (Texts.NotUtf8 at) = false
-is_text_told_freely Texts.TwoLinesWanted = true
-is_text_told_freely (Texts.Unassigned at code) = false
-is_text_told_freely (Texts.FirstUnassigned at code) = false
-is_text_told_freely (Texts.SecondUnassigned at code) = false
-is_text_told_freely Texts.Memory = true
-
-abbrev pub is_replay_told_freely : ReplayFault → Bool
-is_replay_told_freely (Replays.NotExtension version brk) = false
-is_replay_told_freely (Replays.Schedule fault) = true
-is_replay_told_freely (Replays.Line line) = false
-is_replay_told_freely Replays.Memory = true
-
-abbrev pub is_told_freely : JobFault → Bool
-is_told_freely (Version fault) = version_status fault == 6
-is_told_freely (Text fault) = is_text_told_freely fault
-is_told_freely (Replay fault) = is_replay_told_freely fault
-is_told_freely WriteFailed = true
-is_told_freely Memory = true
+abbrev pub telling_of : JobFault → Telling
+telling_of (Version fault) = version_telling fault
+telling_of (Text fault) = text_telling fault
+telling_of (Replay fault) = replay_telling fault
+telling_of WriteFailed = fixed 5 (codes "output: WriteFailed\n")
+telling_of Memory = fixed 6 memory_line
