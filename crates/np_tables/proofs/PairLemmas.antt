@@ -1,5 +1,5 @@
 -- Composites in the order of their pairs.
-use Rattle.std.proofs.Common.{◌≡◌, ℕ, ◌+◌, ◌<◌, ◌≤◌, ◌⊎◌, true, false, nat_lt, nat_eq, List, length, get_or, sym, ap, ◌∙◌, arith, inl, inr}
+use Rattle.std.proofs.Common.{◌≡◌, ℕ, ◌+◌, ◌<◌, ◌≤◌, ◌⊎◌, true, false, nat_lt, nat_eq, List, length, get_or, sym, ap, subst, ◌∙◌, arith, inl, inr}
 use Rattle.std.proofs.lemmas.Bool.{cases_order, cases_lt, cond-true, cond-false, lt-ltb, le-ltb, eq-eqb}
 use Rattle.std.proofs.lemmas.Bool.Decides.{nat_tests}
 use Rattle.std.proofs.lemmas.List.{get_or_default}
@@ -10,7 +10,7 @@ use Rattle.std.specs.declared.cmp.Ordering.TheVariants.{Less, Equal}
 use Rattle.std.specs.List.{All, AllWithin}
 use Rattle.std.specs.List.Sorted.{IsPermutation, IsSorted}
 use Rattle.np_tables.specs.declared.pairs.Composite.{Composite}
-use Rattle.np_tables.specs.inside.Pairs.{Lists, pair_rank, rank, IsInRange, AreOrdered}
+use Rattle.np_tables.specs.inside.Pairs.{HaveNumbers, Lists, pair_rank, rank, slot_at, IsInRange, AreOrdered}
 
 -- the order of the fields, one after another
 abbrev cmp : Composite → Composite → Ordering
@@ -54,6 +54,28 @@ AreOrdered-from_sort xs ys range moved sorted =
       rising = IsNonDecreasingBy-from_all_adjacent rank ys (λ k d lt. rank_from_cmp _ _ (all k d (omega arith)) (all (k + 1) d lt) (sorted k d (omega arith) lt));
       range = all;
     }
+
+-- ---- slots with numbers
+
+module _ (slots : List ℕ) (cs : List Composite) where
+  -- one more composite whose slot has a number
+  pub one_numbered : (i : ℕ) (x : Composite) (number : ℕ) → i < length cs → x ≡ get_or cs i x → number ≡ get_or slots (slot_at x.first x.second) number → slot_at x.first x.second < length slots → 0 < number →
+      AllWithin (λ y. 0 < get_or slots (slot_at y.first y.second) 0) cs 0 i → AllWithin (λ y. 0 < get_or slots (slot_at y.first y.second) 0) cs 0 (i + 1)
+  one_numbered i x number lt is there fits some before = λ k d low less.
+      elim (cases_lt k i) [
+        | inl early ↦ before k d low early
+        | inr late ↦
+            let same : get_or cs k d ≡ x = ap (λ n. get_or cs n d) (omega arith) ∙ get_or_default cs i d x lt ∙ sym is in
+            let value : get_or slots (slot_at x.first x.second) 0 ≡ number = get_or_default slots (slot_at x.first x.second) 0 number fits ∙ sym there in
+            subst (λ (y : Composite). 0 < get_or slots (slot_at y.first y.second) 0) (sym same) (omega (arith, value, some))
+      ]
+
+  -- a pair whose slot has none stands in no place
+  pub lists-unnumbered : HaveNumbers slots cs → (a b number : ℕ) → slot_at a b < length slots → number ≡ get_or slots (slot_at a b) number → number ≡ 0 → (code : ℕ) → ¬ Lists cs a b code
+  lists-unnumbered all a b number fits there none code has =
+      let d : Composite = record { first = a; second = b; code = code } in
+      let some = subst (λ (y : Composite). 0 < get_or slots (slot_at y.first y.second) 0) has.2 (all has.0 d has.1) in
+      omega (arith, some, none, there, get_or_default slots (slot_at a b) 0 number fits)
 
 module _ (cs : List Composite) (order : AreOrdered cs) where
   -- earlier places have no later pairs

@@ -22,7 +22,7 @@ use std::marker::Model;
 /// its full decompositions stand, which are shared where both kinds are the same.
 ///
 /// It takes some 0.9 MiB beside its version for the files of Unicode 15. Each call takes constant
-/// time, but `pair`, which searches by halves where the second code point is one that composes, and
+/// time, but `pair`, which searches by halves where the pair shares its slot with others, and
 /// `standing`, which reads what it counts.
 #[derive(Debug, Drop)]
 pub struct PageTable {

@@ -1,10 +1,10 @@
 //! The primary composites of a data file, by the pairs that they compose.
-ghost use Rattle.std.specs.Prelude.{◌≡◌, ◌↔◌, ℕ, ◌≤◌, ◌<◌, length, flat_map, option_to_list, slice_get, IfOk, IfSome, IfNone, IsTrue, Some};
+ghost use Rattle.std.specs.Prelude.{◌≡◌, ◌↔◌, ℕ, ◌≤◌, ◌<◌, true, length, vec_len, flat_map, option_to_list, slice_get, IfOk, IfSome, IfNone, IsTrue, Some};
 ghost use Rattle.std.specs.List.{All, AllWithin};
 ghost use Rattle.std.specs.List.Sorted.{IsPermutation};
 ghost use Rattle.np_ucd.specs.Entries.{IsRow};
 ghost use Rattle.np_ucd.specs.RowValues.{entry_of};
-ghost use Rattle.np_tables.specs.inside.Pairs.{AreOfFile, AreOrdered, IsInRange, Lists, composites_in, pair_rank};
+ghost use Rattle.np_tables.specs.inside.Pairs.{AreOfFile, AreOrdered, HaveNumbers, IsInRange, Lists, composites_in, pair_rank, slot_at};
 
 use crate::characters::CharacterData;
 use crate::row_places::{mapped_code, row_in};
@@ -36,12 +36,68 @@ impl Composite {
             self.first < first
         }
     }
+
+    /// Whether its pair is this one.
+    #[inline(always)]
+    fn is_of(&self, first: char, second: char) -> bool
+        ensures { IsTrue result ↔ ((self.now.first ≡ first) × (self.now.second ≡ second)) }
+    {
+        self.first == first && self.second == second
+    }
+}
+
+/// How many slots there are for the places of pairs.
+const SLOTS: usize = 8192;
+
+/// With this factor few pairs of the published files share a slot. Any other would do.
+const FACTOR: usize = 1830;
+
+/// The slot of a pair.
+#[inline(always)]
+fn slot_of(first: char, second: char) -> usize
+    ensures slot { result ≡ slot_at first second }
+    ensures bound { result < 8192 }
+{
+    (first as usize * FACTOR + second as usize) % SLOTS
+}
+
+/// For each slot the number, from 1, of one of the composites whose pairs have it, and 0 where there
+/// is none, or none that such a number can tell.
+fn slots_of(alloc: Global, composites: &[Composite]) -> Result<Vec<u16>, Memory>
+    ensures { IfOk result (λ slots. vec_len slots ≡ 8192) }
+{
+    let mut slots = vec![in alloc; 0u16; SLOTS]?;
+    for (at, composite) in composites.iter().enumerate() {
+        let number = if at < 65_535 { at as u16 + 1 } else { 0 };
+        slots[slot_of(composite.first, composite.second)] = number;
+    }
+    Ok(slots)
+}
+
+/// Whether the slot of each composite's pair has a number.
+fn have_numbers(slots: &[u16], composites: &[Composite]) -> bool
+    requires { length slots.now ≡ 8192 }
+    ensures { result ≡ true → HaveNumbers slots.now composites.now }
+{
+    for composite in composites {
+        let slot = slot_of(composite.first, composite.second);
+        if slots[slot] == 0 {
+            return false;
+        }
+    }
+    true
 }
 
 /// Primary composites in the order of their pairs, and of the composites where pairs are equal.
 #[derive(Debug, Drop)]
 pub(crate) struct Pairs {
     composites: Vec<Composite>,
+    /// Where a pair is looked for first.
+    slots: Vec<u16>,
+    /// Whether a pair is none of the list where its slot has no number.
+    complete: bool,
+    ghost size: { vec_len slots ≡ 8192 },
+    ghost numbers: { complete ≡ true → HaveNumbers slots.items composites.items },
 }
 
 impl Model for Pairs {
@@ -64,16 +120,23 @@ impl Pairs {
     {
         characters.are_in_order();
         let composites = file_composites(alloc, characters)?;
-        Ok(Pairs::of_composites(composites))
+        let pairs = Pairs::of_composites(alloc, composites)?;
+        Ok(pairs)
     }
 
     /// The same composites in their order.
-    fn of_composites(mut composites: Vec<Composite>) -> Pairs
+    fn of_composites(alloc: Global, mut composites: Vec<Composite>) -> Result<Pairs, Memory>
         requires { All IsInRange composites.items }
-        ensures { IsPermutation composites.items result }
+        ensures { IfOk result (IsPermutation composites.items) }
     {
         composites.sort_unstable();
-        Pairs { composites }
+        let slots = slots_of(alloc, &composites)?;
+        let complete = have_numbers(&slots, &composites);
+        Ok(Pairs {
+            composites,
+            slots,
+            complete,
+        })
     }
 
     /// How many composites there are.
@@ -112,15 +175,46 @@ impl Pairs {
         low
     }
 
-    /// A composite of the list with this pair.
+    /// The composite at a place, from 0, if it has this pair.
+    #[inline(always)]
+    fn found_at(&self, place: usize, first: char, second: char) -> Option<char>
+        ensures { IfSome result (Lists self.now first second) }
+    {
+        if place >= self.len() {
+            return None;
+        }
+        let here = self.at(place);
+        if here.is_of(first, second) {
+            Some(here.code)
+        } else {
+            None
+        }
+    }
+
+    /// A composite of the list with this pair. Its slot tells most, and halving the rest.
     pub(crate) fn find(&self, first: char, second: char) -> Option<char>
+        ensures some { IfSome result (Lists self.now first second) }
+        ensures none { IfNone result ((code : ℕ) → ¬ (Lists self.now first second code)) }
+    {
+        let number = self.slots[slot_of(first, second)] as usize;
+        if number == 0 && self.complete {
+            return None;
+        }
+        match self.found_at(number.wrapping_sub(1), first, second) {
+            Some(code) => Some(code),
+            None => self.search(first, second),
+        }
+    }
+
+    /// A composite of the list with this pair, by halves.
+    fn search(&self, first: char, second: char) -> Option<char>
         ensures some { IfSome result (Lists self.now first second) }
         ensures none { IfNone result ((code : ℕ) → ¬ (Lists self.now first second code)) }
     {
         let place = self.place(first, second);
         if place < self.len() {
             let here = self.at(place);
-            if here.first == first && here.second == second {
+            if here.is_of(first, second) {
                 return Some(here.code);
             }
         }

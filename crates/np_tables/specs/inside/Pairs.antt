@@ -1,5 +1,5 @@
 -- A list of primary composites in the order of their pairs.
-use Rattle.std.specs.Prelude.{◌≡◌, ℕ, ◌+◌, ◌*◌, ◌<◌, Bool, false, ◌&&◌, List, [], ◌∷◌, cond}
+use Rattle.std.specs.Prelude.{◌≡◌, ℕ, ◌+◌, ◌*◌, ◌%◌, ◌<◌, Bool, false, ◌&&◌, List, [], ◌∷◌, slice_index, cond}
 use Rattle.std.specs.List.{All, Contains}
 use Rattle.std.specs.List.Sorted.{IsNonDecreasingBy}
 use Rattle.np_ucd.specs.Entries.{Entry}
@@ -29,6 +29,14 @@ IsInRange c = (c.first < 0x110000) × (c.second < 0x110000) × (c.code < 0x11000
 pub record AreOrdered (cs : List Composite) : Type 0 where
   pub rising : IsNonDecreasingBy rank cs
   pub range : All IsInRange cs
+
+-- the slot of a pair
+abbrev pub slot_at : ℕ → ℕ → ℕ
+slot_at first second = (first * 1830 + second) % 8192
+
+-- the slot of each composite's pair has a number
+abbrev pub HaveNumbers : List ℕ → List Composite → Type 0
+HaveNumbers slots cs = All (λ c. 0 < slice_index slots (slot_at c.first c.second)) cs
 
 -- the composites are those of the file: all primary composites but the syllables of the arithmetic, each with its pair
 pub record AreOfFile (v : VersionData) (cs : List Composite) : Type 0 where

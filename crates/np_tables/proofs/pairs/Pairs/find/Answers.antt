@@ -1,14 +1,11 @@
-use Rattle.std.proofs.Common.{sym, arith, inl, inr}
-use Rattle.std.proofs.lemmas.Option.{get_or_from_slice_get}
-use Rattle.np_tables.proofs.PairLemmas.{lists-other}
+use Rattle.std.proofs.Common.{subst, ap, get_or, ◌∙◌, arith}
+use Rattle.np_tables.specs.inside.Pairs.{HaveNumbers}
+use Rattle.np_tables.proofs.PairLemmas.{lists-unnumbered}
 use Rattle.np_tables.proofs.pairs.Pairs.find.Goals as goal
 
-pub returns-else-here-first-clause-none : goal.returns-else-here-first-clause-none
-returns-else-here-first-clause-none c =
-    let at = c.place-place.result in
-    let here = sym (get_or_from_slice_get c.args.self.now at c.at-here.result c.at-here.result c.at-here.ensures.place) in
-    lists-other c.args.self.now c.len.ensures.order c.args.first c.args.second at c.at-here.result (omega arith) (omega arith) c.place-place.ensures.below c.place-place.ensures.above (omega arith) here
-    (λ first second. elim c.else-here-first.either [
-      | inl one ↦ one.1 second
-      | inr other ↦ other first
-    ])
+pub returns-then-self-clause-none : goal.returns-then-self-clause-none
+returns-then-self-clause-none c =
+    let fields = c.self.inside in
+    let number = c.index.result.now in
+    lists-unnumbered fields.slots.items c.args.self.now (subst (HaveNumbers fields.slots.items) c.self.view_is (fields.numbers c.if-self.true)) c.args.first c.args.second number
+    (omega (arith, c.slot_of.ensures.slot, c.slot_of.ensures.bound, fields.size, fields.slots.ok.0)) (c.index.ensures ∙ ap (λ k. get_or fields.slots.items k number) c.slot_of.ensures.slot) (omega (arith, c.if-number-eq0.true))
