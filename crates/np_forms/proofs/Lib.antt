@@ -20,6 +20,7 @@ pub mod PushLemmas
 pub mod RunLemmas
 pub mod RunTextLemmas
 pub mod RunningLemmas
+pub mod SegmentLemmas
 pub mod SortLemmas
 pub mod StandingLemmas
 pub mod StreamLemmas

@@ -7,5 +7,6 @@ pub mod NormalForms
 pub mod Pieces
 pub mod Running
 pub mod Runs
+pub mod Segments
 pub mod Syllables
 pub mod Written

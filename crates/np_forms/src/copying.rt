@@ -4,6 +4,7 @@ ghost use Rattle.std.specs.Prelude.{◌≡◌, ◌<◌, ◌⊎◌, ◌++◌, [],
 ghost use Rattle.np_forms.specs.inside.Copies.{BeginsAtBoundary, IsCopied, IsParted};
 ghost use Rattle.np_forms.specs.inside.NormalForms.{normal_form};
 
+use crate::composed_texts::write_first;
 use crate::decomposed_texts::write_decomposed;
 use crate::decomposing::decompose_into;
 use crate::held::settle;
@@ -141,9 +142,7 @@ pub(crate) fn write_form<T: NormTable>(
     'segments: while !rest.is_empty() {
         let (stays, behind) = split_standing(table, form, rest);
         out.push_str(stays)?;
-        let (segment, later) = split_segment(table, form, behind);
-        write_segment(alloc, table, form, segment, &mut list, out)?;
-        rest = later;
+        rest = write_first(alloc, table, form, behind, &mut list, out)?;
     }
     Ok(())
 }

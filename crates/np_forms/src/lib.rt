@@ -14,6 +14,7 @@
 #![tactic(auto)]
 
 mod assigned;
+mod composed_texts;
 mod composing;
 mod copying;
 mod decomposed_texts;

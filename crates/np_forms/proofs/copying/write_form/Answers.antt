@@ -1,19 +1,18 @@
-use Rattle.std.proofs.Common.{refl, rules}
-use Rattle.np_forms.proofs.CopyLemmas.{one_more_segment, form-end}
+use Rattle.std.proofs.Common.{rules, string_bytes}
+use Rattle.np_forms.proofs.CopyLemmas.{form-end}
+use Rattle.np_forms.proofs.DecomposedLemmas.{goes-both, goes-start}
+use Rattle.np_forms.proofs.SegmentLemmas.{goes-copied}
 use Rattle.np_forms.proofs.copying.write_form.Goals as goal
 
 pub segments-init : goal.segments-init
-segments-init g c = (c.utf8.text, refl)
-
-pub is_empty-requires-text-self : goal.is_empty-requires-text-self
-is_empty-requires-text-self g c κs = c.segments.invariant.0
+segments-init g c = goes-start (g.T.NormTable.model c.args.table.now) c.args.form c.args.text.now (string_bytes c.args.out.now) c.utf8.text
 
 pub segments-preserved : goal.segments-preserved
-segments-preserved g c = (
-  c.split_segment.ensures.parted.utf8,
-  one_more_segment (g.T.NormTable.model c.args.table.now) c.args.form _ _ _ _ _ _ _ _ _ c.split_standing.ensures c.split_segment.ensures.parted
-      c.in_ok-push_str.ensures.bytes c.in_ok-write_segment.ensures c.segments.invariant.1,
-)
+segments-preserved g c =
+    let v = g.T.NormTable.model c.args.table.now in
+    let form = c.args.form in
+    goes-both v form _ _ _ _ _ _ c.segments.invariant
+    (goes-both v form _ _ _ _ _ _ (goes-copied v form _ _ _ _ _ c.split_standing.ensures c.in_ok-push_str.ensures.bytes) c.in_ok-rest.ensures.goes)
 
 pub returns : goal.returns
-returns g c = form-end (g.T.NormTable.model c.args.table.now) c.args.form _ _ c.segments.rest.now c.segments.invariant.1 (search rules)
+returns g c = form-end (g.T.NormTable.model c.args.table.now) c.args.form _ (string_bytes c.segments.out) c.segments.rest.now c.segments.invariant.written (search rules)

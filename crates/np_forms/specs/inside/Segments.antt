@@ -1,0 +1,30 @@
+-- Segments that are composed code point by code point.
+use Rattle.std.specs.Prelude.{◌≡◌, ℕ, ◌≤◌, true, List, ◌++◌, Option, length, chars, flat_map, IsUtf8}
+use Rattle.np_code_points.specs.Forms.{is_compat}
+use Rattle.np_code_points.specs.declared.forms.Form.{Form}
+use Rattle.np_forms.specs.Order.{is_ordered}
+use Rattle.np_forms.specs.inside.Composers.{IsComposing}
+use Rattle.np_forms.specs.inside.NormalForms.{normal_form}
+use Rattle.np_tables.specs.Versions.{VersionData, class_of}
+use Rattle.np_tables.specs.inside.FullDecompositions.{full_of}
+use Rattle.np_tables.specs.inside.Hints.{Rises}
+
+-- the code points `done` were read, of which the last has class `read`; they are in canonical order, and so is what follows
+-- them where its classes rise; `list` is what they compose to, whatever follows in canonical order
+pub record IsComposedOf (v : VersionData) (done list : List ℕ) (starter : Option ℕ) (kept read : ℕ) : Type 0 where
+  pub rises : (later : List ℕ) → Rises (class_of v) read later → Rises (class_of v) 0 (done ++ later)
+  pub composing : (rest : List ℕ) → is_ordered (class_of v) (done ++ rest) ≡ true → IsComposing v (done ++ rest) list starter kept rest
+
+-- a front of a text was read, and `list` is what its full decomposition composes to
+pub record IsReadUpTo (v : VersionData) (form : Form) (text rest list : List ℕ) (starter : Option ℕ) (kept read : ℕ) : Type 0 where
+  pub front : List ℕ
+  pub utf8 : IsUtf8 rest
+  pub shorter : length rest ≤ length text
+  pub split : chars text ≡ front ++ chars rest
+  pub composed : IsComposedOf v (flat_map (full_of v (is_compat form)) front) list starter kept read
+
+-- `list` is the form of a front of a text, and `rest` is what follows it
+pub record IsFirstMade (v : VersionData) (form : Form) (text rest list : List ℕ) : Type 0 where
+  pub utf8 : IsUtf8 rest
+  pub shorter : length rest ≤ length text
+  pub made : normal_form v form (chars text) ≡ list ++ normal_form v form (chars rest)
