@@ -1,6 +1,5 @@
 -- Forms that only decompose, written front by front.
 use Rattle.std.proofs.Common.{◌≡◌, ℕ, ◌<◌, ◌≤◌, ◌⊎◌, true, false, List, [], ◌∷◌, ◌++◌, length, chars, IsUtf8, encode_utf8, encode_utf8_all, flat_map, refl, sym, ap, subst, ◌∙◌, arith, inl, inr, append_assoc, append-nil, length-append}
-use Rattle.std.specs.Prelude.{⊤}
 use Rattle.std.proofs.lemmas.Bool.{and_right}
 use Rattle.std.proofs.lemmas.Grind.{flat_map-append}
 use Rattle.std.proofs.lemmas.List.{nil_from_length}
@@ -12,6 +11,7 @@ use Rattle.np_forms.specs.Order.{is_ordered}
 use Rattle.np_forms.specs.inside.CanonicalOrder.{canonical_order}
 use Rattle.np_forms.specs.inside.Copies.{GoesOn, IsCopied, IsParted}
 use Rattle.np_forms.specs.inside.NormalForms.{decomposed, ended, normal_form}
+use Rattle.np_forms.specs.inside.Segments.{Rises}
 use Rattle.np_forms.proofs.OrderLemmas.{canonical_order-behind, canonical_order-ordered, is_ordered-canonical_order, is_ordered-cons, is_ordered-nil, is_ordered-one, is_ordered-parts, is_reorderable-false, not_reorderable_rising, not_reorderable_starter}
 use Rattle.np_forms.proofs.SyllableLemmas.{lent_none, lent_some}
 use Rattle.np_tables.specs.Conditions.{IsSound}
@@ -19,11 +19,6 @@ use Rattle.np_tables.specs.Versions.{VersionData, class_of, has_hangul}
 use Rattle.np_tables.specs.inside.FullDecompositions.{full_of, table_full}
 
 -- ---- classes that rise
-
--- behind a code point of the class `last` no class is less than the one before, but that of a starter
-abbrev pub Rises : (ℕ → ℕ) → ℕ → List ℕ → Type 0
-Rises ccc last [] = ⊤
-Rises ccc last (c ∷ cs) = ((ccc c ≡ 0) ⊎ (last ≤ ccc c)) × Rises ccc (ccc c) cs
 
 module _ (ccc : ℕ → ℕ) where
   -- they hold no reorderable pair
