@@ -69,34 +69,36 @@ fn same_pairs<T: NormTable, U: NormTable>(one: &T, two: &U, c: char) -> bool {
     same_before(one, two, c) && same_behind(one, two, c)
 }
 
-/// Looks at the pairs of each assigned code point that is no syllable, of which there are many.
-fn pair_alike<T: NormTable, U: NormTable>(one: &T, two: &U) -> Result<(), Fail> {
-    for code in 0..0x110000 {
-        if let Some(c) = char::from_u32(code) {
-            if one.assigned(c) && !is_syllable(code) {
-                want(same_pairs(one, two, c), "a pair")?;
-            }
-        }
-    }
-    Ok(())
+/// Whether a code point lies in one of the two long ranges, of syllables and of private use.
+fn is_of_many(code: u32) -> bool {
+    is_syllable(code) || 0xE000 <= code && code <= 0xF8FF
 }
 
-/// Of the unassigned code points each seventh is looked at, so that each place in a block is.
-fn is_looked_at<T: NormTable>(table: &T, c: char) -> bool {
-    table.assigned(c) || u32::from(c) % 7 == 0
+/// Whether both say the same of a code point. Of an unassigned one more is looked at only where its
+/// number is a multiple of 61, which meets each place in a block.
+fn same_of<T: NormTable, U: NormTable>(one: &T, two: &U, c: char) -> bool {
+    let code = u32::from(c);
+    let assigned = one.assigned(c);
+    if two.assigned(c) != assigned {
+        return false;
+    }
+    if !assigned {
+        return code % 61 != 0 || same_answers(one, two, c);
+    }
+    same_answers(one, two, c) && (is_of_many(code) || same_pairs(one, two, c))
 }
 
 fn answer_alike<T: NormTable, U: NormTable>(one: &T, two: &U) -> Result<(), Fail> {
     want(one.hangul() == two.hangul(), "the arithmetic")?;
     for code in 0..0x110000 {
         if let Some(c) = char::from_u32(code) {
-            want(one.assigned(c) == two.assigned(c), "an assigned one")?;
-            if is_looked_at(one, c) {
-                want(same_answers(one, two, c), "a code point")?;
-            }
+            want(same_of(one, two, c), "a code point")?;
         }
     }
-    pair_alike(one, two)
+    for first in &FIRSTS {
+        want(same_before(one, two, *first), "a pair")?;
+    }
+    Ok(())
 }
 
 fn answers_like<T: Made, U: NormTable>(
