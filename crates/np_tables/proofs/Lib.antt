@@ -18,6 +18,7 @@ pub mod HangulLemmas
 pub mod HangulPlaces
 pub mod MappedLemmas
 pub mod MappingLemmas
+pub mod MarkCutLemmas
 pub mod PageApartLemmas
 pub mod PageHintLemmas
 pub mod PageSlotLemmas
