@@ -29,8 +29,9 @@ POINTED = [(range(0x5D0, 0x5EB), [*range(0x5B0, 0x5BA), 0x5BC, 0x5C1, 0x5C2]),
            (range(0x915, 0x93A), [0x93C, 0x94D, 0x93F, 0x947, 0x951, 0x952]),
            (range(0x995, 0x9A9), [0x9BC, 0x9CD, 0x9C7, 0x9BE, 0x9D7]),
            (range(0xE01, 0xE2F), [0xE38, 0xE39, 0xE48, 0xE49, 0xE34])]
-MARKS = [chr(code) for code in [*range(0x300, 0x340), *range(0x346, 0x34F), *range(0x591, 0x5BE), *range(0x64B, 0x65F),
-                                0x93C, 0x94D, 0xE38, 0xE48, 0xF71, 0xF72, 0xF74, 0x302A, 0x302B, 0x302C, 0x3099]]
+NON_STARTERS = [chr(code) for code in [
+    *range(0x300, 0x340), *range(0x346, 0x34F), *range(0x591, 0x5BE), *range(0x64B, 0x65F),
+    0x93C, 0x94D, 0xE38, 0xE48, 0xF71, 0xF72, 0xF74, 0x302A, 0x302B, 0x302C, 0x3099]]
 
 
 def words(source, word, count=10, between=" ", end="."):
@@ -58,15 +59,15 @@ def japanese_word(source):
 
 
 def pointed_word(source):
-    letters, marks = source.choice(POINTED)
+    letters, non_starters = source.choice(POINTED)
     points = []
     for _ in range(source.randint(2, 6)):
-        points += [source.choice(letters), *source.choices(marks, k=source.choice((0, 1, 1, 2)))]
+        points += [source.choice(letters), *source.choices(non_starters, k=source.choice((0, 1, 1, 2)))]
     return "".join(map(chr, points))
 
 
 def run_line(source):
-    return source.choice("aeou") + "".join(source.choices(MARKS, k=RUN))
+    return source.choice("aeou") + "".join(source.choices(NON_STARTERS, k=RUN))
 
 
 LINES = {
@@ -75,7 +76,7 @@ LINES = {
     "latin-decomposed": lambda source: unicodedata.normalize("NFD", words(source, latin_word)),
     "korean": lambda source: words(source, korean_word),
     "japanese": lambda source: words(source, japanese_word, between="", end="。"),
-    "marks": lambda source: words(source, pointed_word),
+    "non-starters": lambda source: words(source, pointed_word),
     "runs": run_line,
 }
 NAMES = [*LINES, "tests"]

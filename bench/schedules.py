@@ -9,7 +9,7 @@ SEED = 7
 
 LETTERS = [f"{code:04X}" for code in (*range(0x61, 0x7B), *range(0xE0, 0xF7), *range(0xC5, 0xCF), *range(0xAC00, 0xAC40),
                                       *range(0x1EA0, 0x1ED0))]
-MARKS = [f"{code:04X}" for code in (0x300, 0x301, 0x302, 0x303, 0x308, 0x323)]
+NON_STARTERS = [f"{code:04X}" for code in (0x300, 0x301, 0x302, 0x303, 0x308, 0x323)]
 
 
 def drawn_string(source):
@@ -17,7 +17,7 @@ def drawn_string(source):
     which some are equivalent."""
     chance = source.random()
     letter = source.choice(LETTERS)
-    return letter if chance < 0.25 else f"{letter} {source.choice(MARKS if chance < 0.4 else LETTERS)}"
+    return letter if chance < 0.25 else f"{letter} {source.choice(NON_STARTERS if chance < 0.4 else LETTERS)}"
 
 
 def drawn_event(source, sent):

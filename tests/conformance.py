@@ -48,7 +48,7 @@ AGES = ((4, 1), (6, 0), (9, 0), (12, 0), (13, 0), (14, 0))
 # Random texts: how many, the least length, and how many non-starters may stand in a row.
 TEXTS = 8_000
 LENGTH = 24
-MARKS = 40
+MOST_NON_STARTERS = 40
 SEED = 15
 
 
@@ -87,8 +87,8 @@ def check_examples(tally, program, published):
     for name, form, pair, status, answer in (
             ("a ligature and its letters", "nfkc", "\ufb01\nfi\n", 0, b"equal\n"),
             ("a ligature and its letters", "nfc", "\ufb01\nfi\n", 1, b"different\n"),
-            ("the two orders of two marks", "nfc", "a\u0302\u0323\na\u0323\u0302\n", 0, b"equal\n"),
-            ("two marks of one class", "nfc", "a\u0302\u0301\na\u0301\u0302\n", 1, b"different\n"),
+            ("the two orders of two non-starters", "nfc", "a\u0302\u0323\na\u0323\u0302\n", 0, b"equal\n"),
+            ("two non-starters of one class", "nfc", "a\u0302\u0301\na\u0301\u0302\n", 1, b"different\n"),
             ("a syllable and its letters", "nfd", "\ud55c\n\u1112\u1161\u11ab\n", 0, b"equal\n")):
         got = run(program, ["compare", "--form", form, *published.versions], pair.encode())
         tally.same(f"compare of {name} under {form}", got, (status, answer, b""))
@@ -192,22 +192,23 @@ def pools_of(published, known):
     compatibility = [row.first for row in mapped if row.fields[5][0] == "<"]
     canonical = [row.first for row in mapped if row.fields[5][0] != "<"]
     parts = {int(part, 16) for row in mapped for part in row.fields[5].split() if part[0] != "<"}
-    marks = within(row.first for row in published.rows if row.fields[3] != "0")
-    return marks, (within(range(0x20, 0x7F)), within(canonical), within(compatibility), within(sorted(parts)),
-                   within([*range(0x1100, 0x1200), *range(0xAC00, 0xD7A4, 7)]), sorted(known))
+    non_starters = within(row.first for row in published.rows if row.fields[3] != "0")
+    pools = (within(range(0x20, 0x7F)), within(canonical), within(compatibility), within(sorted(parts)),
+             within([*range(0x1100, 0x1200), *range(0xAC00, 0xD7A4, 7)]), sorted(known))
+    return non_starters, pools
 
 
 def random_texts(published, known):
     """Texts of these code points, with non-starters of any scripts behind many of them: mostly few, seldom
     many."""
-    marks, pools = pools_of(published, known)
+    non_starters, pools = pools_of(published, known)
     source = random.Random(SEED)
     for _ in range(TEXTS):
         text = ""
         while len(text) < LENGTH:
             text += source.choice(source.choice(pools))
-            count = int(MARKS ** source.random()) - 1 if source.random() < 0.6 else 0
-            text += "".join(source.choice(marks) for _ in range(count))
+            count = int(MOST_NON_STARTERS ** source.random()) - 1 if source.random() < 0.6 else 0
+            text += "".join(source.choice(non_starters) for _ in range(count))
         yield text
 
 

@@ -33,7 +33,7 @@ class Names:
         self.source = source
         self.fixed = [name for name in (*LATIN, *VIETNAMESE, *KOREAN, *COMPATIBLE, *INDIC)
                       if all(ord(c) in known for c in unicodedata.normalize("NFD", name) + name)]
-        self.marks = [c for c in map(chr, sorted(known)) if unicodedata.combining(c)]
+        self.non_starters = [c for c in map(chr, sorted(known)) if unicodedata.combining(c)]
         young = list(map(chr, sorted(known - oldest)))
         self.young = [young[at:at + 100] for at in range(0, len(young), 1_000)]
         self.nowhere = [chr(code) for code in range(0x378, 0x110000, 97)
@@ -58,7 +58,7 @@ class Names:
         if chance < 0.25:
             words.append("".join(source.choice(source.choice(self.young)) for _ in range(source.randint(1, 4))))
         elif chance < 0.35:
-            words[0] += "".join(source.choice(self.marks) for _ in range(source.randint(1, 5)))
+            words[0] += "".join(source.choice(self.non_starters) for _ in range(source.randint(1, 5)))
         elif chance < 0.36:
             words.append(source.choice(self.nowhere))
         elif chance < 0.362:

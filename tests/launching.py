@@ -1,23 +1,31 @@
 """The launcher in a small repository of its own, whose toolchain is a stand-in that writes a program.
 
-The stand-in says how often it was asked to build; it takes no proof, so that building takes no time.
+The stand-in keeps a list of what it was asked to prove; it takes no proof, so that building takes no time.
 """
 
 import os
+import pty
 import shutil
 import stat
+import subprocess
 
 from harness import run
 
-# A stand-in for `rt`: VERSION is put in its place; it fails where a source has the word BROKEN.
+# A stand-in for `rt`: VERSION is put in its place; it fails where a source has the word BROKEN,
+# and takes its time where one has the word SLOW.
 TOOLCHAIN = """#!/bin/sh
+[ "$1" = version ] || echo "$1 ${PWD##*/}" >>"$0.asked"
+if [ "$1" != version ] && grep -q BROKEN src/*.rt; then
+    echo "checked ${PWD##*/}::first, 1 of 2"
+    exit 1
+fi
+if [ "$1" != version ] && grep -q SLOW src/*.rt; then
+    echo "so far: 3 of 4 functions checked"
+    sleep 2.5
+fi
 case $1 in
 version) echo "VERSION" ;;
 run)
-    if grep -q BROKEN src/main.rt; then
-        echo "checked npss::main, 1 of 2"
-        exit 1
-    fi
     mkdir -p out
     printf '#!/bin/sh\\necho "$@"\\n' >out/npss
     chmod +x out/npss
@@ -37,21 +45,38 @@ def write_toolchain(folder, version):
 
 
 def small_repository(folder, launcher):
-    """A folder with the launcher and one source file."""
-    source = folder / "crates" / "npss" / "src" / "main.rt"
-    source.parent.mkdir(parents=True)
-    for name in ("specs", "proofs"):
-        (folder / "crates" / "npss" / name).mkdir()
-    source.write_text("one\n", encoding="utf-8")
-    (folder / "crates.txt").write_text("npss: clap\n", encoding="utf-8")
+    """A folder with the launcher, a library of one source file and a program of one, which are answered."""
+    sources = [folder / "crates" / name / "src" / file for name, file in (("low", "lib.rt"), ("npss", "main.rt"))]
+    for source in sources:
+        source.parent.mkdir(parents=True)
+        for name in ("specs", "proofs"):
+            (source.parent.parent / name).mkdir()
+        source.write_text("one\n", encoding="utf-8")
+    (folder / "crates.txt").write_text("# lowest first\nlow: smallvec\nnpss: low clap\n", encoding="utf-8")
     shutil.copy(launcher, folder / "npss")
-    return source
+    return sources
+
+
+def told_on_terminal(command, environment):
+    """What a command tells on standard error where that is a terminal."""
+    ours, theirs = pty.openpty()
+    with subprocess.Popen(command, stdin=subprocess.DEVNULL, stdout=subprocess.DEVNULL, stderr=theirs, env=environment):
+        os.close(theirs)
+        told = b""
+        try:
+            while piece := os.read(ours, 4096):
+                told += piece
+        except OSError:
+            # the other end of a terminal that nobody holds any more
+            pass
+    os.close(ours)
+    return told
 
 
 def check_building(tally, launcher, scratch):
     """When the launcher builds, what it tells, and how it ends."""
     folder = scratch / "repository"
-    source = small_repository(folder, launcher)
+    library, source = small_repository(folder, launcher)
     kit = write_toolchain(scratch / "kit", "kit one")
     plain = "/usr/bin:/bin"
 
@@ -64,6 +89,8 @@ def check_building(tally, launcher, scratch):
 
     check("without a toolchain and a program", call(), 127, b"", b"is not on the path")
     check("builds the first time, and names the toolchain", call(str(kit)), 0, b"a b\n", b"with kit one; the first")
+    asked = (kit / "rt.asked").read_text(encoding="utf-8")
+    tally.check("the launcher proves the libraries first", asked == "lib low\nrun npss\n", f"got {asked!r}")
     check("doesn't build again", call(str(kit)), 0, b"a b\n", None)
     check("needs no toolchain once it is built", call(), 0, b"a b\n", None)
     source.write_text("two\n", encoding="utf-8")
@@ -76,5 +103,11 @@ def check_building(tally, launcher, scratch):
     write_toolchain(other, "kit three")
     check("builds with a toolchain in the place of another", call(str(other)), 0, b"a b\n", b"with kit three")
     source.write_text("BROKEN\n", encoding="utf-8")
-    check("shows the log of a build that fails", call(str(other)), 125, b"", b"checked npss::main, 1 of 2")
+    check("shows the log of a build that fails", call(str(other)), 125, b"", b"checked npss::first, 1 of 2")
     check("tries again after that", call(str(other)), 125, b"", BUILDS)
+    source.write_text("two\n", encoding="utf-8")
+    library.write_text("BROKEN\n", encoding="utf-8")
+    check("shows the log of a library that fails", call(str(other)), 125, b"", b"checked low::first, 1 of 2")
+    library.write_text("SLOW\n", encoding="utf-8")
+    told = told_on_terminal([folder / "npss"], {**os.environ, "PATH": f"{other}:{plain}"})
+    tally.check("the launcher tells how far it is", b"crate low (1 of 2), 3 of 4 functions; 0 min 01 s" in told, f"got {told}")

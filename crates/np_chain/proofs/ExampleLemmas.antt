@@ -8,7 +8,7 @@ use Rattle.np_code_points.specs.Hangul.{is_syllable}
 use Rattle.np_tables.proofs.ExampleLemmas.{assigned_code, hangul_on_with, hangul_rows, IsSound-with_hangul, IsSound-with_rows, letter_kind, letter_mapping, no_hangul, pair_alone-with_hangul, pair_alone-with_rows, pair_kind, pair_mapping, pair_primary, ring_kind, ring_mapping, syllable_lacks, three_codes}
 use Rattle.np_tables.proofs.HangulLemmas.{decomposition_mapping-on, has_hangul-at, hangul_parts, head_hangul, shape_of}
 use Rattle.np_tables.specs.Composites.{IsPrimary}
-use Rattle.np_tables.specs.inside.Examples.{with_rows, with_hangul}
+use Rattle.np_tables.specs.Examples.{with_rows, with_hangul}
 use Rattle.np_tables.specs.Versions.{decomposition_mapping, has_hangul, is_assigned}
 
 -- ---- the three code points stand in both versions as they are
@@ -64,4 +64,4 @@ extends : Extends with_rows with_hangul
 extends = record { keeps = keeps; old_composites = old_composites; new_composites = new_composites }
 
 pub extension_is_met : ExtensionIsMet
-extension_is_met = (with_rows, with_hangul, IsSound-with_rows, IsSound-with_hangul, extends, syllable_lacks, hangul_on_with)
+extension_is_met = (IsSound-with_rows, IsSound-with_hangul, extends, syllable_lacks, hangul_on_with)

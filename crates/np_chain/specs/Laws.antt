@@ -5,6 +5,7 @@ use Rattle.np_code_points.specs.declared.forms.Form.{Form}
 use Rattle.np_forms.specs.Assigned.{IsAssigned}
 use Rattle.np_forms.specs.Forms.{IsNormalForm}
 use Rattle.np_tables.specs.Conditions.{IsSound}
+use Rattle.np_tables.specs.Examples.{with_rows, with_hangul}
 use Rattle.np_tables.specs.Versions.{VersionData, has_hangul, is_assigned}
 
 -- where b extends a, a text that is assigned in a has one form under both, which is assigned in a
@@ -16,7 +17,7 @@ Stability =
 abbrev pub Transitivity : Type 0
 Transitivity = (a b c : VersionData) → Extends a b → Extends b c → Extends a c
 
--- the premises on two versions are met by unlike ones: one without Hangul, and one that has its syllables and jamo besides
+-- the premises on two versions are met by unlike ones: one of three rows, and one that has Hangul syllables and jamo besides
 abbrev pub ExtensionIsMet : Type 0
 ExtensionIsMet =
-    (a b : VersionData) × IsSound a × IsSound b × Extends a b × (is_assigned a 0xAC00 ≡ false) × (has_hangul b ≡ true)
+    IsSound with_rows × IsSound with_hangul × Extends with_rows with_hangul × (is_assigned with_rows 0xAC00 ≡ false) × (has_hangul with_hangul ≡ true)

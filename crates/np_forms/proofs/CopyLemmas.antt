@@ -9,12 +9,12 @@ use Rattle.np_forms.specs.inside.Composing.{compose_of}
 use Rattle.np_forms.specs.inside.Copies.{BeginsAtBoundary, IsCopied, IsParted}
 use Rattle.np_forms.specs.inside.NormalForms.{decomposed, ended, normal_form}
 use Rattle.np_forms.proofs.BoundaryLemmas.{normal_form-parts}
-use Rattle.np_forms.proofs.SettledLemmas.{settled_form}
+use Rattle.np_forms.proofs.StandingLemmas.{standing_form}
 use Rattle.np_tables.specs.Boundaries.{IsBoundary}
 use Rattle.np_tables.specs.Conditions.{IsSound}
 use Rattle.np_tables.specs.Versions.{VersionData, class_of}
 use Rattle.np_tables.specs.inside.FullDecompositions.{full_of}
-use Rattle.np_tables.specs.inside.Hints.{AreStanding, MayFollow, Walks}
+use Rattle.np_tables.specs.Standing.{AreStanding, MayFollow, Walks}
 use Rattle.np_tables.proofs.WalkLemmas.{Walks-front}
 use Rattle.np_code_points.specs.Forms.{is_compat, composes}
 use Rattle.np_forms.proofs.ComposeLemmas.{compose-nil}
@@ -31,14 +31,14 @@ unfolding normal_form decomposed
 normal_form-nil v form = ap (ended v (composes form)) (canonical_order-nil (class_of v)) ∙ ended-nil v (composes form)
 
 module _ (v : VersionData) (sound : IsSound v) (form : Form) where
-  -- what is settled stands before a boundary as it is
+  -- before a boundary it stands as it is
   copies : (cs : List ℕ) (end : ℕ) (rest : List ℕ) → Walks (MayFollow v form) 0 cs end → BeginsAtBoundary v form rest → normal_form v form (cs ++ rest) ≡ cs ++ normal_form v form rest
   copies cs end [] walk at =
-      ap (normal_form v form) (append-nil cs) ∙ settled_form v sound form cs end walk ∙ sym (append-nil cs) ∙ ap (λ l. cs ++ l) (sym (normal_form-nil v form))
+      ap (normal_form v form) (append-nil cs) ∙ standing_form v sound form cs end walk ∙ sym (append-nil cs) ∙ ap (λ l. cs ++ l) (sym (normal_form-nil v form))
   copies cs end (d ∷ ds) walk at =
-      normal_form-parts v sound form cs d ds at ∙ ap (λ l. l ++ normal_form v form (d ∷ ds)) (settled_form v sound form cs end walk)
+      normal_form-parts v sound form cs d ds at ∙ ap (λ l. l ++ normal_form v form (d ∷ ds)) (standing_form v sound form cs end walk)
 
-  -- a text whose front is settled, cut behind it
+  -- a text whose front stands as it is, cut behind it
   pub IsCopied-at : (text front back : List ℕ) (cs : List ℕ) (end : ℕ) → text ≡ front ++ back → IsUtf8 back → front ≡ encode_utf8_all cs → chars text ≡ cs ++ chars back → Walks (MayFollow v form) 0 cs end → BeginsAtBoundary v form (chars back) → IsCopied v form text front back
   IsCopied-at text front back cs end parts utf8 spelled text_is walk at =
       record {
@@ -91,7 +91,7 @@ module _ (v : VersionData) (form : Form) (text : List ℕ) (n : ℕ) (h : AreSta
   pub cut_at-back : drop n text ≡ h.back
   cut_at-back = ap (drop n) h.split ∙ drop_at (encode_utf8_all h.front) h.back n (sym h.place)
 
--- ---- a text cut behind what is settled
+-- ---- a text cut behind what stands as it is
 
 -- where the text ends there, or a boundary follows
 module _ (v : VersionData) (sound : IsSound v) (form : Form) (text : List ℕ) (n : ℕ) (h : AreStanding v form text n) (front back : List ℕ) (of_front : front ≡ take n text) (of_back : back ≡ drop n text) where
@@ -106,7 +106,7 @@ module _ (v : VersionData) (sound : IsSound v) (form : Form) (text : List ℕ) (
 
   IsCopied-cut : BeginsAtBoundary v form (chars back) → IsCopied v form text front back
   IsCopied-cut at =
-      IsCopied-at v sound form text front back h.front h.end cut-parts (subst IsUtf8 (sym cut-back) h.utf8) cut-front (h.text ∙ ap (λ l. h.front ++ chars l) (sym cut-back)) h.settled at
+      IsCopied-at v sound form text front back h.front h.end cut-parts (subst IsUtf8 (sym cut-back) h.utf8) cut-front (h.text ∙ ap (λ l. h.front ++ chars l) (sym cut-back)) h.walk at
 
   pub IsCopied-whole : length back ≡ 0 → IsCopied v form text front back
   IsCopied-whole none = IsCopied-cut (subst (BeginsAtBoundary v form) (sym (ap chars (nil_from_length back none) ∙ chars-nil)) tt)
@@ -150,7 +150,7 @@ module _ (v : VersionData) (form : Form) (text : List ℕ) (n : ℕ) (h : AreSta
       let same : h.front ≡ chars own ++ chars part =
       append_cancel_right h.front (chars own ++ chars part) (chars h.back)
       (sym h.text ∙ text_is ∙ ap (λ l. chars own ++ l) next ∙ sym (append_assoc (chars own) (chars part) (chars h.back))) in
-      let walk = Walks-front (MayFollow v form) 0 h.end (chars own) (chars part) (subst (λ l. Walks (MayFollow v form) 0 l h.end) same h.settled) in
+      let walk = Walks-front (MayFollow v form) 0 h.end (chars own) (chars part) (subst (λ l. Walks (MayFollow v form) 0 l h.end) same h.walk) in
       IsCopied-at v sound form text own rest (chars own) walk.0 own-text of_rest (sym (encodes-chars own of_own)) text_is walk.1
       (subst (BeginsAtBoundary v form) (sym next) (begins_with v form (chars part) (chars h.back) (some_chars part of_part some) at))
 

@@ -1,24 +1,22 @@
 -- Forms that only decompose, written front by front.
-use Rattle.std.proofs.Common.{◌≡◌, ℕ, suc, ◌<◌, Bool, true, false, List, [], ◌∷◌, ◌++◌, length, take, drop, chars, IsUtf8, encode_utf8, encode_utf8_all, flat_map, refl, sym, ap, subst, ◌∙◌, arith, inl, inr, append_assoc, append-nil, length-append}
-use Rattle.std.specs.List.{All}
+use Rattle.std.proofs.Common.{◌≡◌, ℕ, ◌<◌, ◌≤◌, ◌⊎◌, true, false, List, [], ◌∷◌, ◌++◌, length, chars, IsUtf8, encode_utf8, encode_utf8_all, flat_map, refl, sym, ap, subst, ◌∙◌, arith, inl, inr, append_assoc, append-nil, length-append}
 use Rattle.std.proofs.lemmas.Bool.{and_right}
 use Rattle.std.proofs.lemmas.Grind.{flat_map-append}
-use Rattle.std.proofs.lemmas.List.{drop_at, take_at, nil_from_length}
+use Rattle.std.proofs.lemmas.List.{nil_from_length}
 use Rattle.std.proofs.lemmas.Str.{chars-nil, chars_past_char, encodes-append}
 use Rattle.np_code_points.specs.Forms.{is_compat, composes}
 use Rattle.np_code_points.specs.Hangul.{is_syllable}
 use Rattle.np_code_points.specs.declared.forms.Form.{Form}
 use Rattle.np_forms.specs.Order.{is_ordered}
 use Rattle.np_forms.specs.inside.CanonicalOrder.{canonical_order}
-use Rattle.np_forms.specs.inside.Copies.{GoesOn, IsParted}
+use Rattle.np_forms.specs.inside.Copies.{GoesOn, IsCopied, IsParted}
 use Rattle.np_forms.specs.inside.NormalForms.{decomposed, ended, normal_form}
+use Rattle.np_forms.specs.inside.Segments.{Rises}
 use Rattle.np_forms.proofs.OrderLemmas.{canonical_order-behind, canonical_order-ordered, is_ordered-canonical_order, is_ordered-cons, is_ordered-nil, is_ordered-one, is_ordered-parts, is_reorderable-false, not_reorderable_rising, not_reorderable_starter}
 use Rattle.np_forms.proofs.SyllableLemmas.{lent_none, lent_some}
-use Rattle.np_tables.proofs.MappingLemmas.{full_decomposition-flat_map}
 use Rattle.np_tables.specs.Conditions.{IsSound}
 use Rattle.np_tables.specs.Versions.{VersionData, class_of, has_hangul}
 use Rattle.np_tables.specs.inside.FullDecompositions.{full_of, table_full}
-use Rattle.np_tables.specs.inside.Hints.{AreSettled, IsOwn, Rises}
 
 -- ---- classes that rise
 
@@ -72,35 +70,6 @@ module _ (v : VersionData) (sound : IsSound v) (form : Form) (plain : composes f
       form-decomposes (xs ++ ys) ∙ ap (canonical_order (class_of v)) (flat_map-append f xs ys ∙ ap (λ l. l ++ flat_map f ys) full)
       ∙ canonical_order-closed (class_of v) made (flat_map f ys) closed ∙ ap (λ l. made ++ l) (sym (form-decomposes ys))
 
-  full_of-own : (c : ℕ) → IsOwn v (is_compat form) c → full_of v (is_compat form) c ≡ c ∷ []
-  full_of-own c own =
-      elim own [
-        | inl is ↦ sym (append-nil (full_of v (is_compat form) c)) ∙ sym (full_decomposition-flat_map v (is_compat form) sound.shallow (c ∷ []) (c ∷ []) is)
-        | inr none ↦ lent_none v (is_compat form) sound c [] (sym none.0) refl (and_right (has_hangul v) (is_syllable c) none.1)
-      ]
-
-  flat_map-own : (xs : List ℕ) → All (IsOwn v (is_compat form)) xs → flat_map (full_of v (is_compat form)) xs ≡ xs
-  flat_map-own [] all = refl
-  flat_map-own (c ∷ cs) all =
-      let f = full_of v (is_compat form) in
-      ap (λ l. l ++ flat_map f cs) (full_of-own c (all 0 c (omega arith))) ∙ ap (λ l. c ∷ l) (flat_map-own cs (λ k d lt. all (suc k) d (omega arith)))
-
-  pub goes-settled : (text : List ℕ) (n : ℕ) (compat : Bool) → compat ≡ is_compat form → AreSettled v compat text n → (settled behind old new : List ℕ) → settled ≡ take n text → behind ≡ drop n text → new ≡ old ++ settled →
-      GoesOn v form text behind old new
-  goes-settled text n compat kind are settled behind old new of_front of_back push =
-      let h = subst (λ b. AreSettled v b text n) kind are in
-      let front = encode_utf8_all h.front in
-      let back : behind ≡ h.back = of_back ∙ ap (drop n) h.split ∙ drop_at front h.back n (sym h.place) in
-      let copied : settled ≡ front = of_front ∙ ap (take n) h.split ∙ take_at front h.back n (sym h.place) in
-      let later = normal_form v form (chars behind) in
-      record {
-        utf8 = subst IsUtf8 (sym back) h.utf8;
-        shorter = omega (arith, ap length h.split, length-append front h.back, ap length back);
-        written = ap (λ l. l ++ encode_utf8_all later) (push ∙ ap (λ l. old ++ l) copied) ∙ append_assoc old front (encode_utf8_all later)
-            ∙ ap (λ l. old ++ l) (sym (encodes-append h.front later)
-            ∙ ap encode_utf8_all (sym (form-closed h.front h.front (chars behind) (flat_map-own h.front h.own) h.ordered) ∙ ap (normal_form v form) (ap (λ l. h.front ++ chars l) back ∙ sym h.text)));
-      }
-
   -- ---- one code point
 
   -- its segment
@@ -131,6 +100,16 @@ module _ (v : VersionData) (form : Form) where
   pub goes-both : (text middle rest old between new : List ℕ) → GoesOn v form text middle old between → GoesOn v form middle rest between new → GoesOn v form text rest old new
   goes-both text middle rest old between new one two =
       record { utf8 = two.utf8; shorter = (let a = one.shorter in let b = two.shorter in omega arith); written = two.written ∙ one.written }
+
+  -- a front that stands in the form as it is
+  pub goes-copied : (text stays behind old new : List ℕ) → IsCopied v form text stays behind → new ≡ old ++ stays → GoesOn v form text behind old new
+  goes-copied text stays behind old new cut push =
+      let after = encode_utf8_all (normal_form v form (chars behind)) in
+      record {
+        utf8 = cut.utf8;
+        shorter = omega (arith, ap length cut.parts, length-append stays behind);
+        written = ap (λ l. l ++ after) push ∙ append_assoc old stays after ∙ ap (λ l. old ++ l) (sym cut.copied);
+      }
 
   -- a segment
   pub goes-parted : (text segment later old new : List ℕ) → IsParted v form text segment later → new ≡ old ++ encode_utf8_all (normal_form v form (chars segment)) → GoesOn v form text later old new

@@ -21,8 +21,8 @@ pub mod RunLemmas
 pub mod RunTextLemmas
 pub mod RunningLemmas
 pub mod SegmentLemmas
-pub mod SettledLemmas
 pub mod SortLemmas
+pub mod StandingLemmas
 pub mod StreamLemmas
 pub mod StreamSafeLemmas
 pub mod SyllableLemmas

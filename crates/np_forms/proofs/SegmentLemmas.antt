@@ -11,7 +11,7 @@ use Rattle.np_forms.specs.inside.Composers.{IsComposing, pair_with_last}
 use Rattle.np_forms.specs.inside.Composing.{compose_of}
 use Rattle.np_forms.specs.inside.Copies.{BeginsAtBoundary, GoesOn, IsCopied}
 use Rattle.np_forms.specs.inside.NormalForms.{ended, normal_form}
-use Rattle.np_forms.specs.inside.Segments.{IsComposedOf, IsFirstMade, IsReadUpTo}
+use Rattle.np_forms.specs.inside.Segments.{IsComposedOf, IsFirstMade, IsReadUpTo, Rises}
 use Rattle.np_forms.proofs.BoundaryLemmas.{normal_form-parts}
 use Rattle.np_forms.proofs.ComposerLemmas.{push_joins, push_starts, push_keeps, IsComposing-start, IsComposing-end}
 use Rattle.np_forms.proofs.CopyLemmas.{normal_form-nil, settled-is_form}
@@ -21,7 +21,6 @@ use Rattle.np_tables.specs.Boundaries.{IsBoundary}
 use Rattle.np_tables.specs.Conditions.{IsSound}
 use Rattle.np_tables.specs.Versions.{VersionData, class_of}
 use Rattle.np_tables.specs.inside.FullDecompositions.{full_of}
-use Rattle.np_tables.specs.inside.Hints.{Rises}
 
 module _ (v : VersionData) where
   abbrev ccc : ℕ → ℕ

@@ -1,14 +1,14 @@
 -- Full decompositions of code points, syllables by arithmetic included.
-use Rattle.std.proofs.Common.{◌≡◌, ℕ, zero, suc, ◌<◌, ◌⊎◌, Bool, true, false, ◌&&◌, List, [], ◌∷◌, ◌++◌, length, flat_map, refl, sym, ap, ◌∙◌, ◌||◌, arith, inl, inr, length-append}
+use Rattle.std.proofs.Common.{◌≡◌, ℕ, ◌<◌, ◌⊎◌, Bool, true, false, ◌&&◌, List, [], ◌∷◌, ◌++◌, length, flat_map, refl, sym, ap, ◌∙◌, ◌||◌, arith, inl, inr}
 use Rattle.std.proofs.lemmas.Bool.{cases_Bool, cond-true, cond-false, or_from}
 use Rattle.np_code_points.specs.Hangul.{is_syllable, syllable_pair}
 use Rattle.np_tables.specs.Conditions.{IsSound}
-use Rattle.np_tables.specs.Mappings.{parts, is_final}
-use Rattle.np_tables.specs.inside.FullDecompositions.{full, full_of, table_full}
+use Rattle.np_tables.specs.Mappings.{is_final}
+use Rattle.np_tables.specs.inside.FullDecompositions.{full_of, table_full}
 use Rattle.np_tables.specs.Versions.{VersionData, is_empty, has_hangul}
 use Rattle.np_tables.proofs.FullLemmas.{parts-syllable}
 use Rattle.np_tables.proofs.HangulLemmas.{IsJamo, IsLv, jamo_bare, shape_of}
-use Rattle.np_tables.proofs.MappingLemmas.{parts-cases, full_of-final, full_of-mapped}
+use Rattle.np_tables.proofs.MappingLemmas.{parts-cases, full_of-final, full_of-mapped, full_of-some}
 use Rattle.np_forms.specs.inside.Syllables.{pair_or_self, syllable_parts}
 
 -- ---- what the arithmetic gives
@@ -36,25 +36,7 @@ syllable_parts-three s a b l w h pair first again =
 
 -- ---- full decompositions
 
-flat_some : (f : ℕ → List ℕ) → ((c : ℕ) → 0 < length (f c)) → (xs : List ℕ) → is_empty xs ≡ false → 0 < length (flat_map f xs)
-flat_some f some [] h = cc
-flat_some f some (x ∷ xs) h = omega (arith, some x, length-append (f x) (flat_map f xs))
-
 module _ (v : VersionData) (compat : Bool) where
-  full-some : (n c : ℕ) → 0 < length (full v compat n c)
-  unfolding full
-  full-some zero c = omega arith
-  full-some (suc n) c =
-      elim (cases_Bool (is_final v compat c)) [
-        | inl final ↦ omega (arith, ap length (cond-true (is_final v compat c) (c ∷ []) (flat_map (full v compat n) (parts v compat c)) final))
-        | inr mapped ↦
-            omega (arith, flat_some (full v compat n) (full-some n) (parts v compat c) mapped, ap length (cond-false (is_final v compat c) (c ∷ []) (flat_map (full v compat n) (parts v compat c)) mapped))
-      ]
-
-  full_of-some : (c : ℕ) → 0 < length (full_of v compat c)
-  unfolding full_of
-  full_of-some c = full-some 32 c
-
   -- what a table lends is the full decomposition where it lends anything
   pub lent_some : (c : ℕ) (lent : List ℕ) → lent ≡ table_full v compat c → 0 < length lent → lent ≡ full_of v compat c
   unfolding table_full
@@ -73,7 +55,7 @@ module _ (v : VersionData) (compat : Bool) where
           | inl final ↦ full_of-final v compat sound.shallow c final
           | inr mapped ↦
               let whole : lent ≡ full_of v compat c = e ∙ cond-false _ _ _ (or_from (is_final v compat c) (has_hangul v && is_syllable c) mapped plain) in
-              absurd (omega (arith, ap length whole, full_of-some c))
+              absurd (omega (arith, ap length whole, full_of-some v compat c))
         ]
 
     module _ (on : has_hangul v ≡ true) where

@@ -1,5 +1,5 @@
 -- The laws of the forms, over the definitions alone.
-use Rattle.std.specs.Prelude.{◌≡◌, ℕ, true, List, [], ◌↔◌}
+use Rattle.std.specs.Prelude.{◌≡◌, ℕ, true, List, ◌↔◌}
 use Rattle.np_tables.specs.Composites.{IsCompositeOf}
 use Rattle.np_tables.specs.Conditions.{IsSound}
 use Rattle.np_code_points.specs.declared.forms.Form.{Form}
@@ -7,6 +7,7 @@ use Rattle.np_code_points.specs.Forms.{is_compat}
 use Rattle.np_code_points.specs.One.{HasOne}
 use Rattle.np_forms.specs.Forms.{IsDecomposed, IsNormalForm, IsEquivalent}
 use Rattle.np_forms.specs.Order.{IsOrderedForm}
+use Rattle.np_tables.specs.Examples.{without_rows, with_rows, with_hangul}
 use Rattle.np_tables.specs.Versions.{VersionData, class_of, has_hangul}
 
 -- a list has exactly one ordered form, whatever gives the combining classes
@@ -29,10 +30,9 @@ SameForms =
     (v : VersionData) (form : Form) (xs ys ks ls : List ℕ) → IsSound v → IsNormalForm v form xs ks → IsNormalForm v form ys ls →
     (ks ≡ ls) ↔ IsEquivalent v (is_compat form) xs ys
 
--- the premise of these laws on a version is met: by the version of empty files; by one with a starter, a non-starter of
--- class 230 and their primary composite; and by one with the Hangul arithmetic on
+-- the premise of these laws on a version is met: by the version of empty files; by one of three rows, a starter, a
+-- non-starter of class 230 and their primary composite; and by one with the Hangul arithmetic on
 abbrev pub PremisesAreMet : Type 0
 PremisesAreMet =
-    IsSound (record { entries = []; exclusions = [] })
-    × ((v : VersionData) × IsSound v × (class_of v 0x30A ≡ 230) × IsCompositeOf v 0x41 0x30A 0xC5)
-    × ((v : VersionData) × IsSound v × (has_hangul v ≡ true))
+    IsSound without_rows × IsSound with_rows × (class_of with_rows 0x30A ≡ 230) × IsCompositeOf with_rows 0x41 0x30A 0xC5 ×
+    IsSound with_hangul × (has_hangul with_hangul ≡ true)

@@ -1,6 +1,6 @@
 //! The form of a whole text that only decomposes: what stands in it already is copied, syllables
-//! and single code points are written at once, and only a segment of several code points that is
-//! not in canonical order goes through a list.
+//! and single code points are written at once, and only a segment of several code points that
+//! doesn't stand there goes through a list.
 ghost use Rattle.std.specs.Prelude.{◌≡◌, ◌<◌, ◌++◌, length, true, false, chars, string_bytes, encode_utf8_all, IfOk, OnOk};
 ghost use Rattle.np_code_points.specs.Forms.{composes};
 ghost use Rattle.np_forms.specs.Order.{is_ordered};
@@ -8,7 +8,7 @@ ghost use Rattle.np_forms.specs.inside.Copies.{GoesOn};
 ghost use Rattle.np_forms.specs.inside.NormalForms.{normal_form};
 ghost use Rattle.np_tables.specs.Versions.{class_of};
 
-use crate::copying::{split_segment, write_segment};
+use crate::copying::{split_segment, split_standing, write_segment};
 use crate::syllable_texts::write_syllables;
 use crate::written::append_chars;
 use np_code_points::hangul::is_syllable;
@@ -16,20 +16,18 @@ use np_code_points::{Form, Memory};
 use np_tables::NormTable;
 use std::alloc::Global;
 
-/// Copies the longest front that is known to stand decomposed and in canonical order, and answers
-/// what follows it.
-fn copy_settled<'a, T: NormTable>(
+/// Copies the longest front that is known to stand in the form as it is, and answers what follows
+/// it.
+fn copy_standing<'a, T: NormTable>(
     table: &T,
     form: Form,
     text: &'a str,
     out: &mut String,
 ) -> Result<&'a str, Memory>
-    requires { composes form ≡ false }
     ensures { IfOk result (λ rest. GoesOn (T.model table.now) form text.now rest.now (string_bytes out.old) (string_bytes out.new)) }
 {
-    table.meets_conditions();
-    let (settled, behind) = text.split_at(table.settled(form.compat(), text));
-    out.push_str(settled)?;
+    let (stays, behind) = split_standing(table, form, text);
+    out.push_str(stays)?;
     Ok(behind)
 }
 
@@ -96,7 +94,7 @@ fn write_front<'a, T: NormTable>(
     ensures goes { IfOk result (λ rest. GoesOn (T.model table.now) form text.now rest.now (string_bytes out.old) (string_bytes out.new)) }
     ensures shorter { IfOk result (λ rest. length rest.now < length text.now) }
 {
-    let behind = copy_settled(table, form, text, out)?;
+    let behind = copy_standing(table, form, text, out)?;
     let after = write_syllables(table, form, behind, out)?;
     if after.is_empty() || after.len() < behind.len() {
         return Ok(after);

@@ -8,7 +8,7 @@ use Rattle.np_code_points.specs.declared.forms.Form.{Form}
 use Rattle.np_node.proofs.KeyLemmas.{later_entry, one_key}
 use Rattle.np_node.specs.Accepting.{AnswersAccept}
 use Rattle.np_node.specs.Nodes.{State, strings_of, HasPlace, IsKept, AreUnlike, IsNode}
-use Rattle.np_node.specs.Strings.{Entry, IsEntry, IsKeepable, IsKey, IsStringFault}
+use Rattle.np_node.specs.Strings.{Entry, IsEntry, IsKey, IsStringFault}
 use Rattle.np_node.specs.Taking.{AnswersEntry}
 use Rattle.np_node.specs.declared.faults.NodeFault.{NodeFault}
 use Rattle.np_node.specs.declared.faults.NodeFault.TheVariants.{Malformed, OtherForm, TooLong, NotUtf8, Unassigned, KeyDiffers, Full, Memory}
@@ -87,13 +87,6 @@ IsNode-later stability node w sound ext is =
       fits = is.fits;
       room = is.room;
     }
-
--- ---- what a kept string may
-
-pub keepable-kept : (node : State) (string : List ℕ) → IsNode node → IsKept node.entries string → IsKeepable node.version string
-keepable-kept node string is kept =
-    let found = entry-kept node.entries string kept in
-    (All-Contains (IsEntry node.version node.form) node.entries _ is.entries found.1).keepable
 
 -- ---- answers
 

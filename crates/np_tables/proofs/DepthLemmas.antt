@@ -1,5 +1,5 @@
 -- Marks of code points, round by round.
-use Rattle.std.proofs.Common.{◌≡◌, ℕ, zero, suc, ◌<◌, ◌≤◌, Bool, true, false, ◌&&◌, min, List, [], ◌∷◌, map, flat_map, length, refl, sym, ap, subst, ◌∙◌, leb, inl, inr, arith, length-append}
+use Rattle.std.proofs.Common.{◌≡◌, ℕ, zero, suc, ◌<◌, ◌≤◌, Bool, true, false, ◌&&◌, min, List, [], ◌∷◌, map, flat_map, length, refl, sym, ap, subst, ◌∙◌, leb, inl, inr, arith}
 use Rattle.std.proofs.lemmas.Bool.{cond-true, cond-false, cases_Bool, cases_eq, both_ways, and_parts, and_from}
 use Rattle.std.specs.List.{list_all}
 use Rattle.np_ucd.specs.Entries.{Entry, AreRows, HasLength}
@@ -7,10 +7,10 @@ use Rattle.np_ucd.specs.declared.rows.MapKind.{MapKind}
 use Rattle.np_ucd.specs.declared.rows.MapKind.TheVariants.{Plain, Canonical, Compatibility}
 use Rattle.np_code_points.specs.Hangul.{is_syllable}
 use Rattle.np_tables.specs.Versions.{VersionData, entry_at, kind_in, mapping_in, is_empty, file_kind, file_mapping, has_hangul, decomposition_kind, decomposition_mapping}
-use Rattle.np_tables.specs.Mappings.{counts, parts, is_final, has_depth}
+use Rattle.np_tables.specs.Mappings.{counts, parts, has_depth}
 use Rattle.np_tables.specs.inside.FullDecompositions.{full}
 use Rattle.np_tables.specs.inside.Depths.{marked, mark, parts_mark, mapping_mark, row_marks}
-use Rattle.np_tables.proofs.MappingLemmas.{full-final, full-mapped, full-more, flat_map-same}
+use Rattle.np_tables.proofs.MappingLemmas.{full-final, full-mapped, full-more, full-some, flat_map-same}
 
 -- ---- the mapping that counts for the compatibility decomposition is the mapping of the file
 
@@ -95,23 +95,6 @@ mark-file v rows n c other = mark-mapping v rows n c ∙ ap (mapping_mark v n) (
 
 -- ---- a mark is 0 exactly where the depth is over the round
 
-flat_map_long : (f : ℕ → List ℕ) → ((c : ℕ) → 0 < length (f c)) → (xs : List ℕ) → is_empty xs ≡ false → 0 < length (flat_map f xs)
-flat_map_long f long [] h = cc
-flat_map_long f long (x ∷ xs) h = let first = long x in simp length-append (omega arith)
-
-module _ (v : VersionData) where
-  full_zero : (c : ℕ) → full v true zero c ≡ c ∷ []
-  unfolding full
-  full_zero c = refl
-
-  full_long : (n c : ℕ) → 0 < length (full v true n c)
-  full_long zero c = subst (λ l. 0 < length l) (sym (full_zero c)) (omega arith)
-  full_long (suc n) c =
-      elim (cases_Bool (is_final v true c)) [
-        | inl final ↦ subst (λ l. 0 < length l) (sym (full-final v true (suc n) c final)) (omega arith)
-        | inr mapped ↦ subst (λ l. 0 < length l) (sym (full-mapped v true n c mapped)) (flat_map_long (full v true n) (full_long n) (parts v true c) mapped)
-      ]
-
 marked-zero : (known : Bool) (n : ℕ) → 0 < n → marked known n ≡ 0 → known ≡ false
 marked-zero true n long h = absurd (omega arith)
 marked-zero false n long h = refl
@@ -135,7 +118,7 @@ marked-same false false m n some other h = refl
 module _ (v : VersionData) where
   pub mark-zero : (n c : ℕ) → mark v n c ≡ 0 → has_depth v n c ≡ false
   unfolding mark
-  mark-zero n c h = marked-zero _ _ (full_long v n c) h
+  mark-zero n c h = marked-zero _ _ (full-some v true n c) h
 
   pub mark-more : (n c : ℕ) → 0 < mark v n c → has_depth v n c ≡ true
   unfolding mark
@@ -151,7 +134,7 @@ module _ (v : VersionData) where
 
   same_depth : (m n c : ℕ) → mark v m c ≡ mark v n c → has_depth v m c ≡ has_depth v n c
   unfolding mark
-  same_depth m n c h = marked-same (has_depth v m c) (has_depth v n c) _ _ (full_long v m c) (full_long v n c) h
+  same_depth m n c h = marked-same (has_depth v m c) (has_depth v n c) _ _ (full-some v true m c) (full-some v true n c) h
 
 -- ---- a round that changes no mark is the last one that changes any
 

@@ -5,7 +5,7 @@ use Rattle.std.specs.List.{list_all}
 use Rattle.np_tables.specs.Versions.{entry_at, is_assigned, is_empty, decomposition_mapping}
 use Rattle.np_tables.specs.Mappings.{has_depth}
 use Rattle.np_tables.specs.Conditions.{IsSound}
-use Rattle.np_tables.specs.inside.Examples.{without_rows}
+use Rattle.np_tables.specs.Examples.{without_rows}
 use Rattle.np_tables.proofs.FactLemmas.{classes-at, scalars-at, mapped_scalar-at}
 use Rattle.np_tables.proofs.MappingLemmas.{is_empty-true, full_of-final, full_of-only, parts-cases}
 use Rattle.np_tables.proofs.CompositeLemmas.{mapped-assigned, composite-assigned}

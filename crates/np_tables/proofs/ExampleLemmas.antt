@@ -12,7 +12,7 @@ use Rattle.np_tables.specs.Mappings.{has_depth}
 use Rattle.np_tables.specs.inside.FullDecompositions.{full_of}
 use Rattle.np_tables.specs.Composites.{IsPrimary, IsCompositeOf}
 use Rattle.np_tables.specs.Conditions.{IsSound}
-use Rattle.np_tables.specs.inside.Examples.{letter, letter_with_ring, ring, with_rows, leading_consonants, vowels, trailing_consonants, syllables, with_hangul}
+use Rattle.np_tables.specs.Examples.{letter, letter_with_ring, ring, with_rows, leading_consonants, vowels, trailing_consonants, syllables, with_hangul}
 use Rattle.np_tables.proofs.CompositeLemmas.{composite_parts}
 use Rattle.np_tables.proofs.DepthLemmas.{bare_depth, mark-length, mark-more, suc_depth}
 use Rattle.np_tables.proofs.FactLemmas.{bounded-at, classes-at, scalars-at, mapped_scalar-at}

@@ -18,10 +18,9 @@ pub mod HangulLemmas
 pub mod HangulPlaces
 pub mod MappedLemmas
 pub mod MappingLemmas
+pub mod MarkCutLemmas
 pub mod PageApartLemmas
 pub mod PageHintLemmas
-pub mod PageRunLemmas
-pub mod PageSettledLemmas
 pub mod PageSlotLemmas
 pub mod PageWordLemmas
 pub mod PairLemmas

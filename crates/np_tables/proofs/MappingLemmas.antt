@@ -1,5 +1,5 @@
 -- Full decomposition: the function gives the one that there is.
-use Rattle.std.proofs.Common.{◌≡◌, ◌≢◌, ℕ, zero, suc, Bool, true, false, List, [], ◌∷◌, ◌++◌, flat_map, refl, sym, ap, subst, ◌∙◌, inl, inr, append_assoc, append-nil}
+use Rattle.std.proofs.Common.{◌≡◌, ◌≢◌, ℕ, zero, suc, ◌<◌, Bool, true, false, List, [], ◌∷◌, ◌++◌, length, flat_map, refl, sym, ap, subst, ◌∙◌, inl, inr, arith, append_assoc, append-nil, length-append}
 use Rattle.std.proofs.lemmas.Bool.{cond-true, cond-false, cases_Bool, and_parts, and_from}
 use Rattle.std.specs.List.{list_all}
 use Rattle.np_code_points.specs.Steps.{Reaches}
@@ -23,6 +23,10 @@ is_empty-false (x ∷ xs) h e = cc
 pub is_empty_from : (xs : List ℕ) → xs ≢ [] → is_empty xs ≡ false
 is_empty_from [] h = absurd (h refl)
 is_empty_from (x ∷ xs) h = refl
+
+flat_map-some : (f : ℕ → List ℕ) → ((c : ℕ) → 0 < length (f c)) → (xs : List ℕ) → is_empty xs ≡ false → 0 < length (flat_map f xs)
+flat_map-some f some [] h = cc
+flat_map-some f some (x ∷ xs) h = omega (arith, some x, length-append (f x) (flat_map f xs))
 
 module _ (v : VersionData) (compat : Bool) where
   -- what counts is the mapping
@@ -147,6 +151,24 @@ module _ (v : VersionData) (compat : Bool) where
   -- and nothing else
   pub full-only : (n c : ℕ) (ys : List ℕ) → has_depth v n c ≡ true → IsFullDecomposition v compat (c ∷ []) ys → ys ≡ full v compat n c
   full-only n c ys h is = at_most_one v compat (c ∷ []) ys (full v compat n c) is (decomposes_full n c h)
+
+  -- ---- it is never empty
+
+  full_zero : (c : ℕ) → full v compat zero c ≡ c ∷ []
+  unfolding full
+  full_zero c = refl
+
+  pub full-some : (n c : ℕ) → 0 < length (full v compat n c)
+  full-some zero c = subst (λ l. 0 < length l) (sym (full_zero c)) (omega arith)
+  full-some (suc n) c =
+      elim (cases_Bool (is_final v compat c)) [
+        | inl final ↦ subst (λ l. 0 < length l) (sym (full-final (suc n) c final)) (omega arith)
+        | inr mapped ↦ subst (λ l. 0 < length l) (sym (full-mapped n c mapped)) (flat_map-some (full v compat n) (full-some n) (parts v compat c) mapped)
+      ]
+
+  pub full_of-some : (c : ℕ) → 0 < length (full_of v compat c)
+  unfolding full_of
+  full_of-some c = full-some 32 c
 
   -- ---- where no code point is too deep
 

@@ -1,21 +1,18 @@
 -- The loops over the rows and over the parts of a mapping.
-use Rattle.std.proofs.Common.{◌≡◌, ◌≢◌, ℕ, zero, suc, ◌+◌, ◌-◌, ◌%◌, ◌<◌, ◌≤◌, Bool, true, false, ◌&&◌, ◌==◌, min, List, [], ◌∷◌, ◌++◌, map, flat_map, length, take, drop, get_or, Some, None, refl, sym, ap, ◌∙◌, inl, inr, arith, length-append, append-nil}
+use Rattle.std.proofs.Common.{◌≡◌, ◌≢◌, ℕ, zero, suc, ◌+◌, ◌-◌, ◌%◌, ◌<◌, ◌≤◌, Bool, true, false, ◌&&◌, ◌==◌, min, List, [], ◌∷◌, ◌++◌, map, flat_map, length, take, get_or, None, refl, sym, ap, ◌∙◌, arith, length-append, append-nil}
 use Rattle.std.proofs.lemmas.Bool.{cond-true, cond-false, and_from, eqb-true, eqb-false, eq-eqb, ne_eqb, le-leb, lt-leb}
-use Rattle.std.proofs.lemmas.List.{take_more, take_all, length-map, drop_all}
+use Rattle.std.proofs.lemmas.List.{take_more, take_all, length-map}
 use Rattle.std.proofs.lemmas.List.Folds.{list_all_at, list_all_more}
 use Rattle.std.proofs.lemmas.Grind.{flat_map-append, get_or_default_zero}
 use Rattle.std.proofs.Math.Nat.{min-le_right}
 use Rattle.std.specs.List.{list_all, slice_get}
-use Rattle.std.specs.Option.{option_map}
-use Rattle.std.proofs.lemmas.Option.{slice_get_cases}
 use Rattle.np_ucd.specs.Entries.{Entry, AreRows}
 use Rattle.np_code_points.specs.Hangul.{is_syllable}
 use Rattle.np_tables.specs.Versions.{VersionData, entry_at, mapping_in, is_empty, has_hangul}
 use Rattle.np_tables.specs.Mappings.{has_depth}
 use Rattle.np_tables.specs.inside.FullDecompositions.{full}
-use Rattle.np_tables.specs.inside.Depths.{marked, mark, parts_mark, mapping_mark, row_marks, syllable_depth, syllable_mark, first_row, is_marked}
+use Rattle.np_tables.specs.inside.Depths.{marked, mark, parts_mark, mapping_mark, row_marks, syllable_depth, syllable_mark}
 use Rattle.np_tables.proofs.DepthLemmas.{mark-file, mark-zero, mark-more, mark-length}
-use Rattle.np_tables.proofs.FirstLemmas.{first_row-hit, first_row-miss, first_row-nil}
 
 -- ---- the marks of the rows, one by one
 
@@ -121,46 +118,6 @@ module _ (v : VersionData) (rows : AreRows v.entries) (n c : ℕ) (other : (has_
 
   pub mark-some : (at d : ℕ) → at < length v.entries → slice_get v.entries at ≡ entry_at v.entries c → get_or (row_marks v n) at d ≡ mark v n c
   mark-some at d lt h = row_marks_at v n at d lt ∙ ap (λ o. mapping_mark v n (mapping_in o)) h ∙ sym (mark-file v rows n c other)
-
--- ---- the first row with a mark
-
-first_drop-hit : (p : Entry → Bool) (es : List Entry) (at : ℕ) (e : Entry) → slice_get es at ≡ Some e → p e ≡ true → first_row p (drop at es) ≡ Some e.first
-first_drop-hit p [] at e found h = cc
-first_drop-hit p (f ∷ fs) zero e found h = let same : f ≡ e = cc in ap (λ r. first_row p (r ∷ fs)) same ∙ first_row-hit p e fs h
-first_drop-hit p (f ∷ fs) (suc at) e found h = first_drop-hit p fs at e found h
-
-first_drop-miss : (p : Entry → Bool) (es : List Entry) (at : ℕ) (e : Entry) → slice_get es at ≡ Some e → p e ≡ false → first_row p (drop (suc at) es) ≡ first_row p (drop at es)
-first_drop-miss p [] at e found h = cc
-first_drop-miss p (f ∷ fs) zero e found h =
-    let same : f ≡ e = cc in sym (first_row-miss p f fs (ap p same ∙ h))
-first_drop-miss p (f ∷ fs) (suc at) e found h = first_drop-miss p fs at e found h
-
-module _ (v : VersionData) (n m at : ℕ) where
-  row_marked : (e : Entry) → slice_get v.entries at ≡ Some e → at < length v.entries → get_or (row_marks v n) at 0 ≡ mapping_mark v n e.mapping
-  row_marked e found lt = row_marks_at v n at 0 lt ∙ ap (λ o. mapping_mark v n (mapping_in o)) found
-
-  pub first_marked-hit : at < length v.entries → get_or (row_marks v n) at 0 ≡ m → first_row (is_marked v n m) (drop at v.entries) ≡ option_map (λ e. e.first) (slice_get v.entries at)
-  first_marked-hit lt here =
-      elim (slice_get_cases v.entries at).1 [
-        | inl within ↦
-            first_drop-hit (is_marked v n m) v.entries at within.0 within.2 (eq-eqb _ m (sym (row_marked within.0 within.2 lt) ∙ here))
-            ∙ sym (ap (option_map (λ e. e.first)) within.2)
-        | inr past ↦ absurd (omega arith)
-      ]
-
-  pub first_marked-miss : at < length v.entries → get_or (row_marks v n) at 0 ≢ m → first_row (is_marked v n m) (drop (at + 1) v.entries) ≡ first_row (is_marked v n m) (drop at v.entries)
-  first_marked-miss lt other =
-      let next : at + 1 ≡ suc at = omega arith in
-      ap (λ k. first_row (is_marked v n m) (drop k v.entries)) next
-      ∙ elim (slice_get_cases v.entries at).1 [
-        | inl within ↦
-            first_drop-miss (is_marked v n m) v.entries at within.0 within.2
-            (ne_eqb _ m (λ same. other (row_marked within.0 within.2 lt ∙ same)))
-        | inr past ↦ absurd (omega arith)
-      ]
-
-  pub first_marked-end : length v.entries ≤ at → first_row (is_marked v n m) (drop at v.entries) ≡ None
-  first_marked-end le = ap (first_row (is_marked v n m)) (drop_all at v.entries le) ∙ first_row-nil (is_marked v n m)
 
 -- ---- the mark of a syllable
 

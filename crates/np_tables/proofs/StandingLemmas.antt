@@ -1,22 +1,45 @@
 -- Runs of code points that may follow one another as they are.
-use Rattle.std.proofs.Common.{◌≡◌, ℕ, ◌+◌, ◌-◌, ◌<◌, ◌≤◌, Bool, true, false, suc, List, [], ◌∷◌, ◌++◌, length, get_or, chars, IsUtf8, encode_utf8, encode_utf8_all, All, sym, ap, subst, ◌∙◌, arith, append_assoc, append-nil, length-append, refl, inl, inr}
-use Rattle.std.proofs.lemmas.Str.{chars_past_char, encodes-append, IsUtf8-past_char}
-use Rattle.std.proofs.lemmas.List.{nil_from_length}
+use Rattle.std.proofs.Common.{◌≡◌, ℕ, ◌-◌, ◌<◌, ◌≤◌, Bool, true, false, ◌&&◌, suc, List, [], ◌∷◌, ◌++◌, length, get_or, take, drop, chars, IsUtf8, encode_utf8, encode_utf8_all, All, sym, ap, subst, ◌∙◌, arith, append_assoc, append-nil, length-append, refl, inl, inr}
+use Rattle.std.specs.Str.{IsAscii, IsCharBoundary}
+use Rattle.std.proofs.lemmas.Bool.{and_parts, cases_Bool, cond-false, or_from}
+use Rattle.std.proofs.lemmas.List.{get_or_default, take-append-drop}
+use Rattle.std.proofs.lemmas.Str.{chars-append, chars-IsAscii, chars_past_char, encodes-append, encodes-IsAscii, IsCharBoundary-from_take, IsUtf8-drop, IsUtf8-from_ascii, IsUtf8-past_char}
+use Rattle.np_code_points.specs.Hangul.{is_syllable}
 use Rattle.np_code_points.specs.declared.forms.Form.{Form}
 use Rattle.np_code_points.specs.declared.forms.Form.TheVariants.{Nfd, Nfc, Nfkd, Nfkc}
 use Rattle.np_code_points.specs.Forms.{is_compat, composes}
 use Rattle.np_tables.specs.Boundaries.{IsBoundary, Stays}
 use Rattle.np_tables.specs.Conditions.{IsSound}
-use Rattle.np_tables.specs.Versions.{VersionData, class_of}
+use Rattle.np_tables.specs.Mappings.{is_final}
+use Rattle.np_tables.specs.Standing.{AreStanding, MayFollow, StaysUpTo, Walks}
+use Rattle.np_tables.specs.Versions.{VersionData, class_of, has_hangul}
 use Rattle.np_tables.specs.declared.page_words.Word.{Word}
-use Rattle.np_tables.specs.inside.FullDecompositions.{full_of}
+use Rattle.np_tables.specs.inside.FullDecompositions.{full_of, table_full}
 use Rattle.np_tables.specs.inside.FullLists.{FullLists, of_kind}
-use Rattle.np_tables.specs.inside.Hints.{AreStanding, IsInert, MayFollow, StaysUpTo, Walks}
 use Rattle.np_tables.specs.inside.Pages.{word_place}
 use Rattle.np_tables.specs.inside.PageWords.{AreFollowing, ArePages, Follows, IsAsciiStaying, IsKept, IsPast, IsWord, WordFollows, no_class, no_word}
 use Rattle.np_tables.specs.inside.PageHints.{decomposing, has_bit, stays_place}
-use Rattle.np_tables.proofs.MappingLemmas.{full_of-only}
+use Rattle.np_tables.proofs.HangulLemmas.{by_arithmetic, syllable_hangul}
+use Rattle.np_tables.proofs.MappingLemmas.{full_of-only, full_of-some}
 use Rattle.np_tables.proofs.WalkLemmas.{Walks-append, Walks-weaker}
+
+-- ---- ASCII stands for itself
+
+module _ (text : List ℕ) (n : ℕ) (utf8 : IsUtf8 text) (le : n ≤ length text) (ascii : IsAscii (take n text)) where
+  pub past_boundary : IsCharBoundary text n
+  past_boundary = IsCharBoundary-from_take text n utf8 le (IsUtf8-from_ascii (take n text) ascii)
+
+  pub IsPast-ascii : (P : ℕ → Type 0) (rest : List ℕ) → rest ≡ drop n text → ((c : ℕ) → c < 128 → P c) → IsPast P text rest
+  IsPast-ascii P rest is each =
+      let front = take n text in
+      let whole : text ≡ front ++ rest = sym (take-append-drop n text) ∙ ap (λ l. front ++ l) (sym is) in
+      record {
+        front = front;
+        split = whole ∙ ap (λ l. l ++ rest) (sym (encodes-IsAscii front ascii));
+        text_is = ap chars whole ∙ chars-append front rest (IsUtf8-from_ascii front ascii) ∙ ap (λ l. l ++ chars rest) (chars-IsAscii front ascii);
+        utf8 = subst IsUtf8 (sym is) (IsUtf8-drop text n utf8 past_boundary);
+        passed = λ k d lt. each (get_or front k d) (let low = ascii k in let same = get_or_default front k d 0 lt in omega arith);
+      }
 
 -- ---- what was read of a text is a walk, and `rest` is left
 
@@ -74,9 +97,28 @@ following-stop blocks words form s rest last n r is =
       split = r.bytes;
       text = r.text;
       utf8 = r.utf8;
-      follow = r.walk;
+      walk = r.walk;
       place = omega (arith, is, ap length r.bytes, length-append (encode_utf8_all r.before) rest);
     }
+
+-- ---- a non-starter for which nothing is lent has no mapping
+
+plain_non_starter : (v : VersionData) (c : ℕ) → 0 < class_of v c → (has_hangul v && is_syllable c) ≡ false
+plain_non_starter v c non_starter =
+    elim (cases_Bool (has_hangul v && is_syllable c)) [
+      | inl on ↦ (let both = and_parts (has_hangul v) (is_syllable c) on in absurd (omega (arith, non_starter, (by_arithmetic v both.0 c (syllable_hangul c both.1)).class)))
+      | inr off ↦ off
+    ]
+
+final-lent : (v : VersionData) (compat : Bool) (c : ℕ) → table_full v compat c ≡ [] → (has_hangul v && is_syllable c) ≡ false → is_final v compat c ≡ true
+unfolding table_full
+final-lent v compat c none plain =
+    elim (cases_Bool (is_final v compat c)) [
+      | inl final ↦ final
+      | inr mapped ↦
+          let whole : table_full v compat c ≡ full_of v compat c = cond-false _ _ _ (or_from (is_final v compat c) (has_hangul v && is_syllable c) mapped plain) in
+          absurd (omega (arith, ap length (sym whole ∙ none), full_of-some v compat c))
+    ]
 
 -- ---- what the words say is so
 
@@ -114,10 +156,13 @@ module _ (v u : VersionData) (same : u ≡ v) (lists : FullLists) (blocks : List
               | inr own ↦ inl (up_to-own u pages.sound form c n (word.hints.stays (decomposing (is_compat form)) own) itself)
             ]
         | inr goes ↦
+            let compat = is_compat form in
+            let non_starter = subst (λ k. 0 < k) word.class goes.0 in
+            let none = sym (word.slot.lent compat) ∙ ap (λ k. get_or (of_kind compat lists) k []) goes.1 ∙ pages.none compat in
             inr (
               record {
-                non_starter = subst (λ k. 0 < k) word.class goes.0;
-                unmapped = sym (word.slot.lent (is_compat form)) ∙ ap (λ k. get_or (of_kind (is_compat form) lists) k []) goes.1 ∙ pages.none (is_compat form);
+                non_starter = non_starter;
+                unmapped = final-lent u compat c none (plain_non_starter u c non_starter);
                 apart = λ on. word.apart (goes.2 on);
               },
               goes.3 ∙ word.class,
@@ -134,6 +179,6 @@ module _ (v u : VersionData) (same : u ≡ v) (lists : FullLists) (blocks : List
         split = are.split;
         text = are.text;
         utf8 = are.utf8;
-        settled = subst (λ x. Walks (MayFollow x form) 0 are.front are.end) same (Walks-weaker (Follows blocks words form) (MayFollow u form) word_follows 0 are.end are.front are.follow);
+        walk = subst (λ x. Walks (MayFollow x form) 0 are.front are.end) same (Walks-weaker (Follows blocks words form) (MayFollow u form) word_follows 0 are.end are.front are.walk);
         place = are.place;
       }

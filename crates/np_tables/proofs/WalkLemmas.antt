@@ -1,6 +1,6 @@
 -- Walks over lists.
 use Rattle.std.proofs.Common.{◌≡◌, ℕ, List, [], ◌∷◌, ◌++◌, refl, sym, ap, subst, ◌∙◌}
-use Rattle.np_tables.specs.inside.Hints.{Walks}
+use Rattle.np_tables.specs.Standing.{Walks}
 
 module _ (Step : ℕ → ℕ → ℕ → Type 0) where
   -- a walk goes on with another

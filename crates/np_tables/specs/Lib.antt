@@ -2,9 +2,11 @@ pub mod Boundaries
 pub mod Composites
 pub mod Conditions
 pub mod Counts
+pub mod Examples
 pub mod Faults
 pub mod Laws
 pub mod Mappings
+pub mod Standing
 pub mod TableFaults
 pub mod Versions
 pub mod inside

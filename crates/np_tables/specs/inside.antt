@@ -1,13 +1,11 @@
 pub mod Accessors
 pub mod CompositeSearch
 pub mod Depths
-pub mod Examples
 pub mod FirstFaults
 pub mod FullDecompositions
 pub mod FullLists
 pub mod FullParts
 pub mod HangulRows
-pub mod Hints
 pub mod PageHints
 pub mod PageWords
 pub mod Pages

@@ -54,7 +54,7 @@ fn suspect_at(characters: &CharacterData, pairs: &Pairs, place: usize) -> Option
 
 /// The least code point that is a primary composite with the pair of a smaller primary composite,
 /// syllables of the arithmetic too.
-pub fn first_ambiguous(characters: &CharacterData, pairs: &Pairs) -> Option<u32>
+pub(crate) fn first_ambiguous(characters: &CharacterData, pairs: &Pairs) -> Option<u32>
     requires { AreOfFile characters.now pairs.now }
     ensures { IsFirst (IsAmbiguous characters.now) result }
 {

@@ -26,9 +26,10 @@ fn ascii_in_step(bytes: &[u8], from: usize) -> usize
     }
 }
 
-/// How many bytes at the front are ASCII: all of them, but for the last steps, which may be left.
+/// How many bytes at the front are ASCII. At the end of the bytes fewer than a step are not looked
+/// at, and not counted.
 #[inline(always)]
-pub fn ascii_front(bytes: &[u8]) -> usize
+pub(crate) fn ascii_front(bytes: &[u8]) -> usize
     ensures fits { result ≤ length bytes.now }
     ensures ascii { IsAscii (take result bytes.now) }
 {

@@ -20,7 +20,7 @@ use std::marker::Model;
 
 /// What the two data files say of each code point, whether or not the conditions hold.
 #[derive(Debug, Drop)]
-pub struct CharacterData {
+pub(crate) struct CharacterData {
     rows: RowIndex,
     exclusions: Exclusions,
     hangul: bool,
@@ -40,7 +40,11 @@ impl Model for CharacterData {
 
 impl CharacterData {
     /// What these rows and exclusions say.
-    pub fn new(alloc: Global, rows: Rows, exclusions: Exclusions) -> Result<CharacterData, Memory>
+    pub(crate) fn new(
+        alloc: Global,
+        rows: Rows,
+        exclusions: Exclusions,
+    ) -> Result<CharacterData, Memory>
         ensures { IfOk result (λ v. v ≡ record { entries = rows; exclusions = exclusions }) }
     {
         let rows = RowIndex::new(alloc, rows)?;
@@ -53,14 +57,14 @@ impl CharacterData {
     }
 
     /// Does nothing at run time: the rows are those of a data file, in their order.
-    pub fn are_in_order(&self)
+    pub(crate) fn are_in_order(&self)
         ensures { AreRows self.now.entries }
     {
         let _ = &self.rows;
     }
 
     /// How many rows there are.
-    pub fn len(&self) -> usize
+    pub(crate) fn len(&self) -> usize
         ensures count { result ≡ length self.now.entries }
         ensures rows { AreRows self.now.entries }
     {
@@ -68,14 +72,14 @@ impl CharacterData {
     }
 
     /// The row at a place, from 0.
-    pub fn row(&self, at: usize) -> Option<&Row>
+    pub(crate) fn row(&self, at: usize) -> Option<&Row>
         ensures row { option_map (λ r. entry_of r.now) result ≡ slice_get self.now.entries at }
     {
         self.rows.row(at)
     }
 
     /// The place of the row in which a code point lies.
-    pub fn place_of(&self, code: u32) -> Option<usize>
+    pub(crate) fn place_of(&self, code: u32) -> Option<usize>
         ensures none { IfNone result (entry_at self.now.entries code ≡ None) }
         ensures within { IfSome result (λ at. at < length self.now.entries) }
         ensures row { IfSome result (λ at. slice_get self.now.entries at ≡ entry_at self.now.entries code) }
@@ -91,21 +95,21 @@ impl CharacterData {
     }
 
     /// The row in which a code point lies.
-    pub fn row_at(&self, code: u32) -> Option<&Row>
+    pub(crate) fn row_at(&self, code: u32) -> Option<&Row>
         ensures row { option_map (λ r. entry_of r.now) result ≡ entry_at self.now.entries code }
     {
         self.rows.row_at(code)
     }
 
     /// Whether a row lists the code point.
-    pub fn assigned(&self, code: u32) -> bool
+    pub(crate) fn assigned(&self, code: u32) -> bool
         ensures { result ≡ is_assigned self.now code }
     {
         self.row_at(code).is_some()
     }
 
     /// The combining class, 0 outside the rows.
-    pub fn class(&self, code: u32) -> u8
+    pub(crate) fn class(&self, code: u32) -> u8
         ensures { result ≡ class_of self.now code }
     {
         match self.row_at(code) {
@@ -115,7 +119,7 @@ impl CharacterData {
     }
 
     /// The kind of the mapping as in the file.
-    pub fn kind(&self, code: u32) -> MapKind
+    pub(crate) fn kind(&self, code: u32) -> MapKind
         ensures { result ≡ file_kind self.now code }
     {
         match self.row_at(code) {
@@ -125,7 +129,7 @@ impl CharacterData {
     }
 
     /// The mapping as in the file, empty where there is none.
-    pub fn mapping(&self, code: u32) -> &[char]
+    pub(crate) fn mapping(&self, code: u32) -> &[char]
         ensures { result.now ≡ file_mapping self.now code }
     {
         match self.row_at(code) {
@@ -135,7 +139,7 @@ impl CharacterData {
     }
 
     /// Whether the code point is listed as an exclusion, and has a canonical mapping in the file.
-    pub fn excluded(&self, code: u32) -> bool
+    pub(crate) fn excluded(&self, code: u32) -> bool
         ensures { result ≡ is_excluded self.now code }
     {
         is_canonical(self.kind(code)) && self.is_listed(code)
@@ -149,21 +153,21 @@ impl CharacterData {
     }
 
     /// Whether the code point is assigned, of class 0 and without a mapping in the file.
-    pub fn is_hangul_row(&self, code: u32) -> bool
+    pub(crate) fn is_hangul_row(&self, code: u32) -> bool
         ensures { result ≡ is_hangul_row self.now code }
     {
         self.assigned(code) && self.class(code) == 0 && self.mapping(code).is_empty()
     }
 
     /// Whether the Hangul arithmetic is on.
-    pub fn has_hangul(&self) -> bool
+    pub(crate) fn has_hangul(&self) -> bool
         ensures { result ≡ has_hangul self.now }
     {
         self.hangul
     }
 
     /// Whether the code point is a primary composite, syllables too.
-    pub fn is_primary(&self, code: u32) -> bool
+    pub(crate) fn is_primary(&self, code: u32) -> bool
         ensures { result ≡ is_primary self.now code }
     {
         if self.is_composed(code) {
@@ -173,7 +177,7 @@ impl CharacterData {
     }
 
     /// Whether the code point is a syllable of the arithmetic.
-    pub fn is_composed(&self, code: u32) -> bool
+    pub(crate) fn is_composed(&self, code: u32) -> bool
         ensures on { result ≡ (has_hangul self.now && in_block code) }
         ensures rows { AreRows self.now.entries }
     {

@@ -5,7 +5,7 @@ ghost use Rattle.np_tables.specs.Counts.{assigned_count as spec_assigned_count};
 use crate::characters::CharacterData;
 
 /// How many code points the rows list.
-pub fn assigned_count(characters: &CharacterData) -> u32
+pub(crate) fn assigned_count(characters: &CharacterData) -> u32
     ensures { result ≡ spec_assigned_count characters.now }
 {
     let mut count = 0;

@@ -1,7 +1,8 @@
 //! How deep mappings go, and how long full decompositions are.
-ghost use Rattle.std.specs.Prelude.{◌≡◌, ◌+◌, ◌<◌, ◌≤◌, ◌&&◌, true, None, length, option_map, slice_get, IfOk};
+ghost use Rattle.std.specs.Prelude.{◌≡◌, ◌+◌, ◌++◌, ◌≤◌, ◌&&◌, true, None, length, option_map, slice_get, IfOk};
 ghost use Rattle.np_ucd.specs.Entries.{AreRows};
 ghost use Rattle.np_code_points.specs.Hangul.{is_syllable as in_block};
+ghost use Rattle.np_code_points.specs.inside.LineCuts.{after_byte, before_byte};
 ghost use Rattle.np_tables.specs.inside.Depths.{first_row, is_marked, mapping_mark, mark, parts_mark as mark_of_parts, row_marks, syllable_mark as mark_of_syllable};
 ghost use Rattle.np_tables.specs.Faults.{IsTooDeep, IsTooLong};
 ghost use Rattle.np_tables.specs.inside.FirstFaults.{IsFirst};
@@ -10,6 +11,7 @@ ghost use Rattle.np_tables.specs.Versions.{mapping_in};
 use crate::characters::CharacterData;
 use np_code_points::Memory;
 use np_code_points::hangul::{S_BASE, T_COUNT};
+use np_code_points::lines::cut;
 use std::alloc::Global;
 
 /// No depth may be greater.
@@ -23,7 +25,7 @@ const TOO_LONG: u8 = 65;
 
 /// The first code points that are too deep or too long, `None` where there is none.
 #[derive(Clone, Copy, Debug)]
-pub struct DepthFaults {
+pub(crate) struct DepthFaults {
     /// The least code point whose depth is over 32; a cycle is too deep.
     pub too_deep: Option<u32>,
     /// The least code point that is not too deep and has a full compatibility decomposition of
@@ -32,7 +34,7 @@ pub struct DepthFaults {
 }
 
 /// The first code points that are too deep or too long.
-pub fn depth_faults(alloc: Global, characters: &CharacterData) -> Result<DepthFaults, Memory>
+pub(crate) fn depth_faults(alloc: Global, characters: &CharacterData) -> Result<DepthFaults, Memory>
     ensures too_deep { IfOk result (λ f. IsFirst (IsTooDeep characters.now) f.too_deep) }
     ensures too_long { IfOk result (λ f. IsFirst (IsTooLong characters.now) f.too_long) }
 {
@@ -48,15 +50,11 @@ fn first_marked(characters: &CharacterData, marks: &[u8], wanted: u8) -> Option<
     requires { marks.now ≡ row_marks characters.now 32 }
     ensures { result ≡ first_row (is_marked characters.now 32 wanted) characters.now.entries }
 {
-    for (at, mark) in marks.iter().enumerate() {
-        if *mark == wanted {
-            return first_at(characters, at);
-        }
-    }
-    None
+    let (passed, _found) = cut(marks, wanted);
+    first_at(characters, passed.len())
 }
 
-/// The first code point of a row.
+/// The first code point of the row at a place, `None` behind the last row.
 fn first_at(characters: &CharacterData, at: usize) -> Option<u32>
     ensures { result ≡ option_map (λ e. e.first) (slice_get characters.now.entries at) }
 {
@@ -107,7 +105,19 @@ fn bare_marks(alloc: Global, characters: &CharacterData) -> Result<Vec<u8>, Memo
     Ok(marks)
 }
 
-/// The marks of the rows in the round after this one.
+/// Appends the marks in front of the first that is not known, and answers those behind it, `None`
+/// where all are known.
+fn take_known<'a>(left: &'a [u8], next: &mut Vec<u8>) -> Result<Option<&'a [u8]>, Memory>
+    ensures known { IfOk result (λ _. next.new.items ≡ next.old.items ++ before_byte 0 left.now) }
+    ensures later { IfOk result (λ later. option_map (λ rest. rest.now) later ≡ after_byte 0 left.now) }
+{
+    let (known, later) = cut(left, 0);
+    next.extend_from_slice(known)?;
+    Ok(later)
+}
+
+/// The marks of the rows in the round after this one. A mark that is known stays, so that few rows
+/// are looked at.
 fn next_marks(
     alloc: Global,
     characters: &CharacterData,
@@ -118,28 +128,14 @@ fn next_marks(
     requires marks { marks.now ≡ row_marks characters.now round }
     ensures { IfOk result (λ m. m.items ≡ row_marks characters.now (round + 1)) }
 {
-    let count = characters.len();
-    let mut next = Vec::with_capacity(alloc, count)?;
-    for at in 0..count {
-        next.push(row_mark(characters, marks, round, at))?;
+    let mut next = Vec::with_capacity(alloc, characters.len())?;
+    let mut left = marks;
+    while let Some(later) = take_known(left, &mut next)? {
+        let mapping = mapping_at(characters, next.len());
+        next.push(next_mark(characters, marks, round, mapping))?;
+        left = later;
     }
     Ok(next)
-}
-
-/// The mark of the row at a place in the round after this one. A mark that is known stays, so that
-/// few rows are looked at.
-fn row_mark(characters: &CharacterData, marks: &[u8], round: u32, at: usize) -> u8
-    requires rows { AreRows characters.now.entries }
-    requires marks { marks.now ≡ row_marks characters.now round }
-    requires place { at < length characters.now.entries }
-    ensures { result ≡ mapping_mark characters.now (round + 1) (mapping_in (slice_get characters.now.entries at)) }
-{
-    let known = marks[at];
-    if known == 0 {
-        next_mark(characters, marks, round, mapping_at(characters, at))
-    } else {
-        known
-    }
 }
 
 /// The mark of a mapping in the round after this one.

@@ -74,7 +74,7 @@ impl From<Memory> for TableFault {
 
 /// The least code point with each kind of fault.
 #[derive(Clone, Copy, Debug)]
-pub struct FirstFaults {
+pub(crate) struct FirstFaults {
     pub mapped: Option<u32>,
     pub deep: Option<u32>,
     pub long: Option<u32>,
@@ -106,7 +106,7 @@ fn sooner(first: Option<TableFault>, second: Option<TableFault>) -> Option<Table
 }
 
 /// The fault at the least code point, and of those there the one with the least number.
-pub fn least_fault(firsts: &FirstFaults) -> Option<TableFault>
+pub(crate) fn least_fault(firsts: &FirstFaults) -> Option<TableFault>
     ensures { result ≡ spec_least_fault firsts.now }
 {
     let mapped = firsts

@@ -35,7 +35,7 @@ fn first_faults(
 
 /// The fault at the least code point, and of those there the one with the least number; `pairs`
 /// are the primary composites of the file.
-pub fn fault_of(
+pub(crate) fn fault_of(
     alloc: Global,
     characters: &CharacterData,
     pairs: &Pairs,

@@ -21,7 +21,7 @@ const DEPTH: usize = 32;
 
 /// A part of a flat list: from the place `start` up to the place `end`.
 #[derive(Clone, Copy, Debug)]
-pub struct Part {
+pub(crate) struct Part {
     /// The place of its first code point.
     pub start: usize,
     /// The place behind its last one.
@@ -30,7 +30,7 @@ pub struct Part {
 
 /// What a table lends for the code point of each row, in one flat list.
 #[derive(Debug, Drop)]
-pub struct Fulls {
+pub(crate) struct Fulls {
     pub(crate) codes: Vec<char>,
     pub(crate) canonical: Vec<Part>,
     pub(crate) compatible: Vec<Part>,
@@ -53,7 +53,7 @@ impl Fulls {
     ghost use Rattle.np_tables.specs.inside.FullLists.{AreFulls, of_kind};
 
     /// Those of the rows of a data file.
-    pub fn new(alloc: Global, characters: &CharacterData) -> Result<Fulls, Memory>
+    pub(crate) fn new(alloc: Global, characters: &CharacterData) -> Result<Fulls, Memory>
         ensures { IfOk result (AreFulls characters.now) }
     {
         let mut codes = Vec::new(alloc);
@@ -67,7 +67,7 @@ impl Fulls {
     }
 
     /// What is lent for the row at a place, from 0.
-    pub fn lent(&self, at: usize, compat: bool) -> &[char]
+    pub(crate) fn lent(&self, at: usize, compat: bool) -> &[char]
         requires { at < length (of_kind compat self.now) }
         ensures { result.now ≡ slice_index_or (of_kind compat self.now) at [] }
     {
@@ -133,7 +133,7 @@ fn expand(
 }
 
 /// Whether a table lends something for the code point of a row.
-pub fn is_lent(row: &Row, compat: bool) -> bool
+pub(crate) fn is_lent(row: &Row, compat: bool) -> bool
     ensures mapped { IsTrue result → row.now.mapping.items ≢ [] }
     ensures value { result ≡ (counts compat row.now.kind && not (is_empty row.now.mapping.items)) }
 {
@@ -141,7 +141,7 @@ pub fn is_lent(row: &Row, compat: bool) -> bool
 }
 
 /// Appends what a table lends for the code point of a row.
-pub fn push_full(
+pub(crate) fn push_full(
     characters: &CharacterData,
     compat: bool,
     row: &Row,

@@ -22,7 +22,7 @@ fn has_some(characters: &CharacterData) -> bool
 }
 
 /// The least syllable or jamo that is not as the arithmetic wants it, where some is assigned.
-pub fn first_wrong(characters: &CharacterData) -> Option<u32>
+pub(crate) fn first_wrong(characters: &CharacterData) -> Option<u32>
     ensures { IsFirst (IsHangulWrong characters.now) result }
 {
     // where the arithmetic is on, all of them were found right once

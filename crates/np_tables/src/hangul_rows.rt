@@ -8,13 +8,13 @@ use crate::row_index::RowIndex;
 use np_code_points::hangul::{L_BASE, L_COUNT, S_BASE, S_COUNT, T_BASE, T_COUNT, V_BASE, V_COUNT};
 
 /// How many syllables and jamo there are.
-pub const HANGUL_COUNT: u32 = JAMO_COUNT + S_COUNT;
+pub(crate) const HANGUL_COUNT: u32 = JAMO_COUNT + S_COUNT;
 
 /// How many jamo there are.
 const JAMO_COUNT: u32 = L_COUNT + V_COUNT + T_COUNT - 1;
 
 /// The syllable or jamo at a place, from 0, by code point.
-pub fn hangul_at(place: u32) -> u32
+pub(crate) fn hangul_at(place: u32) -> u32
     requires { place < 11239 }
     ensures { result ≡ spec_hangul_at place }
 {
@@ -41,7 +41,7 @@ fn is_right(rows: &RowIndex, code: u32) -> bool
 
 /// Whether all syllables and jamo are assigned, of class 0 and without a mapping, which no
 /// exclusion changes.
-pub fn all_right(rows: &RowIndex) -> bool
+pub(crate) fn all_right(rows: &RowIndex) -> bool
     ensures { (spans : List Span) → result ≡ has_hangul (record { entries = rows.now; exclusions = spans }) }
 {
     for place in 0..HANGUL_COUNT {

@@ -24,8 +24,6 @@ pub mod laws;
 mod mapped_faults;
 mod page_bits;
 mod page_hints;
-mod page_runs;
-mod page_settled;
 mod page_slots;
 mod page_table;
 mod page_words;
@@ -40,8 +38,8 @@ mod tables;
 #[cfg(test)]
 mod tests;
 mod version;
+mod word_bits;
 
-pub use characters::CharacterData;
 pub use faults::TableFault;
 pub use page_table::PageTable;
 pub use row_table::RowTable;

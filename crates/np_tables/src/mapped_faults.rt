@@ -20,7 +20,7 @@ fn are_assigned(characters: &CharacterData, mapping: &[char]) -> bool
 }
 
 /// The least code point whose mapping holds an unassigned code point.
-pub fn first_lacking(characters: &CharacterData) -> Option<u32>
+pub(crate) fn first_lacking(characters: &CharacterData) -> Option<u32>
     ensures { IsFirst (IsMappedToUnassigned characters.now) result }
 {
     for at in 0..characters.len() {

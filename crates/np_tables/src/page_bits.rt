@@ -22,7 +22,7 @@ fn touches(row: &Row, first: u32, last: u32) -> bool
 
 /// Whether no code point of a row is the second part of a primary composite: that of a syllable
 /// stands from 1161 to 11C2.
-pub fn is_row_apart(row: &Row, second: bool) -> bool
+pub(crate) fn is_row_apart(row: &Row, second: bool) -> bool
     ensures { result ≡ spec_is_row_apart (entry_of row.now) second }
 {
     !second && !touches(row, 0x1161, 0x11C2)
@@ -100,7 +100,7 @@ fn bare_bits(version: &Version, row: &Row, own: Hints, leads_apart: bool) -> u8
 }
 
 /// The bits of the code points of the row at a place, from 0.
-pub fn row_bits(
+pub(crate) fn row_bits(
     version: &Version,
     fulls: &Fulls,
     seconds: &[bool],

@@ -5,7 +5,7 @@ ghost use Rattle.np_code_points.specs.declared.forms.Form.{Form};
 ghost use Rattle.np_tables.specs.Boundaries.{FoldsTo, NeverFalls};
 ghost use Rattle.np_tables.specs.Mappings.{IsFullDecomposition};
 ghost use Rattle.np_tables.specs.Versions.{class_of};
-ghost use Rattle.np_tables.specs.inside.PageHints.{AreHints, AreLeadsApart, FoldsBy, IsApart, bit as spec_bit, eight_bits as spec_eight_bits, four_bits as spec_four_bits, is_late_jamo as spec_is_late_jamo, own_hints as spec_own_hints, parts_place as spec_parts_place, stays_place as spec_stays_place};
+ghost use Rattle.np_tables.specs.inside.PageHints.{AreHints, AreLeadsApart, FoldsBy, IsApart, bit as spec_bit, decomposing, eight_bits as spec_eight_bits, four_bits as spec_four_bits, is_late_jamo as spec_is_late_jamo, own_hints as spec_own_hints, parts_place as spec_parts_place, stays_place as spec_stays_place};
 ghost use Rattle.np_tables.specs.inside.PageWords.{AreSeconds};
 
 use crate::pairs::Pairs;
@@ -15,7 +15,7 @@ use np_code_points::hangul::{L_BASE, L_COUNT};
 
 /// What is known of a code point under the two forms of one kind of decomposition.
 #[derive(Clone, Copy, Debug)]
-pub struct Hints {
+pub(crate) struct Hints {
     /// The form that only decomposes parts before it.
     pub parts: bool,
     /// The form that composes too parts before it.
@@ -27,7 +27,7 @@ pub struct Hints {
 }
 
 /// Nothing is known.
-pub const NO_HINTS: Hints = Hints {
+pub(crate) const NO_HINTS: Hints = Hints {
     parts: false,
     parts_composing: false,
     stays: false,
@@ -44,7 +44,7 @@ const PARTING: Hints = Hints {
 
 /// A syllable of the arithmetic: it begins with a leading consonant, which goes into nothing, and
 /// comes back where the form composes.
-pub const SYLLABLE: Hints = Hints {
+pub(crate) const SYLLABLE: Hints = Hints {
     parts: true,
     parts_composing: true,
     stays: false,
@@ -52,7 +52,7 @@ pub const SYLLABLE: Hints = Hints {
 };
 
 /// What is known of a code point without a mapping of the kind.
-pub fn own_hints(class: u8, apart: bool) -> Hints
+pub(crate) fn own_hints(class: u8, apart: bool) -> Hints
     ensures { result ≡ spec_own_hints class apart }
 {
     let starter = class == 0;
@@ -89,7 +89,7 @@ fn is_apart(version: &Version, seconds: &[bool], code: u32) -> bool
 }
 
 /// Whether the leading consonants of syllables are known to be second parts of no primary composite.
-pub fn are_leads_apart(version: &Version, seconds: &[bool]) -> bool
+pub(crate) fn are_leads_apart(version: &Version, seconds: &[bool]) -> bool
     requires { AreSeconds version.now seconds.now }
     ensures { IsTrue result → AreLeadsApart version.now }
 {
@@ -166,7 +166,7 @@ fn hints_by_parts(
 }
 
 /// What is known of a code point by its full decomposition.
-pub fn list_hints(version: &Version, seconds: &[bool], list: &[char], own: char) -> Hints
+pub(crate) fn list_hints(version: &Version, seconds: &[bool], list: &[char], own: char) -> Hints
     requires { AreSeconds version.now seconds.now }
     ensures { (compat : Bool) → IsFullDecomposition version.now compat (own ∷ []) list.now → AreHints version.now compat own result }
 {
@@ -195,14 +195,14 @@ fn four_bits(hints: Hints) -> u8
 }
 
 /// The hints of both kinds of decomposition in eight bits.
-pub fn eight_bits(canonical: Hints, compatible: Hints) -> u8
+pub(crate) fn eight_bits(canonical: Hints, compatible: Hints) -> u8
     ensures { result ≡ spec_eight_bits canonical compatible }
 {
     four_bits(canonical) + 16 * four_bits(compatible)
 }
 
 /// Which bit tells whether a form parts before a code point.
-pub fn parts_place(form: Form) -> u32
+pub(crate) fn parts_place(form: Form) -> u32
     ensures place { result ≡ spec_parts_place form }
     ensures bound { result < 8 }
 {
@@ -215,7 +215,7 @@ pub fn parts_place(form: Form) -> u32
 }
 
 /// Which bit tells whether a form leaves a code point as it is.
-pub fn stays_place(form: Form) -> u32
+pub(crate) fn stays_place(form: Form) -> u32
     ensures place { result ≡ spec_stays_place form }
     ensures bound { result < 8 }
 {
@@ -225,4 +225,12 @@ pub fn stays_place(form: Form) -> u32
         Form::Nfkd => 6,
         Form::Nfkc => 7,
     }
+}
+
+/// Which bit tells whether the form that only decomposes leaves a code point as it is.
+pub(crate) fn own_place(compat: bool) -> u32
+    ensures place { result ≡ spec_stays_place (decomposing compat) }
+    ensures bound { result < 8 }
+{
+    stays_place(if compat { Form::Nfkd } else { Form::Nfd })
 }

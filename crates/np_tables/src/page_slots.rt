@@ -57,7 +57,10 @@ fn push_row(
 
 /// What a table lends for the code points of the rows that have a mapping, and for each row the
 /// slot where that stands: slot 0, which is empty, for those without a mapping.
-pub fn slots_of(alloc: Global, characters: &CharacterData) -> Result<(Fulls, Vec<u32>), Memory>
+pub(crate) fn slots_of(
+    alloc: Global,
+    characters: &CharacterData,
+) -> Result<(Fulls, Vec<u32>), Memory>
     ensures { IfOk result (λ r. AreSlots characters.now (length characters.now.entries) r.0 r.1.items) }
 {
     let none = Part { start: 0, end: 0 };

@@ -4,15 +4,14 @@ ghost use Rattle.std.specs.Prelude.{◌≡◌, true, IfOk};
 ghost use Rattle.np_tables.specs.inside.PageWords.{ArePages, IsAsciiStaying};
 
 use crate::fulls::Fulls;
-use crate::page_hints::{parts_place, stays_place};
-use crate::page_runs::{has_bit, is_ascii_kept, kept_front};
-use crate::page_settled::{own_place, settled_front};
+use crate::page_hints::parts_place;
 use crate::page_slots::slots_of;
 use crate::page_words::{Word, page_words, row_words, second_rows, word_of};
 use crate::standing_runs::{is_ascii_staying, standing_front};
 use crate::syllables::arithmetic_pair;
 use crate::tables::NormTable;
 use crate::version::Version;
+use crate::word_bits::has_bit;
 use np_code_points::{Form, Memory};
 use std::alloc::Global;
 use std::marker::Model;
@@ -23,7 +22,8 @@ use std::marker::Model;
 /// its full decompositions stand, which are shared where both kinds are the same.
 ///
 /// It takes some 0.9 MiB beside its version for the files of Unicode 15. Each call takes constant
-/// time, but `pair`, which searches by halves where the pair shares its slot with others.
+/// time, but `pair`, which searches by halves where the pair shares its slot with others, and
+/// `standing`, which reads what it counts.
 #[derive(Debug, Drop)]
 pub struct PageTable {
     version: Version,
@@ -32,24 +32,20 @@ pub struct PageTable {
     /// The words, block by block.
     words: Vec<Word>,
     fulls: Fulls,
-    /// Whether NFD leaves all ASCII as it is.
-    ascii_canonical: bool,
-    /// Whether NFKD does.
-    ascii_compatible: bool,
     /// Whether all ASCII stays under every form.
     ascii: bool,
     ghost ascii_stays: { ascii ≡ true → IsAsciiStaying index.items words.items },
 }
 
 impl Model for PageTable {
-    ghost use Rattle.np_tables.specs.inside.PageWords.{IsPageTable};
+    ghost use Rattle.np_tables.specs.inside.PageWords.{ArePages};
     ghost use Rattle.np_tables.specs.Versions.{VersionData};
 
     ghost Value = { VersionData };
 
     ghost view = { λ a. a.version };
 
-    ghost invariant = { λ a. IsPageTable a.version a.fulls a.index.items a.words.items a.ascii_canonical a.ascii_compatible };
+    ghost invariant = { λ a. ArePages a.version a.fulls a.index.items a.words.items };
 }
 
 /// What a table keeps of a version that is lent: the blocks' numbers, their words, and the full
@@ -77,16 +73,12 @@ impl PageTable {
         ensures { IfOk result (λ t. t ≡ version) }
     {
         let (index, words, fulls) = pages_of(alloc, &version)?;
-        let ascii_canonical = is_ascii_kept(&index, &words, own_place(false));
-        let ascii_compatible = is_ascii_kept(&index, &words, own_place(true));
         let ascii = is_ascii_staying(&index, &words);
         Ok(PageTable {
             version,
             index,
             words,
             fulls,
-            ascii_canonical,
-            ascii_compatible,
             ascii,
         })
     }
@@ -131,19 +123,6 @@ impl NormTable for PageTable {
             word_of(&self.index, &self.words, c).hints,
             parts_place(form),
         )
-    }
-
-    fn staying(&self, form: Form, text: &str) -> usize {
-        kept_front(&self.index, &self.words, stays_place(form), text)
-    }
-
-    fn settled(&self, compat: bool, text: &str) -> usize {
-        let ascii = if compat {
-            self.ascii_compatible
-        } else {
-            self.ascii_canonical
-        };
-        settled_front(&self.index, &self.words, compat, ascii, text)
     }
 
     fn standing(&self, form: Form, text: &str) -> usize {

@@ -17,7 +17,7 @@ const BLOCK: usize = 256;
 
 /// What stands for a code point. All code points of a row have the same word.
 #[derive(Clone, Copy, Debug)]
-pub struct Word {
+pub(crate) struct Word {
     /// The slot of its full decompositions.
     pub fulls: u32,
     /// Its combining class.
@@ -40,7 +40,7 @@ const NO_WORD: Word = Word {
 };
 
 /// For each row whether one of its code points is the second part of a composite.
-pub fn second_rows(alloc: Global, version: &Version) -> Result<Vec<bool>, Memory>
+pub(crate) fn second_rows(alloc: Global, version: &Version) -> Result<Vec<bool>, Memory>
     ensures { IfOk result (λ seconds. AreSeconds version.now seconds.items) }
 {
     let characters = version.characters();
@@ -71,7 +71,7 @@ fn word_of_row(version: &Version, at: usize, slot: u32, second: bool, hints: u8)
 }
 
 /// The word for code points without a row, and behind it the words of the rows.
-pub fn row_words(
+pub(crate) fn row_words(
     alloc: Global,
     version: &Version,
     fulls: &Fulls,
@@ -94,7 +94,11 @@ pub fn row_words(
 }
 
 /// The words of all blocks, by the row numbers that stand there.
-pub fn page_words(alloc: Global, words: &[Word], numbers: &[u32]) -> Result<Vec<Word>, Memory>
+pub(crate) fn page_words(
+    alloc: Global,
+    words: &[Word],
+    numbers: &[u32],
+) -> Result<Vec<Word>, Memory>
     ensures { IfOk result (λ paged. paged.items ≡ paged_words words.now numbers.now) }
 {
     let mut paged = Vec::with_capacity(alloc, numbers.len())?;
@@ -116,7 +120,7 @@ fn word_at(words: &[Word], number: u32) -> Word
 
 /// The word of a code point.
 #[inline(always)]
-pub fn word_of(blocks: &[u16], words: &[Word], c: char) -> Word
+pub(crate) fn word_of(blocks: &[u16], words: &[Word], c: char) -> Word
     requires { AreWithin 4352 blocks.now (length words.now) }
     ensures { result ≡ slice_index_or words.now (word_place blocks.now c) no_word }
 {

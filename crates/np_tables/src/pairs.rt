@@ -15,7 +15,7 @@ use std::marker::Model;
 
 /// A primary composite, after the two code points of its mapping.
 #[derive(Clone, Copy, Debug, PartialEq, Eq, PartialOrd, Ord)]
-pub struct Composite {
+pub(crate) struct Composite {
     /// The first code point of the mapping.
     pub first: char,
     /// The second code point of the mapping.
@@ -90,7 +90,7 @@ fn have_numbers(slots: &[u16], composites: &[Composite]) -> bool
 
 /// Primary composites in the order of their pairs, and of the composites where pairs are equal.
 #[derive(Debug, Drop)]
-pub struct Pairs {
+pub(crate) struct Pairs {
     composites: Vec<Composite>,
     /// Where a pair is looked for first.
     slots: Vec<u16>,
@@ -115,7 +115,7 @@ impl Model for Pairs {
 
 impl Pairs {
     /// Those of a data file.
-    pub fn new(alloc: Global, characters: &CharacterData) -> Result<Pairs, Memory>
+    pub(crate) fn new(alloc: Global, characters: &CharacterData) -> Result<Pairs, Memory>
         ensures { IfOk result (AreOfFile characters.now) }
     {
         characters.are_in_order();
@@ -140,7 +140,7 @@ impl Pairs {
     }
 
     /// How many composites there are.
-    pub fn len(&self) -> usize
+    pub(crate) fn len(&self) -> usize
         ensures count { result ≡ length self.now }
         ensures order { AreOrdered self.now }
     {
@@ -148,7 +148,7 @@ impl Pairs {
     }
 
     /// The composite at a place, from 0.
-    pub fn at(&self, place: usize) -> Composite
+    pub(crate) fn at(&self, place: usize) -> Composite
         requires { place < length self.now }
         ensures place { slice_get self.now place ≡ Some result }
         ensures range { IsInRange result }
@@ -192,7 +192,7 @@ impl Pairs {
     }
 
     /// A composite of the list with this pair. Its slot tells most, and halving the rest.
-    pub fn find(&self, first: char, second: char) -> Option<char>
+    pub(crate) fn find(&self, first: char, second: char) -> Option<char>
         ensures some { IfSome result (Lists self.now first second) }
         ensures none { IfNone result ((code : ℕ) → ¬ (Lists self.now first second code)) }
     {

@@ -14,7 +14,7 @@ use std::marker::Model;
 
 /// The rows of a data file, with the place of the row of each code point.
 #[derive(Debug, Drop)]
-pub struct RowIndex {
+pub(crate) struct RowIndex {
     rows: Rows,
     pages: RowPages,
 }
@@ -33,7 +33,7 @@ impl Model for RowIndex {
 
 impl RowIndex {
     /// The index of these rows.
-    pub fn new(alloc: Global, rows: Rows) -> Result<RowIndex, Memory>
+    pub(crate) fn new(alloc: Global, rows: Rows) -> Result<RowIndex, Memory>
         ensures value { IfOk result (λ r. r ≡ rows) }
         ensures rows { IfOk result AreRows }
     {
@@ -43,14 +43,14 @@ impl RowIndex {
     }
 
     /// The row numbers of all code points.
-    pub fn pages(&self) -> &RowPages
+    pub(crate) fn pages(&self) -> &RowPages
         ensures { AreRowPages self.now result.now.index.items result.now.numbers.items }
     {
         &self.pages
     }
 
     /// How many rows there are.
-    pub fn len(&self) -> usize
+    pub(crate) fn len(&self) -> usize
         ensures count { result ≡ length self.now }
         ensures rows { AreRows self.now }
     {
@@ -58,14 +58,14 @@ impl RowIndex {
     }
 
     /// The row at a place, from 0.
-    pub fn row(&self, at: usize) -> Option<&Row>
+    pub(crate) fn row(&self, at: usize) -> Option<&Row>
         ensures row { option_map (λ r. entry_of r.now) result ≡ slice_get self.now at }
     {
         self.rows.get(at)
     }
 
     /// The place of the row in which a code point lies.
-    pub fn place_of(&self, code: u32) -> Option<usize>
+    pub(crate) fn place_of(&self, code: u32) -> Option<usize>
         ensures none { IfNone result (entry_at self.now code ≡ None) }
         ensures within { IfSome result (λ at. at < length self.now) }
         ensures row { IfSome result (λ at. slice_get self.now at ≡ entry_at self.now code) }
@@ -83,7 +83,7 @@ impl RowIndex {
     }
 
     /// The row in which a code point lies.
-    pub fn row_at(&self, code: u32) -> Option<&Row>
+    pub(crate) fn row_at(&self, code: u32) -> Option<&Row>
         ensures row { option_map (λ r. entry_of r.now) result ≡ entry_at self.now code }
     {
         match self.place_of(code) {

@@ -22,7 +22,7 @@ const ROOM: usize = 65536;
 /// Block 0 serves all 256 code points that have no row, and one block all that lie in the midst
 /// of a range; so the blocks of a published file take a quarter of a MiB.
 #[derive(Debug, Drop)]
-pub struct RowPages {
+pub(crate) struct RowPages {
     /// For each 256 code points the number of their block.
     pub index: Vec<u16>,
     /// The row numbers, block by block.
@@ -137,7 +137,7 @@ impl RowPages {
     }
 
     /// The pages of these rows.
-    pub fn new(alloc: Global, rows: &Rows) -> Result<RowPages, Memory>
+    pub(crate) fn new(alloc: Global, rows: &Rows) -> Result<RowPages, Memory>
         requires rows { AreRows rows.now }
         ensures { IfOk result (λ p. AreRowPages rows.now p.index.items p.numbers.items) }
     {
@@ -150,7 +150,7 @@ impl RowPages {
     }
 
     /// The row number of a code point.
-    pub fn number_of(&self, code: u32) -> u32
+    pub(crate) fn number_of(&self, code: u32) -> u32
         requires code { code < 0x110000 }
         requires within { AreWithin 4352 self.now.index.items (length self.now.numbers.items) }
         ensures { result ≡ slice_index self.now.numbers.items (word_place self.now.index.items code) }

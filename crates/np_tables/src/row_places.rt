@@ -8,7 +8,7 @@ use crate::characters::CharacterData;
 use np_ucd::Row;
 
 /// The row at a place, from 0.
-pub fn row_in(characters: &CharacterData, at: usize) -> &Row
+pub(crate) fn row_in(characters: &CharacterData, at: usize) -> &Row
     requires { at < length characters.now.entries }
     ensures place { slice_get characters.now.entries at ≡ Some (entry_of result.now) }
     ensures row { IsRow (entry_of result.now) }
@@ -22,7 +22,7 @@ pub fn row_in(characters: &CharacterData, at: usize) -> &Row
 }
 
 /// The code point of a row with a mapping.
-pub fn mapped_code(row: &Row) -> char
+pub(crate) fn mapped_code(row: &Row) -> char
     requires row { IsRow (entry_of row.now) }
     requires mapped { row.now.mapping.items ≢ [] }
     ensures { result ≡ row.now.first }

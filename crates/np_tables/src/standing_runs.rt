@@ -9,14 +9,13 @@ ghost use Rattle.np_tables.specs.inside.Pages.{AreWithin};
 ghost use Rattle.np_tables.specs.inside.WordLooks.{IsLook};
 
 use crate::ascii_runs::ascii_front;
-use crate::page_hints::stays_place;
-use crate::page_runs::{has_bit, is_ascii_kept};
-use crate::page_settled::own_place;
+use crate::page_hints::{own_place, stays_place};
 use crate::page_words::{Word, word_of};
+use crate::word_bits::{has_bit, is_ascii_kept};
 use np_code_points::Form;
 
-/// Behind a code point of whose full decomposition the last class is not looked up: all classes
-/// are below.
+/// Stands for the last class in the full decomposition of a code point that has another one: that
+/// class is not looked up, and no class is greater.
 const NO_CLASS: u8 = 255;
 
 /// What a scan for a form asks of a word.
@@ -76,7 +75,7 @@ fn class_at(blocks: &[u16], words: &[Word], look: Look, c: char, last: u8) -> Op
 }
 
 /// Whether all ASCII stays under every form.
-pub fn is_ascii_staying(blocks: &[u16], words: &[Word]) -> bool
+pub(crate) fn is_ascii_staying(blocks: &[u16], words: &[Word]) -> bool
     requires { AreWithin 4352 blocks.now (length words.now) }
     ensures { IsTrue result → IsAsciiStaying blocks.now words.now }
 {
@@ -96,7 +95,13 @@ fn behind_ascii(text: &str) -> &str
 
 /// How many bytes at the front of a text are code points that may follow one another as they are.
 /// `ascii` tells that all ASCII stays, which is then passed in steps.
-pub fn standing_front(blocks: &[u16], words: &[Word], ascii: bool, form: Form, text: &str) -> usize
+pub(crate) fn standing_front(
+    blocks: &[u16],
+    words: &[Word],
+    ascii: bool,
+    form: Form,
+    text: &str,
+) -> usize
     requires within { AreWithin 4352 blocks.now (length words.now) }
     requires ascii { ascii ≡ true → IsAsciiStaying blocks.now words.now }
     ensures { AreFollowing blocks.now words.now form text.now result }

@@ -7,7 +7,7 @@ use crate::characters::CharacterData;
 use np_code_points::hangul::{hangul_pair, hangul_parts};
 
 /// The pair of a syllable of the arithmetic.
-pub fn arithmetic_parts(characters: &CharacterData, code: char) -> Option<(char, char)>
+pub(crate) fn arithmetic_parts(characters: &CharacterData, code: char) -> Option<(char, char)>
     ensures none { IfNone result ((has_hangul characters.now && is_syllable code) ≡ false) }
     ensures some { IfSome result (λ p. (has_hangul characters.now && is_syllable code) ≡ true) }
     ensures pair { IfSome result (λ p. syllable_pair code ≡ p.0 ∷ p.1 ∷ []) }
@@ -20,7 +20,7 @@ pub fn arithmetic_parts(characters: &CharacterData, code: char) -> Option<(char,
 }
 
 /// The syllable of the arithmetic that maps to a pair.
-pub fn arithmetic_pair(characters: &CharacterData, first: char, second: char) -> Option<char>
+pub(crate) fn arithmetic_pair(characters: &CharacterData, first: char, second: char) -> Option<char>
     ensures some { IfSome result (λ s. (has_hangul characters.now && is_syllable s) ≡ true) }
     ensures pair { IfSome result (λ s. syllable_pair s ≡ first ∷ second ∷ []) }
     ensures none { IfNone result ((s : ℕ) → (has_hangul characters.now && is_syllable s) ≡ true → ¬ (syllable_pair s ≡ first ∷ second ∷ [])) }

@@ -1,37 +1,20 @@
 //! What normalization asks of a version.
-ghost use Rattle.std.specs.Prelude.{◌≡◌, ℕ, List, Bool, Option, IfSome, IfNone, IsTrue};
+ghost use Rattle.std.specs.Prelude.{◌≡◌, ℕ, IfSome, IfNone, IsTrue};
 ghost use Rattle.np_code_points.specs.declared.forms.Form.{Form};
 ghost use Rattle.np_tables.specs.Boundaries.{IsBoundary};
 ghost use Rattle.np_tables.specs.Composites.{IsCompositeOf};
 ghost use Rattle.np_tables.specs.inside.CompositeSearch.{composite};
 ghost use Rattle.np_tables.specs.Conditions.{IsSound};
 ghost use Rattle.np_tables.specs.Mappings.{IsLent};
-ghost use Rattle.np_tables.specs.inside.Hints.{AreSettled, AreStanding, AreStaying};
+ghost use Rattle.np_tables.specs.Standing.{AreStanding};
 ghost use Rattle.np_tables.specs.inside.FullDecompositions.{table_full};
 ghost use Rattle.np_tables.specs.Versions.{VersionData, class_of, has_hangul, is_assigned};
 
 use crate::version::Version;
 use np_code_points::Form;
 
-/// No byte at the front of a text, whose code points stay whatever the version and the form are.
+/// No byte at the front of a text: nothing stands there, whatever the version and the form are.
 fn claim_nothing(text: &str) -> usize
-    ensures { (v : VersionData) (form : Form) → AreStaying v form text.now result }
-{
-    let _unused = text;
-    0
-}
-
-/// No byte at the front of a text: nothing is in canonical order before anything.
-fn settle_nothing(text: &str) -> usize
-    ensures { (v : VersionData) (compat : Bool) → AreSettled v compat text.now result }
-{
-    let _unused = text;
-    0
-}
-
-/// No byte at the front of a text, whose code points may stand in a form as they are whatever the
-/// version and the form are.
-fn claim_none_standing(text: &str) -> usize
     ensures { (v : VersionData) (form : Form) → AreStanding v form text.now result }
 {
     let _unused = text;
@@ -89,27 +72,6 @@ pub trait NormTable {
         false
     }
 
-    /// How many bytes at the front of a text are code points that a form is known to leave as they
-    /// are (UAX #15, section 9.1). A table may answer less, down to 0.
-    fn staying(&self, form: Form, text: &str) -> usize
-        ensures { AreStaying (model self.now) form text.now result }
-    {
-        // the same
-        let _unused = form;
-        claim_nothing(text)
-    }
-
-    /// How many bytes at the front of a text are their own full decomposition, of one kind, and in
-    /// canonical order, whatever follows (The Unicode Standard, D68, D65 and D109). A table may
-    /// answer less, down to 0.
-    fn settled(&self, compat: bool, text: &str) -> usize
-        ensures { AreSettled (model self.now) compat text.now result }
-    {
-        // the same
-        let _unused = compat;
-        settle_nothing(text)
-    }
-
     /// How many bytes at the front of a text are known to stand in the form as they are, if a
     /// boundary or nothing follows: code points that stay, and behind them non-starters in canonical
     /// order that compose with nothing. A table may answer less, down to 0.
@@ -118,7 +80,7 @@ pub trait NormTable {
     {
         // the same
         let _unused = form;
-        claim_none_standing(text)
+        claim_nothing(text)
     }
 }
 
@@ -152,14 +114,6 @@ impl<T: NormTable> NormTable for &T {
 
     fn is_boundary(&self, form: Form, c: char) -> bool {
         (**self).is_boundary(form, c)
-    }
-
-    fn staying(&self, form: Form, text: &str) -> usize {
-        (**self).staying(form, text)
-    }
-
-    fn settled(&self, compat: bool, text: &str) -> usize {
-        (**self).settled(compat, text)
     }
 
     fn standing(&self, form: Form, text: &str) -> usize {

@@ -82,7 +82,7 @@ impl Version {
     }
 
     /// What the two files say of each code point.
-    pub fn characters(&self) -> &CharacterData
+    pub(crate) fn characters(&self) -> &CharacterData
         ensures same { result.now ≡ self.now }
         ensures sound { IsSound self.now }
     {

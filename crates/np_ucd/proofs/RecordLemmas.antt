@@ -1,5 +1,5 @@
 -- From what was read of a record to the tests that fit it.
-use Rattle.std.proofs.Common.{◌≡◌, ◌≢◌, ℕ, Bool, true, false, not, List, [], ◌∷◌, length, get_or, Option, Some, None, is_none, unwrap_or, sym, ap, ◌∙◌}
+use Rattle.std.proofs.Common.{◌≡◌, ◌≢◌, ℕ, Bool, true, false, not, List, [], ◌∷◌, length, get_or, Option, Some, None, is_none, unwrap_or, sym, ap, ◌∙◌, arith}
 use Rattle.std.proofs.lemmas.Bool.{cond-true, cond-false, ne_eqb, eq-eqb}
 use Rattle.np_code_points.specs.Codes.{code_value}
 use Rattle.np_ucd.specs.Entries.{Entry, Plain}
@@ -20,10 +20,10 @@ pub fields_none : (xs : List ℕ) → after_byte 59 xs ≡ None → length (fiel
 unfolding fields_of
 fields_none xs h = ap length (split_cut (is_byte 59) xs ∙ ap (λ o. before_byte 59 xs ∷ rest_parts (is_byte 59) o) h)
 
-pub fifteen : (text rest a b c d e f : List ℕ) → fields_of text ≡ a ∷ b ∷ c ∷ d ∷ e ∷ f ∷ fields_of rest → length (fields_of text) ≡ 15 → (length (fields_of text) ≡ 15) × (a ≡ field 0 text) × (b ≡ field 1 text) × (c ≡ field 2 text) × (d ≡ field 3 text) × (f ≡ field 5 text)
+pub fifteen : (text rest a b c d e f : List ℕ) → fields_of text ≡ a ∷ b ∷ c ∷ d ∷ e ∷ f ∷ fields_of rest → length (fields_of rest) ≡ 9 → (length (fields_of text) ≡ 15) × (a ≡ field 0 text) × (b ≡ field 1 text) × (c ≡ field 2 text) × (d ≡ field 3 text) × (f ≡ field 5 text)
 unfolding field
-fifteen text rest a b c d e f h count = (
-  count,
+fifteen text rest a b c d e f h nine = (
+  omega (arith, ap length h, nine),
   sym (ap (λ ps. get_or ps 0 []) h),
   sym (ap (λ ps. get_or ps 1 []) h),
   sym (ap (λ ps. get_or ps 2 []) h),

@@ -1,5 +1,7 @@
 //! The records of UnicodeData.txt.
-ghost use Rattle.std.specs.Prelude.{◌≡◌, ◌≢◌, ◌∷◌, ◌⊎◌, length, option_map, ◌==◌, IfOk, IfErr, MatchOption, Some, None};
+ghost use Rattle.std.specs.Prelude.{◌≡◌, ◌≢◌, ◌∷◌, ◌⊎◌, length, option_map, ◌==◌, IfOk, IfErr, IsTrue, MatchOption, Some, None};
+ghost use Rattle.std.specs.List.{prefix_len};
+ghost use Rattle.np_code_points.specs.inside.LineCuts.{is_other};
 ghost use Rattle.np_ucd.specs.RowValues.{entry_of};
 ghost use Rattle.np_ucd.specs.inside.FieldReading.{fields_of as parts};
 ghost use Rattle.np_ucd.specs.inside.RecordReading.{field, is_at_most as at_most, is_open as open_before, differs as differ, late_tests, first_that_fits, first_code as first, record_fault, neighbour_of, row_of};
@@ -57,12 +59,43 @@ fn next_field(rest: &[u8]) -> Option<(&[u8], &[u8])>
     Some((field, rest?))
 }
 
-/// Whether a line has fifteen fields.
-#[tactic(auto, unfolding(crate::specs::inside::FieldReading::fields_of))]
-fn has_fifteen(text: &[u8]) -> bool
-    ensures { result ≡ (length (parts text.now) == 15) }
+/// The place of the first `;`; the number of bytes where there is none. It looks at one byte after
+/// the other, which is quicker than steps of many where few stand in front of the `;`.
+fn separator_place(rest: &[u8]) -> usize
+    ensures { result ≡ prefix_len (is_other 59) rest.now }
 {
-    count(text, b';') == 14
+    let mut at = 0;
+    while at < rest.len() && rest[at] != b';' {
+        at += 1;
+    }
+    at
+}
+
+/// The first field, and what is behind its `;`, where the field is short as a rule.
+fn next_short_field(rest: &[u8]) -> Option<(&[u8], &[u8])>
+    ensures { MatchOption result (length (parts rest.now) ≡ 1) (λ p. parts rest.now ≡ p.0.now ∷ parts p.1.now) }
+{
+    let at = separator_place(rest);
+    if at < rest.len() {
+        Some((&rest[..at], &rest[at + 1..]))
+    } else {
+        None
+    }
+}
+
+/// Whether these are the last nine fields of nearly every record: of them Bidi_Mirrored alone is
+/// filled.
+fn are_usual(rest: &[u8]) -> bool
+    ensures { IsTrue result → (length (parts rest.now) ≡ 9) }
+{
+    rest.len() == 9 && rest.starts_with(b";;;N;;;;;")
+}
+
+/// Whether there are nine fields, as behind the mapping. Those of most records need no counting.
+fn has_nine(rest: &[u8]) -> bool
+    ensures { result ≡ (length (parts rest.now) == 9) }
+{
+    are_usual(rest) || count(rest, b';') == 8
 }
 
 /// The fields of a line that has fifteen.
@@ -71,15 +104,15 @@ fn fields_of(text: &[u8]) -> Option<Fields<'_>>
         (λ f. (length (parts text.now) ≡ 15) × (f.code.now ≡ field 0 text.now) × (f.name.now ≡ field 1 text.now)
         × (f.category.now ≡ field 2 text.now) × (f.class.now ≡ field 3 text.now) × (f.mapping.now ≡ field 5 text.now)) }
 {
-    if !has_fifteen(text) {
-        return None;
-    }
     let (code, rest) = next_field(text)?;
     let (name, rest) = next_field(rest)?;
-    let (category, rest) = next_field(rest)?;
-    let (class, rest) = next_field(rest)?;
-    let (_bidi, rest) = next_field(rest)?;
-    let (mapping, _rest) = next_field(rest)?;
+    let (category, rest) = next_short_field(rest)?;
+    let (class, rest) = next_short_field(rest)?;
+    let (_bidi, rest) = next_short_field(rest)?;
+    let (mapping, rest) = next_short_field(rest)?;
+    if !has_nine(rest) {
+        return None;
+    }
     Some(Fields {
         code,
         name,

@@ -125,10 +125,6 @@ starts_within schedule starts n stands over same i lt =
     let within = stands.starts i 0 (omega (arith, lt, ap length same)) in
     omega (arith, within, over, ap (λ l. get_or l i 0) same)
 
-pub names_within : (schedule : ScheduleData) (starts : List ℕ) (events : List Event) → IsStandable schedule → starts ≡ schedule.starts → events ≡ schedule.events → NameNodes (length starts) events
-names_within schedule starts events stands same all =
-    subst (λ es. NameNodes (length starts) es) (sym all) (subst (λ l. NameNodes (length l) schedule.events) (sym same) stands.events)
-
 abbrev pub rules_with : {T : Type 0} → List T → Form → ℕ → Rules T
 rules_with tables form room = record { tables = tables; form = form; room = room }
 

@@ -1,22 +1,53 @@
--- What `audit` makes and why it is refused, behind an old version that was built.
-use Rattle.std.proofs.Common.{inl, inr, string_bytes, Result, Ok, Err, IfOk, IfErr}
+-- What `audit` makes and why it is refused, by what became of the old version and of the new one.
+use Rattle.std.proofs.Common.{[], ◌∷◌, inl, inr, refl, string_bytes, Result, Ok, Err, IfOk, IfErr}
+use Rattle.std.proofs.lemmas.List.Elements.{All-cons, All-nil}
 use Rattle.np_tables.specs.Versions.{VersionData}
-use Rattle.npss.specs.Audits.{AuditReaders, MakesAudit, RefusesAudit}
-use Rattle.npss.specs.Versions.{WasBuilt}
+use Rattle.npss.specs.Audits.{MakesAudit, RefusesAudit}
+use Rattle.npss.specs.Chains.{AreUntouched, LacksOne, VersionReaders}
+use Rattle.npss.specs.Streams.{IsUntouched}
+use Rattle.npss.specs.Versions.{IsVersionFault, WasBuilt}
 use Rattle.npss.specs.inside.AuditSteps.{LacksAgainst, MakesAgainst}
 use Rattle.npss.specs.declared.jobs.ending.Made.{Made}
 use Rattle.npss.specs.declared.jobs.faults.JobFault.{JobFault}
+use Rattle.npss.specs.declared.jobs.faults.VersionFault.{VersionFault}
 
-pub refused_against : (readers : AuditReaders) (old : VersionData) (made : Result Made JobFault) → WasBuilt readers.old_data_file readers.old_exclusions_file old
-    → IfErr made (LacksAgainst readers.new_data_file readers.new_exclusions_file) → IfErr made (RefusesAudit readers)
-refused_against readers old (Ok m) built h = tt
-refused_against readers old (Err fault) built h = elim h [
-  | inl new ↦ inr (inl (record { version_fault = new.0; is = new.1; old = old; old_built = built; refused = new.2 }))
-  | inr lacks ↦ inr (inr (record { is = lacks.0; old = old; new = lacks.1.0; built = record { old_built = built; new_built = lacks.1.1 } }))
+-- the old version was refused, and the new one's files not looked at
+pub lacks_old : (old new : VersionReaders) (fault : VersionFault) → IsVersionFault 0 old.data_file old.exclusions_file fault → IsUntouched new.data_file → IsUntouched new.exclusions_file
+    → LacksOne (old ∷ new ∷ []) fault
+lacks_old old new fault refused data_file exclusions_file = record {
+  before = [];
+  here = old;
+  behind = new ∷ [];
+  are = refl;
+  versions = [];
+  built = tt;
+  refused = refused;
+  untouched = All-cons AreUntouched new [] (data_file, exclusions_file) (All-nil AreUntouched);
+}
+
+-- the old version was built, and the new one refused
+lacks_new : (old new : VersionReaders) (v : VersionData) (fault : VersionFault) → WasBuilt old.data_file old.exclusions_file v → IsVersionFault 1 new.data_file new.exclusions_file fault
+    → LacksOne (old ∷ new ∷ []) fault
+lacks_new old new v fault built refused = record {
+  before = old ∷ [];
+  here = new;
+  behind = [];
+  are = refl;
+  versions = v ∷ [];
+  built = (built, tt);
+  refused = refused;
+  untouched = All-nil AreUntouched;
+}
+
+pub refused_against : (old new : VersionReaders) (v : VersionData) (made : Result Made JobFault) → WasBuilt old.data_file old.exclusions_file v
+    → IfErr made (LacksAgainst new.data_file new.exclusions_file) → IfErr made (RefusesAudit (old ∷ new ∷ []))
+refused_against old new v (Ok m) built h = tt
+refused_against old new v (Err fault) built h = elim h [
+  | inl lacks ↦ inl (lacks.0, lacks.1, lacks_new old new v lacks.0 built lacks.2)
+  | inr lacks ↦ inr (lacks.0, (v ∷ lacks.1.0 ∷ [], (built, (lacks.1.1, tt))))
 ]
 
-pub made_against : (readers : AuditReaders) (old : VersionData) (made : Result Made JobFault) → WasBuilt readers.old_data_file readers.old_exclusions_file old
-    → IfOk made (MakesAgainst old readers.new_data_file readers.new_exclusions_file) → IfOk made (λ m. MakesAudit readers m.is_yes (string_bytes m.text))
-made_against readers old (Ok m) built h =
-    record { old = old; new = h.new; built = record { old_built = built; new_built = h.built }; is = h.is }
-made_against readers old (Err fault) built h = tt
+pub made_against : (old new : VersionReaders) (v : VersionData) (made : Result Made JobFault) → WasBuilt old.data_file old.exclusions_file v
+    → IfOk made (MakesAgainst v new.data_file new.exclusions_file) → IfOk made (λ m. MakesAudit (old ∷ new ∷ []) m.is_yes (string_bytes m.text))
+made_against old new v (Ok m) built h = record { old = v; new = h.new; built = (built, (h.built, tt)); is = h.is }
+made_against old new v (Err fault) built h = tt

@@ -1,9 +1,9 @@
 -- From what a job made, or why it was refused, to its end.
-use Rattle.std.proofs.Common.{◌≡◌, ℕ, inl, inr, Bool, List, Option, Result, Ok, Err, IfOk, IfErr, string_bytes, ap}
+use Rattle.std.proofs.Common.{◌≡◌, ℕ, inl, inr, Bool, false, List, Option, Result, Ok, Err, IfOk, IfErr, string_bytes, ap}
 use Rattle.np_code_points.specs.Watched.{device_of, has_failed}
 use Rattle.np_code_points.specs.declared.channels.watched.Watched.{Watched}
 use Rattle.npss.specs.Ends.{Ends}
-use Rattle.npss.specs.Streams.{Stream, stream_of}
+use Rattle.npss.specs.Streams.{IsUntouched, Stream, stream_of}
 use Rattle.npss.specs.inside.Endings.{EndsWith}
 use Rattle.npss.specs.declared.jobs.ending.Made.{Made}
 use Rattle.npss.specs.declared.jobs.faults.JobFault.{JobFault}
@@ -11,6 +11,10 @@ use Rattle.npss.specs.declared.jobs.faults.JobFault.{JobFault}
 -- a stream goes by the devices, and not by the marks before
 pub same_stream : {D : Type 0} (tells : D → Option (List ℕ)) (a b new : Watched D) → device_of a ≡ device_of b → stream_of tells a new ≡ stream_of tells b new
 same_stream tells a b new e = ap (λ d. record { before = tells d; after = tells (device_of new); failed = has_failed new }) e
+
+-- a device whose mark alone was taken away
+pub untouched : {D : Type 0} (tells : D → Option (List ℕ)) (old new : Watched D) → device_of new ≡ device_of old → has_failed new ≡ false → IsUntouched (stream_of tells old new)
+untouched tells old new device clear = record { same = ap tells device; clear = clear }
 
 -- the end of a job that makes this, or is refused for this
 pub ends : (Makes : Bool → List ℕ → Type 0) (Refuses : JobFault → Type 0) (made : Result Made JobFault) (output error : Stream) (status : ℕ)

@@ -74,4 +74,4 @@ pub refused_of_files : {D : Type 0} (tells : D → Option (List ℕ)) (cleared o
 refused_of_files tells cleared old new readers tables slice fault device same built lacks =
     let versions : map (λ (t : VersionData). t) slice ≡ tables = map-id slice ∙ same in
     let half = subst (λ vs. LacksReport (stream_of tells cleared new) vs fault) versions lacks in
-    inr (record { replay_fault = fault; is = refl; versions = tables; built = built; refused = subst (λ s. LacksReport s tables fault) (same_stream tells cleared old new device) half })
+    inr (tables, built, (fault, refl, subst (λ s. LacksReport s tables fault) (same_stream tells cleared old new device) half))

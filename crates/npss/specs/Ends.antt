@@ -1,8 +1,7 @@
 -- How a job ends that makes its whole output before the first write.
 use Rattle.std.specs.Prelude.{◌≡◌, ℕ, ◌⊎◌, Bool, false, List, if◌then◌else◌}
-use Rattle.npss.specs.Lines.{is_told_freely, line_of, memory_line}
-use Rattle.npss.specs.Statuses.{status_of}
 use Rattle.npss.specs.Streams.{Stream, IsUntouched, WasWritten, WasCutShort}
+use Rattle.npss.specs.Tellings.{memory_line, telling_of}
 use Rattle.npss.specs.declared.jobs.faults.JobFault.{JobFault}
 use Rattle.npss.specs.declared.jobs.faults.JobFault.TheVariants.{WriteFailed}
 
@@ -17,8 +16,8 @@ IsTold error line = WasWritten error line ⊎ WasCutShort error line
 -- a refusal is told in its line, with its status; where memory lacks for the line, as want of memory
 abbrev pub IsRefused : JobFault → Stream → ℕ → Type 0
 IsRefused fault error status =
-    (IsTold error (line_of fault) × (status ≡ status_of fault))
-    ⊎ (IsTold error memory_line × (status ≡ 6) × (is_told_freely fault ≡ false))
+    (IsTold error (telling_of fault).line × (status ≡ (telling_of fault).status))
+    ⊎ (IsTold error memory_line × (status ≡ 6) × ((telling_of fault).is_fixed ≡ false))
 
 -- the output was written, and nothing is told
 pub record IsDone (Makes : Bool → List ℕ → Type 0) (output error : Stream) (status : ℕ) : Type 0 where

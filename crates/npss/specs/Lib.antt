@@ -4,13 +4,14 @@ pub mod Commands
 pub mod Comparisons
 pub mod Ends
 pub mod Keys
-pub mod Lines
 pub mod NormalForms
 pub mod Replays
 pub mod Statuses
 pub mod Streams
+pub mod Tellings
 pub mod Texts
 pub mod Usage
 pub mod Versions
 pub mod Words
+pub mod Wraps
 pub mod inside

@@ -45,23 +45,12 @@ pub record IsNormalizedInPart (form : Form) (readers : TextReaders) (output : St
   pub read : (run_fault ≡ Runs.ReadFailed) ↔ (readers.input.failed ≡ true)
   pub written : (run_fault ≡ Runs.WriteFailed) ↔ (output.failed ≡ true)
 
--- the version was refused, and nothing was read of the input or written
-pub record IsNotBegun (readers : TextReaders) (output : Stream) (fault : JobFault) : Type 0 where
-  pub lacks : LacksVersion readers fault
-  pub untouched : IsUntouched output
+-- the run ended early; or the version was refused, and nothing was read of the input or written
+abbrev pub IsStopped : Form → TextReaders → Stream → JobFault → Type 0
+IsStopped form readers output fault = IsNormalizedInPart form readers output fault ⊎ (LacksVersion readers fault × IsUntouched output)
 
--- the job stopped, and why is told
-pub record IsStopped (form : Form) (readers : TextReaders) (output error : Stream) (status : ℕ) : Type 0 where
-  pub fault : JobFault
-  pub cause : IsNormalizedInPart form readers output fault ⊎ IsNotBegun readers output fault
-  pub told : IsRefused fault error status
-
--- the job is done, and nothing is told
-pub record IsDoneWhole (form : Form) (readers : TextReaders) (output error : Stream) (status : ℕ) : Type 0 where
-  pub normalized : IsNormalized form readers output
-  pub silent : IsUntouched error
-  pub status_is : status ≡ 0
-
--- `normalize`: the normal form of the input, written as it is read
+-- `normalize`: the normal form of the input, written as it is read, and nothing is told; or the job stopped, and why is told
 abbrev pub NormalizeEnds : Form → TextReaders → Stream → Stream → ℕ → Type 0
-NormalizeEnds form readers output error status = IsDoneWhole form readers output error status ⊎ IsStopped form readers output error status
+NormalizeEnds form readers output error status =
+    (IsNormalized form readers output × IsUntouched error × (status ≡ 0))
+    ⊎ ((fault : JobFault) × IsStopped form readers output fault × IsRefused fault error status)

@@ -4,7 +4,6 @@ use Rattle.std.specs.List.{AllZip}
 use Rattle.np_chain.specs.Chain.{IsChain, IsFirstBroken}
 use Rattle.np_chain.specs.declared.breaks.Break.{Break}
 use Rattle.np_code_points.specs.declared.forms.Form.{Form}
-use Rattle.np_code_points.specs.declared.channels.input.InputFault.{InputFault}
 use Rattle.np_tables.specs.Versions.{VersionData}
 use Rattle.np_world.specs.Events.{ScheduleData}
 use Rattle.np_world.specs.ReportTexts.{report_lines}
@@ -16,11 +15,11 @@ use Rattle.np_world.specs.declared.replies.Reply.{Reply}
 use Rattle.npss.specs.Chains.{LacksOne, VersionReaders, WereBuilt}
 use Rattle.npss.specs.Ends.{Ends}
 use Rattle.npss.specs.Streams.{Stream, IsUntouched, WasNotRead, WasRead}
+use Rattle.npss.specs.Wraps.{Wraps}
 use Rattle.npss.specs.declared.jobs.faults.JobFault.{JobFault}
 use Rattle.npss.specs.declared.jobs.faults.JobFault.TheVariants.{Version, Replay}
 use Rattle.npss.specs.declared.jobs.faults.ReplayFault.{ReplayFault}
 use Rattle.npss.specs.declared.jobs.faults.ReplayFault.TheVariants.{NotExtension, Schedule, Line, Memory}
-use Rattle.npss.specs.declared.jobs.faults.VersionFault.{VersionFault}
 
 -- the readers of a job over a schedule and versions
 pub record ReplayReaders : Type 0 where
@@ -48,11 +47,6 @@ pub record IsReplay (form : Form) (versions : List VersionData) (schedule : Sche
   pub told : AllZip (IsNodeTold last form) world.nodes nodes
   pub bytes_are : bytes ≡ report_lines replies nodes
 
--- the versions were built, and are a chain
-pub record AreInChain (readers : ReplayReaders) (versions : List VersionData) : Type 0 where
-  pub built : WereBuilt readers.versions versions
-  pub chain : IsChain versions
-
 -- the schedule's file was read, and says this schedule over so many versions
 pub record WasScheduled (schedule_file : Stream) (count : ℕ) (schedule : ScheduleData) : Type 0 where
   pub script : List ℕ
@@ -62,7 +56,8 @@ pub record WasScheduled (schedule_file : Stream) (count : ℕ) (schedule : Sched
 
 pub record MakesReplay (form : Form) (readers : ReplayReaders) (is_yes : Bool) (bytes : List ℕ) : Type 0 where
   pub versions : List VersionData
-  pub chain : AreInChain readers versions
+  pub built : WereBuilt readers.versions versions
+  pub chain : IsChain versions
   pub schedule : ScheduleData
   pub scheduled : WasScheduled readers.schedule_file (length versions) schedule
   pub is : IsReplay form versions schedule bytes
@@ -70,54 +65,30 @@ pub record MakesReplay (form : Form) (readers : ReplayReaders) (is_yes : Bool) (
 
 -- ---- what is refused, in this order
 
--- a version was refused, and the schedule not looked at
-pub record LacksVersions (readers : ReplayReaders) (fault : JobFault) : Type 0 where
-  pub version_fault : VersionFault
-  pub is : fault ≡ Version version_fault
-  pub refused : LacksOne readers.versions version_fault
-  pub untouched : IsUntouched readers.schedule_file
-
--- all versions were built, one doesn't extend the one before, and the schedule was not looked at
-pub record LacksChain (schedule_file : Stream) (versions : List VersionData) (fault : ReplayFault) : Type 0 where
-  pub place : ℕ
-  pub brk : Break
-  pub is : fault ≡ NotExtension place brk
-  pub broken : IsFirstBroken versions place brk
-  pub untouched : IsUntouched schedule_file
-
--- the schedule's file was not read whole
-pub record IsUnscheduled (schedule_file : Stream) (fault : ReplayFault) : Type 0 where
-  pub input_fault : InputFault
-  pub is : fault ≡ Schedule input_fault
-  pub refused : WasNotRead schedule_file input_fault
+-- one version doesn't extend the one before, and the schedule was not looked at
+abbrev pub LacksChain : Stream → List VersionData → ReplayFault → Type 0
+LacksChain schedule_file versions fault =
+    ((place : ℕ) × (brk : Break) × (fault ≡ NotExtension place brk) × IsFirstBroken versions place brk) × IsUntouched schedule_file
 
 -- a first line that can't stand; or memory ran out
 abbrev pub LacksLine : List ℕ → ℕ → ReplayFault → Type 0
-LacksLine script count fault = ((line : ℕ) × (fault ≡ Line line) × IsFaultyLine script count line) ⊎ (fault ≡ Memory)
+LacksLine script count fault = Wraps Line (IsFaultyLine script count) fault ⊎ (fault ≡ Memory)
 
--- it was read whole, and is refused
-pub record HasScheduleFault (schedule_file : Stream) (count : ℕ) (fault : ReplayFault) : Type 0 where
-  pub script : List ℕ
-  pub read : WasRead schedule_file script
-  pub cause : LacksLine script count fault
-
+-- the schedule's file was not read whole; or it was, and is refused
 abbrev pub LacksSchedule : Stream → ℕ → ReplayFault → Type 0
-LacksSchedule schedule_file count fault = IsUnscheduled schedule_file fault ⊎ HasScheduleFault schedule_file count fault
+LacksSchedule schedule_file count fault =
+    Wraps Schedule (WasNotRead schedule_file) fault ⊎ ((script : List ℕ) × WasRead schedule_file script × LacksLine script count fault)
 
--- versions that were built are no chain, or the schedule is not replayed over their chain
+-- versions are no chain, or the schedule is not replayed over their chain
 abbrev pub LacksReport : Stream → List VersionData → ReplayFault → Type 0
 LacksReport schedule_file versions fault =
     LacksChain schedule_file versions fault ⊎ (IsChain versions × LacksSchedule schedule_file (length versions) fault)
 
-pub record LacksReplay (readers : ReplayReaders) (fault : JobFault) : Type 0 where
-  pub replay_fault : ReplayFault
-  pub is : fault ≡ Replay replay_fault
-  pub versions : List VersionData
-  pub built : WereBuilt readers.versions versions
-  pub refused : LacksReport readers.schedule_file versions replay_fault
-
+-- a version was refused, and the schedule not looked at; or all were built, and give no report
 abbrev pub RefusesReplay : ReplayReaders → JobFault → Type 0
-RefusesReplay readers fault = LacksVersions readers fault ⊎ LacksReplay readers fault
+RefusesReplay readers fault =
+    (Wraps Version (LacksOne readers.versions) fault × IsUntouched readers.schedule_file)
+    ⊎ ((versions : List VersionData) × WereBuilt readers.versions versions × Wraps Replay (LacksReport readers.schedule_file versions) fault)
 
 -- `replay`: the machine's run over the schedule, as text
 abbrev pub ReplayEnds : Form → ReplayReaders → Stream → Stream → ℕ → Type 0

@@ -1,4 +1,4 @@
--- The statuses of refusals: 1 for versions that don't extend one another, 3 for a code point that is not assigned, 4 for bad data, text or schedule, 5 for a device that failed, 6 for want of memory.
+-- The statuses of refusals: 1 for versions that don't extend one another, 3 for a code point that is not assigned, 4 for bad data, text or schedule, 5 for a device that failed, 6 for want of memory. Here those of files and tables.
 use Rattle.std.specs.Prelude.{ℕ}
 use Rattle.np_code_points.specs.declared.channels.input.InputFault.{InputFault}
 use Rattle.np_code_points.specs.declared.channels.input.InputFault.TheVariants as Inputs
@@ -6,12 +6,6 @@ use Rattle.np_tables.specs.declared.faults.TableFault.{TableFault}
 use Rattle.np_tables.specs.declared.faults.TableFault.TheVariants as Tables
 use Rattle.np_ucd.specs.declared.faults.UcdFault.{UcdFault}
 use Rattle.np_ucd.specs.declared.faults.UcdFault.TheVariants as Files
-use Rattle.npss.specs.declared.jobs.faults.JobFault.{JobFault}
-use Rattle.npss.specs.declared.jobs.faults.JobFault.TheVariants.{Version, Text, Replay, WriteFailed, Memory}
-use Rattle.npss.specs.declared.jobs.faults.ReplayFault.{ReplayFault}
-use Rattle.npss.specs.declared.jobs.faults.ReplayFault.TheVariants as Replays
-use Rattle.npss.specs.declared.jobs.faults.TextFault.{TextFault}
-use Rattle.npss.specs.declared.jobs.faults.TextFault.TheVariants as Texts
 use Rattle.npss.specs.declared.jobs.faults.VersionFault.{VersionFault}
 use Rattle.npss.specs.declared.jobs.faults.VersionFault.TheVariants as Versions
 
@@ -47,26 +41,3 @@ abbrev pub version_status : VersionFault → ℕ
 version_status (Versions.Data version fault) = file_status fault
 version_status (Versions.Exclusions version fault) = file_status fault
 version_status (Versions.Tables version fault) = tables_status fault
-
-abbrev pub text_status : TextFault → ℕ
-text_status (Texts.Input fault) = input_status fault
-text_status (Texts.NotUtf8 at) = 4
-text_status Texts.TwoLinesWanted = 4
-text_status (Texts.Unassigned at code) = 3
-text_status (Texts.FirstUnassigned at code) = 3
-text_status (Texts.SecondUnassigned at code) = 3
-text_status Texts.Memory = 6
-
-abbrev pub replay_status : ReplayFault → ℕ
-replay_status (Replays.NotExtension version brk) = 1
-replay_status (Replays.Schedule fault) = input_status fault
-replay_status (Replays.Line line) = 4
-replay_status Replays.Memory = 6
-
--- the status of a refusal
-abbrev pub status_of : JobFault → ℕ
-status_of (Version fault) = version_status fault
-status_of (Text fault) = text_status fault
-status_of (Replay fault) = replay_status fault
-status_of WriteFailed = 5
-status_of Memory = 6

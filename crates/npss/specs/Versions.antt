@@ -13,6 +13,7 @@ use Rattle.np_ucd.specs.Reading.{IsRefused}
 use Rattle.np_ucd.specs.declared.faults.UcdFault.{UcdFault}
 use Rattle.np_ucd.specs.declared.faults.UcdFault.TheVariants.{ReadFailed}
 use Rattle.npss.specs.Streams.{Stream, IsUntouched, WasRead}
+use Rattle.npss.specs.Wraps.{Wraps}
 use Rattle.npss.specs.declared.jobs.faults.VersionFault.{VersionFault}
 use Rattle.npss.specs.declared.jobs.faults.VersionFault.TheVariants.{Data, Exclusions, Tables}
 
@@ -41,34 +42,20 @@ pub record WasRefused (IsFault : List ℕ → UcdFault → Type 0) (file : Strea
   pub how : IsRefused IsFault file.before file.after fault
   pub failed : (fault ≡ ReadFailed) ↔ (file.failed ≡ true)
 
--- the data file was refused
-pub record IsDataFault (number : ℕ) (data_file : Stream) (fault : VersionFault) : Type 0 where
-  pub file_fault : UcdFault
-  pub is : fault ≡ Data number file_fault
-  pub refused : WasRefused IsFirstFault data_file file_fault
-
--- the exclusions file was refused
-pub record IsExclusionsFault (number : ℕ) (exclusions_file : Stream) (fault : VersionFault) : Type 0 where
-  pub file_fault : UcdFault
-  pub is : fault ≡ Exclusions number file_fault
-  pub refused : WasRefused IsFirstBadLine exclusions_file file_fault
-
 -- the tables have this fault, the least one, or memory ran out
-pub record IsTablesFault (number : ℕ) (v : VersionData) (fault : VersionFault) : Type 0 where
-  pub table_fault : TableFault
-  pub is : fault ≡ Tables number table_fault
-  pub refused : (table_fault ≡ Memory) ⊎ IsLeastFault v table_fault
+abbrev pub IsTablesFault : VersionData → TableFault → Type 0
+IsTablesFault v fault = (fault ≡ Memory) ⊎ IsLeastFault v fault
 
 -- the tables that the two files make were refused
 pub record HasTablesFault (number : ℕ) (data_file exclusions_file : Stream) (fault : VersionFault) : Type 0 where
   pub v : VersionData
   pub rows : HasRows data_file v.entries
   pub listed : HasExclusions exclusions_file v.exclusions
-  pub tables : IsTablesFault number v fault
+  pub tables : Wraps (Tables number) (IsTablesFault v) fault
 
 -- why no version came of the two files: the data file first, then the exclusions, then the tables
 abbrev pub IsVersionFault : ℕ → Stream → Stream → VersionFault → Type 0
 IsVersionFault number data_file exclusions_file fault =
-    (IsDataFault number data_file fault × IsUntouched exclusions_file)
-    ⊎ ((((rows : List Entry) × HasRows data_file rows) × IsExclusionsFault number exclusions_file fault)
+    (Wraps (Data number) (WasRefused IsFirstFault data_file) fault × IsUntouched exclusions_file)
+    ⊎ ((((rows : List Entry) × HasRows data_file rows) × Wraps (Exclusions number) (WasRefused IsFirstBadLine exclusions_file) fault)
     ⊎ HasTablesFault number data_file exclusions_file fault)

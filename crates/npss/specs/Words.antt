@@ -1,5 +1,5 @@
 -- What words ask for, by `clap`'s reading of them.
-use Rattle.std.specs.Prelude.{Bool, List, [], ◌∷◌, ◌++◌, ◌≤◌, ◌%◌, ◌==◌, ◌&&◌, nat_le, length, vec_len, flat_map, option_map, option_and_then, string_bytes, Option, Some, None, codes, if◌then◌else◌}
+use Rattle.std.specs.Prelude.{Bool, List, [], ◌∷◌, ◌++◌, ◌%◌, ◌==◌, ◌&&◌, nat_le, length, flat_map, option_map, option_and_then, string_bytes, Option, Some, None, codes, if◌then◌else◌}
 use Rattle.std.specs.Str.{bytes_eq}
 use Rattle.np_code_points.specs.declared.forms.Form.{Form}
 use Rattle.np_code_points.specs.Forms.{form_named}
@@ -39,15 +39,6 @@ asked_of (Replay form schedule_file version_files) = record {
   form = Some form;
   files = string_bytes schedule_file ∷ flat_map names_of version_files.items;
 }
-
--- a schedule is replayed over at least one version
-abbrev pub HasVersions : Job → Type 0
-HasVersions Help = Unit {0}
-HasVersions (Normalize form files) = Unit {0}
-HasVersions (Key form files) = Unit {0}
-HasVersions (Compare form files) = Unit {0}
-HasVersions (Audit old new) = Unit {0}
-HasVersions (Replay form schedule_file version_files) = 1 ≤ vec_len version_files
 
 -- the form that the value of --form names
 abbrev pub form_of : List Row → Option Form

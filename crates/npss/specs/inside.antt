@@ -2,5 +2,6 @@ pub mod AuditSteps
 pub mod ChainSteps
 pub mod Endings
 pub mod Groups
+pub mod Jobs
 pub mod ReplaySteps
 pub mod TextJobs

@@ -4,8 +4,9 @@
 ghost use Rattle.std.specs.Prelude.{◌≡◌, ◌≤◌, length};
 ghost use Rattle.npss.specs.Ends.{IsTold};
 ghost use Rattle.npss.specs.Streams.{stream_of};
-ghost use Rattle.npss.specs.Words.{HasVersions, usage_lines};
+ghost use Rattle.npss.specs.Words.{usage_lines};
 ghost use Rattle.npss.specs.Usage.{ShowsUsage};
+ghost use Rattle.npss.specs.inside.Jobs.{HasVersions};
 
 mod jobs;
 mod opening;

@@ -1,7 +1,8 @@
 //! What a command line asks for.
 ghost use Rattle.std.specs.Prelude.{◌≡◌, ◌≢◌, ◌≤◌, ◌∷◌, ◌/◌, ◌%◌, [], codes, length, vec_len, flat_map, IfOk, IsTrue, Some, None, Err, map, string_bytes};
 ghost use Rattle.clap.specs.Words.{Text, first_of, found_of, kind_of, rows_of, subcommand_rows_of};
-ghost use Rattle.npss.specs.Words.{HasVersions, are_paired, asked_among, asked_by, asked_in, asked_of, asked_unless, audit_asked, files_of, form_of, names_of, paired_files_of, replay_asked, text_asked};
+ghost use Rattle.npss.specs.Words.{are_paired, asked_among, asked_by, asked_in, asked_of, asked_unless, audit_asked, files_of, form_of, names_of, paired_files_of, replay_asked, text_asked};
+ghost use Rattle.npss.specs.inside.Jobs.{HasVersions};
 
 mod command;
 #[cfg(test)]

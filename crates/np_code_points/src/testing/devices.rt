@@ -1,5 +1,5 @@
 //! Readers and writers for tests, each of which can fail at a call that is told beforehand.
-ghost use Rattle.std.specs.Prelude.{◌≡◌, ◌≢◌, Some, None, ℕ, ◌-◌, ◌≤◌, List, [], IfErr, IfOk, Ok, true, is_some, length, max, min, replicate};
+ghost use Rattle.std.specs.Prelude.{◌≡◌, ◌≢◌, Some, None, ℕ, ◌-◌, ◌≤◌, List, [], IfErr, IfOk, IsErrAnd, Ok, true, is_some, length, max, min, replicate};
 ghost use Rattle.std.specs.Io.{ReadsAtMost, WritesAtMost};
 ghost use Rattle.std.specs.IoError.{error_kind};
 ghost use Rattle.std.specs.Io.KnownBytes.{Keeps, ReadConsumes, WriteAppends};
@@ -48,6 +48,17 @@ impl Calls {
         Calls {
             made: 0,
             fails: None,
+        }
+    }
+
+    /// The same calls so far; that of this number fails.
+    fn failing_at(self, call: u64, failure: Failure) -> Self
+        ensures fails { result.fails ≡ Some (call, failure) }
+        ensures count { result.made ≡ self.made }
+    {
+        Calls {
+            made: self.made,
+            fails: Some((call, failure)),
         }
     }
 
@@ -107,10 +118,7 @@ impl<'a> Trickle<'a> {
         Trickle {
             bytes: self.bytes,
             piece: self.piece,
-            calls: Calls {
-                made: self.calls.made,
-                fails: Some((call, failure)),
-            },
+            calls: self.calls.failing_at(call, failure),
         }
     }
 
@@ -166,10 +174,7 @@ impl Endless {
         ensures count { endless_call result ≡ endless_call self }
     {
         Endless {
-            calls: Calls {
-                made: self.calls.made,
-                fails: Some((call, failure)),
-            },
+            calls: self.calls.failing_at(call, failure),
         }
     }
 
@@ -244,10 +249,7 @@ impl Room {
         Room {
             bytes,
             piece,
-            calls: Calls {
-                made: calls.made,
-                fails: Some((call, failure)),
-            },
+            calls: calls.failing_at(call, failure),
         }
     }
 
@@ -274,8 +276,9 @@ impl Write for Room {
         ensures bytes { WriteAppends (Some (bytes_taken self.old)) (Some (bytes_taken self.new)) result buf.now }
         ensures piece { IfOk result (λ n. n ≤ piece_taken self.old) }
         ensures fails { is_some (failure_at (writer_call self.old) (writer_plan self.old)) ≡ true → buf.now ≢ [] → write_fails result buf.now ≡ true }
-        ensures interrupted { failure_at (writer_call self.old) (writer_plan self.old) ≡ Some Failure.Interrupted → IfErr result (λ e. error_kind e ≡ ErrorKind.Interrupted) }
-        ensures other { failure_at (writer_call self.old) (writer_plan self.old) ≡ Some Failure.Error → IfErr result (λ e. error_kind e ≡ ErrorKind.Other) }
+        ensures interrupted { failure_at (writer_call self.old) (writer_plan self.old) ≡ Some Failure.Interrupted → IsErrAnd result (λ e. error_kind e ≡ ErrorKind.Interrupted) }
+        ensures other { failure_at (writer_call self.old) (writer_plan self.old) ≡ Some Failure.Error → IsErrAnd result (λ e. error_kind e ≡ ErrorKind.Other) }
+        ensures nothing { failure_at (writer_call self.old) (writer_plan self.old) ≡ Some Failure.TakesNothing → result ≡ Ok 0 }
         ensures takes { failure_at (writer_call self.old) (writer_plan self.old) ≡ None → result ≡ Ok (min (min (length buf.now) (piece_taken self.old)) (room_of self.old - length (bytes_taken self.old))) }
         ensures plan { writer_plan self.new ≡ writer_plan self.old }
         ensures counts { IsNextCall (writer_call self.old) (writer_call self.new) }

@@ -1,5 +1,5 @@
 -- Segments that are composed code point by code point.
-use Rattle.std.specs.Prelude.{◌≡◌, ℕ, ◌≤◌, true, List, ◌++◌, Option, length, chars, flat_map, IsUtf8}
+use Rattle.std.specs.Prelude.{◌≡◌, ℕ, ◌≤◌, ◌⊎◌, ⊤, true, List, [], ◌∷◌, ◌++◌, Option, length, chars, flat_map, IsUtf8}
 use Rattle.np_code_points.specs.Forms.{is_compat}
 use Rattle.np_code_points.specs.declared.forms.Form.{Form}
 use Rattle.np_forms.specs.Order.{is_ordered}
@@ -7,7 +7,11 @@ use Rattle.np_forms.specs.inside.Composers.{IsComposing}
 use Rattle.np_forms.specs.inside.NormalForms.{normal_form}
 use Rattle.np_tables.specs.Versions.{VersionData, class_of}
 use Rattle.np_tables.specs.inside.FullDecompositions.{full_of}
-use Rattle.np_tables.specs.inside.Hints.{Rises}
+
+-- behind a code point of the class `last` no class is less than the one before, but that of a starter
+abbrev pub Rises : (ℕ → ℕ) → ℕ → List ℕ → Type 0
+Rises ccc last [] = ⊤
+Rises ccc last (c ∷ cs) = ((ccc c ≡ 0) ⊎ (last ≤ ccc c)) × Rises ccc (ccc c) cs
 
 -- the code points `done` were read, of which the last has class `read`; they are in canonical order, and so is what follows
 -- them where its classes rise; `list` is what they compose to, whatever follows in canonical order

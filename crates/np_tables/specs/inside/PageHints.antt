@@ -94,10 +94,6 @@ abbrev pub decomposing : Bool → Form
 decomposing false = Nfd
 decomposing true = Nfkd
 
--- which bit tells whether it leaves the code point as it is
-abbrev pub decomposing_place : Bool → ℕ
-decomposing_place compat = stays_place (decomposing compat)
-
 abbrev pub has_bit : ℕ → ℕ → Bool
 has_bit bits place = bits / 2 ^ place % 2 == 1
 

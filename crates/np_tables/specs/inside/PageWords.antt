@@ -13,8 +13,8 @@ use Rattle.np_tables.specs.inside.FullLists.{FullLists, of_kind}
 use Rattle.np_tables.specs.inside.FullParts.{AreParts, part_of}
 use Rattle.np_code_points.specs.declared.forms.Form.{Form}
 use Rattle.np_code_points.specs.Forms.{composes, is_compat}
-use Rattle.np_tables.specs.inside.Hints.{Walks}
-use Rattle.np_tables.specs.inside.PageHints.{AreBits, decomposing, decomposing_place, has_bit, stays_place}
+use Rattle.np_tables.specs.Standing.{AreWalked}
+use Rattle.np_tables.specs.inside.PageHints.{AreBits, decomposing, has_bit, stays_place}
 use Rattle.np_tables.specs.inside.Pages.{AreWithin, word_place}
 
 -- ---- slots of full decompositions
@@ -122,20 +122,6 @@ pub record ArePages (v : VersionData) (lists : FullLists) (blocks : List ℕ) (w
 abbrev pub IsKept : List ℕ → List Word → ℕ → ℕ → Type 0
 IsKept blocks words place c = (c < 0x110000) × (has_bit (slice_index_or words (word_place blocks c) no_word).hints place ≡ true)
 
--- where this is said, the words of all ASCII have the bit
-abbrev pub IsAsciiKept : List ℕ → List Word → ℕ → Bool → Type 0
-IsAsciiKept blocks words place said = said ≡ true → (c : ℕ) → c < 128 → IsKept blocks words place c
-
--- the words of the code points in the first n bytes of a text have the bit
-pub record AreKept (blocks : List ℕ) (words : List Word) (bit : ℕ) (bytes : List ℕ) (n : ℕ) : Type 0 where
-  pub front : List ℕ
-  pub back : List ℕ
-  pub split : bytes ≡ encode_utf8_all front ++ back
-  pub text : chars bytes ≡ front ++ chars back
-  pub utf8 : IsUtf8 back
-  pub kept : All (IsKept blocks words bit) front
-  pub place : n ≡ length (encode_utf8_all front)
-
 -- a text behind some first code points that pass
 pub record IsPast (P : ℕ → Type 0) (text rest : List ℕ) : Type 0 where
   pub front : List ℕ
@@ -143,16 +129,6 @@ pub record IsPast (P : ℕ → Type 0) (text rest : List ℕ) : Type 0 where
   pub text_is : chars text ≡ front ++ chars rest
   pub utf8 : IsUtf8 rest
   pub passed : All P front
-
--- a text behind some first ASCII, where `low` asks for that
-abbrev pub IsPastLow : Bool → List ℕ → List ℕ → Type 0
-IsPastLow low = IsPast (λ c. (low ≡ true) × (c < 128))
-
--- the pages, and for each kind what is said of all ASCII
-pub record IsPageTable (v : VersionData) (lists : FullLists) (blocks : List ℕ) (words : List Word) (canonical compatible : Bool) : Type 0 where
-  pub pages : ArePages v lists blocks words
-  pub canonical_ascii : IsAsciiKept blocks words (decomposing_place false) canonical
-  pub compatible_ascii : IsAsciiKept blocks words (decomposing_place true) compatible
 
 -- ---- what may follow as it is
 
@@ -171,15 +147,8 @@ abbrev pub Follows : List ℕ → List Word → Form → ℕ → ℕ → ℕ →
 Follows blocks words form last c n = (c < 0x110000) × WordFollows form (slice_index_or words (word_place blocks c) no_word) last n
 
 -- by their words the code points in the first n bytes of a text may follow one another as they are
-pub record AreFollowing (blocks : List ℕ) (words : List Word) (form : Form) (bytes : List ℕ) (n : ℕ) : Type 0 where
-  pub front : List ℕ
-  pub back : List ℕ
-  pub end : ℕ
-  pub split : bytes ≡ encode_utf8_all front ++ back
-  pub text : chars bytes ≡ front ++ chars back
-  pub utf8 : IsUtf8 back
-  pub follow : Walks (Follows blocks words form) 0 front end
-  pub place : n ≡ length (encode_utf8_all front)
+abbrev pub AreFollowing : List ℕ → List Word → Form → List ℕ → ℕ → Type 0
+AreFollowing blocks words form = AreWalked (Follows blocks words form)
 
 -- all ASCII stays under every form
 abbrev pub IsAsciiStaying : List ℕ → List Word → Type 0

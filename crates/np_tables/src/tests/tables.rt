@@ -150,9 +150,11 @@ fn no_syllable_goes_by_arithmetic_where_the_jamo_lack(rt: HostRuntime) -> Result
     no_syllables_over::<PageTable>(rt.alloc())
 }
 
-// How many bytes at the front of a text a form leaves as they are: composites and syllables come
-// back, singletons and excluded ones don't, nor what has a mapping that counts.
-const STAYING: [(Form, &str, usize); 10] = [
+// How many bytes at the front of a text stand in a form as they are: composites and syllables come
+// back, singletons and excluded ones don't, nor what has a mapping that counts. Non-starters follow
+// where no class is less than the one before and, where the form composes, they are no second parts;
+// behind a composite none is taken to follow.
+const STANDING: [(Form, &str, usize); 24] = [
     (Form::Nfc, "A\u{E2}\u{1EAD}\u{AC01}\u{D7A3}", 12),
     (Form::Nfkc, "A\u{E2}\u{1EAD}\u{AC01}\u{D7A3}", 12),
     (Form::Nfd, "A\u{E2}", 1),
@@ -163,6 +165,46 @@ const STAYING: [(Form, &str, usize); 10] = [
     (Form::Nfc, "\u{FB01}", 3),
     (Form::Nfkc, "\u{FB01}", 0),
     (Form::Nfc, "\u{AC00}\u{11A8}", 3),
+    (Form::Nfd, "a\u{323}\u{302}", 5),
+    (Form::Nfd, "a\u{302}\u{323}", 3),
+    (Form::Nfd, "\u{302}a\u{327}\u{302}", 7),
+    (Form::Nfd, "a\u{327}\u{344}", 3),
+    (Form::Nfd, "f\u{302}\u{FB01}", 6),
+    (Form::Nfkd, "f\u{302}\u{FB01}", 3),
+    (Form::Nfc, "A\u{327}\u{323}", 3),
+    (Form::Nfc, "\u{E2}\u{327}", 2),
+    (Form::Nfd, "\u{1112}\u{1175}\u{11C2} \u{1100}\u{1161}", 16),
+    (Form::Nfc, "\u{D788} \u{AC00}\u{AC01}\u{1100}\u{1161}", 13),
+    (Form::Nfkc, "\u{D788} \u{1112}\u{1175}", 7),
+    (Form::Nfd, "afifififififififififififififififia\u{212B}", 34),
+    (
+        Form::Nfd,
+        "afififififififi\u{323}fififififififia\u{212B}",
+        32,
+    ),
+    (Form::Nfkc, "", 0),
+];
+
+// Pointed Hebrew: a letter, three points, and three presentation forms, which are excluded.
+const HEBREW: &str = "\
+05B7;X;Mn;17;R;;;;;N;;;;;
+05BC;X;Mn;21;R;;;;;N;;;;;
+05C1;X;Mn;24;R;;;;;N;;;;;
+05E9;X;Lo;0;R;;;;;N;;;;;
+FB2A;X;Lo;0;R;05E9 05C1;;;;N;;;;;
+FB2C;X;Lo;0;R;FB49 05C1;;;;N;;;;;
+FB49;X;Lo;0;R;05E9 05BC;;;;N;;;;;
+";
+
+const HEBREW_EXCLUSIONS: &str = "FB2A\nFB2C\nFB49\n";
+
+// The same of pointed Hebrew.
+const HEBREW_STANDING: [(Form, &str, usize); 5] = [
+    (Form::Nfc, "\u{5E9}\u{5B7}\u{5BC}\u{5C1}\u{5E9}", 10),
+    (Form::Nfd, "\u{5E9}\u{5B7}\u{5BC}\u{5C1}\u{5E9}", 10),
+    (Form::Nfc, "\u{5E9}\u{5BC}\u{5B7}", 4),
+    (Form::Nfd, "\u{5E9}\u{5C1}\u{5BC}", 4),
+    (Form::Nfc, "\u{5E9}\u{FB2C}", 2),
 ];
 
 // Whether a form parts before a code point.
@@ -177,9 +219,9 @@ const PARTING: [(Form, char, bool); 8] = [
     (Form::Nfkc, '\u{344}', false),
 ];
 
-fn tells_what_stays<T: NormTable>(table: &T, rows: &[(Form, &str, usize)]) -> Result<(), Fail> {
+fn tells_what_stands<T: NormTable>(table: &T, rows: &[(Form, &str, usize)]) -> Result<(), Fail> {
     for (form, text, count) in rows {
-        want(table.staying(*form, text) == *count, text)?;
+        want(table.standing(*form, text) == *count, text)?;
     }
     Ok(())
 }
@@ -195,12 +237,18 @@ fn tells_where_forms_part<T: NormTable>(
 }
 
 fn tells_what_forms_leave(table: &PageTable) -> Result<(), Fail> {
-    tells_what_stays(table, &STAYING)?;
+    tells_what_stands(table, &STANDING)?;
     tells_where_forms_part(table, &PARTING)
 }
 
 #[test]
-fn forms_leave_what_stays_and_part_before_starters(rt: HostRuntime) -> Result<(), Fail> {
+fn forms_leave_what_stands_and_part_before_starters(rt: HostRuntime) -> Result<(), Fail> {
     let table: PageTable = table_of(rt.alloc(), V1_DATA, V1_EXCLUSIONS)?;
     tells_what_forms_leave(&table)
+}
+
+#[test]
+fn points_stand_in_their_canonical_order(rt: HostRuntime) -> Result<(), Fail> {
+    let table: PageTable = table_of(rt.alloc(), HEBREW, HEBREW_EXCLUSIONS)?;
+    tells_what_stands(&table, &HEBREW_STANDING)
 }

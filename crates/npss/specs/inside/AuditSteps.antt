@@ -4,10 +4,10 @@ use Rattle.np_tables.specs.Versions.{VersionData}
 use Rattle.npss.specs.Audits.{IsAudit}
 use Rattle.npss.specs.Streams.{Stream}
 use Rattle.npss.specs.Versions.{WasBuilt, IsVersionFault}
+use Rattle.npss.specs.Wraps.{Wraps}
 use Rattle.npss.specs.declared.jobs.ending.Made.{Made}
 use Rattle.npss.specs.declared.jobs.faults.JobFault.{JobFault}
 use Rattle.npss.specs.declared.jobs.faults.JobFault.TheVariants.{Version, Memory}
-use Rattle.npss.specs.declared.jobs.faults.VersionFault.{VersionFault}
 
 pub record MakesAgainst (old : VersionData) (data_file exclusions_file : Stream) (made : Made) : Type 0 where
   pub new : VersionData
@@ -16,5 +16,5 @@ pub record MakesAgainst (old : VersionData) (data_file exclusions_file : Stream)
 
 abbrev pub LacksAgainst : Stream → Stream → JobFault → Type 0
 LacksAgainst data_file exclusions_file fault =
-    ((f : VersionFault) × (fault ≡ Version f) × IsVersionFault 1 data_file exclusions_file f)
+    Wraps Version (IsVersionFault 1 data_file exclusions_file) fault
     ⊎ ((fault ≡ Memory) × ((new : VersionData) × WasBuilt data_file exclusions_file new))

@@ -1,5 +1,5 @@
 -- What `replay` makes over versions that were built.
-use Rattle.std.specs.Prelude.{◌≡◌, ℕ, true, List, length, string_bytes}
+use Rattle.std.specs.Prelude.{◌≡◌, true, List, length, string_bytes}
 use Rattle.np_chain.specs.Chain.{IsChain}
 use Rattle.np_code_points.specs.declared.forms.Form.{Form}
 use Rattle.np_tables.specs.Versions.{VersionData}

@@ -1,6 +1,7 @@
 //! The command `audit`: what a later version breaks of an earlier one.
-ghost use Rattle.std.specs.Prelude.{◌≡◌, IfOk, IfErr, string_bytes};
+ghost use Rattle.std.specs.Prelude.{◌≡◌, ◌∷◌, [], IfOk, IfErr, string_bytes};
 ghost use Rattle.npss.specs.Audits.{AuditEnds, IsAudit, MakesAudit, RefusesAudit, audit_text};
+ghost use Rattle.npss.specs.Chains.{readers_of};
 ghost use Rattle.npss.specs.Streams.{stream_of};
 ghost use Rattle.npss.specs.inside.AuditSteps.{LacksAgainst, MakesAgainst};
 
@@ -68,18 +69,12 @@ fn made_of_versions<F: Read>(
     new_data_file: &mut Watched<F>,
     new_exclusions_file: &mut Watched<F>,
 ) -> Result<Made, JobFault>
-    ensures made { IfOk result (λ m. MakesAudit (record {
-      old_data_file = stream_of F.remaining old_data_file.old old_data_file.new;
-      old_exclusions_file = stream_of F.remaining old_exclusions_file.old old_exclusions_file.new;
-      new_data_file = stream_of F.remaining new_data_file.old new_data_file.new;
-      new_exclusions_file = stream_of F.remaining new_exclusions_file.old new_exclusions_file.new;
-    }) m.is_yes (string_bytes m.text)) }
-    ensures refused { IfErr result (RefusesAudit (record {
-      old_data_file = stream_of F.remaining old_data_file.old old_data_file.new;
-      old_exclusions_file = stream_of F.remaining old_exclusions_file.old old_exclusions_file.new;
-      new_data_file = stream_of F.remaining new_data_file.old new_data_file.new;
-      new_exclusions_file = stream_of F.remaining new_exclusions_file.old new_exclusions_file.new;
-    })) }
+    ensures made { IfOk result (λ m. MakesAudit (readers_of F.remaining
+        (old_data_file.old ∷ old_exclusions_file.old ∷ new_data_file.old ∷ new_exclusions_file.old ∷ [])
+        (old_data_file.new ∷ old_exclusions_file.new ∷ new_data_file.new ∷ new_exclusions_file.new ∷ [])) m.is_yes (string_bytes m.text)) }
+    ensures refused { IfErr result (RefusesAudit (readers_of F.remaining
+        (old_data_file.old ∷ old_exclusions_file.old ∷ new_data_file.old ∷ new_exclusions_file.old ∷ [])
+        (old_data_file.new ∷ old_exclusions_file.new ∷ new_data_file.new ∷ new_exclusions_file.new ∷ []))) }
 {
     new_data_file.clear();
     new_exclusions_file.clear();
@@ -99,12 +94,9 @@ pub fn audit_job<F: Read, O: Write, E: Write>(
     output: &mut Watched<O>,
     error: &mut Watched<E>,
 ) -> u8
-    ensures { AuditEnds (record {
-      old_data_file = stream_of F.remaining old_data_file.old old_data_file.new;
-      old_exclusions_file = stream_of F.remaining old_exclusions_file.old old_exclusions_file.new;
-      new_data_file = stream_of F.remaining new_data_file.old new_data_file.new;
-      new_exclusions_file = stream_of F.remaining new_exclusions_file.old new_exclusions_file.new;
-    }) (stream_of O.contents output.old output.new) (stream_of E.contents error.old error.new) result }
+    ensures { AuditEnds (readers_of F.remaining
+        (old_data_file.old ∷ old_exclusions_file.old ∷ new_data_file.old ∷ new_exclusions_file.old ∷ [])
+        (old_data_file.new ∷ old_exclusions_file.new ∷ new_data_file.new ∷ new_exclusions_file.new ∷ [])) (stream_of O.contents output.old output.new) (stream_of E.contents error.old error.new) result }
 {
     let made = made_of_versions(
         alloc,

@@ -1,6 +1,7 @@
 //! Why a job is refused, and the status of each refusal.
 ghost use Rattle.std.specs.Prelude.{◌≡◌};
-ghost use Rattle.npss.specs.Statuses.{file_status, input_status, replay_status, status_of, tables_status, text_status, version_status};
+ghost use Rattle.npss.specs.Statuses.{file_status, input_status, tables_status, version_status};
+ghost use Rattle.npss.specs.Tellings.{replay_telling, telling_of, text_telling};
 ghost use Rattle.npss.specs.inside.Groups.{of_replay, of_text, of_version};
 
 use np_chain::Break;
@@ -186,7 +187,7 @@ impl VersionFault {
 impl TextFault {
     /// The status of the refusal.
     pub fn status(&self) -> u8
-        ensures { result ≡ text_status self.now }
+        ensures { result ≡ (text_telling self.now).status }
     {
         match self {
             TextFault::Input { fault } => status_of_input(fault),
@@ -202,7 +203,7 @@ impl TextFault {
 impl ReplayFault {
     /// The status of the refusal.
     pub fn status(&self) -> u8
-        ensures { result ≡ replay_status self.now }
+        ensures { result ≡ (replay_telling self.now).status }
     {
         match self {
             ReplayFault::NotExtension { .. } => DIFFERENT,
@@ -216,7 +217,7 @@ impl ReplayFault {
 impl JobFault {
     /// The status of the refusal.
     pub fn status(&self) -> u8
-        ensures { result ≡ status_of self.now }
+        ensures { result ≡ (telling_of self.now).status }
     {
         match self {
             JobFault::Version { fault } => fault.status(),

@@ -1,9 +1,8 @@
 //! The line that is told on a refusal.
-ghost use Rattle.std.specs.Prelude.{◌≡◌, ◌==◌, ◌++◌, false, IfOk, OnErr, string_bytes};
+ghost use Rattle.std.specs.Prelude.{◌≡◌, ◌++◌, false, IfOk, OnErr, codes, string_bytes};
 ghost use Rattle.np_code_points.specs.Codes.{code_digits};
-ghost use Rattle.npss.specs.Lines as lines;
-ghost use Rattle.npss.specs.Lines.{is_replay_told_freely, is_text_told_freely, is_told_freely};
-ghost use Rattle.npss.specs.Statuses.{version_status};
+ghost use Rattle.npss.specs.Tellings as tellings;
+ghost use Rattle.npss.specs.Tellings.{replay_telling, telling_of, text_telling, version_telling};
 ghost use Rattle.npss.specs.inside.Groups.{line_bytes};
 
 use super::faults::{JobFault, MEMORY, ReplayFault, TextFault, VersionFault};
@@ -50,7 +49,7 @@ fn code_text(alloc: Global, code: u32) -> Result<String, Memory>
 
 /// The line on a file of a version.
 fn file_line(alloc: Global, version: usize, file: &str, fault: &UcdFault) -> Result<Line, Memory>
-    ensures line { IfOk result (λ line. line_bytes line ≡ lines.file_line version file.now fault.now) }
+    ensures line { IfOk result (λ line. line_bytes line ≡ tellings.file_line version file.now fault.now) }
 {
     let name = fault.name();
     match fault.line() {
@@ -63,7 +62,7 @@ fn file_line(alloc: Global, version: usize, file: &str, fault: &UcdFault) -> Res
 
 /// The line on the tables of a version.
 fn tables_line(alloc: Global, version: usize, fault: &TableFault) -> Result<Line, Memory>
-    ensures line { IfOk result (λ line. line_bytes line ≡ lines.tables_line version fault.now) }
+    ensures line { IfOk result (λ line. line_bytes line ≡ tellings.tables_line version fault.now) }
 {
     let name = fault.name();
     let code = code_text(alloc, fault.code().unwrap_or(0))?;
@@ -72,8 +71,8 @@ fn tables_line(alloc: Global, version: usize, fault: &TableFault) -> Result<Line
 
 /// The line on a version.
 fn version_line(alloc: Global, fault: &VersionFault) -> Result<Line, Memory>
-    ensures line { IfOk result (λ line. line_bytes line ≡ lines.version_line fault.now) }
-    ensures free { OnErr result (version_status fault.now == 6 ≡ false) }
+    ensures line { IfOk result (λ line. line_bytes line ≡ (version_telling fault.now).line) }
+    ensures free { OnErr result ((version_telling fault.now).is_fixed ≡ false) }
 {
     if fault.status() == MEMORY {
         return Ok(Line::Fixed(OUT_OF_MEMORY));
@@ -89,7 +88,7 @@ fn version_line(alloc: Global, fault: &VersionFault) -> Result<Line, Memory>
 
 /// The line on an input that was not read whole.
 fn input_line(fault: &InputFault) -> &'static str
-    ensures { result.now ≡ lines.input_line fault.now }
+    ensures { result.now ≡ tellings.input_line (codes "input") fault.now }
 {
     match fault {
         InputFault::TooLarge => "input: TooLarge\n",
@@ -100,7 +99,7 @@ fn input_line(fault: &InputFault) -> &'static str
 
 /// The line on an unassigned code point, where `head` says of which text.
 fn unassigned_line(alloc: Global, head: &str, at: usize, code: char) -> Result<Line, Memory>
-    ensures line { IfOk result (λ line. line_bytes line ≡ lines.unassigned_line head.now at code) }
+    ensures line { IfOk result (λ line. line_bytes line ≡ tellings.unassigned_line head.now at code) }
 {
     let code = code_text(alloc, u32::from(code))?;
     Ok(Line::Made(format!(in alloc; "{head}unassigned {code} at byte {at}\n")?))
@@ -108,8 +107,8 @@ fn unassigned_line(alloc: Global, head: &str, at: usize, code: char) -> Result<L
 
 /// The line on a text.
 fn text_line(alloc: Global, fault: &TextFault) -> Result<Line, Memory>
-    ensures line { IfOk result (λ line. line_bytes line ≡ lines.text_line fault.now) }
-    ensures free { OnErr result (is_text_told_freely fault.now ≡ false) }
+    ensures line { IfOk result (λ line. line_bytes line ≡ (text_telling fault.now).line) }
+    ensures free { OnErr result ((text_telling fault.now).is_fixed ≡ false) }
 {
     match fault {
         TextFault::Input { fault } => Ok(Line::Fixed(input_line(fault))),
@@ -126,7 +125,7 @@ fn text_line(alloc: Global, fault: &TextFault) -> Result<Line, Memory>
 
 /// Adds the line of a break.
 pub(super) fn write_break(text: &mut String, found: &Break) -> Result<(), Memory>
-    ensures { IfOk result (λ _. string_bytes text.new ≡ string_bytes text.old ++ lines.break_line found.now) }
+    ensures { IfOk result (λ _. string_bytes text.new ≡ string_bytes text.old ++ tellings.break_line found.now) }
 {
     text.push_str(found.kind.name())?;
     text.push_str(" ")?;
@@ -137,7 +136,7 @@ pub(super) fn write_break(text: &mut String, found: &Break) -> Result<(), Memory
 
 /// The line on a version that does not extend the one before.
 fn extension_line(alloc: Global, version: usize, brk: &Break) -> Result<Line, Memory>
-    ensures { IfOk result (λ line. line_bytes line ≡ lines.replay_line (ReplayFault.NotExtension version brk.now)) }
+    ensures { IfOk result (λ line. line_bytes line ≡ (replay_telling (ReplayFault.NotExtension version brk.now)).line) }
 {
     let mut text = format!(in alloc; "not an extension: version {version} ")?;
     write_break(&mut text, brk)?;
@@ -146,7 +145,7 @@ fn extension_line(alloc: Global, version: usize, brk: &Break) -> Result<Line, Me
 
 /// The line on a schedule that was not read whole.
 fn schedule_line(fault: &InputFault) -> &'static str
-    ensures { result.now ≡ lines.schedule_line fault.now }
+    ensures { result.now ≡ tellings.input_line (codes "schedule") fault.now }
 {
     match fault {
         InputFault::TooLarge => "schedule: TooLarge\n",
@@ -157,8 +156,8 @@ fn schedule_line(fault: &InputFault) -> &'static str
 
 /// The line on versions and a schedule that give no report.
 fn replay_line(alloc: Global, fault: &ReplayFault) -> Result<Line, Memory>
-    ensures line { IfOk result (λ line. line_bytes line ≡ lines.replay_line fault.now) }
-    ensures free { OnErr result (is_replay_told_freely fault.now ≡ false) }
+    ensures line { IfOk result (λ line. line_bytes line ≡ (replay_telling fault.now).line) }
+    ensures free { OnErr result ((replay_telling fault.now).is_fixed ≡ false) }
 {
     match fault {
         ReplayFault::NotExtension { version, brk } => extension_line(alloc, *version, brk),
@@ -174,8 +173,8 @@ fn replay_line(alloc: Global, fault: &ReplayFault) -> Result<Line, Memory>
 ///
 /// `Memory` where memory ran out for a line that isn't always the same.
 pub fn line_of(alloc: Global, fault: &JobFault) -> Result<Line, Memory>
-    ensures line { IfOk result (λ line. line_bytes line ≡ lines.line_of fault.now) }
-    ensures free { OnErr result (is_told_freely fault.now ≡ false) }
+    ensures line { IfOk result (λ line. line_bytes line ≡ (telling_of fault.now).line) }
+    ensures free { OnErr result ((telling_of fault.now).is_fixed ≡ false) }
 {
     match fault {
         JobFault::Version { fault } => version_line(alloc, fault),

@@ -3,8 +3,9 @@ ghost use Rattle.std.specs.Prelude.{◌≡◌, ◌<◌, ◌≤◌, ◌%◌, fals
 ghost use Rattle.np_code_points.specs.Watched.{has_failed};
 ghost use Rattle.np_world.specs.ScheduleFiles.{SaysSchedule};
 ghost use Rattle.npss.specs.Chains.{readers_of};
-ghost use Rattle.npss.specs.Replays.{IsReplay, IsUnscheduled, LacksLine, LacksReport, LacksSchedule, MakesReplay, RefusesReplay, ReplayEnds, WasScheduled};
-ghost use Rattle.npss.specs.Streams.{WasRead, stream_of};
+ghost use Rattle.npss.specs.Replays.{IsReplay, LacksLine, LacksReport, LacksSchedule, MakesReplay, RefusesReplay, ReplayEnds, WasScheduled};
+ghost use Rattle.npss.specs.Streams.{WasNotRead, WasRead, stream_of};
+ghost use Rattle.npss.specs.Wraps.{Wraps};
 ghost use Rattle.npss.specs.inside.ReplaySteps.{MakesOverChain};
 
 use super::chains::read_tables;
@@ -40,7 +41,7 @@ fn read_script<F: Read>(
     schedule_file: &mut Watched<F>,
 ) -> Result<Vec<u8>, ReplayFault>
     ensures read { IfOk result (λ script. WasRead (stream_of F.remaining schedule_file.old schedule_file.new) script.items) }
-    ensures refused { IfErr result (IsUnscheduled (stream_of F.remaining schedule_file.old schedule_file.new)) }
+    ensures refused { IfErr result (Wraps ReplayFault.Schedule (WasNotRead (stream_of F.remaining schedule_file.old schedule_file.new))) }
 {
     match read_whole(alloc, schedule_file) {
         Ok(script) => Ok(script),

@@ -1,9 +1,10 @@
 //! A job on one text: the two files of a version are read, then the input, then the text is
 //! answered.
 ghost use Rattle.std.specs.Prelude.{◌≡◌, IfOk, IfErr, IsUtf8, string_bytes};
-ghost use Rattle.npss.specs.Streams.{WasRead, stream_of};
-ghost use Rattle.npss.specs.Texts.{IsMadeOfText, IsTextFault, IsUnread, MakesOfText, RefusesText};
-ghost use Rattle.npss.specs.inside.TextJobs.{IsInvalid, Makes, Refuses};
+ghost use Rattle.npss.specs.Streams.{WasNotRead, WasRead, stream_of};
+ghost use Rattle.npss.specs.Texts.{IsMadeOfText, IsNoText, IsTextFault, MakesOfText, RefusesText};
+ghost use Rattle.npss.specs.Wraps.{Wraps};
+ghost use Rattle.npss.specs.inside.TextJobs.{Makes, Refuses};
 
 use super::compare::make_comparison;
 use super::ending::Made;
@@ -45,7 +46,7 @@ fn make<T: NormTable>(
 /// Reads the input whole.
 fn read_input<R: Read>(alloc: Global, input: &mut Watched<R>) -> Result<Vec<u8>, TextFault>
     ensures read { IfOk result (λ bytes. WasRead (stream_of R.remaining input.old input.new) bytes.items) }
-    ensures refused { IfErr result (IsUnread (stream_of R.remaining input.old input.new)) }
+    ensures refused { IfErr result (Wraps TextFault.Input (WasNotRead (stream_of R.remaining input.old input.new))) }
 {
     match read_whole(alloc, input) {
         Ok(bytes) => Ok(bytes),
@@ -57,7 +58,7 @@ fn read_input<R: Read>(alloc: Global, input: &mut Watched<R>) -> Result<Vec<u8>,
 fn text_in(bytes: &[u8]) -> Result<&str, TextFault>
     ensures text { IfOk result (λ text. text.now ≡ bytes.now) }
     ensures valid { IfOk result (λ text. IsUtf8 bytes.now) }
-    ensures refused { IfErr result (IsInvalid bytes.now) }
+    ensures refused { IfErr result (IsNoText bytes.now) }
 {
     match text_of(bytes) {
         Ok(text) => Ok(text),

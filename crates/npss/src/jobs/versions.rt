@@ -1,7 +1,10 @@
 //! The two files of a version, read and built.
 ghost use Rattle.std.specs.Prelude.{◌≡◌, ◌⊎◌, IfOk, IfErr};
 ghost use Rattle.npss.specs.Streams.{stream_of};
-ghost use Rattle.npss.specs.Versions.{HasExclusions, HasRows, IsDataFault, IsExclusionsFault, IsTablesFault, IsVersionFault, WasBuilt};
+ghost use Rattle.npss.specs.Versions.{HasExclusions, HasRows, IsTablesFault, IsVersionFault, WasBuilt, WasRefused};
+ghost use Rattle.npss.specs.Wraps.{Wraps};
+ghost use Rattle.np_ucd.specs.Exclusions.{IsFirstBadLine};
+ghost use Rattle.np_ucd.specs.FirstFaults.{IsFirstFault};
 ghost use Rattle.np_tables.specs.TableFaults.{IsFaultless};
 
 use super::faults::VersionFault;
@@ -18,7 +21,7 @@ fn rows_of<R: Read>(
     data_file: &mut Watched<R>,
 ) -> Result<Rows, VersionFault>
     ensures rows { IfOk result (HasRows (stream_of R.remaining data_file.old data_file.new)) }
-    ensures refused { IfErr result (IsDataFault version (stream_of R.remaining data_file.old data_file.new)) }
+    ensures refused { IfErr result (Wraps (VersionFault.Data version) (WasRefused IsFirstFault (stream_of R.remaining data_file.old data_file.new))) }
 {
     match read_rows(alloc, data_file) {
         Ok(rows) => Ok(rows),
@@ -33,7 +36,7 @@ fn exclusions_of<R: Read>(
     exclusions_file: &mut Watched<R>,
 ) -> Result<Exclusions, VersionFault>
     ensures listed { IfOk result (HasExclusions (stream_of R.remaining exclusions_file.old exclusions_file.new)) }
-    ensures refused { IfErr result (IsExclusionsFault version (stream_of R.remaining exclusions_file.old exclusions_file.new)) }
+    ensures refused { IfErr result (Wraps (VersionFault.Exclusions version) (WasRefused IsFirstBadLine (stream_of R.remaining exclusions_file.old exclusions_file.new))) }
 {
     match read_exclusions(alloc, exclusions_file) {
         Ok(listed) => Ok(listed),
@@ -50,7 +53,7 @@ fn version_of(
 ) -> Result<Version, VersionFault>
     ensures version { IfOk result (λ v. v ≡ record { entries = rows; exclusions = exclusions }) }
     ensures faultless { IfOk result IsFaultless }
-    ensures refused { IfErr result (IsTablesFault version (record { entries = rows; exclusions = exclusions })) }
+    ensures refused { IfErr result (Wraps (VersionFault.Tables version) (IsTablesFault (record { entries = rows; exclusions = exclusions }))) }
 {
     match Version::build(alloc, rows, exclusions) {
         Ok(built) => Ok(built),

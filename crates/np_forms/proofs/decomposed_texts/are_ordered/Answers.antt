@@ -1,7 +1,7 @@
 use Rattle.std.proofs.Common.{sym, subst}
 use Rattle.std.proofs.lemmas.List.{drop_all}
 use Rattle.np_tables.specs.Versions.{class_of}
-use Rattle.np_tables.specs.inside.Hints.{Rises}
+use Rattle.np_forms.specs.inside.Segments.{Rises}
 use Rattle.np_forms.proofs.DecomposedLemmas.{is_ordered-rises}
 use Rattle.np_forms.proofs.decomposed_texts.are_ordered.Goals as goal
 

@@ -1,6 +1,6 @@
 use Rattle.std.proofs.Common.{drop}
 use Rattle.np_tables.specs.Versions.{class_of}
-use Rattle.np_tables.specs.inside.Hints.{Rises}
+use Rattle.np_forms.specs.inside.Segments.{Rises}
 use Rattle.np_forms.proofs.decomposed_texts.are_ordered.Given as goal
 
 abbrev pub invariant-loop-c : goal.invariant-loop-c

@@ -1,14 +1,33 @@
-use Rattle.std.proofs.Common.{◌+◌, ◌<◌, length, ◌∙◌, arith}
-use Rattle.np_tables.proofs.RoundLemmas.{row_marks_more, row_marks_all}
+use Rattle.std.proofs.Common.{◌≡◌, ℕ, ◌+◌, List, length, Some, Bor, option_map, sym, ap, subst, ◌∙◌, arith}
+use Rattle.std.specs.List.{slice_get}
+use Rattle.np_code_points.proofs.LineLemmas.{length-after_first}
+use Rattle.np_code_points.specs.inside.LineCuts.{after_byte, is_byte}
+use Rattle.np_tables.specs.Versions.{mapping_in}
+use Rattle.np_tables.specs.inside.Depths.{mapping_mark}
+use Rattle.np_tables.proofs.MarkCutLemmas.{IsRound, round_begun, round_more, round_done}
 use Rattle.np_tables.proofs.depths.next_marks.Goals as goal
 
-pub loop-at-preserved : goal.loop-at-preserved
-loop-at-preserved c =
+pub loop-next-init : goal.loop-next-init
+loop-next-init c = round_begun c.args.characters.now c.args.round c.in_ok-next.next.items c.args.marks.now c.in_ok-next.ensures.items c.requires.marks
+
+pub loop-next-smaller : goal.loop-next-smaller
+loop-next-smaller c =
+    length-after_first (is_byte 0) c.loop-next.left.now c.in-Some.later.now
+    (sym c.in_ok-later.ensures.later ∙ ap (option_map (λ (r : Bor (List ℕ)). r.now)) c.in-Some.is)
+
+pub loop-next-preserved : goal.loop-next-preserved
+loop-next-preserved c =
     let v = c.args.characters.now in
-    let lt : c.loop-at.at < length v.entries = omega arith in
-    c.in_ok-push.ensures.items
-    ∙ row_marks_more v (c.args.round + 1) c.loop-at.at c.row_mark.result c.loop-at.next.items lt c.loop-at.invariant c.row_mark.ensures
+    let n = c.args.round in
+    let known = c.take_known.new.next.items in
+    let place : c.len-in-Some.result ≡ length known = omega arith in
+    let found : after_byte 0 c.loop-next.left.now ≡ Some c.in-Some.later.now =
+    sym c.in_ok-later.ensures.later ∙ ap (option_map (λ (r : Bor (List ℕ)). r.now)) c.in-Some.is in
+    subst (λ l. IsRound v n l c.in-Some.later.now) (sym c.in_ok-push.ensures.items)
+    (round_more v n c.loop-next.next.items c.loop-next.left.now known c.loop-next.invariant c.in_ok-later.ensures.known c.in-Some.later.now c.next_mark.result found
+    (c.next_mark.ensures ∙ ap (mapping_mark v (n + 1)) c.mapping_at-mapping.ensures ∙ ap (λ k. mapping_mark v (n + 1) (mapping_in (slice_get v.entries k))) place))
 
 pub returns : goal.returns
 returns c =
-    row_marks_all c.args.characters.now (c.args.round + 1) c.loop-at.at c.loop-at.next.items (omega arith) c.loop-at.invariant
+    round_done c.args.characters.now c.args.round c.loop-next.next.items c.loop-next.left.now c.take_known.new.next.items c.loop-next.invariant c.in_ok-later.ensures.known
+    (sym c.in_ok-later.ensures.later ∙ ap (option_map (λ (r : Bor (List ℕ)). r.now)) c.in_default.is)

@@ -1,6 +1,9 @@
-use Rattle.std.proofs.Common.{◌≡◌, ◌+◌, take}
-use Rattle.np_tables.specs.inside.Depths.{row_marks}
+use Rattle.std.proofs.Common.{length}
+use Rattle.np_tables.proofs.MarkCutLemmas.{IsRound}
 use Rattle.np_tables.proofs.depths.next_marks.Given as goal
 
-abbrev pub invariant-loop-at : goal.invariant-loop-at
-invariant-loop-at l = l.next.items ≡ take l.at (row_marks l.characters (l.round + 1))
+abbrev pub invariant-loop-next : goal.invariant-loop-next
+invariant-loop-next l = IsRound l.characters l.round l.next.items l.left
+
+abbrev pub decreases-loop-next : goal.decreases-loop-next
+decreases-loop-next l = length l.left

@@ -1,6 +1,6 @@
 use Rattle.std.proofs.Common.{◌≤◌, ◌<◌, length, subst, take}
 use Rattle.std.specs.Str.{IsAscii}
-use Rattle.np_tables.proofs.PageRunLemmas.{IsPast-ascii, past_boundary}
+use Rattle.np_tables.proofs.StandingLemmas.{IsPast-ascii, past_boundary}
 use Rattle.np_tables.proofs.standing_runs.behind_ascii.Goals as goal
 
 pub range_from-requires : goal.range_from-requires

@@ -1,4 +1,4 @@
-use Rattle.std.proofs.Common.{◌≡◌, true, eqb, ◌∷◌, length, ap, ◌∙◌}
+use Rattle.std.proofs.Common.{◌∷◌, length, sym, ap, ◌∙◌}
 use Rattle.std.proofs.lemmas.Bool.{eqb-true}
 use Rattle.np_ucd.proofs.RecordLemmas.{fifteen}
 use Rattle.np_ucd.specs.inside.FieldReading.{fields_of as parts}
@@ -13,8 +13,8 @@ returns c =
     let class = c.in_ok-class.class.now in
     let bidi = c.in_ok-_bidi._bidi.now in
     let mapping = c.in_ok-mapping.mapping.now in
-    let all : eqb (length (parts text)) 15 ≡ true = cc in
-    fifteen text c.in_ok-mapping._rest.now code name category class bidi mapping
+    let rest = c.in_ok-mapping.rest.now in
+    fifteen text rest code name category class bidi mapping
     (c.in_ok-code.ensures ∙ ap (λ ps. code ∷ ps) (c.in_ok-name.ensures ∙ ap (λ ps. name ∷ ps) (c.in_ok-category.ensures
     ∙ ap (λ ps. category ∷ ps) (c.in_ok-class.ensures ∙ ap (λ ps. class ∷ ps) (c.in_ok-_bidi.ensures ∙ ap (λ ps. bidi ∷ ps) c.in_ok-mapping.ensures)))))
-    (eqb-true (length (parts text)) 15 all)
+    (eqb-true (length (parts rest)) 9 (sym c.has_nine.ensures ∙ c.if-not-has_nine.false))

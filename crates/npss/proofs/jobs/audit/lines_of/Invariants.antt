@@ -1,5 +1,5 @@
 use Rattle.std.proofs.Common.{◌≡◌, flat_map, take, string_bytes}
-use Rattle.npss.specs.Lines.{break_line}
+use Rattle.npss.specs.Tellings.{break_line}
 use Rattle.npss.proofs.jobs.audit.lines_of.Given as goal
 
 abbrev pub invariant-loop-found : goal.invariant-loop-found

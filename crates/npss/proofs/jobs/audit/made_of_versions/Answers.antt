@@ -1,9 +1,10 @@
-use Rattle.std.proofs.Common.{IfOk, IfErr, subst}
-use Rattle.npss.specs.Audits.{AuditReaders}
+use Rattle.std.proofs.Common.{IfOk, IfErr, inl, refl, subst}
+use Rattle.std.proofs.lemmas.Result.{err_from_is_err_and}
+use Rattle.npss.specs.Chains.{VersionReaders}
 use Rattle.npss.specs.Streams.{Stream, stream_of}
 use Rattle.npss.specs.inside.AuditSteps.{LacksAgainst, MakesAgainst}
-use Rattle.npss.proofs.AuditLemmas.{made_against, refused_against}
-use Rattle.npss.proofs.EndLemmas.{same_stream}
+use Rattle.npss.proofs.AuditLemmas.{lacks_old, made_against, refused_against}
+use Rattle.npss.proofs.EndLemmas.{same_stream, untouched}
 use Rattle.npss.proofs.jobs.audit.made_of_versions.Goals as goal
 
 pub returns-clause-made : goal.returns-clause-made
@@ -13,13 +14,14 @@ returns-clause-made g c =
     let old_exclusions_file : Stream = stream_of files c.args.old_exclusions_file.now c.read_version.new.exclusions_file in
     let new_data_file : Stream = stream_of files c.args.new_data_file.now c.made_against.new.new_data_file in
     let new_exclusions_file : Stream = stream_of files c.args.new_exclusions_file.now c.made_against.new.new_exclusions_file in
-    let readers : AuditReaders = record { old_data_file = old_data_file; old_exclusions_file = old_exclusions_file; new_data_file = new_data_file; new_exclusions_file = new_exclusions_file } in
+    let old_files : VersionReaders = record { data_file = old_data_file; exclusions_file = old_exclusions_file } in
+    let new_files : VersionReaders = record { data_file = new_data_file; exclusions_file = new_exclusions_file } in
     let cleared : Stream = stream_of files c.clear-2.new.self c.made_against.new.new_exclusions_file in
     let half : IfOk c.made_against.result (MakesAgainst c.in_ok-old.old new_data_file cleared) =
     subst (λ (s : Stream). IfOk c.made_against.result (MakesAgainst c.in_ok-old.old s cleared)) (same_stream files c.clear.new.self c.args.new_data_file.now c.made_against.new.new_data_file c.clear.ensures.device) c.made_against.ensures.made in
     let made : IfOk c.made_against.result (MakesAgainst c.in_ok-old.old new_data_file new_exclusions_file) =
     subst (λ (s : Stream). IfOk c.made_against.result (MakesAgainst c.in_ok-old.old new_data_file s)) (same_stream files c.clear-2.new.self c.args.new_exclusions_file.now c.made_against.new.new_exclusions_file c.clear-2.ensures.device) half in
-    made_against readers c.in_ok-old.old c.made_against.result c.in_ok-old.ensures.built made
+    made_against old_files new_files c.in_ok-old.old c.made_against.result c.in_ok-old.ensures.built made
 
 pub returns-clause-refused : goal.returns-clause-refused
 returns-clause-refused g c =
@@ -28,10 +30,22 @@ returns-clause-refused g c =
     let old_exclusions_file : Stream = stream_of files c.args.old_exclusions_file.now c.read_version.new.exclusions_file in
     let new_data_file : Stream = stream_of files c.args.new_data_file.now c.made_against.new.new_data_file in
     let new_exclusions_file : Stream = stream_of files c.args.new_exclusions_file.now c.made_against.new.new_exclusions_file in
-    let readers : AuditReaders = record { old_data_file = old_data_file; old_exclusions_file = old_exclusions_file; new_data_file = new_data_file; new_exclusions_file = new_exclusions_file } in
+    let old_files : VersionReaders = record { data_file = old_data_file; exclusions_file = old_exclusions_file } in
+    let new_files : VersionReaders = record { data_file = new_data_file; exclusions_file = new_exclusions_file } in
     let cleared : Stream = stream_of files c.clear-2.new.self c.made_against.new.new_exclusions_file in
     let half : IfErr c.made_against.result (LacksAgainst new_data_file cleared) =
     subst (λ (s : Stream). IfErr c.made_against.result (LacksAgainst s cleared)) (same_stream files c.clear.new.self c.args.new_data_file.now c.made_against.new.new_data_file c.clear.ensures.device) c.made_against.ensures.refused in
     let refused : IfErr c.made_against.result (LacksAgainst new_data_file new_exclusions_file) =
     subst (λ (s : Stream). IfErr c.made_against.result (LacksAgainst new_data_file s)) (same_stream files c.clear-2.new.self c.args.new_exclusions_file.now c.made_against.new.new_exclusions_file c.clear-2.ensures.device) half in
-    refused_against readers c.in_ok-old.old c.made_against.result c.in_ok-old.ensures.built refused
+    refused_against old_files new_files c.in_ok-old.old c.made_against.result c.in_ok-old.ensures.built refused
+
+pub returns-in_err-old-clause-refused : goal.returns-in_err-old-clause-refused
+returns-in_err-old-clause-refused g c =
+    let files = g.F.Read.remaining in
+    let old_files : VersionReaders = record { data_file = stream_of files c.args.old_data_file.now c.read_version.new.data_file; exclusions_file = stream_of files c.args.old_exclusions_file.now c.read_version.new.exclusions_file } in
+    let new_files : VersionReaders = record { data_file = stream_of files c.args.new_data_file.now c.clear.new.self; exclusions_file = stream_of files c.args.new_exclusions_file.now c.clear-2.new.self } in
+    let data_file = untouched files c.args.new_data_file.now c.clear.new.self c.clear.ensures.device c.clear.ensures.clear in
+    let exclusions_file = untouched files c.args.new_exclusions_file.now c.clear-2.new.self c.clear-2.ensures.device c.clear-2.ensures.clear in
+    let fault = c.in_err-old.field-0.0 in
+    let p = err_from_is_err_and c.from_residual.result c.from_residual.ensures.1 in
+    rw (p.1, p.2) (inl (fault, refl, lacks_old old_files new_files fault c.in_err-old.ensures.refused data_file exclusions_file))

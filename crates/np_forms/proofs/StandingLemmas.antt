@@ -1,0 +1,130 @@
+-- Code points that may follow one another as they are are their own form.
+use Rattle.std.proofs.Common.{◌≡◌, ℕ, ◌≤◌, Bool, true, false, suc, List, [], ◌∷◌, ◌++◌, All, flat_map, MatchBool, refl, sym, ap, subst, ◌∙◌, arith, inl, inr, append_assoc, append-nil}
+use Rattle.np_code_points.specs.Forms.{is_compat, composes}
+use Rattle.np_code_points.specs.declared.forms.Form.{Form}
+use Rattle.np_forms.specs.Order.{is_ordered}
+use Rattle.np_forms.specs.inside.Composing.{compose, compose_after, compose_of}
+use Rattle.np_forms.specs.inside.NormalForms.{decomposed, ended, normal_form}
+use Rattle.np_forms.proofs.BoundaryLemmas.{composite-never, full_of-boundary}
+use Rattle.np_forms.proofs.ComposeLemmas.{compose-nil, compose-non_starter, compose-starter, compose_after-joined, compose_after-kept, compose_after-nil, compose_after-starter, joined-free, joined-none}
+use Rattle.np_forms.proofs.OrderLemmas.{canonical_order-ordered, is_ordered-cons, is_ordered-nil, is_ordered-one, not_reorderable_rising, not_reorderable_starter}
+use Rattle.np_tables.proofs.CompositeLemmas.{composite_from}
+use Rattle.np_tables.proofs.MappingLemmas.{full_of-final}
+use Rattle.np_tables.specs.Boundaries.{FoldsTo, NeverFalls, Stays}
+use Rattle.np_tables.specs.Conditions.{IsSound}
+use Rattle.np_tables.specs.Versions.{VersionData, class_of}
+use Rattle.np_tables.specs.inside.CompositeSearch.{composite}
+use Rattle.np_tables.specs.inside.FullDecompositions.{full_of}
+use Rattle.np_tables.specs.Standing.{IsInert, MayFollow, Walks}
+
+module _ (v : VersionData) (sound : IsSound v) where
+  -- composites go in one after the other, whatever follows
+  folds_on : (s : ℕ) (bs : List ℕ) (c : ℕ) (ys : List ℕ) → FoldsTo v s bs c → compose_after (class_of v) (composite v) s [] (bs ++ ys) ≡ compose_after (class_of v) (composite v) c [] ys
+  folds_on s [] c ys same = ap (λ x. compose_after (class_of v) (composite v) x [] ys) same
+  folds_on s (b ∷ bs) c ys h =
+      compose_after-joined (class_of v) (composite v) s [] b h.0 (bs ++ ys) (joined-free (class_of v) (composite v) s [] b refl ∙ composite_from v sound s b h.0 h.1)
+      ∙ folds_on h.0 bs c ys h.2
+
+  module _ (form : Form) where
+    abbrev full : ℕ → List ℕ
+    full = full_of v (is_compat form)
+
+    abbrev May : ℕ → ℕ → ℕ → Type 0
+    May = MayFollow v form
+
+    inert_full : (c : ℕ) → IsInert v form c → full c ≡ c ∷ []
+    inert_full c inert = full_of-final v (is_compat form) sound.shallow c inert.unmapped
+
+    -- ---- the full decomposition is in canonical order
+
+    -- code points of classes up to n may stand before the list
+    abbrev MayLead : ℕ → List ℕ → Type 0
+    MayLead n ys = (a : ℕ) → class_of v a ≤ n → is_ordered (class_of v) (a ∷ ys) ≡ true
+
+    run_on : (a : ℕ) (rest : List ℕ) (n : ℕ) (ys : List ℕ) → class_of v a ≤ n → NeverFalls (class_of v) (a ∷ rest) → All (λ d. class_of v d ≤ n) rest → MayLead n ys → is_ordered (class_of v) (a ∷ (rest ++ ys)) ≡ true
+    run_on a [] n ys low rises all lead = lead a low
+    run_on a (b ∷ bs) n ys low rises all lead =
+        is_ordered-cons (class_of v) a b (bs ++ ys) (not_reorderable_rising (class_of v) a b rises.0)
+        (run_on b bs n ys (all 0 b (omega arith)) rises.1 (λ k d lt. all (suc k) d (omega arith)) lead)
+
+    rises_from : (a : ℕ) (rest : List ℕ) → class_of v a ≡ 0 → NeverFalls (class_of v) rest → NeverFalls (class_of v) (a ∷ rest)
+    rises_from a [] starter rises = tt
+    rises_from a (b ∷ bs) starter rises = (omega arith, rises)
+
+    walk_ordered : (last : ℕ) (cs : List ℕ) (end : ℕ) → Walks May last cs end → (is_ordered (class_of v) (flat_map full cs) ≡ true) × MayLead last (flat_map full cs)
+    walk_ordered last [] end walk = (is_ordered-nil (class_of v), λ a low. is_ordered-one (class_of v) a)
+    walk_ordered last (c ∷ cs) end walk =
+        let ys = flat_map full cs in
+        let later = walk_ordered walk.0 cs end walk.2 in
+        elim walk.1 [
+          | inl up ↦
+              let at = up.stays.boundary in
+              let whole = run_on at.first at.rest walk.0 ys (omega (arith, at.starter)) (rises_from at.first at.rest at.starter up.stays.rises) up.up_to later.1 in
+              subst (λ l. (is_ordered (class_of v) (l ++ ys) ≡ true) × MayLead last (l ++ ys)) (sym (full_of-boundary v form c sound at))
+              (whole, λ a low. is_ordered-cons (class_of v) a at.first (at.rest ++ ys) (not_reorderable_starter (class_of v) a at.first (omega (arith, at.starter))) whole)
+          | inr goes ↦
+              let whole = later.1 c (omega (arith, goes.1)) in
+              subst (λ l. (is_ordered (class_of v) (l ++ ys) ≡ true) × MayLead last (l ++ ys)) (sym (inert_full c goes.0))
+              (whole, λ a low. is_ordered-cons (class_of v) a c ys (not_reorderable_rising (class_of v) a c (omega (arith, goes.1, goes.2))) whole)
+        ]
+
+    -- ---- it composes to what it came from
+
+    module _ (on : composes form ≡ true) where
+      comes_back : (c : ℕ) (stays : Stays v form c) → FoldsTo v stays.boundary.first stays.boundary.rest c
+      comes_back c stays = subst (λ b. MatchBool b (FoldsTo v stays.boundary.first stays.boundary.rest c) (stays.boundary.first ∷ stays.boundary.rest ≡ c ∷ [])) on stays.returns
+
+      walk_composed_after : (s : ℕ) (bs : List ℕ) (last : ℕ) (cs : List ℕ) (end : ℕ) → Walks May last cs end → compose_after (class_of v) (composite v) s bs (flat_map full cs) ≡ s ∷ (bs ++ cs)
+      walk_composed_after s bs last [] end walk = compose_after-nil (class_of v) (composite v) s bs ∙ ap (λ l. s ∷ l) (sym (append-nil bs))
+      walk_composed_after s bs last (c ∷ cs) end walk =
+          let ys = flat_map full cs in
+          elim walk.1 [
+            | inl up ↦
+                let at = up.stays.boundary in
+                ap (λ l. compose_after (class_of v) (composite v) s bs (l ++ ys)) (full_of-boundary v form c sound at)
+                ∙ compose_after-starter (class_of v) (composite v) s bs at.first (at.rest ++ ys) (joined-none (class_of v) (composite v) s bs at.first (composite-never v at.first (at.apart on) s)) (omega (arith, at.starter))
+                ∙ ap (λ l. s ∷ (bs ++ l)) (folds_on at.first at.rest c ys (comes_back c up.stays) ∙ walk_composed_after c [] walk.0 cs end walk.2)
+            | inr goes ↦
+                ap (λ l. compose_after (class_of v) (composite v) s bs (l ++ ys)) (inert_full c goes.0)
+                ∙ compose_after-kept (class_of v) (composite v) s bs c ys (joined-none (class_of v) (composite v) s bs c (composite-never v c (goes.0.apart on) s)) goes.0.non_starter
+                ∙ walk_composed_after s (bs ++ c ∷ []) walk.0 cs end walk.2 ∙ ap (λ l. s ∷ l) (append_assoc bs (c ∷ []) cs)
+          ]
+
+      walk_composed : (last : ℕ) (cs : List ℕ) (end : ℕ) → Walks May last cs end → compose (class_of v) (composite v) (flat_map full cs) ≡ cs
+      walk_composed last [] end walk = compose-nil (class_of v) (composite v)
+      walk_composed last (c ∷ cs) end walk =
+          let ys = flat_map full cs in
+          elim walk.1 [
+            | inl up ↦
+                let at = up.stays.boundary in
+                ap (λ l. compose (class_of v) (composite v) (l ++ ys)) (full_of-boundary v form c sound at)
+                ∙ compose-starter (class_of v) (composite v) at.first (at.rest ++ ys) (omega (arith, at.starter))
+                ∙ folds_on at.first at.rest c ys (comes_back c up.stays) ∙ walk_composed_after c [] walk.0 cs end walk.2
+            | inr goes ↦
+                ap (λ l. compose (class_of v) (composite v) (l ++ ys)) (inert_full c goes.0) ∙ compose-non_starter (class_of v) (composite v) c ys goes.0.non_starter
+                ∙ ap (λ l. c ∷ l) (walk_composed walk.0 cs end walk.2)
+          ]
+
+    -- where the form only decomposes, nothing changes
+    walk_plain : composes form ≡ false → (last : ℕ) (cs : List ℕ) (end : ℕ) → Walks May last cs end → flat_map full cs ≡ cs
+    walk_plain off last [] end walk = refl
+    walk_plain off last (c ∷ cs) end walk =
+        let rest = walk_plain off walk.0 cs end walk.2 in
+        elim walk.1 [
+          | inl up ↦
+              let at = up.stays.boundary in
+              let same : at.first ∷ at.rest ≡ c ∷ [] = subst (λ b. MatchBool b (FoldsTo v at.first at.rest c) (at.first ∷ at.rest ≡ c ∷ [])) off up.stays.returns in
+              ap (λ l. l ++ flat_map full cs) (full_of-boundary v form c sound at ∙ same) ∙ ap (λ l. c ∷ l) rest
+          | inr goes ↦ ap (λ l. l ++ flat_map full cs) (inert_full c goes.0) ∙ ap (λ l. c ∷ l) rest
+        ]
+
+    walk_ended : (b : Bool) → composes form ≡ b → (last : ℕ) (cs : List ℕ) (end : ℕ) → Walks May last cs end → ended v b (flat_map full cs) ≡ cs
+    unfolding compose_of
+    walk_ended true on last cs end walk = walk_composed on last cs end walk
+    walk_ended false off last cs end walk = walk_plain off last cs end walk
+
+pub standing_form : (v : VersionData) (sound : IsSound v) (form : Form) (cs : List ℕ) (end : ℕ) → Walks (MayFollow v form) 0 cs end → normal_form v form cs ≡ cs
+unfolding normal_form decomposed
+standing_form v sound form cs end walk =
+    ap (ended v (composes form)) (canonical_order-ordered (class_of v) (flat_map (full_of v (is_compat form)) cs) (walk_ordered v sound form 0 cs end walk).0)
+    ∙ walk_ended v sound form (composes form) refl 0 cs end walk
