@@ -13,7 +13,9 @@ use np_code_points::{Form, Memory};
 use np_tables::NormTable;
 use std::alloc::Global;
 
-/// Cuts off the longest front that is known to stand in the form as it is.
+/// Cuts off the longest front that is known to stand in the form as it is. It is made part of each
+/// loop that calls it, so that what the form asks is looked up once.
+#[inline(always)]
 pub(crate) fn split_standing<'a, T: NormTable>(
     table: &T,
     form: Form,
