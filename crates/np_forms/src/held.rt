@@ -16,7 +16,7 @@ use std::mem::replace;
 
 /// What became ready, and behind it what is held back: the last starter, which may be a composite
 /// already, and the non-starters after it, as they came.
-#[derive(Debug, Drop)]
+#[derive(Drop)]
 pub(crate) struct Held {
     pub(crate) ready: Vec<char>,
     pub(crate) pending: Vec<char>,

@@ -9,6 +9,7 @@ use crate::ordering::are_non_starters;
 use np_code_points::{Form, Memory};
 use np_tables::NormTable;
 use std::alloc::Global;
+use std::fmt;
 use std::marker::Model;
 use std::mem::swap;
 
@@ -27,7 +28,7 @@ fn copy_to(list: &mut Vec<char>, from: &[char]) -> Result<(), Memory>
 /// At most 1 code point is pending, and the longest run of non-starters so far: 31 for stream-safe
 /// text under a compatibility form. Each code point takes constant time, a run of non-starters of
 /// length n besides one stable sort of it.
-#[derive(Debug, Drop)]
+#[derive(Drop)]
 pub struct Stream<'t, T: NormTable> {
     table: &'t T,
     form: Form,
@@ -43,6 +44,17 @@ impl<'t, T: NormTable> Model for Stream<'t, T> {
     ghost Value = { StreamState };
 
     ghost view = { λ a. record { version = T.model a.table.now; form = a.form; ready = a.held.ready.items; pending = a.held.pending.items } };
+}
+
+/// Shows how many code points are ready and pending, and none of them: the text may be a person's.
+impl<'t, T: NormTable> fmt::Debug for Stream<'t, T> {
+    fn fmt<W: fmt::Write>(&self, f: &mut fmt::Formatter<W>) -> fmt::Result {
+        f.debug_struct("Stream")
+            .field("form", &self.form)
+            .field("ready", &self.held.ready.len())
+            .field("pending", &self.held.pending.len())
+            .finish_non_exhaustive()
+    }
 }
 
 impl<'t, T: NormTable> Stream<'t, T> {

@@ -8,7 +8,7 @@ use Rattle.np_node.proofs.FieldLemmas.{length-number_bytes, one_number, one_entr
 use Rattle.np_node.proofs.MessageLemmas.{one_form_byte}
 use Rattle.np_node.specs.Fields.{number_bytes, entry_bytes, FitsFields, IsEntryFault, LacksForm}
 use Rattle.np_node.specs.Images.{Image, image_name, head_bytes, entries_bytes, image_bytes, IsImage, IsImageFault}
-use Rattle.np_node.specs.Laws.{SpellsOneImage, HasOneImageFault}
+use Rattle.np_node.specs.Laws.{HasOneFault, SpellsOne}
 use Rattle.np_node.specs.Strings.{Entry}
 
 -- ---- the head
@@ -108,7 +108,7 @@ cut_image i j us ws m n p q e =
     let rest = cut_entries i.entries j.entries us ws p q heads.1 heads.2 in
     ((λ k. record { form = heads.0 k; entries = rest.0 k }), rest.1)
 
-pub one_image : SpellsOneImage
+pub one_image : SpellsOne IsImage
 one_image bytes more i j p q =
     cut_image i j more [] p.count q.count p.fits q.fits (sym (ap (λ l. l ++ more) p.spelling) ∙ q.spelling ∙ sym (append-nil (image_bytes j)))
 
@@ -211,7 +211,7 @@ fault-stops bytes at (inr (inr (inr (inr more)))) =
 some-none : (at : ℕ) → Some at ≡ None → ⊥
 some-none at e = true≢false (ap is_some e)
 
-pub one_image_fault : HasOneImageFault
+pub one_image_fault : HasOneFault IsImage IsImageFault
 one_image_fault bytes at fault = (
   λ i is. some-none at (one_stop bytes None (Some at) (image-stops bytes i is) (fault-stops bytes at fault)),
   λ other another. ap (λ o. unwrap_or o at) (one_stop bytes (Some at) (Some other) (fault-stops bytes at fault) (fault-stops bytes other another)),

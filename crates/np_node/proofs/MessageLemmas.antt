@@ -5,7 +5,7 @@ use Rattle.np_code_points.specs.declared.forms.Form.{Form}
 use Rattle.np_code_points.specs.declared.forms.Form.TheVariants.{Nfd, Nfc, Nfkd, Nfkc}
 use Rattle.np_node.proofs.FieldLemmas.{one_entry, whole_entry, one_entry_fault}
 use Rattle.np_node.specs.Fields.{entry_bytes, FitsFields, IsEntryFault, LacksForm}
-use Rattle.np_node.specs.Laws.{SpellsOneMessage, HasOneMessageFault}
+use Rattle.np_node.specs.Laws.{HasOneFault, SpellsOne}
 use Rattle.np_node.specs.Messages.{Message, message_bytes, IsMessage, IsMessageFault}
 use Rattle.np_node.specs.Strings.{Entry}
 
@@ -55,7 +55,7 @@ cut_message m n us ws p q e =
     let rest = one_entry m.entry n.entry us ws p q cut.1 in
     ((λ i. record { form = cut.0 i; entry = rest.0 i }), rest.1)
 
-pub one_message : SpellsOneMessage
+pub one_message : SpellsOne IsMessage
 one_message bytes more m n p q =
     cut_message m n more [] p.fits q.fits (sym (ap (λ l. l ++ more) p.spelling) ∙ q.spelling ∙ sym (append-nil (message_bytes n)))
 
@@ -108,7 +108,7 @@ fault-stops bytes at (inr (inr more)) =
 some-none : (at : ℕ) → Some at ≡ None → ⊥
 some-none at e = true≢false (ap is_some e)
 
-pub one_message_fault : HasOneMessageFault
+pub one_message_fault : HasOneFault IsMessage IsMessageFault
 one_message_fault bytes at fault = (
   λ m is. some-none at (one_stop bytes None (Some at) (message-stops bytes m is) (fault-stops bytes at fault)),
   λ other another. ap (λ o. unwrap_or o at) (one_stop bytes (Some at) (Some other) (fault-stops bytes at fault) (fault-stops bytes other another)),

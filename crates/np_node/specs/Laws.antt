@@ -3,8 +3,8 @@ use Rattle.std.specs.Prelude.{◌≡◌, ℕ, ◌≤◌, List, [], ◌++◌, sli
 use Rattle.np_chain.specs.Chain.{IsSoundChain}
 use Rattle.np_code_points.specs.declared.forms.Form.{Form}
 use Rattle.np_forms.specs.Assigned.{IsAssigned, IsFirstUnassigned}
-use Rattle.np_node.specs.Images.{Image, image_bytes, IsImage, IsImageFault}
-use Rattle.np_node.specs.Messages.{Message, message_bytes, IsMessage, IsMessageFault}
+use Rattle.np_node.specs.Images.{image_bytes, IsImage}
+use Rattle.np_node.specs.Messages.{message_bytes}
 use Rattle.np_node.specs.Nodes.{State, IsNode}
 use Rattle.np_node.specs.Restoring.{IsRestoreFault}
 use Rattle.np_node.specs.Strings.{Entry, IsEntry, IsKey}
@@ -15,24 +15,14 @@ use Rattle.np_node.specs.declared.taking.Taken.{Taken}
 use Rattle.np_tables.specs.Versions.{VersionData}
 use Rattle.std.specs.Prelude.{chars}
 
--- bytes spell at most one message, and with bytes behind them none at all: no spelling is a proper prefix of another
-abbrev pub SpellsOneMessage : Type 0
-SpellsOneMessage =
-    (bytes more : List ℕ) (m n : Message) → IsMessage bytes m → IsMessage (bytes ++ more) n → (m ≡ n) × (more ≡ [])
+-- bytes spell at most one value, and with bytes behind them none at all: no spelling is a proper prefix of another
+abbrev pub SpellsOne : {A : Type 0} → (List ℕ → A → Type 0) → Type 0
+SpellsOne {A} Spells = (bytes more : List ℕ) (a b : A) → Spells bytes a → Spells (bytes ++ more) b → (a ≡ b) × (more ≡ [])
 
--- bytes that are no message have at most one fault place, and a message has none
-abbrev pub HasOneMessageFault : Type 0
-HasOneMessageFault = (bytes : List ℕ) (at : ℕ) → IsMessageFault bytes at
-    → ((m : Message) → ¬ IsMessage bytes m) × ((other : ℕ) → IsMessageFault bytes other → other ≡ at)
-
--- the same of images
-abbrev pub SpellsOneImage : Type 0
-SpellsOneImage =
-    (bytes more : List ℕ) (i j : Image) → IsImage bytes i → IsImage (bytes ++ more) j → (i ≡ j) × (more ≡ [])
-
-abbrev pub HasOneImageFault : Type 0
-HasOneImageFault = (bytes : List ℕ) (at : ℕ) → IsImageFault bytes at
-    → ((i : Image) → ¬ IsImage bytes i) × ((other : ℕ) → IsImageFault bytes other → other ≡ at)
+-- bytes that spell nothing have at most one fault place, and those that spell something have none
+abbrev pub HasOneFault : {A : Type 0} → (List ℕ → A → Type 0) → (List ℕ → ℕ → Type 0) → Type 0
+HasOneFault {A} Spells IsFault = (bytes : List ℕ) (at : ℕ) → IsFault bytes at
+    → ((a : A) → ¬ Spells bytes a) × ((other : ℕ) → IsFault bytes other → other ≡ at)
 
 -- a version of a chain, by its place
 pub record IsIn (vs : List VersionData) (i : ℕ) (v : VersionData) : Type 0 where

@@ -6,14 +6,28 @@ use crate::nodes::Node;
 use crate::strings::{check_assigned, key_for, short_text};
 use np_code_points::Memory;
 use np_tables::NormTable;
+use std::fmt;
 
 /// What `Node::accept` answers.
-#[derive(Debug, PartialEq, Eq, Drop)]
+#[derive(PartialEq, Eq, Drop)]
 pub enum Accepted {
     /// The string was new and is kept now: the message that tells it to others.
     Kept(Vec<u8>),
     /// The string was kept already. Nothing changed, and there is nothing to send.
     Known,
+}
+
+/// Shows how long a message is, and nothing of the string in it, as a node does.
+impl fmt::Debug for Accepted {
+    fn fmt<W: fmt::Write>(&self, f: &mut fmt::Formatter<W>) -> fmt::Result {
+        match self {
+            Accepted::Kept(message) => f
+                .debug_struct("Kept")
+                .field("len", &message.len())
+                .finish_non_exhaustive(),
+            Accepted::Known => f.write_str("Known"),
+        }
+    }
 }
 
 impl<'t, T: NormTable> Node<'t, T> {

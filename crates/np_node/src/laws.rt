@@ -1,17 +1,19 @@
 //! The laws of nodes, over the definitions alone.
-ghost use Rattle.np_node.specs.Laws.{Exchange, FairExchange, HasOneImageFault, HasOneMessageFault, Saved, SpellsOneImage, SpellsOneMessage};
+ghost use Rattle.np_node.specs.Images.{IsImage, IsImageFault};
+ghost use Rattle.np_node.specs.Laws.{Exchange, FairExchange, HasOneFault, Saved, SpellsOne};
+ghost use Rattle.np_node.specs.Messages.{IsMessage, IsMessageFault};
 
 /// Bytes spell one message at most, no spelling is a proper prefix of another, and bytes that are
 /// no message have one fault place at most.
 pub fn messages()
-    ensures one { SpellsOneMessage }
-    ensures fault { HasOneMessageFault }
+    ensures one { SpellsOne IsMessage }
+    ensures fault { HasOneFault IsMessage IsMessageFault }
 {}
 
 /// The same of images.
 pub fn images()
-    ensures one { SpellsOneImage }
-    ensures fault { HasOneImageFault }
+    ensures one { SpellsOne IsImage }
+    ensures fault { HasOneFault IsImage IsImageFault }
 {}
 
 /// A string that is assigned in two versions of a chain has one key under both, so what `accept`

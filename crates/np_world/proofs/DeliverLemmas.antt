@@ -6,8 +6,8 @@ use Rattle.std.specs.declared.vec.Vec.{Vec}
 use Rattle.std.specs.declared.alloc.Global.{Global}
 use Rattle.np_chain.specs.Chain.{IsSoundChain}
 use Rattle.np_forms.specs.Assigned.{IsAssigned}
-use Rattle.np_node.specs.Laws.{Exchange, HasOneMessageFault, SpellsOneMessage}
-use Rattle.np_node.specs.Messages.{Message}
+use Rattle.np_node.specs.Laws.{Exchange, HasOneFault, SpellsOne}
+use Rattle.np_node.specs.Messages.{Message, IsMessage, IsMessageFault}
 use Rattle.np_node.specs.Strings.{Entry, IsEntry, IsKey}
 use Rattle.np_tables.specs.Versions.{VersionData}
 use Rattle.np_world.specs.World.{Setting, Scene, If, NamesUnassigned, Comes, Finds, Keeps, Reaches, Delivers, Forges}
@@ -44,7 +44,7 @@ module _ (setting : Setting) (v : VersionData) (place : ℕ) (chain : IsSoundCha
   comes_right e w other there is reaches =
       comes e w other there is (second _ _ _ (second _ _ _ reaches (λ long. absurd (omega (arith, long, is.keepable.short)))) (λ not. not is.keepable.utf8))
 
-  module _ (one : SpellsOneMessage) (none : HasOneMessageFault) (bytes string : List ℕ) (of : IsMessageOf setting bytes string) where
+  module _ (one : SpellsOne IsMessage) (none : HasOneFault IsMessage IsMessageFault) (bytes string : List ℕ) (of : IsMessageOf setting bytes string) where
     abbrev told : Message
     told = record { form = setting.form; entry = of.entry }
 
@@ -70,7 +70,7 @@ module _ {T : Type 0} (model : T → VersionData) (rules : Rules T) (old new : M
       (λ node strings last are m sent end.
       match-none strings number (slice_get_past strings number (omega (arith, past, length-messages (setting_of model rules) told strings sent))) _ _ (refl, refl))
 
-  pub delivers-sent : (b : Vec ℕ Global) (reply : Reply) → SpellsOneMessage → HasOneMessageFault → Exchange → slice_get told number ≡ Some b
+  pub delivers-sent : (b : Vec ℕ Global) (reply : Reply) → SpellsOne IsMessage → HasOneFault IsMessage IsMessageFault → Exchange → slice_get told number ≡ Some b
       → Turns model rules (λ version last. Forges (setting_of model rules) version b.items) old told reply new told → Turns model rules deed_deliver old told reply new told
   delivers-sent b reply one none exchange here turns = λ node strings version last are m sent present end.
       let turn = turns node strings version last are m sent present end in

@@ -4,8 +4,8 @@ use Rattle.std.specs.Prelude.{chars, IsUtf8, IfOk}
 use Rattle.std.specs.declared.vec.Vec.{Vec}
 use Rattle.std.specs.declared.alloc.Global.{Global}
 use Rattle.np_forms.specs.Assigned.{IsAssigned}
-use Rattle.np_node.specs.Laws.{HasOneMessageFault, SpellsOneMessage}
-use Rattle.np_node.specs.Messages.{Message, IsMessage}
+use Rattle.np_node.specs.Laws.{HasOneFault, SpellsOne}
+use Rattle.np_node.specs.Messages.{Message, IsMessage, IsMessageFault}
 use Rattle.np_node.specs.Nodes.{NodeState, State, state_of, with_entry}
 use Rattle.np_node.specs.Strings.{Entry, IsEntry, IsKey}
 use Rattle.np_node.specs.Taking.{AnswersTake, LeavesTaken}
@@ -25,7 +25,7 @@ use Rattle.np_world.proofs.StringLemmas.{not_assigned, not_utf8}
 use Rattle.np_world.proofs.TurnLemmas.{Deed, scene, finds-known, finds-full, finds-place, keeps_more, turned, says}
 
 -- bytes tell one string and key at most
-pub one_entry : SpellsOneMessage → (bytes : List ℕ) (m n : Message) → IsMessage bytes m → IsMessage bytes n → m ≡ n
+pub one_entry : SpellsOne IsMessage → (bytes : List ℕ) (m n : Message) → IsMessage bytes m → IsMessage bytes n → m ≡ n
 one_entry one bytes m n first second = (one bytes [] m n first (subst (λ l. IsMessage l n) (sym (append-nil bytes)) second)).0
 
 not_long : (n : ℕ) → n ≤ 4096 → ¬ (4096 < n)
@@ -100,7 +100,7 @@ module _ {T : Type 0} (model : T → VersionData) (rules : Rules T) (old new : M
       says model rules deed_forge old new told Known same
       (λ node strings last are m sent end. finds node m e answers.spelled (scene node strings) (scene node strings) Known answers.has.0 (finds-known model rules old node m strings e.string _ answers.has.1))
 
-  pub forges-kept : (told : List (Vec ℕ Global)) → SpellsOneMessage → AnswersTake (state_of model old.node) bytes (Ok taken.Kept) → LeavesTaken old.node new.node bytes (Ok taken.Kept)
+  pub forges-kept : (told : List (Vec ℕ Global)) → SpellsOne IsMessage → AnswersTake (state_of model old.node) bytes (Ok taken.Kept) → LeavesTaken old.node new.node bytes (Ok taken.Kept)
       → new.index ≡ old.index → new.image ≡ old.image → Turns model rules deed_forge old told Kept new told
   forges-kept told one answers leaves index image =
       let e = answers.entry in
@@ -145,7 +145,7 @@ module _ (setting : Setting) (v : VersionData) (before : Scene) (reply other : R
       (λ g h. one_finding setting v before reply other after next (chars string) _ _ (same_as reply other Kept after next (record before { node = with_string before.node (chars string) })) g h) e f) c d) a b) first second
 
   -- bytes that reach a node have one reply, and leave one scene
-  pub forges_once : SpellsOneMessage → HasOneMessageFault → (bytes : List ℕ) → Forges setting v bytes before reply after → Forges setting v bytes before other next → Same reply other after next
+  pub forges_once : SpellsOne IsMessage → HasOneFault IsMessage IsMessageFault → (bytes : List ℕ) → Forges setting v bytes before reply after → Forges setting v bytes before other next → Same reply other after next
   forges_once one none bytes (inl a) (inl b) = (a.2 ∙ ap Malformed ((none bytes b.0 b.1).1 a.0 a.1) ∙ sym b.2, both after next before a.3 b.3)
   forges_once one none bytes (inl a) (inr b) = absurd ((none bytes a.0 a.1).0 b.0 b.1)
   forges_once one none bytes (inr a) (inl b) = absurd ((none bytes b.0 b.1).0 a.0 a.1)

@@ -2,7 +2,8 @@
 use Rattle.std.proofs.Common.{◌≡◌, ℕ, List, [], ◌∷◌, slice_get, slice_set, Some, sym, ap, subst, ◌∙◌}
 use Rattle.np_code_points.specs.Forms.{is_compat}
 use Rattle.np_forms.specs.Forms.{IsEquivalent}
-use Rattle.np_node.specs.Laws.{HasOneMessageFault, SpellsOneMessage}
+use Rattle.np_node.specs.Laws.{HasOneFault, SpellsOne}
+use Rattle.np_node.specs.Messages.{IsMessage, IsMessageFault}
 use Rattle.np_tables.specs.Versions.{VersionData}
 use Rattle.np_world.specs.Events.{Event, Accept, Deliver, Upgrade, Save, Restart, Ask, Forge, node_of}
 use Rattle.np_world.specs.Laws.{OneRun}
@@ -35,7 +36,7 @@ module _ (setting : Setting) (v : VersionData) (before : Scene) (reply other : R
     both after next before one.0 two.0,
   )
 
-  one_deed : SpellsOneMessage → HasOneMessageFault → (last : VersionData) (event : Event) → Does setting v last event before reply after → Does setting v last event before other next → Same reply other after next
+  one_deed : SpellsOne IsMessage → HasOneFault IsMessage IsMessageFault → (last : VersionData) (event : Event) → Does setting v last event before reply after → Does setting v last event before other next → Same reply other after next
   one_deed message fault last (Accept node s) one two = one_accept s one two
   one_deed message fault last (Deliver node number) one two = one_delivery number one two
   one_deed message fault last (Upgrade node) one two = one_upgrade one two
@@ -52,7 +53,7 @@ scene_of node sent = record { node = node; sent = sent }
 abbrev world_of : List MachineNode → List (List ℕ) → World
 world_of nodes sent = record { nodes = nodes; sent = sent }
 
-one_step : SpellsOneMessage → HasOneMessageFault → (setting : Setting) (before : World) (event : Event) (reply other : Reply) (after next : World)
+one_step : SpellsOne IsMessage → HasOneFault IsMessage IsMessageFault → (setting : Setting) (before : World) (event : Event) (reply other : Reply) (after next : World)
     → IsStep setting before event reply after → IsStep setting before event other next → (reply ≡ other) × (after ≡ next)
 one_step message fault setting before event reply other after next one two =
     let found : Some one.old ≡ Some two.old = sym one.named ∙ two.named in
@@ -69,7 +70,7 @@ one_step message fault setting before event reply other after next one two =
     let sent : after.sent ≡ next.sent = ap (λ (s : Scene). s.sent) same.1 in
     (same.0, ap (λ l. world_of l after.sent) nodes ∙ ap (world_of next.nodes) sent)
 
-pub one_run : SpellsOneMessage → HasOneMessageFault → OneRun
+pub one_run : SpellsOne IsMessage → HasOneFault IsMessage IsMessageFault → OneRun
 one_run message fault setting before [] replies others after other run second = (both replies others [] run.0 second.0, both after other before run.1 second.1)
 one_run message fault setting before (event ∷ events) replies others after other run second =
     let step = one_step message fault setting before event run.0 second.0 run.2 second.2 run.4 second.4 in

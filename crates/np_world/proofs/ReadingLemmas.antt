@@ -8,7 +8,7 @@ use Rattle.np_code_points.specs.inside.LineCuts.{data_lines_in, lines_of}
 use Rattle.np_code_points.proofs.DataLineGrammar.{are_data_lines, only_data_lines}
 use Rattle.np_code_points.proofs.LineGrammar.{are_lines, only_lines}
 use Rattle.np_world.specs.Events.{Event, ScheduleData}
-use Rattle.np_world.specs.ReadingLaws.{SaysOver, HaveOneReading}
+use Rattle.np_world.specs.ReadingLaws.{SaysOver, HasOneReading}
 use Rattle.np_world.specs.ScheduleFiles.{AreEventLines, SaysSchedule, MayStand, IsUnfit, EndsEarly, IsFaultyLine}
 use Rattle.np_world.specs.ScheduleLines.{IsEventLine, IsNodesLine, IsRoomLine}
 use Rattle.np_world.specs.declared.reading.ScheduleFault.TheVariants.{Line}
@@ -214,7 +214,7 @@ outcome_of bytes versions (line ∷ left) e =
     ))
     (room_or_none line.text)
 
-pub one_reading : HaveOneReading
+pub one_reading : (bytes : List ℕ) (versions : ℕ) → HasOneReading bytes versions
 one_reading bytes versions = record {
   either = ⊎_elim
       (λ said. inl (said.0, said.1, λ other h. one_said other said.0 bytes h.0 said.1.0 (h.1 ∙ sym said.1.1)))

@@ -8,7 +8,7 @@ use Rattle.std.specs.declared.alloc.Global.{Global}
 use Rattle.np_chain.specs.Chain.{Extends, StandsAt}
 use Rattle.np_code_points.specs.declared.forms.Form.{Form}
 use Rattle.np_node.specs.Images.{Image, image_bytes, IsImage}
-use Rattle.np_node.specs.Laws.{Saved, IsSavedAs, SpellsOneImage}
+use Rattle.np_node.specs.Laws.{IsSavedAs, Saved, SpellsOne}
 use Rattle.np_node.specs.Nodes.{NodeState, State, state_of, IsNode}
 use Rattle.np_node.specs.Restoring.{IsRestored, IsRestoreFault}
 use Rattle.np_node.specs.Strings.{Entry}
@@ -157,7 +157,7 @@ module _ {T : Type 0} (model : T → VersionData) (rules : Rules T) (old : Membe
       saved (map model rules.tables) old.index old.index (model old.node.table) (saved_state (setting_of model rules) (model old.node.table) entries)
       (record { chain = are.chain; here = (table_here model rules old twin m) }) (record { chain = are.chain; here = (table_here model rules old twin m) }) (omega arith) is
 
-  pub restarts-saved : (strings : List (List ℕ)) (last : VersionData) (bytes : Vec ℕ Global) (new : Member T) (told : List (Vec ℕ Global)) → AreRules model rules → Saved → SpellsOneImage → old.image ≡ Some bytes → new.index ≡ old.index → new.image ≡ old.image
+  pub restarts-saved : (strings : List (List ℕ)) (last : VersionData) (bytes : Vec ℕ Global) (new : Member T) (told : List (Vec ℕ Global)) → AreRules model rules → Saved → SpellsOne IsImage → old.image ≡ Some bytes → new.index ≡ old.index → new.image ≡ old.image
       → IsRestored model old.node.table rules.form rules.room bytes.items new.node → AreMessages (setting_of model rules) told strings
       → IsTurn model rules (λ v end. Restarts) twin strings (model old.node.table) last Restarted new told
   restarts-saved strings last bytes new told are saved one some index image is messages =

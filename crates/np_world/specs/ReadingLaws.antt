@@ -12,6 +12,3 @@ SaysOver bytes versions schedule = SaysSchedule bytes schedule × (schedule.vers
 pub record HasOneReading (bytes : List ℕ) (versions : ℕ) : Type 0 where
   pub either : HasOne (SaysOver bytes versions) ⊎ HasOne (IsFaultyLine bytes versions)
   pub not_both : (schedule : ScheduleData) (line : ℕ) → SaysOver bytes versions schedule → IsFaultyLine bytes versions line → ⊥
-
-abbrev pub HaveOneReading : Type 0
-HaveOneReading = (bytes : List ℕ) (versions : ℕ) → HasOneReading bytes versions

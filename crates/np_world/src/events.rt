@@ -1,7 +1,7 @@
 //! The events of a schedule.
 
 /// An event, as its line says it. Nodes and messages are named by their numbers, from 0.
-#[derive(Debug, Drop)]
+#[derive(Drop)]
 pub(crate) enum EventLine {
     /// The node is given a string.
     Accept {

@@ -15,7 +15,7 @@ pub(crate) struct Common<'c, 't, T: NormTable> {
 }
 
 /// A node of a replay: the place of its version in the chain, the node, and its last image.
-#[derive(Debug, Drop)]
+#[derive(Drop)]
 pub(crate) struct Member<'t, T: NormTable> {
     pub index: usize,
     pub node: Node<'t, T>,

@@ -7,13 +7,26 @@ use crate::members::Member;
 use crate::replies::Reply;
 use np_node::Node;
 use np_tables::NormTable;
+use std::fmt;
 
 /// What a replay answers: a reply to each event, the messages sent, and the nodes at the end.
-#[derive(Debug, Drop)]
+#[derive(Drop)]
 pub struct Report<'t, T: NormTable> {
     pub(crate) replies: Vec<Reply>,
     pub(crate) sent: Vec<Vec<u8>>,
     pub(crate) members: Vec<Member<'t, T>>,
+}
+
+/// Shows how many replies, messages and nodes there are, and none of the strings in them: they may
+/// be names of persons.
+impl<'t, T: NormTable> fmt::Debug for Report<'t, T> {
+    fn fmt<W: fmt::Write>(&self, f: &mut fmt::Formatter<W>) -> fmt::Result {
+        f.debug_struct("Report")
+            .field("replies", &self.replies.len())
+            .field("sent", &self.sent.len())
+            .field("nodes", &self.members.len())
+            .finish_non_exhaustive()
+    }
 }
 
 impl<'t, T: NormTable> Report<'t, T> {

@@ -4,11 +4,12 @@ ghost use Rattle.np_world.specs.inside.Rust.{event_of, schedule_data};
 ghost use Rattle.np_world.specs.Schedules.{IsStandable};
 
 use crate::events::EventLine;
+use std::fmt;
 use std::marker::Model;
 
 /// What happens to some nodes over a chain of versions: the room of each node, the place of each
 /// node's first version, and the events in their order.
-#[derive(Debug, Drop)]
+#[derive(Drop)]
 pub struct Schedule {
     versions: usize,
     room: u32,
@@ -26,6 +27,19 @@ impl Model for Schedule {
     ghost view = { λ a. schedule_data a.versions a.room a.starts.items a.events.items };
 
     ghost invariant = { λ a. IsStandable (schedule_data a.versions a.room a.starts.items a.events.items) };
+}
+
+/// Shows how many nodes and events there are, and none of the strings in these: they may be names
+/// of persons.
+impl fmt::Debug for Schedule {
+    fn fmt<W: fmt::Write>(&self, f: &mut fmt::Formatter<W>) -> fmt::Result {
+        f.debug_struct("Schedule")
+            .field("versions", &self.versions)
+            .field("room", &self.room)
+            .field("nodes", &self.starts.len())
+            .field("events", &self.events.len())
+            .finish_non_exhaustive()
+    }
 }
 
 impl Schedule {

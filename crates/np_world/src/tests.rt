@@ -134,3 +134,21 @@ fn a_report_lends_messages_and_images(rt: HostRuntime) -> Result<(), Fail> {
     let tables = tables_of(rt.alloc(), &[V1, V2])?;
     wants_lent(rt.alloc(), tables.as_slice())
 }
+
+/// A schedule and a report show how much there is in them, and none of the strings.
+fn shows_counts(alloc: Global, tables: &[RowTable]) -> Result<(), Fail> {
+    let schedule = read_schedule(alloc, EXCHANGE_SCHEDULE.as_bytes(), tables.len())?;
+    let report = replayed(alloc, tables, EXCHANGE_SCHEDULE)?;
+    let text = format!(in alloc; "{schedule:?}, {report:?}")?;
+    want(
+        text.as_str()
+            == "Schedule { versions: 2, room: 4, nodes: 2, events: 12, .. }, Report { replies: 12, sent: 2, nodes: 2, .. }",
+        "what a schedule and a report show",
+    )
+}
+
+#[test]
+fn a_report_shows_no_string(rt: HostRuntime) -> Result<(), Fail> {
+    let tables = tables_of(rt.alloc(), &[V1, V2])?;
+    shows_counts(rt.alloc(), tables.as_slice())
+}

@@ -210,7 +210,7 @@ module _ {D : Type 0} (tells : D → Option (List ℕ)) where
     size = at.size;
     old_is = at.old_is;
     new_is = at.new_is;
-    holds = inr (inr (record { v = v; rows = at.holds.rows; listed = at.holds.listed; tables = (Memory, refl, inl refl) }));
+    holds = inr (inr (v, at.holds.rows, at.holds.listed, (Memory, refl, inl refl)));
   }
 
   none_behind : (files : List (Watched D)) → length files < 2 → readers_of tells files files ≡ []

@@ -1,5 +1,5 @@
 -- How `audit` ends.
-use Rattle.std.specs.Prelude.{◌≡◌, ◌⊎◌, ℕ, Bool, true, false, List, [], ◌∷◌, flat_map, codes}
+use Rattle.std.specs.Prelude.{◌≡◌, ◌⊎◌, ℕ, Bool, ◌==◌, List, [], ◌∷◌, length, flat_map, codes}
 use Rattle.np_chain.specs.Breaks.{AreBreaks}
 use Rattle.np_chain.specs.declared.breaks.Break.{Break}
 use Rattle.np_tables.specs.Versions.{VersionData}
@@ -16,15 +16,11 @@ abbrev pub audit_text : List Break → List ℕ
 audit_text [] = codes "extends\n"
 audit_text (b ∷ bs) = flat_map break_line (b ∷ bs)
 
-abbrev pub is_none_left : List Break → Bool
-is_none_left [] = true
-is_none_left (b ∷ bs) = false
-
 -- all breaks of two versions, each code point's least kind, in order
 pub record IsAudit (old new : VersionData) (is_yes : Bool) (bytes : List ℕ) : Type 0 where
   pub breaks : List Break
   pub are : AreBreaks old new breaks
-  pub answer : is_yes ≡ is_none_left breaks
+  pub answer : is_yes ≡ (length breaks == 0)
   pub bytes_are : bytes ≡ audit_text breaks
 
 -- what the new version breaks of the old one; the readers are those of the old one and of the new one

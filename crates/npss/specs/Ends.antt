@@ -19,32 +19,14 @@ IsRefused fault error status =
     (IsTold error (telling_of fault).line × (status ≡ (telling_of fault).status))
     ⊎ (IsTold error memory_line × (status ≡ 6) × ((telling_of fault).is_fixed ≡ false))
 
--- the output was written, and nothing is told
-pub record IsDone (Makes : Bool → List ℕ → Type 0) (output error : Stream) (status : ℕ) : Type 0 where
-  pub is_yes : Bool
-  pub bytes : List ℕ
-  pub makes : Makes is_yes bytes
-  pub written : WasWritten output bytes
-  pub silent : IsUntouched error
-  pub status_is : status ≡ answer_status is_yes
+-- the output was written, and nothing is told; or the output failed, which is told
+abbrev pub Writes : Bool → List ℕ → Stream → Stream → ℕ → Type 0
+Writes is_yes bytes output error status =
+    (WasWritten output bytes × IsUntouched error × (status ≡ answer_status is_yes))
+    ⊎ (WasCutShort output bytes × IsRefused WriteFailed error status)
 
--- the output failed
-pub record IsCutShort (Makes : Bool → List ℕ → Type 0) (output error : Stream) (status : ℕ) : Type 0 where
-  pub is_yes : Bool
-  pub bytes : List ℕ
-  pub makes : Makes is_yes bytes
-  pub written : WasCutShort output bytes
-  pub told : IsRefused WriteFailed error status
-
--- nothing was made, and nothing is written
-pub record IsNotDone (Refuses : JobFault → Type 0) (output error : Stream) (status : ℕ) : Type 0 where
-  pub fault : JobFault
-  pub refuses : Refuses fault
-  pub untouched : IsUntouched output
-  pub told : IsRefused fault error status
-
--- a job that makes this answer and output, or is refused for this
+-- a job that makes this answer and output, and writes it; or is refused for this, and writes nothing
 abbrev pub Ends : (Bool → List ℕ → Type 0) → (JobFault → Type 0) → Stream → Stream → ℕ → Type 0
 Ends Makes Refuses output error status =
-    IsDone Makes output error status
-    ⊎ (IsCutShort Makes output error status ⊎ IsNotDone Refuses output error status)
+    ((is_yes : Bool) × (bytes : List ℕ) × Makes is_yes bytes × Writes is_yes bytes output error status)
+    ⊎ ((fault : JobFault) × Refuses fault × IsUntouched output × IsRefused fault error status)

@@ -1,5 +1,5 @@
 -- How `normalize` ends.
-use Rattle.std.specs.Prelude.{◌≡◌, ◌⊎◌, ◌↔◌, ℕ, true, false, Ok, Err}
+use Rattle.std.specs.Prelude.{◌≡◌, ◌⊎◌, ◌↔◌, ℕ, true, Result, Ok, Err}
 use Rattle.np_code_points.specs.declared.forms.Form.{Form}
 use Rattle.np_code_points.specs.declared.channels.input.InputFault.TheVariants as Inputs
 use Rattle.np_forms.specs.RunEnds.{Ends as RunDevices, RunEnds}
@@ -10,6 +10,7 @@ use Rattle.npss.specs.Ends.{IsRefused}
 use Rattle.npss.specs.Streams.{Stream, IsUntouched}
 use Rattle.npss.specs.Texts.{TextReaders, LacksVersion}
 use Rattle.npss.specs.Versions.{WasBuilt}
+use Rattle.npss.specs.Wraps.{Wraps}
 use Rattle.npss.specs.declared.jobs.faults.JobFault.{JobFault}
 use Rattle.npss.specs.declared.jobs.faults.JobFault.TheVariants.{Text, WriteFailed}
 use Rattle.npss.specs.declared.jobs.faults.TextFault.TheVariants as Texts
@@ -26,31 +27,21 @@ told_as Runs.WriteFailed = WriteFailed
 told_as Runs.TooLarge = Text (Texts.Input Inputs.TooLarge)
 told_as Runs.Memory = Text Texts.Memory
 
--- the version was built, the normal form of the whole input was written, and no device failed
-pub record IsNormalized (form : Form) (readers : TextReaders) (output : Stream) : Type 0 where
+-- the version was built, and the run over the input answered this; the input failed exactly where that is the answer, and so did the output
+pub record WasRun (form : Form) (readers : TextReaders) (output : Stream) (answer : Result ℕ RunFault) : Type 0 where
   pub v : VersionData
   pub built : WasBuilt readers.data_file readers.exclusions_file v
-  pub count : ℕ
-  pub ran : RunEnds v form (run_devices readers.input output) (Ok count)
-  pub read : readers.input.failed ≡ false
-  pub written : output.failed ≡ false
-
--- the version was built, and the run ended early; the input failed exactly where that is told, and so did the output
-pub record IsNormalizedInPart (form : Form) (readers : TextReaders) (output : Stream) (fault : JobFault) : Type 0 where
-  pub v : VersionData
-  pub built : WasBuilt readers.data_file readers.exclusions_file v
-  pub run_fault : RunFault
-  pub is : fault ≡ told_as run_fault
-  pub ran : RunEnds v form (run_devices readers.input output) (Err run_fault)
-  pub read : (run_fault ≡ Runs.ReadFailed) ↔ (readers.input.failed ≡ true)
-  pub written : (run_fault ≡ Runs.WriteFailed) ↔ (output.failed ≡ true)
+  pub ends : RunEnds v form (run_devices readers.input output) answer
+  pub read : (answer ≡ Err Runs.ReadFailed) ↔ (readers.input.failed ≡ true)
+  pub written : (answer ≡ Err Runs.WriteFailed) ↔ (output.failed ≡ true)
 
 -- the run ended early; or the version was refused, and nothing was read of the input or written
 abbrev pub IsStopped : Form → TextReaders → Stream → JobFault → Type 0
-IsStopped form readers output fault = IsNormalizedInPart form readers output fault ⊎ (LacksVersion readers fault × IsUntouched output)
+IsStopped form readers output fault =
+    Wraps told_as (λ stopped. WasRun form readers output (Err stopped)) fault ⊎ (LacksVersion readers fault × IsUntouched output)
 
 -- `normalize`: the normal form of the input, written as it is read, and nothing is told; or the job stopped, and why is told
 abbrev pub NormalizeEnds : Form → TextReaders → Stream → Stream → ℕ → Type 0
 NormalizeEnds form readers output error status =
-    (IsNormalized form readers output × IsUntouched error × (status ≡ 0))
+    (((count : ℕ) × WasRun form readers output (Ok count)) × IsUntouched error × (status ≡ 0))
     ⊎ ((fault : JobFault) × IsStopped form readers output fault × IsRefused fault error status)

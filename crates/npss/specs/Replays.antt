@@ -65,11 +65,6 @@ pub record MakesReplay (form : Form) (readers : ReplayReaders) (is_yes : Bool) (
 
 -- ---- what is refused, in this order
 
--- one version doesn't extend the one before, and the schedule was not looked at
-abbrev pub LacksChain : Stream → List VersionData → ReplayFault → Type 0
-LacksChain schedule_file versions fault =
-    ((place : ℕ) × (brk : Break) × (fault ≡ NotExtension place brk) × IsFirstBroken versions place brk) × IsUntouched schedule_file
-
 -- a first line that can't stand; or memory ran out
 abbrev pub LacksLine : List ℕ → ℕ → ReplayFault → Type 0
 LacksLine script count fault = Wraps Line (IsFaultyLine script count) fault ⊎ (fault ≡ Memory)
@@ -79,10 +74,11 @@ abbrev pub LacksSchedule : Stream → ℕ → ReplayFault → Type 0
 LacksSchedule schedule_file count fault =
     Wraps Schedule (WasNotRead schedule_file) fault ⊎ ((script : List ℕ) × WasRead schedule_file script × LacksLine script count fault)
 
--- versions are no chain, or the schedule is not replayed over their chain
+-- one version doesn't extend the one before, and the schedule was not looked at; or it is not replayed over their chain
 abbrev pub LacksReport : Stream → List VersionData → ReplayFault → Type 0
 LacksReport schedule_file versions fault =
-    LacksChain schedule_file versions fault ⊎ (IsChain versions × LacksSchedule schedule_file (length versions) fault)
+    ((place : ℕ) × (brk : Break) × (fault ≡ NotExtension place brk) × IsFirstBroken versions place brk × IsUntouched schedule_file)
+    ⊎ (IsChain versions × LacksSchedule schedule_file (length versions) fault)
 
 -- a version was refused, and the schedule not looked at; or all were built, and give no report
 abbrev pub RefusesReplay : ReplayReaders → JobFault → Type 0

@@ -1,15 +1,8 @@
--- What is told before a job begins.
+-- What is told where a file does not open.
 use Rattle.std.specs.Prelude.{◌≡◌, ◌⊎◌, ◌++◌, ℕ, List, codes}
 use Rattle.npss.specs.Ends.{IsRefused, IsTold}
-use Rattle.npss.specs.Streams.{Stream, IsUntouched, WasWritten, WasCutShort}
-use Rattle.npss.specs.Words.{usage_lines}
-use Rattle.npss.specs.declared.jobs.faults.JobFault.TheVariants.{WriteFailed, Memory}
-
--- the usage text was written and nothing told, or the output failed
-abbrev pub ShowsUsage : Stream → Stream → ℕ → Type 0
-ShowsUsage output error status =
-    (WasWritten output usage_lines × IsUntouched error × (status ≡ 0))
-    ⊎ (WasCutShort output usage_lines × IsRefused WriteFailed error status)
+use Rattle.npss.specs.Streams.{Stream}
+use Rattle.npss.specs.declared.jobs.faults.JobFault.TheVariants.{Memory}
 
 -- a file can't be opened; told as want of memory, where there is none for the line
 abbrev pub IsUnopened : List ℕ → Stream → ℕ → Type 0

@@ -46,16 +46,9 @@ pub record WasRefused (IsFault : List ℕ → UcdFault → Type 0) (file : Strea
 abbrev pub IsTablesFault : VersionData → TableFault → Type 0
 IsTablesFault v fault = (fault ≡ Memory) ⊎ IsLeastFault v fault
 
--- the tables that the two files make were refused
-pub record HasTablesFault (number : ℕ) (data_file exclusions_file : Stream) (fault : VersionFault) : Type 0 where
-  pub v : VersionData
-  pub rows : HasRows data_file v.entries
-  pub listed : HasExclusions exclusions_file v.exclusions
-  pub tables : Wraps (Tables number) (IsTablesFault v) fault
-
 -- why no version came of the two files: the data file first, then the exclusions, then the tables
 abbrev pub IsVersionFault : ℕ → Stream → Stream → VersionFault → Type 0
 IsVersionFault number data_file exclusions_file fault =
     (Wraps (Data number) (WasRefused IsFirstFault data_file) fault × IsUntouched exclusions_file)
     ⊎ ((((rows : List Entry) × HasRows data_file rows) × Wraps (Exclusions number) (WasRefused IsFirstBadLine exclusions_file) fault)
-    ⊎ HasTablesFault number data_file exclusions_file fault)
+    ⊎ ((v : VersionData) × HasRows data_file v.entries × HasExclusions exclusions_file v.exclusions × Wraps (Tables number) (IsTablesFault v) fault))

@@ -1,11 +1,10 @@
 //! Stabilized Unicode strings over tables that are read from files: the program.
 #![tactic(auto)]
 
-ghost use Rattle.std.specs.Prelude.{◌≡◌, ◌≤◌, length};
-ghost use Rattle.npss.specs.Ends.{IsTold};
+ghost use Rattle.std.specs.Prelude.{◌≡◌, ◌≤◌, length, true};
+ghost use Rattle.npss.specs.Ends.{IsTold, Writes};
 ghost use Rattle.npss.specs.Streams.{stream_of};
 ghost use Rattle.npss.specs.Words.{usage_lines};
-ghost use Rattle.npss.specs.Usage.{ShowsUsage};
 ghost use Rattle.npss.specs.inside.Jobs.{HasVersions};
 
 mod jobs;
@@ -43,7 +42,7 @@ fn show_usage<O: Write, E: Write>(
     output: &mut Watched<O>,
     error: &mut Watched<E>,
 ) -> u8
-    ensures { ShowsUsage (stream_of O.contents output.old output.new) (stream_of E.contents error.old error.new) result }
+    ensures { Writes true usage_lines (stream_of O.contents output.old output.new) (stream_of E.contents error.old error.new) result }
 {
     error.clear();
     match write_out(output, usage_text().as_bytes()) {

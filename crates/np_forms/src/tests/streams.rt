@@ -113,6 +113,24 @@ fn starters_go_into_a_pending_starter(rt: HostRuntime) -> Result<(), Fail> {
     new_rows_over::<PageTable>(rt.alloc())
 }
 
+/// A stream shows how much it holds, and none of it.
+fn shows_counts<T: NormTable>(alloc: Global, table: &T) -> Result<(), Fail> {
+    let mut stream = Stream::new(alloc, table, Form::Nfc);
+    stream.feed('\u{61}')?;
+    stream.feed('\u{41}')?;
+    let text = format!(in alloc; "{stream:?}")?;
+    want(
+        text.as_str() == "Stream { form: Nfc, ready: 1, pending: 1, .. }",
+        "what a stream shows",
+    )
+}
+
+#[test]
+fn a_stream_shows_no_text(rt: HostRuntime) -> Result<(), Fail> {
+    let table: RowTable = table_of(rt.alloc(), V1_DATA, V1_EXCLUSIONS)?;
+    shows_counts(rt.alloc(), &table)
+}
+
 fn begins_anew_over<T: Made>(alloc: Global) -> Result<(), Fail> {
     let table: T = table_of(alloc, V1_DATA, V1_EXCLUSIONS)?;
     begins_anew(alloc, &table)

@@ -1,6 +1,6 @@
 //! What a node answers to strings.
 use super::{Made, table_of, want, wants_kept, wants_known, wants_refused, wants_taken};
-use crate::{Node, NodeFault, Taken};
+use crate::{Accepted, Node, NodeFault, Taken};
 use np_chain::{Break, BreakKind};
 use np_code_points::fixtures::{V1_DATA, V1_EXCLUSIONS, V2_DATA, V2_EXCLUSIONS};
 use np_code_points::{Form, Memory};
@@ -54,11 +54,13 @@ fn little_room<T: NormTable>(alloc: Global, table: &T) -> Result<(), Fail> {
     wants_shown(alloc, &node)
 }
 
-/// No string is shown where a node is printed.
+/// No string is shown where a node or what it answers is printed.
 fn wants_shown<T: NormTable>(alloc: Global, node: &Node<'_, T>) -> Result<(), Fail> {
-    let shown = format!(in alloc; "{node:?}")?;
+    let kept = Accepted::Kept(letters(alloc, 13)?);
+    let known = Accepted::Known;
+    let shown = format!(in alloc; "{node:?}, {kept:?}, {known:?}")?;
     want(
-        shown.as_str() == "Node { form: Nfc, room: 1, len: 1, .. }",
+        shown.as_str() == "Node { form: Nfc, room: 1, len: 1, .. }, Kept { len: 13, .. }, Known",
         "as it is shown",
     )
 }

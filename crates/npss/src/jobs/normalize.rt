@@ -1,6 +1,6 @@
 //! The command `normalize`: the normal form of an input, as it is read.
-ghost use Rattle.std.specs.Prelude.{◌≡◌, OnOk, IfErr};
-ghost use Rattle.npss.specs.NormalForms.{IsNormalized, IsStopped, NormalizeEnds, told_as};
+ghost use Rattle.std.specs.Prelude.{◌≡◌, ℕ, Ok, OnOk, IfErr};
+ghost use Rattle.npss.specs.NormalForms.{IsStopped, NormalizeEnds, WasRun, told_as};
 ghost use Rattle.npss.specs.Streams.{stream_of};
 
 use super::ending::{DONE, refuse};
@@ -40,11 +40,11 @@ fn normalized<F: Read, I: Read, O: Write>(
     input: &mut Watched<I>,
     output: &mut Watched<O>,
 ) -> Result<(), JobFault>
-    ensures done { OnOk result (IsNormalized form (record {
+    ensures done { OnOk result ((count : ℕ) × WasRun form (record {
       data_file = stream_of F.remaining data_file.old data_file.new;
       exclusions_file = stream_of F.remaining exclusions_file.old exclusions_file.new;
       input = stream_of I.remaining input.old input.new;
-    }) (stream_of O.contents output.old output.new)) }
+    }) (stream_of O.contents output.old output.new) (Ok count)) }
     ensures stopped { IfErr result (IsStopped form (record {
       data_file = stream_of F.remaining data_file.old data_file.new;
       exclusions_file = stream_of F.remaining exclusions_file.old exclusions_file.new;

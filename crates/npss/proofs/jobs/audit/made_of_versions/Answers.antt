@@ -1,43 +1,29 @@
-use Rattle.std.proofs.Common.{IfOk, IfErr, inl, refl, subst}
+use Rattle.std.proofs.Common.{IfOk, IfErr, inl, refl}
 use Rattle.std.proofs.lemmas.Result.{err_from_is_err_and}
 use Rattle.npss.specs.Chains.{VersionReaders}
-use Rattle.npss.specs.Streams.{Stream, stream_of}
+use Rattle.npss.specs.Streams.{stream_of}
 use Rattle.npss.specs.inside.AuditSteps.{LacksAgainst, MakesAgainst}
 use Rattle.npss.proofs.AuditLemmas.{lacks_old, made_against, refused_against}
-use Rattle.npss.proofs.EndLemmas.{same_stream, untouched}
+use Rattle.npss.proofs.EndLemmas.{on_same, untouched}
 use Rattle.npss.proofs.jobs.audit.made_of_versions.Goals as goal
 
 pub returns-clause-made : goal.returns-clause-made
 returns-clause-made g c =
     let files = g.F.Read.remaining in
-    let old_data_file : Stream = stream_of files c.args.old_data_file.now c.read_version.new.data_file in
-    let old_exclusions_file : Stream = stream_of files c.args.old_exclusions_file.now c.read_version.new.exclusions_file in
-    let new_data_file : Stream = stream_of files c.args.new_data_file.now c.made_against.new.new_data_file in
-    let new_exclusions_file : Stream = stream_of files c.args.new_exclusions_file.now c.made_against.new.new_exclusions_file in
-    let old_files : VersionReaders = record { data_file = old_data_file; exclusions_file = old_exclusions_file } in
-    let new_files : VersionReaders = record { data_file = new_data_file; exclusions_file = new_exclusions_file } in
-    let cleared : Stream = stream_of files c.clear-2.new.self c.made_against.new.new_exclusions_file in
-    let half : IfOk c.made_against.result (MakesAgainst c.in_ok-old.old new_data_file cleared) =
-    subst (λ (s : Stream). IfOk c.made_against.result (MakesAgainst c.in_ok-old.old s cleared)) (same_stream files c.clear.new.self c.args.new_data_file.now c.made_against.new.new_data_file c.clear.ensures.device) c.made_against.ensures.made in
-    let made : IfOk c.made_against.result (MakesAgainst c.in_ok-old.old new_data_file new_exclusions_file) =
-    subst (λ (s : Stream). IfOk c.made_against.result (MakesAgainst c.in_ok-old.old new_data_file s)) (same_stream files c.clear-2.new.self c.args.new_exclusions_file.now c.made_against.new.new_exclusions_file c.clear-2.ensures.device) half in
-    made_against old_files new_files c.in_ok-old.old c.made_against.result c.in_ok-old.ensures.built made
+    let old_files : VersionReaders = record { data_file = stream_of files c.args.old_data_file.now c.read_version.new.data_file; exclusions_file = stream_of files c.args.old_exclusions_file.now c.read_version.new.exclusions_file } in
+    let new_files : VersionReaders = record { data_file = stream_of files c.args.new_data_file.now c.made_against.new.new_data_file; exclusions_file = stream_of files c.args.new_exclusions_file.now c.made_against.new.new_exclusions_file } in
+    made_against old_files new_files c.in_ok-old.old c.made_against.result c.in_ok-old.ensures.built
+    (on_same files c.clear.new.self c.args.new_data_file.now c.made_against.new.new_data_file c.clear-2.new.self c.args.new_exclusions_file.now c.made_against.new.new_exclusions_file c.clear.ensures.device
+    c.clear-2.ensures.device (λ d e. IfOk c.made_against.result (MakesAgainst c.in_ok-old.old d e)) c.made_against.ensures.made)
 
 pub returns-clause-refused : goal.returns-clause-refused
 returns-clause-refused g c =
     let files = g.F.Read.remaining in
-    let old_data_file : Stream = stream_of files c.args.old_data_file.now c.read_version.new.data_file in
-    let old_exclusions_file : Stream = stream_of files c.args.old_exclusions_file.now c.read_version.new.exclusions_file in
-    let new_data_file : Stream = stream_of files c.args.new_data_file.now c.made_against.new.new_data_file in
-    let new_exclusions_file : Stream = stream_of files c.args.new_exclusions_file.now c.made_against.new.new_exclusions_file in
-    let old_files : VersionReaders = record { data_file = old_data_file; exclusions_file = old_exclusions_file } in
-    let new_files : VersionReaders = record { data_file = new_data_file; exclusions_file = new_exclusions_file } in
-    let cleared : Stream = stream_of files c.clear-2.new.self c.made_against.new.new_exclusions_file in
-    let half : IfErr c.made_against.result (LacksAgainst new_data_file cleared) =
-    subst (λ (s : Stream). IfErr c.made_against.result (LacksAgainst s cleared)) (same_stream files c.clear.new.self c.args.new_data_file.now c.made_against.new.new_data_file c.clear.ensures.device) c.made_against.ensures.refused in
-    let refused : IfErr c.made_against.result (LacksAgainst new_data_file new_exclusions_file) =
-    subst (λ (s : Stream). IfErr c.made_against.result (LacksAgainst new_data_file s)) (same_stream files c.clear-2.new.self c.args.new_exclusions_file.now c.made_against.new.new_exclusions_file c.clear-2.ensures.device) half in
-    refused_against old_files new_files c.in_ok-old.old c.made_against.result c.in_ok-old.ensures.built refused
+    let old_files : VersionReaders = record { data_file = stream_of files c.args.old_data_file.now c.read_version.new.data_file; exclusions_file = stream_of files c.args.old_exclusions_file.now c.read_version.new.exclusions_file } in
+    let new_files : VersionReaders = record { data_file = stream_of files c.args.new_data_file.now c.made_against.new.new_data_file; exclusions_file = stream_of files c.args.new_exclusions_file.now c.made_against.new.new_exclusions_file } in
+    refused_against old_files new_files c.in_ok-old.old c.made_against.result c.in_ok-old.ensures.built
+    (on_same files c.clear.new.self c.args.new_data_file.now c.made_against.new.new_data_file c.clear-2.new.self c.args.new_exclusions_file.now c.made_against.new.new_exclusions_file c.clear.ensures.device
+    c.clear-2.ensures.device (λ d e. IfErr c.made_against.result (LacksAgainst d e)) c.made_against.ensures.refused)
 
 pub returns-in_err-old-clause-refused : goal.returns-in_err-old-clause-refused
 returns-in_err-old-clause-refused g c =
