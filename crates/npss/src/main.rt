@@ -1,8 +1,9 @@
 //! Stabilized Unicode strings over tables that are read from files: the program.
 #![tactic(auto)]
 
-ghost use Rattle.std.specs.Prelude.{◌≡◌, ◌≤◌, length, true};
-ghost use Rattle.npss.specs.Ends.{IsTold, Writes};
+ghost use Rattle.std.specs.Prelude.{◌≡◌, ◌≢◌, ◌≤◌, length, true};
+ghost use Rattle.std.specs.IoError.{error_kind};
+ghost use Rattle.npss.specs.Ends.{IsRefused, IsTold, Writes};
 ghost use Rattle.npss.specs.Streams.{stream_of};
 ghost use Rattle.npss.specs.Words.{usage_lines};
 ghost use Rattle.npss.specs.inside.Jobs.{HasVersions};
@@ -217,7 +218,10 @@ fn run_words(rt: &HostRuntime, words: &[String], streams: &mut Standard) -> u8 {
 }
 
 /// Says why there are no words: memory ran out, or one of them is no UTF-8.
-fn refuse_words<E: Write>(alloc: Global, error: &mut Watched<E>, why: &Error) -> u8 {
+fn refuse_words<E: Write>(alloc: Global, error: &mut Watched<E>, why: &Error) -> u8
+    ensures memory { error_kind why.now ≡ ErrorKind.OutOfMemory → IsRefused JobFault.Memory (stream_of E.contents error.old error.new) result }
+    ensures usage { error_kind why.now ≢ ErrorKind.OutOfMemory → IsTold (stream_of E.contents error.old error.new) usage_lines × (result ≡ 2) }
+{
     if why.kind() == ErrorKind::OutOfMemory {
         refuse(alloc, error, &JobFault::Memory)
     } else {

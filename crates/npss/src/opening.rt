@@ -1,8 +1,9 @@
 //! The files of a job are opened before any of them is read.
 
 ghost use Rattle.std.specs.Prelude.{◌≡◌, ◌+◌, ◌*◌, length, vec_len, IfOk, IfErr, OnOk};
+ghost use Rattle.npss.specs.Ends.{IsRefused};
 ghost use Rattle.npss.specs.Streams.{stream_of};
-ghost use Rattle.npss.specs.Usage.{IsUnopened};
+ghost use Rattle.npss.specs.Usage.{IsUnopened, LacksFile, LacksOneFile};
 
 use crate::jobs::{FAILED, JobFault, refuse, tell};
 use crate::words::VersionFiles;
@@ -58,6 +59,8 @@ pub fn open_version<R: Files, E: Write>(
 ) -> Result<(Watched<R::File>, Watched<R::File>), u8>
 where
     R::File: Drop,
+    ensures opened { OnOk result (error.new ≡ error.old) }
+    ensures told { IfErr result (LacksFile files.now (stream_of E.contents error.old error.new)) }
 {
     let data = open_file(rt, alloc, error, files.data_file.as_str())?;
     let exclusions = open_file(rt, alloc, error, files.exclusions_file.as_str())?;
@@ -75,7 +78,9 @@ fn keep_file<F: Drop, E: Write>(
     files: &mut Vec<Watched<F>>,
     file: Watched<F>,
 ) -> Result<(), u8>
-    ensures { OnOk result (vec_len files.new ≡ vec_len files.old + 1) }
+    ensures one { OnOk result (vec_len files.new ≡ vec_len files.old + 1) }
+    ensures silent { OnOk result (error.new ≡ error.old) }
+    ensures told { IfErr result (IsRefused JobFault.Memory (stream_of E.contents error.old error.new)) }
 {
     match files.push(file) {
         Ok(()) => Ok(()),
@@ -96,7 +101,8 @@ pub fn open_versions<R: Files, E: Write>(
 ) -> Result<Vec<Watched<R::File>>, u8>
 where
     R::File: Drop,
-    ensures { IfOk result (λ files. vec_len files ≡ 2 * length versions.now) }
+    ensures files { IfOk result (λ files. vec_len files ≡ 2 * length versions.now) }
+    ensures told { IfErr result (LacksOneFile versions.now (stream_of E.contents error.old error.new)) }
 {
     let mut files = Vec::new(alloc);
     for version in versions {

@@ -1,4 +1,6 @@
 //! The standard streams, whichever of them the program was started with.
+ghost use Rattle.std.specs.Prelude.{◌≡◌, false, IfOk, IfErr};
+ghost use Rattle.np_code_points.specs.Watched.{has_failed};
 
 use crate::jobs::{FAILED, tell};
 use np_code_points::watched::Watched;
@@ -51,7 +53,10 @@ fn fill_closed(rt: &HostRuntime) -> bool {
 /// # Errors
 ///
 /// The status that was told, where that can't be had.
-pub fn take_standard(rt: &HostRuntime) -> Result<Standard, u8> {
+pub fn take_standard(rt: &HostRuntime) -> Result<Standard, u8>
+    ensures clear { IfOk result (λ streams. (has_failed streams.input ≡ false) × (has_failed streams.output ≡ false) × (has_failed streams.error ≡ false)) }
+    ensures refused { IfErr result (λ status. status ≡ 5) }
+{
     let filled = fill_closed(rt);
     let mut streams = Standard {
         input: Watched::new(rt.stdin()),
