@@ -37,7 +37,9 @@ pub(crate) fn split_standing<'a, T: NormTable>(
     }
 }
 
-/// Cuts before the first code point behind the first one at which the form is known to part.
+/// Cuts before the first code point behind the first one at which the form is known to part. It too
+/// is made part of each loop that calls it.
+#[inline(always)]
 pub(crate) fn split_segment<'a, T: NormTable>(
     table: &T,
     form: Form,

@@ -196,7 +196,7 @@ FB2C;X;Lo;0;R;FB49 05C1;;;;N;;;;;
 FB49;X;Lo;0;R;05E9 05BC;;;;N;;;;;
 ";
 
-const HEBREW_EXCLUSIONS: &str = "FB2A\nFB2C\nFB49\n";
+const HEBREW_LISTED: &str = "FB2A\nFB2C\nFB49\n";
 
 // The same of pointed Hebrew.
 const HEBREW_STANDING: [(Form, &str, usize); 5] = [
@@ -249,6 +249,6 @@ fn forms_leave_what_stands_and_part_before_starters(rt: HostRuntime) -> Result<(
 
 #[test]
 fn points_stand_in_their_canonical_order(rt: HostRuntime) -> Result<(), Fail> {
-    let table: PageTable = table_of(rt.alloc(), HEBREW, HEBREW_EXCLUSIONS)?;
+    let table: PageTable = table_of(rt.alloc(), HEBREW, HEBREW_LISTED)?;
     tells_what_stands(&table, &HEBREW_STANDING)
 }
