@@ -1,6 +1,7 @@
 -- Versions in a row.
-use Rattle.std.proofs.Common.{◌≡◌, ℕ, zero, suc, ◌+◌, ◌-◌, ◌<◌, ◌≤◌, List, [], ◌∷◌, length, get_or, map, take, slice_get, Some, refl, sym, ap, subst, ◌∙◌, arith}
-use Rattle.np_chain.specs.Chain.{EachExtends, IsChain, EachSound, IsSoundChain, IsFirstBroken, StandsAt}
+use Rattle.std.proofs.Common.{◌≡◌, ℕ, zero, suc, ◌+◌, ◌-◌, ◌<◌, ◌≤◌, List, [], ◌∷◌, length, get_or, map, take, slice_get, Some, refl, sym, ap, subst, ◌∙◌, arith, All}
+use Rattle.std.proofs.lemmas.List.Elements.{All-cons, All-nil}
+use Rattle.np_chain.specs.Chain.{EachExtends, IsChain, IsSoundChain, IsFirstBroken, StandsAt}
 use Rattle.np_chain.specs.Extension.{Extends}
 use Rattle.np_chain.specs.declared.breaks.Break.{Break}
 use Rattle.np_chain.proofs.AuditLemmas.{first-refutes}
@@ -30,10 +31,14 @@ chain-extends (x ∷ xs) (suc i) zero v w chain le here there = absurd (omega ar
 chain-extends (x ∷ []) (suc i) (suc j) v w chain le here there = cc
 chain-extends (x ∷ y ∷ ys) (suc i) (suc j) v w chain le here there = chain-extends (y ∷ ys) i j v w chain.1 (omega arith) here there
 
-sound-at : (vs : List VersionData) (i : ℕ) (v : VersionData) → EachSound vs → slice_get vs i ≡ Some v → IsSound v
+-- what holds of the rest of a list
+later : (x : VersionData) (xs : List VersionData) → All IsSound (x ∷ xs) → All IsSound xs
+later x xs each k d lt = each (suc k) d (omega (arith, lt))
+
+sound-at : (vs : List VersionData) (i : ℕ) (v : VersionData) → All IsSound vs → slice_get vs i ≡ Some v → IsSound v
 sound-at [] i v each h = cc
-sound-at (x ∷ xs) zero v each h = let same : x ≡ v = cc in subst IsSound same each.0
-sound-at (x ∷ xs) (suc i) v each h = sound-at xs i v each.1 h
+sound-at (x ∷ xs) zero v each h = let same : x ≡ v = cc in subst IsSound same (each 0 x (omega arith))
+sound-at (x ∷ xs) (suc i) v each h = sound-at xs i v (later x xs each) h
 
 pub StandsAt-from : (vs : List VersionData) (i : ℕ) (v : VersionData) → IsSoundChain vs → slice_get vs i ≡ Some v → StandsAt vs i v
 StandsAt-from vs i v is here =
@@ -68,14 +73,14 @@ chain-more : (vs : List VersionData) (k : ℕ) (v w : VersionData) → IsChain (
 chain-more [] k v w chain here next ext = cc
 chain-more (x ∷ xs) k v w chain here next ext = each-more x xs k v w chain here next ext
 
-sound-more : (vs : List VersionData) (k : ℕ) (w : VersionData) → EachSound (take k vs) → slice_get vs k ≡ Some w → IsSound w → EachSound (take (suc k) vs)
+sound-more : (vs : List VersionData) (k : ℕ) (w : VersionData) → All IsSound (take k vs) → slice_get vs k ≡ Some w → IsSound w → All IsSound (take (suc k) vs)
 sound-more [] k w each here sound = cc
-sound-more (x ∷ xs) zero w each here sound = let same : w ≡ x = cc in (subst IsSound same sound, tt)
-sound-more (x ∷ xs) (suc k) w each here sound = (each.0, sound-more xs k w each.1 here sound)
+sound-more (x ∷ xs) zero w each here sound = let same : w ≡ x = cc in All-cons IsSound x [] (subst IsSound same sound) (All-nil IsSound)
+sound-more (x ∷ xs) (suc k) w each here sound = All-cons IsSound x (take (suc k) xs) (each 0 x (omega arith)) (sound-more xs k w (later x (take k xs) each) here sound)
 
 pub first-chain : (vs : List VersionData) (v : VersionData) → slice_get vs 0 ≡ Some v → IsSound v → IsSoundChain (take 1 vs)
 first-chain [] v here sound = cc
-first-chain (x ∷ xs) v here sound = let same : v ≡ x = cc in record { chain = tt; sound = (subst IsSound same sound, tt) }
+first-chain (x ∷ xs) v here sound = let same : v ≡ x = cc in record { chain = tt; sound = All-cons IsSound x [] (subst IsSound same sound) (All-nil IsSound) }
 
 pub more-chain : (vs : List VersionData) (at : ℕ) (v w : VersionData) → 1 ≤ at → IsSoundChain (take at vs) → slice_get vs (at - 1) ≡ Some v → slice_get vs at ≡ Some w → IsSound w → Extends v w → IsSoundChain (take (at + 1) vs)
 more-chain vs zero v w le is here next sound ext = absurd (omega arith)

@@ -7,22 +7,20 @@ use Rattle.np_chain.specs.declared.breaks.BreakKind.TheVariants.{Lost, ClassChan
 use Rattle.np_tables.specs.Composites.{IsPrimary}
 use Rattle.np_tables.specs.Versions.{VersionData, is_assigned, class_of, decomposition_kind, decomposition_mapping}
 
-abbrev pub name_of : BreakKind → List ℕ
-name_of Lost = codes "Lost"
-name_of ClassChanged = codes "ClassChanged"
-name_of MappingChanged = codes "MappingChanged"
-name_of NowExcluded = codes "NowExcluded"
-name_of NowIncluded = codes "NowIncluded"
-name_of NewComposite = codes "NewComposite"
+-- the name of a kind, and its place in their order
+abbrev pub naming_of : BreakKind → List ℕ × ℕ
+naming_of Lost = (codes "Lost", 1)
+naming_of ClassChanged = (codes "ClassChanged", 2)
+naming_of MappingChanged = (codes "MappingChanged", 3)
+naming_of NowExcluded = (codes "NowExcluded", 4)
+naming_of NowIncluded = (codes "NowIncluded", 5)
+naming_of NewComposite = (codes "NewComposite", 6)
 
--- the order of the kinds
+abbrev pub name_of : BreakKind → List ℕ
+name_of kind = (naming_of kind).0
+
 abbrev pub number_of : BreakKind → ℕ
-number_of Lost = 1
-number_of ClassChanged = 2
-number_of MappingChanged = 3
-number_of NowExcluded = 4
-number_of NowIncluded = 5
-number_of NewComposite = 6
+number_of kind = (naming_of kind).1
 
 -- ---- the six kinds
 

@@ -1,5 +1,5 @@
 -- Versions in a row.
-use Rattle.std.specs.Prelude.{◌≡◌, ℕ, ◌-◌, ◌<◌, ◌≤◌, List, [], ◌∷◌, take, Some, slice_get}
+use Rattle.std.specs.Prelude.{◌≡◌, ℕ, ◌-◌, ◌<◌, ◌≤◌, List, [], ◌∷◌, take, Some, slice_get, All}
 pub use Rattle.np_chain.specs.Extension.{Keeps, Extends}
 use Rattle.np_chain.specs.Breaks.{IsFirstBreak}
 use Rattle.np_chain.specs.declared.breaks.Break.{Break}
@@ -15,14 +15,10 @@ abbrev pub IsChain : List VersionData → Type 0
 IsChain [] = ⊥
 IsChain (v ∷ vs) = EachExtends v vs
 
-abbrev pub EachSound : List VersionData → Type 0
-EachSound [] = Unit {0}
-EachSound (v ∷ vs) = IsSound v × EachSound vs
-
 -- a chain of versions that meet the conditions
 pub record IsSoundChain (vs : List VersionData) : Type 0 where
   pub chain : IsChain vs
-  pub sound : EachSound vs
+  pub sound : All IsSound vs
 
 -- at is the first place whose version does not extend the one before, and brk is its first break
 pub record IsFirstBroken (vs : List VersionData) (at : ℕ) (brk : Break) : Type 0 where

@@ -10,7 +10,7 @@ use Rattle.np_ucd.specs.Exclusions.{IsFirstBadLine, AreReadable}
 use Rattle.np_ucd.specs.Faults.{line_of}
 use Rattle.np_ucd.specs.Fields.{Fields}
 use Rattle.np_ucd.specs.FirstFaults.{IsLastOf, IsFaultAt, IsOpenAtEnd, HasNoFault, IsFirstFault}
-use Rattle.np_ucd.specs.Laws.{HasOneListOfFields, SaysOneMapping, HaveOneVerdict, HasOneListOfRows, SaysOneText, ListOneThing, HasOneBadLine}
+use Rattle.np_ucd.specs.Laws.{HasOneListOfFields, SaysOneMapping, HasOneVerdict, HasOneListOfRows, SaysOneText, ListsOneThing, HasOneBadLine}
 use Rattle.np_ucd.specs.Tests.{UcdFault, FieldCount, BadCode, OutOfOrder, BadCategory, BadClass, BadMapping, RangeOpen, RangeLone, RangeDiffers, RangeMaps, Fits, test_of}
 use Rattle.np_ucd.specs.declared.faults.UcdFault.TheVariants.{TooLarge, ReadFailed, Memory}
 use Rattle.np_ucd.specs.inside.ExclusionReading.{entry_text, exclusions_fault}
@@ -33,7 +33,7 @@ one_mapping field a b h k = let both : Some a ≡ Some b = sym (mapping_read fie
 pub says_one_text : SaysOneText
 says_one_text line = (entry_text line, says_text line, only_says line)
 
-pub one_thing : ListOneThing
+pub one_thing : (line : List ℕ) → ListsOneThing line
 one_thing line = record {
   one = λ a b h k. let both = sym (span_listed line a h) ∙ span_listed line b k in cc;
   not_both = λ a h k. let both = sym (nothing_listed line h) ∙ span_listed line a k in absurd (cc);
@@ -137,5 +137,5 @@ verdict_step bytes (Some fault) e =
     let is = first_fault_is bytes fault e in
     inr (fault, is, λ other h. same_first bytes other fault h is)
 
-pub one_verdict : HaveOneVerdict
+pub one_verdict : (bytes : List ℕ) → HasOneVerdict bytes
 one_verdict bytes = record { either = verdict_step bytes (first_fault bytes) refl; not_both = not_both bytes }

@@ -22,9 +22,6 @@ pub record HasOneVerdict (bytes : List ℕ) : Type 0 where
   pub either : HasNoFault bytes ⊎ HasOne (IsFirstFault bytes)
   pub not_both : HasNoFault bytes → (fault : UcdFault) → IsFirstFault bytes fault → ⊥
 
-abbrev pub HaveOneVerdict : Type 0
-HaveOneVerdict = (bytes : List ℕ) → HasOneVerdict bytes
-
 -- a file without a fault has one list of rows
 abbrev pub HasOneListOfRows : Type 0
 HasOneListOfRows = (bytes : List ℕ) → HasNoFault bytes → HasOne (AreAllRows bytes)
@@ -37,9 +34,6 @@ SaysOneText = (line : List ℕ) → HasOne (SaysText line)
 pub record ListsOneThing (line : List ℕ) : Type 0 where
   pub one : (a b : Span) → ListsSpan line a → ListsSpan line b → a ≡ b
   pub not_both : (a : Span) → ListsNothing line → ListsSpan line a → ⊥
-
-abbrev pub ListOneThing : Type 0
-ListOneThing = (line : List ℕ) → ListsOneThing line
 
 -- each line of CompositionExclusions.txt can be read, or one is the first that can't
 abbrev pub HasOneBadLine : Type 0

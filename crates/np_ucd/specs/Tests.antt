@@ -3,7 +3,7 @@
 use Rattle.std.specs.Prelude.{◌≡◌, ◌≢◌, ℕ, ◌≤◌, false, List, [], Option, Some, None, ◌⊎◌}
 use lib.Utf8.{scalar}
 use Rattle.np_code_points.specs.Lines.{Numbered}
-use Rattle.np_ucd.specs.Faults.{line_of}
+use Rattle.np_ucd.specs.Faults.{line_of, naming_of}
 use Rattle.np_ucd.specs.Fields.{Fields, HasFields, IsCodeOf, IsCategory, IsClassOf, IsFirstName, IsLastName}
 use Rattle.np_ucd.specs.Mappings.{Mapping, IsMapping}
 pub use Rattle.np_ucd.specs.declared.faults.UcdFault.{UcdFault}
@@ -89,19 +89,7 @@ Fits Memory before text = ⊥
 
 -- the number of a fault's test
 abbrev pub test_of : UcdFault → ℕ
-test_of (FieldCount _) = 1
-test_of (BadCode _) = 2
-test_of (OutOfOrder _) = 3
-test_of (BadCategory _) = 4
-test_of (BadClass _) = 5
-test_of (BadMapping _) = 6
-test_of (RangeOpen _) = 7
-test_of (RangeLone _) = 8
-test_of (RangeDiffers _) = 9
-test_of (RangeMaps _) = 10
-test_of TooLarge = 0
-test_of ReadFailed = 0
-test_of Memory = 0
+test_of fault = (naming_of fault).test
 
 -- the fault of a record, at its line: that of the least test that fits
 pub record IsFaultOf (before : Option Fields) (r : Numbered) (fault : UcdFault) : Type 0 where

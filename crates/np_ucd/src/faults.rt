@@ -1,6 +1,7 @@
 //! What can be wrong with a file.
 ghost use Rattle.std.specs.Prelude.{◌≡◌, Option};
-ghost use Rattle.np_ucd.specs.Faults.{name_of, line_of, no_memory};
+ghost use Rattle.np_ucd.specs.Faults.{line_of, name_of};
+ghost use Rattle.np_ucd.specs.inside.Memories.{no_memory};
 
 use np_code_points::Memory;
 use std::alloc::{AllocError, AllocFailed};

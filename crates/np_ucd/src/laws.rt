@@ -1,6 +1,7 @@
 //! The laws of the grammar of both files, over the definitions alone: each function is empty, and
 //! its contract is what is proved.
-ghost use Rattle.np_ucd.specs.Laws.{HasOneBadLine, HasOneListOfFields, HasOneListOfRows, HaveOneVerdict, ListOneThing, SaysOneMapping, SaysOneText};
+ghost use Rattle.std.specs.Prelude.{ℕ, List};
+ghost use Rattle.np_ucd.specs.Laws.{HasOneBadLine, HasOneListOfFields, HasOneListOfRows, HasOneVerdict, ListsOneThing, SaysOneMapping, SaysOneText};
 
 /// `;` stands between two fields of a record (UAX #44, section 4.2): each record is cut into fields
 /// in exactly one way.
@@ -18,7 +19,7 @@ pub fn mappings()
 /// there of the least test that fits (UAX #44, table 9, and section 4.2.3 for the tests between two
 /// records); a range that is open at the end comes last.
 pub fn first_fault()
-    ensures { HaveOneVerdict }
+    ensures { (bytes : List ℕ) → HasOneVerdict bytes }
 {}
 
 /// The rows of UnicodeData.txt without a fault are those of its records that begin no range (UAX
@@ -36,7 +37,7 @@ pub fn exclusion_text()
 
 /// It lists nothing, or the code points of one span, and not both.
 pub fn exclusion_line()
-    ensures { ListOneThing }
+    ensures { (line : List ℕ) → ListsOneThing line }
 {}
 
 /// Each line of CompositionExclusions.txt can be read, or exactly one is the first that can't.

@@ -1,6 +1,7 @@
 -- How `compare` ends.
-use Rattle.std.specs.Prelude.{◌≡◌, ◌≢◌, ℕ, ◌<◌, ◌⊎◌, ◌↔◌, Bool, List, [], ◌∷◌, ◌++◌, length, slice_index, IsTrue, chars, codes, if◌then◌else◌}
+use Rattle.std.specs.Prelude.{◌≡◌, ◌≢◌, ℕ, ◌⊎◌, ◌↔◌, Bool, List, [], ◌∷◌, ◌++◌, IsTrue, chars, codes, if◌then◌else◌}
 use Rattle.np_code_points.specs.Forms.{is_compat}
+use Rattle.np_code_points.specs.Lines.{HasNo}
 use Rattle.np_code_points.specs.declared.forms.Form.{Form}
 use Rattle.np_forms.specs.Assigned.{IsAssigned, IsFirstUnassigned}
 use Rattle.np_forms.specs.Forms.{IsEquivalent}
@@ -11,11 +12,7 @@ use Rattle.npss.specs.Texts.{TextReaders, MakesOfText, RefusesText}
 use Rattle.npss.specs.declared.jobs.faults.TextFault.{TextFault}
 use Rattle.npss.specs.declared.jobs.faults.TextFault.TheVariants.{TwoLinesWanted, FirstUnassigned, SecondUnassigned, Memory}
 
--- no LF (10) is among the bytes
-abbrev pub HasNoFeed : List ℕ → Type 0
-HasNoFeed bytes = (i : ℕ) → i < length bytes → slice_index bytes i ≢ 10
-
--- all but one LF at the very end, if it is there
+-- all but one LF (10) at the very end, if it is there
 abbrev pub IsWithoutLastFeed : List ℕ → List ℕ → Type 0
 IsWithoutLastFeed bytes kept = (bytes ≡ kept ++ 10 ∷ []) ⊎ (((front : List ℕ) → bytes ≢ front ++ 10 ∷ []) × (bytes ≡ kept))
 
@@ -23,7 +20,7 @@ IsWithoutLastFeed bytes kept = (bytes ≡ kept ++ 10 ∷ []) ⊎ (((front : List
 pub record AreTwoLines (bytes first second : List ℕ) : Type 0 where
   pub rest : List ℕ
   pub cut : bytes ≡ first ++ 10 ∷ rest
-  pub least : HasNoFeed first
+  pub least : HasNo 10 first
   pub last : IsWithoutLastFeed rest second
 
 abbrev pub answer_text : Bool → List ℕ
@@ -53,7 +50,7 @@ pub record IsAnswer (form : Form) (v : VersionData) (text : List ℕ) (is_yes : 
 -- the text has no LF, or its two lines can't be compared
 abbrev pub LacksAnswer : VersionData → List ℕ → TextFault → Type 0
 LacksAnswer v text fault =
-    ((fault ≡ TwoLinesWanted) × HasNoFeed text)
+    ((fault ≡ TwoLinesWanted) × HasNo 10 text)
     ⊎ ((first : List ℕ) × (second : List ℕ) × AreTwoLines text first second × LacksComparison v first second fault)
 
 -- `compare`: whether the two lines of the input are equivalent

@@ -9,6 +9,7 @@ mod key;
 mod lines;
 mod normalize;
 mod replay;
+mod statuses;
 #[cfg(test)]
 mod tests;
 mod texts;
@@ -16,8 +17,9 @@ mod versions;
 
 pub use audit::audit_job;
 pub use compare::compare_job;
-pub use ending::{DONE, refuse, tell};
-pub use faults::{FAILED, JobFault};
+pub use ending::{refuse, tell};
+pub use faults::JobFault;
 pub use key::key_job;
 pub use normalize::normalize_job;
 pub use replay::replay_job;
+pub use statuses::{DONE, FAILED, USAGE};

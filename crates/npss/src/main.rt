@@ -14,7 +14,7 @@ mod standard;
 mod words;
 
 use jobs::{
-    DONE, JobFault, audit_job, compare_job, key_job, normalize_job, refuse, replay_job, tell,
+    DONE, JobFault, USAGE, audit_job, compare_job, key_job, normalize_job, refuse, replay_job, tell,
 };
 use np_code_points::Form;
 use np_code_points::output::write_out;
@@ -25,9 +25,6 @@ use std::alloc::Global;
 use std::io::{Error, ErrorKind, Write};
 use std::process::ExitCode;
 use words::{Job, VersionFiles, WordsFault, parse, usage_text};
-
-/// The status of words that ask for nothing that there is.
-const USAGE: u8 = 2;
 
 /// Says how the program is used, where the words ask for nothing that there is.
 fn tell_usage<E: Write>(error: &mut Watched<E>) -> u8

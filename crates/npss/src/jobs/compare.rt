@@ -1,6 +1,7 @@
 //! The command `compare`: whether two strings are equivalent.
 ghost use Rattle.std.specs.Prelude.{◌≡◌, IfNone, IfOk, IfErr, IfSome, string_bytes};
-ghost use Rattle.npss.specs.Comparisons.{AreTwoLines, CompareEnds, HasNoFeed, IsAnswer, IsComparison, LacksAnswer, LacksComparison, answer_text};
+ghost use Rattle.np_code_points.specs.Lines.{HasNo};
+ghost use Rattle.npss.specs.Comparisons.{AreTwoLines, CompareEnds, IsAnswer, IsComparison, LacksAnswer, LacksComparison, answer_text};
 ghost use Rattle.npss.specs.Streams.{stream_of};
 
 use super::ending::{Made, finish};
@@ -16,7 +17,7 @@ use std::io::{Read, Write};
 /// The string before the first line end, and what stands behind it, without a line end at its very
 /// end; none where there is no line end.
 fn two_lines(text: &str) -> Option<(&str, &str)>
-    ensures none { IfNone result (HasNoFeed text.now) }
+    ensures none { IfNone result (HasNo 10 text.now) }
     ensures some { IfSome result (λ lines. AreTwoLines text.now lines.0.now lines.1.now) }
 {
     let Some((first, rest)) = text.split_once('\n') else {

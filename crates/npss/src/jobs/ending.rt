@@ -4,15 +4,13 @@ ghost use Rattle.npss.specs.Ends.{IsRefused, IsTold, answer_status};
 ghost use Rattle.npss.specs.Streams.{stream_of};
 ghost use Rattle.npss.specs.inside.Endings.{EndsWith};
 
-use super::faults::{DIFFERENT, JobFault, MEMORY};
+use super::faults::JobFault;
 use super::lines::{OUT_OF_MEMORY, line_of};
+use super::statuses::{DIFFERENT, DONE, MEMORY};
 use np_code_points::output::write_out;
 use np_code_points::watched::Watched;
 use std::alloc::Global;
 use std::io::Write;
-
-/// The status of a job that is done, and whose answer is yes where it has one.
-pub const DONE: u8 = 0;
 
 /// What a job makes before its first write: its whole output, and whether its answer is yes. The
 /// answer of a job that has no other is yes.

@@ -4,26 +4,12 @@ ghost use Rattle.npss.specs.Statuses.{file_status, input_status, tables_status, 
 ghost use Rattle.npss.specs.Tellings.{replay_telling, telling_of, text_telling};
 ghost use Rattle.npss.specs.inside.Groups.{of_replay, of_text, of_version};
 
+use super::statuses::{BAD, DIFFERENT, FAILED, MEMORY, UNASSIGNED};
 use np_chain::Break;
 use np_code_points::input::InputFault;
 use np_tables::TableFault;
 use np_ucd::UcdFault;
 use thiserror::Error;
-
-/// The status of a job whose answer is no, and of versions that do not extend one another.
-pub const DIFFERENT: u8 = 1;
-
-/// The status of a code point that is not assigned.
-const UNASSIGNED: u8 = 3;
-
-/// The status of bad data, text or schedule.
-const BAD: u8 = 4;
-
-/// The status of a device that failed, or a file that can't be opened.
-pub const FAILED: u8 = 5;
-
-/// The status of want of memory.
-pub const MEMORY: u8 = 6;
 
 /// Why no version came of two files. Versions are numbered from 0.
 #[derive(Clone, Copy, Debug, PartialEq, Eq, Drop, Error)]

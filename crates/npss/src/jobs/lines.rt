@@ -5,7 +5,8 @@ ghost use Rattle.npss.specs.Tellings as tellings;
 ghost use Rattle.npss.specs.Tellings.{replay_telling, telling_of, text_telling, version_telling};
 ghost use Rattle.npss.specs.inside.Groups.{line_bytes};
 
-use super::faults::{JobFault, MEMORY, ReplayFault, TextFault, VersionFault};
+use super::faults::{JobFault, ReplayFault, TextFault, VersionFault};
+use super::statuses::MEMORY;
 use np_chain::Break;
 use np_code_points::Memory;
 use np_code_points::codes::write_code;

@@ -3,8 +3,9 @@ ghost use Rattle.std.specs.Prelude.{◌≡◌, ℕ, Ok, OnOk, IfErr};
 ghost use Rattle.npss.specs.NormalForms.{IsStopped, NormalizeEnds, WasRun, told_as};
 ghost use Rattle.npss.specs.Streams.{stream_of};
 
-use super::ending::{DONE, refuse};
+use super::ending::refuse;
 use super::faults::{JobFault, TextFault};
+use super::statuses::DONE;
 use super::versions::read_table;
 use np_code_points::Form;
 use np_code_points::input::InputFault;
