@@ -156,13 +156,60 @@ fn faults_have_names_and_lines(rt: HostRuntime) -> Result<(), Fail> {
     Ok(())
 }
 
+/// Each fault, and how it is told.
+const TOLD: [(UcdFault, &str); 13] = [
+    (
+        UcdFault::FieldCount { line: 1 },
+        "line 1: not exactly 15 fields",
+    ),
+    (
+        UcdFault::BadCode { line: 2 },
+        "line 2: not 4 to 6 hexadecimal digits of at most 10FFFF",
+    ),
+    (
+        UcdFault::OutOfOrder { line: 3 },
+        "line 3: the code point is not above the one before",
+    ),
+    (
+        UcdFault::BadCategory { line: 4 },
+        "line 4: the category is not two letters, or is Cn",
+    ),
+    (
+        UcdFault::BadClass { line: 5 },
+        "line 5: the combining class is not 1 to 3 digits of at most 254",
+    ),
+    (
+        UcdFault::BadMapping { line: 12 },
+        "line 12: the mapping cannot be read",
+    ),
+    (
+        UcdFault::RangeOpen { line: 7 },
+        "line 7: a range has a first record and no last one",
+    ),
+    (
+        UcdFault::RangeLone { line: 8 },
+        "line 8: a range has a last record and no first one",
+    ),
+    (
+        UcdFault::RangeDiffers { line: 9 },
+        "line 9: the two records of a range differ in category or class",
+    ),
+    (
+        UcdFault::RangeMaps { line: 10 },
+        "line 10: a record of a range has a mapping",
+    ),
+    (UcdFault::TooLarge, "more than 16,777,216 bytes"),
+    (UcdFault::ReadFailed, "read failed"),
+    (UcdFault::Memory, "out of memory"),
+];
+
 #[test]
 fn faults_are_told_in_words(rt: HostRuntime) -> Result<(), Fail> {
-    let told = format!(in rt.alloc(); "{}", UcdFault::BadMapping { line: 12 })?;
-    want(
-        told.as_str() == "line 12: the mapping cannot be read",
-        "a mapping that is there",
-    )
+    for (fault, words) in &TOLD {
+        let told = format!(in rt.alloc(); "{fault}")?;
+        want(told.as_str() == *words, words)?;
+    }
+    Ok(())
 }
 
 const OTHER_FILES: [(&[u8], Option<UcdFault>); 6] = [

@@ -102,5 +102,7 @@ fn a_fault_is_told_in_words(rt: HostRuntime) -> Result<(), Fail> {
     };
     let text = format!(in rt.alloc(); "{}", ChainFault::Broken { at: 1, brk })?;
     let wanted = "version 1 does not extend the one before: Lost 1DFA";
-    want(text.as_str() == wanted, "a fault")
+    want(text.as_str() == wanted, "a fault")?;
+    let text = format!(in rt.alloc(); "{}", ChainFault::NoVersion)?;
+    want(text.as_str() == "no version", "no table")
 }

@@ -78,3 +78,19 @@ fn an_endless_reader_is_too_large(rt: HostRuntime) -> Result<(), Fail> {
     assert_eq!(rt; broken.into_inner().calls(), 201);
     Ok(())
 }
+
+/// Each fault, and how it is told.
+const TOLD: [(InputFault, &str); 3] = [
+    (InputFault::TooLarge, "more than 16,777,216 bytes"),
+    (InputFault::ReadFailed, "read failed"),
+    (InputFault::Memory, "out of memory"),
+];
+
+#[test]
+fn faults_are_told_in_words(rt: HostRuntime) -> Result<(), Fail> {
+    for (fault, words) in &TOLD {
+        let told = format!(in rt.alloc(); "{fault}")?;
+        assert_eq!(rt; told.as_str(), *words);
+    }
+    Ok(())
+}

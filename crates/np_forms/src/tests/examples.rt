@@ -250,7 +250,9 @@ fn a_ligature_is_compatible_with_its_letters(rt: HostRuntime) -> Result<(), Fail
 fn a_refusal_is_told_in_words(rt: HostRuntime) -> Result<(), Fail> {
     let code = '\u{C5}';
     let told = format!(in rt.alloc(); "{}", NpssFault::Unassigned { at: 12, code })?;
-    want(told.as_str() == "unassigned 00C5 at byte 12", "a refusal")
+    want(told.as_str() == "unassigned 00C5 at byte 12", "a refusal")?;
+    let told = format!(in rt.alloc(); "{}", NpssFault::Memory)?;
+    want(told.as_str() == "out of memory", "want of memory")
 }
 
 fn lacks_kirat_rai<T: NormTable>(alloc: Global, v1: &T) -> Result<(), Fail> {

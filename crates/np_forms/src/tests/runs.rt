@@ -186,3 +186,21 @@ fn failed_writes_and_a_failed_flush_are_told(rt: HostRuntime) -> Result<(), Fail
     failed_writes_over::<RowTable>(rt.alloc())?;
     failed_writes_over::<PageTable>(rt.alloc())
 }
+
+/// Each fault, and how it is told.
+const TOLD: [(RunFault, &str); 5] = [
+    (RunFault::NotUtf8 { at: 17 }, "not UTF-8 at byte 17"),
+    (RunFault::ReadFailed, "read failed"),
+    (RunFault::WriteFailed, "write failed"),
+    (RunFault::TooLarge, "too large"),
+    (RunFault::Memory, "out of memory"),
+];
+
+#[test]
+fn faults_are_told_in_words(rt: HostRuntime) -> Result<(), Fail> {
+    for (fault, words) in &TOLD {
+        let told = format!(in rt.alloc(); "{fault}")?;
+        want(told.as_str() == *words, words)?;
+    }
+    Ok(())
+}

@@ -124,15 +124,6 @@ fn lacking<T: NormTable>(alloc: Global, table: &T) -> Result<(), Fail> {
         code: '\u{16D67}',
     };
     wants_refused(&mut node, "A\u{16D67}".as_bytes(), fault, "a later letter")?;
-    want(fault.name() == "Unassigned", "its name")?;
-    let text = format!(in alloc; "{fault}")?;
-    want(text.as_str() == "unassigned 16D67 at byte 1", "its words")?;
-    let early = NodeFault::Unassigned { at: 0, code: 'b' };
-    let text = format!(in alloc; "{early}")?;
-    want(
-        text.as_str() == "unassigned 0062 at byte 0",
-        "four digits at least",
-    )?;
     let none = NodeFault::Unassigned {
         at: 0,
         code: '\u{FFFE}',
@@ -220,4 +211,35 @@ fn upgrades_to_over<T: Made>(alloc: Global) -> Result<(), Fail> {
 fn upgrades_go_forward_alone(rt: HostRuntime) -> Result<(), Fail> {
     upgrades_to_over::<RowTable>(rt.alloc())?;
     upgrades_to_over::<PageTable>(rt.alloc())
+}
+
+/// Each fault, and how it is told; a code point in four hex digits at least.
+const TOLD: [(NodeFault, &str); 9] = [
+    (NodeFault::Malformed { at: 5 }, "malformed at byte 5"),
+    (NodeFault::OtherForm, "another form"),
+    (NodeFault::TooLong, "too long"),
+    (NodeFault::NotUtf8 { at: 17 }, "not UTF-8 at byte 17"),
+    (
+        NodeFault::Unassigned {
+            at: 1,
+            code: '\u{16D67}',
+        },
+        "unassigned 16D67 at byte 1",
+    ),
+    (
+        NodeFault::Unassigned { at: 0, code: 'b' },
+        "unassigned 0062 at byte 0",
+    ),
+    (NodeFault::KeyDiffers, "key differs"),
+    (NodeFault::Full, "full"),
+    (NodeFault::Memory, "out of memory"),
+];
+
+#[test]
+fn faults_are_told_in_words(rt: HostRuntime) -> Result<(), Fail> {
+    for (fault, words) in &TOLD {
+        let told = format!(in rt.alloc(); "{fault}")?;
+        want(told.as_str() == *words, words)?;
+    }
+    Ok(())
 }

@@ -123,3 +123,15 @@ fn nodes_are_64_at_most(rt: HostRuntime) -> Result<(), Fail> {
     }
     Ok(())
 }
+
+#[test]
+fn a_fault_is_told_in_words(rt: HostRuntime) -> Result<(), Fail> {
+    let told = format!(in rt.alloc(); "{}", ScheduleFault::Line { line: 12 })?;
+    assert_eq!(rt;
+        told.as_str(),
+        "line 12: not what stands there in a schedule"
+    );
+    let told = format!(in rt.alloc(); "{}", ScheduleFault::Memory)?;
+    assert_eq!(rt; told.as_str(), "out of memory");
+    Ok(())
+}
