@@ -92,7 +92,7 @@ module _ {D : Type 0} (tells : D → Option (List ℕ)) where
   readers-append (suc k) (x ∷ w ∷ xs) ys (z ∷ v ∷ zs) ws short long =
       ap (λ rest. record { data_file = stream_of tells x z; exclusions_file = stream_of tells w v } ∷ rest) (readers-append k xs ys zs ws (omega arith) (omega arith))
 
-  readers-count : (number : ℕ) (xs zs : List (Watched D)) → length xs ≡ 2 * number → length zs ≡ 2 * number → length (readers_of tells xs zs) ≡ number
+  pub readers-count : (number : ℕ) (xs zs : List (Watched D)) → length xs ≡ 2 * number → length zs ≡ 2 * number → length (readers_of tells xs zs) ≡ number
   readers-count number [] [] short long = omega arith
   readers-count number [] (z ∷ zs) short long = absurd (omega arith)
   readers-count number (x ∷ xs) [] short long = absurd (omega arith)

@@ -5,6 +5,7 @@ pub mod Comparisons
 pub mod Ends
 pub mod Keys
 pub mod NormalForms
+pub mod Program
 pub mod Replays
 pub mod Statuses
 pub mod Streams

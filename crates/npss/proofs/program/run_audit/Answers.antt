@@ -1,0 +1,30 @@
+use Rattle.std.proofs.Common.{[], ◌∷◌, ◌++◌, ◌∙◌, refl}
+use Rattle.std.proofs.lemmas.List.Elements.{Contains-append_right}
+use Rattle.std.proofs.lemmas.Result.{err_from_is_err_and}
+use Rattle.npss.proofs.OpeningLemmas.{ends_before, lacks_among}
+use Rattle.npss.specs.Audits.{AuditEnds}
+use Rattle.npss.specs.Chains.{readers_of}
+use Rattle.npss.specs.Streams.{stream_of}
+use Rattle.npss.specs.Words.{names_of}
+use Rattle.npss.proofs.program.run_audit.Goals as goal
+
+pub returns-in_err-data-clause-unopened : goal.returns-in_err-data-clause-unopened
+returns-in_err-data-clause-unopened g c =
+    let p = err_from_is_err_and c.from_residual-in_err-data.result c.from_residual-in_err-data.ensures.1 in
+    let old = names_of c.args.old.now in
+    let new = names_of c.args.new.now in
+    rw (p.1, p.2)
+    (lacks_among g.E.Write.contents new (old ++ new) c.args.error.now c.open_version.new.error c.open_version-2.new.error _
+    c.in_ok-old_data.ensures.opened (λ name among. Contains-append_right old new name among) c.in_err-data.ensures.told)
+
+pub returns-clause-done : goal.returns-clause-done
+returns-clause-done g c =
+    let readers = readers_of g.R.File.Read.remaining
+    (c.in_ok-old_data.old_data ∷ c.in_ok-old_data.old_exclusions ∷ c.in_ok-data.data ∷ c.in_ok-data.exclusions ∷ [])
+    (c.audit_job.new.old_data_file ∷ c.audit_job.new.old_exclusions_file ∷ c.audit_job.new.new_data_file ∷ c.audit_job.new.new_exclusions_file ∷ []) in
+    let output = stream_of g.O.Write.contents c.args.output.now c.audit_job.new.output in (
+      readers,
+      refl,
+      ends_before g.E.Write.contents (λ error. AuditEnds readers output error c.audit_job.result)
+          c.args.error.now c.open_version-2.new.error c.audit_job.new.error (c.in_ok-data.ensures.opened ∙ c.in_ok-old_data.ensures.opened) c.audit_job.ensures,
+    )

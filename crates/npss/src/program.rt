@@ -1,0 +1,291 @@
+//! What the program does for its words, over any files and streams.
+
+ghost use Rattle.std.specs.Prelude.{◌≡◌, ◌≢◌, ◌≤◌, ◌++◌, length, vec_len, flat_map, map, string_bytes, true, List, ◌∷◌, IfOk, IfErr};
+ghost use Rattle.std.specs.IoError.{error_kind};
+ghost use Rattle.npss.specs.Audits.{AuditEnds};
+ghost use Rattle.npss.specs.Chains.{VersionReaders};
+ghost use Rattle.npss.specs.Comparisons.{CompareEnds};
+ghost use Rattle.npss.specs.Ends.{IsRefused, IsTold, Writes};
+ghost use Rattle.npss.specs.Keys.{KeyEnds};
+ghost use Rattle.npss.specs.NormalForms.{NormalizeEnds};
+ghost use Rattle.npss.specs.Program.{JobEnds, OnText, ProgramEnds};
+ghost use Rattle.npss.specs.Replays.{ReplayEnds, ReplayReaders};
+ghost use Rattle.npss.specs.Streams.{stream_of};
+ghost use Rattle.npss.specs.Usage.{LacksOneOf};
+ghost use Rattle.npss.specs.Words.{asked_of, names_of, usage_lines};
+ghost use Rattle.npss.specs.inside.Jobs.{HasVersions};
+
+use crate::jobs::{
+    DONE, JobFault, USAGE, audit_job, compare_job, key_job, normalize_job, refuse, replay_job, tell,
+};
+use crate::opening::{open_file, open_version, open_versions};
+use crate::words::{Job, VersionFiles, WordsFault, parse, usage_text};
+use np_code_points::Form;
+use np_code_points::output::write_out;
+use np_code_points::watched::Watched;
+use std::alloc::Global;
+use std::io::{Error, ErrorKind, Read, Write};
+use std::rt::Files;
+
+/// Says how the program is used, where the words ask for nothing that there is.
+fn tell_usage<E: Write>(error: &mut Watched<E>) -> u8
+    ensures { IsTold (stream_of E.contents error.old error.new) usage_lines × (result ≡ 2) }
+{
+    tell(error, usage_text());
+    USAGE
+}
+
+/// Says how the program is used, where there are no words.
+fn show_usage<O: Write, E: Write>(
+    alloc: Global,
+    output: &mut Watched<O>,
+    error: &mut Watched<E>,
+) -> u8
+    ensures { Writes true usage_lines (stream_of O.contents output.old output.new) (stream_of E.contents error.old error.new) result }
+{
+    error.clear();
+    match write_out(output, usage_text().as_bytes()) {
+        Ok(()) => DONE,
+        Err(_) => refuse(alloc, error, &JobFault::WriteFailed),
+    }
+}
+
+/// Runs `normalize`.
+///
+/// # Errors
+///
+/// The status that was told, where a file can't be opened.
+fn run_normalize<R: Files, I: Read, O: Write, E: Write>(
+    rt: &R,
+    alloc: Global,
+    form: Form,
+    files: &VersionFiles,
+    input: &mut Watched<I>,
+    output: &mut Watched<O>,
+    error: &mut Watched<E>,
+) -> Result<u8, u8>
+where
+    R::File: Drop,
+    ensures done { IfOk result (OnText NormalizeEnds form (stream_of I.remaining input.old input.new) (stream_of O.contents output.old output.new) (stream_of E.contents error.old error.new)) }
+    ensures unopened { IfErr result (LacksOneOf (names_of files.now) (stream_of E.contents error.old error.new)) }
+    ensures unwritten { IfErr result (λ status. output.new ≡ output.old) }
+{
+    let (mut data, mut exclusions) = open_version(rt, alloc, error, files)?;
+    Ok(normalize_job(
+        alloc,
+        form,
+        &mut data,
+        &mut exclusions,
+        input,
+        output,
+        error,
+    ))
+}
+
+/// Runs `key`.
+///
+/// # Errors
+///
+/// The status that was told, where a file can't be opened.
+fn run_key<R: Files, I: Read, O: Write, E: Write>(
+    rt: &R,
+    alloc: Global,
+    form: Form,
+    files: &VersionFiles,
+    input: &mut Watched<I>,
+    output: &mut Watched<O>,
+    error: &mut Watched<E>,
+) -> Result<u8, u8>
+where
+    R::File: Drop,
+    ensures done { IfOk result (OnText KeyEnds form (stream_of I.remaining input.old input.new) (stream_of O.contents output.old output.new) (stream_of E.contents error.old error.new)) }
+    ensures unopened { IfErr result (LacksOneOf (names_of files.now) (stream_of E.contents error.old error.new)) }
+    ensures unwritten { IfErr result (λ status. output.new ≡ output.old) }
+{
+    let (mut data, mut exclusions) = open_version(rt, alloc, error, files)?;
+    Ok(key_job(
+        alloc,
+        form,
+        &mut data,
+        &mut exclusions,
+        input,
+        output,
+        error,
+    ))
+}
+
+/// Runs `compare`.
+///
+/// # Errors
+///
+/// The status that was told, where a file can't be opened.
+fn run_compare<R: Files, I: Read, O: Write, E: Write>(
+    rt: &R,
+    alloc: Global,
+    form: Form,
+    files: &VersionFiles,
+    input: &mut Watched<I>,
+    output: &mut Watched<O>,
+    error: &mut Watched<E>,
+) -> Result<u8, u8>
+where
+    R::File: Drop,
+    ensures done { IfOk result (OnText CompareEnds form (stream_of I.remaining input.old input.new) (stream_of O.contents output.old output.new) (stream_of E.contents error.old error.new)) }
+    ensures unopened { IfErr result (LacksOneOf (names_of files.now) (stream_of E.contents error.old error.new)) }
+    ensures unwritten { IfErr result (λ status. output.new ≡ output.old) }
+{
+    let (mut data, mut exclusions) = open_version(rt, alloc, error, files)?;
+    Ok(compare_job(
+        alloc,
+        form,
+        &mut data,
+        &mut exclusions,
+        input,
+        output,
+        error,
+    ))
+}
+
+/// Runs `audit`.
+///
+/// # Errors
+///
+/// The status that was told, where a file can't be opened.
+fn run_audit<R: Files, O: Write, E: Write>(
+    rt: &R,
+    alloc: Global,
+    old: &VersionFiles,
+    new: &VersionFiles,
+    output: &mut Watched<O>,
+    error: &mut Watched<E>,
+) -> Result<u8, u8>
+where
+    R::File: Drop,
+    ensures done { IfOk result (λ status. (readers : List VersionReaders) × (length readers ≡ 2) × AuditEnds readers (stream_of O.contents output.old output.new) (stream_of E.contents error.old error.new) status) }
+    ensures unopened { IfErr result (LacksOneOf (names_of old.now ++ names_of new.now) (stream_of E.contents error.old error.new)) }
+    ensures unwritten { IfErr result (λ status. output.new ≡ output.old) }
+{
+    let (mut old_data, mut old_exclusions) = open_version(rt, alloc, error, old)?;
+    let (mut data, mut exclusions) = open_version(rt, alloc, error, new)?;
+    Ok(audit_job(
+        alloc,
+        &mut old_data,
+        &mut old_exclusions,
+        &mut data,
+        &mut exclusions,
+        output,
+        error,
+    ))
+}
+
+/// Runs `replay`.
+///
+/// # Errors
+///
+/// The status that was told, where a file can't be opened.
+fn run_replay<R: Files, O: Write, E: Write>(
+    rt: &R,
+    alloc: Global,
+    form: Form,
+    schedule_file: &str,
+    version_files: &[VersionFiles],
+    output: &mut Watched<O>,
+    error: &mut Watched<E>,
+) -> Result<u8, u8>
+where
+    R::File: Drop,
+    requires { 1 ≤ length version_files.now }
+    ensures done { IfOk result (λ status. (readers : ReplayReaders) × (length readers.versions ≡ length version_files.now) × ReplayEnds form readers (stream_of O.contents output.old output.new) (stream_of E.contents error.old error.new) status) }
+    ensures unopened { IfErr result (LacksOneOf (schedule_file.now ∷ flat_map names_of version_files.now) (stream_of E.contents error.old error.new)) }
+    ensures unwritten { IfErr result (λ status. output.new ≡ output.old) }
+{
+    let mut schedule = open_file(rt, alloc, error, schedule_file)?;
+    let mut files = open_versions(rt, alloc, error, version_files)?;
+    Ok(replay_job(
+        alloc,
+        form,
+        &mut schedule,
+        files.as_mut_slice(),
+        output,
+        error,
+    ))
+}
+
+/// Runs a job.
+///
+/// # Errors
+///
+/// The status that was told, where a file can't be opened.
+fn run<R: Files, I: Read, O: Write, E: Write>(
+    rt: &R,
+    alloc: Global,
+    job: &Job,
+    input: &mut Watched<I>,
+    output: &mut Watched<O>,
+    error: &mut Watched<E>,
+) -> Result<u8, u8>
+where
+    R::File: Drop,
+    requires { HasVersions job.now }
+    ensures done { IfOk result (JobEnds job.now (stream_of I.remaining input.old input.new) (stream_of O.contents output.old output.new) (stream_of E.contents error.old error.new)) }
+    ensures unopened { IfErr result (LacksOneOf (asked_of job.now).files (stream_of E.contents error.old error.new)) }
+    ensures unwritten { IfErr result (λ status. output.new ≡ output.old) }
+{
+    match job {
+        Job::Help => Ok(show_usage(alloc, output, error)),
+        Job::Normalize { form, files } => {
+            run_normalize(rt, alloc, *form, files, input, output, error)
+        }
+        Job::Key { form, files } => run_key(rt, alloc, *form, files, input, output, error),
+        Job::Compare { form, files } => run_compare(rt, alloc, *form, files, input, output, error),
+        Job::Audit { old, new } => run_audit(rt, alloc, old, new, output, error),
+        Job::Replay {
+            form,
+            schedule_file,
+            version_files,
+        } => run_replay(
+            rt,
+            alloc,
+            *form,
+            schedule_file.as_str(),
+            version_files.as_slice(),
+            output,
+            error,
+        ),
+    }
+}
+
+/// Does what the words, without the program's name, ask for, and answers the status.
+pub fn run_words<R: Files, I: Read, O: Write, E: Write>(
+    rt: &R,
+    alloc: Global,
+    words: &[String],
+    input: &mut Watched<I>,
+    output: &mut Watched<O>,
+    error: &mut Watched<E>,
+) -> u8
+where
+    R::File: Drop,
+    ensures { ProgramEnds (map string_bytes words.now) (stream_of I.remaining input.old input.new) (stream_of O.contents output.old output.new) (stream_of E.contents error.old error.new) result }
+{
+    match parse(alloc, words) {
+        Ok(job) => match run(rt, alloc, &job, input, output, error) {
+            Ok(status) => status,
+            Err(status) => status,
+        },
+        Err(WordsFault::Usage) => tell_usage(error),
+        Err(WordsFault::Memory) => refuse(alloc, error, &JobFault::Memory),
+    }
+}
+
+/// Says why there are no words: memory ran out, or one of them is no UTF-8.
+pub fn refuse_words<E: Write>(alloc: Global, error: &mut Watched<E>, why: &Error) -> u8
+    ensures memory { error_kind why.now ≡ ErrorKind.OutOfMemory → IsRefused JobFault.Memory (stream_of E.contents error.old error.new) result }
+    ensures usage { error_kind why.now ≢ ErrorKind.OutOfMemory → IsTold (stream_of E.contents error.old error.new) usage_lines × (result ≡ 2) }
+{
+    if why.kind() == ErrorKind::OutOfMemory {
+        refuse(alloc, error, &JobFault::Memory)
+    } else {
+        tell_usage(error)
+    }
+}
