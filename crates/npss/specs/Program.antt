@@ -1,7 +1,6 @@
 -- What the program does for its words.
 use Rattle.std.specs.Prelude.{◌≡◌, ◌⊎◌, ℕ, true, None, Some, List, length, vec_len}
 use Rattle.clap.specs.Words.{Text}
-use Rattle.np_code_points.specs.declared.forms.Form.{Form}
 use Rattle.npss.specs.Audits.{AuditEnds}
 use Rattle.npss.specs.Chains.{VersionReaders}
 use Rattle.npss.specs.Comparisons.{CompareEnds}
@@ -11,25 +10,19 @@ use Rattle.npss.specs.NormalForms.{NormalizeEnds}
 use Rattle.npss.specs.Replays.{ReplayEnds, ReplayReaders}
 use Rattle.npss.specs.Streams.{Stream}
 use Rattle.npss.specs.Texts.{TextReaders}
-use Rattle.npss.specs.Usage.{LacksOneOf}
+use Rattle.npss.specs.Usage.{IsUnopened}
 use Rattle.npss.specs.Words.{asked_by, asked_of, usage_lines}
 use Rattle.npss.specs.declared.jobs.faults.JobFault.TheVariants.{Memory}
 use Rattle.npss.specs.declared.words.Job.{Job}
 use Rattle.npss.specs.declared.words.Job.TheVariants.{Help, Normalize, Key, Compare, Audit, Replay}
 
--- a job on one text ends so, over two files
-abbrev pub OnText : (Form → TextReaders → Stream → Stream → ℕ → Type 0) → Form → Stream → Stream → Stream → ℕ → Type 0
-OnText TextEnds form input output error status = (data_file : Stream) × (exclusions_file : Stream)
-    × TextEnds form (record { data_file = data_file; exclusions_file = exclusions_file; input = input }) output error status
-
 -- how a job ends, over as many files as it names
 abbrev pub JobEnds : Job → Stream → Stream → Stream → ℕ → Type 0
 JobEnds Help input output error status = Writes true usage_lines output error status
-JobEnds (Normalize form files) input output error status = OnText NormalizeEnds form input output error status
-JobEnds (Key form files) input output error status = OnText KeyEnds form input output error status
-JobEnds (Compare form files) input output error status = OnText CompareEnds form input output error status
-JobEnds (Audit old new) input output error status =
-    (readers : List VersionReaders) × (length readers ≡ 2) × AuditEnds readers output error status
+JobEnds (Normalize form files) input output error status = (readers : TextReaders) × (readers.input ≡ input) × NormalizeEnds form readers output error status
+JobEnds (Key form files) input output error status = (readers : TextReaders) × (readers.input ≡ input) × KeyEnds form readers output error status
+JobEnds (Compare form files) input output error status = (readers : TextReaders) × (readers.input ≡ input) × CompareEnds form readers output error status
+JobEnds (Audit old new) input output error status = (readers : List VersionReaders) × (length readers ≡ 2) × AuditEnds readers output error status
 JobEnds (Replay form schedule_file version_files) input output error status =
     (readers : ReplayReaders) × (length readers.versions ≡ vec_len version_files) × ReplayEnds form readers output error status
 
@@ -37,7 +30,7 @@ JobEnds (Replay form schedule_file version_files) input output error status =
 abbrev pub IsNotRun : List Text → Stream → ℕ → Type 0
 IsNotRun words error status =
     ((asked_by words ≡ None) × IsTold error usage_lines × (status ≡ 2))
-    ⊎ (((job : Job) × (asked_by words ≡ Some (asked_of job)) × LacksOneOf (asked_of job).files error status)
+    ⊎ (((job : Job) × (asked_by words ≡ Some (asked_of job)) × IsUnopened (asked_of job).files error status)
     ⊎ IsRefused Memory error status)
 
 -- the job is run that the words ask for; or nothing is, and nothing written

@@ -8,10 +8,11 @@ ghost use Rattle.npss.specs.Comparisons.{CompareEnds};
 ghost use Rattle.npss.specs.Ends.{IsRefused, IsTold, Writes};
 ghost use Rattle.npss.specs.Keys.{KeyEnds};
 ghost use Rattle.npss.specs.NormalForms.{NormalizeEnds};
-ghost use Rattle.npss.specs.Program.{JobEnds, OnText, ProgramEnds};
+ghost use Rattle.npss.specs.Program.{JobEnds, ProgramEnds};
 ghost use Rattle.npss.specs.Replays.{ReplayEnds, ReplayReaders};
 ghost use Rattle.npss.specs.Streams.{stream_of};
-ghost use Rattle.npss.specs.Usage.{LacksOneOf};
+ghost use Rattle.npss.specs.Texts.{TextReaders};
+ghost use Rattle.npss.specs.Usage.{IsUnopened};
 ghost use Rattle.npss.specs.Words.{asked_of, names_of, usage_lines};
 ghost use Rattle.npss.specs.inside.Jobs.{HasVersions};
 
@@ -66,8 +67,8 @@ fn run_normalize<R: Files, I: Read, O: Write, E: Write>(
 ) -> Result<u8, u8>
 where
     R::File: Drop,
-    ensures done { IfOk result (OnText NormalizeEnds form (stream_of I.remaining input.old input.new) (stream_of O.contents output.old output.new) (stream_of E.contents error.old error.new)) }
-    ensures unopened { IfErr result (LacksOneOf (names_of files.now) (stream_of E.contents error.old error.new)) }
+    ensures done { IfOk result (λ status. (readers : TextReaders) × (readers.input ≡ stream_of I.remaining input.old input.new) × NormalizeEnds form readers (stream_of O.contents output.old output.new) (stream_of E.contents error.old error.new) status) }
+    ensures unopened { IfErr result (IsUnopened (names_of files.now) (stream_of E.contents error.old error.new)) }
     ensures unwritten { IfErr result (λ status. output.new ≡ output.old) }
 {
     let (mut data, mut exclusions) = open_version(rt, alloc, error, files)?;
@@ -98,8 +99,8 @@ fn run_key<R: Files, I: Read, O: Write, E: Write>(
 ) -> Result<u8, u8>
 where
     R::File: Drop,
-    ensures done { IfOk result (OnText KeyEnds form (stream_of I.remaining input.old input.new) (stream_of O.contents output.old output.new) (stream_of E.contents error.old error.new)) }
-    ensures unopened { IfErr result (LacksOneOf (names_of files.now) (stream_of E.contents error.old error.new)) }
+    ensures done { IfOk result (λ status. (readers : TextReaders) × (readers.input ≡ stream_of I.remaining input.old input.new) × KeyEnds form readers (stream_of O.contents output.old output.new) (stream_of E.contents error.old error.new) status) }
+    ensures unopened { IfErr result (IsUnopened (names_of files.now) (stream_of E.contents error.old error.new)) }
     ensures unwritten { IfErr result (λ status. output.new ≡ output.old) }
 {
     let (mut data, mut exclusions) = open_version(rt, alloc, error, files)?;
@@ -130,8 +131,8 @@ fn run_compare<R: Files, I: Read, O: Write, E: Write>(
 ) -> Result<u8, u8>
 where
     R::File: Drop,
-    ensures done { IfOk result (OnText CompareEnds form (stream_of I.remaining input.old input.new) (stream_of O.contents output.old output.new) (stream_of E.contents error.old error.new)) }
-    ensures unopened { IfErr result (LacksOneOf (names_of files.now) (stream_of E.contents error.old error.new)) }
+    ensures done { IfOk result (λ status. (readers : TextReaders) × (readers.input ≡ stream_of I.remaining input.old input.new) × CompareEnds form readers (stream_of O.contents output.old output.new) (stream_of E.contents error.old error.new) status) }
+    ensures unopened { IfErr result (IsUnopened (names_of files.now) (stream_of E.contents error.old error.new)) }
     ensures unwritten { IfErr result (λ status. output.new ≡ output.old) }
 {
     let (mut data, mut exclusions) = open_version(rt, alloc, error, files)?;
@@ -162,7 +163,7 @@ fn run_audit<R: Files, O: Write, E: Write>(
 where
     R::File: Drop,
     ensures done { IfOk result (λ status. (readers : List VersionReaders) × (length readers ≡ 2) × AuditEnds readers (stream_of O.contents output.old output.new) (stream_of E.contents error.old error.new) status) }
-    ensures unopened { IfErr result (LacksOneOf (names_of old.now ++ names_of new.now) (stream_of E.contents error.old error.new)) }
+    ensures unopened { IfErr result (IsUnopened (names_of old.now ++ names_of new.now) (stream_of E.contents error.old error.new)) }
     ensures unwritten { IfErr result (λ status. output.new ≡ output.old) }
 {
     let (mut old_data, mut old_exclusions) = open_version(rt, alloc, error, old)?;
@@ -196,7 +197,7 @@ where
     R::File: Drop,
     requires { 1 ≤ length version_files.now }
     ensures done { IfOk result (λ status. (readers : ReplayReaders) × (length readers.versions ≡ length version_files.now) × ReplayEnds form readers (stream_of O.contents output.old output.new) (stream_of E.contents error.old error.new) status) }
-    ensures unopened { IfErr result (LacksOneOf (schedule_file.now ∷ flat_map names_of version_files.now) (stream_of E.contents error.old error.new)) }
+    ensures unopened { IfErr result (IsUnopened (schedule_file.now ∷ flat_map names_of version_files.now) (stream_of E.contents error.old error.new)) }
     ensures unwritten { IfErr result (λ status. output.new ≡ output.old) }
 {
     let mut schedule = open_file(rt, alloc, error, schedule_file)?;
@@ -228,7 +229,7 @@ where
     R::File: Drop,
     requires { HasVersions job.now }
     ensures done { IfOk result (JobEnds job.now (stream_of I.remaining input.old input.new) (stream_of O.contents output.old output.new) (stream_of E.contents error.old error.new)) }
-    ensures unopened { IfErr result (LacksOneOf (asked_of job.now).files (stream_of E.contents error.old error.new)) }
+    ensures unopened { IfErr result (IsUnopened (asked_of job.now).files (stream_of E.contents error.old error.new)) }
     ensures unwritten { IfErr result (λ status. output.new ≡ output.old) }
 {
     match job {

@@ -1,12 +1,21 @@
 use Rattle.std.proofs.Common.{[], ◌∷◌, ◌++◌, ◌∙◌, refl}
-use Rattle.std.proofs.lemmas.List.Elements.{Contains-append_right}
+use Rattle.std.proofs.lemmas.List.Elements.{Contains-append_left, Contains-append_right}
 use Rattle.std.proofs.lemmas.Result.{err_from_is_err_and}
-use Rattle.npss.proofs.OpeningLemmas.{ends_before, lacks_among}
+use Rattle.npss.proofs.OpeningLemmas.{ends_before, some_lack}
 use Rattle.npss.specs.Audits.{AuditEnds}
 use Rattle.npss.specs.Chains.{readers_of}
 use Rattle.npss.specs.Streams.{stream_of}
 use Rattle.npss.specs.Words.{names_of}
 use Rattle.npss.proofs.program.run_audit.Goals as goal
+
+pub returns-in_err-old_data-clause-unopened : goal.returns-in_err-old_data-clause-unopened
+returns-in_err-old_data-clause-unopened g c =
+    let p = err_from_is_err_and c.from_residual.result c.from_residual.ensures.1 in
+    let old = names_of c.args.old.now in
+    let new = names_of c.args.new.now in
+    rw (p.1, p.2)
+    (some_lack g.E.Write.contents old (old ++ new) c.args.error.now c.args.error.now c.open_version.new.error _
+    refl (λ name among. Contains-append_left old new name among) c.in_err-old_data.ensures.told)
 
 pub returns-in_err-data-clause-unopened : goal.returns-in_err-data-clause-unopened
 returns-in_err-data-clause-unopened g c =
@@ -14,7 +23,7 @@ returns-in_err-data-clause-unopened g c =
     let old = names_of c.args.old.now in
     let new = names_of c.args.new.now in
     rw (p.1, p.2)
-    (lacks_among g.E.Write.contents new (old ++ new) c.args.error.now c.open_version.new.error c.open_version-2.new.error _
+    (some_lack g.E.Write.contents new (old ++ new) c.args.error.now c.open_version.new.error c.open_version-2.new.error _
     c.in_ok-old_data.ensures.opened (λ name among. Contains-append_right old new name among) c.in_err-data.ensures.told)
 
 pub returns-clause-done : goal.returns-clause-done

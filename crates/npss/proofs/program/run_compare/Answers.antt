@@ -1,17 +1,21 @@
+use Rattle.std.proofs.Common.{refl}
 use Rattle.npss.proofs.OpeningLemmas.{ends_before}
 use Rattle.npss.specs.Comparisons.{CompareEnds}
 use Rattle.npss.specs.Streams.{stream_of}
+use Rattle.npss.specs.Texts.{TextReaders}
 use Rattle.npss.proofs.program.run_compare.Goals as goal
 
 pub returns-clause-done : goal.returns-clause-done
 returns-clause-done g c =
-    let first = stream_of g.R.File.Read.remaining c.in_ok-data.data c.compare_job.new.data_file in
-    let second = stream_of g.R.File.Read.remaining c.in_ok-data.exclusions c.compare_job.new.exclusions_file in
-    let input = stream_of g.I.Read.remaining c.args.input.now c.compare_job.new.input in
+    let tells = g.R.File.Read.remaining in
+    let readers : TextReaders = record {
+      data_file = stream_of tells c.in_ok-data.data c.compare_job.new.data_file;
+      exclusions_file = stream_of tells c.in_ok-data.exclusions c.compare_job.new.exclusions_file;
+      input = stream_of g.I.Read.remaining c.args.input.now c.compare_job.new.input;
+    } in
     let output = stream_of g.O.Write.contents c.args.output.now c.compare_job.new.output in (
-      first,
-      second,
-      ends_before g.E.Write.contents
-          (λ error. CompareEnds c.args.form (record { data_file = first; exclusions_file = second; input = input }) output error c.compare_job.result)
+      readers,
+      refl,
+      ends_before g.E.Write.contents (λ error. CompareEnds c.args.form readers output error c.compare_job.result)
           c.args.error.now c.open_version.new.error c.compare_job.new.error c.in_ok-data.ensures.opened c.compare_job.ensures,
     )

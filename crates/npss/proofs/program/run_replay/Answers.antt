@@ -2,7 +2,7 @@ use Rattle.std.proofs.Common.{◌≡◌, ◌*◌, ◌∷◌, ◌∙◌, arith, f
 use Rattle.std.proofs.lemmas.Result.{err_from_is_err_and}
 use Rattle.np_code_points.proofs.Elements.{contains_more}
 use Rattle.npss.proofs.ChainLemmas.{readers-count}
-use Rattle.npss.proofs.OpeningLemmas.{ends_before, lacks_among}
+use Rattle.npss.proofs.OpeningLemmas.{ends_before, some_lack}
 use Rattle.npss.specs.Chains.{readers_of}
 use Rattle.npss.specs.Replays.{ReplayEnds, ReplayReaders}
 use Rattle.npss.specs.Streams.{stream_of}
@@ -15,7 +15,7 @@ returns-in_err-files-clause-unopened g c =
     let schedule = c.args.schedule_file.now in
     let files = flat_map names_of c.args.version_files.now in
     rw (p.1, p.2)
-    (lacks_among g.E.Write.contents files (schedule ∷ files) c.args.error.now c.open_file.new.error c.open_versions.new.error _
+    (some_lack g.E.Write.contents files (schedule ∷ files) c.args.error.now c.open_file.new.error c.open_versions.new.error _
     c.in_ok-schedule.ensures.opened (λ name among. contains_more schedule name files among) c.in_err-files.ensures.told)
 
 pub returns-clause-done : goal.returns-clause-done
