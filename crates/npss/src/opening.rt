@@ -1,9 +1,10 @@
 //! The files of a job are opened before any of them is read.
 
-ghost use Rattle.std.specs.Prelude.{◌≡◌, ◌+◌, ◌*◌, length, vec_len, IfOk, IfErr, OnOk};
+ghost use Rattle.std.specs.Prelude.{◌≡◌, ◌+◌, ◌*◌, ◌∷◌, [], flat_map, length, vec_len, IfOk, IfErr, OnOk};
 ghost use Rattle.npss.specs.Ends.{IsRefused};
 ghost use Rattle.npss.specs.Streams.{stream_of};
-ghost use Rattle.npss.specs.Usage.{IsUnopened, LacksFile, LacksOneFile};
+ghost use Rattle.npss.specs.Usage.{IsUnopened};
+ghost use Rattle.npss.specs.Words.{names_of};
 
 use crate::jobs::{FAILED, JobFault, refuse, tell};
 use crate::words::VersionFiles;
@@ -15,7 +16,7 @@ use std::rt::Files;
 
 /// Says that a file can't be opened.
 fn refuse_file<E: Write>(alloc: Global, error: &mut Watched<E>, name: &str) -> u8
-    ensures { IsUnopened name.now (stream_of E.contents error.old error.new) result }
+    ensures { IsUnopened (name.now ∷ []) (stream_of E.contents error.old error.new) result }
 {
     match format!(in alloc; "cannot open {name}\n") {
         Ok(line) => {
@@ -38,7 +39,7 @@ pub fn open_file<R: Files, E: Write>(
     name: &str,
 ) -> Result<Watched<R::File>, u8>
     ensures opened { IfOk result (λ file. error.new ≡ error.old) }
-    ensures told { IfErr result (IsUnopened name.now (stream_of E.contents error.old error.new)) }
+    ensures told { IfErr result (IsUnopened (name.now ∷ []) (stream_of E.contents error.old error.new)) }
 {
     match fs::open(rt, name) {
         Ok(file) => Ok(Watched::new(file)),
@@ -60,7 +61,7 @@ pub fn open_version<R: Files, E: Write>(
 where
     R::File: Drop,
     ensures opened { OnOk result (error.new ≡ error.old) }
-    ensures told { IfErr result (LacksFile files.now (stream_of E.contents error.old error.new)) }
+    ensures told { IfErr result (IsUnopened (names_of files.now) (stream_of E.contents error.old error.new)) }
 {
     let data = open_file(rt, alloc, error, files.data_file.as_str())?;
     let exclusions = open_file(rt, alloc, error, files.exclusions_file.as_str())?;
@@ -102,7 +103,7 @@ pub fn open_versions<R: Files, E: Write>(
 where
     R::File: Drop,
     ensures files { IfOk result (λ files. vec_len files ≡ 2 * length versions.now) }
-    ensures told { IfErr result (LacksOneFile versions.now (stream_of E.contents error.old error.new)) }
+    ensures told { IfErr result (IsUnopened (flat_map names_of versions.now) (stream_of E.contents error.old error.new)) }
 {
     let mut files = Vec::new(alloc);
     for version in versions {

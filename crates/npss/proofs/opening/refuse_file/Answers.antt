@@ -1,8 +1,8 @@
-use Rattle.std.proofs.Common.{ℕ, List, inl, refl, subst, ◌∙◌}
+use Rattle.std.proofs.Common.{ℕ, List, inl, refl, subst, ◌∙◌, arith}
 use Rattle.npss.specs.Ends.{IsTold}
 use Rattle.npss.specs.Streams.{stream_of}
 use Rattle.npss.proofs.opening.refuse_file.Goals as goal
 
 pub returns-in-Ok : goal.returns-in-Ok
 returns-in-Ok g c =
-    inl (subst (λ (line : List ℕ). IsTold (stream_of g.E.Write.contents c.args.error.now c.tell.new.error) line) (c.as_str.ensures.value ∙ c.in-Ok.ensures.ok) c.tell.ensures, refl)
+    inl (c.args.name.now, (0, omega arith, refl), subst (λ (line : List ℕ). IsTold (stream_of g.E.Write.contents c.args.error.now c.tell.new.error) line) (c.as_str.ensures.value ∙ c.in-Ok.ensures.ok) c.tell.ensures, refl)
