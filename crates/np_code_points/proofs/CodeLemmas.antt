@@ -1,17 +1,17 @@
 -- Codes in hex digits.
-use Rattle.std.proofs.Common.{◌≡◌, nat_lt, eqb, ℕ, zero, suc, ◌+◌, ◌-◌, ◌*◌, ◌/◌, ◌%◌, ◌^◌, ◌<◌, ◌≤◌, true, false, List, [], ◌∷◌, ◌++◌, map, length, take, drop, get_or, set, replicate, min, Option, Some, None, IfSome, IsNone, is_some, ◌↔◌, inl, inr, refl, sym, ap, subst, ◌∙◌, arith, append_assoc, length-append, length-drop, take-append-drop, add-one, lit<}
+use Rattle.std.proofs.Common.{◌≡◌, nat_lt, ℕ, zero, suc, ◌+◌, ◌-◌, ◌*◌, ◌/◌, ◌%◌, ◌^◌, ◌<◌, ◌≤◌, true, false, List, [], ◌∷◌, ◌++◌, map, length, take, drop, get_or, set, replicate, min, Option, Some, None, IfSome, IsNone, is_some, ◌↔◌, inl, inr, sym, ap, subst, ◌∙◌, arith, append_assoc, length-drop, take-append-drop, add-one, lit<}
 use Rattle.std.specs.Char.{digit_value}
-use Rattle.std.specs.Int.Digits.{digits_of, AllBelowBase, number_from_digits}
+use Rattle.std.specs.Int.Digits.{digits_of, AllBelowBase}
 use Rattle.std.specs.List.{list_all}
 use Rattle.std.specs.Str.{IsAscii}
 use Rattle.std.specs.Str.Parse.{digits_value}
 use Rattle.std.proofs.Math.Nat.{pow-le-pow_right, pow-suc}
-use Rattle.std.proofs.lemmas.Bool.{agree_below_at, both_ways, cases_Bool, eqb-true, cond_both, false_from_ne_true, and_left, and_right, and_from, and_parts, lt-leb, le-leb, leb-true, lt-ltb, ltb-true}
-use Rattle.std.proofs.lemmas.Int.Digits.{digits_of_step, all_below_base_digits_of, length-digits_of-le, digits_value_is, digits_value_more, number_digits_of}
-use Rattle.std.proofs.lemmas.List.{map-append, take_all, drop-set, take-set, take-replicate, drop-replicate, length-map, length-replicate, drop-append-le, take-append-le}
+use Rattle.std.proofs.lemmas.Bool.{both_ways, cases_Bool, cond_both, false_from_ne_true, and_left, and_right, and_from, and_parts, lt-leb, le-leb, leb-true, ltb-true}
+use Rattle.std.proofs.lemmas.Int.Digits.{digits_of_step, all_below_base_digits_of, digits_value_more}
+use Rattle.std.proofs.lemmas.List.{map-append, take_all, drop-set, take-set, take-replicate, drop-replicate, length-replicate, drop-append-le, take-append-le}
 use Rattle.std.proofs.lemmas.List.Folds.{list_all_more, list_all_at}
 use Rattle.std.proofs.lemmas.Str.{IsAscii-append}
-use Rattle.np_code_points.specs.Codes.{is_hex_digit, is_code, code_value, hex_digit, padded, code_digits}
+use Rattle.np_code_points.specs.Codes.{is_hex_digit, is_code, code_value, hex_digit, code_digits}
 
 -- what a code stands for, where the test is known
 pub code_value-code : (bs : List ℕ) → is_code bs ≡ true → code_value bs ≡ Some (digits_value 16 bs)
@@ -170,56 +170,3 @@ pub code_digits-ascii : (c : ℕ) → IsAscii (code_digits c)
 unfolding code_digits
 code_digits-ascii c =
     IsAscii-append _ _ (zeros-ascii _) (hex_digits-ascii (digits_of 16 c) (all_below_base_digits_of 16 c (omega arith)))
-
--- ---- what is written is read again
-
-value_of_hex_digit : (d : ℕ) → d < 16 → digit_value (hex_digit d) ≡ d
-value_of_hex_digit d h =
-    eqb-true _ _ (agree_below_at (λ k. eqb (digit_value (hex_digit k)) k) (λ _. true) 16 d refl h)
-
-values_of_hex_digits : (ds : List ℕ) → AllBelowBase 16 ds → map digit_value (map hex_digit ds) ≡ ds
-values_of_hex_digits [] h = refl
-values_of_hex_digits (d ∷ ds) (h, hs) =
-    ap (λ (k : ℕ). k ∷ map digit_value (map hex_digit ds)) (value_of_hex_digit d h) ∙ ap (λ (l : List ℕ). d ∷ l) (values_of_hex_digits ds hs)
-
-hex_digits_are : (ds : List ℕ) → AllBelowBase 16 ds → list_all is_hex_digit (map hex_digit ds) ≡ true
-hex_digits_are [] h = refl
-hex_digits_are (d ∷ ds) (h, hs) =
-    and_from _ _ (ap (λ (k : ℕ). nat_lt k 16) (value_of_hex_digit d h) ∙ lt-ltb d 16 h) (hex_digits_are ds hs)
-
--- zeros in front change nothing
-zeros_are : (n : ℕ) (bs : List ℕ) → list_all is_hex_digit bs ≡ true → list_all is_hex_digit (replicate n 48 ++ bs) ≡ true
-zeros_are zero bs h = h
-zeros_are (suc n) bs h = zeros_are n bs h
-
-zeros_value : (n : ℕ) (bs : List ℕ) → digits_value 16 (replicate n 48 ++ bs) ≡ digits_value 16 bs
-zeros_value zero bs = refl
-zeros_value (suc n) bs = zeros_value n bs
-
-digits_value-code_digits : (c : ℕ) → digits_value 16 (code_digits c) ≡ c
-unfolding code_digits
-digits_value-code_digits c =
-    zeros_value (4 - length (map hex_digit (digits_of 16 c))) (map hex_digit (digits_of 16 c))
-    ∙ digits_value_is 16 (map hex_digit (digits_of 16 c))
-    ∙ ap (number_from_digits 16) (values_of_hex_digits (digits_of 16 c) (all_below_base_digits_of 16 c (omega arith)))
-    ∙ number_digits_of 16 c (omega arith)
-
-hex_code_digits : (c : ℕ) → list_all is_hex_digit (code_digits c) ≡ true
-unfolding code_digits
-hex_code_digits c = zeros_are (4 - length (map hex_digit (digits_of 16 c))) (map hex_digit (digits_of 16 c)) (hex_digits_are (digits_of 16 c) (all_below_base_digits_of 16 c (omega arith)))
-
-length-code_digits : (c : ℕ) → c < 0x110000 → (4 ≤ length (code_digits c)) × (length (code_digits c) ≤ 6)
-unfolding code_digits
-length-code_digits c h =
-    let few : length (digits_of 16 c) ≤ 6 = length-digits_of-le 16 6 c (omega arith) (omega arith) in
-    let same : length (map hex_digit (digits_of 16 c)) ≡ length (digits_of 16 c) = length-map (digits_of 16 c) hex_digit in
-    let all : length (padded (map hex_digit (digits_of 16 c))) ≡ 4 - length (map hex_digit (digits_of 16 c)) + length (map hex_digit (digits_of 16 c)) =
-    simp (length-append, length-replicate) in
-    (omega arith, omega arith)
-
--- a code that is written is read as its code point
-pub code_value-code_digits : (c : ℕ) → c < 0x110000 → code_value (code_digits c) ≡ Some c
-code_value-code_digits c h =
-    let value = digits_value-code_digits c in
-    let long = length-code_digits c h in
-    code_value-found (code_digits c) long.0 long.1 (hex_code_digits c) (omega (arith, value)) ∙ ap Some value

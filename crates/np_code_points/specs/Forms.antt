@@ -1,5 +1,5 @@
 -- The four normalization forms (UAX #15, table 1).
-use Rattle.std.specs.Prelude.{ℕ, Bool, true, false, List, Option, Some, None, codes, ◌==◌, if◌then◌else◌}
+use Rattle.std.specs.Prelude.{ℕ, Bool, true, false, List, Option, Some, None, codes, if◌then◌else◌}
 use Rattle.std.specs.Str.{bytes_eq}
 pub use Rattle.np_code_points.specs.declared.forms.Form.{Form}
 pub use Rattle.np_code_points.specs.declared.forms.Form.TheVariants.{Nfd, Nfc, Nfkd, Nfkc}
@@ -32,11 +32,3 @@ byte_of Nfd = 68
 byte_of Nfc = 67
 byte_of Nfkd = 100
 byte_of Nfkc = 99
-
--- the form of a letter
-abbrev pub form_of_byte : ℕ → Option Form
-form_of_byte b =
-    if b == 68 then Some Nfd
-    else (if b == 67 then Some Nfc
-    else (if b == 100 then Some Nfkd
-    else (if b == 99 then Some Nfkc else None)))

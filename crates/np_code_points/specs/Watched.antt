@@ -15,9 +15,6 @@ abbrev pub read_fails : {A E : Type 0} → Result A E → Bool
 read_fails (Ok _) = false
 read_fails (Err _) = true
 
-abbrev pub flush_fails : {A E : Type 0} → Result A E → Bool
-flush_fails r = read_fails r
-
 -- whether a write of buf that gave r failed: by an error, or by taking nothing of a piece that is not empty
 abbrev pub write_fails : {E : Type 0} → Result ℕ E → List ℕ → Bool
 write_fails (Err _) buf = true

@@ -1,6 +1,6 @@
 //! The four normalization forms (UAX #15, table 1).
 ghost use Rattle.std.specs.Prelude.{◌≡◌, ◌↔◌, Some};
-ghost use Rattle.np_code_points.specs.Forms.{byte_of, composes as form_composes, form_named, form_of_byte, is_compat};
+ghost use Rattle.np_code_points.specs.Forms.{byte_of, composes as form_composes, form_named, is_compat};
 
 /// A normalization form.
 #[derive(Clone, Copy, Debug, PartialEq, Eq)]
@@ -31,8 +31,7 @@ impl Form {
 
     /// The byte that stands for the form: `D`, `C`, `d` or `c`.
     pub fn byte(self) -> u8
-        ensures value { result ≡ byte_of self }
-        ensures back { form_of_byte result ≡ Some self }
+        ensures { result ≡ byte_of self }
     {
         match self {
             Form::Nfd => b'D',
@@ -44,8 +43,7 @@ impl Form {
 
     /// The form that the byte stands for. `None` for other bytes.
     pub fn of_byte(byte: u8) -> Option<Form>
-        ensures value { result ≡ form_of_byte byte }
-        ensures back { (form : Form) → (result ≡ Some form) ↔ (byte ≡ byte_of form) }
+        ensures { (form : Form) → (result ≡ Some form) ↔ (byte ≡ byte_of form) }
     {
         match byte {
             b'D' => Some(Form::Nfd),

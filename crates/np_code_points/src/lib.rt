@@ -17,7 +17,7 @@ pub mod words;
 pub use channels::{input, output, watched};
 pub use forms::Form;
 use std::alloc::{AllocError, AllocFailed};
-pub use testing::{devices, fixtures};
+pub use testing::{devices, fixtures, told};
 use thiserror::Error;
 
 /// A growth was refused: memory ran out.

@@ -183,11 +183,6 @@ module _ (ccc : ℕ → ℕ) where
   unfolding canonical_order
   canonical_order-nil = refl
 
-  -- the first slides into what follows
-  pub canonical_order-cons : (c : ℕ) (cs : List ℕ) → canonical_order ccc (c ∷ cs) ≡ slide ccc c (canonical_order ccc cs)
-  unfolding canonical_order
-  canonical_order-cons c cs = refl
-
   -- the canonical order is ordered
   pub is_ordered-canonical_order : (cs : List ℕ) → is_ordered ccc (canonical_order ccc cs) ≡ true
   unfolding canonical_order

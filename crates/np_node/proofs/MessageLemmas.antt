@@ -1,6 +1,6 @@
 -- Bytes are one message or have one fault place.
-use Rattle.std.proofs.Common.{◌≡◌, ℕ, ◌+◌, ◌<◌, ◌⊎◌, inl, inr, List, [], ◌∷◌, ◌++◌, length, Option, Some, None, unwrap_or, is_some, true, false, true≢false, refl, sym, ap, subst, ◌∙◌, arith, append-nil}
-use Rattle.np_code_points.specs.Forms.{byte_of, form_of_byte}
+use Rattle.std.proofs.Common.{◌≡◌, ℕ, ◌+◌, ◌<◌, ◌⊎◌, inl, inr, List, [], ◌∷◌, ◌++◌, length, Option, Some, None, unwrap_or, is_some, true, false, true≢false, refl, sym, ap, subst, ◌∙◌, arith, append-nil, ◌==◌, if◌then◌else◌}
+use Rattle.np_code_points.specs.Forms.{byte_of}
 use Rattle.np_code_points.specs.declared.forms.Form.{Form}
 use Rattle.np_code_points.specs.declared.forms.Form.TheVariants.{Nfd, Nfc, Nfkd, Nfkc}
 use Rattle.np_node.proofs.FieldLemmas.{one_entry, whole_entry, one_entry_fault}
@@ -9,14 +9,18 @@ use Rattle.np_node.specs.Laws.{HasOneFault, SpellsOne}
 use Rattle.np_node.specs.Messages.{Message, message_bytes, IsMessage, IsMessageFault}
 use Rattle.np_node.specs.Strings.{Entry}
 
-form-back : (f : Form) → form_of_byte (byte_of f) ≡ Some f
+-- the form of a letter
+abbrev form_at : ℕ → Option Form
+form_at b = if b == 68 then Some Nfd else (if b == 67 then Some Nfc else (if b == 100 then Some Nfkd else Some Nfkc))
+
+form-back : (f : Form) → form_at (byte_of f) ≡ Some f
 form-back Nfd = refl
 form-back Nfc = refl
 form-back Nfkd = refl
 form-back Nfkc = refl
 
 same_byte : (f g : Form) → byte_of f ≡ byte_of g → f ≡ g
-same_byte f g e = ap (λ o. unwrap_or o f) (sym (form-back f) ∙ ap form_of_byte e ∙ form-back g)
+same_byte f g e = ap (λ o. unwrap_or o f) (sym (form-back f) ∙ ap form_at e ∙ form-back g)
 
 head_or : List ℕ → ℕ
 head_or [] = 0

@@ -54,12 +54,6 @@ AnswersTake node bytes (Err Full) = AnswersTold node bytes (Err Full)
 AnswersTake node bytes (Err Memory) = AnswersTold node bytes (Err Memory)
 AnswersTake node bytes (Ok answer) = AnswersTold node bytes (Ok answer)
 
--- `Kept` keeps the string and the key behind the others, every other answer changes nothing
-abbrev pub LeavesEntry : {T : Type 0} → NodeState T → NodeState T → Entry → Result Taken NodeFault → Type 0
-LeavesEntry old new e (Ok Kept) = new ≡ with_entry old e
-LeavesEntry old new e (Ok Known) = new ≡ old
-LeavesEntry old new e (Err fault) = new ≡ old
-
 -- `Kept` keeps what the message tells, every other answer changes nothing
 abbrev pub LeavesTaken : {T : Type 0} → NodeState T → NodeState T → List ℕ → Result Taken NodeFault → Type 0
 LeavesTaken old new bytes (Ok Kept) = (e : Entry) × IsMessage bytes (record { form = old.form; entry = e }) × (new ≡ with_entry old e)

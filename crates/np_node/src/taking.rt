@@ -20,7 +20,8 @@ impl<'t, T: NormTable> Node<'t, T> {
     ghost use Rattle.std.specs.Prelude.{◌≤◌, length};
     ghost use Rattle.np_node.specs.Nodes.{state_of, IsKept};
     ghost use Rattle.np_node.specs.Strings.{most_bytes};
-    ghost use Rattle.np_node.specs.Taking.{AnswersEntry, AnswersTake, LeavesEntry, LeavesTaken};
+    ghost use Rattle.np_node.specs.Taking.{AnswersEntry, AnswersTake, LeavesTaken};
+    ghost use Rattle.np_node.specs.inside.Told.{LeavesEntry};
     ghost use Rattle.np_node.specs.inside.Reading.{told_entry};
 
     /// Keeps the string that a message tells. The message's key is held against the key that this

@@ -1,14 +1,17 @@
 -- The assigned code points are counted by the sizes of the rows.
-use Rattle.std.proofs.Common.{◌≡◌, ℕ, zero, suc, ◌+◌, ◌-◌, ◌<◌, ◌≤◌, ◌⊎◌, Bool, true, false, nat_le, List, [], ◌∷◌, length, drop, Some, None, is_some, refl, sym, ap, ◌∙◌, arith, inl, inr, le-leb}
+use Rattle.std.proofs.Common.{◌≡◌, ℕ, zero, suc, ◌+◌, ◌-◌, ◌<◌, ◌≤◌, ◌⊎◌, Bool, true, false, nat_le, List, [], ◌∷◌, length, drop, Some, None, is_some, refl, sym, ap, ◌∙◌, arith, inl, inr, le-leb, if◌then◌else◌}
 use Rattle.std.specs.List.{slice_get}
 use Rattle.std.proofs.lemmas.Bool.{cases_Bool, cases_lt, and_parts, leb-true, and_from}
 use Rattle.std.proofs.lemmas.List.{drop_all}
 use Rattle.std.proofs.lemmas.Option.{none-some, same_Some}
 use Rattle.np_ucd.specs.Entries.{Entry, IsRow, IsBefore, AreRows}
-use Rattle.np_tables.specs.Counts.{count_below, one_if, assigned_count}
+use Rattle.np_tables.specs.Counts.{count_below, assigned_count}
 use Rattle.np_tables.specs.inside.RowPlaces.{lies_in}
 use Rattle.np_tables.specs.Versions.{VersionData, entry_at, is_assigned}
 use Rattle.np_tables.proofs.RowLemmas.{entry_at-nil, entry_at-hit, entry_at-miss, out_of, below_out}
+
+abbrev one_if : Bool → ℕ
+one_if b = if b then 1 else 0
 
 -- how many code points the rows have
 unfoldable pub sizes : List Entry → ℕ

@@ -12,7 +12,7 @@ use Rattle.np_tables.specs.Mappings.{has_depth}
 use Rattle.np_tables.specs.inside.FullDecompositions.{full_of}
 use Rattle.np_tables.specs.Composites.{IsPrimary, IsCompositeOf}
 use Rattle.np_tables.specs.Conditions.{IsSound}
-use Rattle.np_tables.specs.Examples.{letter, letter_with_ring, ring, with_rows, leading_consonants, vowels, trailing_consonants, syllables, with_hangul}
+use Rattle.np_tables.specs.Examples.{letter_with_ring, plain, with_hangul, with_rows}
 use Rattle.np_tables.proofs.CompositeLemmas.{composite_parts}
 use Rattle.np_tables.proofs.DepthLemmas.{bare_depth, mark-length, mark-more, suc_depth}
 use Rattle.np_tables.proofs.FactLemmas.{bounded-at, classes-at, scalars-at, mapped_scalar-at}
@@ -48,6 +48,12 @@ bare_in (e ∷ es) bare c =
       | inl within ↦ ap mapping_in (cond-true _ _ _ within) ∙ bare.0
       | inr outside ↦ ap mapping_in (cond-false _ _ _ outside) ∙ bare_in es bare.1 c
     ]
+
+abbrev letter : Entry
+letter = plain 0x41 0x41 0
+
+abbrev ring : Entry
+ring = plain 0x30A 0x30A 230
 
 letter_is : IsRow letter
 letter_is = record { rises = omega arith; bounded = omega arith; class = omega arith; fits = refl; scalars = refl; alone = λ h. refl; mapped_scalar = λ h. refl }
@@ -252,17 +258,17 @@ IsCompositeOf-with_rows = composite_is [] rows_alone tt (λ c among h. absurd (n
 
 -- ---- with the Hangul arithmetic
 
+abbrev jamo : Entry
+jamo = plain 0x1100 0x11FF 0
+
+abbrev syllables : Entry
+syllables = plain 0xAC00 0xD7A3 0
+
 abbrev pub hangul_rows : List Entry
-hangul_rows = leading_consonants ∷ vowels ∷ trailing_consonants ∷ syllables ∷ []
+hangul_rows = jamo ∷ syllables ∷ []
 
-leading_is : IsRow leading_consonants
-leading_is = record { rises = omega arith; bounded = omega arith; class = omega arith; fits = refl; scalars = refl; alone = λ h. absurd (h refl); mapped_scalar = λ h. refl }
-
-vowels_is : IsRow vowels
-vowels_is = record { rises = omega arith; bounded = omega arith; class = omega arith; fits = refl; scalars = refl; alone = λ h. absurd (h refl); mapped_scalar = λ h. refl }
-
-trailing_is : IsRow trailing_consonants
-trailing_is = record { rises = omega arith; bounded = omega arith; class = omega arith; fits = refl; scalars = refl; alone = λ h. absurd (h refl); mapped_scalar = λ h. refl }
+jamo_is : IsRow jamo
+jamo_is = record { rises = omega arith; bounded = omega arith; class = omega arith; fits = refl; scalars = refl; alone = λ h. absurd (h refl); mapped_scalar = λ h. refl }
 
 syllables_is : IsRow syllables
 syllables_is = record { rises = omega arith; bounded = omega arith; class = omega arith; fits = refl; scalars = refl; alone = λ h. absurd (h refl); mapped_scalar = λ h. refl }
@@ -277,7 +283,7 @@ rows_hangul = (
     (
       ring_is,
       omega arith,
-      (leading_is, omega arith, (vowels_is, omega arith, (trailing_is, omega arith, (syllables_is, tt, tt)))),
+      (jamo_is, omega arith, (syllables_is, tt, tt)),
     ),
   ),
 )
@@ -295,18 +301,18 @@ unfolding Runs
 hangul_on_with =
     has_hangul-from with_hangul
     (λ c h. elim (hangul_runs c h) [
-      | inl l ↦ row_at 3 leading_consonants c refl refl refl l.0 (omega arith)
+      | inl l ↦ row_at 3 jamo c refl refl refl l.0 (omega arith)
       | inr rest ↦ elim rest [
-        | inl v ↦ row_at 4 vowels c refl refl refl v.0 (omega arith)
+        | inl v ↦ row_at 3 jamo c refl refl refl (omega arith) (omega arith)
         | inr rest ↦ elim rest [
-          | inl t ↦ row_at 5 trailing_consonants c refl refl refl t.0 (omega arith)
-          | inr s ↦ row_at 6 syllables c refl refl refl s.0 (omega arith)
+          | inl t ↦ row_at 3 jamo c refl refl refl (omega arith) (omega arith)
+          | inr s ↦ row_at 4 syllables c refl refl refl s.0 (omega arith)
         ]
       ]
     ])
 
 pub IsSound-with_hangul : IsSound with_hangul
-IsSound-with_hangul = is_sound hangul_rows rows_hangul (refl, (refl, (refl, (refl, tt)))) (λ _ _ _. hangul_on_with)
+IsSound-with_hangul = is_sound hangul_rows rows_hangul (refl, (refl, tt)) (λ _ _ _. hangul_on_with)
 
 pub pair_alone-with_hangul : (a b c : ℕ) → IsCompositeOf with_hangul a b c → (has_hangul with_hangul && is_syllable c) ≡ false → c ≡ 0xC5
-pair_alone-with_hangul = pair_alone hangul_rows rows_hangul (refl, (refl, (refl, (refl, tt)))) (λ _ _ _. hangul_on_with)
+pair_alone-with_hangul = pair_alone hangul_rows rows_hangul (refl, (refl, tt)) (λ _ _ _. hangul_on_with)

@@ -5,14 +5,22 @@ use Rattle.np_tables.specs.declared.faults.TableFault.TheVariants.{MapsToUnassig
 use Rattle.np_tables.specs.Faults.{IsMappedToUnassigned, IsTooDeep, IsTooLong, IsAmbiguous, IsHangulWrong}
 use Rattle.np_tables.specs.Versions.{VersionData}
 
-abbrev pub name_of : TableFault → List ℕ
-name_of (MapsToUnassigned _) = codes "MapsToUnassigned"
-name_of (TooDeep _) = codes "TooDeep"
-name_of (TooLong _) = codes "TooLong"
-name_of (AmbiguousPair _) = codes "AmbiguousPair"
-name_of (HangulWrong _) = codes "HangulWrong"
-name_of Memory = codes "Memory"
+-- the name of a fault, and the number of its kind
+abbrev pub naming_of : TableFault → List ℕ × ℕ
+naming_of (MapsToUnassigned _) = (codes "MapsToUnassigned", 1)
+naming_of (TooDeep _) = (codes "TooDeep", 2)
+naming_of (TooLong _) = (codes "TooLong", 3)
+naming_of (AmbiguousPair _) = (codes "AmbiguousPair", 4)
+naming_of (HangulWrong _) = (codes "HangulWrong", 5)
+naming_of Memory = (codes "Memory", 6)
 
+abbrev pub name_of : TableFault → List ℕ
+name_of fault = (naming_of fault).0
+
+abbrev pub number_of : TableFault → ℕ
+number_of fault = (naming_of fault).1
+
+-- the code point of a fault, where it has one
 abbrev pub code_of : TableFault → Option ℕ
 code_of (MapsToUnassigned code) = Some code
 code_of (TooDeep code) = Some code
@@ -24,15 +32,6 @@ code_of Memory = None
 -- the code point where a fault stands
 abbrev pub place_of : TableFault → ℕ
 place_of fault = unwrap_or (code_of fault) 0
-
--- the numbers of the kinds
-abbrev pub number_of : TableFault → ℕ
-number_of (MapsToUnassigned _) = 1
-number_of (TooDeep _) = 2
-number_of (TooLong _) = 3
-number_of (AmbiguousPair _) = 4
-number_of (HangulWrong _) = 5
-number_of Memory = 6
 
 -- the version has this fault
 abbrev pub HasFault : VersionData → TableFault → Type 0

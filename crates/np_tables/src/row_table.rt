@@ -1,4 +1,4 @@
-//! The plain table: rows, a sorted list of pairs, and full decompositions by row.
+//! The plain table: the rows and the pairs of a version, and full decompositions by row.
 ghost use Rattle.std.specs.Prelude.{◌≡◌, IfOk};
 
 use crate::fulls::Fulls;
@@ -9,8 +9,8 @@ use np_code_points::Memory;
 use std::alloc::Global;
 use std::marker::Model;
 
-/// The table whose body is the definition's own: a row is found by its place, a pair by halves in
-/// a sorted list, and full decompositions were made once for each row.
+/// The plain table: it asks the version's rows and its list of pairs, and full decompositions were
+/// made once for each row.
 #[derive(Debug, Drop)]
 pub struct RowTable {
     version: Version,

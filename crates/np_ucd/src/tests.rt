@@ -4,6 +4,7 @@ mod refused;
 use crate::{Exclusions, MapKind, Rows, UcdFault, read_exclusions, read_rows};
 use np_code_points::devices::{Endless, Failure, Trickle};
 use np_code_points::fixtures::{V1_DATA, V1_EXCLUSIONS};
+use np_code_points::told::want_told;
 use np_code_points::watched::Watched;
 use std::alloc::Global;
 use std::io::Read;
@@ -205,11 +206,7 @@ const TOLD: [(UcdFault, &str); 13] = [
 
 #[test]
 fn faults_are_told_in_words(rt: HostRuntime) -> Result<(), Fail> {
-    for (fault, words) in &TOLD {
-        let told = format!(in rt.alloc(); "{fault}")?;
-        want(told.as_str() == *words, words)?;
-    }
-    Ok(())
+    want_told(rt.alloc(), &TOLD)
 }
 
 const OTHER_FILES: [(&[u8], Option<UcdFault>); 6] = [

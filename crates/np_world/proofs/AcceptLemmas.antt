@@ -1,6 +1,6 @@
 -- What a node answers to a string that it is given is what the machine does.
 use Rattle.std.proofs.Common.{◌≡◌, ℕ, ◌<◌, ◌≤◌, List, [], ◌∷◌, ◌++◌, length, refl, sym, ap, subst, ◌∙◌, arith, inl, inr, Result, Err}
-use Rattle.std.specs.Prelude.{chars, IsUtf8, IfOk}
+use Rattle.std.specs.Prelude.{chars, encode_utf8_all, IsUtf8, IfOk}
 use Rattle.std.specs.declared.vec.Vec.{Vec}
 use Rattle.std.specs.declared.alloc.Global.{Global}
 use Rattle.np_node.proofs.KeyLemmas.{fits-entry}
@@ -12,7 +12,7 @@ use Rattle.np_node.specs.declared.accepting.Accepted.{Accepted}
 use Rattle.np_node.specs.declared.faults.NodeFault.{NodeFault}
 use Rattle.np_node.specs.declared.faults.NodeFault.TheVariants as fault
 use Rattle.np_tables.specs.Versions.{VersionData}
-use Rattle.np_world.specs.World.{Scene, byte_length, with_string, Finds, Accepts}
+use Rattle.np_world.specs.World.{Scene, with_string, Finds, Accepts}
 use Rattle.np_world.specs.declared.members.Member.{Member}
 use Rattle.np_world.specs.declared.replies.Reply.{Reply}
 use Rattle.np_world.specs.declared.replies.Reply.TheVariants.{Sent, Known, Full, TooLong, Unassigned}
@@ -26,7 +26,7 @@ module _ {T : Type 0} (model : T → VersionData) (rules : Rules T) (old new : M
   abbrev pub deed_accept : Deed
   deed_accept version last = Accepts (setting_of model rules) version (chars bytes)
 
-  short_text : IsUtf8 bytes → length bytes ≤ 4096 → ¬ (4096 < byte_length (chars bytes))
+  short_text : IsUtf8 bytes → length bytes ≤ 4096 → ¬ (4096 < length (encode_utf8_all (chars bytes)))
   short_text utf8 short long = omega (arith, short, long, byte_length-chars bytes utf8)
 
   -- a string that may be kept

@@ -19,7 +19,7 @@ use Rattle.np_node.specs.Strings.{IsKeepable, IsKey}
 use Rattle.np_tables.specs.Versions.{VersionData}
 use Rattle.np_world.specs.Events.{ScheduleData, Save}
 use Rattle.np_world.specs.Laws.{OneRun}
-use Rattle.np_world.specs.Reports.{image_at, image_in, index_at, message_at, node_at, replies_of}
+use Rattle.np_world.specs.Reports.{image_at, index_at, message_at, node_at, replies_of}
 use Rattle.np_world.specs.Runs.{setting_over, AgreeOn, AnswerAlike, AreKeysUnder, HasOneRun, InTheRun, IsImageUnder, IsLast, IsMessageUnder, IsNodeOf, texts_in}
 use Rattle.np_world.specs.World.{MachineNode, World, IsRun, start}
 use Rattle.np_world.specs.declared.members.Member.{Member}
@@ -27,7 +27,7 @@ use Rattle.np_world.specs.declared.replies.Reply.{Reply}
 use Rattle.np_world.specs.declared.report.Report.{Report}
 use Rattle.np_world.specs.inside.Mirrors.{Rules, setting_of, Mirrors, IsMessageOf, AreMessages, HasSaved}
 use Rattle.np_world.specs.inside.Played.{IsPlayed, rules_over}
-use Rattle.np_world.specs.inside.Worlds.{AreMirrored}
+use Rattle.np_world.specs.inside.Worlds.{AreMirrored, image_in}
 use Rattle.np_world.proofs.AskLemmas.{equivalent_last}
 use Rattle.np_world.proofs.TurnLemmas.{table_here}
 
@@ -97,7 +97,14 @@ module _ {T : Type 0} (model : T → VersionData) (tables : List T) (form : Form
   only_run once others other run = once (setting_over model tables form schedule) (start schedule.starts) schedule.events others report.replies.items other is.ends.world run is.ends.run
 
   pub one_is : OneRun → HasOneRun (setting_over model tables form schedule) schedule
-  one_is once = record { replies = report.replies.items; world = is.ends.world; is = is.ends.run; only = only_run once }
+  one_is once = ((report.replies.items, is.ends.world), is.ends.run, the_one)
+    where
+      the_one : (other : List Reply × World) → IsRun (setting_over model tables form schedule) (start schedule.starts) schedule.events other.0 other.1 → other ≡ (report.replies.items, is.ends.world)
+      the_one (replies, world) run =
+          let same = only_run once replies world run in
+          let by_replies : (replies, world) ≡ (report.replies.items, world) = ap (λ (rs : List Reply). (rs, world)) same.0 in
+          let by_world : (report.replies.items, world) ≡ (report.replies.items, is.ends.world) = ap (λ (w : World). (report.replies.items, w)) same.1 in
+          by_replies ∙ by_world
 
   in_the_run : OneRun → (P : List Reply → World → Type 0) → P report.replies.items is.ends.world → InTheRun (setting_over model tables form schedule) schedule P
   in_the_run once P holds others other run =

@@ -10,7 +10,7 @@ use Rattle.np_tables.specs.Versions.{VersionData}
 use Rattle.np_code_points.specs.declared.forms.Form.{Form}
 use Rattle.np_world.specs.Events.{Event, ScheduleData, node_of}
 use Rattle.np_world.specs.Schedules.{IsStandable, NameNodes}
-use Rattle.np_world.specs.World.{Setting, MachineNode, World, IsStep, IsRun, first_node, start}
+use Rattle.np_world.specs.World.{Setting, MachineNode, World, IsStep, IsRun, start}
 use Rattle.np_world.specs.declared.events.EventLine.{EventLine}
 use Rattle.np_world.specs.declared.members.Member.{Member}
 use Rattle.np_world.specs.declared.replies.Reply.{Reply}
@@ -18,7 +18,7 @@ use Rattle.np_world.specs.inside.Mirrors.{Rules, setting_of, Mirrors, AreRules}
 use Rattle.np_world.specs.declared.report.Report.{Report}
 use Rattle.np_world.specs.inside.Played.{IsPlayed}
 use Rattle.np_world.specs.inside.Rust.{event_of}
-use Rattle.np_world.specs.inside.Worlds.{AreMirrored, HaveImages, IsShown, LeavesImages, Steps, Begins, EndsRun}
+use Rattle.np_world.specs.inside.Worlds.{AreMirrored, HaveImages, IsShown, LeavesImages, Steps, Begins, EndsRun, first_node}
 use Rattle.np_world.proofs.ImageLemmas.{images_lack, images_more, images_none}
 
 run-push : (setting : Setting) (before : World) (events : List Event) (replies : List Reply) (between : World) (event : Event) (reply : Reply) (after : World)

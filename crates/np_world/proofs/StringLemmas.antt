@@ -13,12 +13,11 @@ use Rattle.np_forms.specs.Assigned.{IsAssigned, IsFirstUnassigned}
 use Rattle.np_node.specs.Nodes.{State, strings_of, IsKept, IsNode, HasPlace}
 use Rattle.np_node.specs.Strings.{Entry, IsEntry, IsKey}
 use Rattle.np_tables.specs.Versions.{VersionData, is_assigned}
-use Rattle.np_world.specs.World.{byte_length}
 use Rattle.np_world.specs.inside.Mirrors.{texts_of}
 
 -- ---- code points and bytes
 
-pub byte_length-chars : (bytes : List ℕ) → IsUtf8 bytes → byte_length (chars bytes) ≡ length bytes
+pub byte_length-chars : (bytes : List ℕ) → IsUtf8 bytes → length (encode_utf8_all (chars bytes)) ≡ length bytes
 byte_length-chars bytes utf8 = ap length (encodes-chars bytes utf8)
 
 same_bytes : (a b : List ℕ) → IsUtf8 a → IsUtf8 b → chars a ≡ chars b → a ≡ b

@@ -18,11 +18,8 @@ node_at report k = option_map (λ m. m.node) (slice_get report.members.items k)
 abbrev pub index_at : {T : Type 0} → Report T → ℕ → Option ℕ
 index_at report k = option_map (λ m. m.index) (slice_get report.members.items k)
 
-abbrev pub image_in : {T : Type 0} → Member T → Option (List ℕ)
-image_in member = option_map (λ v. v.items) member.image
-
 abbrev pub image_at : {T : Type 0} → Report T → ℕ → Option (List ℕ)
-image_at report k = option_and_then image_in (slice_get report.members.items k)
+image_at report k = option_and_then (λ m. option_map (λ v. v.items) m.image) (slice_get report.members.items k)
 
 -- the message of a number
 abbrev pub message_at : {T : Type 0} → Report T → ℕ → Option (List ℕ)

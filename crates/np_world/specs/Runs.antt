@@ -1,5 +1,6 @@
 -- What a replay tells: the machine's run over a schedule, and what stands beside it in the report.
 use Rattle.std.specs.Prelude.{◌≡◌, ◌↔◌, ℕ, ◌-◌, List, length, map, chars, slice_get, Bool, IsTrue, Option, Some, All}
+use Rattle.np_code_points.specs.One.{HasOne}
 use Rattle.np_code_points.specs.declared.forms.Form.{Form}
 use Rattle.np_code_points.specs.Forms.{is_compat}
 use Rattle.np_forms.specs.Forms.{IsEquivalent}
@@ -18,11 +19,8 @@ abbrev pub setting_over : {T : Type 0} → (T → VersionData) → List T → Fo
 setting_over model tables form schedule = record { versions = map model tables; form = form; room = schedule.room }
 
 -- the machine has exactly one run over a schedule
-pub record HasOneRun (setting : Setting) (schedule : ScheduleData) : Type 0 where
-  pub replies : List Reply
-  pub world : World
-  pub is : IsRun setting (start schedule.starts) schedule.events replies world
-  pub only : (others : List Reply) (other : World) → IsRun setting (start schedule.starts) schedule.events others other → (others ≡ replies) × (other ≡ world)
+abbrev pub HasOneRun : Setting → ScheduleData → Type 0
+HasOneRun setting schedule = HasOne (λ (run : List Reply × World). IsRun setting (start schedule.starts) schedule.events run.0 run.1)
 
 -- the replies and the last world of the machine's run over a schedule have a property; that there is exactly one such run says `HasOneRun`
 abbrev pub InTheRun : Setting → ScheduleData → (List Reply → World → Type 0) → Type 0

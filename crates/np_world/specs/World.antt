@@ -35,11 +35,8 @@ pub record World : Type 0 where
   pub sent : List (List ℕ)
 
 -- at the start node I has the version that stands at place I of the list, and nothing is kept, saved or sent
-abbrev pub first_node : ℕ → MachineNode
-first_node index = record { index = index; strings = []; saved = [] }
-
 abbrev pub start : List ℕ → World
-start indices = record { nodes = map first_node indices; sent = [] }
+start indices = record { nodes = map (λ index. record { index = index; strings = []; saved = [] }) indices; sent = [] }
 
 -- what an event meets and leaves: the node that it names, and what was sent
 pub record Scene : Type 0 where
@@ -51,9 +48,6 @@ pub record Scene : Type 0 where
 -- where the condition holds the first, and else the second
 abbrev pub If : Type 0 → Type 0 → Type 0 → Type 0
 If condition first second = (condition × first) ⊎ ((¬ condition) × second)
-
-abbrev pub byte_length : List ℕ → ℕ
-byte_length string = length (encode_utf8_all string)
 
 abbrev pub with_string : MachineNode → List ℕ → MachineNode
 with_string node string = record node { strings = node.strings ++ string ∷ [] }
@@ -80,7 +74,7 @@ Keeps string before reply after = (reply ≡ Kept) × (after ≡ record before {
 -- a node is given a string: it keeps and sends it
 abbrev pub Accepts : Setting → VersionData → List ℕ → Scene → Reply → Scene → Type 0
 Accepts setting version string before reply after =
-    If (4096 < byte_length string) ((reply ≡ TooLong) × (after ≡ before))
+    If (4096 < length (encode_utf8_all string)) ((reply ≡ TooLong) × (after ≡ before))
     (Comes setting version string before reply after
     ((reply ≡ Sent (length before.sent)) × (after ≡ record { node = with_string before.node string; sent = before.sent ++ string ∷ [] })))
 

@@ -26,6 +26,17 @@ of_version (v ∷ vs) zero files inside is n here =
 of_version (v ∷ vs) (suc i) files inside is n here =
     Contains-append_right (names_of v) (flat_map names_of vs) n (of_version vs i files (omega (arith, inside)) is n here)
 
+-- what ends so on a device ends so on the one that it was before
+pub ends_before : {D : Type 0} (tells : D → Option (List ℕ)) (EndsSo : Stream → Type 0) (old mid new : Watched D)
+    → mid ≡ old → EndsSo (stream_of tells mid new) → EndsSo (stream_of tells old new)
+ends_before {D} tells EndsSo old mid new silent ends = subst (λ (before : Watched D). EndsSo (stream_of tells before new)) silent ends
+
+-- one of some files, where nothing was told before, is one of all
+pub some_lack : {D : Type 0} (tells : D → Option (List ℕ)) (some all : List (List ℕ)) (old mid new : Watched D) (status : ℕ)
+    → mid ≡ old → ((name : List ℕ) → Contains some name → Contains all name) → IsUnopened some (stream_of tells mid new) status → IsUnopened all (stream_of tells old new) status
+some_lack tells some all old mid new status silent within lacks =
+    ends_before tells (λ error. IsUnopened all error status) old mid new silent (among some all (stream_of tells mid new) status within lacks)
+
 -- the data file
 pub first_lacks : (files : VersionFiles) (error : Stream) (status : ℕ) (name : List ℕ) → name ≡ string_bytes files.data_file
     → IsUnopened (name ∷ []) error status → IsUnopened (names_of files) error status
@@ -36,27 +47,12 @@ first_lacks files error status name e told =
 pub second_lacks : {D : Type 0} (tells : D → Option (List ℕ)) (files : VersionFiles) (old mid new : Watched D) (status : ℕ) (name : List ℕ)
     → mid ≡ old → name ≡ string_bytes files.exclusions_file → IsUnopened (name ∷ []) (stream_of tells mid new) status
     → IsUnopened (names_of files) (stream_of tells old new) status
-second_lacks {D} tells files old mid new status name silent e told =
-    subst (λ (before : Watched D). IsUnopened (names_of files) (stream_of tells before new) status) silent
-    (among (name ∷ []) (names_of files) (stream_of tells mid new) status (alone name (names_of files) (1, omega arith, sym e)) told)
+second_lacks tells files old mid new status name silent e told =
+    some_lack tells (name ∷ []) (names_of files) old mid new status silent (alone name (names_of files) (1, omega arith, sym e)) told
 
 -- a file of the version at a place, where nothing was told before
 pub one_lacks_file : {D : Type 0} (tells : D → Option (List ℕ)) (versions : List VersionFiles) (old mid new : Watched D) (status : ℕ) (files : VersionFiles) (i : ℕ)
     → mid ≡ old → i < length versions → files ≡ slice_index_or versions i files → IsUnopened (names_of files) (stream_of tells mid new) status
     → IsUnopened (flat_map names_of versions) (stream_of tells old new) status
-one_lacks_file {D} tells versions old mid new status files i silent inside here lacks =
-    subst (λ (before : Watched D). IsUnopened (flat_map names_of versions) (stream_of tells before new) status) silent
-    (among (names_of files) (flat_map names_of versions) (stream_of tells mid new) status (of_version versions i files inside (sym here)) lacks)
-
--- ---- the runs of jobs
-
--- what ends so on a device ends so on the one that it was before
-pub ends_before : {D : Type 0} (tells : D → Option (List ℕ)) (EndsSo : Stream → Type 0) (old mid new : Watched D)
-    → mid ≡ old → EndsSo (stream_of tells mid new) → EndsSo (stream_of tells old new)
-ends_before {D} tells EndsSo old mid new silent ends = subst (λ (before : Watched D). EndsSo (stream_of tells before new)) silent ends
-
--- one of some of a job's files, where nothing was told before
-pub some_lack : {D : Type 0} (tells : D → Option (List ℕ)) (some all : List (List ℕ)) (old mid new : Watched D) (status : ℕ)
-    → mid ≡ old → ((name : List ℕ) → Contains some name → Contains all name) → IsUnopened some (stream_of tells mid new) status → IsUnopened all (stream_of tells old new) status
-some_lack tells some all old mid new status silent within lacks =
-    ends_before tells (λ error. IsUnopened all error status) old mid new silent (among some all (stream_of tells mid new) status within lacks)
+one_lacks_file tells versions old mid new status files i silent inside here lacks =
+    some_lack tells (names_of files) (flat_map names_of versions) old mid new status silent (of_version versions i files inside (sym here)) lacks

@@ -59,12 +59,12 @@ told_whole model tables form schedule report text some run replies indices strin
       setting_is = refl;
       last = last.0;
       is_last = last.1;
-      replies = run.replies;
-      world = run.world;
-      run = run.is;
+      replies = run.0.0;
+      world = run.0.1;
+      run = run.1;
       nodes = nodes_of report;
-      told = nodes_told last.0 form report.members.items run.world.nodes (indices run.replies run.world run.is) (strings run.replies run.world run.is) (keys last.0 last.1);
-      bytes_are = is ∙ ap (λ rs. report_lines rs (nodes_of report)) (replies run.replies run.world run.is);
+      told = nodes_told last.0 form report.members.items run.0.1.nodes (indices run.0.0 run.0.1 run.1) (strings run.0.0 run.0.1 run.1) (keys last.0 last.1);
+      bytes_are = is ∙ ap (λ rs. report_lines rs (nodes_of report)) (replies run.0.0 run.0.1 run.1);
     }
 
 -- what is refused over versions that were built, behind a schedule whose mark was taken away

@@ -1,5 +1,5 @@
 -- How each refusal is told: its status, and its line.
-use Rattle.std.specs.Prelude.{ℕ, Bool, true, false, ◌==◌, List, [], ◌++◌, Option, Some, None, codes, unwrap_or, if◌then◌else◌}
+use Rattle.std.specs.Prelude.{ℕ, Bool, true, false, ◌==◌, List, [], ◌++◌, Option, Some, None, codes, if◌then◌else◌}
 use Rattle.std.specs.Fmt.{decimal}
 use Rattle.np_chain.specs.Breaks.{name_of}
 use Rattle.np_chain.specs.declared.breaks.Break.{Break}
@@ -10,7 +10,7 @@ use Rattle.np_tables.specs.TableFaults as tables
 use Rattle.np_tables.specs.declared.faults.TableFault.{TableFault}
 use Rattle.np_ucd.specs.Faults as files
 use Rattle.np_ucd.specs.declared.faults.UcdFault.{UcdFault}
-use Rattle.npss.specs.Statuses.{input_status, version_status}
+use Rattle.npss.specs.Statuses.{file_status, input_status, tables_status}
 use Rattle.npss.specs.declared.jobs.faults.JobFault.{JobFault}
 use Rattle.npss.specs.declared.jobs.faults.JobFault.TheVariants.{Version, Text, Replay, WriteFailed, Memory}
 use Rattle.npss.specs.declared.jobs.faults.ReplayFault.{ReplayFault}
@@ -53,17 +53,16 @@ file_line version file fault = version_head version file ++ (line_head (files.li
 -- version K tables: NAME CODE
 abbrev pub tables_line : ℕ → TableFault → List ℕ
 tables_line version fault =
-    version_head version (codes "tables") ++ (tables.name_of fault ++ (codes " " ++ (code_digits (unwrap_or (tables.code_of fault) 0) ++ codes "\n")))
-
-abbrev pub named_line : VersionFault → List ℕ
-named_line (Versions.Data version fault) = file_line version (codes "data") fault
-named_line (Versions.Exclusions version fault) = file_line version (codes "exclusions") fault
-named_line (Versions.Tables version fault) = tables_line version fault
+    version_head version (codes "tables") ++ (tables.name_of fault ++ (codes " " ++ (code_digits (tables.place_of fault) ++ codes "\n")))
 
 -- want of memory is told alike for each file and for the tables
+abbrev pub named : ℕ → List ℕ → Telling
+named status line = record { status = status; line = if status == 6 then memory_line else line; is_fixed = status == 6 }
+
 abbrev pub version_telling : VersionFault → Telling
-version_telling fault =
-    record { status = version_status fault; line = if version_status fault == 6 then memory_line else named_line fault; is_fixed = version_status fault == 6 }
+version_telling (Versions.Data version fault) = named (file_status fault) (file_line version (codes "data") fault)
+version_telling (Versions.Exclusions version fault) = named (file_status fault) (file_line version (codes "exclusions") fault)
+version_telling (Versions.Tables version fault) = named (tables_status fault) (tables_line version fault)
 
 -- ---- texts and schedules
 

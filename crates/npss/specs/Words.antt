@@ -1,5 +1,6 @@
 -- What words ask for, by `clap`'s reading of them.
 use Rattle.std.specs.Prelude.{Bool, List, [], ◌∷◌, ◌++◌, ◌%◌, ◌==◌, ◌&&◌, nat_le, length, flat_map, option_map, option_and_then, string_bytes, Option, Some, None, codes, if◌then◌else◌}
+use Rattle.std.specs.Option.{option_zip}
 use Rattle.std.specs.Str.{bytes_eq}
 use Rattle.np_code_points.specs.declared.forms.Form.{Form}
 use Rattle.np_code_points.specs.Forms.{form_named}
@@ -46,21 +47,21 @@ form_of rows = option_and_then form_named (first_of (codes "form") rows)
 
 -- the values of two places, where both have one
 abbrev pub files_of : Text → Text → List Row → Option (List Text)
-files_of data_place exclusions_place rows = option_and_then (λ data_file.
-    option_map (λ exclusions_file. data_file ∷ (exclusions_file ∷ [])) (first_of exclusions_place rows))
-    (first_of data_place rows)
+files_of data_place exclusions_place rows = option_map (λ p. p.0 ∷ (p.1 ∷ [])) (option_zip (first_of data_place rows) (first_of exclusions_place rows))
+
+-- a command with a form and its files, where both are there
+abbrev pub asked_with : Text → Option Form → Option (List Text) → Option Asked
+asked_with command form files = option_map (λ p. record { command = command; form = Some p.0; files = p.1 }) (option_zip form files)
 
 -- a command with a form and two files
 abbrev pub text_asked : Text → List Row → Option Asked
-text_asked command rows = option_and_then (λ form.
-    option_map (λ files. record { command = command; form = Some form; files = files }) (files_of (codes "DATA") (codes "EXCL") rows))
-    (form_of rows)
+text_asked command rows = asked_with command (form_of rows) (files_of (codes "DATA") (codes "EXCL") rows)
 
 -- the comparison of two versions, four files
 abbrev pub audit_asked : List Row → Option Asked
-audit_asked rows = option_and_then (λ old.
-    option_map (λ new. record { command = codes "audit"; form = None; files = old ++ new }) (files_of (codes "NEWDATA") (codes "NEWEXCL") rows))
-    (files_of (codes "OLDDATA") (codes "OLDEXCL") rows)
+audit_asked rows =
+    option_map (λ p. record { command = codes "audit"; form = None; files = p.0 ++ p.1 })
+    (option_zip (files_of (codes "OLDDATA") (codes "OLDEXCL") rows) (files_of (codes "NEWDATA") (codes "NEWEXCL") rows))
 
 -- an even number of files, at least two
 abbrev pub are_paired : List Text → Bool
@@ -72,15 +73,11 @@ paired_files_of rows = option_and_then (λ files. if are_paired files then Some 
 
 -- the schedule, and behind it the files of the versions
 abbrev pub replay_files_of : List Row → Option (List Text)
-replay_files_of rows = option_and_then (λ schedule_file.
-    option_map (λ files. schedule_file ∷ files) (paired_files_of rows))
-    (first_of (codes "SCHEDULE") rows)
+replay_files_of rows = option_map (λ p. p.0 ∷ p.1) (option_zip (first_of (codes "SCHEDULE") rows) (paired_files_of rows))
 
 -- the replay of a schedule over versions
 abbrev pub replay_asked : List Row → Option Asked
-replay_asked rows = option_and_then (λ form.
-    option_map (λ files. record { command = codes "replay"; form = Some form; files = files }) (replay_files_of rows))
-    (form_of rows)
+replay_asked rows = asked_with (codes "replay") (form_of rows) (replay_files_of rows)
 
 -- what the command of this name asks for, by what is read behind it
 abbrev pub asked_in : Text → List Row → Option Asked

@@ -2,7 +2,7 @@
 ghost use Rattle.std.specs.Prelude.{◌≡◌, ◌||◌, ◌&&◌, ◌<◌, false, true, length, Ok};
 ghost use Rattle.std.specs.Io.{ReadsAtMost, WritesAtMost};
 ghost use Rattle.std.specs.Io.KnownBytes.{Keeps, ReadConsumes, WriteAppends};
-ghost use Rattle.np_code_points.specs.Watched.{device_of, has_failed, read_fails, write_fails, flush_fails};
+ghost use Rattle.np_code_points.specs.Watched.{device_of, has_failed, read_fails, write_fails};
 
 use std::io::{Read, Result, Write};
 
@@ -88,7 +88,7 @@ impl<W: Write> Write for Watched<W> {
 
     fn flush(&mut self) -> Result<()>
         ensures bytes { Keeps (W.contents (device_of self.old)) (W.contents (device_of self.new)) }
-        ensures mark { has_failed self.new ≡ (has_failed self.old || flush_fails result) }
+        ensures mark { has_failed self.new ≡ (has_failed self.old || read_fails result) }
     {
         let outcome = self.device.flush();
         if outcome.is_err() {

@@ -4,7 +4,7 @@ ghost use Rattle.std.specs.Io.{ReadsAtMost, WritesAtMost};
 ghost use Rattle.std.specs.IoError.{error_kind};
 ghost use Rattle.std.specs.Io.KnownBytes.{Keeps, ReadConsumes, WriteAppends};
 ghost use Rattle.np_code_points.specs.inside.Devices.{IsNextCall, bytes_left, bytes_taken, endless_call, endless_plan, failure_at, piece_of, piece_taken, reader_call, reader_plan, room_of, writer_call, writer_plan};
-ghost use Rattle.np_code_points.specs.Watched.{flush_fails, read_fails, write_fails};
+ghost use Rattle.np_code_points.specs.Watched.{read_fails, write_fails};
 
 use crate::Memory;
 use std::alloc::Global;
@@ -298,7 +298,7 @@ impl Write for Room {
 
     fn flush(&mut self) -> IoResult<()>
         ensures bytes { Keeps (Some (bytes_taken self.old)) (Some (bytes_taken self.new)) }
-        ensures fails { flush_fails result ≡ is_some (failure_at (writer_call self.old) (writer_plan self.old)) }
+        ensures fails { read_fails result ≡ is_some (failure_at (writer_call self.old) (writer_plan self.old)) }
         ensures interrupted { failure_at (writer_call self.old) (writer_plan self.old) ≡ Some Failure.Interrupted → IfErr result (λ e. error_kind e ≡ ErrorKind.Interrupted) }
         ensures other { failure_at (writer_call self.old) (writer_plan self.old) ≡ Some Failure.Error → IfErr result (λ e. error_kind e ≡ ErrorKind.Other) }
         ensures plan { writer_plan self.new ≡ writer_plan self.old }

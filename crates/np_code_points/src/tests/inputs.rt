@@ -2,6 +2,7 @@
 use super::FAILURES;
 use crate::devices::{Endless, Failure, Trickle};
 use crate::input::{InputFault, LIMIT, read_whole};
+use crate::told::want_told;
 use crate::watched::Watched;
 use std::alloc::Global;
 use std::io::Read;
@@ -88,9 +89,5 @@ const TOLD: [(InputFault, &str); 3] = [
 
 #[test]
 fn faults_are_told_in_words(rt: HostRuntime) -> Result<(), Fail> {
-    for (fault, words) in &TOLD {
-        let told = format!(in rt.alloc(); "{fault}")?;
-        assert_eq!(rt; told.as_str(), *words);
-    }
-    Ok(())
+    want_told(rt.alloc(), &TOLD)
 }

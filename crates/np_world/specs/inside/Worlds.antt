@@ -1,11 +1,10 @@
 -- How the nodes and messages of a replay mirror the machine's world.
 use Rattle.std.specs.Prelude.{◌≡◌, ◌↔◌, ◌⊎◌, ℕ, List, [], ◌∷◌, Option, slice_get, Contains, IsSome}
-use Rattle.std.specs.Option.{option_and_then}
+use Rattle.std.specs.Option.{option_and_then, option_map}
 use Rattle.std.specs.declared.vec.Vec.{Vec}
 use Rattle.std.specs.declared.alloc.Global.{Global}
 use Rattle.np_tables.specs.Versions.{VersionData}
 use Rattle.np_world.specs.Events.{Event, Save}
-use Rattle.np_world.specs.Reports.{image_in}
 use Rattle.np_world.specs.World.{MachineNode, World, IsStep, IsRun, start}
 use Rattle.np_world.specs.declared.members.Member.{Member}
 use Rattle.np_world.specs.declared.replies.Reply.{Reply}
@@ -34,7 +33,14 @@ Steps model rules old sent event reply new told =
     (world : World) → AreRules model rules → ShowsWorld model rules old sent world
     → (after : World) × IsStep (setting_of model rules) world event reply after × ShowsWorld model rules new told after
 
--- the image of the member of a number
+-- a node at the start
+abbrev pub first_node : ℕ → MachineNode
+first_node index = record { index = index; strings = []; saved = [] }
+
+-- the last image of a member, and of the member of a number
+abbrev pub image_in : {T : Type 0} → Member T → Option (List ℕ)
+image_in member = option_map (λ v. v.items) member.image
+
 abbrev pub image_of : {T : Type 0} → List (Member T) → ℕ → Option (List ℕ)
 image_of members k = option_and_then image_in (slice_get members k)
 

@@ -51,8 +51,8 @@ pub fn refuse<E: Write>(alloc: Global, error: &mut Watched<E>, fault: &JobFault)
     }
 }
 
-/// Ends a job: writes what it made, flushes once and tells nothing; or writes nothing, and tells
-/// why it is refused. Answers the status.
+/// Ends a job: writes what it made, flushes once and tells nothing, unless that fails, which is
+/// told; or writes nothing, and tells why it is refused. Answers the status.
 pub fn finish<O: Write, E: Write>(
     alloc: Global,
     output: &mut Watched<O>,

@@ -1,7 +1,7 @@
 //! Why a job is refused, and the status of each refusal.
 ghost use Rattle.std.specs.Prelude.{◌≡◌};
-ghost use Rattle.npss.specs.Statuses.{file_status, input_status, tables_status, version_status};
-ghost use Rattle.npss.specs.Tellings.{replay_telling, telling_of, text_telling};
+ghost use Rattle.npss.specs.Statuses.{file_status, input_status, tables_status};
+ghost use Rattle.npss.specs.Tellings.{replay_telling, telling_of, text_telling, version_telling};
 ghost use Rattle.npss.specs.inside.Groups.{of_replay, of_text, of_version};
 
 use super::statuses::{BAD, DIFFERENT, FAILED, MEMORY, UNASSIGNED};
@@ -160,7 +160,7 @@ fn status_of_input(fault: &InputFault) -> u8
 impl VersionFault {
     /// The status of the refusal.
     pub fn status(&self) -> u8
-        ensures { result ≡ version_status self.now }
+        ensures { result ≡ (version_telling self.now).status }
     {
         match self {
             VersionFault::Data { version: _, fault } => status_of_file(fault),

@@ -1,6 +1,7 @@
 use Rattle.std.proofs.Common.{map, sym, arith}
 use Rattle.std.proofs.lemmas.List.{length-map, with_items_is}
-use Rattle.np_world.specs.World.{first_node, start}
+use Rattle.np_world.specs.World.{start}
+use Rattle.np_world.specs.inside.Worlds.{first_node}
 use Rattle.np_world.specs.inside.Rust.{event_of}
 use Rattle.np_world.proofs.RunLemmas.{count_ends, length-mirrored, played, rules_with}
 use Rattle.np_world.proofs.replays.play.Goals as goal
