@@ -1,7 +1,5 @@
 //! The records of UnicodeData.txt.
 ghost use Rattle.std.specs.Prelude.{◌≡◌, ◌≢◌, ◌∷◌, ◌⊎◌, length, option_map, ◌==◌, IfOk, IfErr, IsTrue, MatchOption, Some, None};
-ghost use Rattle.std.specs.List.{prefix_len};
-ghost use Rattle.np_code_points.specs.inside.LineCuts.{is_other};
 ghost use Rattle.np_ucd.specs.RowValues.{entry_of};
 ghost use Rattle.np_ucd.specs.inside.FieldReading.{fields_of as parts};
 ghost use Rattle.np_ucd.specs.inside.RecordReading.{field, is_at_most as at_most, is_open as open_before, differs as differ, late_tests, first_that_fits, first_code as first, record_fault, neighbour_of, row_of};
@@ -13,7 +11,7 @@ use crate::fields::{category_of, class_of, closes_range, opens_range};
 use crate::mappings::read_mapping;
 use crate::rows::Row;
 use np_code_points::codes::code_of;
-use np_code_points::lines::{count, cut};
+use np_code_points::lines::{count, cut, cut_short};
 use std::alloc::Global;
 
 /// What the next record is held against.
@@ -59,28 +57,12 @@ fn next_field(rest: &[u8]) -> Option<(&[u8], &[u8])>
     Some((field, rest?))
 }
 
-/// The place of the first `;`; the number of bytes where there is none. It looks at one byte after
-/// the other, which is quicker than steps of many where few stand in front of the `;`.
-fn separator_place(rest: &[u8]) -> usize
-    ensures { result ≡ prefix_len (is_other 59) rest.now }
-{
-    let mut at = 0;
-    while at < rest.len() && rest[at] != b';' {
-        at += 1;
-    }
-    at
-}
-
 /// The first field, and what is behind its `;`, where the field is short as a rule.
 fn next_short_field(rest: &[u8]) -> Option<(&[u8], &[u8])>
     ensures { MatchOption result (length (parts rest.now) ≡ 1) (λ p. parts rest.now ≡ p.0.now ∷ parts p.1.now) }
 {
-    let at = separator_place(rest);
-    if at < rest.len() {
-        Some((&rest[..at], &rest[at + 1..]))
-    } else {
-        None
-    }
+    let (field, rest) = cut_short(rest, b';');
+    Some((field, rest?))
 }
 
 /// Whether these are the last nine fields of nearly every record: of them Bidi_Mirrored alone is

@@ -1,4 +1,4 @@
-use Rattle.std.proofs.Common.{eqb, length, arith}
+use Rattle.std.proofs.Common.{eqb, arith}
 use Rattle.std.proofs.lemmas.Simd.{bitmask_splat, length-chunk}
 use lib.Lanes.{chunk}
 use mir.Syntax.{w8}
