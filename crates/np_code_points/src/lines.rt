@@ -11,6 +11,9 @@ use std::simd::prelude::*;
 /// How many bytes a step of a search looks at.
 const STEP: usize = 16;
 
+/// How many bytes a step looks at where there are so many: few lines are longer.
+const LONG_STEP: usize = 64;
+
 /// How many of the `STEP` bytes from a place on stand before the first such byte: all where there
 /// is none.
 #[inline(always)]
@@ -40,11 +43,25 @@ fn before_from(bytes: &[u8], from: usize, byte: u8) -> usize
     at
 }
 
-/// How many bytes stand before the first such byte; all where there is none.
-fn before(bytes: &[u8], byte: u8) -> usize
-    ensures { result ≡ prefix_len (is_other byte) bytes.now }
+/// How many of the `LONG_STEP` bytes from a place on stand before the first such byte: all where
+/// there is none.
+#[inline(always)]
+fn before_in_long_step(bytes: &[u8], from: usize, byte: u8) -> usize
+    requires room { from + 64 ≤ length bytes.now }
+    ensures { result ≡ prefix_len (is_other byte) (chunk from 64 bytes.now) }
 {
-    let mut at = 0;
+    let found = u8x64::from_slice(&bytes[from..])
+        .simd_eq(u8x64::splat(byte))
+        .to_bitmask();
+    found.trailing_zeros() as usize
+}
+
+/// How many bytes stand before the first such byte from a place on; all where there is none.
+fn before_by_steps(bytes: &[u8], from: usize, byte: u8) -> usize
+    requires within { from ≤ length bytes.now }
+    ensures { result ≡ from + prefix_len (is_other byte) (drop from bytes.now) }
+{
+    let mut at = from;
     while bytes.len() - at >= STEP {
         let passed = before_in_step(bytes, at, byte);
         if passed < STEP {
@@ -53,6 +70,21 @@ fn before(bytes: &[u8], byte: u8) -> usize
         at += STEP;
     }
     before_from(bytes, at, byte)
+}
+
+/// How many bytes stand before the first such byte; all where there is none.
+fn before(bytes: &[u8], byte: u8) -> usize
+    ensures { result ≡ prefix_len (is_other byte) bytes.now }
+{
+    let mut at = 0;
+    while bytes.len() - at >= LONG_STEP {
+        let passed = before_in_long_step(bytes, at, byte);
+        if passed < LONG_STEP {
+            return at + passed;
+        }
+        at += LONG_STEP;
+    }
+    before_by_steps(bytes, at, byte)
 }
 
 /// What stands before the place of the first such byte, and what stands behind it where there is

@@ -29,15 +29,23 @@ cut_field xs field rest behind before after is =
 pub cut_no_field : (xs : List ℕ) (behind : Option (Bor (List ℕ))) → option_map (λ (r : Bor (List ℕ)). r.now) behind ≡ after_byte 59 xs → behind ≡ None → length (fields_of xs) ≡ 1
 cut_no_field xs behind after is = fields_none xs (sym after ∙ ap (option_map (λ (r : Bor (List ℕ)). r.now)) is)
 
-pub fifteen : (text rest a b c d e f : List ℕ) → fields_of text ≡ a ∷ b ∷ c ∷ d ∷ e ∷ f ∷ fields_of rest → length (fields_of rest) ≡ 9 → (length (fields_of text) ≡ 15) × (a ≡ field 0 text) × (b ≡ field 1 text) × (c ≡ field 2 text) × (d ≡ field 3 text) × (f ≡ field 5 text)
+pub twelve : (text rest a b c : List ℕ) → fields_of text ≡ a ∷ b ∷ c ∷ fields_of rest → length (fields_of rest) ≡ 9 → (length (fields_of text) ≡ 12) × (a ≡ field 0 text) × (c ≡ field 2 text)
 unfolding field
-fifteen text rest a b c d e f h nine = (
+twelve text rest a b c h nine = (
   omega (arith, ap length h, nine),
+  sym (ap (λ ps. get_or ps 0 []) h),
+  sym (ap (λ ps. get_or ps 2 []) h),
+)
+
+pub fifteen : (text rest a b c d f : List ℕ) → fields_of text ≡ a ∷ b ∷ c ∷ fields_of rest → (length (fields_of rest) ≡ 12) × (d ≡ field 0 rest) × (f ≡ field 2 rest) → (length (fields_of text) ≡ 15) × (a ≡ field 0 text) × (b ≡ field 1 text) × (c ≡ field 2 text) × (d ≡ field 3 text) × (f ≡ field 5 text)
+unfolding field
+fifteen text rest a b c d f h behind = (
+  omega (arith, ap length h, behind.0),
   sym (ap (λ ps. get_or ps 0 []) h),
   sym (ap (λ ps. get_or ps 1 []) h),
   sym (ap (λ ps. get_or ps 2 []) h),
-  sym (ap (λ ps. get_or ps 3 []) h),
-  sym (ap (λ ps. get_or ps 5 []) h),
+  behind.1 ∙ sym (ap (λ ps. get_or ps 3 []) h),
+  behind.2 ∙ sym (ap (λ ps. get_or ps 5 []) h),
 )
 
 -- The tests, from what was read.

@@ -65,12 +65,19 @@ fn next_short_field(rest: &[u8]) -> Option<(&[u8], &[u8])>
     Some((field, rest?))
 }
 
+/// Whether a text is this one.
+fn is_text(text: &[u8], wanted: &[u8]) -> bool
+    ensures { IsTrue result → text.now ≡ wanted.now }
+{
+    text.len() == wanted.len() && text.starts_with(wanted)
+}
+
 /// Whether these are the last nine fields of nearly every record: of them Bidi_Mirrored alone is
 /// filled.
 fn are_usual(rest: &[u8]) -> bool
     ensures { IsTrue result → (length (parts rest.now) ≡ 9) }
 {
-    rest.len() == 9 && rest.starts_with(b";;;N;;;;;")
+    is_text(rest, b";;;N;;;;;")
 }
 
 /// Whether there are nine fields, as behind the mapping. Those of most records need no counting.
@@ -78,6 +85,33 @@ fn has_nine(rest: &[u8]) -> bool
     ensures { result ≡ (length (parts rest.now) == 9) }
 {
     are_usual(rest) || count(rest, b';') == 8
+}
+
+/// The class and the mapping of twelve fields, as behind the category.
+fn cut_twelve(text: &[u8]) -> Option<(&[u8], &[u8])>
+    ensures { MatchOption result (length (parts text.now) ≢ 12)
+        (λ p. (length (parts text.now) ≡ 12) × (p.0.now ≡ field 0 text.now) × (p.1.now ≡ field 2 text.now)) }
+{
+    let (class, rest) = next_short_field(text)?;
+    let (_bidi, rest) = next_short_field(rest)?;
+    let (mapping, rest) = next_short_field(rest)?;
+    if has_nine(rest) {
+        Some((class, mapping))
+    } else {
+        None
+    }
+}
+
+/// The same. Those of half of the records, letters without a mapping, need no cutting.
+fn class_and_mapping(text: &[u8]) -> Option<(&[u8], &[u8])>
+    ensures { MatchOption result (length (parts text.now) ≢ 12)
+        (λ p. (length (parts text.now) ≡ 12) × (p.0.now ≡ field 0 text.now) × (p.1.now ≡ field 2 text.now)) }
+{
+    if is_text(text, b"0;L;;;;;N;;;;;") {
+        Some((&text[..1], &[]))
+    } else {
+        cut_twelve(text)
+    }
 }
 
 /// The fields of a line that has fifteen.
@@ -89,12 +123,7 @@ fn fields_of(text: &[u8]) -> Option<Fields<'_>>
     let (code, rest) = next_field(text)?;
     let (name, rest) = next_field(rest)?;
     let (category, rest) = next_short_field(rest)?;
-    let (class, rest) = next_short_field(rest)?;
-    let (_bidi, rest) = next_short_field(rest)?;
-    let (mapping, rest) = next_short_field(rest)?;
-    if !has_nine(rest) {
-        return None;
-    }
+    let (class, mapping) = class_and_mapping(rest)?;
     Some(Fields {
         code,
         name,
