@@ -11,6 +11,9 @@ use std::simd::prelude::*;
 /// How many bytes a step of a search looks at.
 const STEP: usize = 16;
 
+/// How many bytes a step looks at where there are so many: few lines are longer.
+const LONG_STEP: usize = 64;
+
 /// How many of the `STEP` bytes from a place on stand before the first such byte: all where there
 /// is none.
 #[inline(always)]
@@ -40,11 +43,25 @@ fn before_from(bytes: &[u8], from: usize, byte: u8) -> usize
     at
 }
 
-/// How many bytes stand before the first such byte; all where there is none.
-fn before(bytes: &[u8], byte: u8) -> usize
-    ensures { result ≡ prefix_len (is_other byte) bytes.now }
+/// How many of the `LONG_STEP` bytes from a place on stand before the first such byte: all where
+/// there is none.
+#[inline(always)]
+fn before_in_long_step(bytes: &[u8], from: usize, byte: u8) -> usize
+    requires room { from + 64 ≤ length bytes.now }
+    ensures { result ≡ prefix_len (is_other byte) (chunk from 64 bytes.now) }
 {
-    let mut at = 0;
+    let found = u8x64::from_slice(&bytes[from..])
+        .simd_eq(u8x64::splat(byte))
+        .to_bitmask();
+    found.trailing_zeros() as usize
+}
+
+/// How many bytes stand before the first such byte from a place on; all where there is none.
+fn before_by_steps(bytes: &[u8], from: usize, byte: u8) -> usize
+    requires within { from ≤ length bytes.now }
+    ensures { result ≡ from + prefix_len (is_other byte) (drop from bytes.now) }
+{
+    let mut at = from;
     while bytes.len() - at >= STEP {
         let passed = before_in_step(bytes, at, byte);
         if passed < STEP {
@@ -55,18 +72,52 @@ fn before(bytes: &[u8], byte: u8) -> usize
     before_from(bytes, at, byte)
 }
 
+/// How many bytes stand before the first such byte; all where there is none.
+fn before(bytes: &[u8], byte: u8) -> usize
+    ensures { result ≡ prefix_len (is_other byte) bytes.now }
+{
+    let mut at = 0;
+    while bytes.len() - at >= LONG_STEP {
+        let passed = before_in_long_step(bytes, at, byte);
+        if passed < LONG_STEP {
+            return at + passed;
+        }
+        at += LONG_STEP;
+    }
+    before_by_steps(bytes, at, byte)
+}
+
+/// What stands before the place of the first such byte, and what stands behind it where there is
+/// one.
+fn cut_at(bytes: &[u8], byte: u8, at: usize) -> (&[u8], Option<&[u8]>)
+    requires { at ≡ prefix_len (is_other byte) bytes.now }
+    ensures before { result.0.now ≡ before_byte byte bytes.now }
+    ensures after { option_map (λ rest. rest.now) result.1 ≡ after_byte byte bytes.now }
+{
+    let _unused = byte;
+    if at < bytes.len() {
+        (&bytes[..at], Some(&bytes[at + 1..]))
+    } else {
+        (bytes, None)
+    }
+}
+
 /// What stands before the first such byte, and what stands behind it where there is one. In time
 /// linear in what stands before it.
 pub fn cut(bytes: &[u8], byte: u8) -> (&[u8], Option<&[u8]>)
     ensures before { result.0.now ≡ before_byte byte bytes.now }
     ensures after { option_map (λ rest. rest.now) result.1 ≡ after_byte byte bytes.now }
 {
-    let at = before(bytes, byte);
-    if at < bytes.len() {
-        (&bytes[..at], Some(&bytes[at + 1..]))
-    } else {
-        (bytes, None)
-    }
+    cut_at(bytes, byte, before(bytes, byte))
+}
+
+/// The same. It looks at one byte after the other, which is quicker than steps of many where few
+/// stand before the first such byte.
+pub fn cut_short(bytes: &[u8], byte: u8) -> (&[u8], Option<&[u8]>)
+    ensures before { result.0.now ≡ before_byte byte bytes.now }
+    ensures after { option_map (λ rest. rest.now) result.1 ≡ after_byte byte bytes.now }
+{
+    cut_at(bytes, byte, before_from(bytes, 0, byte))
 }
 
 /// How many of the `STEP` bytes from a place on, but for the first `skipped`, are this byte.

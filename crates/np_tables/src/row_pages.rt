@@ -1,5 +1,5 @@
 //! The row of each code point, in blocks of 256 code points.
-ghost use Rattle.std.specs.Prelude.{◌≡◌, ℕ, ◌+◌, ◌<◌, ◌≤◌, length, slice_index, IfOk, IsTrue};
+ghost use Rattle.std.specs.Prelude.{◌≡◌, ℕ, ◌+◌, ◌<◌, ◌≤◌, true, false, length, slice_index, IfOk, IsTrue};
 ghost use Rattle.np_ucd.specs.Entries.{AreRows};
 ghost use Rattle.np_tables.specs.inside.Pages.{AreWithin, word_place};
 ghost use Rattle.np_tables.specs.inside.RowPages.{AreBegun, ArePushed, AreRowPages, GoesOn, HasNoRow, IsNextRow, IsRowNumber};
@@ -29,19 +29,18 @@ pub(crate) struct RowPages {
     pub numbers: Vec<u32>,
 }
 
-/// The row number of a code point, and the place of the next row for the code point after it.
-fn number_at(rows: &Rows, at: usize, code: u32) -> (u32, usize)
+/// The row number of a code point, and whether its row ends there.
+fn number_at(rows: &Rows, at: usize, code: u32) -> (u32, bool)
     requires rows { AreRows rows.now }
     requires next { IsNextRow rows.now at code }
     ensures number { IsRowNumber rows.now code result.0 }
-    ensures next { IsNextRow rows.now result.1 (code + 1) }
+    ensures bound { result.1 ≡ true → at < 0x110000 }
+    ensures ends { result.1 ≡ true → IsNextRow rows.now (at + 1) (code + 1) }
+    ensures goes_on { result.1 ≡ false → IsNextRow rows.now at (code + 1) }
 {
     match rows.get(at) {
-        Some(row) if row.first <= code => {
-            let next = if row.last == code { at + 1 } else { at };
-            (at as u32 + 1, next)
-        }
-        _ => (0, at),
+        Some(row) if row.first <= code => (at as u32 + 1, row.last == code),
+        _ => (0, false),
     }
 }
 
@@ -55,9 +54,14 @@ fn push_block(rows: &Rows, from: usize, first: u32, numbers: &mut Vec<u32>) -> R
 {
     let mut at = from;
     for low in 0..BLOCK as u32 {
-        let (number, next) = number_at(rows, at, first + low);
-        numbers.push(number)?;
-        at = next;
+        let (number, ends) = number_at(rows, at, first + low);
+        // in two arms, so that a processor guesses the next row, and does not wait for this one
+        if ends {
+            numbers.push(number)?;
+            at += 1;
+        } else {
+            numbers.push(number)?;
+        }
     }
     Ok(at)
 }

@@ -25,13 +25,10 @@ use std::marker::Model;
 pub struct Version {
     characters: CharacterData,
     pairs: Pairs,
-    count: u32,
 }
 
 impl Model for Version {
-    ghost use Rattle.std.specs.Prelude.{◌≡◌};
     ghost use Rattle.np_tables.specs.Conditions.{IsSound};
-    ghost use Rattle.np_tables.specs.Counts.{assigned_count};
     ghost use Rattle.np_tables.specs.Versions.{VersionData};
     ghost use Rattle.np_tables.specs.inside.Pairs.{AreOfFile};
 
@@ -39,7 +36,7 @@ impl Model for Version {
 
     ghost view = { λ a. a.characters };
 
-    ghost invariant = { λ a. IsSound a.characters × AreOfFile a.characters a.pairs × (a.count ≡ assigned_count a.characters) };
+    ghost invariant = { λ a. IsSound a.characters × AreOfFile a.characters a.pairs };
 }
 
 impl Version {
@@ -66,12 +63,7 @@ impl Version {
         ensures { result ≡ characters }
     {
         characters.are_in_order();
-        let count = count_of(&characters);
-        Version {
-            characters,
-            pairs,
-            count,
-        }
+        Version { characters, pairs }
     }
 
     /// Does nothing at run time: the version meets the conditions, as each that was built does.
@@ -147,10 +139,10 @@ impl Version {
         self.characters.has_hangul()
     }
 
-    /// How many code points are assigned.
+    /// How many code points are assigned. In time linear in the rows.
     pub fn count(&self) -> u32
         ensures { result ≡ assigned_count self.now }
     {
-        self.count
+        count_of(&self.characters)
     }
 }

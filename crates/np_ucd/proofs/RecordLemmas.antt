@@ -1,5 +1,5 @@
 -- From what was read of a record to the tests that fit it.
-use Rattle.std.proofs.Common.{◌≡◌, ◌≢◌, ℕ, Bool, true, false, not, List, [], ◌∷◌, length, get_or, Option, Some, None, is_none, unwrap_or, sym, ap, ◌∙◌, arith}
+use Rattle.std.proofs.Common.{◌≡◌, ◌≢◌, ℕ, Bool, true, false, not, List, [], ◌∷◌, length, get_or, Option, Some, None, Bor, is_none, option_map, unwrap_or, sym, ap, ◌∙◌, arith}
 use Rattle.std.proofs.lemmas.Bool.{cond-true, cond-false, ne_eqb, eq-eqb}
 use Rattle.np_code_points.specs.Codes.{code_value}
 use Rattle.np_ucd.specs.Entries.{Entry, Plain}
@@ -20,15 +20,32 @@ pub fields_none : (xs : List ℕ) → after_byte 59 xs ≡ None → length (fiel
 unfolding fields_of
 fields_none xs h = ap length (split_cut (is_byte 59) xs ∙ ap (λ o. before_byte 59 xs ∷ rest_parts (is_byte 59) o) h)
 
-pub fifteen : (text rest a b c d e f : List ℕ) → fields_of text ≡ a ∷ b ∷ c ∷ d ∷ e ∷ f ∷ fields_of rest → length (fields_of rest) ≡ 9 → (length (fields_of text) ≡ 15) × (a ≡ field 0 text) × (b ≡ field 1 text) × (c ≡ field 2 text) × (d ≡ field 3 text) × (f ≡ field 5 text)
+-- the same of a cut at the first ';'
+pub cut_field : (xs field : List ℕ) (rest : Bor (List ℕ)) (behind : Option (Bor (List ℕ))) → field ≡ before_byte 59 xs → option_map (λ (r : Bor (List ℕ)). r.now) behind ≡ after_byte 59 xs → behind ≡ Some rest → fields_of xs ≡ field ∷ fields_of rest.now
+cut_field xs field rest behind before after is =
+    fields_some xs rest.now (sym after ∙ ap (option_map (λ (r : Bor (List ℕ)). r.now)) is)
+    ∙ ap (λ f. f ∷ fields_of rest.now) (sym before)
+
+pub cut_no_field : (xs : List ℕ) (behind : Option (Bor (List ℕ))) → option_map (λ (r : Bor (List ℕ)). r.now) behind ≡ after_byte 59 xs → behind ≡ None → length (fields_of xs) ≡ 1
+cut_no_field xs behind after is = fields_none xs (sym after ∙ ap (option_map (λ (r : Bor (List ℕ)). r.now)) is)
+
+pub twelve : (text rest a b c : List ℕ) → fields_of text ≡ a ∷ b ∷ c ∷ fields_of rest → length (fields_of rest) ≡ 9 → (length (fields_of text) ≡ 12) × (a ≡ field 0 text) × (c ≡ field 2 text)
 unfolding field
-fifteen text rest a b c d e f h nine = (
+twelve text rest a b c h nine = (
   omega (arith, ap length h, nine),
+  sym (ap (λ ps. get_or ps 0 []) h),
+  sym (ap (λ ps. get_or ps 2 []) h),
+)
+
+pub fifteen : (text rest a b c d f : List ℕ) → fields_of text ≡ a ∷ b ∷ c ∷ fields_of rest → (length (fields_of rest) ≡ 12) × (d ≡ field 0 rest) × (f ≡ field 2 rest) → (length (fields_of text) ≡ 15) × (a ≡ field 0 text) × (b ≡ field 1 text) × (c ≡ field 2 text) × (d ≡ field 3 text) × (f ≡ field 5 text)
+unfolding field
+fifteen text rest a b c d f h behind = (
+  omega (arith, ap length h, behind.0),
   sym (ap (λ ps. get_or ps 0 []) h),
   sym (ap (λ ps. get_or ps 1 []) h),
   sym (ap (λ ps. get_or ps 2 []) h),
-  sym (ap (λ ps. get_or ps 3 []) h),
-  sym (ap (λ ps. get_or ps 5 []) h),
+  behind.1 ∙ sym (ap (λ ps. get_or ps 3 []) h),
+  behind.2 ∙ sym (ap (λ ps. get_or ps 5 []) h),
 )
 
 -- The tests, from what was read.

@@ -1,5 +1,5 @@
 -- The test that names a record's fault is the least that fits it; where none does, none fits.
-use Rattle.std.proofs.Common.{◌≡◌, ◌≢◌, ℕ, ◌<◌, ◌≤◌, ◌⊎◌, Bool, true, false, not, ◌&&◌, ◌||◌, cond, eqb, leb, List, [], ◌∷◌, Option, Some, None, refl, sym, ap, subst, ◌∙◌, inl, inr, ⊎_elim, arith}
+use Rattle.std.proofs.Common.{◌≡◌, ℕ, ◌<◌, ◌≤◌, ◌⊎◌, Bool, true, false, not, ◌&&◌, ◌||◌, cond, eqb, leb, List, [], ◌∷◌, Option, Some, None, refl, sym, ap, subst, ◌∙◌, inl, inr, ⊎_elim, arith}
 use Rattle.std.specs.List.{Contains}
 use Rattle.std.specs.Str.{bytes_eq}
 use lib.Utf8.{scalar}
@@ -16,7 +16,7 @@ use Rattle.np_ucd.specs.inside.FieldReading.{category_value, class_value, mappin
 use Rattle.np_ucd.specs.inside.RecordReading.{field, code_in, category_in, class_in, mapping_in, opens, closes, maps, Neighbour, neighbour_of, is_open, has_other_count, has_bad_code, is_at_most, is_out_of_order, has_bad_category, has_bad_class, has_unread_mapping, differs, late_tests, first_that_fits, record_tests, record_fault}
 use Rattle.np_ucd.proofs.FieldGrammar.{fields_in, only_has, fifteen_are, category_said, category_read, class_read, opens_said, opens_read, closes_said, closes_read}
 use Rattle.np_ucd.proofs.MappingGrammar.{mapping_read}
-use Rattle.np_ucd.proofs.ReadGrammar.{said, unsaid, same_code, count_is, code_is, category_is, class_is, Read, read, not_true, maps_said, maps_read}
+use Rattle.np_ucd.proofs.ReadGrammar.{unsaid, same_code, count_is, code_is, category_is, class_is, Read, read, not_true, maps_said, maps_read}
 
 -- The record before, as the code keeps it and as its fields say.
 pub record Matches (b : Neighbour) (g : Fields) : Type 0 where

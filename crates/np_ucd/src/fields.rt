@@ -1,5 +1,5 @@
 //! What single fields of a record say.
-ghost use Rattle.std.specs.Prelude.{◌≡◌, ◌∷◌, [], ◌&&◌, option_map};
+ghost use Rattle.std.specs.Prelude.{◌≡◌, ◌∷◌, [], ◌&&◌, false, option_map};
 ghost use Rattle.np_ucd.specs.inside.FieldReading.{category_value, class_value, is_letter as letter, is_digit as digit, opens_range as opening, closes_range as closing};
 
 /// Whether the byte is an ASCII letter.
@@ -27,12 +27,20 @@ fn is_digit(byte: u8) -> bool
     byte.is_ascii_digit()
 }
 
+/// Whether a name ends as those of the two records of a range do, and few others.
+fn is_bracketed(name: &[u8]) -> bool
+    ensures opening { result ≡ false → opening name.now ≡ false }
+    ensures closing { result ≡ false → closing name.now ≡ false }
+{
+    name.len() > 0 && name[name.len() - 1] == b'>'
+}
+
 /// Whether a record of this name begins a range.
 #[tactic(auto, unfolding(crate::specs::inside::FieldReading::opens_range))]
 pub(crate) fn opens_range(name: &[u8]) -> bool
     ensures { result ≡ opening name.now }
 {
-    name.ends_with(b", First>")
+    is_bracketed(name) && name.ends_with(b", First>")
 }
 
 /// Whether a record of this name ends a range.
@@ -40,7 +48,7 @@ pub(crate) fn opens_range(name: &[u8]) -> bool
 pub(crate) fn closes_range(name: &[u8]) -> bool
     ensures { result ≡ closing name.now }
 {
-    name.ends_with(b", Last>")
+    is_bracketed(name) && name.ends_with(b", Last>")
 }
 
 /// The number of three digits, where it is a combining class.

@@ -1,7 +1,5 @@
 //! The records of UnicodeData.txt.
 ghost use Rattle.std.specs.Prelude.{◌≡◌, ◌≢◌, ◌∷◌, ◌⊎◌, length, option_map, ◌==◌, IfOk, IfErr, IsTrue, MatchOption, Some, None};
-ghost use Rattle.std.specs.List.{prefix_len};
-ghost use Rattle.np_code_points.specs.inside.LineCuts.{is_other};
 ghost use Rattle.np_ucd.specs.RowValues.{entry_of};
 ghost use Rattle.np_ucd.specs.inside.FieldReading.{fields_of as parts};
 ghost use Rattle.np_ucd.specs.inside.RecordReading.{field, is_at_most as at_most, is_open as open_before, differs as differ, late_tests, first_that_fits, first_code as first, record_fault, neighbour_of, row_of};
@@ -13,7 +11,7 @@ use crate::fields::{category_of, class_of, closes_range, opens_range};
 use crate::mappings::read_mapping;
 use crate::rows::Row;
 use np_code_points::codes::code_of;
-use np_code_points::lines::{count, cut};
+use np_code_points::lines::{count, cut, cut_short};
 use std::alloc::Global;
 
 /// What the next record is held against.
@@ -59,28 +57,19 @@ fn next_field(rest: &[u8]) -> Option<(&[u8], &[u8])>
     Some((field, rest?))
 }
 
-/// The place of the first `;`; the number of bytes where there is none. It looks at one byte after
-/// the other, which is quicker than steps of many where few stand in front of the `;`.
-fn separator_place(rest: &[u8]) -> usize
-    ensures { result ≡ prefix_len (is_other 59) rest.now }
-{
-    let mut at = 0;
-    while at < rest.len() && rest[at] != b';' {
-        at += 1;
-    }
-    at
-}
-
 /// The first field, and what is behind its `;`, where the field is short as a rule.
 fn next_short_field(rest: &[u8]) -> Option<(&[u8], &[u8])>
     ensures { MatchOption result (length (parts rest.now) ≡ 1) (λ p. parts rest.now ≡ p.0.now ∷ parts p.1.now) }
 {
-    let at = separator_place(rest);
-    if at < rest.len() {
-        Some((&rest[..at], &rest[at + 1..]))
-    } else {
-        None
-    }
+    let (field, rest) = cut_short(rest, b';');
+    Some((field, rest?))
+}
+
+/// Whether a text is this one.
+fn is_text(text: &[u8], wanted: &[u8]) -> bool
+    ensures { IsTrue result → text.now ≡ wanted.now }
+{
+    text.len() == wanted.len() && text.starts_with(wanted)
 }
 
 /// Whether these are the last nine fields of nearly every record: of them Bidi_Mirrored alone is
@@ -88,7 +77,7 @@ fn next_short_field(rest: &[u8]) -> Option<(&[u8], &[u8])>
 fn are_usual(rest: &[u8]) -> bool
     ensures { IsTrue result → (length (parts rest.now) ≡ 9) }
 {
-    rest.len() == 9 && rest.starts_with(b";;;N;;;;;")
+    is_text(rest, b";;;N;;;;;")
 }
 
 /// Whether there are nine fields, as behind the mapping. Those of most records need no counting.
@@ -96,6 +85,33 @@ fn has_nine(rest: &[u8]) -> bool
     ensures { result ≡ (length (parts rest.now) == 9) }
 {
     are_usual(rest) || count(rest, b';') == 8
+}
+
+/// The class and the mapping of twelve fields, as behind the category.
+fn cut_twelve(text: &[u8]) -> Option<(&[u8], &[u8])>
+    ensures { MatchOption result (length (parts text.now) ≢ 12)
+        (λ p. (length (parts text.now) ≡ 12) × (p.0.now ≡ field 0 text.now) × (p.1.now ≡ field 2 text.now)) }
+{
+    let (class, rest) = next_short_field(text)?;
+    let (_bidi, rest) = next_short_field(rest)?;
+    let (mapping, rest) = next_short_field(rest)?;
+    if has_nine(rest) {
+        Some((class, mapping))
+    } else {
+        None
+    }
+}
+
+/// The same. Those of half of the records, letters without a mapping, need no cutting.
+fn class_and_mapping(text: &[u8]) -> Option<(&[u8], &[u8])>
+    ensures { MatchOption result (length (parts text.now) ≢ 12)
+        (λ p. (length (parts text.now) ≡ 12) × (p.0.now ≡ field 0 text.now) × (p.1.now ≡ field 2 text.now)) }
+{
+    if is_text(text, b"0;L;;;;;N;;;;;") {
+        Some((&text[..1], &[]))
+    } else {
+        cut_twelve(text)
+    }
 }
 
 /// The fields of a line that has fifteen.
@@ -107,12 +123,7 @@ fn fields_of(text: &[u8]) -> Option<Fields<'_>>
     let (code, rest) = next_field(text)?;
     let (name, rest) = next_field(rest)?;
     let (category, rest) = next_short_field(rest)?;
-    let (class, rest) = next_short_field(rest)?;
-    let (_bidi, rest) = next_short_field(rest)?;
-    let (mapping, rest) = next_short_field(rest)?;
-    if !has_nine(rest) {
-        return None;
-    }
+    let (class, mapping) = class_and_mapping(rest)?;
     Some(Fields {
         code,
         name,

@@ -1,21 +1,10 @@
-use Rattle.std.proofs.Common.{◌+◌, ◌≤◌, refl, sym, ap, ◌∙◌, subst, arith, inl, inr}
+use Rattle.std.proofs.Common.{◌+◌, ◌≤◌, refl, sym, ap, ◌∙◌, arith, inl, inr}
 use Rattle.std.specs.Option.{option_map}
-use Rattle.std.proofs.lemmas.Bool.{cases_eq}
+use Rattle.std.proofs.lemmas.Bool.{false≢true, cases_eq, eq-eqb, eqb-true}
 use Rattle.np_ucd.specs.RowValues.{entry_of}
-use Rattle.np_tables.specs.inside.RowPages.{IsNextRow}
 use Rattle.np_tables.proofs.RowLemmas.{at-row, place-le}
 use Rattle.np_tables.proofs.RowPageLemmas.{none_behind, none_left, number-none, number-some, next-within, next-behind}
 use Rattle.np_tables.proofs.row_pages.number_at.Goals as goal
-use Rattle.np_tables.proofs.row_pages.number_at.Goals.{then-row-code-2, else-row-code-2}
-
-pub overflow_add-next : goal.overflow_add-next
-overflow_add-next c =
-    let e = entry_of c.in-Some.row.now in
-    let row = at-row c.args.rows.now c.args.at e c.requires.rows (sym c.in-Some.ensures.row) in
-    let low = place-le c.args.rows.now c.args.at e c.requires.rows (sym c.in-Some.ensures.row) in
-    let up = row.rises in
-    let bound = row.bounded in
-    omega arith
 
 pub overflow_cast-result : goal.overflow_cast-result
 overflow_cast-result c =
@@ -35,24 +24,34 @@ overflow_add-result c =
     let bound = row.bounded in
     omega arith
 
-pub returns-after-row-code-2-clause-number : goal.returns-after-row-code-2-clause-number
-returns-after-row-code-2-clause-number c =
+pub returns-in-Some-clause-number : goal.returns-in-Some-clause-number
+returns-in-Some-clause-number c =
     let e = entry_of c.in-Some.row.now in
     let ends = c.requires.next.here e (sym c.in-Some.ensures.row) in
     number-some c.args.rows.now c.args.at c.args.code (c.args.at + 1) e c.requires.rows (sym c.in-Some.ensures.row) c.if-row-code.true ends (omega arith)
 
-pub returns-after-row-code-2-clause-next : goal.returns-after-row-code-2-clause-next
-returns-after-row-code-2-clause-next c =
-    let es = c.args.rows.now in
+pub returns-in-Some-clause-bound : goal.returns-in-Some-clause-bound
+returns-in-Some-clause-bound c =
+    let e = entry_of c.in-Some.row.now in
+    let row = at-row c.args.rows.now c.args.at e c.requires.rows (sym c.in-Some.ensures.row) in
+    let low = place-le c.args.rows.now c.args.at e c.requires.rows (sym c.in-Some.ensures.row) in
+    let up = row.rises in
+    let bound = row.bounded in
+    λ _. omega arith
+
+pub returns-in-Some-clause-ends : goal.returns-in-Some-clause-ends
+returns-in-Some-clause-ends c =
+    let e = entry_of c.in-Some.row.now in
+    λ same. next-behind c.args.rows.now c.args.at c.args.code e c.requires.rows c.requires.next (sym c.in-Some.ensures.row) (eqb-true e.last c.args.code same)
+
+pub returns-in-Some-clause-goes_on : goal.returns-in-Some-clause-goes_on
+returns-in-Some-clause-goes_on c =
     let e = entry_of c.in-Some.row.now in
     let here = sym c.in-Some.ensures.row in
     let ends = c.requires.next.here e here in
-    elim c.if-row-code-2.branch [
-      | then-row-code-2 w ↦ subst (λ k. IsNextRow es k (c.args.code + 1)) (sym w.next-is) (next-behind es c.args.at c.args.code e c.requires.rows c.requires.next here w.if-row-code-2.true)
-      | else-row-code-2 w ↦
-          let more : c.args.code + 1 ≤ e.last = elim (cases_eq e.last c.args.code) [ inl same ↦ absurd (w.if-row-code-2.false same) | inr other ↦ omega arith ] in
-          subst (λ k. IsNextRow es k (c.args.code + 1)) (sym w.next-is) (next-within es c.args.at c.args.code (c.args.code + 1) e c.requires.next here (omega arith) more)
-    ]
+    λ other.
+    let more : c.args.code + 1 ≤ e.last = elim (cases_eq e.last c.args.code) [ inl same ↦ absurd (false≢true (sym other ∙ eq-eqb e.last c.args.code same)) | inr differ ↦ omega arith ] in
+    next-within c.args.rows.now c.args.at c.args.code (c.args.code + 1) e c.requires.next here (omega arith) more
 
 pub returns-in_default-clause-number : goal.returns-in_default-clause-number
 returns-in_default-clause-number c =
@@ -60,12 +59,12 @@ returns-in_default-clause-number c =
     let e = entry_of c.in-Some.row.now in
     number-none es c.args.code 0 (none_behind es c.args.at c.args.code e c.requires.rows c.requires.next (sym c.in-Some.ensures.row) c.if-row-code.false) refl
 
-pub returns-in_default-clause-next : goal.returns-in_default-clause-next
-returns-in_default-clause-next c =
+pub returns-in_default-clause-goes_on : goal.returns-in_default-clause-goes_on
+returns-in_default-clause-goes_on c =
     let es = c.args.rows.now in
     let e = entry_of c.in-Some.row.now in
     let up = (at-row es c.args.at e c.requires.rows (sym c.in-Some.ensures.row)).rises in
-    next-within es c.args.at c.args.code (c.args.code + 1) e c.requires.next (sym c.in-Some.ensures.row) (omega arith) (let less = c.if-row-code.false in omega arith)
+    λ _. next-within es c.args.at c.args.code (c.args.code + 1) e c.requires.next (sym c.in-Some.ensures.row) (omega arith) (let less = c.if-row-code.false in omega arith)
 
 pub returns-in_default-2-clause-number : goal.returns-in_default-2-clause-number
 returns-in_default-2-clause-number c =
