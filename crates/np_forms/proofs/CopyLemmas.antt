@@ -31,12 +31,14 @@ unfolding normal_form decomposed
 normal_form-nil v form = ap (ended v (composes form)) (canonical_order-nil (class_of v)) ∙ ended-nil v (composes form)
 
 module _ (v : VersionData) (sound : IsSound v) (form : Form) where
-  -- before a boundary it stands as it is
+  -- before a boundary the form parts
+  pub parts-at : (xs rest : List ℕ) → BeginsAtBoundary v form rest → normal_form v form (xs ++ rest) ≡ normal_form v form xs ++ normal_form v form rest
+  parts-at xs [] at = ap (normal_form v form) (append-nil xs) ∙ sym (append-nil _) ∙ ap (λ l. normal_form v form xs ++ l) (sym (normal_form-nil v form))
+  parts-at xs (c ∷ cs) at = normal_form-parts v sound form xs c cs at
+
+  -- a walk stands there as it is
   copies : (cs : List ℕ) (end : ℕ) (rest : List ℕ) → Walks (MayFollow v form) 0 cs end → BeginsAtBoundary v form rest → normal_form v form (cs ++ rest) ≡ cs ++ normal_form v form rest
-  copies cs end [] walk at =
-      ap (normal_form v form) (append-nil cs) ∙ standing_form v sound form cs end walk ∙ sym (append-nil cs) ∙ ap (λ l. cs ++ l) (sym (normal_form-nil v form))
-  copies cs end (d ∷ ds) walk at =
-      normal_form-parts v sound form cs d ds at ∙ ap (λ l. l ++ normal_form v form (d ∷ ds)) (standing_form v sound form cs end walk)
+  copies cs end rest walk at = parts-at cs rest at ∙ ap (λ l. l ++ normal_form v form rest) (standing_form v sound form cs end walk)
 
   -- a text whose front stands as it is, cut behind it
   pub IsCopied-at : (text front back : List ℕ) (cs : List ℕ) (end : ℕ) → text ≡ front ++ back → IsUtf8 back → front ≡ encode_utf8_all cs → chars text ≡ cs ++ chars back → Walks (MayFollow v form) 0 cs end → BeginsAtBoundary v form (chars back) → IsCopied v form text front back
@@ -104,16 +106,9 @@ module _ (v : VersionData) (sound : IsSound v) (form : Form) (text : List ℕ) (
   cut-parts : text ≡ front ++ back
   cut-parts = h.split ∙ ap (λ l. l ++ h.back) (sym cut-front) ∙ ap (λ l. front ++ l) (sym cut-back)
 
-  IsCopied-cut : BeginsAtBoundary v form (chars back) → IsCopied v form text front back
+  pub IsCopied-cut : BeginsAtBoundary v form (chars back) → IsCopied v form text front back
   IsCopied-cut at =
       IsCopied-at v sound form text front back h.front h.end cut-parts (subst IsUtf8 (sym cut-back) h.utf8) cut-front (h.text ∙ ap (λ l. h.front ++ chars l) (sym cut-back)) h.walk at
-
-  pub IsCopied-whole : length back ≡ 0 → IsCopied v form text front back
-  IsCopied-whole none = IsCopied-cut (subst (BeginsAtBoundary v form) (sym (ap chars (nil_from_length back none) ∙ chars-nil)) tt)
-
-  pub IsCopied-boundary : (c : ℕ) (later : List ℕ) → back ≡ encode_utf8 c ++ later → IsBoundary v form c → IsCopied v form text front back
-  IsCopied-boundary c later begins at =
-      IsCopied-cut (subst (BeginsAtBoundary v form) (sym (chars_past_char back later c (subst IsUtf8 (sym cut-back) h.utf8) begins)) at)
 
 some_list : (cs : List ℕ) → (cs ≢ []) → 0 < length cs
 some_list [] h = absurd (h refl)

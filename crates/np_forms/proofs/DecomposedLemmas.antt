@@ -1,21 +1,19 @@
 -- Forms that only decompose, written front by front.
-use Rattle.std.proofs.Common.{◌≡◌, ℕ, ◌<◌, ◌≤◌, ◌⊎◌, true, false, List, [], ◌∷◌, ◌++◌, length, chars, IsUtf8, encode_utf8, encode_utf8_all, flat_map, refl, sym, ap, subst, ◌∙◌, arith, inl, inr, append_assoc, append-nil, length-append}
-use Rattle.std.proofs.lemmas.Bool.{and_right}
+use Rattle.std.proofs.Common.{◌≡◌, ℕ, ◌<◌, true, false, List, [], ◌∷◌, ◌++◌, length, chars, IsUtf8, encode_utf8, encode_utf8_all, flat_map, refl, sym, ap, subst, ◌∙◌, arith, inl, inr, append_assoc, append-nil, length-append}
 use Rattle.std.proofs.lemmas.Grind.{flat_map-append}
-use Rattle.std.proofs.lemmas.List.{nil_from_length}
-use Rattle.std.proofs.lemmas.Str.{chars-nil, chars_past_char, encodes-append}
+use Rattle.std.proofs.lemmas.Str.{chars_past_char, encodes-append, IsUtf8-past_char}
 use Rattle.np_code_points.specs.Forms.{is_compat, composes}
-use Rattle.np_code_points.specs.Hangul.{is_syllable}
 use Rattle.np_code_points.specs.declared.forms.Form.{Form}
 use Rattle.np_forms.specs.Order.{is_ordered}
 use Rattle.np_forms.specs.inside.CanonicalOrder.{canonical_order}
-use Rattle.np_forms.specs.inside.Copies.{GoesOn, IsCopied, IsParted}
+use Rattle.np_forms.specs.inside.Copies.{BeginsAtBoundary, GoesOn, IsCopied, IsParted}
 use Rattle.np_forms.specs.inside.NormalForms.{decomposed, ended, normal_form}
-use Rattle.np_forms.specs.inside.Segments.{Rises}
+use Rattle.np_forms.specs.inside.Segments.{IsFirstMade, Rises}
+use Rattle.np_forms.proofs.CopyLemmas.{parts-at}
 use Rattle.np_forms.proofs.OrderLemmas.{canonical_order-behind, canonical_order-ordered, is_ordered-canonical_order, is_ordered-cons, is_ordered-nil, is_ordered-one, is_ordered-parts, is_reorderable-false, not_reorderable_rising, not_reorderable_starter}
-use Rattle.np_forms.proofs.SyllableLemmas.{lent_none, lent_some}
+use Rattle.np_forms.proofs.SyllableLemmas.{lent_some}
 use Rattle.np_tables.specs.Conditions.{IsSound}
-use Rattle.np_tables.specs.Versions.{VersionData, class_of, has_hangul}
+use Rattle.np_tables.specs.Versions.{VersionData, class_of}
 use Rattle.np_tables.specs.inside.FullDecompositions.{full_of, table_full}
 
 -- ---- classes that rise
@@ -72,24 +70,19 @@ module _ (v : VersionData) (sound : IsSound v) (form : Form) (plain : composes f
 
   -- ---- one code point
 
-  -- its segment
-  pub one-of : (segment rest : List ℕ) (c : ℕ) → IsUtf8 segment → segment ≡ encode_utf8 c ++ rest → length rest ≡ 0 → chars segment ≡ c ∷ []
-  one-of segment rest c utf8 begins none = chars_past_char segment rest c utf8 begins ∙ ap (λ l. c ∷ l) (ap chars (nil_from_length rest none) ∙ chars-nil)
-
-  pub one-own : (segment rest : List ℕ) (c : ℕ) → IsUtf8 segment → segment ≡ encode_utf8 c ++ rest → length rest ≡ 0 → (lent : List ℕ) → lent ≡ table_full v (is_compat form) c → length lent ≡ 0 → is_syllable c ≡ false →
-      segment ≡ encode_utf8_all (normal_form v form (chars segment))
-  one-own segment rest c utf8 begins none lent is empty single =
-      let own : full_of v (is_compat form) c ≡ c ∷ [] = lent_none v (is_compat form) sound c lent is empty (and_right (has_hangul v) (is_syllable c) single) in
-      begins ∙ ap (λ l. encode_utf8 c ++ l) (nil_from_length rest none)
-      ∙ ap encode_utf8_all (sym (canonical_order-ordered (class_of v) (c ∷ []) (is_ordered-one (class_of v) c)) ∙ ap (λ l. canonical_order (class_of v) (l ++ [])) (sym own)
-      ∙ sym (form-decomposes (c ∷ [])) ∙ ap (normal_form v form) (sym (one-of segment rest c utf8 begins none)))
-
-  pub one-lent : (segment rest : List ℕ) (c : ℕ) → IsUtf8 segment → segment ≡ encode_utf8 c ++ rest → length rest ≡ 0 → (lent : List ℕ) → lent ≡ table_full v (is_compat form) c → 0 < length lent → is_ordered (class_of v) lent ≡ true →
-      lent ≡ normal_form v form (chars segment)
-  one-lent segment rest c utf8 begins none lent is some ordered =
+  -- before a boundary, where what is lent for it is in canonical order
+  pub one-lent : (text later : List ℕ) (c : ℕ) → IsUtf8 text → text ≡ encode_utf8 c ++ later → BeginsAtBoundary v form (chars later) → (lent : List ℕ) → lent ≡ table_full v (is_compat form) c → 0 < length lent → is_ordered (class_of v) lent ≡ true →
+      IsFirstMade v form text later lent
+  one-lent text later c utf8 begins at lent is some ordered =
+      let made : lent ≡ normal_form v form (c ∷ []) =
       sym (canonical_order-ordered (class_of v) lent ordered)
       ∙ ap (canonical_order (class_of v)) (lent_some v (is_compat form) c lent is some ∙ sym (append-nil (full_of v (is_compat form) c)))
-      ∙ sym (form-decomposes (c ∷ [])) ∙ ap (normal_form v form) (sym (one-of segment rest c utf8 begins none))
+      ∙ sym (form-decomposes (c ∷ [])) in
+      record {
+        utf8 = IsUtf8-past_char text later c utf8 begins;
+        shorter = omega (arith, ap length begins, length-append (encode_utf8 c) later);
+        made = ap (normal_form v form) (chars_past_char text later c utf8 begins) ∙ parts-at v sound form (c ∷ []) (chars later) at ∙ ap (λ l. l ++ normal_form v form (chars later)) (sym made);
+      }
 
 -- ---- one front behind another
 
@@ -111,14 +104,19 @@ module _ (v : VersionData) (form : Form) where
         written = ap (λ l. l ++ after) push ∙ append_assoc old stays after ∙ ap (λ l. old ++ l) (sym cut.copied);
       }
 
-  -- a segment
-  pub goes-parted : (text segment later old new : List ℕ) → IsParted v form text segment later → new ≡ old ++ encode_utf8_all (normal_form v form (chars segment)) → GoesOn v form text later old new
-  goes-parted text segment later old new parted push =
-      let made = normal_form v form (chars segment) in
+  -- a front whose form is at hand
+  pub goes-made : (text later made old new : List ℕ) → IsFirstMade v form text later made → new ≡ old ++ encode_utf8_all made → GoesOn v form text later old new
+  goes-made text later made old new first push =
       let after = normal_form v form (chars later) in
       record {
-        utf8 = parted.utf8;
-        shorter = omega (arith, ap length parted.parts, length-append segment later);
+        utf8 = first.utf8;
+        shorter = first.shorter;
         written = ap (λ l. l ++ encode_utf8_all after) push ∙ append_assoc old (encode_utf8_all made) (encode_utf8_all after)
-            ∙ ap (λ l. old ++ l) (sym (encodes-append made after) ∙ ap encode_utf8_all (sym parted.parted));
+            ∙ ap (λ l. old ++ l) (sym (encodes-append made after) ∙ ap encode_utf8_all (sym first.made));
       }
+
+  -- a segment
+  pub goes-parted : (text segment later old new : List ℕ) → IsParted v form text segment later → new ≡ old ++ encode_utf8_all (normal_form v form (chars segment)) → GoesOn v form text later old new
+  goes-parted text segment later old new cut =
+      goes-made text later (normal_form v form (chars segment)) old new
+      (record { utf8 = cut.utf8; shorter = omega (arith, ap length cut.parts, length-append segment later); made = cut.parted })

@@ -1,20 +1,18 @@
 -- Segments that are composed code point by code point.
-use Rattle.std.proofs.Common.{◌≡◌, ℕ, ◌<◌, ◌≤◌, ◌⊎◌, Bool, true, List, [], ◌∷◌, ◌++◌, length, set, chars, IsUtf8, encode_utf8, encode_utf8_all, flat_map, Option, Some, None, refl, sym, ap, subst, ◌∙◌, arith, inl, inr, append_assoc, append-nil, length-append}
+use Rattle.std.proofs.Common.{◌≡◌, ℕ, ◌<◌, ◌≤◌, ◌⊎◌, true, List, [], ◌∷◌, ◌++◌, length, set, chars, IsUtf8, encode_utf8, flat_map, Option, Some, None, refl, sym, ap, subst, ◌∙◌, arith, append_assoc, append-nil, length-append}
 use Rattle.std.proofs.lemmas.Grind.{flat_map-append}
 use Rattle.std.proofs.lemmas.List.{nil_from_length}
-use Rattle.std.proofs.lemmas.Str.{chars-nil, chars_past_char, encodes-append, IsUtf8-past_char}
+use Rattle.std.proofs.lemmas.Str.{chars-nil, chars_past_char, IsUtf8-past_char}
 use Rattle.np_code_points.specs.Forms.{is_compat, composes}
 use Rattle.np_code_points.specs.declared.forms.Form.{Form}
 use Rattle.np_forms.specs.Order.{is_ordered}
-use Rattle.np_forms.specs.inside.CanonicalOrder.{canonical_order}
 use Rattle.np_forms.specs.inside.Composers.{IsComposing, pair_with_last}
 use Rattle.np_forms.specs.inside.Composing.{compose_of}
-use Rattle.np_forms.specs.inside.Copies.{BeginsAtBoundary, GoesOn, IsCopied}
-use Rattle.np_forms.specs.inside.NormalForms.{ended, normal_form}
+use Rattle.np_forms.specs.inside.Copies.{BeginsAtBoundary}
+use Rattle.np_forms.specs.inside.NormalForms.{normal_form}
 use Rattle.np_forms.specs.inside.Segments.{IsComposedOf, IsFirstMade, IsReadUpTo, Rises}
-use Rattle.np_forms.proofs.BoundaryLemmas.{normal_form-parts}
 use Rattle.np_forms.proofs.ComposerLemmas.{push_joins, push_starts, push_keeps, IsComposing-start, IsComposing-end}
-use Rattle.np_forms.proofs.CopyLemmas.{normal_form-nil, settled-is_form}
+use Rattle.np_forms.proofs.CopyLemmas.{parts-at, settled-is_form}
 use Rattle.np_forms.proofs.DecomposedLemmas.{is_ordered-rises}
 use Rattle.np_forms.proofs.OrderLemmas.{canonical_order-ordered}
 use Rattle.np_tables.specs.Boundaries.{IsBoundary}
@@ -31,22 +29,22 @@ module _ (v : VersionData) where
 
   -- ---- one more code point
 
-  module _ (done list : List ℕ) (starter : Option ℕ) (kept read d : ℕ) (up : (ccc d ≡ 0) ⊎ (read ≤ ccc d)) (a : IsComposedOf v done list starter kept read) where
+  module _ (done list : List ℕ) (starter : Option ℕ) (kept read d class : ℕ) (is : class ≡ ccc d) (up : (class ≡ 0) ⊎ (read ≤ class)) (a : IsComposedOf v done list starter kept read) where
     one_more : (made : List ℕ) (starter₂ : Option ℕ) (kept₂ : ℕ) → ((whole rest : List ℕ) → IsComposing v whole list starter kept (d ∷ rest) → IsComposing v whole made starter₂ kept₂ rest) → IsComposedOf v (done ++ d ∷ []) made starter₂ kept₂ (ccc d)
     one_more made starter₂ kept₂ step =
         record {
-          rises = λ later h. subst (Rises ccc 0) (sym (append_assoc done (d ∷ []) later)) (a.rises (d ∷ later) (up, h));
+          rises = λ later h. subst (Rises ccc 0) (sym (append_assoc done (d ∷ []) later)) (a.rises (d ∷ later) (subst (λ k. (k ≡ 0) ⊎ (read ≤ k)) is up, h));
           composing = λ rest h.
               let e = append_assoc done (d ∷ []) rest in
               subst (λ w. IsComposing v w made starter₂ kept₂ rest) (sym e) (step (done ++ d ∷ rest) rest (a.composing (d ∷ rest) (subst (λ w. is_ordered ccc w ≡ true) e h)));
         }
 
-    pub composed-joins : (q p class : ℕ) → class ≡ ccc d → pair_with_last v list starter kept d ≡ Some (q, p) → IsComposedOf v (done ++ d ∷ []) (set list q p) starter kept class
-    composed-joins q p class is found =
+    pub composed-joins : (q p : ℕ) → pair_with_last v list starter kept d ≡ Some (q, p) → IsComposedOf v (done ++ d ∷ []) (set list q p) starter kept class
+    composed-joins q p found =
         subst (λ k. IsComposedOf v (done ++ d ∷ []) (set list q p) starter kept k) (sym is) (one_more (set list q p) starter kept (λ whole rest h. push_joins v whole list starter kept d q p rest found h))
 
-    pub composed-starts : (made : List ℕ) (place class : ℕ) → class ≡ ccc d → class ≡ 0 → made ≡ list ++ d ∷ [] → place ≡ length list → pair_with_last v list starter kept d ≡ None → IsComposedOf v (done ++ d ∷ []) made (Some place) class class
-    composed-starts made place class is zero more at none =
+    pub composed-starts : (made : List ℕ) (place : ℕ) → class ≡ 0 → made ≡ list ++ d ∷ [] → place ≡ length list → pair_with_last v list starter kept d ≡ None → IsComposedOf v (done ++ d ∷ []) made (Some place) class class
+    composed-starts made place zero more at none =
         let now = list ++ d ∷ [] in
         let step = one_more now (Some (length list)) 0 (λ whole rest h. push_starts v whole list starter kept d rest none (sym is ∙ zero) h) in
         subst (λ l. IsComposedOf v (done ++ d ∷ []) l (Some place) class class) (sym more)
@@ -54,8 +52,8 @@ module _ (v : VersionData) where
         (subst (λ k. IsComposedOf v (done ++ d ∷ []) now (Some (length list)) k class) (sym zero)
         (subst (λ k. IsComposedOf v (done ++ d ∷ []) now (Some (length list)) 0 k) (sym is) step)))
 
-    pub composed-keeps : (made : List ℕ) (class : ℕ) → class ≡ ccc d → 0 < class → made ≡ list ++ d ∷ [] → pair_with_last v list starter kept d ≡ None → IsComposedOf v (done ++ d ∷ []) made starter class class
-    composed-keeps made class is non_starter more none =
+    pub composed-keeps : (made : List ℕ) → 0 < class → made ≡ list ++ d ∷ [] → pair_with_last v list starter kept d ≡ None → IsComposedOf v (done ++ d ∷ []) made starter class class
+    composed-keeps made non_starter more none =
         let now = list ++ d ∷ [] in
         let step = one_more now starter (ccc d) (λ whole rest h. push_keeps v whole list starter kept d rest none (omega (arith, is, non_starter)) h) in
         subst (λ l. IsComposedOf v (done ++ d ∷ []) l starter class class) (sym more) (subst (λ k. IsComposedOf v (done ++ d ∷ []) now starter k k) (sym is) step)
@@ -75,10 +73,6 @@ module _ (v : VersionData) where
         let made : list ≡ compose_of v done =
         IsComposing-end v (done ++ []) list starter kept (a.composing [] (ap (is_ordered ccc) whole ∙ ordered)) ∙ ap (compose_of v) whole in
         settled-is_form v form xs done list (is_compat form) true refl (sym on) refl (made ∙ ap (compose_of v) (sym (canonical_order-ordered ccc done ordered)))
-
-    parts-at : (xs rest : List ℕ) → BeginsAtBoundary v form rest → normal_form v form (xs ++ rest) ≡ normal_form v form xs ++ normal_form v form rest
-    parts-at xs [] at = ap (normal_form v form) (append-nil xs) ∙ sym (append-nil _) ∙ ap (λ l. normal_form v form xs ++ l) (sym (normal_form-nil v form))
-    parts-at xs (c ∷ cs) at = normal_form-parts v sound form xs c cs at
 
     pub read-start : (text : List ℕ) → IsUtf8 text → IsReadUpTo v form text text [] None 0 0
     read-start text utf8 = record { front = []; utf8 = utf8; shorter = omega arith; split = refl; composed = composed-start }
@@ -100,33 +94,15 @@ module _ (v : VersionData) where
           record {
             utf8 = a.utf8;
             shorter = a.shorter;
-            made = ap (normal_form v form) a.split ∙ parts-at a.front (chars rest) at ∙ ap (λ l. l ++ normal_form v form (chars rest)) (sym (made-form on a.front list starter kept read a.composed));
+            made = ap (normal_form v form) a.split ∙ parts-at v sound form a.front (chars rest) at ∙ ap (λ l. l ++ normal_form v form (chars rest)) (sym (made-form on a.front list starter kept read a.composed));
           }
 
-      pub read-whole : length rest ≡ 0 → IsFirstMade v form text rest list
-      read-whole none = read-at (subst (BeginsAtBoundary v form) (sym (ap chars (nil_from_length rest none) ∙ chars-nil)) tt)
+      -- `here` is the rest as a text
+      module _ (here : List ℕ) (is : here ≡ rest) where
+        pub read-whole : length rest ≡ 0 → IsFirstMade v form text here list
+        read-whole none =
+            subst (λ r. IsFirstMade v form text r list) (sym is) (read-at (subst (BeginsAtBoundary v form) (sym (ap chars (nil_from_length rest none) ∙ chars-nil)) tt))
 
-      pub read-boundary : (c : ℕ) (later : List ℕ) → rest ≡ encode_utf8 c ++ later → IsBoundary v form c → IsFirstMade v form text rest list
-      read-boundary c later begins at = read-at (subst (BeginsAtBoundary v form) (sym (chars_past_char rest later c a.utf8 begins)) at)
-
-  -- ---- what was written
-
-  module _ (form : Form) where
-    pub goes-made : (text rest list old new : List ℕ) → IsFirstMade v form text rest list → new ≡ old ++ encode_utf8_all list → GoesOn v form text rest old new
-    goes-made text rest list old new made push =
-        let after = normal_form v form (chars rest) in
-        record {
-          utf8 = made.utf8;
-          shorter = made.shorter;
-          written = ap (λ l. l ++ encode_utf8_all after) push ∙ append_assoc old (encode_utf8_all list) (encode_utf8_all after)
-              ∙ ap (λ l. old ++ l) (sym (encodes-append list after) ∙ ap encode_utf8_all (sym made.made));
-        }
-
-    pub goes-copied : (text stays rest old new : List ℕ) → IsCopied v form text stays rest → new ≡ old ++ stays → GoesOn v form text rest old new
-    goes-copied text stays rest old new copied push =
-        let after = encode_utf8_all (normal_form v form (chars rest)) in
-        record {
-          utf8 = copied.utf8;
-          shorter = omega (arith, ap length copied.parts, length-append stays rest);
-          written = ap (λ l. l ++ after) push ∙ append_assoc old stays after ∙ ap (λ l. old ++ l) (sym copied.copied);
-        }
+        pub read-boundary : (c : ℕ) (later : List ℕ) → rest ≡ encode_utf8 c ++ later → IsBoundary v form c → IsFirstMade v form text here list
+        read-boundary c later begins at =
+            subst (λ r. IsFirstMade v form text r list) (sym is) (read-at (subst (BeginsAtBoundary v form) (sym (chars_past_char rest later c a.utf8 begins)) at))

@@ -1,7 +1,7 @@
 -- Syllables written as the bytes of their jamo.
-use Rattle.std.proofs.Common.{◌≡◌, ℕ, ◌+◌, ◌-◌, ◌/◌, ◌%◌, ◌<◌, ◌≤◌, ◌≢◌, true, false, List, [], ◌∷◌, ◌++◌, length, get_or, chars, IsUtf8, encode_utf8_all, inl, inr, sym, ap, subst, ◌∙◌, arith, append_assoc, append-nil, length-append}
+use Rattle.std.proofs.Common.{◌≡◌, ℕ, ◌+◌, ◌-◌, ◌/◌, ◌%◌, ◌<◌, ◌≤◌, ◌≢◌, true, false, List, [], ◌∷◌, ◌++◌, length, get_or, chars, IsUtf8, encode_utf8_all, inl, inr, sym, ap, subst, ◌∙◌, arith, append-nil, length-append}
 use Rattle.std.proofs.lemmas.Bool.{cases_eq, cond-false, cond-true, le-ltb, lt-ltb}
-use Rattle.std.proofs.lemmas.Str.{chars_past_char, encodes-append, IsUtf8-past_char}
+use Rattle.std.proofs.lemmas.Str.{chars_past_char, IsUtf8-past_char}
 use Rattle.std.specs.Char.{encode_utf8}
 use lib.Utf8.{low_scalar, scalar}
 use Rattle.np_code_points.specs.Forms.{is_compat, composes}
@@ -11,7 +11,7 @@ use Rattle.np_code_points.proofs.HangulLemmas.{pair_of_lv, pair_of_lvt}
 use Rattle.np_forms.specs.inside.Copies.{GoesOn}
 use Rattle.np_forms.specs.inside.NormalForms.{normal_form}
 use Rattle.np_forms.specs.inside.Syllables.{syllable_parts}
-use Rattle.np_forms.proofs.DecomposedLemmas.{IsClosed, closed-nil, closed-starter, form-closed}
+use Rattle.np_forms.proofs.DecomposedLemmas.{IsClosed, closed-nil, closed-starter, form-closed, goes-made}
 use Rattle.np_forms.proofs.SyllableLemmas.{full_of-syllable, syllable_parts-two, syllable_parts-three}
 use Rattle.np_tables.proofs.HangulLemmas.{IsJamo, by_arithmetic, lv_shape, lvt_shape}
 use Rattle.np_tables.specs.Conditions.{IsSound}
@@ -101,13 +101,11 @@ module _ (v : VersionData) (on : has_hangul v ≡ true) where
 
   pub goes-syllable : (form : Form) → IsSound v → composes form ≡ false → (text later : List ℕ) (s : ℕ) (old new : List ℕ) → IsUtf8 text → text ≡ encode_utf8 s ++ later → is_syllable s ≡ true → new ≡ old ++ encode_utf8_all (syllable_parts s) → GoesOn v form text later old new
   goes-syllable form sound plain text later s old new utf8 begins h push =
-      let made = syllable_parts s in
-      let after = normal_form v form (chars later) in
-      record {
+      goes-made v form text later (syllable_parts s) old new
+      (record {
         utf8 = IsUtf8-past_char text later s utf8 begins;
         shorter = omega (arith, ap length begins, length-append (encode_utf8 s) later);
-        written = ap (λ l. l ++ encode_utf8_all after) push ∙ append_assoc old (encode_utf8_all made) (encode_utf8_all after)
-            ∙ ap (λ l. old ++ l) (sym (encodes-append made after)
-            ∙ ap encode_utf8_all (sym (form-closed v sound form plain (s ∷ []) made (chars later) (append-nil (full_of v (is_compat form) s) ∙ full_of-syllable v (is_compat form) sound on s h) (closed-parts s h))
-            ∙ ap (normal_form v form) (sym (chars_past_char text later s utf8 begins))));
-      }
+        made = ap (normal_form v form) (chars_past_char text later s utf8 begins)
+            ∙ form-closed v sound form plain (s ∷ []) (syllable_parts s) (chars later) (append-nil (full_of v (is_compat form) s) ∙ full_of-syllable v (is_compat form) sound on s h) (closed-parts s h);
+      })
+      push

@@ -3,14 +3,14 @@
 ghost use Rattle.std.specs.Prelude.{◌≡◌, ◌<◌, ◌++◌, ◌∷◌, [], List, ℕ, true, length, vec_len, string_bytes, IfOk, IfSome};
 ghost use Rattle.std.specs.Option.{ForSome};
 ghost use Rattle.np_code_points.specs.Forms.{composes};
-ghost use Rattle.np_forms.specs.inside.Composers.{pair_with_last};
 ghost use Rattle.np_forms.specs.inside.Copies.{GoesOn};
 ghost use Rattle.np_forms.specs.inside.Segments.{IsComposedOf, IsFirstMade};
 ghost use Rattle.np_tables.specs.Conditions.{IsSound};
-ghost use Rattle.np_tables.specs.Versions.{class_of};
 ghost use Rattle.np_tables.specs.inside.FullDecompositions.{full_of};
 
-use crate::copying::{split_segment, write_segment};
+use crate::composing::pair_with_last;
+use crate::copying::write_next;
+use crate::ordering::may_follow;
 use crate::written::append_chars;
 use np_code_points::hangul::is_syllable;
 use np_code_points::{Form, Memory};
@@ -35,33 +35,9 @@ const EMPTY: Composed = Composed {
     read: 0,
 };
 
-/// The place of the last starter of a list and its composite with `d`, where `d` is not blocked from
-/// it.
-#[inline(always)]
-#[tactic(auto, unfolding(crate::specs::inside::Composers::pair_with_last))]
-fn pair_behind<T: NormTable>(
-    table: &T,
-    list: &[char],
-    composed: Composed,
-    d: char,
-    class: u8,
-) -> Option<(usize, char)>
-    requires class { class ≡ class_of (T.model table.now) d }
-    requires in_range { ForSome composed.starter (λ q. q < length list.now) }
-    ensures pair { result ≡ pair_with_last (T.model table.now) list.now composed.starter composed.kept d }
-    ensures in_range { IfSome result (λ found. found.0 < length list.now) }
-{
-    let q = composed.starter?;
-    if composed.kept == 0 || composed.kept < class {
-        let p = table.pair(list[q], d)?;
-        Some((q, p))
-    } else {
-        None
-    }
-}
-
 /// Takes in the next code point of a full decomposition, and tells whether that is in canonical
-/// order so far.
+/// order so far. What was composed grows in its own list, and so needs room; `composing` takes in
+/// what stands in the same list, and needs none.
 #[inline(always)]
 fn take_in_order<T: NormTable>(
     table: &T,
@@ -76,11 +52,11 @@ fn take_in_order<T: NormTable>(
         IsComposedOf (T.model table.now) (done ++ d ∷ []) list.new.items composed.new.starter composed.new.kept composed.new.read) }
 {
     let class = table.class(d);
-    if class != 0 && class < composed.read {
+    if !may_follow(composed.read, class) {
         return Ok(false);
     }
     composed.read = class;
-    if let Some((q, p)) = pair_behind(table, list, *composed, d, class) {
+    if let Some((q, p)) = pair_with_last(table, list, composed.starter, composed.kept, d, class) {
         list[q] = p;
         return Ok(true);
     }
@@ -173,7 +149,5 @@ pub(crate) fn write_first<'a, T: NormTable>(
         append_chars(out, list)?;
         return Ok(rest);
     }
-    let (segment, later) = split_segment(table, form, text);
-    write_segment(alloc, table, form, segment, list, out)?;
-    Ok(later)
+    write_next(alloc, table, form, text, list, out)
 }

@@ -1,5 +1,5 @@
 //! Canonical composition in one pass (The Unicode Standard, D117).
-ghost use Rattle.std.specs.Prelude.{◌≡◌, ◌<◌, ◌≤◌, ◌+◌, ℕ, List, true, take, drop, vec_len, IfSome};
+ghost use Rattle.std.specs.Prelude.{◌≡◌, ◌<◌, ◌≤◌, ◌+◌, ℕ, List, true, length, take, drop, vec_len, IfSome};
 ghost use Rattle.std.specs.Option.{ForSome};
 ghost use Rattle.np_forms.specs.inside.Composers.{IsComposing, pair_with_last as pair_found};
 ghost use Rattle.np_forms.specs.inside.Composing.{compose_of};
@@ -21,21 +21,27 @@ struct Composer {
     ghost in_range: { ForSome starter (λ q. q < kept) },
 }
 
-/// The place of the last starter and its composite with `c`, where `c` is not blocked from it.
+/// The place of the last starter of a list and its composite with `c`, where `c` is not blocked from
+/// it: the last code point that was kept behind the starter has the class `last`, 0 where there is
+/// none.
+#[inline(always)]
 #[tactic(auto, unfolding(crate::specs::inside::Composers::pair_with_last))]
-fn pair_with_last<T: NormTable>(
-    composer: &Composer,
+pub(crate) fn pair_with_last<T: NormTable>(
     table: &T,
+    list: &[char],
+    starter: Option<usize>,
+    last: u8,
     c: char,
     class: u8,
 ) -> Option<(usize, char)>
-    requires { class ≡ class_of (T.model table.now) c }
-    ensures pair { result ≡ pair_found (T.model table.now) (take composer.now.kept composer.now.list.items) composer.now.starter composer.now.last c }
-    ensures in_range { IfSome result (λ found. found.0 < composer.now.kept) }
+    requires class { class ≡ class_of (T.model table.now) c }
+    requires in_range { ForSome starter (λ q. q < length list.now) }
+    ensures pair { result ≡ pair_found (T.model table.now) list.now starter last c }
+    ensures in_range { IfSome result (λ found. found.0 < length list.now) }
 {
-    let q = composer.starter?;
-    if composer.last == 0 || composer.last < class {
-        let p = table.pair(composer.list[q], c)?;
+    let q = starter?;
+    if last == 0 || last < class {
+        let p = table.pair(list[q], c)?;
         Some((q, p))
     } else {
         None
@@ -54,7 +60,8 @@ fn take_in<T: NormTable>(composer: &mut Composer, table: &T, at: usize)
 {
     let c = composer.list[at];
     let class = table.class(c);
-    if let Some((q, p)) = pair_with_last(composer, table, c, class) {
+    let done = &composer.list[..composer.kept];
+    if let Some((q, p)) = pair_with_last(table, done, composer.starter, composer.last, c, class) {
         composer.list[q] = p;
         return;
     }

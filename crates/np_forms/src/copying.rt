@@ -1,7 +1,7 @@
 //! The form of a whole text, in which what stays is copied, and what is left goes segment by segment
 //! through decomposition, ordering and composition (UAX #15, section 9.1).
-ghost use Rattle.std.specs.Prelude.{◌≡◌, ◌<◌, ◌⊎◌, ◌++◌, [], length, chars, string_bytes, encode_utf8_all, IsUtf8, OnOk};
-ghost use Rattle.np_forms.specs.inside.Copies.{BeginsAtBoundary, IsCopied, IsParted};
+ghost use Rattle.std.specs.Prelude.{◌≡◌, ◌<◌, ◌⊎◌, ◌++◌, [], length, chars, string_bytes, encode_utf8_all, IsTrue, IsUtf8, IfOk, OnOk};
+ghost use Rattle.np_forms.specs.inside.Copies.{BeginsAtBoundary, GoesOn, IsCopied, IsParted};
 ghost use Rattle.np_forms.specs.inside.NormalForms.{normal_form};
 
 use crate::composed_texts::write_first;
@@ -12,6 +12,17 @@ use crate::written::append_chars;
 use np_code_points::{Form, Memory};
 use np_tables::NormTable;
 use std::alloc::Global;
+
+/// Whether the form is known to part before a text: it is empty, or begins with a boundary.
+#[inline(always)]
+pub(crate) fn begins_at_boundary<T: NormTable>(table: &T, form: Form, text: &str) -> bool
+    ensures { IsTrue result → BeginsAtBoundary (T.model table.now) form (chars text.now) }
+{
+    match text.chars().next() {
+        Some(c) => table.is_boundary(form, c),
+        None => true,
+    }
+}
 
 /// Cuts off the longest front that is known to stand in the form as it is. It is made part of each
 /// loop that calls it, so that what the form asks is looked up once.
@@ -25,16 +36,12 @@ pub(crate) fn split_standing<'a, T: NormTable>(
 {
     table.meets_conditions();
     let (front, back) = text.split_at(table.standing(form, text));
-    let mut behind = back.chars();
-    match behind.next() {
-        None => (front, back),
-        Some(next) if table.is_boundary(form, next) => (front, back),
-        Some(_) => {
-            // what may change begins at the last boundary
-            let (before, _last) = split_tail(table, form, front);
-            text.split_at(before.len())
-        }
+    if begins_at_boundary(table, form, back) {
+        return (front, back);
     }
+    // what may change begins at the last boundary
+    let (before, _last) = split_tail(table, form, front);
+    text.split_at(before.len())
 }
 
 /// Cuts before the first code point behind the first one at which the form is known to part. It too
@@ -125,6 +132,24 @@ pub(crate) fn write_segment<T: NormTable>(
     decompose_into(table, form.compat(), segment, list)?;
     settle(alloc, table, form.composes(), list)?;
     append_chars(out, list)
+}
+
+/// Appends the form of the first segment of a text, and answers what follows it. The list is room
+/// that is used again.
+pub(crate) fn write_next<'a, T: NormTable>(
+    alloc: Global,
+    table: &T,
+    form: Form,
+    text: &'a str,
+    list: &mut Vec<char>,
+    out: &mut String,
+) -> Result<&'a str, Memory>
+    ensures goes { IfOk result (λ rest. GoesOn (T.model table.now) form text.now rest.now (string_bytes out.old) (string_bytes out.new)) }
+    ensures shorter { IfOk result (λ rest. 0 < length text.now → length rest.now < length text.now) }
+{
+    let (segment, later) = split_segment(table, form, text);
+    write_segment(alloc, table, form, segment, list, out)?;
+    Ok(later)
 }
 
 /// Appends the form of a text: what is known to stay is copied, and each segment of what is left is

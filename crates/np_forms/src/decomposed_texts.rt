@@ -8,10 +8,10 @@ ghost use Rattle.np_forms.specs.inside.Copies.{GoesOn};
 ghost use Rattle.np_forms.specs.inside.NormalForms.{normal_form};
 ghost use Rattle.np_tables.specs.Versions.{class_of};
 
-use crate::copying::{split_segment, split_standing, write_segment};
+use crate::copying::{begins_at_boundary, split_standing, write_next};
+use crate::ordering::may_follow;
 use crate::syllable_texts::write_syllables;
 use crate::written::append_chars;
-use np_code_points::hangul::is_syllable;
 use np_code_points::{Form, Memory};
 use np_tables::NormTable;
 use std::alloc::Global;
@@ -38,7 +38,7 @@ fn are_ordered<T: NormTable>(table: &T, list: &[char]) -> bool
     let mut last = 0;
     for c in list {
         let class = table.class(*c);
-        if class != 0 && class < last {
+        if !may_follow(last, class) {
             return false;
         }
         last = class;
@@ -46,38 +46,33 @@ fn are_ordered<T: NormTable>(table: &T, list: &[char]) -> bool
     true
 }
 
-/// Appends the form of a segment of one code point, and tells whether it was that.
-fn write_one<T: NormTable>(
+/// Appends the form of the first code point of a text where that has a mapping and a boundary
+/// follows, or of the syllables that stand there, and answers what follows: all of the text where it
+/// begins with neither.
+fn write_mapped<'a, T: NormTable>(
     table: &T,
     form: Form,
-    segment: &str,
+    text: &'a str,
     out: &mut String,
-) -> Result<bool, Memory>
+) -> Result<&'a str, Memory>
     requires { composes form ≡ false }
-    ensures one { IfOk result (λ one. one ≡ true → string_bytes out.new ≡ string_bytes out.old ++ encode_utf8_all (normal_form (T.model table.now) form (chars segment.now))) }
-    ensures other { IfOk result (λ one. one ≡ false → string_bytes out.new ≡ string_bytes out.old) }
+    ensures { IfOk result (λ rest. GoesOn (T.model table.now) form text.now rest.now (string_bytes out.old) (string_bytes out.new)) }
 {
     table.meets_conditions();
-    let mut iter = segment.chars();
+    let mut iter = text.chars();
     let Some(c) = iter.next() else {
-        return Ok(false);
+        return Ok(text);
     };
-    if !iter.as_str().is_empty() {
-        return Ok(false);
-    }
     let full = table.full(c, form.compat());
     if full.is_empty() {
-        if is_syllable(c as u32) {
-            return Ok(false);
-        }
-        out.push_str(segment)?;
-        return Ok(true);
+        return write_syllables(table, form, text, out);
     }
-    if !are_ordered(table, full) {
-        return Ok(false);
+    let later = iter.as_str();
+    if !begins_at_boundary(table, form, later) || !are_ordered(table, full) {
+        return Ok(text);
     }
     append_chars(out, full)?;
-    Ok(true)
+    Ok(later)
 }
 
 /// Appends the form of some front of a text that isn't empty, and answers what follows it.
@@ -95,14 +90,11 @@ fn write_front<'a, T: NormTable>(
     ensures shorter { IfOk result (λ rest. length rest.now < length text.now) }
 {
     let behind = copy_standing(table, form, text, out)?;
-    let after = write_syllables(table, form, behind, out)?;
+    let after = write_mapped(table, form, behind, out)?;
     if after.is_empty() || after.len() < behind.len() {
         return Ok(after);
     }
-    let (segment, later) = split_segment(table, form, after);
-    if !write_one(table, form, segment, out)? {
-        write_segment(alloc, table, form, segment, list, out)?;
-    }
+    let later = write_next(alloc, table, form, after, list, out)?;
     Ok(later)
 }
 

@@ -3,7 +3,7 @@ ghost use Rattle.std.specs.Prelude.{◌≡◌, ◌↔◌, false, IsTrue, chars, 
 ghost use Rattle.np_code_points.specs.Forms.{composes, is_compat};
 ghost use Rattle.np_forms.specs.Forms.{IsEquivalent};
 
-use crate::pieces::have_same_form;
+use crate::pieces::{are_same, have_same_form};
 use np_code_points::{Form, Memory};
 use np_tables::NormTable;
 use std::alloc::Global;
@@ -14,13 +14,6 @@ fn decomposing_form(compat: bool) -> Form
     ensures decomposes { composes result ≡ false }
 {
     if compat { Form::Nfkd } else { Form::Nfd }
-}
-
-/// Whether two texts have the same bytes.
-fn are_same(left: &str, right: &str) -> bool
-    ensures { IsTrue result ↔ (left.now ≡ right.now) }
-{
-    left == right
 }
 
 /// Whether two texts are equivalent: compatible where `compat`, else canonical equivalents. Takes
@@ -39,7 +32,7 @@ pub fn equivalent<T: NormTable>(
     ensures { IfOk result (λ b. IsTrue b ↔ IsEquivalent (T.model table.now) compat (chars left.now) (chars right.now)) }
 {
     table.meets_conditions();
-    if are_same(left, right) {
+    if are_same(left.as_bytes(), right.as_bytes()) {
         return Ok(true);
     }
     have_same_form(alloc, table, decomposing_form(compat), left, right)

@@ -1,5 +1,5 @@
 //! Canonical ordering (The Unicode Standard, D109).
-ghost use Rattle.std.specs.Prelude.{◌≡◌, ◌≤◌, ◌<◌, ◌++◌, true, length, take, drop, slice_index, IfOk, OnOk, OnErr};
+ghost use Rattle.std.specs.Prelude.{◌≡◌, ◌≤◌, ◌<◌, ◌⊎◌, ◌++◌, true, length, take, drop, slice_index, IsTrue, IfOk, OnOk, OnErr};
 ghost use Rattle.std.specs.List.{list_all};
 ghost use Rattle.np_forms.specs.Starters.{is_non_starter};
 ghost use Rattle.np_forms.specs.Order.{is_ordered};
@@ -8,6 +8,14 @@ ghost use Rattle.np_tables.specs.Versions.{class_of};
 
 use np_tables::NormTable;
 use std::alloc::{AllocError, Global};
+
+/// Whether a code point of this class may stand behind one of the class `last` in canonical order.
+#[inline(always)]
+pub(crate) fn may_follow(last: u8, class: u8) -> bool
+    ensures { IsTrue result → (class ≡ 0) ⊎ (last ≤ class) }
+{
+    class == 0 || last <= class
+}
 
 /// How many non-starters stand at the front, and whether they are in canonical order already.
 fn non_starters_at_front<T: NormTable>(table: &T, list: &[char]) -> (usize, bool)

@@ -101,8 +101,8 @@ fn are_both_empty(left: &[u8], right: &[u8]) -> bool
     left.is_empty() && right.is_empty()
 }
 
-/// Whether two parts of texts are the same.
-fn are_same(left: &[u8], right: &[u8]) -> bool
+/// Whether bytes are the same.
+pub(crate) fn are_same(left: &[u8], right: &[u8]) -> bool
     ensures { IsTrue result ↔ (left.now ≡ right.now) }
 {
     left == right

@@ -1,7 +1,7 @@
-use Rattle.std.proofs.Common.{List, ℕ, length, None, ◌++◌, sym, ap, subst, ◌∙◌}
+use Rattle.std.proofs.Common.{List, ℕ, None, ◌++◌, sym, subst}
 use Rattle.std.specs.Str.Iter.{chars_rest}
 use Rattle.np_tables.specs.inside.FullDecompositions.{full_of}
-use Rattle.np_forms.specs.inside.Segments.{IsComposedOf, IsFirstMade, IsReadUpTo}
+use Rattle.np_forms.specs.inside.Segments.{IsComposedOf, IsReadUpTo}
 use Rattle.np_forms.proofs.SegmentLemmas.{read-start, read-more, read-whole, read-boundary}
 use Rattle.np_forms.proofs.composed_texts.compose_first.Goals as goal
 
@@ -32,20 +32,12 @@ scan-preserved g c =
 
 pub returns-in_default-clause-made : goal.returns-in_default-clause-made
 returns-in_default-clause-made g c =
-    let v = g.T.NormTable.model c.args.table.now in
-    let form = c.args.form in
-    let text = c.args.text.now in
-    let list = c.scan.list.items in
     let old = c.scan.composed in
-    subst (λ (r : List ℕ). IsFirstMade v form text r list) (sym c.as_str-here.ensures)
-    (read-whole v c.meets_conditions.ensures form c.requires text (chars_rest c.scan.iter) list old.starter old.kept old.read c.scan.invariant.0 c.in_default.ensures.steps.0.0)
+    read-whole (g.T.NormTable.model c.args.table.now) c.meets_conditions.ensures c.args.form c.requires c.args.text.now (chars_rest c.scan.iter) c.scan.list.items old.starter old.kept old.read c.scan.invariant.0
+    c.as_str-here.result.now c.as_str-here.ensures c.in_default.ensures.steps.0.0
 
 pub returns-then-is_boundary-clause-made : goal.returns-then-is_boundary-clause-made
 returns-then-is_boundary-clause-made g c =
-    let v = g.T.NormTable.model c.args.table.now in
-    let form = c.args.form in
-    let text = c.args.text.now in
-    let list = c.scan.list.items in
     let old = c.scan.composed in
-    subst (λ (r : List ℕ). IsFirstMade v form text r list) (sym c.as_str-here.ensures)
-    (read-boundary v c.meets_conditions.ensures form c.requires text (chars_rest c.scan.iter) list old.starter old.kept old.read c.scan.invariant.0 c.in-Some.c _ c.in-Some.ensures.steps.0 (c.is_boundary.ensures c.if-is_boundary.true))
+    read-boundary (g.T.NormTable.model c.args.table.now) c.meets_conditions.ensures c.args.form c.requires c.args.text.now (chars_rest c.scan.iter) c.scan.list.items old.starter old.kept old.read c.scan.invariant.0
+    c.as_str-here.result.now c.as_str-here.ensures c.in-Some.c _ c.in-Some.ensures.steps.0 (c.is_boundary.ensures c.if-is_boundary.true)

@@ -1,4 +1,4 @@
-use Rattle.std.proofs.Common.{◌≡◌, ◌<◌, List, ℕ, ◌++◌, take, length}
+use Rattle.std.proofs.Common.{◌<◌, List, ℕ, ◌++◌, take, length}
 use Rattle.std.specs.Option.{ForSome}
 use Rattle.np_forms.specs.inside.Segments.{IsComposedOf}
 use Rattle.np_forms.proofs.composed_texts.take_in_full.Given as goal

@@ -1,8 +1,7 @@
 use Rattle.std.proofs.Common.{List, ℕ, ◌++◌, Option, IfSome, string_bytes, encode_utf8_all, ap, subst, ◌∙◌}
 use denote.Ref.{Bor}
 use Rattle.np_forms.specs.inside.Segments.{IsFirstMade}
-use Rattle.np_forms.proofs.DecomposedLemmas.{goes-parted}
-use Rattle.np_forms.proofs.SegmentLemmas.{goes-made}
+use Rattle.np_forms.proofs.DecomposedLemmas.{goes-made}
 use Rattle.np_forms.proofs.composed_texts.write_first.Goals as goal
 
 pub returns-in-Some-clause-goes : goal.returns-in-Some-clause-goes
@@ -15,8 +14,3 @@ returns-in-Some-clause-goes g c =
     goes-made v form text c.in-Some.rest.now list before (string_bytes c.append_chars.new.out)
     (subst (λ (o : Option (Bor (List ℕ))). IfSome o (λ (r : Bor (List ℕ)). IsFirstMade v form text r.now list)) c.in-Some.is c.in_ok-rest.ensures.made)
     (c.in_ok-append_chars.ensures ∙ ap (λ (l : List ℕ). before ++ encode_utf8_all l) c.deref.ensures.value)
-
-pub returns-clause-goes : goal.returns-clause-goes
-returns-clause-goes g c =
-    goes-parted (g.T.NormTable.model c.args.table.now) c.args.form c.args.text.now c.split_segment.result.0.now c.split_segment.result.1.now (string_bytes c.args.out.now) (string_bytes c.write_segment.new.out)
-    c.split_segment.ensures.parted c.in_ok-write_segment.ensures

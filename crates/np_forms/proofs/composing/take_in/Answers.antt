@@ -1,20 +1,33 @@
-use Rattle.std.proofs.Common.{sym, ◌∙◌, arith}
+use Rattle.std.proofs.Common.{◌<◌, take, length, sym, ap, ◌∙◌, arith}
+use Rattle.std.proofs.lemmas.List.{length-take-le}
+use Rattle.np_forms.specs.inside.Composers.{pair_with_last}
 use Rattle.np_forms.proofs.InPlaceLemmas.{in_place_joins, in_place_starts, in_place_keeps}
 use Rattle.np_forms.proofs.composing.take_in.Goals as goal
 
 pub returns-in-Some-clause-composing : goal.returns-in-Some-clause-composing
 returns-in-Some-clause-composing g c = λ whole a.
-    in_place_joins (g.T.NormTable.model c.args.table.now) whole c.args.composer.now.list.items c.args.composer.now.kept c.args.at c.index-c.result.now c.args.composer.now.starter c.args.composer.now.last
-    c.requires.kept (omega (arith, c.requires.place)) c.index-c.ensures c.in-Some.q c.in-Some.p c.in-Some.ensures.in_range (sym c.pair_with_last.ensures.pair ∙ c.in-Some.is) a
+    let v = g.T.NormTable.model c.args.table.now in
+    let old = c.args.composer.now in
+    let list = c.deref.result.now in
+    let low : c.in-Some.q < old.kept = omega (arith, c.in-Some.ensures.in_range, length-take-le old.kept list (omega (arith, ap length c.deref.ensures.value, c.requires.kept, c.requires.place))) in
+    in_place_joins v whole old.list.items old.kept c.args.at c.index-c.result.now old.starter old.last
+    c.requires.kept (omega (arith, c.requires.place)) c.index-c.ensures c.in-Some.q c.in-Some.p low
+    (ap (λ l. pair_with_last v (take old.kept l) old.starter old.last c.index-c.result.now) (sym c.deref.ensures.value) ∙ sym c.pair_with_last.ensures.pair ∙ c.in-Some.is) a
 
 pub returns-then-class-eq0-clause-composing : goal.returns-then-class-eq0-clause-composing
 returns-then-class-eq0-clause-composing g c = λ whole a.
-    let step = in_place_starts (g.T.NormTable.model c.args.table.now) whole c.args.composer.now.list.items c.args.composer.now.kept c.args.at c.index-c.result.now c.args.composer.now.starter c.args.composer.now.last
-    c.requires.kept (omega (arith, c.requires.place)) c.index-c.ensures (sym c.pair_with_last.ensures.pair ∙ c.in_default.is) (sym c.class-class.ensures ∙ c.if-class-eq0.true) a in
+    let v = g.T.NormTable.model c.args.table.now in
+    let old = c.args.composer.now in
+    let none = ap (λ l. pair_with_last v (take old.kept l) old.starter old.last c.index-c.result.now) (sym c.deref.ensures.value) ∙ sym c.pair_with_last.ensures.pair ∙ c.in_default.is in
+    let step = in_place_starts v whole old.list.items old.kept c.args.at c.index-c.result.now old.starter old.last
+    c.requires.kept (omega (arith, c.requires.place)) c.index-c.ensures none (sym c.class-class.ensures ∙ c.if-class-eq0.true) a in
     rw (c.if-class-eq0.true) step
 
 pub returns-else-class-eq0-clause-composing : goal.returns-else-class-eq0-clause-composing
 returns-else-class-eq0-clause-composing g c = λ whole a.
-    let step = in_place_keeps (g.T.NormTable.model c.args.table.now) whole c.args.composer.now.list.items c.args.composer.now.kept c.args.at c.index-c.result.now c.args.composer.now.starter c.args.composer.now.last
-    c.requires.kept (omega (arith, c.requires.place)) c.index-c.ensures (sym c.pair_with_last.ensures.pair ∙ c.in_default.is) (omega (arith, c.class-class.ensures, c.if-class-eq0.false)) a in
+    let v = g.T.NormTable.model c.args.table.now in
+    let old = c.args.composer.now in
+    let none = ap (λ l. pair_with_last v (take old.kept l) old.starter old.last c.index-c.result.now) (sym c.deref.ensures.value) ∙ sym c.pair_with_last.ensures.pair ∙ c.in_default.is in
+    let step = in_place_keeps v whole old.list.items old.kept c.args.at c.index-c.result.now old.starter old.last
+    c.requires.kept (omega (arith, c.requires.place)) c.index-c.ensures none (omega (arith, c.class-class.ensures, c.if-class-eq0.false)) a in
     rw (c.class-class.ensures) step

@@ -1,7 +1,6 @@
 use Rattle.std.proofs.Common.{rules, string_bytes}
 use Rattle.np_forms.proofs.CopyLemmas.{form-end}
-use Rattle.np_forms.proofs.DecomposedLemmas.{goes-both, goes-start}
-use Rattle.np_forms.proofs.SegmentLemmas.{goes-copied}
+use Rattle.np_forms.proofs.DecomposedLemmas.{goes-both, goes-copied, goes-start}
 use Rattle.np_forms.proofs.copying.write_form.Goals as goal
 
 pub segments-init : goal.segments-init

@@ -1,4 +1,4 @@
-use Rattle.std.proofs.Common.{◌↔◌, IsTrue, chars}
+use Rattle.std.proofs.Common.{◌↔◌, IsTrue, chars, sym, ◌∙◌}
 use Rattle.std.proofs.lemmas.Result.{IfOk-weaker}
 use Rattle.np_forms.specs.Forms.{IsEquivalent}
 use Rattle.np_forms.proofs.PieceLemmas.{IsEquivalent-same, IsEquivalent-forms}
@@ -6,7 +6,7 @@ use Rattle.np_forms.proofs.equivalence.equivalent.Goals as goal
 
 pub returns-then-are_same : goal.returns-then-are_same
 returns-then-are_same g c =
-    IsEquivalent-same (g.T.NormTable.model c.args.table.now) c.meets_conditions.ensures c.args.compat c.args.left.now c.args.right.now (c.are_same.ensures.0 c.if-are_same.true)
+    IsEquivalent-same (g.T.NormTable.model c.args.table.now) c.meets_conditions.ensures c.args.compat c.args.left.now c.args.right.now (sym c.as_bytes.ensures.value ∙ c.are_same.ensures.0 c.if-are_same.true ∙ c.as_bytes-2.ensures.value)
 
 pub returns : goal.returns
 returns g c =
