@@ -87,14 +87,12 @@ fn before(bytes: &[u8], byte: u8) -> usize
     before_by_steps(bytes, at, byte)
 }
 
-/// What stands before the place of the first such byte, and what stands behind it where there is
-/// one.
-fn cut_at(bytes: &[u8], byte: u8, at: usize) -> (&[u8], Option<&[u8]>)
-    requires { at ≡ prefix_len (is_other byte) bytes.now }
-    ensures before { result.0.now ≡ before_byte byte bytes.now }
-    ensures after { option_map (λ rest. rest.now) result.1 ≡ after_byte byte bytes.now }
+/// What stands before a place, and what stands behind it where there is one: the first place of a
+/// byte, or the end where there is none.
+fn cut_at(bytes: &[u8], at: usize) -> (&[u8], Option<&[u8]>)
+    ensures before { (byte : ℕ) → at ≡ prefix_len (is_other byte) bytes.now → result.0.now ≡ before_byte byte bytes.now }
+    ensures after { (byte : ℕ) → at ≡ prefix_len (is_other byte) bytes.now → option_map (λ rest. rest.now) result.1 ≡ after_byte byte bytes.now }
 {
-    let _unused = byte;
     if at < bytes.len() {
         (&bytes[..at], Some(&bytes[at + 1..]))
     } else {
@@ -108,7 +106,7 @@ pub fn cut(bytes: &[u8], byte: u8) -> (&[u8], Option<&[u8]>)
     ensures before { result.0.now ≡ before_byte byte bytes.now }
     ensures after { option_map (λ rest. rest.now) result.1 ≡ after_byte byte bytes.now }
 {
-    cut_at(bytes, byte, before(bytes, byte))
+    cut_at(bytes, before(bytes, byte))
 }
 
 /// The same. It looks at one byte after the other, which is quicker than steps of many where few
@@ -117,7 +115,7 @@ pub fn cut_short(bytes: &[u8], byte: u8) -> (&[u8], Option<&[u8]>)
     ensures before { result.0.now ≡ before_byte byte bytes.now }
     ensures after { option_map (λ rest. rest.now) result.1 ≡ after_byte byte bytes.now }
 {
-    cut_at(bytes, byte, before_from(bytes, 0, byte))
+    cut_at(bytes, before_from(bytes, 0, byte))
 }
 
 /// How many of the `STEP` bytes from a place on, but for the first `skipped`, are this byte.

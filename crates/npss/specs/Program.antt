@@ -23,18 +23,14 @@ JobEnds (Normalize form files) input output error status = (readers : TextReader
 JobEnds (Key form files) input output error status = (readers : TextReaders) × (readers.input ≡ input) × KeyEnds form readers output error status
 JobEnds (Compare form files) input output error status = (readers : TextReaders) × (readers.input ≡ input) × CompareEnds form readers output error status
 JobEnds (Audit old new) input output error status = (readers : List VersionReaders) × (length readers ≡ 2) × AuditEnds readers output error status
-JobEnds (Replay form schedule_file version_files) input output error status =
-    (readers : ReplayReaders) × (length readers.versions ≡ vec_len version_files) × ReplayEnds form readers output error status
+JobEnds (Replay form schedule_file version_files) input output error status = (readers : ReplayReaders) × (length readers.versions ≡ vec_len version_files) × ReplayEnds form readers output error status
 
--- nothing is run: the words ask for nothing that there is, one of the files can't be opened, or memory ran out
-abbrev pub IsNotRun : List Text → Stream → ℕ → Type 0
-IsNotRun words error status =
-    ((asked_by words ≡ None) × IsTold error usage_lines × (status ≡ 2))
-    ⊎ (((job : Job) × (asked_by words ≡ Some (asked_of job)) × IsUnopened (asked_of job).files error status)
-    ⊎ IsRefused Memory error status)
+-- no job is asked for: the words ask for nothing that there is, or memory ran out
+abbrev pub IsNotAsked : List Text → Stream → ℕ → Type 0
+IsNotAsked words error status = ((asked_by words ≡ None) × IsTold error usage_lines × (status ≡ 2)) ⊎ IsRefused Memory error status
 
--- the job is run that the words ask for; or nothing is, and nothing written
+-- the job is run that the words ask for; or one of its files can't be opened, or none is asked for, and nothing is written
 abbrev pub ProgramEnds : List Text → Stream → Stream → Stream → ℕ → Type 0
 ProgramEnds words input output error status =
-    ((job : Job) × (asked_by words ≡ Some (asked_of job)) × JobEnds job input output error status)
-    ⊎ ((output.after ≡ output.before) × IsNotRun words error status)
+    ((job : Job) × (asked_by words ≡ Some (asked_of job)) × (JobEnds job input output error status ⊎ (IsUnopened (asked_of job).files error status × (output.after ≡ output.before))))
+    ⊎ (IsNotAsked words error status × (output.after ≡ output.before))
