@@ -17,9 +17,6 @@ same_text xs ys h = (bytes_eq-Decides xs ys).0 h
 test_text : (xs ys : List ℕ) → xs ≡ ys → bytes_eq xs ys ≡ true
 test_text xs ys h = (bytes_eq-Decides xs ys).1 h
 
-kept-first : (e : Entry) (es : List Entry) → IsKept (e ∷ es) e.string
-kept-first e es = (0, omega arith, refl)
-
 kept-later : (e : Entry) (es : List Entry) (s : List ℕ) → IsKept es s → IsKept (e ∷ es) s
 kept-later e es s (k, lt, is) = (suc k, omega (arith, lt), is)
 

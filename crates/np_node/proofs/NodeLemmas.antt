@@ -1,5 +1,5 @@
 -- What holds of a node as strings come to it, and along an extension.
-use Rattle.std.proofs.Common.{◌≡◌, ◌≢◌, ℕ, zero, suc, ◌+◌, ◌<◌, List, [], ◌∷◌, ◌++◌, length, map, take, slice_get, Some, get_or, All, AllPairs, Contains, Bool, true, false, true≢false, IsTrue, ◌↔◌, Result, Ok, Err, OnOk, OnErr, refl, sym, ap, subst, ◌∙◌, arith, length-append}
+use Rattle.std.proofs.Common.{◌≡◌, ◌≢◌, ℕ, zero, suc, ◌+◌, ◌<◌, List, [], ◌∷◌, ◌++◌, length, take, slice_get, Some, get_or, All, AllPairs, Contains, Bool, true, false, true≢false, IsTrue, ◌↔◌, Result, Ok, Err, OnOk, OnErr, refl, sym, ap, subst, ◌∙◌, arith, length-append}
 use Rattle.std.proofs.lemmas.List.Elements.{All-push, All-weaker, All-head, All-tail}
 use Rattle.std.proofs.lemmas.List.Quantifiers.{all_pairs_push}
 use Rattle.np_chain.specs.Chain.{Extends}
@@ -17,15 +17,6 @@ use Rattle.np_tables.specs.Versions.{VersionData}
 
 -- ---- elements
 
-length-map : {A B : Type 0} (f : A → B) (xs : List A) → length (map f xs) ≡ length xs
-length-map f [] = refl
-length-map f (x ∷ xs) = ap suc (length-map f xs)
-
-get-map : {A B : Type 0} (f : A → B) (xs : List A) (k : ℕ) (d : A) (e : B) → k < length xs → get_or (map f xs) k e ≡ f (get_or xs k d)
-get-map f [] k d e lt = absurd (omega arith)
-get-map f (x ∷ xs) zero d e lt = refl
-get-map f (x ∷ xs) (suc k) d e lt = get-map f xs k d e (omega arith)
-
 get_or-any : {A : Type 0} (xs : List A) (k : ℕ) (d e : A) → k < length xs → get_or xs k d ≡ get_or xs k e
 get_or-any [] k d e lt = absurd (omega arith)
 get_or-any (x ∷ xs) zero d e lt = refl
@@ -34,21 +25,6 @@ get_or-any (x ∷ xs) (suc k) d e lt = get_or-any xs k d e (omega arith)
 -- what holds of each element holds of one that the list contains
 pub All-Contains : {A : Type 0} (P : A → Type 0) (xs : List A) (x : A) → All P xs → Contains xs x → P x
 All-Contains P xs x all (k, lt, is) = subst P is (all k x lt)
-
--- the string of an entry is kept
-pub kept-entry : (es : List Entry) (e : Entry) → Contains es e → IsKept es e.string
-kept-entry es e (k, lt, is) =
-    (k, omega (arith, length-map (λ (x : Entry). x.string) es), get-map (λ (x : Entry). x.string) es k e e.string lt ∙ ap (λ (x : Entry). x.string) is)
-
--- a kept string is that of an entry
-pub entry-kept : (es : List Entry) (string : List ℕ) → IsKept es string → (key : List ℕ) × Contains es (record { string = string; key = key })
-entry-kept es string (k, lt, is) =
-    let none : Entry = record { string = string; key = [] } in
-    let within : k < length es = omega (arith, length-map (λ (x : Entry). x.string) es) in
-    let at = get_or es k none in
-    let named : at.string ≡ string = sym (get-map (λ (x : Entry). x.string) es k none string within) ∙ is in
-    let whole : at ≡ record { string = string; key = at.key } = (λ i. record { string = named i; key = at.key }) in
-    (at.key, (k, within, get_or-any es k _ none within ∙ whole))
 
 -- ---- one more entry
 

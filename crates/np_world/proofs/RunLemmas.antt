@@ -9,7 +9,7 @@ use Rattle.np_node.specs.Nodes.{NodeState}
 use Rattle.np_tables.specs.Versions.{VersionData}
 use Rattle.np_code_points.specs.declared.forms.Form.{Form}
 use Rattle.np_world.specs.Events.{Event, ScheduleData, node_of}
-use Rattle.np_world.specs.Schedules.{IsStandable, NameNodes}
+use Rattle.np_world.specs.Schedules.{NameNodes}
 use Rattle.np_world.specs.World.{Setting, MachineNode, World, IsStep, IsRun, start}
 use Rattle.np_world.specs.declared.events.EventLine.{EventLine}
 use Rattle.np_world.specs.declared.members.Member.{Member}
@@ -118,12 +118,6 @@ pub named_at : (nodes : ℕ) (events : List EventLine) (i : ℕ) (d : EventLine)
 named_at nodes events i d names lt =
     let there = names i (event_of d) (omega (arith, lt, length-map events event_of)) in
     subst (λ e. node_of e < nodes) (get_or-map event_of events i d (event_of d) lt) there
-
--- the versions at which the nodes begin are among those of the chain
-pub starts_within : (schedule : ScheduleData) (starts : List ℕ) (n : ℕ) → IsStandable schedule → schedule.versions ≡ n → starts ≡ schedule.starts → (i : ℕ) → i < length starts → get_or starts i 0 < n
-starts_within schedule starts n stands over same i lt =
-    let within = stands.starts i 0 (omega (arith, lt, ap length same)) in
-    omega (arith, within, over, ap (λ l. get_or l i 0) same)
 
 abbrev pub rules_with : {T : Type 0} → List T → Form → ℕ → Rules T
 rules_with tables form room = record { tables = tables; form = form; room = room }

@@ -4,6 +4,7 @@ use crate::{RunFault, run};
 use np_code_points::Form;
 use np_code_points::devices::{Failure, Room, Trickle};
 use np_code_points::fixtures::{V1_DATA, V1_EXCLUSIONS};
+use np_code_points::told::want_told;
 use np_code_points::watched::Watched;
 use np_tables::{NormTable, PageTable, RowTable};
 use std::alloc::Global;
@@ -198,9 +199,5 @@ const TOLD: [(RunFault, &str); 5] = [
 
 #[test]
 fn faults_are_told_in_words(rt: HostRuntime) -> Result<(), Fail> {
-    for (fault, words) in &TOLD {
-        let told = format!(in rt.alloc(); "{fault}")?;
-        want(told.as_str() == *words, words)?;
-    }
-    Ok(())
+    want_told(rt.alloc(), &TOLD)
 }

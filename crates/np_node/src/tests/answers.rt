@@ -3,6 +3,7 @@ use super::{Made, table_of, want, wants_kept, wants_known, wants_refused, wants_
 use crate::{Accepted, Node, NodeFault, Taken};
 use np_chain::{Break, BreakKind};
 use np_code_points::fixtures::{V1_DATA, V1_EXCLUSIONS, V2_DATA, V2_EXCLUSIONS};
+use np_code_points::told::want_told;
 use np_code_points::{Form, Memory};
 use np_tables::{NormTable, PageTable, RowTable};
 use std::alloc::Global;
@@ -237,9 +238,5 @@ const TOLD: [(NodeFault, &str); 9] = [
 
 #[test]
 fn faults_are_told_in_words(rt: HostRuntime) -> Result<(), Fail> {
-    for (fault, words) in &TOLD {
-        let told = format!(in rt.alloc(); "{fault}")?;
-        want(told.as_str() == *words, words)?;
-    }
-    Ok(())
+    want_told(rt.alloc(), &TOLD)
 }
