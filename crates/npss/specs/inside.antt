@@ -4,4 +4,5 @@ pub mod Endings
 pub mod Groups
 pub mod Jobs
 pub mod ReplaySteps
+pub mod TextCommands
 pub mod TextJobs

@@ -4,10 +4,7 @@ ghost use Rattle.std.specs.Prelude.{◌≡◌, ◌≢◌, ◌≤◌, ◌++◌, l
 ghost use Rattle.std.specs.IoError.{error_kind};
 ghost use Rattle.npss.specs.Audits.{AuditEnds};
 ghost use Rattle.npss.specs.Chains.{VersionReaders};
-ghost use Rattle.npss.specs.Comparisons.{CompareEnds};
 ghost use Rattle.npss.specs.Ends.{IsRefused, IsTold, Writes};
-ghost use Rattle.npss.specs.Keys.{KeyEnds};
-ghost use Rattle.npss.specs.NormalForms.{NormalizeEnds};
 ghost use Rattle.npss.specs.Program.{JobEnds, ProgramEnds};
 ghost use Rattle.npss.specs.Replays.{ReplayEnds, ReplayReaders};
 ghost use Rattle.npss.specs.Streams.{stream_of};
@@ -15,6 +12,7 @@ ghost use Rattle.npss.specs.Texts.{TextReaders};
 ghost use Rattle.npss.specs.Usage.{IsUnopened};
 ghost use Rattle.npss.specs.Words.{asked_of, names_of, usage_lines};
 ghost use Rattle.npss.specs.inside.Jobs.{HasVersions};
+ghost use Rattle.npss.specs.inside.TextCommands.{EndsAs};
 
 use crate::jobs::{
     DONE, JobFault, USAGE, audit_job, compare_job, key_job, normalize_job, refuse, replay_job, tell,
@@ -51,78 +49,71 @@ fn show_usage<O: Write, E: Write>(
     }
 }
 
-/// Runs `normalize`.
-///
-/// # Errors
-///
-/// The status that was told, where a file can't be opened.
-fn run_normalize<R: Files, I: Read, O: Write, E: Write>(
-    rt: &R,
-    alloc: Global,
-    form: Form,
-    files: &VersionFiles,
-    input: &mut Watched<I>,
-    output: &mut Watched<O>,
-    error: &mut Watched<E>,
-) -> Result<u8, u8>
-where
-    R::File: Drop,
-    ensures done { IfOk result (λ status. (readers : TextReaders) × (readers.input ≡ stream_of I.remaining input.old input.new) × NormalizeEnds form readers (stream_of O.contents output.old output.new) (stream_of E.contents error.old error.new) status) }
-    ensures unopened { IfErr result (IsUnopened (names_of files.now) (stream_of E.contents error.old error.new)) }
-    ensures unwritten { IfErr result (λ status. output.new ≡ output.old) }
-{
-    let (mut data, mut exclusions) = open_version(rt, alloc, error, files)?;
-    Ok(normalize_job(
-        alloc,
-        form,
-        &mut data,
-        &mut exclusions,
-        input,
-        output,
-        error,
-    ))
+/// A command on one text.
+#[derive(Clone, Copy, Debug, PartialEq, Eq)]
+enum TextCommand {
+    Normalize,
+    Key,
+    Compare,
 }
 
-/// Runs `key`.
-///
-/// # Errors
-///
-/// The status that was told, where a file can't be opened.
-fn run_key<R: Files, I: Read, O: Write, E: Write>(
-    rt: &R,
+/// Does a command on one text over the files of its version.
+fn text_job<F: Read, I: Read, O: Write, E: Write>(
     alloc: Global,
+    command: TextCommand,
     form: Form,
-    files: &VersionFiles,
+    data_file: &mut Watched<F>,
+    exclusions_file: &mut Watched<F>,
     input: &mut Watched<I>,
     output: &mut Watched<O>,
     error: &mut Watched<E>,
-) -> Result<u8, u8>
-where
-    R::File: Drop,
-    ensures done { IfOk result (λ status. (readers : TextReaders) × (readers.input ≡ stream_of I.remaining input.old input.new) × KeyEnds form readers (stream_of O.contents output.old output.new) (stream_of E.contents error.old error.new) status) }
-    ensures unopened { IfErr result (IsUnopened (names_of files.now) (stream_of E.contents error.old error.new)) }
-    ensures unwritten { IfErr result (λ status. output.new ≡ output.old) }
+) -> u8
+    ensures { EndsAs command form (record {
+      data_file = stream_of F.remaining data_file.old data_file.new;
+      exclusions_file = stream_of F.remaining exclusions_file.old exclusions_file.new;
+      input = stream_of I.remaining input.old input.new;
+    }) (stream_of O.contents output.old output.new) (stream_of E.contents error.old error.new) result }
 {
-    let (mut data, mut exclusions) = open_version(rt, alloc, error, files)?;
-    Ok(key_job(
-        alloc,
-        form,
-        &mut data,
-        &mut exclusions,
-        input,
-        output,
-        error,
-    ))
+    match command {
+        TextCommand::Normalize => normalize_job(
+            alloc,
+            form,
+            data_file,
+            exclusions_file,
+            input,
+            output,
+            error,
+        ),
+        TextCommand::Key => key_job(
+            alloc,
+            form,
+            data_file,
+            exclusions_file,
+            input,
+            output,
+            error,
+        ),
+        TextCommand::Compare => compare_job(
+            alloc,
+            form,
+            data_file,
+            exclusions_file,
+            input,
+            output,
+            error,
+        ),
+    }
 }
 
-/// Runs `compare`.
+/// Runs a command on one text.
 ///
 /// # Errors
 ///
 /// The status that was told, where a file can't be opened.
-fn run_compare<R: Files, I: Read, O: Write, E: Write>(
+fn run_on_text<R: Files, I: Read, O: Write, E: Write>(
     rt: &R,
     alloc: Global,
+    command: TextCommand,
     form: Form,
     files: &VersionFiles,
     input: &mut Watched<I>,
@@ -131,13 +122,14 @@ fn run_compare<R: Files, I: Read, O: Write, E: Write>(
 ) -> Result<u8, u8>
 where
     R::File: Drop,
-    ensures done { IfOk result (λ status. (readers : TextReaders) × (readers.input ≡ stream_of I.remaining input.old input.new) × CompareEnds form readers (stream_of O.contents output.old output.new) (stream_of E.contents error.old error.new) status) }
+    ensures done { IfOk result (λ status. (readers : TextReaders) × (readers.input ≡ stream_of I.remaining input.old input.new) × EndsAs command form readers (stream_of O.contents output.old output.new) (stream_of E.contents error.old error.new) status) }
     ensures unopened { IfErr result (IsUnopened (names_of files.now) (stream_of E.contents error.old error.new)) }
     ensures unwritten { IfErr result (λ status. output.new ≡ output.old) }
 {
     let (mut data, mut exclusions) = open_version(rt, alloc, error, files)?;
-    Ok(compare_job(
+    Ok(text_job(
         alloc,
+        command,
         form,
         &mut data,
         &mut exclusions,
@@ -235,10 +227,41 @@ where
     match job {
         Job::Help => Ok(show_usage(alloc, output, error)),
         Job::Normalize { form, files } => {
-            run_normalize(rt, alloc, *form, files, input, output, error)
+            run_on_text(
+                rt,
+                alloc,
+                TextCommand::Normalize,
+                *form,
+                files,
+                input,
+                output,
+                error,
+            )
         }
-        Job::Key { form, files } => run_key(rt, alloc, *form, files, input, output, error),
-        Job::Compare { form, files } => run_compare(rt, alloc, *form, files, input, output, error),
+        Job::Key { form, files } => {
+            run_on_text(
+                rt,
+                alloc,
+                TextCommand::Key,
+                *form,
+                files,
+                input,
+                output,
+                error,
+            )
+        }
+        Job::Compare { form, files } => {
+            run_on_text(
+                rt,
+                alloc,
+                TextCommand::Compare,
+                *form,
+                files,
+                input,
+                output,
+                error,
+            )
+        }
         Job::Audit { old, new } => run_audit(rt, alloc, old, new, output, error),
         Job::Replay {
             form,
