@@ -135,7 +135,8 @@ pub(crate) fn write_segment<T: NormTable>(
 }
 
 /// Appends the form of the first segment of a text, and answers what follows it. The list is room
-/// that is used again.
+/// that is used again. It is made part of what calls it, as the cut is.
+#[inline(always)]
 pub(crate) fn write_next<'a, T: NormTable>(
     alloc: Global,
     table: &T,
