@@ -11,9 +11,9 @@ abbrev pub has_failed : {D : Type 0} → Watched D → Bool
 has_failed w = w.failed
 
 -- whether a read or a flush that gave r failed
-abbrev pub read_fails : {A E : Type 0} → Result A E → Bool
-read_fails (Ok _) = false
-read_fails (Err _) = true
+abbrev pub call_fails : {A E : Type 0} → Result A E → Bool
+call_fails (Ok _) = false
+call_fails (Err _) = true
 
 -- whether a write of buf that gave r failed: by an error, or by taking nothing of a piece that is not empty
 abbrev pub write_fails : {E : Type 0} → Result ℕ E → List ℕ → Bool

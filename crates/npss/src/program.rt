@@ -226,42 +226,36 @@ where
 {
     match job {
         Job::Help => Ok(show_usage(alloc, output, error)),
-        Job::Normalize { form, files } => {
-            run_on_text(
-                rt,
-                alloc,
-                TextCommand::Normalize,
-                *form,
-                files,
-                input,
-                output,
-                error,
-            )
-        }
-        Job::Key { form, files } => {
-            run_on_text(
-                rt,
-                alloc,
-                TextCommand::Key,
-                *form,
-                files,
-                input,
-                output,
-                error,
-            )
-        }
-        Job::Compare { form, files } => {
-            run_on_text(
-                rt,
-                alloc,
-                TextCommand::Compare,
-                *form,
-                files,
-                input,
-                output,
-                error,
-            )
-        }
+        Job::Normalize { form, files } => run_on_text(
+            rt,
+            alloc,
+            TextCommand::Normalize,
+            *form,
+            files,
+            input,
+            output,
+            error,
+        ),
+        Job::Key { form, files } => run_on_text(
+            rt,
+            alloc,
+            TextCommand::Key,
+            *form,
+            files,
+            input,
+            output,
+            error,
+        ),
+        Job::Compare { form, files } => run_on_text(
+            rt,
+            alloc,
+            TextCommand::Compare,
+            *form,
+            files,
+            input,
+            output,
+            error,
+        ),
         Job::Audit { old, new } => run_audit(rt, alloc, old, new, output, error),
         Job::Replay {
             form,

@@ -2,7 +2,7 @@
 ghost use Rattle.std.specs.Prelude.{◌≡◌, ◌||◌, ◌&&◌, ◌<◌, false, true, length, Ok};
 ghost use Rattle.std.specs.Io.{ReadsAtMost, WritesAtMost};
 ghost use Rattle.std.specs.Io.KnownBytes.{Keeps, ReadConsumes, WriteAppends};
-ghost use Rattle.np_code_points.specs.Watched.{device_of, has_failed, read_fails, write_fails};
+ghost use Rattle.np_code_points.specs.Watched.{device_of, has_failed, call_fails, write_fails};
 
 use std::io::{Read, Result, Write};
 
@@ -58,7 +58,7 @@ impl<R: Read> Read for Watched<R> {
     fn read(&mut self, buf: &mut [u8]) -> Result<usize>
         ensures bound { ReadsAtMost result buf.new }
         ensures bytes { ReadConsumes (R.remaining (device_of self.old)) (R.remaining (device_of self.new)) result buf.new }
-        ensures mark { has_failed self.new ≡ (has_failed self.old || read_fails result) }
+        ensures mark { has_failed self.new ≡ (has_failed self.old || call_fails result) }
     {
         let outcome = self.device.read(buf);
         let failed = outcome.is_err();
@@ -88,7 +88,7 @@ impl<W: Write> Write for Watched<W> {
 
     fn flush(&mut self) -> Result<()>
         ensures bytes { Keeps (W.contents (device_of self.old)) (W.contents (device_of self.new)) }
-        ensures mark { has_failed self.new ≡ (has_failed self.old || read_fails result) }
+        ensures mark { has_failed self.new ≡ (has_failed self.old || call_fails result) }
     {
         let outcome = self.device.flush();
         if outcome.is_err() {

@@ -4,7 +4,7 @@ ghost use Rattle.std.specs.Io.{ReadsAtMost, WritesAtMost};
 ghost use Rattle.std.specs.IoError.{error_kind};
 ghost use Rattle.std.specs.Io.KnownBytes.{Keeps, ReadConsumes, WriteAppends};
 ghost use Rattle.np_code_points.specs.inside.Devices.{IsNextCall, bytes_left, bytes_taken, endless_call, endless_plan, failure_at, piece_of, piece_taken, reader_call, reader_plan, room_of, writer_call, writer_plan};
-ghost use Rattle.np_code_points.specs.Watched.{read_fails, write_fails};
+ghost use Rattle.np_code_points.specs.Watched.{call_fails, write_fails};
 
 use crate::Memory;
 use std::alloc::Global;
@@ -137,7 +137,7 @@ impl Read for Trickle<'_> {
         ensures bound { ReadsAtMost result buf.new }
         ensures bytes { ReadConsumes (Some (bytes_left self.old)) (Some (bytes_left self.new)) result buf.new }
         ensures gives { failure_at (reader_call self.old) (reader_plan self.old) ≡ None → result ≡ Ok (min (length (bytes_left self.old)) (min (length buf.old) (max (piece_of self.old) 1))) }
-        ensures fails { read_fails result ≡ is_some (failure_at (reader_call self.old) (reader_plan self.old)) }
+        ensures fails { call_fails result ≡ is_some (failure_at (reader_call self.old) (reader_plan self.old)) }
         ensures interrupted { failure_at (reader_call self.old) (reader_plan self.old) ≡ Some Failure.Interrupted → IfErr result (λ e. error_kind e ≡ ErrorKind.Interrupted) }
         ensures other { failure_at (reader_call self.old) (reader_plan self.old) ≡ Some Failure.Error → IfErr result (λ e. error_kind e ≡ ErrorKind.Other) }
         ensures plan { reader_plan self.new ≡ reader_plan self.old }
@@ -193,7 +193,7 @@ impl Read for Endless {
         ensures bound { ReadsAtMost result buf.new }
         ensures fills { failure_at (endless_call self.old) (endless_plan self.old) ≡ None → result ≡ Ok (length buf.old) }
         ensures letters { IfOk result (λ n. buf.new ≡ replicate n 97) }
-        ensures fails { read_fails result ≡ is_some (failure_at (endless_call self.old) (endless_plan self.old)) }
+        ensures fails { call_fails result ≡ is_some (failure_at (endless_call self.old) (endless_plan self.old)) }
         ensures interrupted { failure_at (endless_call self.old) (endless_plan self.old) ≡ Some Failure.Interrupted → IfErr result (λ e. error_kind e ≡ ErrorKind.Interrupted) }
         ensures other { failure_at (endless_call self.old) (endless_plan self.old) ≡ Some Failure.Error → IfErr result (λ e. error_kind e ≡ ErrorKind.Other) }
         ensures plan { endless_plan self.new ≡ endless_plan self.old }
@@ -298,7 +298,7 @@ impl Write for Room {
 
     fn flush(&mut self) -> IoResult<()>
         ensures bytes { Keeps (Some (bytes_taken self.old)) (Some (bytes_taken self.new)) }
-        ensures fails { read_fails result ≡ is_some (failure_at (writer_call self.old) (writer_plan self.old)) }
+        ensures fails { call_fails result ≡ is_some (failure_at (writer_call self.old) (writer_plan self.old)) }
         ensures interrupted { failure_at (writer_call self.old) (writer_plan self.old) ≡ Some Failure.Interrupted → IfErr result (λ e. error_kind e ≡ ErrorKind.Interrupted) }
         ensures other { failure_at (writer_call self.old) (writer_plan self.old) ≡ Some Failure.Error → IfErr result (λ e. error_kind e ≡ ErrorKind.Other) }
         ensures plan { writer_plan self.new ≡ writer_plan self.old }
