@@ -59,11 +59,11 @@ CALLS = [
     Call("replay", "np_world", "replays.rt", "Err(Memory)", "a_refused_replay_"),
     Call("report_text", "np_world", "report_texts.rt", "Err(Memory)", "a_refused_report_text_"),
     Call("parse", "npss", "words.rt", "Err(WordsFault::Memory)", "a_refused_parse_"),
-    Call("normalize_job", "npss", "jobs/normalize.rt", "6", "normalize_answers_the_worked_examples"),
-    Call("key_job", "npss", "jobs/key.rt", "6", "key_answers_the_worked_examples"),
-    Call("compare_job", "npss", "jobs/compare.rt", "6", "compare_answers_the_worked_examples"),
-    Call("audit_job", "npss", "jobs/audit.rt", "6", "audit_answers_the_worked_examples"),
-    Call("replay_job", "npss", "jobs/replay.rt", "6", "scripts_have_their_reports"),
+    Call("normalize_job", "np_jobs", "normalize.rt", "6", "normalize_answers_the_worked_examples"),
+    Call("key_job", "np_jobs", "key.rt", "6", "key_answers_the_worked_examples"),
+    Call("compare_job", "np_jobs", "compare.rt", "6", "compare_answers_the_worked_examples"),
+    Call("audit_job", "np_jobs", "audit.rt", "6", "audit_answers_the_worked_examples"),
+    Call("replay_job", "np_jobs", "replay.rt", "6", "scripts_have_their_reports"),
 ]
 
 

@@ -3,7 +3,7 @@ use Rattle.std.proofs.Common.{◌≡◌, ℕ, zero, suc, ◌<◌, List, [], ◌�
 use Rattle.std.proofs.lemmas.List.Elements.{Contains-append_left, Contains-append_right}
 use Rattle.std.specs.List.{Contains}
 use Rattle.np_code_points.specs.declared.channels.watched.Watched.{Watched}
-use Rattle.npss.specs.Streams.{Stream, stream_of}
+use Rattle.np_jobs.specs.Streams.{Stream, stream_of}
 use Rattle.npss.specs.Usage.{IsUnopened}
 use Rattle.npss.specs.Words.{names_of}
 use Rattle.npss.specs.declared.words.VersionFiles.{VersionFiles}

@@ -1,18 +1,18 @@
 -- What the program does for its words.
 use Rattle.std.specs.Prelude.{◌≡◌, ◌⊎◌, ℕ, true, None, Some, List, length, vec_len}
 use Rattle.clap.specs.Words.{Text}
-use Rattle.npss.specs.Audits.{AuditEnds}
-use Rattle.npss.specs.Chains.{VersionReaders}
-use Rattle.npss.specs.Comparisons.{CompareEnds}
-use Rattle.npss.specs.Ends.{IsRefused, IsTold, Writes}
-use Rattle.npss.specs.Keys.{KeyEnds}
-use Rattle.npss.specs.NormalForms.{NormalizeEnds}
-use Rattle.npss.specs.Replays.{ReplayEnds, ReplayReaders}
-use Rattle.npss.specs.Streams.{Stream}
-use Rattle.npss.specs.Texts.{TextReaders}
+use Rattle.np_jobs.specs.Audits.{AuditEnds}
+use Rattle.np_jobs.specs.Chains.{VersionReaders}
+use Rattle.np_jobs.specs.Comparisons.{CompareEnds}
+use Rattle.np_jobs.specs.Ends.{IsRefused, IsTold, Writes}
+use Rattle.np_jobs.specs.Keys.{KeyEnds}
+use Rattle.np_jobs.specs.NormalForms.{NormalizeEnds}
+use Rattle.np_jobs.specs.Replays.{ReplayEnds, ReplayReaders}
+use Rattle.np_jobs.specs.Streams.{Stream}
+use Rattle.np_jobs.specs.Texts.{TextReaders}
 use Rattle.npss.specs.Usage.{IsUnopened}
 use Rattle.npss.specs.Words.{asked_by, asked_of, usage_lines}
-use Rattle.npss.specs.declared.jobs.faults.JobFault.TheVariants.{Memory}
+use Rattle.np_jobs.specs.declared.faults.JobFault.TheVariants.{Memory}
 use Rattle.npss.specs.declared.words.Job.{Job}
 use Rattle.npss.specs.declared.words.Job.TheVariants.{Help, Normalize, Key, Compare, Audit, Replay}
 

@@ -1,8 +1,8 @@
 -- What is told where a file does not open.
 use Rattle.std.specs.Prelude.{◌≡◌, ◌⊎◌, ◌++◌, ℕ, List, Contains, codes}
-use Rattle.npss.specs.Ends.{IsRefused, IsTold}
-use Rattle.npss.specs.Streams.{Stream}
-use Rattle.npss.specs.declared.jobs.faults.JobFault.TheVariants.{Memory}
+use Rattle.np_jobs.specs.Ends.{IsRefused, IsTold}
+use Rattle.np_jobs.specs.Streams.{Stream}
+use Rattle.np_jobs.specs.declared.faults.JobFault.TheVariants.{Memory}
 
 -- one of these files can't be opened; or memory ran out, for its line or for the files
 abbrev pub IsUnopened : List (List ℕ) → Stream → ℕ → Type 0

@@ -1,8 +1,2 @@
-pub mod AuditSteps
-pub mod ChainSteps
-pub mod Endings
-pub mod Groups
 pub mod Jobs
-pub mod ReplaySteps
 pub mod TextCommands
-pub mod TextJobs

@@ -1,14 +1,14 @@
 //! The files of a job are opened before any of them is read.
 
 ghost use Rattle.std.specs.Prelude.{◌≡◌, ◌+◌, ◌*◌, ◌∷◌, [], flat_map, length, vec_len, IfOk, IfErr, OnOk};
-ghost use Rattle.npss.specs.Ends.{IsRefused};
-ghost use Rattle.npss.specs.Streams.{stream_of};
+ghost use Rattle.np_jobs.specs.Ends.{IsRefused};
+ghost use Rattle.np_jobs.specs.Streams.{stream_of};
 ghost use Rattle.npss.specs.Usage.{IsUnopened};
 ghost use Rattle.npss.specs.Words.{names_of};
 
-use crate::jobs::{FAILED, JobFault, refuse, tell};
 use crate::words::VersionFiles;
 use np_code_points::watched::Watched;
+use np_jobs::{FAILED, JobFault, refuse, tell};
 use std::alloc::Global;
 use std::fs;
 use std::io::Write;

@@ -2,29 +2,32 @@
 
 ghost use Rattle.std.specs.Prelude.{◌≡◌, ◌≢◌, ◌≤◌, ◌++◌, length, vec_len, flat_map, map, string_bytes, true, List, ◌∷◌, IfOk, IfErr};
 ghost use Rattle.std.specs.IoError.{error_kind};
-ghost use Rattle.npss.specs.Audits.{AuditEnds};
-ghost use Rattle.npss.specs.Chains.{VersionReaders};
-ghost use Rattle.npss.specs.Ends.{IsRefused, IsTold, Writes};
+ghost use Rattle.np_jobs.specs.Audits.{AuditEnds};
+ghost use Rattle.np_jobs.specs.Chains.{VersionReaders};
+ghost use Rattle.np_jobs.specs.Ends.{IsRefused, IsTold, Writes};
 ghost use Rattle.npss.specs.Program.{JobEnds, ProgramEnds};
-ghost use Rattle.npss.specs.Replays.{ReplayEnds, ReplayReaders};
-ghost use Rattle.npss.specs.Streams.{stream_of};
-ghost use Rattle.npss.specs.Texts.{TextReaders};
+ghost use Rattle.np_jobs.specs.Replays.{ReplayEnds, ReplayReaders};
+ghost use Rattle.np_jobs.specs.Streams.{stream_of};
+ghost use Rattle.np_jobs.specs.Texts.{TextReaders};
 ghost use Rattle.npss.specs.Usage.{IsUnopened};
 ghost use Rattle.npss.specs.Words.{asked_of, names_of, usage_lines};
 ghost use Rattle.npss.specs.inside.Jobs.{HasVersions};
 ghost use Rattle.npss.specs.inside.TextCommands.{EndsAs};
 
-use crate::jobs::{
-    DONE, JobFault, USAGE, audit_job, compare_job, key_job, normalize_job, refuse, replay_job, tell,
-};
 use crate::opening::{open_file, open_version, open_versions};
 use crate::words::{Job, VersionFiles, WordsFault, parse, usage_text};
 use np_code_points::Form;
 use np_code_points::output::write_out;
 use np_code_points::watched::Watched;
+use np_jobs::{
+    DONE, JobFault, audit_job, compare_job, key_job, normalize_job, refuse, replay_job, tell,
+};
 use std::alloc::Global;
 use std::io::{Error, ErrorKind, Read, Write};
 use std::rt::Files;
+
+/// The status of words that ask for nothing that there is.
+const USAGE: u8 = 2;
 
 /// Says how the program is used, where the words ask for nothing that there is.
 fn tell_usage<E: Write>(error: &mut Watched<E>) -> u8

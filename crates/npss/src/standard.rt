@@ -2,8 +2,8 @@
 ghost use Rattle.std.specs.Prelude.{◌≡◌, false, IfOk, IfErr};
 ghost use Rattle.np_code_points.specs.Watched.{has_failed};
 
-use crate::jobs::{FAILED, tell};
 use np_code_points::watched::Watched;
+use np_jobs::{FAILED, tell};
 use std::fs;
 use std::io::{Stderr, Stdin, Stdout};
 use std::os::fd::{AsFd, AsRawFd, IntoRawFd};

@@ -1,11 +1,11 @@
 -- How a command on one text ends.
 use Rattle.std.specs.Prelude.{ℕ}
 use Rattle.np_code_points.specs.declared.forms.Form.{Form}
-use Rattle.npss.specs.Comparisons.{CompareEnds}
-use Rattle.npss.specs.Keys.{KeyEnds}
-use Rattle.npss.specs.NormalForms.{NormalizeEnds}
-use Rattle.npss.specs.Streams.{Stream}
-use Rattle.npss.specs.Texts.{TextReaders}
+use Rattle.np_jobs.specs.Comparisons.{CompareEnds}
+use Rattle.np_jobs.specs.Keys.{KeyEnds}
+use Rattle.np_jobs.specs.NormalForms.{NormalizeEnds}
+use Rattle.np_jobs.specs.Streams.{Stream}
+use Rattle.np_jobs.specs.Texts.{TextReaders}
 use Rattle.npss.specs.declared.program.TextCommand.{TextCommand}
 use Rattle.npss.specs.declared.program.TextCommand.TheVariants.{Normalize, Key, Compare}
 

@@ -1,6 +1,6 @@
 use Rattle.std.proofs.Common.{ℕ, List, inl, refl, subst, ◌∙◌, arith}
-use Rattle.npss.specs.Ends.{IsTold}
-use Rattle.npss.specs.Streams.{stream_of}
+use Rattle.np_jobs.specs.Ends.{IsTold}
+use Rattle.np_jobs.specs.Streams.{stream_of}
 use Rattle.npss.proofs.opening.refuse_file.Goals as goal
 
 pub returns-in-Ok : goal.returns-in-Ok

@@ -2,9 +2,9 @@ use Rattle.std.proofs.Common.{[], ◌∷◌, ◌++◌, ◌∙◌, refl}
 use Rattle.std.proofs.lemmas.List.Elements.{Contains-append_left, Contains-append_right}
 use Rattle.std.proofs.lemmas.Result.{err_from_is_err_and}
 use Rattle.npss.proofs.OpeningLemmas.{ends_before, some_lack}
-use Rattle.npss.specs.Audits.{AuditEnds}
-use Rattle.npss.specs.Chains.{readers_of}
-use Rattle.npss.specs.Streams.{stream_of}
+use Rattle.np_jobs.specs.Audits.{AuditEnds}
+use Rattle.np_jobs.specs.Chains.{readers_of}
+use Rattle.np_jobs.specs.Streams.{stream_of}
 use Rattle.npss.specs.Words.{names_of}
 use Rattle.npss.proofs.program.run_audit.Goals as goal
 

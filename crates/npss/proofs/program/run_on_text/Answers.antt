@@ -1,7 +1,7 @@
 use Rattle.std.proofs.Common.{refl}
 use Rattle.npss.proofs.OpeningLemmas.{ends_before}
-use Rattle.npss.specs.Streams.{stream_of}
-use Rattle.npss.specs.Texts.{TextReaders}
+use Rattle.np_jobs.specs.Streams.{stream_of}
+use Rattle.np_jobs.specs.Texts.{TextReaders}
 use Rattle.npss.specs.inside.TextCommands.{EndsAs}
 use Rattle.npss.proofs.program.run_on_text.Goals as goal
 

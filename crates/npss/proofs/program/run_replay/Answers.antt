@@ -1,11 +1,11 @@
 use Rattle.std.proofs.Common.{◌≡◌, ◌*◌, ◌∷◌, ◌∙◌, arith, flat_map, length}
 use Rattle.std.proofs.lemmas.Result.{err_from_is_err_and}
 use Rattle.np_code_points.proofs.Elements.{contains_more}
-use Rattle.npss.proofs.ChainLemmas.{readers-count}
+use Rattle.np_jobs.proofs.ChainLemmas.{readers-count}
 use Rattle.npss.proofs.OpeningLemmas.{ends_before, some_lack}
-use Rattle.npss.specs.Chains.{readers_of}
-use Rattle.npss.specs.Replays.{ReplayEnds, ReplayReaders}
-use Rattle.npss.specs.Streams.{stream_of}
+use Rattle.np_jobs.specs.Chains.{readers_of}
+use Rattle.np_jobs.specs.Replays.{ReplayEnds, ReplayReaders}
+use Rattle.np_jobs.specs.Streams.{stream_of}
 use Rattle.npss.specs.Words.{names_of}
 use Rattle.npss.proofs.program.run_replay.Goals as goal
 

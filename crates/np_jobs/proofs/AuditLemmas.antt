@@ -1,0 +1,53 @@
+-- What `audit` makes and why it is refused, by what became of the old version and of the new one.
+use Rattle.std.proofs.Common.{[], ◌∷◌, inl, inr, refl, string_bytes, Result, Ok, Err, IfOk, IfErr}
+use Rattle.std.proofs.lemmas.List.Elements.{All-cons, All-nil}
+use Rattle.np_tables.specs.Versions.{VersionData}
+use Rattle.np_jobs.specs.Audits.{MakesAudit, RefusesAudit}
+use Rattle.np_jobs.specs.Chains.{AreUntouched, LacksOne, VersionReaders}
+use Rattle.np_jobs.specs.Streams.{IsUntouched}
+use Rattle.np_jobs.specs.Versions.{IsVersionFault, WasBuilt}
+use Rattle.np_jobs.specs.inside.AuditSteps.{LacksAgainst, MakesAgainst}
+use Rattle.np_jobs.specs.declared.ending.Made.{Made}
+use Rattle.np_jobs.specs.declared.faults.JobFault.{JobFault}
+use Rattle.np_jobs.specs.declared.faults.VersionFault.{VersionFault}
+
+-- the old version was refused, and the new one's files not looked at
+pub lacks_old : (old new : VersionReaders) (fault : VersionFault) → IsVersionFault 0 old.data_file old.exclusions_file fault → IsUntouched new.data_file → IsUntouched new.exclusions_file
+    → LacksOne (old ∷ new ∷ []) fault
+lacks_old old new fault refused data_file exclusions_file = record {
+  before = [];
+  here = old;
+  behind = new ∷ [];
+  are = refl;
+  versions = [];
+  built = tt;
+  refused = refused;
+  untouched = All-cons AreUntouched new [] (data_file, exclusions_file) (All-nil AreUntouched);
+}
+
+-- the old version was built, and the new one refused
+lacks_new : (old new : VersionReaders) (v : VersionData) (fault : VersionFault) → WasBuilt old.data_file old.exclusions_file v → IsVersionFault 1 new.data_file new.exclusions_file fault
+    → LacksOne (old ∷ new ∷ []) fault
+lacks_new old new v fault built refused = record {
+  before = old ∷ [];
+  here = new;
+  behind = [];
+  are = refl;
+  versions = v ∷ [];
+  built = (built, tt);
+  refused = refused;
+  untouched = All-nil AreUntouched;
+}
+
+pub refused_against : (old new : VersionReaders) (v : VersionData) (made : Result Made JobFault) → WasBuilt old.data_file old.exclusions_file v
+    → IfErr made (LacksAgainst new.data_file new.exclusions_file) → IfErr made (RefusesAudit (old ∷ new ∷ []))
+refused_against old new v (Ok m) built h = tt
+refused_against old new v (Err fault) built h = elim h [
+  | inl lacks ↦ inl (lacks.0, lacks.1, lacks_new old new v lacks.0 built lacks.2)
+  | inr lacks ↦ inr (lacks.0, (v ∷ lacks.1.0 ∷ [], (built, (lacks.1.1, tt))))
+]
+
+pub made_against : (old new : VersionReaders) (v : VersionData) (made : Result Made JobFault) → WasBuilt old.data_file old.exclusions_file v
+    → IfOk made (MakesAgainst v new.data_file new.exclusions_file) → IfOk made (λ m. MakesAudit (old ∷ new ∷ []) m.is_yes (string_bytes m.text))
+made_against old new v (Ok m) built h = record { old = v; new = h.new; built = (built, (h.built, tt)); is = h.is }
+made_against old new v (Err fault) built h = tt

@@ -1,0 +1,29 @@
+-- From what a job made, or why it was refused, to its end.
+use Rattle.std.proofs.Common.{◌≡◌, ℕ, inl, inr, Bool, false, List, Option, Result, Ok, Err, IfOk, IfErr, string_bytes, ap, subst}
+use Rattle.np_code_points.specs.Watched.{device_of, has_failed}
+use Rattle.np_code_points.specs.declared.channels.watched.Watched.{Watched}
+use Rattle.np_jobs.specs.Ends.{Ends}
+use Rattle.np_jobs.specs.Streams.{IsUntouched, Stream, stream_of}
+use Rattle.np_jobs.specs.inside.Endings.{EndsWith}
+use Rattle.np_jobs.specs.declared.ending.Made.{Made}
+use Rattle.np_jobs.specs.declared.faults.JobFault.{JobFault}
+
+-- a stream goes by the devices, and not by the marks before
+pub same_stream : {D : Type 0} (tells : D → Option (List ℕ)) (a b new : Watched D) → device_of a ≡ device_of b → stream_of tells a new ≡ stream_of tells b new
+same_stream tells a b new e = ap (λ d. record { before = tells d; after = tells (device_of new); failed = has_failed new }) e
+
+-- the same of a property of two streams
+pub on_same : {D : Type 0} (tells : D → Option (List ℕ)) (a b new c d other : Watched D) → device_of a ≡ device_of b → device_of c ≡ device_of d → (P : Stream → Stream → Type 0)
+    → P (stream_of tells a new) (stream_of tells c other) → P (stream_of tells b new) (stream_of tells d other)
+on_same tells a b new c d other one two P holds =
+    subst (λ s. P s (stream_of tells d other)) (same_stream tells a b new one) (subst (λ s. P (stream_of tells a new) s) (same_stream tells c d other two) holds)
+
+-- a device whose mark alone was taken away
+pub untouched : {D : Type 0} (tells : D → Option (List ℕ)) (old new : Watched D) → device_of new ≡ device_of old → has_failed new ≡ false → IsUntouched (stream_of tells old new)
+untouched tells old new device clear = record { same = ap tells device; clear = clear }
+
+-- the end of a job that makes this, or is refused for this
+pub ends : (Makes : Bool → List ℕ → Type 0) (Refuses : JobFault → Type 0) (made : Result Made JobFault) (output error : Stream) (status : ℕ)
+    → IfOk made (λ (m : Made). Makes m.is_yes (string_bytes m.text)) → IfErr made Refuses → EndsWith made output error status → Ends Makes Refuses output error status
+ends Makes Refuses (Ok m) output error status makes refuses end = inl (m.is_yes, string_bytes m.text, makes, end)
+ends Makes Refuses (Err fault) output error status makes refuses end = inr (fault, refuses, end.0, end.1)

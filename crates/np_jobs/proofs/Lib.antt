@@ -1,0 +1,4 @@
+pub mod AuditLemmas
+pub mod ChainLemmas
+pub mod EndLemmas
+pub mod ReplayLemmas

@@ -1,0 +1,14 @@
+pub mod Audits
+pub mod Chains
+pub mod Comparisons
+pub mod Ends
+pub mod Keys
+pub mod NormalForms
+pub mod Replays
+pub mod Statuses
+pub mod Streams
+pub mod Tellings
+pub mod Texts
+pub mod Versions
+pub mod Wraps
+pub mod inside

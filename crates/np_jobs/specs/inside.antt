@@ -1,0 +1,6 @@
+pub mod AuditSteps
+pub mod ChainSteps
+pub mod Endings
+pub mod Groups
+pub mod ReplaySteps
+pub mod TextJobs

@@ -1,0 +1,110 @@
+//! The command `compare`: whether two strings are equivalent.
+ghost use Rattle.std.specs.Prelude.{◌≡◌, IfNone, IfOk, IfErr, IfSome, string_bytes};
+ghost use Rattle.np_code_points.specs.Lines.{HasNo};
+ghost use Rattle.np_jobs.specs.Comparisons.{AreTwoLines, CompareEnds, IsAnswer, IsComparison, LacksAnswer, LacksComparison, answer_text};
+ghost use Rattle.np_jobs.specs.Streams.{stream_of};
+
+use crate::ending::{Made, finish};
+use crate::faults::TextFault;
+use crate::texts::{TextJob, made_of_text};
+use np_code_points::Form;
+use np_code_points::watched::Watched;
+use np_forms::{equivalent, first_lacking};
+use np_tables::NormTable;
+use std::alloc::{AllocError, Global};
+use std::io::{Read, Write};
+
+/// The string before the first line end, and what stands behind it, without a line end at its very
+/// end; none where there is no line end.
+fn two_lines(text: &str) -> Option<(&str, &str)>
+    ensures none { IfNone result (HasNo 10 text.now) }
+    ensures some { IfSome result (λ lines. AreTwoLines text.now lines.0.now lines.1.now) }
+{
+    let Some((first, rest)) = text.split_once('\n') else {
+        return None;
+    };
+    match rest.strip_suffix('\n') {
+        Some(second) => Some((first, second)),
+        None => Some((first, rest)),
+    }
+}
+
+/// Whether two texts are equivalent, each of which has to be assigned.
+fn comparison_of<T: NormTable>(
+    alloc: Global,
+    form: Form,
+    table: &T,
+    first: &str,
+    second: &str,
+) -> Result<bool, TextFault>
+    ensures equal { IfOk result (IsComparison form (T.model table.now) first.now second.now) }
+    ensures refused { IfErr result (LacksComparison (T.model table.now) first.now second.now) }
+{
+    if let Some((at, code)) = first_lacking(table, first) {
+        return Err(TextFault::FirstUnassigned { at, code });
+    }
+    if let Some((at, code)) = first_lacking(table, second) {
+        return Err(TextFault::SecondUnassigned { at, code });
+    }
+    match equivalent(alloc, table, form.compat(), first, second) {
+        Ok(equal) => Ok(equal),
+        Err(_) => Err(TextFault::Memory),
+    }
+}
+
+/// What is printed.
+fn answer_line(alloc: Global, is_yes: bool) -> Result<String, AllocError>
+    ensures { IfOk result (λ line. string_bytes line ≡ answer_text is_yes) }
+{
+    String::from_str(alloc, if is_yes { "equal\n" } else { "different\n" })
+}
+
+/// Whether the two lines of a text are equivalent.
+pub(super) fn make_comparison<T: NormTable>(
+    alloc: Global,
+    form: Form,
+    table: &T,
+    text: &str,
+) -> Result<Made, TextFault>
+    ensures answer { IfOk result (λ m. IsAnswer form (T.model table.now) text.now m.is_yes (string_bytes m.text)) }
+    ensures refused { IfErr result (LacksAnswer (T.model table.now) text.now) }
+{
+    let Some((first, second)) = two_lines(text) else {
+        return Err(TextFault::TwoLinesWanted);
+    };
+    let is_yes = comparison_of(alloc, form, table, first, second)?;
+    match answer_line(alloc, is_yes) {
+        Ok(text) => Ok(Made { text, is_yes }),
+        Err(_) => Err(TextFault::Memory),
+    }
+}
+
+/// Writes whether the two strings of the input are equivalent, compatibly for NFKD and NFKC: the
+/// first ends before the first line end, the second is the rest without one line end at its very
+/// end. Answers the status, 0 for `equal` and 1 for `different`; a refusal is told in a line on
+/// `error`, and leaves the output as it was.
+pub fn compare_job<F: Read, I: Read, O: Write, E: Write>(
+    alloc: Global,
+    form: Form,
+    data_file: &mut Watched<F>,
+    exclusions_file: &mut Watched<F>,
+    input: &mut Watched<I>,
+    output: &mut Watched<O>,
+    error: &mut Watched<E>,
+) -> u8
+    ensures { CompareEnds form (record {
+      data_file = stream_of F.remaining data_file.old data_file.new;
+      exclusions_file = stream_of F.remaining exclusions_file.old exclusions_file.new;
+      input = stream_of I.remaining input.old input.new;
+    }) (stream_of O.contents output.old output.new) (stream_of E.contents error.old error.new) result }
+{
+    let made = made_of_text(
+        alloc,
+        TextJob::Compare,
+        form,
+        data_file,
+        exclusions_file,
+        input,
+    );
+    finish(alloc, output, error, made)
+}

@@ -1,0 +1,56 @@
+//! The command `key`: stabilized strings (UAX #15 section 12).
+ghost use Rattle.std.specs.Prelude.{◌≡◌, IfOk, IfErr, string_bytes};
+ghost use Rattle.np_jobs.specs.Keys.{IsKey, KeyEnds, LacksKey};
+ghost use Rattle.np_jobs.specs.Streams.{stream_of};
+
+use crate::ending::{Made, finish};
+use crate::faults::TextFault;
+use crate::texts::{TextJob, made_of_text};
+use np_code_points::Form;
+use np_code_points::watched::Watched;
+use np_forms::{NpssFault, npss};
+use np_tables::NormTable;
+use std::alloc::Global;
+use std::io::{Read, Write};
+
+/// The stabilized string of a text.
+pub(super) fn make_key<T: NormTable>(
+    alloc: Global,
+    form: Form,
+    table: &T,
+    text: &str,
+) -> Result<Made, TextFault>
+    ensures key { IfOk result (λ m. IsKey form (T.model table.now) text.now m.is_yes (string_bytes m.text)) }
+    ensures refused { IfErr result (LacksKey (T.model table.now) text.now) }
+{
+    match npss(alloc, table, form, text) {
+        Ok(key) => Ok(Made {
+            text: key,
+            is_yes: true,
+        }),
+        Err(NpssFault::Unassigned { at, code }) => Err(TextFault::Unassigned { at, code }),
+        Err(NpssFault::Memory) => Err(TextFault::Memory),
+    }
+}
+
+/// Writes the stabilized string of the input, a text, to the output: its normal form under the
+/// version of the two files, with nothing added. Answers the status; a refusal is told in a line
+/// on `error`, and leaves the output as it was.
+pub fn key_job<F: Read, I: Read, O: Write, E: Write>(
+    alloc: Global,
+    form: Form,
+    data_file: &mut Watched<F>,
+    exclusions_file: &mut Watched<F>,
+    input: &mut Watched<I>,
+    output: &mut Watched<O>,
+    error: &mut Watched<E>,
+) -> u8
+    ensures { KeyEnds form (record {
+      data_file = stream_of F.remaining data_file.old data_file.new;
+      exclusions_file = stream_of F.remaining exclusions_file.old exclusions_file.new;
+      input = stream_of I.remaining input.old input.new;
+    }) (stream_of O.contents output.old output.new) (stream_of E.contents error.old error.new) result }
+{
+    let made = made_of_text(alloc, TextJob::Key, form, data_file, exclusions_file, input);
+    finish(alloc, output, error, made)
+}

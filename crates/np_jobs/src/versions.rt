@@ -1,0 +1,109 @@
+//! The two files of a version, read and built.
+ghost use Rattle.std.specs.Prelude.{◌≡◌, ◌⊎◌, IfOk, IfErr};
+ghost use Rattle.np_jobs.specs.Streams.{stream_of};
+ghost use Rattle.np_jobs.specs.Versions.{HasExclusions, HasRows, IsTablesFault, IsVersionFault, WasBuilt, WasRefused};
+ghost use Rattle.np_jobs.specs.Wraps.{Wraps};
+ghost use Rattle.np_ucd.specs.Exclusions.{IsFirstBadLine};
+ghost use Rattle.np_ucd.specs.FirstFaults.{IsFirstFault};
+ghost use Rattle.np_tables.specs.TableFaults.{IsFaultless};
+
+use crate::faults::VersionFault;
+use np_code_points::watched::Watched;
+use np_tables::{PageTable, TableFault, Version};
+use np_ucd::{Exclusions, Rows, read_exclusions, read_rows};
+use std::alloc::Global;
+use std::io::Read;
+
+/// The rows of a data file.
+fn rows_of<R: Read>(
+    alloc: Global,
+    version: usize,
+    data_file: &mut Watched<R>,
+) -> Result<Rows, VersionFault>
+    ensures rows { IfOk result (HasRows (stream_of R.remaining data_file.old data_file.new)) }
+    ensures refused { IfErr result (Wraps (VersionFault.Data version) (WasRefused IsFirstFault (stream_of R.remaining data_file.old data_file.new))) }
+{
+    match read_rows(alloc, data_file) {
+        Ok(rows) => Ok(rows),
+        Err(fault) => Err(VersionFault::Data { version, fault }),
+    }
+}
+
+/// The code points that an exclusions file lists.
+fn exclusions_of<R: Read>(
+    alloc: Global,
+    version: usize,
+    exclusions_file: &mut Watched<R>,
+) -> Result<Exclusions, VersionFault>
+    ensures listed { IfOk result (HasExclusions (stream_of R.remaining exclusions_file.old exclusions_file.new)) }
+    ensures refused { IfErr result (Wraps (VersionFault.Exclusions version) (WasRefused IsFirstBadLine (stream_of R.remaining exclusions_file.old exclusions_file.new))) }
+{
+    match read_exclusions(alloc, exclusions_file) {
+        Ok(listed) => Ok(listed),
+        Err(fault) => Err(VersionFault::Exclusions { version, fault }),
+    }
+}
+
+/// The version of rows and exclusions.
+fn version_of(
+    alloc: Global,
+    version: usize,
+    rows: Rows,
+    exclusions: Exclusions,
+) -> Result<Version, VersionFault>
+    ensures version { IfOk result (λ v. v ≡ record { entries = rows; exclusions = exclusions }) }
+    ensures faultless { IfOk result IsFaultless }
+    ensures refused { IfErr result (Wraps (VersionFault.Tables version) (IsTablesFault (record { entries = rows; exclusions = exclusions }))) }
+{
+    match Version::build(alloc, rows, exclusions) {
+        Ok(built) => Ok(built),
+        Err(fault) => Err(VersionFault::Tables { version, fault }),
+    }
+}
+
+/// Reads the two files of a version, the data first, and builds it. The version has a number, from
+/// 0, which the fault tells.
+///
+/// # Errors
+///
+/// `Data` where the data file is refused, and then the exclusions are not looked at; `Exclusions`
+/// where the exclusions file is; `Tables` where the version has a fault. Want of memory is told as
+/// a fault of what it was wanted for.
+pub fn read_version<R: Read>(
+    alloc: Global,
+    version: usize,
+    data_file: &mut Watched<R>,
+    exclusions_file: &mut Watched<R>,
+) -> Result<Version, VersionFault>
+    ensures built { IfOk result (WasBuilt (stream_of R.remaining data_file.old data_file.new) (stream_of R.remaining exclusions_file.old exclusions_file.new)) }
+    ensures refused { IfErr result (IsVersionFault version (stream_of R.remaining data_file.old data_file.new) (stream_of R.remaining exclusions_file.old exclusions_file.new)) }
+{
+    exclusions_file.clear();
+    let rows = rows_of(alloc, version, data_file)?;
+    let exclusions = exclusions_of(alloc, version, exclusions_file)?;
+    version_of(alloc, version, rows, exclusions)
+}
+
+/// The same, with the table over the version.
+///
+/// # Errors
+///
+/// As `read_version`; want of memory for the table is a fault of the tables.
+pub fn read_table<R: Read>(
+    alloc: Global,
+    version: usize,
+    data_file: &mut Watched<R>,
+    exclusions_file: &mut Watched<R>,
+) -> Result<PageTable, VersionFault>
+    ensures built { IfOk result (WasBuilt (stream_of R.remaining data_file.old data_file.new) (stream_of R.remaining exclusions_file.old exclusions_file.new)) }
+    ensures refused { IfErr result (IsVersionFault version (stream_of R.remaining data_file.old data_file.new) (stream_of R.remaining exclusions_file.old exclusions_file.new)) }
+{
+    let built = read_version(alloc, version, data_file, exclusions_file)?;
+    match PageTable::new(alloc, built) {
+        Ok(table) => Ok(table),
+        Err(_) => Err(VersionFault::Tables {
+            version,
+            fault: TableFault::Memory,
+        }),
+    }
+}

@@ -1,7 +1,0 @@
-use Rattle.npss.specs.Audits.{MakesAudit, RefusesAudit}
-use Rattle.npss.proofs.EndLemmas.{ends}
-use Rattle.npss.proofs.jobs.audit.audit_job.Goals as goal
-
-pub returns : goal.returns
-returns g c =
-    ends (MakesAudit _) (RefusesAudit _) c.made_of_versions-made.result _ _ c.finish.result c.made_of_versions-made.ensures.made c.made_of_versions-made.ensures.refused c.finish.ensures

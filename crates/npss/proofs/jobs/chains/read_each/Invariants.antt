@@ -1,5 +1,0 @@
-use Rattle.npss.specs.inside.ChainSteps.{AreReadUpTo}
-use Rattle.npss.proofs.jobs.chains.read_each.Given as goal
-
-abbrev pub invariant-loop-number : goal.invariant-loop-number
-invariant-loop-number g l = AreReadUpTo g.F.Read.remaining l.number l.initial.files l.files l.tables.items

@@ -1,8 +1,0 @@
-use Rattle.npss.specs.Comparisons.{IsAnswer, LacksAnswer}
-use Rattle.npss.specs.Texts.{MakesOfText, RefusesText}
-use Rattle.npss.proofs.EndLemmas.{ends}
-use Rattle.npss.proofs.jobs.compare.compare_job.Goals as goal
-
-pub returns : goal.returns
-returns g c =
-    ends (MakesOfText (IsAnswer c.args.form) _) (RefusesText LacksAnswer _) c.made_of_text-made.result _ _ c.finish.result c.made_of_text-made.ensures.made c.made_of_text-made.ensures.refused c.finish.ensures
