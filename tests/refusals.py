@@ -37,17 +37,18 @@ MEMORY = (6, b"", b"out of memory\n")
 # The status of a unit test that failed by its result.
 FAILED = 101
 
-# The calls that can answer that memory ran out, by their crates. Each has one test whose name begins with
-# `a_refused_` and the call's name: it makes the call a second time where memory was refused to the first.
+# The calls that can answer that memory ran out, by the modules of their tests: those of `np_examples` have the
+# crates' names. Each has one test whose name begins with `a_refused_` and the call's name: it makes the call a
+# second time where memory was refused to the first.
 CALLS = {
-    "np_code_points": ("chars_of", "string_of", "write_code"),
-    "np_ucd": ("read_rows", "read_exclusions"),
-    "np_tables": ("build", "row_table", "page_table"),
-    "np_forms": ("form", "npss", "is_form", "is_stream_safe", "equivalent", "feed", "finish", "run"),
-    "np_chain": ("audit",),
-    "np_node": ("accept", "take", "image", "restore"),
-    "np_world": ("read_schedule", "replay", "report_text"),
-    "npss": ("parse",),
+    "code_points": ("chars_of", "string_of", "write_code"),
+    "ucd": ("read_rows", "read_exclusions"),
+    "tables": ("build", "row_table", "page_table"),
+    "forms": ("form", "npss", "is_form", "is_stream_safe", "equivalent", "feed", "finish", "run"),
+    "chain": ("audit",),
+    "node": ("accept", "take", "image", "restore"),
+    "world": ("read_schedule", "replay", "report_text"),
+    "words": ("parse",),
 }
 # The commands of the program, each of which is one call of the crate.
 COMMANDS = ("normalize", "key", "compare", "audit", "replay")
@@ -221,12 +222,13 @@ def check_tests(tally, refusals, program):
     return survived
 
 
-def check_calls(tally, crate, survived):
-    """Each call of the crate has one test in which it was refused memory, and made again."""
-    for call in CALLS[crate]:
-        found = [count for name, count in survived.items() if name.rpartition("::")[2].startswith(f"a_refused_{call}_")]
-        tally.check(f"{crate}: {call} has a test that makes it again", len(found) == 1, f"{found}")
-        print(f"{crate}: {call}: {sum(found)} refused{'' if sum(found) else ', none is wanted there'}")
+def check_calls(tally, module, survived):
+    """Each call that the module tests has one test in which it was refused memory, and made again."""
+    for call in CALLS[module]:
+        found = [count for name, count in survived.items()
+                 if name.startswith(f"{module}::") and name.rpartition("::")[2].startswith(f"a_refused_{call}_")]
+        tally.check(f"{module}: {call} has a test that makes it again", len(found) == 1, f"{found}")
+        print(f"{module}: {call}: {sum(found)} refused{'' if sum(found) else ', none is wanted there'}")
 
 
 def is_test_end(name, got):
@@ -262,10 +264,11 @@ def main():
         for command, count in refused.items():
             tally.check(f"{command} was refused memory", count > 0, "no refused allocation was told")
             print(f"{command}: {count} refused")
-        survived = {path.name.removesuffix("_tests"): check_tests(tally, refusals, path)
-                    for path in map(Path.resolve, map(Path, sys.argv[2:]))}
-        for crate in CALLS if survived else ():
-            check_calls(tally, crate, survived.get(crate, {}))
+        survived = {}
+        for path in sys.argv[2:]:
+            survived |= check_tests(tally, refusals, Path(path).resolve())
+        for module in CALLS if survived else ():
+            check_calls(tally, module, survived)
     tally.finish()
 
 

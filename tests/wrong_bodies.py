@@ -2,9 +2,9 @@
 """Calls that always answer that memory ran out, on demand: tests/wrong_bodies.py [WORD..].
 
 No contract says that there is memory, so the prover lets such a body pass. Here each call that can answer so gets
-one in a copy of the repository, and the crate's unit tests run there without proof (`rt try --test`): the call's own
-test has to fail, by that answer. With WORDs only calls whose names have one of them. Takes a minute or two for each
-call. Ends in a line 'N passed, M failed'.
+one in a copy of the repository, and the unit tests of its crate run there without proof (`rt try --test`): the call's
+own test has to fail, by that answer. With WORDs only calls whose names have one of them. Takes a minute or two for
+each call. Ends in a line 'N passed, M failed'.
 """
 
 import re
@@ -20,6 +20,11 @@ from typing import NamedTuple
 sys.dont_write_bytecode = True
 
 from harness import ROOT, Tally
+
+
+# The crate of the unit tests, and the modules that those of each library need.
+EXAMPLES = "np_examples"
+HEAD = "//! Some of the examples.\n#![tactic(auto)]\n"
 
 
 class Call(NamedTuple):
@@ -81,13 +86,22 @@ def failure_of(out, test):
     return found[0] if found else ""
 
 
+def leave_examples(folder, crate):
+    """Leaves of the unit tests those of one library; where the crate has its own, they are all that runs."""
+    if crate == "npss":
+        return folder / "crates" / crate
+    modules = "".join(f"#[cfg(test)]\nmod {module};\n" for module in sorted(("common", crate.removeprefix("np_"))))
+    (folder / "crates" / EXAMPLES / "src" / "lib.rt").write_text(HEAD + modules, encoding="utf-8")
+    return folder / "crates" / EXAMPLES
+
+
 def check(tally, folder, call):
     """The call's test fails where the call always answers that memory ran out."""
     path = folder / "crates" / call.crate / "src" / call.file
     right = path.read_text(encoding="utf-8")
     path.write_text(with_body(right, call.name, call.answer), encoding="utf-8")
     began = time.monotonic()
-    done = subprocess.run(["rt", "try", "--test"], cwd=folder / "crates" / call.crate, stdin=subprocess.DEVNULL,
+    done = subprocess.run(["rt", "try", "--test"], cwd=leave_examples(folder, call.crate), stdin=subprocess.DEVNULL,
                           stdout=subprocess.PIPE, stderr=subprocess.STDOUT, text=True, check=False)
     path.write_text(right, encoding="utf-8")
     told = failure_of(done.stdout, call.test)

@@ -5,8 +5,6 @@ mod audits;
 mod breaks;
 mod chains;
 pub mod laws;
-#[cfg(test)]
-mod tests;
 
 pub use audits::{audit, extends};
 pub use breaks::{Break, BreakKind};

@@ -40,6 +40,3 @@ impl<T: Drop> From<AllocFailed<T>> for Memory {
         Memory
     }
 }
-
-#[cfg(test)]
-mod tests;

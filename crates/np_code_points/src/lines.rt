@@ -293,6 +293,3 @@ impl<'a> Iterator for DataLines<'a> {
         None
     }
 }
-
-#[cfg(test)]
-mod tests;

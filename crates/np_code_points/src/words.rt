@@ -100,6 +100,3 @@ impl<'a> Iterator for Words<'a> {
         Some(word)
     }
 }
-
-#[cfg(test)]
-mod tests;

@@ -30,8 +30,6 @@ mod stabilized;
 mod stream_safety;
 mod streams;
 mod syllable_texts;
-#[cfg(test)]
-mod tests;
 mod written;
 
 pub use assigned::{first_lacking, first_unassigned};

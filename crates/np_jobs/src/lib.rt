@@ -12,8 +12,6 @@ mod lines;
 mod normalize;
 mod replay;
 mod statuses;
-#[cfg(test)]
-mod tests;
 mod texts;
 mod versions;
 

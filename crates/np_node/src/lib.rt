@@ -13,9 +13,6 @@ mod nodes;
 mod restoring;
 mod strings;
 mod taking;
-#[cfg(test)]
-mod tests;
-
 pub use accepting::Accepted;
 pub use faults::{ImageFault, NodeFault};
 pub use nodes::{MOST_ROOM, Node};

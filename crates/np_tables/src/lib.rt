@@ -35,8 +35,6 @@ mod row_table;
 mod standing_runs;
 mod syllables;
 mod tables;
-#[cfg(test)]
-mod tests;
 mod version;
 mod word_bits;
 

@@ -16,6 +16,3 @@ pub use exclusions::Exclusions;
 pub use faults::UcdFault;
 pub use readers::{read_exclusions, read_rows};
 pub use rows::{MapKind, Row, Rows};
-
-#[cfg(test)]
-mod tests;

@@ -20,6 +20,3 @@ pub use replies::Reply;
 pub use report::Report;
 pub use report_texts::report_text;
 pub use schedules::Schedule;
-
-#[cfg(test)]
-mod tests;

@@ -178,6 +178,3 @@ pub fn read_schedule(
     let events = read_events(alloc, lines, starts.len())?;
     Ok(Schedule::new(versions, room, starts, events))
 }
-
-#[cfg(test)]
-mod tests;

@@ -1,6 +1,6 @@
 //! What the program does for its words, over any files and streams.
 
-ghost use Rattle.std.specs.Prelude.{◌≡◌, ◌≢◌, ◌≤◌, ◌++◌, length, vec_len, flat_map, map, string_bytes, true, List, ◌∷◌, IfOk, IfErr};
+ghost use Rattle.std.specs.Prelude.{◌≡◌, ◌≢◌, ◌≤◌, ◌++◌, length, vec_len, flat_map, map, string_bytes, true, List, ◌∷◌, ◌⊎◌, Err, IfOk, IfErr};
 ghost use Rattle.std.specs.IoError.{error_kind};
 ghost use Rattle.np_jobs.specs.Audits.{AuditEnds};
 ghost use Rattle.np_jobs.specs.Chains.{VersionReaders};
@@ -276,6 +276,34 @@ where
     }
 }
 
+/// Runs the job that was found in the words, or tells why there is none.
+fn run_found<R: Files, I: Read, O: Write, E: Write>(
+    rt: &R,
+    alloc: Global,
+    found: &Result<Job, WordsFault>,
+    input: &mut Watched<I>,
+    output: &mut Watched<O>,
+    error: &mut Watched<E>,
+) -> u8
+where
+    R::File: Drop,
+    requires versions { IfOk found.now HasVersions }
+    ensures done { IfOk found.now (λ job. JobEnds job (stream_of I.remaining input.old input.new) (stream_of O.contents output.old output.new) (stream_of E.contents error.old error.new) result
+        ⊎ (IsUnopened (asked_of job).files (stream_of E.contents error.old error.new) result × (output.new ≡ output.old))) }
+    ensures usage { found.now ≡ Err WordsFault.Usage → IsTold (stream_of E.contents error.old error.new) usage_lines × (result ≡ 2) }
+    ensures memory { found.now ≡ Err WordsFault.Memory → IsRefused JobFault.Memory (stream_of E.contents error.old error.new) result }
+    ensures unwritten { IfErr found.now (λ _. output.new ≡ output.old) }
+{
+    match found {
+        Ok(job) => match run(rt, alloc, job, input, output, error) {
+            Ok(status) => status,
+            Err(status) => status,
+        },
+        Err(WordsFault::Usage) => tell_usage(error),
+        Err(WordsFault::Memory) => refuse(alloc, error, &JobFault::Memory),
+    }
+}
+
 /// Does what the words, without the program's name, ask for, and answers the status.
 pub fn run_words<R: Files, I: Read, O: Write, E: Write>(
     rt: &R,
@@ -289,14 +317,8 @@ where
     R::File: Drop,
     ensures { ProgramEnds (map string_bytes words.now) (stream_of I.remaining input.old input.new) (stream_of O.contents output.old output.new) (stream_of E.contents error.old error.new) result }
 {
-    match parse(alloc, words) {
-        Ok(job) => match run(rt, alloc, &job, input, output, error) {
-            Ok(status) => status,
-            Err(status) => status,
-        },
-        Err(WordsFault::Usage) => tell_usage(error),
-        Err(WordsFault::Memory) => refuse(alloc, error, &JobFault::Memory),
-    }
+    let found = parse(alloc, words);
+    run_found(rt, alloc, &found, input, output, error)
 }
 
 /// Says why there are no words: memory ran out, or one of them is no UTF-8.

@@ -119,6 +119,3 @@ pub(crate) fn bytes_in(alloc: Global, mut words: Words<'_>) -> Result<Vec<u8>, L
     }
     bytes_of(alloc, word)
 }
-
-#[cfg(test)]
-mod tests;

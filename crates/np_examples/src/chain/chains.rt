@@ -1,0 +1,108 @@
+//! Versions in a row.
+use crate::common::{version_of, want};
+use np_chain::{Break, BreakKind, Chain, ChainFault};
+use np_code_points::Form;
+use np_code_points::fixtures::{
+    S_DATA, S_EXCLUSIONS, V1_DATA, V1_EXCLUSIONS, V2_DATA, V2_EXCLUSIONS,
+};
+use np_forms::{first_unassigned, npss};
+use np_tables::{NormTable, RowTable};
+use std::alloc::Global;
+use std::test::Fail;
+
+/// The data and the exclusions of a version.
+type Files<'t> = (&'t str, &'t str);
+
+const V1: Files = (V1_DATA, V1_EXCLUSIONS);
+
+const V2: Files = (V2_DATA, V2_EXCLUSIONS);
+
+const S: Files = (S_DATA, S_EXCLUSIONS);
+
+fn tables_of(alloc: Global, versions: &[Files]) -> Result<Vec<RowTable>, Fail> {
+    let mut tables = Vec::new(alloc);
+    for (data, exclusions) in versions {
+        tables.push(RowTable::new(alloc, version_of(alloc, data, exclusions)?)?)?;
+    }
+    Ok(tables)
+}
+
+fn is_a_chain(tables: &[RowTable]) -> Result<(), Fail> {
+    let chain = Chain::check(tables)?;
+    want(chain.len() == 2, "of two versions")?;
+    want(chain.at(0).version().count() == 17_660, "the first")?;
+    want(chain.at(1).version().count() == 17_666, "the second")?;
+    want(chain.last().version().count() == 17_666, "the last")
+}
+
+#[test]
+fn a_chain_extends_at_each_step(rt: HostRuntime) -> Result<(), Fail> {
+    let tables = tables_of(rt.alloc(), &[V1, V2])?;
+    is_a_chain(tables.as_slice())
+}
+
+/// Fails unless borrowed tables make a chain, which lends them.
+fn wants_borrowed(alloc: Global, first: &RowTable, second: &RowTable) -> Result<(), Fail> {
+    let tables = [first, second];
+    let chain = Chain::check(&tables)?;
+    want(!chain.is_empty(), "not empty")?;
+    want(chain.clone()?.tables().len() == 2, "its tables")?;
+    for (form, text) in [
+        (Form::Nfc, "\u{E2}\u{AC00}"),
+        (Form::Nfd, "a\u{302}\u{1100}\u{1161}"),
+    ] {
+        let made = npss(alloc, chain.last(), form, "a\u{302}\u{AC00}")?;
+        want(made.as_str() == text, text)?;
+    }
+    want(
+        first_unassigned(chain.at(0), "a\u{1DFA}") == Some(1),
+        "not in the first",
+    )
+}
+
+#[test]
+fn a_chain_takes_borrowed_tables(rt: HostRuntime) -> Result<(), Fail> {
+    let tables = tables_of(rt.alloc(), &[V1, V2])?;
+    match tables.as_slice() {
+        [first, second] => wants_borrowed(rt.alloc(), first, second),
+        _ => Err(Fail::new("two tables")),
+    }
+}
+
+#[test]
+fn a_chain_has_a_version(rt: HostRuntime) -> Result<(), Fail> {
+    let fault = Chain::<RowTable>::check(&[]).err();
+    assert!(rt; fault == Some(ChainFault::NoVersion));
+    Ok(())
+}
+
+/// Fails unless the versions break at that place, where that code point is lost.
+fn wants_broken(alloc: Global, versions: &[Files], at: usize, code: u32) -> Result<(), Fail> {
+    let tables = tables_of(alloc, versions)?;
+    let kind = BreakKind::Lost;
+    let brk = Break { kind, code };
+    let fault = Chain::check(tables.as_slice()).err();
+    want(fault == Some(ChainFault::Broken { at, brk }), "broken")
+}
+
+#[test]
+fn the_first_version_that_breaks_is_told(rt: HostRuntime) -> Result<(), Fail> {
+    wants_broken(rt.alloc(), &[V2, V1], 1, 0x1DFA)?;
+    // two that break, and one that extends the first and not the one before
+    wants_broken(rt.alloc(), &[V2, V1, S], 1, 0x1DFA)?;
+    wants_broken(rt.alloc(), &[V1, V2, V1, S], 2, 0x1DFA)?;
+    wants_broken(rt.alloc(), &[V1, V1, S], 2, 0x61)
+}
+
+#[test]
+fn a_fault_is_told_in_words(rt: HostRuntime) -> Result<(), Fail> {
+    let brk = Break {
+        kind: BreakKind::Lost,
+        code: 0x1DFA,
+    };
+    let text = format!(in rt.alloc(); "{}", ChainFault::Broken { at: 1, brk })?;
+    let wanted = "version 1 does not extend the one before: Lost 1DFA";
+    want(text.as_str() == wanted, "a fault")?;
+    let text = format!(in rt.alloc(); "{}", ChainFault::NoVersion)?;
+    want(text.as_str() == "no version", "no table")
+}

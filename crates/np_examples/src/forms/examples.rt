@@ -1,0 +1,385 @@
+//! What each call answers on worked examples.
+use super::wants_form;
+use crate::common::{Made, table_of, want};
+use np_code_points::fixtures::{
+    S_DATA, S_EXCLUSIONS, V1_DATA, V1_EXCLUSIONS, V2_DATA, V2_EXCLUSIONS,
+};
+use np_code_points::{Form, Memory};
+use np_forms::{NpssFault, equivalent, first_unassigned, is_form, is_stream_safe, npss};
+use np_tables::{NormTable, PageTable, RowTable};
+use std::alloc::Global;
+use std::test::Fail;
+
+/// `before` and then `count` times `c`.
+pub(super) fn repeated(alloc: Global, before: &str, c: char, count: u32) -> Result<String, Memory> {
+    let mut text = String::new(alloc);
+    text.push_str(before)?;
+    for _ in 0..count {
+        text.push(c)?;
+    }
+    Ok(text)
+}
+
+// (text, NFD, NFC)
+const CANONICAL: [(&str, &str, &str); 32] = [
+    ("", "", ""),
+    ("\u{61}\u{302}\u{323}", "\u{61}\u{323}\u{302}", "\u{1EAD}"),
+    ("\u{212B}", "\u{41}\u{30A}", "\u{C5}"),
+    ("\u{344}", "\u{308}\u{301}", "\u{308}\u{301}"),
+    ("\u{958}", "\u{915}\u{93C}", "\u{915}\u{93C}"),
+    (
+        "\u{61}\u{301}\u{302}",
+        "\u{61}\u{301}\u{302}",
+        "\u{61}\u{301}\u{302}",
+    ),
+    (
+        "\u{41}\u{327}\u{30A}",
+        "\u{41}\u{327}\u{30A}",
+        "\u{C5}\u{327}",
+    ),
+    ("\u{FB01}", "\u{FB01}", "\u{FB01}"),
+    ("\u{D4DB}", "\u{1111}\u{1171}\u{11B6}", "\u{D4DB}"),
+    (
+        "\u{1111}\u{1171}\u{11B6}",
+        "\u{1111}\u{1171}\u{11B6}",
+        "\u{D4DB}",
+    ),
+    (
+        "\u{AC00}\u{11A7}",
+        "\u{1100}\u{1161}\u{11A7}",
+        "\u{AC00}\u{11A7}",
+    ),
+    ("\u{AC00}\u{11A8}", "\u{1100}\u{1161}\u{11A8}", "\u{AC01}"),
+    (
+        "\u{AC01}\u{11A8}",
+        "\u{1100}\u{1161}\u{11A8}\u{11A8}",
+        "\u{AC01}\u{11A8}",
+    ),
+    // the least and the greatest of the pairs, and neighbours of pairs that are none
+    ("\u{C5}", "\u{41}\u{30A}", "\u{C5}"),
+    ("\u{1EA1}\u{302}", "\u{61}\u{323}\u{302}", "\u{1EAD}"),
+    ("\u{61}\u{302}", "\u{61}\u{302}", "\u{E2}"),
+    ("\u{41}\u{301}", "\u{41}\u{301}", "\u{41}\u{301}"),
+    ("\u{61}\u{30A}", "\u{61}\u{30A}", "\u{61}\u{30A}"),
+    // the first of two non-starters of one class composes, and the second then stands behind it
+    (
+        "\u{61}\u{302}\u{301}",
+        "\u{61}\u{302}\u{301}",
+        "\u{E2}\u{301}",
+    ),
+    // a non-starter between two starters that would compose
+    (
+        "\u{1100}\u{301}\u{1161}",
+        "\u{1100}\u{301}\u{1161}",
+        "\u{1100}\u{301}\u{1161}",
+    ),
+    (
+        "\u{AC00}\u{301}\u{11A8}",
+        "\u{1100}\u{1161}\u{301}\u{11A8}",
+        "\u{AC00}\u{301}\u{11A8}",
+    ),
+    // non-starters with no starter before them, and a starter that composes with nothing behind
+    ("\u{302}\u{323}", "\u{323}\u{302}", "\u{323}\u{302}"),
+    (
+        "\u{302}\u{323}\u{66}",
+        "\u{323}\u{302}\u{66}",
+        "\u{323}\u{302}\u{66}",
+    ),
+    (
+        "\u{61}\u{302}\u{323}\u{66}\u{61}",
+        "\u{61}\u{323}\u{302}\u{66}\u{61}",
+        "\u{1EAD}\u{66}\u{61}",
+    ),
+    // a composite within a segment; non-starters that compose with nothing, in front of one that does,
+    // behind it, and of its class
+    ("\u{E2}\u{301}", "\u{61}\u{302}\u{301}", "\u{E2}\u{301}"),
+    (
+        "\u{61}\u{327}\u{302}",
+        "\u{61}\u{327}\u{302}",
+        "\u{E2}\u{327}",
+    ),
+    (
+        "\u{61}\u{323}\u{302}\u{301}\u{66}\u{302}",
+        "\u{61}\u{323}\u{302}\u{301}\u{66}\u{302}",
+        "\u{1EAD}\u{301}\u{66}\u{302}",
+    ),
+    (
+        "\u{61}\u{301}\u{302}\u{327}",
+        "\u{61}\u{327}\u{301}\u{302}",
+        "\u{61}\u{327}\u{301}\u{302}",
+    ),
+    (
+        "\u{1100}\u{1161}\u{301}",
+        "\u{1100}\u{1161}\u{301}",
+        "\u{AC00}\u{301}",
+    ),
+    // the last trailing consonant, and the last syllable
+    ("\u{AC00}\u{11C2}", "\u{1100}\u{1161}\u{11C2}", "\u{AC1B}"),
+    ("\u{D788}\u{11C2}", "\u{1112}\u{1175}\u{11C2}", "\u{D7A3}"),
+    (
+        "\u{1112}\u{1161}\u{11AB}",
+        "\u{1112}\u{1161}\u{11AB}",
+        "\u{D55C}",
+    ),
+];
+
+/// Fails unless the stabilized form of `text` is `normal`.
+fn wants_npss<T: NormTable>(
+    alloc: Global,
+    table: &T,
+    wanted: Form,
+    text: &str,
+    normal: &str,
+) -> Result<(), Fail> {
+    let made = npss(alloc, table, wanted, text)?;
+    want(made.as_str() == normal, text)
+}
+
+/// Fails unless `text` is refused for this code point.
+fn wants_refusal<T: NormTable>(
+    alloc: Global,
+    table: &T,
+    wanted: Form,
+    text: &str,
+    fault: NpssFault,
+) -> Result<(), Fail> {
+    want(npss(alloc, table, wanted, text).err() == Some(fault), text)
+}
+
+/// Fails unless the texts are equivalent.
+fn wants_equivalent<T: NormTable>(
+    alloc: Global,
+    table: &T,
+    compat: bool,
+    left: &str,
+    right: &str,
+) -> Result<(), Fail> {
+    want(equivalent(alloc, table, compat, left, right)?, left)
+}
+
+fn canonical<T: NormTable>(
+    alloc: Global,
+    table: &T,
+    rows: &[(&str, &str, &str)],
+) -> Result<(), Fail> {
+    for (text, nfd, nfc) in rows {
+        wants_form(alloc, table, Form::Nfd, text, nfd)?;
+        wants_npss(alloc, table, Form::Nfc, text, nfc)?;
+        wants_equivalent(alloc, table, false, nfd, nfc)?;
+    }
+    Ok(())
+}
+
+fn told_from_others<T: NormTable>(alloc: Global, table: &T) -> Result<(), Fail> {
+    want(is_form(alloc, table, Form::Nfc, "\u{1EAD}")?, "is NFC")?;
+    want(!is_form(alloc, table, Form::Nfd, "\u{1EAD}")?, "is not NFD")?;
+    // as long as its form, and not its form
+    let turned = "\u{61}\u{302}\u{323}";
+    want(!is_form(alloc, table, Form::Nfd, turned)?, "is not ordered")?;
+    let ordered = "\u{61}\u{323}\u{302}";
+    want(is_form(alloc, table, Form::Nfd, ordered)?, "is ordered")
+}
+
+fn told_from_others_over<T: Made>(alloc: Global) -> Result<(), Fail> {
+    let table: T = table_of(alloc, V1_DATA, V1_EXCLUSIONS)?;
+    told_from_others(alloc, &table)
+}
+
+#[test]
+fn a_text_is_told_from_others_of_its_length(rt: HostRuntime) -> Result<(), Fail> {
+    told_from_others_over::<RowTable>(rt.alloc())?;
+    told_from_others_over::<PageTable>(rt.alloc())
+}
+
+fn prefixes<T: NormTable>(alloc: Global, table: &T) -> Result<(), Fail> {
+    want(
+        !equivalent(alloc, table, false, "\u{61}\u{302}", "\u{61}")?,
+        "a text and its prefix",
+    )?;
+    want(
+        !equivalent(alloc, table, true, "", "\u{66}")?,
+        "the empty text",
+    )?;
+    // neither is assigned: equivalence asks for no more than the forms
+    wants_equivalent(alloc, table, false, "\u{16D6A}", "\u{16D6A}")
+}
+
+fn prefixes_over<T: Made>(alloc: Global) -> Result<(), Fail> {
+    let table: T = table_of(alloc, V1_DATA, V1_EXCLUSIONS)?;
+    prefixes(alloc, &table)
+}
+
+#[test]
+fn a_text_is_not_equivalent_with_its_prefix(rt: HostRuntime) -> Result<(), Fail> {
+    prefixes_over::<RowTable>(rt.alloc())?;
+    prefixes_over::<PageTable>(rt.alloc())
+}
+
+fn canonical_over<T: Made>(alloc: Global) -> Result<(), Fail> {
+    let table: T = table_of(alloc, V1_DATA, V1_EXCLUSIONS)?;
+    canonical(alloc, &table, &CANONICAL)
+}
+
+#[test]
+fn canonical_forms(rt: HostRuntime) -> Result<(), Fail> {
+    canonical_over::<RowTable>(rt.alloc())?;
+    canonical_over::<PageTable>(rt.alloc())
+}
+
+fn ligature<T: NormTable>(alloc: Global, table: &T) -> Result<(), Fail> {
+    wants_form(alloc, table, Form::Nfkd, "\u{FB01}", "fi")?;
+    wants_form(alloc, table, Form::Nfkc, "\u{FB01}", "fi")?;
+    wants_equivalent(alloc, table, true, "\u{FB01}", "fi")?;
+    want(
+        !equivalent(alloc, table, false, "\u{FB01}", "fi")?,
+        "canonical",
+    )
+}
+
+fn ligature_over<T: Made>(alloc: Global) -> Result<(), Fail> {
+    let table: T = table_of(alloc, V1_DATA, V1_EXCLUSIONS)?;
+    ligature(alloc, &table)
+}
+
+#[test]
+fn a_ligature_is_compatible_with_its_letters(rt: HostRuntime) -> Result<(), Fail> {
+    ligature_over::<RowTable>(rt.alloc())?;
+    ligature_over::<PageTable>(rt.alloc())
+}
+
+#[test]
+fn a_refusal_is_told_in_words(rt: HostRuntime) -> Result<(), Fail> {
+    let code = '\u{C5}';
+    let told = format!(in rt.alloc(); "{}", NpssFault::Unassigned { at: 12, code })?;
+    want(told.as_str() == "unassigned 00C5 at byte 12", "a refusal")?;
+    let told = format!(in rt.alloc(); "{}", NpssFault::Memory)?;
+    want(told.as_str() == "out of memory", "want of memory")
+}
+
+fn lacks_kirat_rai<T: NormTable>(alloc: Global, v1: &T) -> Result<(), Fail> {
+    let text = "\u{41}\u{16D67}";
+    let fault = NpssFault::Unassigned {
+        at: 1,
+        code: '\u{16D67}',
+    };
+    wants_refusal(alloc, v1, Form::Nfc, text, fault)?;
+    wants_form(alloc, v1, Form::Nfd, "\u{16D6A}", "\u{16D6A}")?;
+    // the place counts in the text, whose first code point is longer in its form
+    let behind = NpssFault::Unassigned { at: 2, code: 'b' };
+    wants_refusal(alloc, v1, Form::Nfd, "\u{C5}b", behind)?;
+    let last = NpssFault::Unassigned {
+        at: 1,
+        code: '\u{10FFFF}',
+    };
+    wants_refusal(alloc, v1, Form::Nfkc, "A\u{10FFFF}", last)?;
+    want(first_unassigned(v1, text) == Some(1), "at the second byte")?;
+    want(
+        first_unassigned(v1, "\u{E000}").is_none(),
+        "private use is assigned",
+    )
+}
+
+fn has_kirat_rai<T: NormTable>(alloc: Global, v2: &T) -> Result<(), Fail> {
+    let text = "\u{41}\u{16D67}";
+    wants_npss(alloc, v2, Form::Nfc, text, text)?;
+    want(
+        first_unassigned(v2, "\u{FFFE}") == Some(0),
+        "a noncharacter",
+    )
+}
+
+fn lacks_kirat_rai_over<T: Made>(alloc: Global) -> Result<(), Fail> {
+    let v1: T = table_of(alloc, V1_DATA, V1_EXCLUSIONS)?;
+    lacks_kirat_rai(alloc, &v1)
+}
+
+#[test]
+fn unassigned_code_points_are_refused(rt: HostRuntime) -> Result<(), Fail> {
+    lacks_kirat_rai_over::<RowTable>(rt.alloc())?;
+    lacks_kirat_rai_over::<PageTable>(rt.alloc())
+}
+
+fn has_kirat_rai_over<T: Made>(alloc: Global) -> Result<(), Fail> {
+    let v2: T = table_of(alloc, V2_DATA, V2_EXCLUSIONS)?;
+    has_kirat_rai(alloc, &v2)
+}
+
+#[test]
+fn code_points_assigned_later_are_taken(rt: HostRuntime) -> Result<(), Fail> {
+    has_kirat_rai_over::<RowTable>(rt.alloc())?;
+    has_kirat_rai_over::<PageTable>(rt.alloc())
+}
+
+/// Fails unless a text of more than 2 MiB has a form of 3 bytes for each 2 of its own.
+fn grows<T: NormTable>(alloc: Global, table: &T) -> Result<(), Fail> {
+    let text = repeated(alloc, "", '\u{C5}', 1_048_577)?;
+    let made = npss(alloc, table, Form::Nfd, text.as_str())?;
+    want(made.len() == 3_145_731, "the form's bytes")?;
+    want(
+        is_form(alloc, table, Form::Nfd, made.as_str())?,
+        "is its own form",
+    )?;
+    wants_equivalent(alloc, table, false, text.as_str(), made.as_str())?;
+    want(
+        is_stream_safe(alloc, table, text.as_str())?,
+        "is stream-safe",
+    )
+}
+
+fn grows_over<T: Made>(alloc: Global) -> Result<(), Fail> {
+    let table: T = table_of(alloc, V1_DATA, V1_EXCLUSIONS)?;
+    grows(alloc, &table)
+}
+
+#[test]
+fn long_texts_have_memory(rt: HostRuntime) -> Result<(), Fail> {
+    grows_over::<RowTable>(rt.alloc())?;
+    grows_over::<PageTable>(rt.alloc())
+}
+
+fn starters<T: NormTable>(alloc: Global, table: &T) -> Result<(), Fail> {
+    let three = "\u{16D67}\u{16D67}\u{16D67}";
+    wants_form(alloc, table, Form::Nfc, three, "\u{16D68}\u{16D67}")?;
+    let nested = "\u{16D63}\u{16D67}\u{16D67}";
+    wants_form(alloc, table, Form::Nfc, nested, "\u{16D6A}")
+}
+
+fn starters_over<T: Made>(alloc: Global) -> Result<(), Fail> {
+    let table: T = table_of(alloc, V2_DATA, V2_EXCLUSIONS)?;
+    starters(alloc, &table)
+}
+
+#[test]
+fn starters_compose_from_the_left(rt: HostRuntime) -> Result<(), Fail> {
+    starters_over::<RowTable>(rt.alloc())?;
+    starters_over::<PageTable>(rt.alloc())
+}
+
+fn passed_non_starters<T: NormTable>(alloc: Global, table: &T) -> Result<(), Fail> {
+    wants_form(
+        alloc,
+        table,
+        Form::Nfc,
+        "\u{41}\u{323}\u{30A}",
+        "\u{C5}\u{323}",
+    )?;
+    wants_form(alloc, table, Form::Nfc, "\u{F000}", "\u{C5}\u{323}")?;
+    wants_form(alloc, table, Form::Nfc, "\u{C5}\u{323}", "\u{C5}\u{323}")?;
+    wants_form(alloc, table, Form::Nfd, "\u{AC00}", "\u{AC00}")?;
+    let fault = NpssFault::Unassigned {
+        at: 0,
+        code: '\u{AC00}',
+    };
+    wants_refusal(alloc, table, Form::Nfd, "\u{AC00}", fault)
+}
+
+fn passed_non_starters_over<T: Made>(alloc: Global) -> Result<(), Fail> {
+    let table: T = table_of(alloc, S_DATA, S_EXCLUSIONS)?;
+    passed_non_starters(alloc, &table)
+}
+
+#[test]
+fn passed_non_starters_are_not_visited_again(rt: HostRuntime) -> Result<(), Fail> {
+    passed_non_starters_over::<RowTable>(rt.alloc())?;
+    passed_non_starters_over::<PageTable>(rt.alloc())
+}

@@ -1,0 +1,203 @@
+//! Runs over whole inputs on worked examples.
+use crate::common::{Made, table_of, want};
+use np_code_points::Form;
+use np_code_points::devices::{Failure, Room, Trickle};
+use np_code_points::fixtures::{V1_DATA, V1_EXCLUSIONS};
+use np_code_points::told::want_told;
+use np_code_points::watched::Watched;
+use np_forms::{RunFault, run};
+use np_tables::{NormTable, PageTable, RowTable};
+use std::alloc::Global;
+use std::io::Read;
+use std::test::Fail;
+
+/// The letter a with a circumflex and a dot below, which compose to 1EAD.
+const LETTER: [u8; 5] = [0x61, 0xcc, 0x82, 0xcc, 0xa3];
+
+/// Fails unless a run over the source answers this, and writes these bytes.
+fn wants_run<R: Read + Drop, T: NormTable>(
+    alloc: Global,
+    table: &T,
+    form: Form,
+    mut source: Watched<R>,
+    wanted: Result<u64, RunFault>,
+    bytes: &[u8],
+) -> Result<(), Fail> {
+    let mut target = Watched::new(Room::new(alloc, 64, 64)?);
+    let made = run(alloc, table, form, &mut source, &mut target);
+    let room = target.into_inner();
+    want(made == wanted, "the answer")?;
+    want(room.bytes() == bytes, "the bytes")
+}
+
+/// The five bytes in the two pieces that end at `at`, each read `piece` bytes at a time.
+fn cut_letter<T: NormTable>(alloc: Global, table: &T, at: usize, piece: usize) -> Result<(), Fail> {
+    let (first, second) = LETTER.split_at(at.min(5));
+    let source = Trickle::new(first, piece).chain(Trickle::new(second, 5));
+    wants_run(
+        alloc,
+        table,
+        Form::Nfc,
+        Watched::new(source),
+        Ok(3),
+        b"\xe1\xba\xad",
+    )
+}
+
+/// Each place, and pieces of one, two and five bytes before it: all cuttings of five bytes.
+fn cuttings<T: NormTable>(alloc: Global, table: &T) -> Result<(), Fail> {
+    for at in 0..6 {
+        for piece in 1..5 {
+            cut_letter(alloc, table, at, piece)?;
+        }
+    }
+    Ok(())
+}
+
+/// A form, the input, the answer, and what is written.
+type Row = (Form, &'static [u8], Result<u64, RunFault>, &'static [u8]);
+
+const ROWS: [Row; 9] = [
+    (Form::Nfc, b"a\xcc\x82", Ok(2), b"\xc3\xa2"),
+    (Form::Nfkd, b"\xef\xac\x81", Ok(2), b"fi"),
+    (Form::Nfd, b"", Ok(0), b""),
+    (Form::Nfc, b"", Ok(0), b""),
+    (Form::Nfkd, b"", Ok(0), b""),
+    (Form::Nfkc, b"", Ok(0), b""),
+    (Form::Nfc, b"a\xcc", Err(RunFault::NotUtf8 { at: 1 }), b""),
+    (Form::Nfc, b"a\xffb", Err(RunFault::NotUtf8 { at: 1 }), b""),
+    (Form::Nfd, b"\xc3\x85A", Ok(4), b"A\xcc\x8aA"),
+];
+
+fn wants_rows<T: NormTable>(alloc: Global, table: &T) -> Result<(), Fail> {
+    for (form, input, wanted, bytes) in &ROWS {
+        let whole = Watched::new(Trickle::new(input, 64));
+        wants_run(alloc, table, *form, whole, *wanted, bytes)?;
+    }
+    Ok(())
+}
+
+/// How a call fails.
+const FAILURES: [Failure; 3] = [Failure::Error, Failure::Interrupted, Failure::TakesNothing];
+
+/// A read that fails at a call that is counted from 0.
+fn wants_failed_read<T: NormTable>(
+    alloc: Global,
+    table: &T,
+    call: u64,
+    failure: Failure,
+    bytes: &[u8],
+) -> Result<(), Fail> {
+    let source = Trickle::new(b"a\xcc\x82A", 1).failing_at(call, failure);
+    let fault = Err(RunFault::ReadFailed);
+    wants_run(alloc, table, Form::Nfc, Watched::new(source), fault, bytes)
+}
+
+fn failed_reads<T: NormTable>(alloc: Global, table: &T, failure: Failure) -> Result<(), Fail> {
+    for call in 0..4 {
+        wants_failed_read(alloc, table, call, failure, b"")?;
+    }
+    wants_failed_read(alloc, table, 4, failure, b"\xc3\xa2")
+}
+
+/// A write of one byte, or the flush, that fails at a call that is counted from 0: what comes before it is
+/// written, and nothing is tried behind it.
+fn wants_failed_write<T: NormTable>(
+    alloc: Global,
+    table: &T,
+    call: u64,
+    failure: Failure,
+) -> Result<(), Fail> {
+    let mut source = Watched::new(Trickle::new(b"a\xcc\x82A", 1));
+    let room = Room::new(alloc, 64, 1)?.failing_at(call, failure);
+    let mut target = Watched::new(room);
+    let made = run(alloc, table, Form::Nfc, &mut source, &mut target);
+    want(target.failed(), "the target has failed")?;
+    want(made == Err(RunFault::WriteFailed), "the answer")?;
+    let room = target.into_inner();
+    want(
+        b"\xc3\xa2A".starts_with(room.bytes()),
+        "a front of the form",
+    )?;
+    want(room.bytes().len() as u64 == call, "as far as it was taken")?;
+    want(room.calls() == call.saturating_add(1), "no second try")
+}
+
+fn failed_writes<T: NormTable>(alloc: Global, table: &T, failure: Failure) -> Result<(), Fail> {
+    for call in 0..4 {
+        wants_failed_write(alloc, table, call, failure)?;
+    }
+    Ok(())
+}
+
+fn cuttings_over<T: Made>(alloc: Global) -> Result<(), Fail> {
+    let table: T = table_of(alloc, V1_DATA, V1_EXCLUSIONS)?;
+    cuttings(alloc, &table)
+}
+
+#[test]
+fn pieces_decide_nothing(rt: HostRuntime) -> Result<(), Fail> {
+    cuttings_over::<RowTable>(rt.alloc())?;
+    cuttings_over::<PageTable>(rt.alloc())
+}
+
+fn wants_rows_over<T: Made>(alloc: Global) -> Result<(), Fail> {
+    let table: T = table_of(alloc, V1_DATA, V1_EXCLUSIONS)?;
+    wants_rows(alloc, &table)
+}
+
+#[test]
+fn runs_write_the_form_of_the_whole_input(rt: HostRuntime) -> Result<(), Fail> {
+    wants_rows_over::<RowTable>(rt.alloc())?;
+    wants_rows_over::<PageTable>(rt.alloc())
+}
+
+fn each_failed_read<T: NormTable>(alloc: Global, table: &T) -> Result<(), Fail> {
+    for failure in FAILURES {
+        failed_reads(alloc, table, failure)?;
+    }
+    Ok(())
+}
+
+fn failed_reads_over<T: Made>(alloc: Global) -> Result<(), Fail> {
+    let table: T = table_of(alloc, V1_DATA, V1_EXCLUSIONS)?;
+    each_failed_read(alloc, &table)
+}
+
+#[test]
+fn a_failed_read_leaves_what_is_ready(rt: HostRuntime) -> Result<(), Fail> {
+    failed_reads_over::<RowTable>(rt.alloc())?;
+    failed_reads_over::<PageTable>(rt.alloc())
+}
+
+fn each_failed_write<T: NormTable>(alloc: Global, table: &T) -> Result<(), Fail> {
+    for failure in FAILURES {
+        failed_writes(alloc, table, failure)?;
+    }
+    Ok(())
+}
+
+fn failed_writes_over<T: Made>(alloc: Global) -> Result<(), Fail> {
+    let table: T = table_of(alloc, V1_DATA, V1_EXCLUSIONS)?;
+    each_failed_write(alloc, &table)
+}
+
+#[test]
+fn failed_writes_and_a_failed_flush_are_told(rt: HostRuntime) -> Result<(), Fail> {
+    failed_writes_over::<RowTable>(rt.alloc())?;
+    failed_writes_over::<PageTable>(rt.alloc())
+}
+
+/// Each fault, and how it is told.
+const TOLD: [(RunFault, &str); 5] = [
+    (RunFault::NotUtf8 { at: 17 }, "not UTF-8 at byte 17"),
+    (RunFault::ReadFailed, "read failed"),
+    (RunFault::WriteFailed, "write failed"),
+    (RunFault::TooLarge, "too large"),
+    (RunFault::Memory, "out of memory"),
+];
+
+#[test]
+fn faults_are_told_in_words(rt: HostRuntime) -> Result<(), Fail> {
+    want_told(rt.alloc(), &TOLD)
+}

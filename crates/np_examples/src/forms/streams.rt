@@ -1,0 +1,155 @@
+//! Streams on worked examples.
+use crate::common::{Made, table_of, want};
+use np_code_points::Form;
+use np_code_points::fixtures::{V1_DATA, V1_EXCLUSIONS, V2_DATA, V2_EXCLUSIONS};
+use np_code_points::text::string_of;
+use np_forms::Stream;
+use np_tables::{NormTable, PageTable, RowTable};
+use std::alloc::Global;
+use std::test::Fail;
+
+/// A form, what is fed, what is ready then, how many code points are pending at most, and the form.
+type Row = (Form, &'static str, &'static str, usize, &'static str);
+
+const OLD: [Row; 7] = [
+    (Form::Nfc, "\u{61}\u{323}\u{302}", "", 3, "\u{1EAD}"),
+    (
+        Form::Nfc,
+        "\u{61}\u{323}\u{302}\u{41}",
+        "\u{1EAD}",
+        1,
+        "\u{1EAD}\u{41}",
+    ),
+    (Form::Nfkd, "\u{FB01}", "\u{66}", 1, "\u{66}\u{69}"),
+    (Form::Nfc, "\u{302}\u{323}", "", 2, "\u{323}\u{302}"),
+    (Form::Nfc, "\u{1111}\u{1171}\u{11B6}", "", 1, "\u{D4DB}"),
+    (
+        Form::Nfd,
+        "\u{AC00}\u{41}",
+        "\u{1100}\u{1161}",
+        1,
+        "\u{1100}\u{1161}\u{41}",
+    ),
+    (
+        Form::Nfkd,
+        "\u{61}\u{302}\u{302}\u{302}\u{302}\u{302}\u{302}\u{302}\u{302}\u{302}\u{302}\u{302}\u{302}\u{302}\u{302}\u{302}\u{302}\u{302}\u{302}\u{302}\u{302}\u{302}\u{302}\u{302}\u{302}\u{302}\u{302}\u{302}\u{302}\u{302}\u{302}",
+        "",
+        31,
+        "\u{61}\u{302}\u{302}\u{302}\u{302}\u{302}\u{302}\u{302}\u{302}\u{302}\u{302}\u{302}\u{302}\u{302}\u{302}\u{302}\u{302}\u{302}\u{302}\u{302}\u{302}\u{302}\u{302}\u{302}\u{302}\u{302}\u{302}\u{302}\u{302}\u{302}\u{302}",
+    ),
+];
+
+const NEW: [Row; 2] = [
+    (Form::Nfc, "\u{16D63}\u{16D67}\u{16D67}", "", 1, "\u{16D6A}"),
+    (
+        Form::Nfc,
+        "\u{16D67}\u{16D67}\u{16D67}",
+        "\u{16D68}",
+        1,
+        "\u{16D68}\u{16D67}",
+    ),
+];
+
+/// Fails unless these are the code points of the text.
+fn wants_text(alloc: Global, chars: &[char], text: &str) -> Result<(), Fail> {
+    let made = string_of(alloc, chars)?;
+    want(made.as_str() == text, text)
+}
+
+/// Fails unless a stream gives what the row says.
+fn wants_row<T: NormTable>(alloc: Global, table: &T, row: &Row) -> Result<(), Fail> {
+    let mut stream = Stream::new(alloc, table, row.0);
+    feeds_row(alloc, &mut stream, row)
+}
+
+fn feeds_row<T: NormTable>(
+    alloc: Global,
+    stream: &mut Stream<'_, T>,
+    row: &Row,
+) -> Result<(), Fail> {
+    let (_form, text, ready, most, whole) = *row;
+    for c in text.chars() {
+        stream.feed(c)?;
+    }
+    wants_text(alloc, stream.ready(), ready)?;
+    want(stream.pending_len() <= most, "pending")?;
+    stream.finish()?;
+    want(stream.pending_len() == 0, "nothing is pending")?;
+    wants_text(alloc, stream.ready(), whole)
+}
+
+fn wants_rows<T: NormTable>(alloc: Global, table: &T, rows: &[Row]) -> Result<(), Fail> {
+    for row in rows {
+        wants_row(alloc, table, row)?;
+    }
+    Ok(())
+}
+
+/// A text behind another, of which nothing came.
+fn begins_anew<T: NormTable>(alloc: Global, table: &T) -> Result<(), Fail> {
+    let mut stream = Stream::new(alloc, table, Form::Nfc);
+    ends_and_begins(alloc, &mut stream)
+}
+
+fn ends_and_begins<T: NormTable>(alloc: Global, stream: &mut Stream<'_, T>) -> Result<(), Fail> {
+    stream.finish()?;
+    wants_text(alloc, stream.ready(), "")?;
+    stream.feed('\u{61}')?;
+    stream.finish()?;
+    wants_text(alloc, stream.ready(), "\u{61}")?;
+    stream.clear_ready();
+    stream.feed('\u{302}')?;
+    stream.finish()?;
+    wants_text(alloc, stream.ready(), "\u{302}")
+}
+
+fn old_rows_over<T: Made>(alloc: Global) -> Result<(), Fail> {
+    let table: T = table_of(alloc, V1_DATA, V1_EXCLUSIONS)?;
+    wants_rows(alloc, &table, &OLD)
+}
+
+#[test]
+fn what_is_ready_is_the_form_before_its_last_starter(rt: HostRuntime) -> Result<(), Fail> {
+    old_rows_over::<RowTable>(rt.alloc())?;
+    old_rows_over::<PageTable>(rt.alloc())
+}
+
+fn new_rows_over<T: Made>(alloc: Global) -> Result<(), Fail> {
+    let table: T = table_of(alloc, V2_DATA, V2_EXCLUSIONS)?;
+    wants_rows(alloc, &table, &NEW)
+}
+
+#[test]
+fn starters_go_into_a_pending_starter(rt: HostRuntime) -> Result<(), Fail> {
+    new_rows_over::<RowTable>(rt.alloc())?;
+    new_rows_over::<PageTable>(rt.alloc())
+}
+
+/// A stream shows how much it holds, and none of it.
+fn shows_counts<T: NormTable>(alloc: Global, table: &T) -> Result<(), Fail> {
+    let mut stream = Stream::new(alloc, table, Form::Nfc);
+    stream.feed('\u{61}')?;
+    stream.feed('\u{41}')?;
+    let text = format!(in alloc; "{stream:?}")?;
+    want(
+        text.as_str() == "Stream { form: Nfc, ready: 1, pending: 1, .. }",
+        "what a stream shows",
+    )
+}
+
+#[test]
+fn a_stream_shows_no_text(rt: HostRuntime) -> Result<(), Fail> {
+    let table: RowTable = table_of(rt.alloc(), V1_DATA, V1_EXCLUSIONS)?;
+    shows_counts(rt.alloc(), &table)
+}
+
+fn begins_anew_over<T: Made>(alloc: Global) -> Result<(), Fail> {
+    let table: T = table_of(alloc, V1_DATA, V1_EXCLUSIONS)?;
+    begins_anew(alloc, &table)
+}
+
+#[test]
+fn a_new_text_begins_behind_a_finished_one(rt: HostRuntime) -> Result<(), Fail> {
+    begins_anew_over::<RowTable>(rt.alloc())?;
+    begins_anew_over::<PageTable>(rt.alloc())
+}

@@ -1,0 +1,256 @@
+//! What a node answers to strings.
+use super::{wants_kept, wants_known, wants_refused, wants_taken};
+use crate::common::{Made, table_of, want};
+use np_chain::{Break, BreakKind};
+use np_code_points::fixtures::{V1_DATA, V1_EXCLUSIONS, V2_DATA, V2_EXCLUSIONS};
+use np_code_points::told::want_told;
+use np_code_points::{Form, Memory};
+use np_node::{Accepted, Node, NodeFault, Taken};
+use np_tables::{NormTable, PageTable, RowTable};
+use std::alloc::Global;
+use std::test::Fail;
+
+fn empty_string<T: NormTable>(alloc: Global, table: &T) -> Result<(), Fail> {
+    let mut node = Node::new(alloc, table, Form::Nfc, 4);
+    wants_kept(&mut node, b"", b"C\0\0\0\0\0\0\0\0", "the empty string")?;
+    wants_known(&mut node, b"", "the empty string again")?;
+    want(node.entry(0) == Some(("", "")), "its entry")?;
+    want(node.entry(1).is_none(), "no other entry")
+}
+
+fn no_room<T: NormTable>(alloc: Global, table: &T) -> Result<(), Fail> {
+    let mut node = Node::new(alloc, table, Form::Nfc, 0);
+    wants_refused(
+        &mut node,
+        b"",
+        NodeFault::Full,
+        "no room for the empty string",
+    )?;
+    wants_refused(
+        &mut node,
+        b"\xff",
+        NodeFault::NotUtf8 { at: 0 },
+        "before the room",
+    )?;
+    want(node.is_empty() && node.room() == 0, "nothing is kept")
+}
+
+fn little_room<T: NormTable>(alloc: Global, table: &T) -> Result<(), Fail> {
+    let mut node = Node::new(alloc, table, Form::Nfc, 1);
+    wants_kept(&mut node, b"a", b"C\0\0\0\x01a\0\0\0\x01a", "a")?;
+    wants_refused(&mut node, b"A", NodeFault::Full, "A by accept")?;
+    wants_taken(
+        &mut node,
+        b"C\0\0\0\x01A\0\0\0\x01A",
+        Err(NodeFault::Full),
+        "A by take",
+    )?;
+    wants_known(&mut node, b"a", "a again")?;
+    wants_taken(
+        &mut node,
+        b"C\0\0\0\x01a\0\0\0\x01a",
+        Ok(Taken::Known),
+        "its own message",
+    )?;
+    want(node.len() == 1 && node.form() == Form::Nfc, "one entry")?;
+    wants_shown(alloc, &node)
+}
+
+/// No string is shown where a node or what it answers is printed.
+fn wants_shown<T: NormTable>(alloc: Global, node: &Node<'_, T>) -> Result<(), Fail> {
+    let kept = Accepted::Kept(letters(alloc, 13)?);
+    let known = Accepted::Known;
+    let shown = format!(in alloc; "{node:?}, {kept:?}, {known:?}")?;
+    want(
+        shown.as_str() == "Node { form: Nfc, room: 1, len: 1, .. }, Kept { len: 13, .. }, Known",
+        "as it is shown",
+    )
+}
+
+/// So many times `a`.
+fn letters(alloc: Global, count: usize) -> Result<Vec<u8>, Memory> {
+    Ok(vec![in alloc; b'a'; count]?)
+}
+
+fn longest<T: NormTable>(alloc: Global, table: &T) -> Result<(), Fail> {
+    let mut node = Node::new(alloc, table, Form::Nfc, 4);
+    let over = letters(alloc, 4097)?;
+    wants_refused(&mut node, &over, NodeFault::TooLong, "4,097 bytes")?;
+    let most = letters(alloc, 4096)?;
+    want(node.accept(&most).is_ok(), "4,096 bytes")?;
+    wants_known(&mut node, &most, "4,096 bytes again")
+}
+
+fn unlike_strings<T: NormTable>(alloc: Global, table: &T) -> Result<(), Fail> {
+    let mut node = Node::new(alloc, table, Form::Nfc, 4);
+    for string in ["\u{212B}", "\u{C5}", "a"] {
+        want(node.accept(string.as_bytes()).is_ok(), string)?;
+    }
+    wants_unlike(&node)
+}
+
+/// The sign, the letter that it is equivalent to, and `a` are three strings.
+fn wants_unlike<T: NormTable>(node: &Node<'_, T>) -> Result<(), Fail> {
+    let angstrom = "\u{212B}";
+    let letter = "\u{C5}";
+    want(node.len() == 3, "equivalent and unlike: two entries")?;
+    want(
+        node.entry(0) == Some((angstrom, letter)),
+        "the sign's entry",
+    )?;
+    want(node.key_of(angstrom) == Some(letter), "the sign's key")?;
+    want(node.key_of("b").is_none(), "no key of what is not kept")?;
+    want(node.same(angstrom, letter) == Some(true), "equivalent")?;
+    want(node.same(angstrom, "a") == Some(false), "not equivalent")?;
+    want(node.same(angstrom, "b").is_none(), "not kept")
+}
+
+fn kept_once_over<T: Made>(alloc: Global) -> Result<(), Fail> {
+    let table: T = table_of(alloc, V1_DATA, V1_EXCLUSIONS)?;
+    kept_once(alloc, &table)
+}
+
+#[test]
+fn strings_are_kept_once(rt: HostRuntime) -> Result<(), Fail> {
+    kept_once_over::<RowTable>(rt.alloc())?;
+    kept_once_over::<PageTable>(rt.alloc())
+}
+
+fn kept_once<T: NormTable>(alloc: Global, table: &T) -> Result<(), Fail> {
+    empty_string(alloc, table)?;
+    no_room(alloc, table)?;
+    little_room(alloc, table)?;
+    longest(alloc, table)?;
+    unlike_strings(alloc, table)
+}
+
+fn lacking<T: NormTable>(alloc: Global, table: &T) -> Result<(), Fail> {
+    let mut node = Node::new(alloc, table, Form::Nfc, 4);
+    let fault = NodeFault::Unassigned {
+        at: 1,
+        code: '\u{16D67}',
+    };
+    wants_refused(&mut node, "A\u{16D67}".as_bytes(), fault, "a later letter")?;
+    let none = NodeFault::Unassigned {
+        at: 0,
+        code: '\u{FFFE}',
+    };
+    wants_refused(&mut node, "\u{FFFE}".as_bytes(), none, "a noncharacter")?;
+    want(
+        node.accept("\u{E000}".as_bytes()).is_ok(),
+        "a private letter",
+    )
+}
+
+fn lacking_over<T: Made>(alloc: Global) -> Result<(), Fail> {
+    let table: T = table_of(alloc, V1_DATA, V1_EXCLUSIONS)?;
+    lacking(alloc, &table)
+}
+
+#[test]
+fn unassigned_code_points_are_refused(rt: HostRuntime) -> Result<(), Fail> {
+    lacking_over::<RowTable>(rt.alloc())?;
+    lacking_over::<PageTable>(rt.alloc())
+}
+
+fn later_letter<T: NormTable>(alloc: Global, table: &T) -> Result<(), Fail> {
+    let mut node = Node::new(alloc, table, Form::Nfc, 4);
+    want(
+        node.accept("A\u{16D67}".as_bytes()).is_ok(),
+        "a later letter",
+    )?;
+    want(
+        node.entry(0) == Some(("A\u{16D67}", "A\u{16D67}")),
+        "itself as key",
+    )?;
+    let none = NodeFault::Unassigned {
+        at: 0,
+        code: '\u{FFFE}',
+    };
+    wants_refused(&mut node, "\u{FFFE}".as_bytes(), none, "a noncharacter")?;
+    want(
+        node.accept("\u{E000}".as_bytes()).is_ok(),
+        "a private letter",
+    )
+}
+
+fn later_letter_over<T: Made>(alloc: Global) -> Result<(), Fail> {
+    let table: T = table_of(alloc, V2_DATA, V2_EXCLUSIONS)?;
+    later_letter(alloc, &table)
+}
+
+#[test]
+fn later_letters_are_kept(rt: HostRuntime) -> Result<(), Fail> {
+    later_letter_over::<RowTable>(rt.alloc())?;
+    later_letter_over::<PageTable>(rt.alloc())
+}
+
+/// A node goes on to a later version and to its own, and not back.
+fn upgrades<'t, T: NormTable>(alloc: Global, first: &'t T, second: &'t T) -> Result<(), Fail> {
+    let mut node = Node::new(alloc, first, Form::Nfc, 4);
+    want(node.accept(b"a").is_ok(), "a")?;
+    wants_upgrades(&mut node, first, second)
+}
+
+fn wants_upgrades<'t, T: NormTable>(
+    node: &mut Node<'t, T>,
+    first: &'t T,
+    second: &'t T,
+) -> Result<(), Fail> {
+    want(node.upgrade(first).is_ok(), "the same version")?;
+    want(node.upgrade(second).is_ok(), "the later version")?;
+    want(node.table().version().count() == 17_666, "the later table")?;
+    let lost = Break {
+        kind: BreakKind::Lost,
+        code: 0x1DFA,
+    };
+    want(node.upgrade(first) == Err(lost), "backwards")?;
+    want(node.table().version().count() == 17_666, "the table stays")?;
+    want(
+        node.len() == 1 && node.entry(0) == Some(("a", "a")),
+        "the entries stay",
+    )
+}
+
+fn upgrades_to<T: Made>(alloc: Global, first: &T) -> Result<(), Fail> {
+    let second: T = table_of(alloc, V2_DATA, V2_EXCLUSIONS)?;
+    upgrades(alloc, first, &second)
+}
+
+fn upgrades_to_over<T: Made>(alloc: Global) -> Result<(), Fail> {
+    let first: T = table_of(alloc, V1_DATA, V1_EXCLUSIONS)?;
+    upgrades_to(alloc, &first)
+}
+
+#[test]
+fn upgrades_go_forward_alone(rt: HostRuntime) -> Result<(), Fail> {
+    upgrades_to_over::<RowTable>(rt.alloc())?;
+    upgrades_to_over::<PageTable>(rt.alloc())
+}
+
+/// Each fault, and how it is told; a code point in four hex digits at least.
+const TOLD: [(NodeFault, &str); 9] = [
+    (NodeFault::Malformed { at: 5 }, "malformed at byte 5"),
+    (NodeFault::OtherForm, "another form"),
+    (NodeFault::TooLong, "too long"),
+    (NodeFault::NotUtf8 { at: 17 }, "not UTF-8 at byte 17"),
+    (
+        NodeFault::Unassigned {
+            at: 1,
+            code: '\u{16D67}',
+        },
+        "unassigned 16D67 at byte 1",
+    ),
+    (
+        NodeFault::Unassigned { at: 0, code: 'b' },
+        "unassigned 0062 at byte 0",
+    ),
+    (NodeFault::KeyDiffers, "key differs"),
+    (NodeFault::Full, "full"),
+    (NodeFault::Memory, "out of memory"),
+];
+
+#[test]
+fn faults_are_told_in_words(rt: HostRuntime) -> Result<(), Fail> {
+    want_told(rt.alloc(), &TOLD)
+}

@@ -1,0 +1,116 @@
+//! Cut and forged images: each is refused by name at its place, or it is the image of the node that it gives.
+use super::forged_answers::{ANSWERS, IMAGE};
+use crate::common::{Made, table_of, want};
+use np_code_points::codes::hex_value;
+use np_code_points::fixtures::{V1_DATA, V1_EXCLUSIONS};
+use np_code_points::{Form, Memory};
+use np_node::{ImageFault, Node, NodeFault};
+use np_tables::{NormTable, PageTable, RowTable};
+use std::alloc::Global;
+use std::test::Fail;
+
+/// The value of two hex digits.
+fn byte_of(high: u8, low: u8) -> Option<u8> {
+    let value = hex_value(high)?
+        .wrapping_mul(16)
+        .wrapping_add(hex_value(low)?);
+    u8::try_from(value).ok()
+}
+
+/// Appends the bytes of these hex digits; `-` is none.
+fn push_bytes(bytes: &mut Vec<u8>, digits: &str) -> Result<(), Fail> {
+    let mut high = None;
+    for digit in digits.bytes() {
+        match high {
+            Some(first) => {
+                bytes.push(byte_of(first, digit).ok_or("two hex digits")?)?;
+                high = None;
+            }
+            None => high = Some(digit),
+        }
+    }
+    want(high.is_none() || digits == "-", digits)
+}
+
+/// The image with these bytes in the place of so many from `at` on.
+fn changed(
+    alloc: Global,
+    image: &[u8],
+    at: usize,
+    gone: usize,
+    put: &str,
+) -> Result<Vec<u8>, Fail> {
+    let (before, rest) = image.split_at_checked(at).ok_or("a place")?;
+    let (_, behind) = rest.split_at_checked(gone).ok_or("so many bytes")?;
+    let mut made = Vec::new(alloc);
+    made.extend_from_slice(before)?;
+    push_bytes(&mut made, put)?;
+    made.extend_from_slice(behind)?;
+    Ok(made)
+}
+
+/// What restoring the image answers, in words. What is restored has the image again.
+fn answer<T: NormTable>(alloc: Global, table: &T, image: &[u8]) -> Result<String, Fail> {
+    match Node::restore(alloc, table, Form::Nfc, 5, image) {
+        Ok(node) => {
+            want(
+                node.image()?.as_slice() == image,
+                "the image that was restored",
+            )?;
+            Ok(String::from_str(alloc, "restored")?)
+        }
+        Err(fault) => Ok(format!(in alloc; "{fault}")?),
+    }
+}
+
+/// Restoring the image answers this.
+fn wants_answer<T: NormTable>(
+    alloc: Global,
+    table: &T,
+    image: &[u8],
+    told: &str,
+) -> Result<(), Fail> {
+    let answer = answer(alloc, table, image)?;
+    want(answer.as_str() == told, told)
+}
+
+/// The image changed as a line has it, in each of its ways, is answered as the line tells.
+fn wants_line<T: NormTable>(
+    alloc: Global,
+    table: &T,
+    image: &[u8],
+    line: &str,
+) -> Result<(), Fail> {
+    let (at, rest) = line.split_once(" ").ok_or("a place")?;
+    let (gone, rest) = rest.split_once(" ").ok_or("so many bytes")?;
+    let (puts, told) = rest.split_once(" ").ok_or("what comes")?;
+    let (at, gone) = (
+        usize::from_str_radix(at, 10)?,
+        usize::from_str_radix(gone, 10)?,
+    );
+    for put in puts.split(',') {
+        let made = changed(alloc, image, at, gone, put)?;
+        wants_answer(alloc, table, &made, told)?;
+    }
+    Ok(())
+}
+
+fn wants_lines<T: NormTable>(alloc: Global, table: &T) -> Result<(), Fail> {
+    let mut image = Vec::new(alloc);
+    push_bytes(&mut image, IMAGE)?;
+    for line in ANSWERS.lines() {
+        wants_line(alloc, table, &image, line)?;
+    }
+    Ok(())
+}
+
+fn wants_lines_over<T: Made>(alloc: Global) -> Result<(), Fail> {
+    let table: T = table_of(alloc, V1_DATA, V1_EXCLUSIONS)?;
+    wants_lines(alloc, &table)
+}
+
+#[test]
+fn each_cut_and_forged_image_is_told(rt: HostRuntime) -> Result<(), Fail> {
+    wants_lines_over::<RowTable>(rt.alloc())?;
+    wants_lines_over::<PageTable>(rt.alloc())
+}

@@ -1,0 +1,26 @@
+//! Worked examples.
+mod alike;
+mod refused;
+mod tables;
+mod versions;
+
+use np_code_points::watched::Watched;
+use np_tables::{TableFault, Version};
+use np_ucd::{read_exclusions, read_rows};
+use std::alloc::Global;
+
+// Two code points, the last of all among them.
+const LAST: &str = "0061;X;Ll;0;L;;;;;N;;;;;\n10FFFF;X;Co;7;L;<compat> 0061;;;;N;;;;;\n";
+
+/// The version of two texts, which have the form of data files.
+fn version(alloc: Global, data: &str, exclusions: &str) -> Result<Version, TableFault> {
+    let mut data = Watched::new(data.as_bytes());
+    let mut exclusions = Watched::new(exclusions.as_bytes());
+    match (
+        read_rows(alloc, &mut data),
+        read_exclusions(alloc, &mut exclusions),
+    ) {
+        (Ok(rows), Ok(exclusions)) => Version::build(alloc, rows, exclusions),
+        _ => Err(TableFault::Memory),
+    }
+}

@@ -1,0 +1,255 @@
+//! Both tables over the fixtures.
+use super::LAST;
+use crate::common::{Made, table_of, want};
+use np_code_points::Form;
+use np_code_points::codes::write_code;
+use np_code_points::fixtures::{S_DATA, S_EXCLUSIONS, V1_DATA, V1_EXCLUSIONS};
+use np_tables::{NormTable, PageTable, RowTable};
+use std::alloc::Global;
+use std::test::Fail;
+
+// The pairs of the first fixture, from the least to the greatest, and neighbours that are none. 0915
+// 093C is excluded, and 11A7 is no trailing consonant.
+const PAIRS: [(char, char, Option<char>); 14] = [
+    ('\u{41}', '\u{30A}', Some('\u{C5}')),
+    ('\u{61}', '\u{302}', Some('\u{E2}')),
+    ('\u{61}', '\u{323}', Some('\u{1EA1}')),
+    ('\u{1EA1}', '\u{302}', Some('\u{1EAD}')),
+    ('\u{AC00}', '\u{11A8}', Some('\u{AC01}')),
+    ('\u{1112}', '\u{1175}', Some('\u{D788}')),
+    ('\u{40}', '\u{30A}', None),
+    ('\u{41}', '\u{308}', None),
+    ('\u{61}', '\u{30A}', None),
+    ('\u{1EA1}', '\u{323}', None),
+    ('\u{212B}', '\u{302}', None),
+    ('\u{915}', '\u{93C}', None),
+    ('\u{AC00}', '\u{11A7}', None),
+    ('\u{10FFFF}', '\u{10FFFF}', None),
+];
+
+// Full decompositions of either kind.
+const FULLS: [(char, bool, &str); 4] = [
+    ('\u{1EAD}', false, "\u{61}\u{323}\u{302}"),
+    ('\u{FB01}', true, "\u{66}\u{69}"),
+    ('\u{FB01}', false, ""),
+    ('\u{AC01}', false, ""),
+];
+
+fn has_pairs<T: NormTable>(table: &T, rows: &[(char, char, Option<char>)]) -> Result<(), Fail> {
+    for (first, second, composite) in rows {
+        want(table.pair(*first, *second) == *composite, "a pair")?;
+    }
+    Ok(())
+}
+
+fn has_fulls<T: NormTable>(table: &T, rows: &[(char, bool, &str)]) -> Result<(), Fail> {
+    for (c, compat, decomposition) in rows {
+        want(
+            table
+                .full(*c, *compat)
+                .iter()
+                .copied()
+                .eq(decomposition.chars()),
+            decomposition,
+        )?;
+    }
+    Ok(())
+}
+
+fn answers_by_its_version<T: NormTable>(table: &T) -> Result<(), Fail> {
+    want(table.version().count() == 17_660, "all are assigned")?;
+    want(table.class('\u{302}') == 230, "a class")?;
+    want(table.hangul(), "the arithmetic")?;
+    want(table.assigned('\u{212B}'), "an assigned one")?;
+    want(!table.assigned('\u{16D67}'), "one that is not")?;
+    has_pairs(table, &PAIRS)?;
+    has_fulls(table, &FULLS)
+}
+
+fn first_over<T: Made>(alloc: Global) -> Result<(), Fail> {
+    let table: T = table_of(alloc, V1_DATA, V1_EXCLUSIONS)?;
+    answers_by_its_version(&table)
+}
+
+#[test]
+fn tables_answer_by_their_version(rt: HostRuntime) -> Result<(), Fail> {
+    first_over::<RowTable>(rt.alloc())?;
+    first_over::<PageTable>(rt.alloc())
+}
+
+fn answers_the_last<T: NormTable>(table: &T) -> Result<(), Fail> {
+    want(table.version().count() == 2, "two are assigned")?;
+    want(table.assigned('\u{10FFFF}'), "the last is assigned")?;
+    want(!table.assigned('\u{10FFFE}'), "the one before is not")?;
+    want(table.class('\u{10FFFF}') == 7, "the last has its class")?;
+    want(
+        table.full('\u{10FFFF}', true) == ['a'].as_slice(),
+        "and its mapping",
+    )
+}
+
+fn last_over<T: Made>(alloc: Global) -> Result<(), Fail> {
+    let table: T = table_of(alloc, LAST, "")?;
+    answers_the_last(&table)
+}
+
+#[test]
+fn the_last_code_point_is_one_like_others(rt: HostRuntime) -> Result<(), Fail> {
+    last_over::<RowTable>(rt.alloc())?;
+    last_over::<PageTable>(rt.alloc())
+}
+
+const MANY: u32 = 70_000;
+
+/// A data file of 0061 and `MANY` code points from 20000 on, which map to it for compatibility.
+fn many_rows(alloc: Global) -> Result<String, Fail> {
+    let mut data = String::new(alloc);
+    data.push_str("0061;X;Ll;0;L;;;;;N;;;;;\n")?;
+    for place in 0..MANY {
+        write_code(&mut data, 0x20000 + place)?;
+        data.push_str(";X;Lo;0;L;<compat> 0061;;;;N;;;;;\n")?;
+    }
+    Ok(data)
+}
+
+fn answers_many<T: NormTable>(table: &T) -> Result<(), Fail> {
+    want(table.version().count() == MANY + 1, "all are assigned")?;
+    // 20000 and 69,999 more
+    let last = '\u{3116F}';
+    want(
+        table.full(last, true) == ['a'].as_slice(),
+        "the last one maps",
+    )?;
+    want(!table.assigned('\u{31170}'), "none is behind it")
+}
+
+fn many_over<T: Made>(alloc: Global, data: &str) -> Result<(), Fail> {
+    let table: T = table_of(alloc, data, "")?;
+    answers_many(&table)
+}
+
+#[test]
+fn many_rows_have_memory(rt: HostRuntime) -> Result<(), Fail> {
+    let data = many_rows(rt.alloc())?;
+    many_over::<RowTable>(rt.alloc(), data.as_str())?;
+    many_over::<PageTable>(rt.alloc(), data.as_str())
+}
+
+fn answers_no_syllables<T: NormTable>(off: &T) -> Result<(), Fail> {
+    want(!off.hangul(), "no arithmetic")?;
+    want(off.pair('\u{1100}', '\u{1161}').is_none(), "no pair")
+}
+
+fn no_syllables_over<T: Made>(alloc: Global) -> Result<(), Fail> {
+    let off: T = table_of(alloc, S_DATA, S_EXCLUSIONS)?;
+    answers_no_syllables(&off)
+}
+
+#[test]
+fn no_syllable_goes_by_arithmetic_where_the_jamo_lack(rt: HostRuntime) -> Result<(), Fail> {
+    no_syllables_over::<RowTable>(rt.alloc())?;
+    no_syllables_over::<PageTable>(rt.alloc())
+}
+
+// How many bytes at the front of a text stand in a form as they are: composites and syllables come
+// back, singletons and excluded ones don't, nor what has a mapping that counts. Non-starters follow
+// where no class is less than the one before and, where the form composes, they are no second parts;
+// behind a composite none is taken to follow.
+const STANDING: [(Form, &str, usize); 24] = [
+    (Form::Nfc, "A\u{E2}\u{1EAD}\u{AC01}\u{D7A3}", 12),
+    (Form::Nfkc, "A\u{E2}\u{1EAD}\u{AC01}\u{D7A3}", 12),
+    (Form::Nfd, "A\u{E2}", 1),
+    (Form::Nfkd, "A\u{AC00}", 1),
+    (Form::Nfc, "\u{E2}\u{302}", 2),
+    (Form::Nfc, "A\u{212B}", 1),
+    (Form::Nfc, "\u{958}", 0),
+    (Form::Nfc, "\u{FB01}", 3),
+    (Form::Nfkc, "\u{FB01}", 0),
+    (Form::Nfc, "\u{AC00}\u{11A8}", 3),
+    (Form::Nfd, "a\u{323}\u{302}", 5),
+    (Form::Nfd, "a\u{302}\u{323}", 3),
+    (Form::Nfd, "\u{302}a\u{327}\u{302}", 7),
+    (Form::Nfd, "a\u{327}\u{344}", 3),
+    (Form::Nfd, "f\u{302}\u{FB01}", 6),
+    (Form::Nfkd, "f\u{302}\u{FB01}", 3),
+    (Form::Nfc, "A\u{327}\u{323}", 3),
+    (Form::Nfc, "\u{E2}\u{327}", 2),
+    (Form::Nfd, "\u{1112}\u{1175}\u{11C2} \u{1100}\u{1161}", 16),
+    (Form::Nfc, "\u{D788} \u{AC00}\u{AC01}\u{1100}\u{1161}", 13),
+    (Form::Nfkc, "\u{D788} \u{1112}\u{1175}", 7),
+    (Form::Nfd, "afifififififififififififififififia\u{212B}", 34),
+    (
+        Form::Nfd,
+        "afififififififi\u{323}fififififififia\u{212B}",
+        32,
+    ),
+    (Form::Nfkc, "", 0),
+];
+
+// Pointed Hebrew: a letter, three points, and three presentation forms, which are excluded.
+const HEBREW: &str = "\
+05B7;X;Mn;17;R;;;;;N;;;;;
+05BC;X;Mn;21;R;;;;;N;;;;;
+05C1;X;Mn;24;R;;;;;N;;;;;
+05E9;X;Lo;0;R;;;;;N;;;;;
+FB2A;X;Lo;0;R;05E9 05C1;;;;N;;;;;
+FB2C;X;Lo;0;R;FB49 05C1;;;;N;;;;;
+FB49;X;Lo;0;R;05E9 05BC;;;;N;;;;;
+";
+
+const HEBREW_LISTED: &str = "FB2A\nFB2C\nFB49\n";
+
+// The same of pointed Hebrew.
+const HEBREW_STANDING: [(Form, &str, usize); 5] = [
+    (Form::Nfc, "\u{5E9}\u{5B7}\u{5BC}\u{5C1}\u{5E9}", 10),
+    (Form::Nfd, "\u{5E9}\u{5B7}\u{5BC}\u{5C1}\u{5E9}", 10),
+    (Form::Nfc, "\u{5E9}\u{5BC}\u{5B7}", 4),
+    (Form::Nfd, "\u{5E9}\u{5C1}\u{5BC}", 4),
+    (Form::Nfc, "\u{5E9}\u{FB2C}", 2),
+];
+
+// Whether a form parts before a code point.
+const PARTING: [(Form, char, bool); 8] = [
+    (Form::Nfd, '\u{E2}', true),
+    (Form::Nfc, '\u{E2}', true),
+    (Form::Nfkd, '\u{AC01}', true),
+    (Form::Nfd, '\u{1161}', true),
+    (Form::Nfc, '\u{1161}', false),
+    (Form::Nfc, '\u{1100}', true),
+    (Form::Nfd, '\u{302}', false),
+    (Form::Nfkc, '\u{344}', false),
+];
+
+fn tells_what_stands<T: NormTable>(table: &T, rows: &[(Form, &str, usize)]) -> Result<(), Fail> {
+    for (form, text, count) in rows {
+        want(table.standing(*form, text) == *count, text)?;
+    }
+    Ok(())
+}
+
+fn tells_where_forms_part<T: NormTable>(
+    table: &T,
+    rows: &[(Form, char, bool)],
+) -> Result<(), Fail> {
+    for (form, c, parts) in rows {
+        want(table.is_boundary(*form, *c) == *parts, "parts")?;
+    }
+    Ok(())
+}
+
+fn tells_what_forms_leave(table: &PageTable) -> Result<(), Fail> {
+    tells_what_stands(table, &STANDING)?;
+    tells_where_forms_part(table, &PARTING)
+}
+
+#[test]
+fn forms_leave_what_stands_and_part_before_starters(rt: HostRuntime) -> Result<(), Fail> {
+    let table: PageTable = table_of(rt.alloc(), V1_DATA, V1_EXCLUSIONS)?;
+    tells_what_forms_leave(&table)
+}
+
+#[test]
+fn points_stand_in_their_canonical_order(rt: HostRuntime) -> Result<(), Fail> {
+    let table: PageTable = table_of(rt.alloc(), HEBREW, HEBREW_LISTED)?;
+    tells_what_stands(&table, &HEBREW_STANDING)
+}

@@ -1,0 +1,152 @@
+//! Scripts, from their bytes to their reports.
+mod refused;
+mod schedules;
+
+use crate::common::{table_of, want};
+use np_chain::Chain;
+use np_code_points::Form;
+use np_code_points::fixtures::{V1_DATA, V1_EXCLUSIONS, V2_DATA, V2_EXCLUSIONS};
+use np_tables::RowTable;
+use np_world::fixtures::{
+    EXCHANGE_REPORT, EXCHANGE_SCHEDULE, FORGED_REPORT, FORGED_SCHEDULE, RESTART_REPORT,
+    RESTART_SCHEDULE,
+};
+use np_world::{Report, read_schedule, replay, report_text};
+use std::alloc::Global;
+use std::test::Fail;
+
+/// The data and the exclusions of a version.
+type Files<'t> = (&'t str, &'t str);
+
+const V1: Files = (V1_DATA, V1_EXCLUSIONS);
+
+const V2: Files = (V2_DATA, V2_EXCLUSIONS);
+
+fn tables_of(alloc: Global, versions: &[Files]) -> Result<Vec<RowTable>, Fail> {
+    let mut tables = Vec::new(alloc);
+    for (data, exclusions) in versions {
+        tables.push(table_of::<RowTable>(alloc, data, exclusions)?)?;
+    }
+    Ok(tables)
+}
+
+/// What comes of a script under NFC.
+fn replayed<'t>(
+    alloc: Global,
+    tables: &'t [RowTable],
+    script: &str,
+) -> Result<Report<'t, RowTable>, Fail> {
+    let chain = Chain::check(tables)?;
+    let schedule = read_schedule(alloc, script.as_bytes(), chain.len())?;
+    Ok(replay(alloc, &chain, Form::Nfc, &schedule)?)
+}
+
+/// The script gives this report.
+fn wants_report(
+    alloc: Global,
+    tables: &[RowTable],
+    script: &str,
+    wanted: &str,
+) -> Result<(), Fail> {
+    let report = replayed(alloc, tables, script)?;
+    let text = report_text(alloc, &report)?;
+    want(text.as_str() == wanted, script)
+}
+
+#[test]
+fn messages_reach_nodes_before_and_after_an_upgrade(rt: HostRuntime) -> Result<(), Fail> {
+    let tables = tables_of(rt.alloc(), &[V1, V2])?;
+    wants_report(
+        rt.alloc(),
+        tables.as_slice(),
+        EXCHANGE_SCHEDULE,
+        EXCHANGE_REPORT,
+    )
+}
+
+#[test]
+fn a_restarted_node_has_what_it_saved(rt: HostRuntime) -> Result<(), Fail> {
+    let tables = tables_of(rt.alloc(), &[V1, V2])?;
+    wants_report(
+        rt.alloc(),
+        tables.as_slice(),
+        RESTART_SCHEDULE,
+        RESTART_REPORT,
+    )
+}
+
+#[test]
+fn forged_bytes_are_refused_in_order(rt: HostRuntime) -> Result<(), Fail> {
+    let tables = tables_of(rt.alloc(), &[V1])?;
+    wants_report(
+        rt.alloc(),
+        tables.as_slice(),
+        FORGED_SCHEDULE,
+        FORGED_REPORT,
+    )
+}
+
+#[test]
+fn a_message_that_was_never_sent_is_none(rt: HostRuntime) -> Result<(), Fail> {
+    let tables = tables_of(rt.alloc(), &[V1])?;
+    wants_report(
+        rt.alloc(),
+        tables.as_slice(),
+        "room 0\nnodes 0\ndeliver 0 999999999\n",
+        "0 no message\nnode 0 version 0 entries 0\n",
+    )
+}
+
+#[test]
+fn words_of_events_are_read_as_they_stand(rt: HostRuntime) -> Result<(), Fail> {
+    let tables = tables_of(rt.alloc(), &[V1])?;
+    wants_report(
+        rt.alloc(),
+        tables.as_slice(),
+        "room 4\nnodes 0\naccept 0  0061\t0302 \naccept 0\nforge 0 430000000361CC8200000002c3A2\nask 0 / \nask 0 0061 0302 / 0061 0302\nask 0 / 0061 0302\nask 0 00e2 /\n",
+        "0 kept 0\n1 kept 1\n2 known\n3 equal\n4 equal\n5 different\n6 not kept\nnode 0 version 0 entries 2\nentry 0061 0302 / 00E2\nentry - / -\n",
+    )
+}
+
+/// The message of `E2` in its decomposed spelling, under NFC.
+const MESSAGE: &[u8] = b"C\0\0\0\x03a\xcc\x82\0\0\0\x02\xc3\xa2";
+
+/// The image of a node that keeps this string and 212B.
+const IMAGE: &[u8] =
+    b"NPS1C\0\0\0\x02\0\0\0\x03a\xcc\x82\0\0\0\x02\xc3\xa2\0\0\0\x03\xe2\x84\xab\0\0\0\x02\xc3\x85";
+
+/// What the report of the restart lends.
+fn wants_lent(alloc: Global, tables: &[RowTable]) -> Result<(), Fail> {
+    let report = replayed(alloc, tables, RESTART_SCHEDULE)?;
+    want(report.sent(0) == Some(MESSAGE), "the first message")?;
+    want(report.sent(3).is_none(), "three messages")?;
+    want(report.saved(0) == Some(IMAGE), "the image")?;
+    want(
+        report.saved(1).is_none() && report.node(1).is_none(),
+        "one node",
+    )
+}
+
+#[test]
+fn a_report_lends_messages_and_images(rt: HostRuntime) -> Result<(), Fail> {
+    let tables = tables_of(rt.alloc(), &[V1, V2])?;
+    wants_lent(rt.alloc(), tables.as_slice())
+}
+
+/// A schedule and a report show how much there is in them, and none of the strings.
+fn shows_counts(alloc: Global, tables: &[RowTable]) -> Result<(), Fail> {
+    let schedule = read_schedule(alloc, EXCHANGE_SCHEDULE.as_bytes(), tables.len())?;
+    let report = replayed(alloc, tables, EXCHANGE_SCHEDULE)?;
+    let text = format!(in alloc; "{schedule:?}, {report:?}")?;
+    want(
+        text.as_str()
+            == "Schedule { versions: 2, room: 4, nodes: 2, events: 12, .. }, Report { replies: 12, sent: 2, nodes: 2, .. }",
+        "what a schedule and a report show",
+    )
+}
+
+#[test]
+fn a_report_shows_no_string(rt: HostRuntime) -> Result<(), Fail> {
+    let tables = tables_of(rt.alloc(), &[V1, V2])?;
+    shows_counts(rt.alloc(), tables.as_slice())
+}
