@@ -13,6 +13,7 @@ mod nodes;
 mod restoring;
 mod strings;
 mod taking;
+
 pub use accepting::Accepted;
 pub use faults::{ImageFault, NodeFault};
 pub use nodes::{MOST_ROOM, Node};

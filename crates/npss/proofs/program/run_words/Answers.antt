@@ -33,7 +33,7 @@ ended tells words (Err faults.Memory) input error old new status asked none done
 pub returns : goal.returns
 returns g c =
     ended g.O.Write.contents (map string_bytes c.args.words.now) c.parse-found.result
-        (stream_of g.I.Read.remaining c.args.input.now c.run_found.new.input) (stream_of g.E.Write.contents c.args.error.now c.run_found.new.error)
-        c.args.output.now c.run_found.new.output c.run_found.result
-        c.parse-found.ensures.ok c.parse-found.ensures.usage
-        c.run_found.ensures.done c.run_found.ensures.usage c.run_found.ensures.memory c.run_found.ensures.unwritten
+    (stream_of g.I.Read.remaining c.args.input.now c.run_found.new.input) (stream_of g.E.Write.contents c.args.error.now c.run_found.new.error)
+    c.args.output.now c.run_found.new.output c.run_found.result
+    c.parse-found.ensures.ok c.parse-found.ensures.usage
+    c.run_found.ensures.done c.run_found.ensures.usage c.run_found.ensures.memory c.run_found.ensures.unwritten
