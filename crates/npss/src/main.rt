@@ -12,12 +12,13 @@ use standard::take_standard;
 use std::alloc::Global;
 use std::process::ExitCode;
 
-/// More than the text of a data file takes, or its rows, in bytes.
-const LARGE: usize = 4_194_304;
+/// A little more than the text of a data file takes, in bytes: its list grows by doubling to 2 MiB.
+const LARGE: usize = 2_162_688;
 
 /// Takes a large piece of memory and gives it back untouched. From then on the C library keeps pieces
 /// up to that size for what is wanted next, where it else hands each back to the system: tables stand
-/// where the text of the data file stood, and a start has a third fewer page faults.
+/// where the text of the data file stood, and a start has a quarter fewer page faults. A larger piece
+/// would make a long input leave its first list behind.
 fn keep_freed(alloc: Global) {
     // where so much isn't there nothing is lost
     let _: Result<Vec<u8>, _> = Vec::with_capacity(alloc, LARGE);
