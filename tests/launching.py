@@ -52,7 +52,7 @@ def small_repository(folder, launcher):
         for name in ("specs", "proofs"):
             (source.parent.parent / name).mkdir()
         source.write_text("one\n", encoding="utf-8")
-    (folder / "crates.txt").write_text("# lowest first\nlow: smallvec\nnpss: low clap\n", encoding="utf-8")
+    (folder / "crates.txt").write_text("# lowest first\nlow: smallvec\nnpss: low clap\nbehind: low npss\n", encoding="utf-8")
     shutil.copy(launcher, folder / "npss")
     return sources
 
