@@ -90,9 +90,15 @@ def leave_examples(folder, crate):
     """Leaves of the unit tests those of one library; where the crate has its own, they are all that runs."""
     if crate == "npss":
         return folder / "crates" / crate
-    modules = "".join(f"#[cfg(test)]\nmod {module};\n" for module in sorted(("common", crate.removeprefix("np_"))))
-    (folder / "crates" / EXAMPLES / "src" / "lib.rt").write_text(HEAD + modules, encoding="utf-8")
-    return folder / "crates" / EXAMPLES
+    wanted = ("common", crate.removeprefix("np_"))
+    examples = folder / "crates" / EXAMPLES
+    shutil.rmtree(examples / "src")
+    # a file that no module names is refused
+    shutil.copytree(ROOT / "crates" / EXAMPLES / "src", examples / "src",
+                    ignore=lambda at, names: [it for it in names if Path(at).name == "src" and Path(it).stem not in wanted])
+    modules = "".join(f"#[cfg(test)]\nmod {module};\n" for module in sorted(wanted))
+    (examples / "src" / "lib.rt").write_text(HEAD + modules, encoding="utf-8")
+    return examples
 
 
 def check(tally, folder, call):
