@@ -1,14 +1,13 @@
 -- The lowest bit of a mask of bytes that are not ASCII.
-use Rattle.std.proofs.Common.{◌≡◌, ◌≢◌, zero, suc, ℕ, ◌+◌, ◌<◌, ◌≤◌, ◌^◌, ◌%◌, Bool, true, false, not, cond, leb, List, [], ◌∷◌, ◌++◌, length, map, replicate, take, drop, get_or, refl, sym, ap, subst, ◌∙◌, arith, inl, inr}
+use Rattle.std.proofs.Common.{◌≡◌, ◌≢◌, zero, suc, ℕ, ◌+◌, ◌<◌, ◌≤◌, ◌^◌, ◌%◌, Bool, false, cond, leb, List, [], ◌∷◌, length, map, replicate, take, get_or, refl, sym, ap, ◌∙◌, arith, inl, inr}
 use Rattle.std.specs.List.{prefix_len}
-use Rattle.std.specs.Str.{IsAscii}
-use Rattle.std.proofs.lemmas.Bool.{cases_Bool, cases_lt, leb-false}
+use Rattle.std.proofs.lemmas.Bool.{cases_lt, leb-false}
 use Rattle.std.proofs.lemmas.List.{length-map}
 use Rattle.std.proofs.lemmas.Simd.{leading_from_mask_l, mask_l-mod, run_in_chunk_fails, run_in_chunk_le, tops_compared, trailing_mask_l}
 use lib.Count.{count_trailing_zeros}
 use lib.Lanes.{chunk, mask_l, top, zip2}
 use mir.Syntax.{w8}
-use Rattle.np_tables.specs.inside.WordLooks.{is_ascii_byte}
+use Rattle.np_tables.specs.inside.AsciiBytes.{is_ascii_byte}
 
 zip2-splat : (t : ℕ → ℕ → Bool) (n y : ℕ) (xs : List ℕ) → length xs ≡ n → zip2 t (replicate n y) xs ≡ map (λ x. t y x) xs
 zip2-splat t zero y [] long = refl

@@ -30,6 +30,7 @@ pub mod RoundLemmas
 pub mod RowLemmas
 pub mod RowPageLemmas
 pub mod StandingLemmas
+pub mod StepLemmas
 pub mod SyllableLemmas
 pub mod TableLemmas
 pub mod UniqueLemmas

@@ -2,12 +2,12 @@
 use Rattle.std.proofs.Common.{◌≡◌, ℕ, ◌-◌, ◌<◌, ◌≤◌, Bool, true, false, ◌&&◌, suc, List, [], ◌∷◌, ◌++◌, length, get_or, take, drop, chars, IsUtf8, encode_utf8, encode_utf8_all, All, sym, ap, subst, ◌∙◌, arith, append_assoc, append-nil, length-append, refl, inl, inr}
 use Rattle.std.specs.Str.{IsAscii, IsCharBoundary}
 use Rattle.std.proofs.lemmas.Bool.{and_parts, cases_Bool, cond-false, or_from}
-use Rattle.std.proofs.lemmas.List.{get_or_default, take-append-drop}
+use Rattle.std.proofs.lemmas.List.{get_or_default, get_or-map, take-append-drop}
 use Rattle.std.proofs.lemmas.Str.{chars-append, chars-IsAscii, chars_past_char, encodes-append, encodes-IsAscii, IsCharBoundary-from_take, IsUtf8-drop, IsUtf8-from_ascii, IsUtf8-past_char}
 use Rattle.np_code_points.specs.Hangul.{is_syllable}
 use Rattle.np_code_points.specs.declared.forms.Form.{Form}
 use Rattle.np_code_points.specs.declared.forms.Form.TheVariants.{Nfd, Nfc, Nfkd, Nfkc}
-use Rattle.np_code_points.specs.Forms.{is_compat, composes}
+use Rattle.np_code_points.specs.Forms.{is_compat}
 use Rattle.np_tables.specs.Boundaries.{IsBoundary, Stays}
 use Rattle.np_tables.specs.Conditions.{IsSound}
 use Rattle.np_tables.specs.Mappings.{is_final}
@@ -17,10 +17,12 @@ use Rattle.np_tables.specs.declared.page_words.Word.{Word}
 use Rattle.np_tables.specs.inside.FullDecompositions.{full_of, table_full}
 use Rattle.np_tables.specs.inside.FullLists.{FullLists, of_kind}
 use Rattle.np_tables.specs.inside.Pages.{word_place}
-use Rattle.np_tables.specs.inside.PageWords.{AreFollowing, ArePages, Follows, IsAsciiStaying, IsKept, IsPast, IsWord, WordFollows, no_class, no_word}
-use Rattle.np_tables.specs.inside.PageHints.{decomposing, has_bit, stays_place}
+use Rattle.np_tables.specs.inside.PageWords.{AreFollowing, ArePages, Follows, IsAsciiStaying, IsPast, no_word}
+use Rattle.np_tables.specs.inside.PageHints.{decomposing}
+use Rattle.np_tables.specs.inside.Steps.{all_steps, step_in, step_of, steps_of}
 use Rattle.np_tables.proofs.HangulLemmas.{by_arithmetic, syllable_hangul}
 use Rattle.np_tables.proofs.MappingLemmas.{full_of-only, full_of-some}
+use Rattle.np_tables.proofs.StepLemmas.{own_under, place-within, step_at, step_inert, step_own, step_stays}
 use Rattle.np_tables.proofs.WalkLemmas.{Walks-append, Walks-weaker}
 
 -- ---- ASCII stands for itself
@@ -83,13 +85,13 @@ module _ (Step : ℕ → ℕ → ℕ → Type 0) where
       }
 
 -- ASCII that stays leads from any class to 0
-pub ascii_follows : (blocks : List ℕ) (words : List Word) (form : Form) → IsAsciiStaying blocks words → (last c : ℕ) → c < 128 → Follows blocks words form last c 0
-ascii_follows blocks words form ascii last c lt =
-    let stays = ascii form c lt in
-    (stays.0, inl (stays.1, inr (ascii (decomposing (is_compat form)) c lt).1))
+pub ascii_follows : (blocks steps : List ℕ) (form : Form) → IsAsciiStaying blocks steps → (last c : ℕ) → c < 128 → Follows blocks steps form last c 0
+ascii_follows blocks steps form ascii last c lt =
+    let whole : step_in form (get_or steps (word_place blocks c) 0) ≡ 255 = ap (step_in form) (ascii c lt) ∙ own_under form in
+    (omega arith, inl (omega (arith, whole), inr whole))
 
-pub following-stop : (blocks : List ℕ) (words : List Word) (form : Form) (s rest : List ℕ) (last n : ℕ) → IsWalkedTo (Follows blocks words form) s rest last → n ≡ length s - length rest → AreFollowing blocks words form s n
-following-stop blocks words form s rest last n r is =
+pub following-stop : (blocks steps : List ℕ) (form : Form) (s rest : List ℕ) (last n : ℕ) → IsWalkedTo (Follows blocks steps form) s rest last → n ≡ length s - length rest → AreFollowing blocks steps form s n
+following-stop blocks steps form s rest last n r is =
     record {
       front = r.before;
       back = rest;
@@ -141,36 +143,47 @@ module _ (v : VersionData) (sound : IsSound v) where
       record { stays = stays; up_to = λ k d lt. absurd (omega (arith, short, lt)) }
 
   -- no class is above the greatest
-  up_to-any : (form : Form) (c n : ℕ) → n ≡ no_class → (stays : Stays v form c) → StaysUpTo v form c n
+  up_to-any : (form : Form) (c n : ℕ) → n ≡ 254 → (stays : Stays v form c) → StaysUpTo v form c n
   up_to-any form c n top stays = record { stays = stays; up_to = λ k d lt. (let low = sound.classes (get_or stays.boundary.rest k d) in omega arith) }
 
-module _ (v u : VersionData) (same : u ≡ v) (lists : FullLists) (blocks : List ℕ) (words : List Word) (pages : ArePages u lists blocks words) (form : Form) where
-  word_follows : (last c n : ℕ) → Follows blocks words form last c n → MayFollow u form last c n
-  word_follows last c n h =
+-- ---- what the steps say is so
+
+module _ (v u : VersionData) (same : u ≡ v) (lists : FullLists) (blocks : List ℕ) (words : List Word) (pages : ArePages u lists blocks words) (steps : List ℕ) (are_steps : steps ≡ all_steps words) (form : Form) where
+  step_read : (c : ℕ) → c < 0x110000 → step_in form (get_or steps (word_place blocks c) 0) ≡ step_of form (get_or words (word_place blocks c) no_word)
+  step_read c lt =
+      ap (λ l. step_in form (get_or l (word_place blocks c) 0)) are_steps
+      ∙ ap (step_in form) (get_or-map steps_of words (word_place blocks c) no_word 0 (place-within blocks (length words) pages.within c lt)) ∙ step_at form _
+
+  step_follows : (last c n : ℕ) → Follows blocks steps form last c n → MayFollow u form last c n
+  step_follows last c n h =
+      let w = get_or words (word_place blocks c) no_word in
       let word = pages.each c h.0 in
+      let read = step_read c h.0 in
       elim h.1 [
         | inl stays ↦
-            let itself = word.hints.stays form stays.0 in
+            let bit = step_stays form w (omega (arith, read, stays.0)) in
+            let itself = word.hints.stays form bit in
             elim stays.1 [
               | inl top ↦ inl (up_to-any u pages.sound form c n top itself)
-              | inr own ↦ inl (up_to-own u pages.sound form c n (word.hints.stays (decomposing (is_compat form)) own) itself)
+              | inr own ↦ inl (up_to-own u pages.sound form c n (word.hints.stays (decomposing (is_compat form)) (step_own form w (sym read ∙ own))) itself)
             ]
         | inr goes ↦
             let compat = is_compat form in
-            let non_starter = subst (λ k. 0 < k) word.class goes.0 in
-            let none = sym (word.slot.lent compat) ∙ ap (λ k. get_or (of_kind compat lists) k []) goes.1 ∙ pages.none compat in
+            let inert = step_inert form w (omega (arith, read, goes.0)) (omega (arith, read, goes.1)) in
+            let non_starter : 0 < class_of u c = omega (arith, word.class, inert.0, read, goes.0) in
+            let none = sym (word.slot.lent compat) ∙ ap (λ k. get_or (of_kind compat lists) k []) inert.1 ∙ pages.none compat in
             inr (
               record {
                 non_starter = non_starter;
                 unmapped = final-lent u compat c none (plain_non_starter u c non_starter);
-                apart = λ on. word.apart (goes.2 on);
+                apart = λ on. word.apart (inert.2 on);
               },
-              goes.3 ∙ word.class,
-              goes.4,
+              goes.2 ∙ read ∙ sym inert.0 ∙ word.class,
+              goes.3,
             )
       ]
 
-  pub following-standing : (text : List ℕ) (n : ℕ) → AreFollowing blocks words form text n → AreStanding v form text n
+  pub following-standing : (text : List ℕ) (n : ℕ) → AreFollowing blocks steps form text n → AreStanding v form text n
   following-standing text n are =
       record {
         front = are.front;
@@ -179,6 +192,6 @@ module _ (v u : VersionData) (same : u ≡ v) (lists : FullLists) (blocks : List
         split = are.split;
         text = are.text;
         utf8 = are.utf8;
-        walk = subst (λ x. Walks (MayFollow x form) 0 are.front are.end) same (Walks-weaker (Follows blocks words form) (MayFollow u form) word_follows 0 are.end are.front are.walk);
+        walk = subst (λ x. Walks (MayFollow x form) 0 are.front are.end) same (Walks-weaker (Follows blocks steps form) (MayFollow u form) step_follows 0 are.end are.front are.walk);
         place = are.place;
       }

@@ -1,5 +1,5 @@
 -- Walks over lists.
-use Rattle.std.proofs.Common.{◌≡◌, ℕ, List, [], ◌∷◌, ◌++◌, refl, sym, ap, subst, ◌∙◌}
+use Rattle.std.proofs.Common.{ℕ, List, [], ◌∷◌, ◌++◌, refl, sym, subst}
 use Rattle.np_tables.specs.Standing.{Walks}
 
 module _ (Step : ℕ → ℕ → ℕ → Type 0) where

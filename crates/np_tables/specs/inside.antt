@@ -1,4 +1,5 @@
 pub mod Accessors
+pub mod AsciiBytes
 pub mod CompositeSearch
 pub mod Depths
 pub mod FirstFaults
@@ -13,5 +14,5 @@ pub mod Pairs
 pub mod Primaries
 pub mod RowPages
 pub mod RowPlaces
+pub mod Steps
 pub mod Suspects
-pub mod WordLooks

@@ -33,6 +33,7 @@ mod row_pages;
 mod row_places;
 mod row_table;
 mod standing_runs;
+mod steps;
 mod syllables;
 mod tables;
 mod version;

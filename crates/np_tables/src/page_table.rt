@@ -2,12 +2,14 @@
 //! decompositions, and one sorted list of pairs.
 ghost use Rattle.std.specs.Prelude.{◌≡◌, true, IfOk};
 ghost use Rattle.np_tables.specs.inside.PageWords.{ArePages, IsAsciiStaying};
+ghost use Rattle.np_tables.specs.inside.Steps.{all_steps as spec_all_steps};
 
 use crate::fulls::Fulls;
 use crate::page_hints::parts_place;
 use crate::page_slots::slots_of;
 use crate::page_words::{Word, page_words, row_words, second_rows, word_of};
-use crate::standing_runs::{is_ascii_staying, standing_front};
+use crate::standing_runs::standing_front;
+use crate::steps::{all_steps, is_ascii_staying};
 use crate::syllables::arithmetic_pair;
 use crate::tables::NormTable;
 use crate::version::Version;
@@ -19,9 +21,10 @@ use std::marker::Model;
 /// The fast table. A code point's block is found by its number divided by 256; blocks without an
 /// assigned code point are one shared block, and blocks in the midst of a range another. Its word
 /// tells the class, whether it is assigned, whether it can be the second part of a pair, and where
-/// its full decompositions stand, which are shared where both kinds are the same.
+/// its full decompositions stand, which are shared where both kinds are the same. Beside the words
+/// stands what a scan asks of each under the four forms, a byte for each.
 ///
-/// It takes some 0.9 MiB beside its version for the files of Unicode 15. Each call takes constant
+/// It takes some 1.4 MiB beside its version for the files of Unicode 15. Each call takes constant
 /// time, but `pair`, which searches by halves where the pair shares its slot with others, and
 /// `standing`, which reads what it counts.
 #[derive(Debug, Drop)]
@@ -31,10 +34,13 @@ pub struct PageTable {
     index: Vec<u16>,
     /// The words, block by block.
     words: Vec<Word>,
+    /// For each word what a scan asks under each form.
+    steps: Vec<u32>,
     fulls: Fulls,
     /// Whether all ASCII stays under every form.
     ascii: bool,
-    ghost ascii_stays: { ascii ≡ true → IsAsciiStaying index.items words.items },
+    ghost are_steps: { steps.items ≡ spec_all_steps words.items },
+    ghost ascii_stays: { ascii ≡ true → IsAsciiStaying index.items steps.items },
 }
 
 impl Model for PageTable {
@@ -73,11 +79,13 @@ impl PageTable {
         ensures { IfOk result (λ t. t ≡ version) }
     {
         let (index, words, fulls) = pages_of(alloc, &version)?;
-        let ascii = is_ascii_staying(&index, &words);
+        let steps = all_steps(alloc, &words)?;
+        let ascii = is_ascii_staying(&index, &steps);
         Ok(PageTable {
             version,
             index,
             words,
+            steps,
             fulls,
             ascii,
         })
@@ -115,6 +123,10 @@ impl NormTable for PageTable {
 
     fn full(&self, c: char, compat: bool) -> &[char] {
         let slot = word_of(&self.index, &self.words, c).fulls;
+        // nothing is lent by this slot, which needs not be read for that
+        if slot == 0 {
+            return &[];
+        }
         self.fulls.lent(slot as usize, compat)
     }
 
@@ -126,6 +138,6 @@ impl NormTable for PageTable {
     }
 
     fn standing(&self, form: Form, text: &str) -> usize {
-        standing_front(&self.index, &self.words, self.ascii, form, text)
+        standing_front(&self.index, &self.steps, self.ascii, form, text)
     }
 }

@@ -1,5 +1,5 @@
 //! One small word for each code point, of which most answers of a table are read.
-ghost use Rattle.std.specs.Prelude.{◌≡◌, ◌+◌, ◌<◌, length, slice_get, slice_index_or, false, IfOk, Some};
+ghost use Rattle.std.specs.Prelude.{◌≡◌, ℕ, ◌+◌, ◌<◌, length, slice_get, slice_index_or, false, IfOk, Some};
 ghost use Rattle.np_tables.specs.inside.PageWords.{AreRowWords, AreSeconds, AreSlots, no_word, paged_words, row_word};
 ghost use Rattle.np_tables.specs.inside.Pages.{AreWithin, word_place};
 ghost use Rattle.np_ucd.specs.Entries.{Entry};
@@ -118,13 +118,25 @@ fn word_at(words: &[Word], number: u32) -> Word
     }
 }
 
+/// Where what stands for a code point is among the blocks.
+#[inline(always)]
+#[tactic(auto, unfolding(crate::specs::inside::Pages::word_place))]
+pub(crate) fn place_in(blocks: &[u16], c: char) -> usize
+    requires { length blocks.now ≡ 4352 }
+    ensures place { result ≡ word_place blocks.now c }
+    ensures within { (count : ℕ) → AreWithin 4352 blocks.now count → result < count }
+    ensures small { result < 0x100_0000 }
+{
+    let code = c as usize;
+    let block = usize::from(blocks[code / BLOCK]);
+    block * BLOCK + code % BLOCK
+}
+
 /// The word of a code point.
 #[inline(always)]
 pub(crate) fn word_of(blocks: &[u16], words: &[Word], c: char) -> Word
     requires { AreWithin 4352 blocks.now (length words.now) }
     ensures { result ≡ slice_index_or words.now (word_place blocks.now c) no_word }
 {
-    let code = c as usize;
-    let block = usize::from(blocks[code / BLOCK]);
-    words[block * BLOCK + code % BLOCK]
+    words[place_in(blocks, c)]
 }

@@ -12,10 +12,10 @@ use Rattle.np_tables.specs.inside.FullDecompositions.{table_full}
 use Rattle.np_tables.specs.inside.FullLists.{FullLists, of_kind}
 use Rattle.np_tables.specs.inside.FullParts.{AreParts, part_of}
 use Rattle.np_code_points.specs.declared.forms.Form.{Form}
-use Rattle.np_code_points.specs.Forms.{composes, is_compat}
 use Rattle.np_tables.specs.Standing.{AreWalked}
-use Rattle.np_tables.specs.inside.PageHints.{AreBits, decomposing, has_bit, stays_place}
+use Rattle.np_tables.specs.inside.PageHints.{AreBits}
 use Rattle.np_tables.specs.inside.Pages.{AreWithin, word_place}
+use Rattle.np_tables.specs.inside.Steps.{step_in}
 
 -- ---- slots of full decompositions
 
@@ -116,11 +116,7 @@ pub record ArePages (v : VersionData) (lists : FullLists) (blocks : List ℕ) (w
   pub none : (compat : Bool) → slice_index_or (of_kind compat lists) 0 [] ≡ []
   pub each : (c : ℕ) → c < 0x110000 → IsWord v lists c (slice_index_or words (word_place blocks c) no_word)
 
--- ---- what stays
-
--- the word of a code point has the bit
-abbrev pub IsKept : List ℕ → List Word → ℕ → ℕ → Type 0
-IsKept blocks words place c = (c < 0x110000) × (has_bit (slice_index_or words (word_place blocks c) no_word).hints place ≡ true)
+-- ---- what may follow as it is
 
 -- a text behind some first code points that pass
 pub record IsPast (P : ℕ → Type 0) (text rest : List ℕ) : Type 0 where
@@ -130,26 +126,18 @@ pub record IsPast (P : ℕ → Type 0) (text rest : List ℕ) : Type 0 where
   pub utf8 : IsUtf8 rest
   pub passed : All P front
 
--- ---- what may follow as it is
-
--- all classes are below this number
-abbrev pub no_class : ℕ
-no_class = 255
-
--- by its word a code point may stand behind code points of classes up to `last`, and then the classes are up to n: one that
+-- by its step a code point may stand behind code points of classes up to `last`, and then the classes are up to n: one that
 -- stays, of which nothing but itself is known where its full decomposition is another, or an inert non-starter
-abbrev pub WordFollows : Form → Word → ℕ → ℕ → Type 0
-WordFollows form w last n =
-    ((has_bit w.hints (stays_place form) ≡ true) × ((n ≡ no_class) ⊎ (has_bit w.hints (stays_place (decomposing (is_compat form))) ≡ true)))
-    ⊎ ((0 < w.class) × (w.fulls ≡ 0) × (composes form ≡ true → w.apart ≡ true) × (n ≡ w.class) × (last ≤ n))
+abbrev pub StepFollows : ℕ → ℕ → ℕ → Type 0
+StepFollows step last n = ((254 ≤ step) × ((n ≡ 254) ⊎ (step ≡ 255))) ⊎ ((0 < step) × (step < 254) × (n ≡ step) × (last ≤ n))
 
-abbrev pub Follows : List ℕ → List Word → Form → ℕ → ℕ → ℕ → Type 0
-Follows blocks words form last c n = (c < 0x110000) × WordFollows form (slice_index_or words (word_place blocks c) no_word) last n
+abbrev pub Follows : List ℕ → List ℕ → Form → ℕ → ℕ → ℕ → Type 0
+Follows blocks steps form last c n = (c < 0x110000) × StepFollows (step_in form (slice_index_or steps (word_place blocks c) 0)) last n
 
--- by their words the code points in the first n bytes of a text may follow one another as they are
-abbrev pub AreFollowing : List ℕ → List Word → Form → List ℕ → ℕ → Type 0
-AreFollowing blocks words form = AreWalked (Follows blocks words form)
+-- by their steps the code points in the first n bytes of a text may follow one another as they are
+abbrev pub AreFollowing : List ℕ → List ℕ → Form → List ℕ → ℕ → Type 0
+AreFollowing blocks steps form = AreWalked (Follows blocks steps form)
 
--- all ASCII stays under every form
-abbrev pub IsAsciiStaying : List ℕ → List Word → Type 0
-IsAsciiStaying blocks words = (form : Form) (c : ℕ) → c < 128 → IsKept blocks words (stays_place form) c
+-- all ASCII stays under every form, and is its own full decomposition
+abbrev pub IsAsciiStaying : List ℕ → List ℕ → Type 0
+IsAsciiStaying blocks steps = (c : ℕ) → c < 128 → slice_index_or steps (word_place blocks c) 0 ≡ 0xFFFFFFFF

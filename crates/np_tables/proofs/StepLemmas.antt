@@ -1,0 +1,112 @@
+-- What a step says of its word.
+use Rattle.std.proofs.Common.{◌≡◌, ℕ, ◌/◌, ◌<◌, ◌≤◌, ◌⊎◌, ◌&&◌, ◌||◌, ◌==◌, Bool, true, false, not, nat_lt, List, refl, sym, ap, ◌∙◌, arith, inl, inr}
+use Rattle.std.proofs.lemmas.Bool.{and_parts, cases_Bool, cases_lt, cond-false, cond-true, eqb-false, eqb-true, ltb-true}
+use Rattle.np_code_points.specs.declared.forms.Form.{Form}
+use Rattle.np_code_points.specs.declared.forms.Form.TheVariants.{Nfd, Nfc, Nfkd, Nfkc}
+use Rattle.np_code_points.specs.Forms.{composes, is_compat}
+use Rattle.np_tables.specs.declared.page_words.Word.{Word}
+use Rattle.np_tables.specs.inside.PageHints.{decomposing, has_bit, stays_place}
+use Rattle.np_tables.specs.inside.PageWords.{StepFollows}
+use Rattle.np_tables.specs.inside.Pages.{AreWithin, word_place}
+use Rattle.np_tables.specs.inside.Steps.{low_behind, step_in, step_of, steps_of}
+
+pub own_under : (form : Form) → step_in form 0xFFFFFFFF ≡ 255
+own_under Nfd = refl
+own_under Nfc = refl
+own_under Nfkd = refl
+own_under Nfkc = refl
+
+apart_where : (apart composing : Bool) → (apart || not composing) ≡ true → composing ≡ true → apart ≡ true
+apart_where true composing h on = refl
+apart_where false true h on = h
+apart_where false false h on = on
+
+-- what it was made of
+abbrev Cases : Form → Word → Type 0
+Cases form w =
+    ((has_bit w.hints (stays_place form) ≡ true) × (((has_bit w.hints (stays_place (decomposing (is_compat form))) ≡ true) × (step_of form w ≡ 255)) ⊎ (step_of form w ≡ 254)))
+    ⊎ (((w.class < 254) × (w.fulls ≡ 0) × (composes form ≡ true → w.apart ≡ true) × (step_of form w ≡ w.class)) ⊎ (step_of form w ≡ 0))
+
+cases : (form : Form) (w : Word) → Cases form w
+unfolding step_of
+cases form w =
+    elim (cases_Bool (has_bit w.hints (stays_place form))) [
+      | inl stays ↦ elim (cases_Bool (has_bit w.hints (stays_place (decomposing (is_compat form))))) [
+        | inl own ↦ inl (stays, inl (own, cond-true _ _ _ stays ∙ cond-true _ _ _ own))
+        | inr other ↦ inl (stays, inr (cond-true _ _ _ stays ∙ cond-false _ _ _ other))
+      ]
+      | inr moves ↦ elim (cases_Bool (nat_lt w.class 254 && (w.fulls == 0 && (w.apart || not (composes form))))) [
+        | inl inert ↦
+            let two = and_parts _ _ inert in
+            let three = and_parts _ _ two.1 in
+            inr (inl (ltb-true w.class 254 two.0, eqb-true w.fulls 0 three.0, apart_where w.apart (composes form) three.1, cond-false _ _ _ moves ∙ cond-true _ _ _ inert))
+        | inr none ↦ inr (inr (cond-false _ _ _ moves ∙ cond-false _ _ _ none))
+      ]
+    ]
+
+pub step_le : (form : Form) (w : Word) → step_of form w ≤ 255
+step_le form w = elim (cases form w) [ inl stays ↦ elim stays.1 [ inl own ↦ omega (arith, own.1) | inr other ↦ omega (arith, other) ] | inr moves ↦ elim moves [ inl inert ↦ omega (arith, inert.0, inert.3) | inr none ↦ omega (arith, none) ] ]
+
+pub step_stays : (form : Form) (w : Word) → 254 ≤ step_of form w → has_bit w.hints (stays_place form) ≡ true
+step_stays form w h = elim (cases form w) [ inl stays ↦ stays.0 | inr moves ↦ elim moves [ inl inert ↦ absurd (omega (arith, h, inert.0, inert.3)) | inr none ↦ absurd (omega (arith, h, none)) ] ]
+
+pub step_own : (form : Form) (w : Word) → step_of form w ≡ 255 → has_bit w.hints (stays_place (decomposing (is_compat form))) ≡ true
+step_own form w h =
+    elim (cases form w) [
+      | inl stays ↦ elim stays.1 [ inl own ↦ own.0 | inr other ↦ absurd (omega (arith, h, other)) ]
+      | inr moves ↦ elim moves [ inl inert ↦ absurd (omega (arith, h, inert.0, inert.3)) | inr none ↦ absurd (omega (arith, h, none)) ]
+    ]
+
+pub step_inert : (form : Form) (w : Word) → 0 < step_of form w → step_of form w < 254 → (w.class ≡ step_of form w) × (w.fulls ≡ 0) × (composes form ≡ true → w.apart ≡ true)
+step_inert form w some low =
+    elim (cases form w) [
+      | inl stays ↦ elim stays.1 [ inl own ↦ absurd (omega (arith, low, own.1)) | inr other ↦ absurd (omega (arith, low, other)) ]
+      | inr moves ↦ elim moves [ inl inert ↦ (sym inert.3, inert.1, inert.2) | inr none ↦ absurd (omega (arith, some, none)) ]
+    ]
+
+-- each form's own step
+pub step_at : (form : Form) (w : Word) → step_in form (steps_of w) ≡ step_of form w
+unfolding steps_of
+step_at Nfd w = omega (arith, step_le Nfd w, step_le Nfc w, step_le Nfkd w, step_le Nfkc w)
+step_at Nfc w = omega (arith, step_le Nfd w, step_le Nfc w, step_le Nfkd w, step_le Nfkc w)
+step_at Nfkd w = omega (arith, step_le Nfd w, step_le Nfc w, step_le Nfkd w, step_le Nfkc w)
+step_at Nfkc w = omega (arith, step_le Nfd w, step_le Nfc w, step_le Nfkd w, step_le Nfkc w)
+
+-- all bits are there
+own_bit : (form : Form) → has_bit 255 (stays_place form) ≡ true
+own_bit Nfd = refl
+own_bit Nfc = refl
+own_bit Nfkd = refl
+own_bit Nfkc = refl
+
+step_of-own : (form : Form) (w : Word) → w.hints ≡ 255 → step_of form w ≡ 255
+unfolding step_of
+step_of-own form w all =
+    cond-true _ _ _ (ap (λ h. has_bit h (stays_place form)) all ∙ own_bit form)
+    ∙ cond-true _ _ _ (ap (λ h. has_bit h (stays_place (decomposing (is_compat form)))) all ∙ own_bit (decomposing (is_compat form)))
+
+pub steps_of-own : (w : Word) → w.hints ≡ 255 → steps_of w ≡ 0xFFFFFFFF
+unfolding steps_of
+steps_of-own w all = omega (arith, step_of-own Nfd w all, step_of-own Nfc w all, step_of-own Nfkd w all, step_of-own Nfkc w all)
+
+-- the step of a code point stands within
+pub place-within : (blocks : List ℕ) (words : ℕ) → AreWithin 4352 blocks words → (c : ℕ) → c < 0x110000 → word_place blocks c < words
+unfolding word_place
+place-within blocks words within c lt = omega (arith, lt, within.each (c / 256) (omega (arith, lt)))
+
+-- ---- the least step that may follow
+
+-- a step that is no less leads to a class that is no greater than the next least step
+pub step_onward : (step low last : ℕ) → last ≤ low → 1 ≤ low → low ≤ step → step ≤ 255 → (n : ℕ) × (n ≤ low_behind step) × (1 ≤ low_behind step) × StepFollows step last n
+step_onward step low last behind some le top =
+    elim (cases_Bool (step == 255)) [
+      | inl own ↦
+          let next : low_behind step ≡ 1 = cond-true _ _ _ own in
+          (1, omega (arith, next), omega (arith, next), inl (omega (arith, eqb-true step 255 own), inr (eqb-true step 255 own)))
+      | inr other ↦
+          let next : low_behind step ≡ step = cond-false _ _ _ other in
+          elim (cases_lt step 254) [
+            | inl inert ↦ (step, omega (arith, next), omega (arith, next, some, le), inr (omega (arith, some, le), inert, refl, omega (arith, behind, le)))
+            | inr stays ↦ (step, omega (arith, next), omega (arith, next, some, le), inl (omega (arith, stays), inl (omega (arith, stays, eqb-false step 255 other, top))))
+          ]
+    ]

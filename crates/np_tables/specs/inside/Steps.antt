@@ -1,0 +1,36 @@
+-- What a scan asks of a code point under each form, in one byte: whether, and behind which classes, it may stand as it is.
+use Rattle.std.specs.Prelude.{ℕ, ◌+◌, ◌*◌, ◌/◌, ◌%◌, ◌^◌, ◌==◌, ◌&&◌, ◌||◌, not, nat_lt, map, List, if◌then◌else◌}
+use Rattle.np_code_points.specs.declared.forms.Form.{Form}
+use Rattle.np_code_points.specs.declared.forms.Form.TheVariants.{Nfd, Nfc, Nfkd, Nfkc}
+use Rattle.np_code_points.specs.Forms.{composes, is_compat}
+use Rattle.np_tables.specs.declared.page_words.Word.{Word}
+use Rattle.np_tables.specs.inside.PageHints.{decomposing, has_bit, stays_place}
+
+-- by its word: 255 and 254 of what stays, of which 255 is its own full decomposition; from 1 to 253 the class of a non-starter
+-- without a mapping that, where the form composes, is no second part; 0 of what is not known to stand
+unfoldable pub step_of : Form → Word → ℕ
+step_of form w =
+    if has_bit w.hints (stays_place form)
+    then (if has_bit w.hints (stays_place (decomposing (is_compat form))) then 255 else 254)
+    else (if nat_lt w.class 254 && (w.fulls == 0 && (w.apart || not (composes form))) then w.class else 0)
+
+-- under each form
+unfoldable pub steps_of : Word → ℕ
+steps_of w = step_of Nfd w + 0x100 * step_of Nfc w + 0x10000 * step_of Nfkd w + 0x1000000 * step_of Nfkc w
+
+abbrev pub all_steps : List Word → List ℕ
+all_steps words = map steps_of words
+
+-- how many bits stand before a form's own eight
+abbrev pub step_place : Form → ℕ
+step_place Nfd = 0
+step_place Nfc = 8
+step_place Nfkd = 16
+step_place Nfkc = 24
+
+abbrev pub step_in : Form → ℕ → ℕ
+step_in form steps = steps / 2 ^ step_place form % 256
+
+-- the least step that may follow a code point of this one
+abbrev pub low_behind : ℕ → ℕ
+low_behind step = if step == 255 then 1 else step
