@@ -109,9 +109,6 @@ pub are_readable : (bytes : List ℕ) → exclusions_fault bytes ≡ None → Ar
 unfolding exclusions_fault
 are_readable bytes h = none_bad bytes h
 
-pub bad_lined : (bytes : List ℕ) (e : UcdFault) → IsFirstBadLine bytes e → is_some (line_of e) ≡ true
-bad_lined bytes e h = ap (λ f. is_some (line_of f)) h.fault_is
-
 -- The code points that are listed.
 record Holds (lines : List Numbered) (code : ℕ) : Type 0 where
   line : Numbered

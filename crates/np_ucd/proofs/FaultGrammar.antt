@@ -268,10 +268,6 @@ closed_end bytes h = sym (at_end None (data_lines_in bytes) (fine_all bytes h)) 
 pub faultless : (bytes : List ℕ) → first_fault bytes ≡ None → HasNoFault bytes
 faultless bytes h = record { records = no_fault_at bytes (fine_all bytes h); end = closed bytes (closed_end bytes h) }
 
-pub first_lined : (bytes : List ℕ) (e : UcdFault) → IsFirstFault bytes e → is_some (line_of e) ≡ true
-first_lined bytes e h =
-    ⊎_elim (λ at. ap is_some at.1.fault_of.line) (λ end. ap (λ f. is_some (line_of f)) end.1.is) h
-
 -- No first fault stands beside none.
 pub not_both : (bytes : List ℕ) → HasNoFault bytes → (fault : UcdFault) → IsFirstFault bytes fault → ⊥
 not_both bytes h fault is =

@@ -2,7 +2,6 @@ pub mod ScalarLemmas
 pub mod RecordLemmas
 pub mod RowLemmas
 pub mod DataLemmas
-pub mod AnswerLemmas
 pub mod ExclusionLemmas
 pub mod SpanLemmas
 pub mod TextGrammar
