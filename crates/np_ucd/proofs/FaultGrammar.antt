@@ -1,12 +1,11 @@
 -- The first fault of UnicodeData.txt is the one that the grammar names.
-use Rattle.std.proofs.Common.{◌≡◌, ℕ, ◌<◌, ◌≤◌, ◌⊎◌, Bool, true, false, cond, List, [], ◌∷◌, ◌++◌, Option, Some, None, is_some, refl, sym, ap, subst, ◌∙◌, inl, inr, ⊎_elim, append_assoc, arith}
+use Rattle.std.proofs.Common.{◌≡◌, ℕ, ◌<◌, ◌≤◌, ◌⊎◌, Bool, true, false, cond, List, [], ◌∷◌, ◌++◌, Option, Some, None, refl, sym, ap, subst, ◌∙◌, inl, inr, ⊎_elim, append_assoc, arith}
 use Rattle.std.specs.List.{AllPairs, Contains}
 use Rattle.std.specs.Option.{option_or}
 use Rattle.np_code_points.specs.Lines.{Numbered}
 use Rattle.np_code_points.specs.inside.LineCuts.{data_lines_in}
 use Rattle.np_code_points.proofs.DataLineGrammar.{are_data_lines, only_data_lines}
 use Rattle.np_code_points.proofs.Elements.{contains_middle, greatest_front}
-use Rattle.np_ucd.specs.Faults.{line_of}
 use Rattle.np_ucd.specs.Fields.{Fields, IsFirstName}
 use Rattle.np_ucd.specs.FirstFaults.{IsLastOf, IsFaultAt, HasNoFaultAt, IsOpenAtEnd, IsFirstFault, HasNoFault}
 use Rattle.np_ucd.specs.Tests.{UcdFault, RangeOpen, IsFaultOf, Fits}
