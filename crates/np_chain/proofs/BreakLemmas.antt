@@ -78,24 +78,24 @@ by_lost a b same alike p q parts h k = rw (h, k) refl
 by_class : (a b same alike p q parts : Bool) → a ≡ true → b ≡ true → same ≡ false → kind_by a b same alike p q parts ≡ Some ClassChanged
 by_class a b same alike p q parts h k l = rw (h, k, l) refl
 
-by_maps : (a b same alike p q parts : Bool) → a ≡ true → b ≡ true → same ≡ true → alike ≡ false → kind_by a b same alike p q parts ≡ Some MappingChanged
-by_maps a b same alike p q parts h k l m = rw (h, k, l, m) refl
+-- of a code point that both assign with one class
+abbrev kept_by : Bool → Bool → Bool → Bool → Option BreakKind
+kept_by alike p q parts =
+    if not alike then Some MappingChanged
+    else if p then (if q then None else Some NowExcluded)
+    else if q && parts then Some NowIncluded
+    else None
 
-by_excluded : (a b same alike p q parts : Bool) → a ≡ true → b ≡ true → same ≡ true → alike ≡ true → p ≡ true → q ≡ false → kind_by a b same alike p q parts ≡ Some NowExcluded
-by_excluded a b same alike p q parts h k l m n o = rw (h, k, l, m, n, o) refl
+staying : (alike p q parts : Bool) → kind_by true true true alike p q parts ≡ kept_by alike p q parts
+staying false p q parts = refl
+staying true true true parts = refl
+staying true true false parts = refl
+staying true false true true = refl
+staying true false true false = refl
+staying true false false parts = refl
 
-by_kept : (a b same alike p q parts : Bool) → a ≡ true → b ≡ true → same ≡ true → alike ≡ true → p ≡ true → q ≡ true → kind_by a b same alike p q parts ≡ None
-by_kept a b same alike p q parts h k l m n o = rw (h, k, l, m, n, o) refl
-
-by_included : (a b same alike p q parts : Bool) → a ≡ true → b ≡ true → same ≡ true → alike ≡ true → p ≡ false → (q && parts) ≡ true → kind_by a b same alike p q parts ≡ Some NowIncluded
-by_included a b same alike p true true h k l m n o = rw (h, k, l, m, n) refl
-by_included a b same alike p true false h k l m n o = cc
-by_included a b same alike p false parts h k l m n o = cc
-
-by_apart : (a b same alike p q parts : Bool) → a ≡ true → b ≡ true → same ≡ true → alike ≡ true → p ≡ false → (q && parts) ≡ false → kind_by a b same alike p q parts ≡ None
-by_apart a b same alike p true true h k l m n o = cc
-by_apart a b same alike p true false h k l m n o = rw (h, k, l, m, n) refl
-by_apart a b same alike p false parts h k l m n o = rw (h, k, l, m, n) refl
+by_staying : (a b same alike p q parts : Bool) → a ≡ true → b ≡ true → same ≡ true → kind_by a b same alike p q parts ≡ kept_by alike p q parts
+by_staying a b same alike p q parts h k l = rw (h, k, l) (staying alike p q parts)
 
 by_new : (a b same alike p q parts : Bool) → a ≡ false → p ≡ false → (q && parts) ≡ true → kind_by a b same alike p q parts ≡ Some NewComposite
 by_new a b same alike p true true h k l = rw (h, k) refl
@@ -120,30 +120,6 @@ module _ (old new : VersionData) (c : ℕ) where
   pub break-class : is_assigned old c ≡ true → is_assigned new c ≡ true → class_of new c ≢ class_of old c → break_of old new c ≡ Some ClassChanged
   break-class h k l = break_of-by old new c ∙ by_class _ _ _ _ _ _ _ h k (ne_eqb _ _ l)
 
-  -- assigned in both, with one class
-  pub record Stays : Type 0 where
-    pub in_old : is_assigned old c ≡ true
-    pub in_new : is_assigned new c ≡ true
-    pub class : class_of new c ≡ class_of old c
-
-  pub stays_by : is_assigned old c ≡ true → is_assigned new c ≡ true → class_of new c ≡ class_of old c → Stays
-  stays_by in_old in_new class = record { in_old = in_old; in_new = in_new; class = class }
-
-  pub break-maps : Stays → maps_alike old new c ≡ false → break_of old new c ≡ Some MappingChanged
-  break-maps s m = break_of-by old new c ∙ by_maps _ _ _ _ _ _ _ s.in_old s.in_new (eq-eqb _ _ s.class) m
-
-  pub break-excluded : Stays → maps_alike old new c ≡ true → is_primary old c ≡ true → is_primary new c ≡ false → break_of old new c ≡ Some NowExcluded
-  break-excluded s m p q = break_of-by old new c ∙ by_excluded _ _ _ _ _ _ _ s.in_old s.in_new (eq-eqb _ _ s.class) m p q
-
-  pub break-kept : Stays → maps_alike old new c ≡ true → is_primary old c ≡ true → is_primary new c ≡ true → break_of old new c ≡ None
-  break-kept s m p q = break_of-by old new c ∙ by_kept _ _ _ _ _ _ _ s.in_old s.in_new (eq-eqb _ _ s.class) m p q
-
-  pub break-included : Stays → maps_alike old new c ≡ true → is_primary old c ≡ false → Joins ≡ true → break_of old new c ≡ Some NowIncluded
-  break-included s m p j = break_of-by old new c ∙ by_included _ _ _ _ _ _ _ s.in_old s.in_new (eq-eqb _ _ s.class) m p j
-
-  pub break-apart : Stays → maps_alike old new c ≡ true → is_primary old c ≡ false → Joins ≡ false → break_of old new c ≡ None
-  break-apart s m p j = break_of-by old new c ∙ by_apart _ _ _ _ _ _ _ s.in_old s.in_new (eq-eqb _ _ s.class) m p j
-
   unassigned-no_primary : is_assigned old c ≡ false → is_primary old c ≡ false
   unassigned-no_primary h = false_from_ne_true _ (λ p. both_ways _ h (test-assigned old c p))
 
@@ -152,6 +128,10 @@ module _ (old new : VersionData) (c : ℕ) where
 
   pub break-neither : is_assigned old c ≡ false → Joins ≡ false → break_of old new c ≡ None
   break-neither h j = break_of-by old new c ∙ by_neither _ _ _ _ _ _ _ h (unassigned-no_primary h) j
+
+-- the break of a code point that both assign with one class
+pub break_of_staying : (old new : VersionData) (c : ℕ) → is_assigned old c ≡ true → is_assigned new c ≡ true → class_of new c ≡ class_of old c → break_of old new c ≡ kept_by (maps_alike old new c) (is_primary old c) (is_primary new c) (has_old_parts old new c)
+break_of_staying old new c in_old in_new class = break_of-by old new c ∙ by_staying _ _ _ _ _ _ _ in_old in_new (eq-eqb _ _ class)
 
 -- ---- no code point has a break exactly where the new version extends the old one
 

@@ -41,29 +41,32 @@ number_back NewComposite = refl
 same_number : (j k : BreakKind) → number_of j ≡ number_of k → j ≡ k
 same_number j k h = sym (number_back j) ∙ ap kind_at h ∙ number_back k
 
-positive : (kind : BreakKind) → 1 ≤ number_of kind
-positive Lost = omega arith
-positive ClassChanged = omega arith
-positive MappingChanged = omega arith
-positive NowExcluded = omega arith
-positive NowIncluded = omega arith
-positive NewComposite = omega arith
+in_six : (kind : BreakKind) → (1 ≤ number_of kind) × (number_of kind ≤ 6)
+in_six Lost = (omega arith, omega arith)
+in_six ClassChanged = (omega arith, omega arith)
+in_six MappingChanged = (omega arith, omega arith)
+in_six NowExcluded = (omega arith, omega arith)
+in_six NowIncluded = (omega arith, omega arith)
+in_six NewComposite = (omega arith, omega arith)
 
 same_kind : {j k : BreakKind} → Some j ≡ Some k → j ≡ k
 same_kind h = cc
 
--- the first of six tests that passes
-chain : Bool → Bool → Bool → Bool → Bool → Bool → Option BreakKind
-chain a b c d e f =
-    if a then Some Lost
-    else if b then Some ClassChanged
-    else if c then Some MappingChanged
-    else if d then Some NowExcluded
-    else if e then Some NowIncluded
-    else if f then Some NewComposite
-    else None
+-- a kind where its test passes, or what the tests behind it give
+or_else : Bool → BreakKind → Option BreakKind → Option BreakKind
+or_else passes kind rest = if passes then Some kind else rest
 
 module _ (test : BreakKind → Bool) where
+  -- the first of six tests that passes
+  first_kind : Option BreakKind
+  first_kind =
+      or_else (test Lost) Lost
+      (or_else (test ClassChanged) ClassChanged
+      (or_else (test MappingChanged) MappingChanged
+      (or_else (test NowExcluded) NowExcluded
+      (or_else (test NowIncluded) NowIncluded
+      (or_else (test NewComposite) NewComposite None)))))
+
   record IsLeastKind (kind : BreakKind) : Type 0 where
     has : test kind ≡ true
     least : (other : BreakKind) → test other ≡ true → number_of kind ≤ number_of other
@@ -73,7 +76,7 @@ module _ (test : BreakKind → Bool) where
   FailsBelow n = (kind : BreakKind) → number_of kind < n → test kind ≡ false
 
   fails_none : FailsBelow 1
-  fails_none kind lt = let low = positive kind in absurd (omega arith)
+  fails_none kind lt = let low = in_six kind in absurd (omega arith)
 
   fails_next : (kind : BreakKind) → FailsBelow (number_of kind) → test kind ≡ false → FailsBelow (number_of kind + 1)
   fails_next kind below fails other lt =
@@ -91,37 +94,43 @@ module _ (test : BreakKind → Bool) where
             elim (cases_lt (number_of other) (number_of kind)) [ inl lt ↦ absurd (both_ways _ (below other lt) h) | inr le ↦ le ];
       })
 
-  chain-some : (a b c d e f : Bool) → test Lost ≡ a → test ClassChanged ≡ b → test MappingChanged ≡ c → test NowExcluded ≡ d → test NowIncluded ≡ e → test NewComposite ≡ f
-      → (kind : BreakKind) → chain a b c d e f ≡ Some kind → IsLeastKind kind
-  unfolding chain
-  chain-some true b c d e f is1 is2 is3 is4 is5 is6 kind h = least_at Lost kind fails_none is1 h
-  chain-some false true c d e f is1 is2 is3 is4 is5 is6 kind h = least_at ClassChanged kind (fails_next Lost fails_none is1) is2 h
-  chain-some false false true d e f is1 is2 is3 is4 is5 is6 kind h =
-      least_at MappingChanged kind (fails_next ClassChanged (fails_next Lost fails_none is1) is2) is3 h
-  chain-some false false false true e f is1 is2 is3 is4 is5 is6 kind h =
-      least_at NowExcluded kind (fails_next MappingChanged (fails_next ClassChanged (fails_next Lost fails_none is1) is2) is3) is4 h
-  chain-some false false false false true f is1 is2 is3 is4 is5 is6 kind h =
-      least_at NowIncluded kind (fails_next NowExcluded (fails_next MappingChanged (fails_next ClassChanged (fails_next Lost fails_none is1) is2) is3) is4) is5 h
-  chain-some false false false false false true is1 is2 is3 is4 is5 is6 kind h =
-      least_at NewComposite kind
-      (fails_next NowIncluded (fails_next NowExcluded (fails_next MappingChanged (fails_next ClassChanged (fails_next Lost fails_none is1) is2) is3) is4) is5) is6 h
-  chain-some false false false false false false is1 is2 is3 is4 is5 is6 kind h = cc
+  some_step : (kind found : BreakKind) (t : Bool) (rest : Option BreakKind) → FailsBelow (number_of kind) → test kind ≡ t → or_else t kind rest ≡ Some found → (FailsBelow (number_of kind + 1) → rest ≡ Some found → IsLeastKind found) → IsLeastKind found
+  unfolding or_else
+  some_step kind found true rest below is h later = least_at kind found below is h
+  some_step kind found false rest below is h later = later (fails_next kind below is) h
 
-  chain-none : (a b c d e f : Bool) → test Lost ≡ a → test ClassChanged ≡ b → test MappingChanged ≡ c → test NowExcluded ≡ d → test NowIncluded ≡ e → test NewComposite ≡ f
-      → chain a b c d e f ≡ None → (kind : BreakKind) → test kind ≡ false
-  unfolding chain
-  chain-none true b c d e f is1 is2 is3 is4 is5 is6 h kind = cc
-  chain-none false true c d e f is1 is2 is3 is4 is5 is6 h kind = cc
-  chain-none false false true d e f is1 is2 is3 is4 is5 is6 h kind = cc
-  chain-none false false false true e f is1 is2 is3 is4 is5 is6 h kind = cc
-  chain-none false false false false true f is1 is2 is3 is4 is5 is6 h kind = cc
-  chain-none false false false false false true is1 is2 is3 is4 is5 is6 h kind = cc
-  chain-none false false false false false false is1 is2 is3 is4 is5 is6 h Lost = is1
-  chain-none false false false false false false is1 is2 is3 is4 is5 is6 h ClassChanged = is2
-  chain-none false false false false false false is1 is2 is3 is4 is5 is6 h MappingChanged = is3
-  chain-none false false false false false false is1 is2 is3 is4 is5 is6 h NowExcluded = is4
-  chain-none false false false false false false is1 is2 is3 is4 is5 is6 h NowIncluded = is5
-  chain-none false false false false false false is1 is2 is3 is4 is5 is6 h NewComposite = is6
+  some_at : (kind found : BreakKind) (rest : Option BreakKind) → FailsBelow (number_of kind) → or_else (test kind) kind rest ≡ Some found → (FailsBelow (number_of kind + 1) → rest ≡ Some found → IsLeastKind found) → IsLeastKind found
+  some_at kind found rest below h later = some_step kind found (test kind) rest below refl h later
+
+  first-some : (found : BreakKind) → first_kind ≡ Some found → IsLeastKind found
+  unfolding first_kind
+  first-some found h =
+      some_at Lost found _ fails_none h
+      (λ past_lost h2. some_at ClassChanged found _ past_lost h2
+      (λ past_class h3. some_at MappingChanged found _ past_class h3
+      (λ past_mapping h4. some_at NowExcluded found _ past_mapping h4
+      (λ past_excluded h5. some_at NowIncluded found _ past_excluded h5
+      (λ past_included h6. some_at NewComposite found None past_included h6 (λ past_all none. absurd (cc)))))))
+
+  none_step : (kind : BreakKind) (t : Bool) (rest : Option BreakKind) → FailsBelow (number_of kind) → test kind ≡ t → or_else t kind rest ≡ None → FailsBelow (number_of kind + 1) × (rest ≡ None)
+  unfolding or_else
+  none_step kind true rest below is h = absurd (cc)
+  none_step kind false rest below is h = (fails_next kind below is, h)
+
+  none_at : (kind : BreakKind) (rest : Option BreakKind) → FailsBelow (number_of kind) → or_else (test kind) kind rest ≡ None → FailsBelow (number_of kind + 1) × (rest ≡ None)
+  none_at kind rest below h = none_step kind (test kind) rest below refl h
+
+  first-none : first_kind ≡ None → (kind : BreakKind) → test kind ≡ false
+  unfolding first_kind
+  first-none h kind =
+      let past_lost = none_at Lost _ fails_none h in
+      let past_class = none_at ClassChanged _ past_lost.0 past_lost.1 in
+      let past_mapping = none_at MappingChanged _ past_class.0 past_class.1 in
+      let past_excluded = none_at NowExcluded _ past_mapping.0 past_mapping.1 in
+      let past_included = none_at NowIncluded _ past_excluded.0 past_excluded.1 in
+      let past_all = none_at NewComposite None past_included.0 past_included.1 in
+      let high = in_six kind in
+      past_all.0 kind (omega arith)
 
 -- ---- each test and its meaning
 
@@ -185,18 +194,17 @@ module _ (old new : VersionData) (c : ℕ) where
       and_from _ _ (and_from _ _ (and_from _ _ h.0 (primary-test new c h.2.primary)) (not_from _ (not_primary-test old h.1))) (composes-parts h.2)
   passes NewComposite h = and_from _ _ (and_from _ _ (not_from _ h.0) (primary-test new c h.1.primary)) (composes-parts h.1)
 
-  break_of-chain : break_of old new c ≡ chain (test_of Lost) (test_of ClassChanged) (test_of MappingChanged) (test_of NowExcluded) (test_of NowIncluded) (test_of NewComposite)
-  unfolding break_of chain test_of
-  break_of-chain = refl
+  break_of-first : break_of old new c ≡ first_kind test_of
+  unfolding break_of first_kind or_else test_of
+  break_of-first = refl
 
   pub break_of-is : (kind : BreakKind) → break_of old new c ≡ Some kind → IsBreakOf old new c kind
   break_of-is kind h =
-      let least = chain-some test_of _ _ _ _ _ _ refl refl refl refl refl refl kind (sym break_of-chain ∙ h) in
+      let least = first-some test_of kind (sym break_of-first ∙ h) in
       record { has = has kind least.has; least = λ other k. least.least other (passes other k) }
 
   pub break_of-none : break_of old new c ≡ None → (kind : BreakKind) → ¬ HasBreak old new c kind
-  break_of-none h kind is =
-      both_ways _ (chain-none test_of _ _ _ _ _ _ refl refl refl refl refl refl (sym break_of-chain ∙ h) kind) (passes kind is)
+  break_of-none h kind is = both_ways _ (first-none test_of (sym break_of-first ∙ h) kind) (passes kind is)
 
   go : (kind : BreakKind) → IsBreakOf old new c kind → (o : Option BreakKind) → break_of old new c ≡ o → o ≡ Some kind
   go kind is None e = absurd (break_of-none e kind is.has)

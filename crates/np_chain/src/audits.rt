@@ -96,6 +96,7 @@ fn break_of_assigned(old: &Version, new: &Version, code: u32) -> Option<BreakKin
 }
 
 /// The break of a code point that both versions assign with one class, if it has one.
+#[tactic(auto, using(crate::proofs::BreakLemmas::break_of_staying))]
 fn break_of_kept(old: &Version, new: &Version, code: u32) -> Option<BreakKind>
     requires old { is_assigned old.now code ≡ true }
     requires new { is_assigned new.now code ≡ true }

@@ -41,9 +41,6 @@ index_of l v hl hv = (omega arith, omega arith, omega arith)
 index_bounds : (i : ℕ) → i < 11172 → (i / 588 < 19) × (i % 588 / 28 < 21) × (i % 28 < 28)
 index_bounds i h = (omega arith, omega arith, omega arith)
 
-index_lv : (i : ℕ) → (i - i % 28) % 28 ≡ 0
-index_lv i = omega arith
-
 -- a leading consonant and a vowel have an LV syllable
 pub lv_of_pair : (a b s : ℕ) → is_leading_consonant a ≡ true → is_vowel b ≡ true
     → s ≡ 0xAC00 + (a - 0x1100) * 588 + (b - 0x1161) * 28 → (is_syllable s ≡ true) × (syllable_pair s ≡ a ∷ b ∷ [])

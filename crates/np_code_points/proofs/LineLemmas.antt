@@ -1,41 +1,10 @@
 -- How a cut at the first element that passes a test gives the lines, and what is dropped of them.
-use Rattle.std.proofs.Common.{◌≡◌, ◌≢◌, ℕ, zero, suc, ◌+◌, ◌<◌, ◌≤◌, Bool, true, false, cond, eqb, List, [], ◌∷◌, ◌++◌, length, get_or, take, drop, Option, Some, None, refl, sym, ap, ◌∙◌, arith}
+use Rattle.std.proofs.Common.{◌≡◌, ◌≢◌, ℕ, zero, suc, ◌<◌, ◌≤◌, Bool, true, false, cond, eqb, List, [], ◌∷◌, length, get_or, take, Option, Some, None, refl, sym, ap, ◌∙◌, arith}
 use Rattle.std.specs.List.{slice_split, onto_first}
-use Rattle.std.proofs.lemmas.List.{at_drop_more, at_drop_all, take_more, append_assoc, append-nil, take_all}
 use Rattle.std.proofs.lemmas.Bool.{cond-true, cond-false, ne_eqb, eq-eqb}
 use Rattle.np_code_points.specs.inside.LineCuts.{before_first, after_first, before_byte, after_byte, is_byte, without_last_empty, lines_of, without_return}
 
--- A loop that seeks the first element that passes.
 module _ (p : ℕ → Bool) where
-  before_here : (xs : List ℕ) (i : ℕ) → i < length xs → p (get_or xs i 0) ≡ true → before_first p (drop i xs) ≡ []
-  before_here xs i l e =
-      at_drop_more (before_first p) xs i 0 l ∙ cond-true (p (get_or xs i 0)) [] (get_or xs i 0 ∷ before_first p (drop (i + 1) xs)) e
-
-  before_past : (xs : List ℕ) (i : ℕ) → i < length xs → p (get_or xs i 0) ≡ false → before_first p (drop i xs) ≡ get_or xs i 0 ∷ before_first p (drop (i + 1) xs)
-  before_past xs i l e =
-      at_drop_more (before_first p) xs i 0 l ∙ cond-false (p (get_or xs i 0)) [] (get_or xs i 0 ∷ before_first p (drop (i + 1) xs)) e
-
-  pub after_here : (xs : List ℕ) (i : ℕ) → i < length xs → p (get_or xs i 0) ≡ true → after_first p (drop i xs) ≡ Some (drop (i + 1) xs)
-  after_here xs i l e =
-      at_drop_more (after_first p) xs i 0 l ∙ cond-true (p (get_or xs i 0)) (Some (drop (i + 1) xs)) (after_first p (drop (i + 1) xs)) e
-
-  pub after_past : (xs : List ℕ) (i : ℕ) → i < length xs → p (get_or xs i 0) ≡ false → after_first p (drop i xs) ≡ after_first p (drop (i + 1) xs)
-  after_past xs i l e =
-      at_drop_more (after_first p) xs i 0 l ∙ cond-false (p (get_or xs i 0)) (Some (drop (i + 1) xs)) (after_first p (drop (i + 1) xs)) e
-
-  pub before_found : (xs : List ℕ) (i : ℕ) → i < length xs → p (get_or xs i 0) ≡ true → before_first p xs ≡ take i xs ++ before_first p (drop i xs) → take i xs ≡ before_first p xs
-  before_found xs i l e h = sym (h ∙ ap (λ r. take i xs ++ r) (before_here xs i l e) ∙ append-nil (take i xs))
-
-  pub before_more : (xs : List ℕ) (i : ℕ) → i < length xs → p (get_or xs i 0) ≡ false → before_first p xs ≡ take i xs ++ before_first p (drop i xs) → before_first p xs ≡ take (i + 1) xs ++ before_first p (drop (i + 1) xs)
-  before_more xs i l e h =
-      h ∙ ap (λ r. take i xs ++ r) (before_past xs i l e)
-      ∙ sym (append_assoc (take i xs) (get_or xs i 0 ∷ []) (before_first p (drop (i + 1) xs)))
-      ∙ ap (λ r. r ++ before_first p (drop (i + 1) xs)) (sym (take_more xs i 0 l))
-
-  pub before_none : (xs : List ℕ) (i : ℕ) → length xs ≤ i → before_first p xs ≡ take i xs ++ before_first p (drop i xs) → xs ≡ before_first p xs
-  before_none xs i l h =
-      sym (h ∙ ap (λ r. take i xs ++ r) (at_drop_all (before_first p) xs i l) ∙ append-nil (take i xs) ∙ take_all i xs l)
-
   -- the parts behind the first
   abbrev pub rest_parts : Option (List ℕ) → List (List ℕ)
   rest_parts None = []

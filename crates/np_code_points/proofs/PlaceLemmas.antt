@@ -81,11 +81,5 @@ lowest_bit n byte xs mask long small is some =
     ap (count_trailing_zeros 64) is
     ∙ trailing_mask_l (λ x. eqb x byte) 64 xs (omega (arith, long)) (positive (mask_l (map (λ x. eqb x byte) xs)) (λ e. some (is ∙ e)))
 
--- the same of 64 bytes, where no bit is one at the end
-pub lowest_of_64 : (byte : ℕ) (xs : List ℕ) (mask : ℕ) → length xs ≡ 64 → mask ≡ mask_l (map (λ x. eqb x byte) xs) → count_trailing_zeros 64 mask ≡ prefix_len (is_other byte) xs
-unfolding count_trailing_zeros
-lowest_of_64 byte xs zero long is = no_bit 64 byte xs zero long is refl
-lowest_of_64 byte xs (suc mask) long is = lowest_bit 64 byte xs (suc mask) long (omega arith) is (λ e. absurd (omega arith))
-
 pub run_le : (p : ℕ → Bool) (xs : List ℕ) (at n : ℕ) → at + n ≤ length xs → prefix_len p (chunk at n xs) ≤ n
 run_le p xs at n room = omega (arith, prefix_len-le-length p (chunk at n xs), length-chunk at n xs room)

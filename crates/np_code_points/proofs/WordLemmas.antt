@@ -1,8 +1,7 @@
 -- The words of a text, one after another.
-use Rattle.std.proofs.Common.{◌≡◌, ℕ, ◌+◌, ◌<◌, ◌≤◌, Bool, true, false, not, cond, eqb, List, [], ◌∷◌, length, get_or, drop, Option, Some, None, refl, sym, ap, ◌∙◌, arith}
+use Rattle.std.proofs.Common.{◌≡◌, ℕ, ◌<◌, ◌≤◌, Bool, true, false, not, cond, eqb, List, [], ◌∷◌, length, Option, Some, None, refl, sym, ap, ◌∙◌, arith}
 use Rattle.std.specs.List.{slice_split, onto_first, filter}
-use Rattle.std.proofs.lemmas.List.{at_drop_more}
-use Rattle.std.proofs.lemmas.Bool.{cond-true, cond-false, true≢false, eqb-true}
+use Rattle.std.proofs.lemmas.Bool.{true≢false, eqb-true}
 use Rattle.np_code_points.specs.inside.LineCuts.{before_first, after_first, is_empty}
 use Rattle.np_code_points.specs.inside.WordCuts.{after_all, words_by, or_nothing}
 use Rattle.np_code_points.proofs.LineLemmas.{rest_parts, split_cut, length-after_first}
@@ -11,18 +10,6 @@ abbrev is_word : List ℕ → Bool
 is_word word = not (is_empty word)
 
 module _ (p : ℕ → Bool) where
-  -- A loop that passes what is in front.
-  pub after_goes_on : (xs : List ℕ) (i : ℕ) → i < length xs → p (get_or xs i 0) ≡ true → after_all p (drop i xs) ≡ after_all p (drop (i + 1) xs)
-  after_goes_on xs i l e =
-      at_drop_more (after_all p) xs i 0 l
-      ∙ cond-true (p (get_or xs i 0)) (after_all p (drop (i + 1) xs)) (get_or xs i 0 ∷ drop (i + 1) xs) e
-
-  pub after_stops : (xs : List ℕ) (i : ℕ) → i < length xs → p (get_or xs i 0) ≡ false → after_all p (drop i xs) ≡ drop i xs
-  after_stops xs i l e =
-      at_drop_more (after_all p) xs i 0 l
-      ∙ cond-false (p (get_or xs i 0)) (after_all p (drop (i + 1) xs)) (get_or xs i 0 ∷ drop (i + 1) xs) e
-      ∙ sym (at_drop_more (λ ys. ys) xs i 0 l)
-
   front_step : (t : Bool) (x : ℕ) (xs : List ℕ) → filter is_word (slice_split p (after_all p xs)) ≡ filter is_word (slice_split p xs) → p x ≡ t → filter is_word (slice_split p (cond t (after_all p xs) (x ∷ xs))) ≡ filter is_word (slice_split p (x ∷ xs))
   front_step true x xs h e = h ∙ sym (ap (λ t. filter is_word (cond t ([] ∷ slice_split p xs) (onto_first x (slice_split p xs)))) e)
   front_step false x xs h e = refl

@@ -1,9 +1,9 @@
 //! The lines of a file, as the Unicode Character Database has them (UAX #44, section 4.2).
-ghost use Rattle.std.specs.Prelude.{◌≡◌, ◌==◌, ◌<◌, ◌≤◌, ◌+◌, ◌∷◌, ◌≢◌, ℕ, List, [], length, drop, option_map, MatchOption, Some, None};
+ghost use Rattle.std.specs.Prelude.{◌≡◌, ◌==◌, ◌<◌, ◌≤◌, ◌+◌, ◌∷◌, ◌≢◌, ℕ, List, [], length, drop, option_map, MatchOption, IfOk, IfErr, Some, None};
 ghost use Rattle.std.specs.List.{count_by, list_all, prefix_len};
 ghost use lib.Lanes.{chunk};
 ghost use Rattle.np_code_points.specs.Lines.{AreDataLines, AreLines};
-ghost use Rattle.np_code_points.specs.inside.LineCuts.{before_byte, after_byte, data_lines_in, lines_of, without_return as returned, is_blank as blank, is_comment as comment, is_skipped as skipped, is_byte, is_other};
+ghost use Rattle.np_code_points.specs.inside.LineCuts.{before_byte, after_byte, data_lines_in, lines_of, without_return as returned, is_blank as blank, is_comment as comment, is_skipped as skipped, is_byte, is_other, HasPassed};
 
 use std::marker::Model;
 use std::simd::prelude::*;
@@ -14,18 +14,19 @@ const STEP: usize = 16;
 /// How many bytes a step looks at where there are so many: few lines are longer.
 const LONG_STEP: usize = 64;
 
-/// How many of the `STEP` bytes from a place on stand before the first such byte: all where there
-/// is none.
+/// How many of the `N` bytes from a place on stand before the first such byte: all where there is
+/// none.
 #[inline(always)]
-fn before_in_step(bytes: &[u8], from: usize, byte: u8) -> usize
-    requires room { from + 16 ≤ length bytes.now }
-    ensures { result ≡ prefix_len (is_other byte) (chunk from 16 bytes.now) }
+fn before_in_step<const N: usize>(bytes: &[u8], from: usize, byte: u8) -> usize
+    requires narrow { N ≤ 64 }
+    requires room { from + N ≤ length bytes.now }
+    ensures { result ≡ prefix_len (is_other byte) (chunk from N bytes.now) }
 {
-    let found = u8x16::from_slice(&bytes[from..])
-        .simd_eq(u8x16::splat(byte))
+    let found = Simd::<u8, N>::from_slice(&bytes[from..])
+        .simd_eq(Simd::splat(byte))
         .to_bitmask();
     if found == 0 {
-        STEP
+        N
     } else {
         found.trailing_zeros() as usize
     }
@@ -43,48 +44,39 @@ fn before_from(bytes: &[u8], from: usize, byte: u8) -> usize
     at
 }
 
-/// How many of the `LONG_STEP` bytes from a place on stand before the first such byte: all where
-/// there is none.
+/// How many bytes stand before the first such byte, as far as steps of `N` bytes from a place on
+/// show it; or else the place that they come to, behind which fewer than `N` bytes are left.
 #[inline(always)]
-fn before_in_long_step(bytes: &[u8], from: usize, byte: u8) -> usize
-    requires room { from + 64 ≤ length bytes.now }
-    ensures { result ≡ prefix_len (is_other byte) (chunk from 64 bytes.now) }
-{
-    let found = u8x64::from_slice(&bytes[from..])
-        .simd_eq(u8x64::splat(byte))
-        .to_bitmask();
-    found.trailing_zeros() as usize
-}
-
-/// How many bytes stand before the first such byte from a place on; all where there is none.
-fn before_by_steps(bytes: &[u8], from: usize, byte: u8) -> usize
+fn before_by_steps<const N: usize>(bytes: &[u8], from: usize, byte: u8) -> Result<usize, usize>
+    requires some { 0 < N }
+    requires narrow { N ≤ 64 }
     requires within { from ≤ length bytes.now }
-    ensures { result ≡ from + prefix_len (is_other byte) (drop from bytes.now) }
+    ensures found { IfOk result (λ at. at ≡ from + prefix_len (is_other byte) (drop from bytes.now)) }
+    ensures passed { IfErr result (λ at. HasPassed (is_other byte) bytes.now from at) }
 {
     let mut at = from;
-    while bytes.len() - at >= STEP {
-        let passed = before_in_step(bytes, at, byte);
-        if passed < STEP {
-            return at + passed;
+    while bytes.len() - at >= N {
+        let passed = before_in_step::<N>(bytes, at, byte);
+        if passed < N {
+            return Ok(at + passed);
         }
-        at += STEP;
+        at += N;
     }
-    before_from(bytes, at, byte)
+    Err(at)
 }
 
 /// How many bytes stand before the first such byte; all where there is none.
 fn before(bytes: &[u8], byte: u8) -> usize
     ensures { result ≡ prefix_len (is_other byte) bytes.now }
 {
-    let mut at = 0;
-    while bytes.len() - at >= LONG_STEP {
-        let passed = before_in_long_step(bytes, at, byte);
-        if passed < LONG_STEP {
-            return at + passed;
-        }
-        at += LONG_STEP;
+    let at = match before_by_steps::<LONG_STEP>(bytes, 0, byte) {
+        Ok(at) => return at,
+        Err(at) => at,
+    };
+    match before_by_steps::<STEP>(bytes, at, byte) {
+        Ok(at) => at,
+        Err(at) => before_from(bytes, at, byte),
     }
-    before_by_steps(bytes, at, byte)
 }
 
 /// What stands before a place, and what stands behind it where there is one: the first place of a

@@ -1,8 +1,7 @@
 -- The files of a chain's versions, read two by two.
-use Rattle.std.proofs.Common.{◌≡◌, ℕ, zero, suc, ◌+◌, ◌-◌, ◌*◌, ◌<◌, ◌≤◌, false, List, [], ◌∷◌, ◌++◌, length, get_or, set, Option, Result, IfOk, IfErr, inl, inr, refl, sym, ap, subst, ◌∙◌, arith, append_assoc, All}
+use Rattle.std.proofs.Common.{◌≡◌, ℕ, zero, suc, ◌+◌, ◌-◌, ◌*◌, ◌<◌, ◌≤◌, false, List, [], ◌∷◌, ◌++◌, length, get_or, set, Option, inl, inr, refl, sym, ap, subst, ◌∙◌, arith, append_assoc, All}
 use Rattle.std.proofs.lemmas.List.{append-nil, length-append}
 use Rattle.std.proofs.lemmas.List.Elements.{All-cons, All-nil}
-use Rattle.std.proofs.lemmas.Result.{IfErr-weaker, IfOk-weaker}
 use Rattle.std.specs.List.{AllZip}
 use Rattle.np_code_points.specs.Watched.{device_of, has_failed}
 use Rattle.np_code_points.specs.declared.channels.watched.Watched.{Watched}
@@ -144,21 +143,12 @@ module _ {D : Type 0} (tells : D → Option (List ℕ)) where
         holds = holds;
       }
 
-  -- the same of what a reading answers
-  module _ {R E : Type 0} (result : Result R E) (number : ℕ) (files front behind : List (Watched D)) (d e first second : Watched D) (cut : files ≡ front ++ behind) (long : length front ≡ 2 * number + 1)
-      (some : 0 < length behind) where
-    at_cut : (P : Stream → Stream → Type 0) → P (stream_of tells (get_or front (2 * number) d) first) (stream_of tells (get_or behind 0 e) second)
-        → IsReadAt tells P number files (set front (2 * number) first ++ set behind 0 second)
-    at_cut P holds =
-        subst (λ fs. IsReadAt tells P number fs (set front (2 * number) first ++ set behind 0 second)) (sym cut) (read_here P number front behind d e first second long some holds)
-
-    pub ok_here : (P : R → Stream → Stream → Type 0) → IfOk result (λ r. P r (stream_of tells (get_or front (2 * number) d) first) (stream_of tells (get_or behind 0 e) second))
-        → IfOk result (λ r. IsReadAt tells (P r) number files (set front (2 * number) first ++ set behind 0 second))
-    ok_here P = IfOk-weaker result _ _ (λ r holds. at_cut (P r) holds)
-
-    pub err_here : (P : E → Stream → Stream → Type 0) → IfErr result (λ f. P f (stream_of tells (get_or front (2 * number) d) first) (stream_of tells (get_or behind 0 e) second))
-        → IfErr result (λ f. IsReadAt tells (P f) number files (set front (2 * number) first ++ set behind 0 second))
-    err_here P = IfErr-weaker result _ _ (λ f holds. at_cut (P f) holds)
+  -- the same of a list that was cut there
+  pub at_cut : (number : ℕ) (files front behind : List (Watched D)) (d e first second : Watched D) → files ≡ front ++ behind → length front ≡ 2 * number + 1 → 0 < length behind
+      → (P : Stream → Stream → Type 0) → P (stream_of tells (get_or front (2 * number) d) first) (stream_of tells (get_or behind 0 e) second)
+      → IsReadAt tells P number files (set front (2 * number) first ++ set behind 0 second)
+  at_cut number files front behind d e first second cut long some P holds =
+      subst (λ fs. IsReadAt tells P number fs (set front (2 * number) first ++ set behind 0 second)) (sym cut) (read_here P number front behind d e first second long some holds)
 
   module _ (number : ℕ) (old now new : List (Watched D)) (versions : List VersionData) (so_far : AreReadUpTo tells number old now versions) where
     pub one_more : (v : VersionData) → IsReadAt tells (λ d e. WasBuilt d e v) number now new → AreReadUpTo tells (number + 1) old new (versions ++ v ∷ [])

@@ -1,5 +1,5 @@
 -- CompositionExclusions.txt as a whole is read as the grammar says.
-use Rattle.std.proofs.Common.{◌≡◌, ℕ, ◌<◌, ◌≤◌, ◌⊎◌, ◌↔◌, true, leb, List, [], ◌∷◌, ◌++◌, Option, Some, None, is_some, refl, sym, ap, subst, ◌∙◌, inl, inr, ⊎_elim, arith}
+use Rattle.std.proofs.Common.{◌≡◌, ℕ, ◌<◌, ◌≤◌, ◌⊎◌, ◌↔◌, true, leb, List, [], ◌∷◌, ◌++◌, Option, Some, None, refl, sym, ap, subst, ◌∙◌, inl, inr, ⊎_elim, arith}
 use Rattle.std.specs.List.{All, AllPairs, Contains, list_any}
 use Rattle.std.proofs.lemmas.Bool.{false≢true, leb-true, le-leb, and_parts, and_from, or_cases, or_left, or_right}
 use Rattle.std.proofs.lemmas.List.Elements.{All-nil, All-cons, All-head, All-tail}
@@ -9,7 +9,6 @@ use Rattle.np_code_points.specs.inside.LineCuts.{data_lines_in}
 use Rattle.np_code_points.proofs.DataLineGrammar.{are_data_lines}
 use Rattle.np_code_points.proofs.Elements.{contains_here, contains_more, contains_cases, contains_none, contains_middle, all_contained, least_left}
 use Rattle.np_ucd.specs.Exclusions.{IsReadable, IsBadLine, IsFirstBadLine, AreReadable, IsListedIn}
-use Rattle.np_ucd.specs.Faults.{line_of}
 use Rattle.np_ucd.specs.Listed.{Span, is_within, is_listed}
 use Rattle.np_ucd.specs.Tests.{UcdFault, BadCode}
 use Rattle.np_ucd.specs.inside.ExclusionReading.{line_spans, fault_at, spans_fault, and_spans, spans_of, exclusions_fault, spans_in}
@@ -108,9 +107,6 @@ none_bad bytes h number o =
 pub are_readable : (bytes : List ℕ) → exclusions_fault bytes ≡ None → AreReadable bytes
 unfolding exclusions_fault
 are_readable bytes h = none_bad bytes h
-
-pub bad_lined : (bytes : List ℕ) (e : UcdFault) → IsFirstBadLine bytes e → is_some (line_of e) ≡ true
-bad_lined bytes e h = ap (λ f. is_some (line_of f)) h.fault_is
 
 -- The code points that are listed.
 record Holds (lines : List Numbered) (code : ℕ) : Type 0 where

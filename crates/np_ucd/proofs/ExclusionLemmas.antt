@@ -1,7 +1,7 @@
 -- How CompositionExclusions.txt is read line by line.
-use Rattle.std.proofs.Common.{◌≡◌, ℕ, suc, ◌+◌, ◌≤◌, Bool, true, false, ◌&&◌, cond, List, [], ◌∷◌, ◌++◌, length, get_or, take, Option, Some, None, IfSome, is_some, refl, sym, ap, ◌∙◌, inl, inr, ⊎_elim, arith}
+use Rattle.std.proofs.Common.{◌≡◌, ℕ, suc, ◌+◌, ◌≤◌, Bool, true, false, ◌&&◌, cond, List, [], ◌∷◌, ◌++◌, length, get_or, take, Option, Some, None, IfSome, is_some, Result, IfErr, refl, sym, ap, ◌∙◌, arith}
 use Rattle.std.specs.List.{list_all}
-use Rattle.std.proofs.lemmas.List.{append_assoc, append-nil, take_more}
+use Rattle.std.proofs.lemmas.List.{append-nil, take_more}
 use Rattle.std.proofs.lemmas.List.Folds.{list_all-append}
 use Rattle.std.proofs.lemmas.Bool.{cond-true, cond-false, and_right}
 use Rattle.np_ucd.specs.Listed.{Span}
@@ -11,6 +11,7 @@ use Rattle.np_code_points.specs.inside.LineCuts.{is_blank, data_lines_in}
 use Rattle.np_ucd.specs.Tests.{UcdFault}
 use Rattle.np_ucd.specs.inside.ExclusionReading.{before_blanks, line_spans, fault_at, and_spans, spans_fault, spans_of, exclusions_fault, spans_in}
 use Rattle.np_ucd.specs.inside.RecordValues.{IsMemoryOr}
+use Rattle.np_ucd.proofs.WalkLemmas.{grown_next, memory_or_first}
 
 and_true : (b : Bool) → (b && true) ≡ b
 and_true true = refl
@@ -68,40 +69,40 @@ spans_join : (o : Option (List Span)) (rest : List Span) → and_spans o rest �
 spans_join None rest = refl
 spans_join (Some spans) rest = ap (λ xs. xs ++ rest) (sym (append-nil spans))
 
-pub fault_next : (first : Option UcdFault) (lines more : List Numbered) (r : Numbered) → first ≡ spans_fault lines → lines ≡ r ∷ more → fault_at r.line (line_spans r.text) None ≡ None → first ≡ spans_fault more
-unfolding spans_fault
-fault_next first lines more r h cut fine =
-    h ∙ ap spans_fault cut ∙ fine_passes r.line (line_spans r.text) (spans_fault more) fine
+-- How far the lines are read: what is listed so far and what the lines that are left list is what the file lists, and
+-- its first fault is theirs.
+pub record AreTaken (bytes : List ℕ) (lines : List Numbered) (done : List Span) : Type 0 where
+  pub fault : exclusions_fault bytes ≡ spans_fault lines
+  pub spans : done ++ spans_of lines ≡ spans_in bytes
 
-pub fault_here : (first : Option UcdFault) (lines more : List Numbered) (r : Numbered) (e : UcdFault) → first ≡ spans_fault lines → lines ≡ r ∷ more → IsMemoryOr (fault_at r.line (line_spans r.text) None) e → IsMemoryOr first e
-unfolding spans_fault
-fault_here first lines more r e h cut fault =
-    ⊎_elim (λ m. inl m) (λ is. inr (h ∙ ap spans_fault cut ∙ fault_stops r.line (line_spans r.text) (spans_fault more) e is)) fault
+pub taken_begin : {bytes : List ℕ} {lines : List Numbered} {done : List Span} → lines ≡ data_lines_in bytes → done ≡ [] → AreTaken bytes lines done
+unfolding exclusions_fault spans_in
+taken_begin {lines = lines} all none = record {
+  fault = ap spans_fault (sym all);
+  spans = ap (λ spans. spans ++ spans_of lines) none ∙ ap spans_of all;
+}
 
-pub spans_next : (total done grown : List Span) (lines more : List Numbered) (r : Numbered) → done ++ spans_of lines ≡ total → lines ≡ r ∷ more → grown ≡ done ++ and_spans (line_spans r.text) [] → grown ++ spans_of more ≡ total
+pub taken_next : {bytes : List ℕ} {lines more : List Numbered} {done grown : List Span} (r : Numbered) → AreTaken bytes lines done → lines ≡ r ∷ more → fault_at r.line (line_spans r.text) None ≡ None → grown ≡ done ++ and_spans (line_spans r.text) [] → AreTaken bytes more grown
+unfolding spans_fault spans_of
+taken_next {more = more} {done = done} r h cut fine grows = record {
+  fault = h.fault ∙ ap spans_fault cut ∙ fine_passes r.line (line_spans r.text) (spans_fault more) fine;
+  spans = grown_next done (and_spans (line_spans r.text) []) (spans_of more) h.spans (ap spans_of cut ∙ spans_join (line_spans r.text) (spans_of more)) grows;
+}
+
+pub taken_here : {bytes : List ℕ} {lines more : List Numbered} {done : List Span} {T : Type 0} (r : Numbered) (result : Result T UcdFault) → AreTaken bytes lines done → lines ≡ r ∷ more → IfErr result (λ e. IsMemoryOr (fault_at r.line (line_spans r.text) None) e) → IfErr result (λ e. IsMemoryOr (exclusions_fault bytes) e)
+unfolding spans_fault
+taken_here {bytes = bytes} {more = more} r result h cut fault =
+    memory_or_first (fault_at r.line (line_spans r.text) None) (exclusions_fault bytes) result
+    (λ e is. h.fault ∙ ap spans_fault cut ∙ fault_stops r.line (line_spans r.text) (spans_fault more) e is)
+    fault
+
+pub fault_end : {bytes : List ℕ} {lines : List Numbered} {done : List Span} → AreTaken bytes lines done → lines ≡ [] → exclusions_fault bytes ≡ None
+unfolding spans_fault
+fault_end h e = h.fault ∙ ap spans_fault e
+
+pub spans_end : {bytes : List ℕ} {lines : List Numbered} {done : List Span} → AreTaken bytes lines done → lines ≡ [] → done ≡ spans_in bytes
 unfolding spans_of
-spans_next total done grown lines more r h cut grows =
-    ap (λ spans. spans ++ spans_of more) grows
-    ∙ append_assoc done (and_spans (line_spans r.text) []) (spans_of more)
-    ∙ ap (λ spans. done ++ spans) (sym (spans_join (line_spans r.text) (spans_of more)))
-    ∙ ap (λ ls. done ++ spans_of ls) (sym cut)
-    ∙ h
-
-pub fault_end : (first : Option UcdFault) (lines : List Numbered) → first ≡ spans_fault lines → lines ≡ [] → first ≡ None
-unfolding spans_fault
-fault_end first lines h e = h ∙ ap spans_fault e
-
-pub spans_end : (total done : List Span) (lines : List Numbered) → done ++ spans_of lines ≡ total → lines ≡ [] → done ≡ total
-unfolding spans_of
-spans_end total done lines h e = sym (append-nil done) ∙ ap (λ ls. done ++ spans_of ls) (sym e) ∙ h
-
-pub fault_begin : (bytes : List ℕ) (lines : List Numbered) → lines ≡ data_lines_in bytes → exclusions_fault bytes ≡ spans_fault lines
-unfolding exclusions_fault
-fault_begin bytes lines h = ap spans_fault (sym h)
-
-pub spans_begin : (bytes : List ℕ) (lines : List Numbered) (done : List Span) → lines ≡ data_lines_in bytes → done ≡ [] → done ++ spans_of lines ≡ spans_in bytes
-unfolding spans_in
-spans_begin bytes lines done h e = ap (λ spans. spans ++ spans_of lines) e ∙ ap spans_of h
+spans_end {done = done} h e = sym (append-nil done) ∙ ap (λ ls. done ++ spans_of ls) (sym e) ∙ h.spans
 
 -- The first fault has a line.
 at_has_line : (n : ℕ) (o : Option (List Span)) (rest : Option UcdFault) → IfSome rest (λ e. is_some (line_of e) ≡ true) → IfSome (fault_at n o rest) (λ e. is_some (line_of e) ≡ true)

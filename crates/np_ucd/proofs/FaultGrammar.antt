@@ -1,18 +1,17 @@
 -- The first fault of UnicodeData.txt is the one that the grammar names.
-use Rattle.std.proofs.Common.{◌≡◌, ℕ, ◌<◌, ◌≤◌, ◌⊎◌, Bool, true, false, cond, List, [], ◌∷◌, ◌++◌, Option, Some, None, is_some, refl, sym, ap, subst, ◌∙◌, inl, inr, ⊎_elim, append_assoc, arith}
+use Rattle.std.proofs.Common.{◌≡◌, ℕ, ◌<◌, ◌≤◌, ◌⊎◌, Bool, true, false, cond, List, [], ◌∷◌, ◌++◌, Option, Some, None, refl, sym, ap, subst, ◌∙◌, inl, inr, ⊎_elim, append_assoc, arith}
 use Rattle.std.specs.List.{AllPairs, Contains}
 use Rattle.std.specs.Option.{option_or}
 use Rattle.np_code_points.specs.Lines.{Numbered}
 use Rattle.np_code_points.specs.inside.LineCuts.{data_lines_in}
 use Rattle.np_code_points.proofs.DataLineGrammar.{are_data_lines, only_data_lines}
 use Rattle.np_code_points.proofs.Elements.{contains_middle, greatest_front}
-use Rattle.np_ucd.specs.Faults.{line_of}
 use Rattle.np_ucd.specs.Fields.{Fields, IsFirstName}
 use Rattle.np_ucd.specs.FirstFaults.{IsLastOf, IsFaultAt, HasNoFaultAt, IsOpenAtEnd, IsFirstFault, HasNoFault}
 use Rattle.np_ucd.specs.Tests.{UcdFault, RangeOpen, IsFaultOf, Fits}
 use Rattle.np_ucd.specs.inside.FileReading.{end_fault, fault_after, first_fault}
 use Rattle.np_ucd.specs.inside.RecordReading.{Neighbour, field, neighbour_of, opens, record_fault}
-use Rattle.np_ucd.proofs.FieldGrammar.{fields_in, only_has, opens_said, opens_read}
+use Rattle.np_ucd.proofs.FieldGrammar.{fields_in, only_has, opens_is}
 use Rattle.np_ucd.proofs.TestGrammar.{Match, matches, found, least, nothing_fits, read_fine}
 
 -- The neighbour of the record that stands behind these.
@@ -38,11 +37,6 @@ FineFrom b (r ∷ records) = (record_fault b r.line r.text ≡ None) × FineFrom
 pub fine_each : (b : Option Neighbour) (before : List Numbered) (r : Numbered) (after : List Numbered) → FineFrom b (before ++ r ∷ after) → fault_behind b before r ≡ None
 fine_each b [] r after h = h.0
 fine_each b (s ∷ before) r after h = fine_each (as_neighbour s) before r after h.1
-
-each_fine : (b : Option Neighbour) (records : List Numbered) → ((before : List Numbered) (r : Numbered) (after : List Numbered) → records ≡ before ++ r ∷ after → fault_behind b before r ≡ None) → FineFrom b records
-each_fine b [] h = tt
-each_fine b (r ∷ records) h =
-    (h [] r records refl, each_fine (as_neighbour r) records (λ before s after e. h (r ∷ before) s after (ap (λ rs. r ∷ rs) e)))
 
 -- The first fault, from the records before it or from the end.
 record Faulty (b : Option Neighbour) (records : List Numbered) : Type 0 where
@@ -216,7 +210,7 @@ open_end bytes fault fine split h =
       stands = split.stands;
       fields = fields_in split.last.text;
       has = r.has;
-      opens = opens_said (field 1 split.last.text) at.0;
+      opens = (opens_is (field 1 split.last.text)).0 at.0;
       is = at.1;
     }
 
@@ -227,7 +221,7 @@ some_last (r ∷ records) fault h = last_of [] r records
 closed : (bytes : List ℕ) → end_fault (behind None (data_lines_in bytes)) ≡ None → (fault : UcdFault) → IsOpenAtEnd bytes fault → ⊥
 closed bytes h fault o =
     let same : data_lines_in bytes ≡ o.front ++ o.last ∷ [] = sym (only_data_lines bytes o.records o.are) ∙ o.stands in
-    let opening : opens o.last.text ≡ true = opens_read (field 1 o.last.text) (subst (λ (f : Fields). IsFirstName f.name) (only_has o.last.text o.fields o.has) o.opens) in
+    let opening : opens o.last.text ≡ true = (opens_is (field 1 o.last.text)).1 (subst (λ (f : Fields). IsFirstName f.name) (only_has o.last.text o.fields o.has) o.opens) in
     let some = sym h ∙ end_behind (data_lines_in bytes) o.front o.last same ∙ ap (λ t. cond t (Some (RangeOpen o.last.line)) None) opening in
     absurd (cc)
 
@@ -267,10 +261,6 @@ closed_end bytes h = sym (at_end None (data_lines_in bytes) (fine_all bytes h)) 
 
 pub faultless : (bytes : List ℕ) → first_fault bytes ≡ None → HasNoFault bytes
 faultless bytes h = record { records = no_fault_at bytes (fine_all bytes h); end = closed bytes (closed_end bytes h) }
-
-pub first_lined : (bytes : List ℕ) (e : UcdFault) → IsFirstFault bytes e → is_some (line_of e) ≡ true
-first_lined bytes e h =
-    ⊎_elim (λ at. ap is_some at.1.fault_of.line) (λ end. ap (λ f. is_some (line_of f)) end.1.is) h
 
 -- No first fault stands beside none.
 pub not_both : (bytes : List ℕ) → HasNoFault bytes → (fault : UcdFault) → IsFirstFault bytes fault → ⊥

@@ -1,6 +1,6 @@
 -- The fields of a record, and what they say, are those of the grammar, and no other.
-use Rattle.std.proofs.Common.{◌≡◌, ◌≢◌, ℕ, ◌+◌, ◌-◌, ◌*◌, ◌≤◌, Bool, true, false, not, ◌&&◌, cond, eqb, leb, List, [], ◌∷◌, ◌++◌, length, fold, get_or, take, codes, Some, None, refl, sym, ap, subst, ◌∙◌, inl, inr, ⊎_elim, arith}
-use Rattle.std.specs.List.{All, list_all, slice_split, onto_first, join_with_byte}
+use Rattle.std.proofs.Common.{◌≡◌, ◌≢◌, ℕ, ◌+◌, ◌-◌, ◌*◌, ◌≤◌, Bool, true, false, not, ◌&&◌, cond, eqb, leb, List, [], ◌∷◌, ◌++◌, length, fold, get_or, take, codes, nat_eq, Some, None, ◌↔◌, refl, sym, ap, subst, ◌∙◌, inl, inr, ⊎_elim, arith}
+use Rattle.std.specs.List.{All, list_all, slice_split, onto_first, join_with_byte, ends_with}
 use Rattle.std.specs.Char.{digit_value}
 use Rattle.std.specs.Str.Parse.{digits_value, digits_value_after}
 use Rattle.std.proofs.lemmas.Bool.{false≢true, eqb-true, eqb-false, eq-eqb, leb-true, le-leb, cond-true, or_cases, or_left, or_right, and_parts, and_from, false_from_ne_true}
@@ -227,18 +227,15 @@ class_read text class h =
     ∙ ap Some same
 
 -- The names of a range's two records.
-pub opens_said : (name : List ℕ) → opens_range name ≡ true → IsFirstName name
+ends_so : (name needle : List ℕ) → (ends_with nat_eq name needle ≡ true) ↔ ((front : List ℕ) × (name ≡ front ++ needle))
+ends_so name needle =
+    let both = ends_is Decides-eqb name needle (ends_with nat_eq name needle) refl in
+    (λ h. (take (length name - length needle) name, both.0 h), λ h. both.1 h.0 h.1)
+
+pub opens_is : (name : List ℕ) → (opens_range name ≡ true) ↔ IsFirstName name
 unfolding opens_range
-opens_said name h = let needle = codes ", First>" in (take (length name - length needle) name, (ends_is Decides-eqb name needle (opens_range name) refl).0 h)
+opens_is name = ends_so name (codes ", First>")
 
-pub opens_read : (name : List ℕ) → IsFirstName name → opens_range name ≡ true
-unfolding opens_range
-opens_read name h = (ends_is Decides-eqb name (codes ", First>") (opens_range name) refl).1 h.0 h.1
-
-pub closes_said : (name : List ℕ) → closes_range name ≡ true → IsLastName name
+pub closes_is : (name : List ℕ) → (closes_range name ≡ true) ↔ IsLastName name
 unfolding closes_range
-closes_said name h = let needle = codes ", Last>" in (take (length name - length needle) name, (ends_is Decides-eqb name needle (closes_range name) refl).0 h)
-
-pub closes_read : (name : List ℕ) → IsLastName name → closes_range name ≡ true
-unfolding closes_range
-closes_read name h = (ends_is Decides-eqb name (codes ", Last>") (closes_range name) refl).1 h.0 h.1
+closes_is name = ends_so name (codes ", Last>")

@@ -1,8 +1,8 @@
 pub mod ScalarLemmas
 pub mod RecordLemmas
 pub mod RowLemmas
+pub mod WalkLemmas
 pub mod DataLemmas
-pub mod AnswerLemmas
 pub mod ExclusionLemmas
 pub mod SpanLemmas
 pub mod TextGrammar

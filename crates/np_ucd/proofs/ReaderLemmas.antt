@@ -1,5 +1,5 @@
--- From the answer on a file's bytes to that of its reader.
-use Rattle.std.proofs.Common.{◌≡◌, ℕ, ◌↔◌, Bool, true, List, Option, Some, None, Result, Ok, Err, IfOk, IfErr, OnOk, is_some, IfSome, inl, inr, ⊎_elim}
+-- What a file's reader answers, from what is answered on its bytes.
+use Rattle.std.proofs.Common.{◌≡◌, ℕ, ◌↔◌, Bool, true, false, List, Option, Some, None, Result, Ok, Err, IfOk, IfErr, OnOk, is_some, IfSome, sym, ap, subst, ◌∙◌, arith, ⊎_elim}
 use Rattle.np_code_points.specs.Inputs.{IsReadWhole}
 use Rattle.np_ucd.specs.AllRows.{AreAllRows}
 use Rattle.np_ucd.specs.Entries.{Entry}
@@ -8,44 +8,72 @@ use Rattle.np_ucd.specs.Faults.{line_of}
 use Rattle.np_ucd.specs.FirstFaults.{HasNoFault}
 use Rattle.np_ucd.specs.Listed.{Span, is_listed}
 use Rattle.np_ucd.specs.Reading.{IsRefused}
-use Rattle.np_ucd.specs.Tests.{UcdFault}
-use Rattle.np_ucd.specs.declared.faults.UcdFault.TheVariants.{ReadFailed}
+use Rattle.np_ucd.specs.Tests.{UcdFault, FieldCount, BadCode, OutOfOrder, BadCategory, BadClass, BadMapping, RangeOpen, RangeLone, RangeDiffers, RangeMaps, TooLarge, ReadFailed, Memory}
 use Rattle.np_ucd.specs.inside.ExclusionReading.{exclusions_fault, spans_in}
 use Rattle.np_ucd.specs.inside.FileReading.{first_fault, rows_in}
-use Rattle.np_ucd.specs.inside.RecordValues.{IsMemoryOr, Names}
-use Rattle.np_ucd.proofs.AnswerLemmas.{refused, not_failed}
+use Rattle.np_ucd.specs.inside.RecordValues.{IsMemoryOr}
 use Rattle.np_ucd.proofs.ExclusionGrammar.{are_readable, lists_codes}
 use Rattle.np_ucd.proofs.FaultGrammar.{faultless}
 use Rattle.np_ucd.proofs.RowGrammar.{are_all_rows}
 
+-- the bytes that were read are those that are judged
+pub handed_on : {before after : Option (List ℕ)} {items bytes : List ℕ} → bytes ≡ items → IsReadWhole before after items → IsReadWhole before after bytes
+handed_on same whole = rw same whole
+
 -- the rows of a file that was read
-pub rows_read : (before after : Option (List ℕ)) (bytes : List ℕ) (r : Result (List Entry) UcdFault) → IsReadWhole before after bytes → OnOk r (first_fault bytes ≡ None) → IfOk r (λ rows. rows ≡ rows_in bytes) → IfOk r (λ rows. (bytes : List ℕ) × IsReadWhole before after bytes × HasNoFault bytes × AreAllRows bytes rows)
-rows_read before after bytes (Ok rows) whole fine is =
+pub rows_read : {before after : Option (List ℕ)} {bytes : List ℕ} → IsReadWhole before after bytes → (r : Result (List Entry) UcdFault) → OnOk r (first_fault bytes ≡ None) → IfOk r (λ rows. rows ≡ rows_in bytes) → IfOk r (λ rows. (bytes : List ℕ) × IsReadWhole before after bytes × HasNoFault bytes × AreAllRows bytes rows)
+rows_read {bytes = bytes} whole (Ok rows) fine is =
     (bytes, whole, faultless bytes fine, rw is (are_all_rows bytes fine))
-rows_read before after bytes (Err e) whole fine is = tt
+rows_read whole (Err e) fine is = tt
 
 listed_step : (bytes : List ℕ) (spans : List Span) (code : ℕ) → is_listed spans code ≡ is_listed (spans_in bytes) code → (is_listed spans code ≡ true) ↔ IsListedIn bytes code
 listed_step bytes spans code same = rw same (lists_codes bytes code)
 
-pub listed_read : (before after : Option (List ℕ)) (bytes : List ℕ) (r : Result (List Span) UcdFault) → IsReadWhole before after bytes → OnOk r (exclusions_fault bytes ≡ None) → IfOk r (λ e. (code : ℕ) → is_listed e code ≡ is_listed (spans_in bytes) code) → IfOk r (λ e. (bytes : List ℕ) × IsReadWhole before after bytes × AreReadable bytes × ((code : ℕ) → (is_listed e code ≡ true) ↔ IsListedIn bytes code))
-listed_read before after bytes (Ok spans) whole fine same =
+-- what the lines of one list that was read
+pub listed_read : {before after : Option (List ℕ)} {bytes : List ℕ} → IsReadWhole before after bytes → (r : Result (List Span) UcdFault) → OnOk r (exclusions_fault bytes ≡ None) → IfOk r (λ e. (code : ℕ) → is_listed e code ≡ is_listed (spans_in bytes) code) → IfOk r (λ e. (bytes : List ℕ) × IsReadWhole before after bytes × AreReadable bytes × ((code : ℕ) → (is_listed e code ≡ true) ↔ IsListedIn bytes code))
+listed_read {bytes = bytes} whole (Ok spans) fine same =
     (bytes, whole, are_readable bytes fine, λ code. listed_step bytes spans code (same code))
-listed_read before after bytes (Err e) whole fine same = tt
+listed_read whole (Err e) fine same = tt
 
--- why it was refused
-module _ (IsFault : List ℕ → UcdFault → Type 0) (before after : Option (List ℕ)) (bytes : List ℕ) (whole : IsReadWhole before after bytes) (lined : (e : UcdFault) → IsFault bytes e → is_some (line_of e) ≡ true) where
-  pub refused_read : {T : Type 0} (fault : Option UcdFault) (r : Result T UcdFault) → ((e : UcdFault) → fault ≡ Some e → IsFault bytes e) → IfErr r (λ e. IsMemoryOr fault e) → IfErr r (IsRefused IsFault before after)
-  refused_read fault (Ok x) is h = tt
-  refused_read fault (Err e) is h = refused IsFault before after bytes whole lined e (⊎_elim (λ m. inl m) (λ same. inr (is e same)) h)
+-- a fault that has a line is one of the file's bytes
+named : (IsFault : List ℕ → UcdFault → Type 0) (before after : Option (List ℕ)) (bytes : List ℕ) → IsReadWhole before after bytes → (e : UcdFault) → is_some (line_of e) ≡ true → IsFault bytes e → IsRefused IsFault before after e
+named IsFault before after bytes whole (FieldCount n) lined is = (bytes, whole, is)
+named IsFault before after bytes whole (BadCode n) lined is = (bytes, whole, is)
+named IsFault before after bytes whole (OutOfOrder n) lined is = (bytes, whole, is)
+named IsFault before after bytes whole (BadCategory n) lined is = (bytes, whole, is)
+named IsFault before after bytes whole (BadClass n) lined is = (bytes, whole, is)
+named IsFault before after bytes whole (BadMapping n) lined is = (bytes, whole, is)
+named IsFault before after bytes whole (RangeOpen n) lined is = (bytes, whole, is)
+named IsFault before after bytes whole (RangeLone n) lined is = (bytes, whole, is)
+named IsFault before after bytes whole (RangeDiffers n) lined is = (bytes, whole, is)
+named IsFault before after bytes whole (RangeMaps n) lined is = (bytes, whole, is)
+named IsFault before after bytes whole TooLarge lined is = absurd (cc)
+named IsFault before after bytes whole ReadFailed lined is = absurd (cc)
+named IsFault before after bytes whole Memory lined is = absurd (cc)
 
-  pub failed_read : {T : Type 0} (fault : Option UcdFault) (failed : Bool) (r : Result T UcdFault) → ((e : UcdFault) → fault ≡ Some e → IsFault bytes e) → IfErr r (λ e. IsMemoryOr fault e) → (failed ≡ true → ⊥) → (r ≡ Err ReadFailed) ↔ (failed ≡ true)
-  failed_read fault failed (Ok x) is h sound = (λ e. absurd (cc), λ e. absurd (sound e))
-  failed_read fault failed (Err e) is h sound = (
-    λ same. let at : e ≡ ReadFailed = cc in
-        absurd (not_failed IsFault before after bytes whole lined e (⊎_elim (λ m. inl m) (λ n. inr (is e n)) h) at),
+-- why a file was refused, by a function that finds the fault of its bytes, at a line of theirs
+module _ (fault_in : List ℕ → Option UcdFault) (lined : (bytes : List ℕ) → IfSome (fault_in bytes) (λ e. is_some (line_of e) ≡ true)) where
+  has_line : (bytes : List ℕ) (e : UcdFault) → fault_in bytes ≡ Some e → is_some (line_of e) ≡ true
+  has_line bytes e same = rw same at (lined bytes)
+
+  -- by each relation that holds of what the function finds
+  pub refused_read : {T : Type 0} {before after : Option (List ℕ)} {bytes : List ℕ} (IsFault : List ℕ → UcdFault → Type 0) → ((bytes : List ℕ) (e : UcdFault) → fault_in bytes ≡ Some e → IsFault bytes e) → IsReadWhole before after bytes → (r : Result T UcdFault) → IfErr r (λ e. IsMemoryOr (fault_in bytes) e) → IfErr r (IsRefused IsFault before after)
+  refused_read IsFault is whole (Ok x) h = tt
+  refused_read {before = before} {after = after} {bytes = bytes} IsFault is whole (Err e) h =
+      ⊎_elim
+      (λ (m : e ≡ Memory). subst (λ (f : UcdFault). IsRefused IsFault before after f) (sym m) (bytes, omega (arith, whole.size), whole.taken))
+      (λ same. named IsFault before after bytes whole e (has_line bytes e same) (is bytes e same))
+      h
+
+  not_failed : (bytes : List ℕ) (e : UcdFault) → IsMemoryOr (fault_in bytes) e → e ≡ ReadFailed → ⊥
+  not_failed bytes e h failed =
+      ⊎_elim (λ m. absurd (cc))
+      (λ same. let bad : false ≡ true = ap (λ x. is_some (line_of x)) (sym failed) ∙ has_line bytes e same in absurd (cc)) h
+
+  -- a device that gave all bytes did not fail, and none of their faults says so
+  pub failed_read : {T : Type 0} (bytes : List ℕ) (r : Result T UcdFault) (failed : Bool) → IfErr r (λ e. IsMemoryOr (fault_in bytes) e) → (failed ≡ true → ⊥) → (r ≡ Err ReadFailed) ↔ (failed ≡ true)
+  failed_read bytes (Ok x) failed h sound = (λ e. absurd (cc), λ bad. absurd (sound bad))
+  failed_read bytes (Err e) failed h sound = (
+    λ same. let at : e ≡ ReadFailed = cc in absurd (not_failed bytes e h at),
     λ bad. absurd (sound bad),
   )
-
--- a first fault has a line
-pub lined_by : (fault_in : List ℕ → Option UcdFault) (bytes : List ℕ) → IfSome (fault_in bytes) (λ e. is_some (line_of e) ≡ true) → (e : UcdFault) → Names fault_in bytes e → is_some (line_of e) ≡ true
-lined_by fault_in bytes h e same = rw same at h

@@ -1,5 +1,5 @@
 -- From what was read of a record to the tests that fit it.
-use Rattle.std.proofs.Common.{◌≡◌, ◌≢◌, ℕ, Bool, true, false, not, List, [], ◌∷◌, length, get_or, Option, Some, None, Bor, is_none, option_map, unwrap_or, sym, ap, ◌∙◌, arith}
+use Rattle.std.proofs.Common.{◌≡◌, ◌≢◌, ℕ, Bool, true, false, not, List, [], ◌∷◌, length, get_or, Option, Some, None, Bor, is_none, option_map, unwrap_or, refl, sym, ap, ◌∙◌, arith}
 use Rattle.std.proofs.lemmas.Bool.{cond-true, cond-false, ne_eqb, eq-eqb}
 use Rattle.np_code_points.specs.Codes.{code_value}
 use Rattle.np_ucd.specs.Entries.{Entry, Plain}
@@ -48,113 +48,93 @@ fifteen text rest a b c d f h behind = (
   behind.2 ∙ sym (ap (λ ps. get_or ps 5 []) h),
 )
 
--- The tests, from what was read.
-pub count_bad : (text : List ℕ) → (length (fields_of text) ≢ 15) → has_other_count text ≡ true
+-- What was read of a field's text says what the field says.
+pub said : {A : Type 0} (value : List ℕ → Option A) {o r : Option A} {x field : List ℕ} → x ≡ field → o ≡ value x → o ≡ r → value field ≡ r
+said value same reads is = ap value (sym same) ∙ sym reads ∙ is
+
+unreadable : {A : Type 0} {o : Option A} → o ≡ None → is_none o ≡ true
+unreadable h = ap is_none h
+
+readable : {A : Type 0} {o : Option A} {a : A} → o ≡ Some a → is_none o ≡ false
+readable h = ap is_none h
+
+-- The first test that fits, and those in front of it, which don't.
+pub fault_count : (before : Option Neighbour) (line : ℕ) (text : List ℕ) → (length (fields_of text) ≢ 15) → record_fault before line text ≡ Some (FieldCount line)
+unfolding record_fault record_tests has_other_count
+fault_count before line text h = cond-true _ _ _ (ap not (ne_eqb (length (fields_of text)) 15 h))
+
+counted : (text : List ℕ) → length (fields_of text) ≡ 15 → has_other_count text ≡ false
 unfolding has_other_count
-count_bad text h = ap not (ne_eqb (length (fields_of text)) 15 h)
+counted text h = ap not (eq-eqb (length (fields_of text)) 15 h)
 
-pub count_good : (text : List ℕ) → length (fields_of text) ≡ 15 → has_other_count text ≡ false
-unfolding has_other_count
-count_good text h = ap not (eq-eqb (length (fields_of text)) 15 h)
+order_is : (before : Option Neighbour) (text : List ℕ) (code : ℕ) (t : Bool) → code_value (field 0 text) ≡ Some code → is_at_most code before ≡ t → is_out_of_order before text ≡ t
+unfolding is_out_of_order code_in
+order_is before text code t reads h = ap (λ o. is_at_most (unwrap_or o 0) before) reads ∙ h
 
-pub code_bad : (text x : List ℕ) → x ≡ field 0 text → code_value x ≡ None → has_bad_code text ≡ true
-unfolding has_bad_code
-code_bad text x e h = ap (λ y. is_none (code_value y)) (sym e) ∙ ap is_none h
+module _ (before : Option Neighbour) (line : ℕ) (text : List ℕ) (count : length (fields_of text) ≡ 15) where
+  pub fault_code : code_value (field 0 text) ≡ None → record_fault before line text ≡ Some (BadCode line)
+  unfolding record_fault record_tests has_bad_code
+  fault_code none = cond-false _ _ _ (counted text count) ∙ cond-true _ _ _ (unreadable none)
 
-pub code_good : (text x : List ℕ) (c : ℕ) → x ≡ field 0 text → code_value x ≡ Some c → has_bad_code text ≡ false
-unfolding has_bad_code
-code_good text x c e h = ap (λ y. is_none (code_value y)) (sym e) ∙ ap is_none h
+  pub fault_order : (code : ℕ) → code_value (field 0 text) ≡ Some code → is_at_most code before ≡ true → record_fault before line text ≡ Some (OutOfOrder line)
+  unfolding record_fault record_tests has_bad_code
+  fault_order code reads low =
+      cond-false _ _ _ (counted text count) ∙ cond-false _ _ _ (readable reads) ∙ cond-true _ _ _ (order_is before text code true reads low)
 
-pub code_is : (text x : List ℕ) (c : ℕ) → x ≡ field 0 text → code_value x ≡ Some c → c ≡ code_in text
-unfolding code_in
-code_is text x c e h = sym (ap (λ y. unwrap_or (code_value y) 0) (sym e) ∙ ap (λ o. unwrap_or o 0) h)
+  pub fault_category : (code : ℕ) → code_value (field 0 text) ≡ Some code → is_at_most code before ≡ false → category_value (field 2 text) ≡ None → record_fault before line text ≡ Some (BadCategory line)
+  unfolding record_fault record_tests has_bad_code has_bad_category
+  fault_category code reads above none =
+      cond-false _ _ _ (counted text count) ∙ cond-false _ _ _ (readable reads) ∙ cond-false _ _ _ (order_is before text code false reads above)
+      ∙ cond-true _ _ _ (unreadable none)
 
-pub order_is : (before : Option Neighbour) (text : List ℕ) (c : ℕ) (t : Bool) → c ≡ code_in text → is_at_most c before ≡ t → is_out_of_order before text ≡ t
-unfolding is_out_of_order
-order_is before text c t e h = ap (λ n. is_at_most n before) (sym e) ∙ h
+  pub fault_class : (code : ℕ) (category : List ℕ) → code_value (field 0 text) ≡ Some code → is_at_most code before ≡ false → category_value (field 2 text) ≡ Some category → class_value (field 3 text) ≡ None → record_fault before line text ≡ Some (BadClass line)
+  unfolding record_fault record_tests has_bad_code has_bad_category has_bad_class
+  fault_class code category reads above categorized none =
+      cond-false _ _ _ (counted text count) ∙ cond-false _ _ _ (readable reads) ∙ cond-false _ _ _ (order_is before text code false reads above)
+      ∙ cond-false _ _ _ (readable categorized) ∙ cond-true _ _ _ (unreadable none)
 
-pub category_bad : (text x : List ℕ) → x ≡ field 2 text → category_value x ≡ None → has_bad_category text ≡ true
-unfolding has_bad_category
-category_bad text x e h = ap (λ y. is_none (category_value y)) (sym e) ∙ ap is_none h
+  -- a record that none of them fits
+  pub head_is : (n : Neighbour) (closing : Bool) (mapping : List ℕ) → n.line ≡ line → code_value (field 0 text) ≡ Some n.code → is_at_most n.code before ≡ false → category_value (field 2 text) ≡ Some n.category → class_value (field 3 text) ≡ Some n.class → n.opens ≡ opens text → closing ≡ closes text → mapping ≡ field 5 text → IsHead before line text n closing mapping
+  unfolding has_bad_code has_bad_category has_bad_class neighbour_of code_in category_in class_in
+  head_is n closing mapping here reads above categorized classed opening closing_is mapping_is = record {
+    count = counted text count;
+    code = readable reads;
+    order = order_is before text n.code false reads above;
+    category = readable categorized;
+    class = readable classed;
+    neighbour_is = rw (reads, categorized, classed, ← here, ← opening) refl;
+    closing_is = closing_is;
+    mapping_is = mapping_is;
+  }
 
-pub category_good : (text x c : List ℕ) → x ≡ field 2 text → category_value x ≡ Some c → has_bad_category text ≡ false
-unfolding has_bad_category
-category_good text x c e h = ap (λ y. is_none (category_value y)) (sym e) ∙ ap is_none h
-
-pub category_is : (text x c : List ℕ) → x ≡ field 2 text → category_value x ≡ Some c → c ≡ category_in text
-unfolding category_in
-category_is text x c e h = sym (ap (λ y. unwrap_or (category_value y) []) (sym e) ∙ ap (λ o. unwrap_or o []) h)
-
-pub class_bad : (text x : List ℕ) → x ≡ field 3 text → class_value x ≡ None → has_bad_class text ≡ true
-unfolding has_bad_class
-class_bad text x e h = ap (λ y. is_none (class_value y)) (sym e) ∙ ap is_none h
-
-pub class_good : (text x : List ℕ) (c : ℕ) → x ≡ field 3 text → class_value x ≡ Some c → has_bad_class text ≡ false
-unfolding has_bad_class
-class_good text x c e h = ap (λ y. is_none (class_value y)) (sym e) ∙ ap is_none h
-
-pub class_is : (text x : List ℕ) (c : ℕ) → x ≡ field 3 text → class_value x ≡ Some c → c ≡ class_in text
-unfolding class_in
-class_is text x c e h = sym (ap (λ y. unwrap_or (class_value y) 0) (sym e) ∙ ap (λ o. unwrap_or o 0) h)
-
--- The first test that fits.
-pub fault_count : (before : Option Neighbour) (line : ℕ) (text : List ℕ) → has_other_count text ≡ true → record_fault before line text ≡ Some (FieldCount line)
+-- What is left to judge behind a head.
+past_head : {before : Option Neighbour} {line : ℕ} {text : List ℕ} {n : Neighbour} {closing : Bool} {mapping : List ℕ} → IsHead before line text n closing mapping → record_fault before line text ≡ first_that_fits ((has_unread_mapping text, BadMapping line) ∷ late_tests before (neighbour_of line text) (closes text) (maps text))
 unfolding record_fault record_tests
-fault_count before line text h = cond-true _ _ _ h
-
-pub fault_code : (before : Option Neighbour) (line : ℕ) (text : List ℕ) → has_other_count text ≡ false → has_bad_code text ≡ true → record_fault before line text ≡ Some (BadCode line)
-unfolding record_fault record_tests
-fault_code before line text a h = cond-false _ _ _ a ∙ cond-true _ _ _ h
-
-pub fault_order : (before : Option Neighbour) (line : ℕ) (text : List ℕ) → has_other_count text ≡ false → has_bad_code text ≡ false → is_out_of_order before text ≡ true → record_fault before line text ≡ Some (OutOfOrder line)
-unfolding record_fault record_tests
-fault_order before line text a b h = cond-false _ _ _ a ∙ cond-false _ _ _ b ∙ cond-true _ _ _ h
-
-pub fault_category : (before : Option Neighbour) (line : ℕ) (text : List ℕ) → has_other_count text ≡ false → has_bad_code text ≡ false → is_out_of_order before text ≡ false → has_bad_category text ≡ true → record_fault before line text ≡ Some (BadCategory line)
-unfolding record_fault record_tests
-fault_category before line text a b c h = cond-false _ _ _ a ∙ cond-false _ _ _ b ∙ cond-false _ _ _ c ∙ cond-true _ _ _ h
-
-pub fault_class : (before : Option Neighbour) (line : ℕ) (text : List ℕ) → has_other_count text ≡ false → has_bad_code text ≡ false → is_out_of_order before text ≡ false → has_bad_category text ≡ false → has_bad_class text ≡ true → record_fault before line text ≡ Some (BadClass line)
-unfolding record_fault record_tests
-fault_class before line text a b c d h = cond-false _ _ _ a ∙ cond-false _ _ _ b ∙ cond-false _ _ _ c ∙ cond-false _ _ _ d ∙ cond-true _ _ _ h
-
-mapping_bad : (text : List ℕ) → mapping_value (field 5 text) ≡ None → has_unread_mapping text ≡ true
-unfolding has_unread_mapping
-mapping_bad text h = ap is_none h
-
-mapping_good : (text : List ℕ) (m : Mapping) → mapping_value (field 5 text) ≡ Some m → has_unread_mapping text ≡ false
-unfolding has_unread_mapping
-mapping_good text m h = ap is_none h
-
-pub fault_mapping : (before : Option Neighbour) (line : ℕ) (text : List ℕ) (n : Neighbour) (closing : Bool) (mapping : List ℕ) → IsHead before line text n closing mapping → mapping_value mapping ≡ None → record_fault before line text ≡ Some (BadMapping line)
-unfolding record_fault record_tests
-fault_mapping before line text n closing mapping h none =
+past_head h =
     cond-false _ _ _ h.count ∙ cond-false _ _ _ h.code ∙ cond-false _ _ _ h.order ∙ cond-false _ _ _ h.category ∙ cond-false _ _ _ h.class
-    ∙ cond-true _ _ _ (mapping_bad text (ap mapping_value (sym h.mapping_is) ∙ none))
+
+pub fault_mapping : {before : Option Neighbour} {line : ℕ} {text : List ℕ} {n : Neighbour} {closing : Bool} {mapping : List ℕ} → IsHead before line text n closing mapping → mapping_value mapping ≡ None → record_fault before line text ≡ Some (BadMapping line)
+unfolding has_unread_mapping
+fault_mapping h none = past_head h ∙ cond-true _ _ _ (unreadable (ap mapping_value (sym h.mapping_is) ∙ none))
 
 mapping_is : (text : List ℕ) (m : Mapping) → mapping_value (field 5 text) ≡ Some m → mapping_in text ≡ m
 unfolding mapping_in
 mapping_is text m h = ap (λ o. unwrap_or o (record { kind = Plain; codes = [] })) h
 
 -- what is judged once the mapping is read
-pub fault_late : (before : Option Neighbour) (line : ℕ) (text : List ℕ) (n : Neighbour) (closing : Bool) (mapping : List ℕ) (m : Mapping) (mapped : Bool) → IsHead before line text n closing mapping → mapping_value mapping ≡ Some m → mapped ≡ not (is_empty m.codes) → record_fault before line text ≡ first_that_fits (late_tests before n closing mapped)
-unfolding record_fault record_tests
-fault_late before line text n closing mapping m mapped h some e =
+pub fault_late : {before : Option Neighbour} {line : ℕ} {text : List ℕ} {n : Neighbour} {closing : Bool} {mapping : List ℕ} → IsHead before line text n closing mapping → (m : Mapping) (mapped : Bool) → mapping_value mapping ≡ Some m → mapped ≡ not (is_empty m.codes) → record_fault before line text ≡ first_that_fits (late_tests before n closing mapped)
+unfolding has_unread_mapping
+fault_late {before = before} {line = line} {text = text} {closing = closing} h m mapped some e =
     let here : mapping_value (field 5 text) ≡ Some m = ap mapping_value (sym h.mapping_is) ∙ some in
     let maps_is : maps text ≡ mapped = ap (λ (k : Mapping). not (is_empty k.codes)) (mapping_is text m here) ∙ sym e in
-    cond-false _ _ _ h.count ∙ cond-false _ _ _ h.code ∙ cond-false _ _ _ h.order ∙ cond-false _ _ _ h.category ∙ cond-false _ _ _ h.class
-    ∙ cond-false _ _ _ (mapping_good text m here)
+    past_head h ∙ cond-false _ _ _ (readable here)
     ∙ ap (λ o. first_that_fits (late_tests before (neighbour_of line text) (closes text) o)) maps_is
     ∙ ap (λ c. first_that_fits (late_tests before (neighbour_of line text) c mapped)) (sym h.closing_is)
     ∙ ap (λ k. first_that_fits (late_tests before k closing mapped)) (sym h.neighbour_is)
 
 -- the row
-pub row_is : (before : Option Neighbour) (line : ℕ) (text : List ℕ) (n : Neighbour) (closing : Bool) (mapping : List ℕ) (m : Mapping) (first : ℕ) → IsHead before line text n closing mapping → mapping_value mapping ≡ Some m → first ≡ first_code before closing n.code → ◌≡◌ {A = Entry} (record { first = first; last = n.code; class = n.class; kind = m.kind; mapping = m.codes }) (row_of before text)
+pub row_is : {before : Option Neighbour} {line : ℕ} {text : List ℕ} {n : Neighbour} {closing : Bool} {mapping : List ℕ} → IsHead before line text n closing mapping → (m : Mapping) (first : ℕ) → mapping_value mapping ≡ Some m → first ≡ first_code before closing n.code → ◌≡◌ {A = Entry} (record { first = first; last = n.code; class = n.class; kind = m.kind; mapping = m.codes }) (row_of before text)
 unfolding row_of neighbour_of
-row_is before line text n closing mapping m first h some e =
+row_is {text = text} h m first some e =
     let here : mapping_value (field 5 text) ≡ Some m = ap mapping_value (sym h.mapping_is) ∙ some in
     rw (e, h.neighbour_is, h.closing_is, mapping_is text m here)
-
-pub neighbour_same : (line : ℕ) (text : List ℕ) (code : ℕ) (category : List ℕ) (class : ℕ) (opening : Bool) → code ≡ code_in text → category ≡ category_in text → class ≡ class_in text → opening ≡ opens text → ◌≡◌ {A = Neighbour} (record { line = line; code = code; category = category; class = class; opens = opening }) (neighbour_of line text)
-unfolding neighbour_of
-neighbour_same line text code category class opening a b c d = rw (a, b, c, d)

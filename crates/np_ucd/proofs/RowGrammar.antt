@@ -15,7 +15,7 @@ use Rattle.np_ucd.specs.Mappings.{Mapping, IsMapping}
 use Rattle.np_ucd.specs.inside.FileReading.{rows_after, rows_in, first_fault}
 use Rattle.np_ucd.specs.inside.RecordReading.{Neighbour, neighbour_of, field, code_in, class_in, mapping_in, opens, closes, is_open, record_fault, first_code, row_of}
 use Rattle.np_ucd.proofs.FaultGrammar.{as_neighbour, behind, behind_last, fault_behind, FineFrom, fine_each, fine_all, HasLast, last_of}
-use Rattle.np_ucd.proofs.FieldGrammar.{fields_in, only_has, class_read, opens_said, opens_read, closes_said, closes_read}
+use Rattle.np_ucd.proofs.FieldGrammar.{fields_in, only_has, class_read, opens_is, closes_is}
 use Rattle.np_ucd.proofs.MappingGrammar.{mapping_read}
 use Rattle.np_ucd.proofs.RowLemmas.{rows_are}
 use Rattle.np_ucd.proofs.TestGrammar.{read_fine, closing_fine}
@@ -73,11 +73,11 @@ begins_open all front r records stands fine here e split =
     let first : code_in split.last.text ≡ (row_of b r.text).first =
     sym (row_first b r.text ∙ ap (λ n. first_code n (closes r.text) (code_in r.text)) is ∙ from_opening split.last (closes r.text) (code_in r.text) e) in
     inr (
-      closes_said (field 1 r.text) e,
+      (closes_is (field 1 r.text)).0 e,
       (
         fields_in split.last.text,
         (split.front, split.last, split.stands, q.has),
-        opens_said (field 1 split.last.text) open',
+        (opens_is (field 1 split.last.text)).0 open',
         q.code ∙ ap Some first,
       ),
     )
@@ -91,7 +91,7 @@ begins all front r records stands fine here =
     let b = behind None front in
     ⊎_elim
     (λ e. begins_closed all front r records stands fine here e)
-    (λ e. inl ((λ last. both_ways (closes r.text) e (closes_read (field 1 r.text) last)), row_first b r.text ∙ alone b (closes r.text) (code_in r.text) e ∙ row_last b r.text))
+    (λ e. inl ((λ last. both_ways (closes r.text) e ((closes_is (field 1 r.text)).1 last)), row_first b r.text ∙ alone b (closes r.text) (code_in r.text) e ∙ row_last b r.text))
     (cases_Bool (closes r.text))
 
 -- Each row is the row of a record.
@@ -107,7 +107,7 @@ row_is all front r records stands fine e =
       stands = stands;
       fields = fields_in r.text;
       has = p.has;
-      ends = λ first. both_ways (opens r.text) e (opens_read (field 1 r.text) first);
+      ends = λ first. both_ways (opens r.text) e ((opens_is (field 1 r.text)).1 first);
       begins = begins all front r records stands fine here;
       last = p.code ∙ ap Some (row_last b r.text);
       class = subst (IsClassOf (field 3 r.text)) (row_class b r.text) p.class;
@@ -158,11 +158,11 @@ mapping_from text f m has h =
     sym (ap (λ o. unwrap_or o (mapped Plain [])) (mapping_read (field 5 text) m (said_from text (λ c. IsMapping c m) (λ (g : Fields). g.mapping) f has h)))
 
 closing_from : (text : List ℕ) (f : Fields) → HasFields text f → IsLastName f.name → closes text ≡ true
-closing_from text f has h = closes_read (field 1 text) (said_from text IsLastName (λ (g : Fields). g.name) f has h)
+closing_from text f has h = (closes_is (field 1 text)).1 (said_from text IsLastName (λ (g : Fields). g.name) f has h)
 
 not_closing_from : (text : List ℕ) (f : Fields) → HasFields text f → (IsLastName f.name → ⊥) → closes text ≡ false
 not_closing_from text f has h =
-    false_from_ne_true (closes text) (λ e. h (subst (λ (g : Fields). IsLastName g.name) (sym (only_has text f has)) (closes_said (field 1 text) e)))
+    false_from_ne_true (closes text) (λ e. h (subst (λ (g : Fields). IsLastName g.name) (sym (only_has text f has)) ((closes_is (field 1 text)).0 e)))
 
 first_from : (before : List Numbered) (text : List ℕ) (f : Fields) (row : Entry) → HasFields text f → row.last ≡ code_in text → BeginsBehind before f row → row.first ≡ first_code (behind None before) (closes text) (code_in text)
 first_from before text f row has last h =
@@ -207,7 +207,7 @@ all_from : (records : List Numbered) (row : Entry) → IsRowOf records row → C
 all_from records row h =
     subst (Contains (rows_after None records)) (row_from records row h)
     (subst (λ rs. Contains (rows_after None rs) (row_of (behind None h.before) h.ending.text)) (sym h.stands)
-    (contains_row None h.before h.ending h.behind (false_from_ne_true (opens h.ending.text) (λ e. h.ends (subst (λ (g : Fields). IsFirstName g.name) (sym (only_has h.ending.text h.fields h.has)) (opens_said (field 1 h.ending.text) e))))))
+    (contains_row None h.before h.ending h.behind (false_from_ne_true (opens h.ending.text) (λ e. h.ends (subst (λ (g : Fields). IsFirstName g.name) (sym (only_has h.ending.text h.fields h.has)) ((opens_is (field 1 h.ending.text)).0 e))))))
 
 -- The rows rise.
 all_rows : (rows : List Entry) → AreRows rows → All IsRow rows

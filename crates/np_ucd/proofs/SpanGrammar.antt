@@ -168,6 +168,3 @@ bad_or_readable line =
 pub not_bad : (line : List ℕ) → line_spans line ≡ None → IsReadable line → ⊥
 not_bad line bad h =
     ⊎_elim (λ nothing. let e = nothing_listed line nothing in absurd (cc)) (λ some. let e = span_listed line some.0 some.1 in absurd (cc)) h
-
-pub unread : (line : List ℕ) → (IsReadable line → ⊥) → line_spans line ≡ None
-unread line h = ⊎_elim (λ bad. bad) (λ readable. absurd (h readable)) (bad_or_readable line)

@@ -1,15 +1,17 @@
 -- Listings in order, and the search among them by halves.
-use Rattle.std.proofs.Common.{◌≡◌, ℕ, zero, suc, ◌+◌, ◌-◌, ◌<◌, ◌≤◌, max, Bool, true, false, ◌&&◌, ◌||◌, leb, ltb, List, [], ◌∷◌, ◌++◌, length, get_or, set, take, drop, map, refl, sym, ap, ◌∙◌, arith, ⊎_elim}
+use Rattle.std.proofs.Common.{◌≡◌, ℕ, zero, suc, ◌-◌, ◌<◌, ◌≤◌, max, Bor, Bool, true, false, ◌&&◌, ◌||◌, leb, ltb, List, [], ◌∷◌, length, get_or, map, refl, sym, ap, subst, ◌∙◌, arith, ⊎_elim}
+use denote.Param.Members.{Mut}
 use Rattle.std.specs.List.{list_any}
-use Rattle.std.specs.List.Sorted.{IsNonDecreasingBy, IsPartitionPoint, IsPermutation}
-use Rattle.std.proofs.lemmas.List.Sorted.{list_any-IsPermutation}
-use Rattle.std.proofs.lemmas.List.{append_assoc, append-nil, drop_more, take_all, at_drop_all, take_more_set, drop-set-lt, get_or_default}
+use Rattle.std.specs.List.Sorted.{IsNonDecreasingBy, IsPartitionPoint, IsPartitionedBy, IsPermutation}
+use Rattle.std.specs.Fn.{Called, ComputesKey}
+use Rattle.std.proofs.lemmas.List.Sorted.{list_any-IsPermutation, IsPartitionPoint-from_clause, IsPartitionedBy-leb}
+use Rattle.std.proofs.lemmas.List.{get_or_default}
 use Rattle.std.proofs.lemmas.List.Folds.{list_any_none, list_any_at}
 use Rattle.std.proofs.lemmas.List.Elements.{All-from_all_within}
 use Rattle.std.proofs.lemmas.Bool.{leb-true, leb-false, le-leb, lt-leb, le-ltb, and_from, and_left, and_right, cases_lt}
 use Rattle.std.proofs.lemmas.Bool.Decides.{nat_tests}
 use Rattle.np_ucd.specs.declared.exclusions.Listing.{Listing}
-use Rattle.np_ucd.specs.Listed.{is_listed}
+use Rattle.np_ucd.specs.Listed.{Span, is_listed}
 use Rattle.np_ucd.specs.inside.SpanValues.{span_of, raised, AreRising}
 
 abbrev within : ℕ → ℕ → ℕ → Bool
@@ -76,24 +78,6 @@ raised_rises ls h = record {
   lasts = λ i j d le lt. let len = length-raised 0 ls in lasts_rise 0 ls i j d le (omega arith);
 }
 
-raised_more : (items : List Listing) (at last : ℕ) (y d : Listing) → at < length items → y ≡ record { first = (get_or items at d).first; last = max (get_or items at d).last last } → raised last (drop at items) ≡ y ∷ raised y.last (drop (at + 1) items)
-raised_more items at last y d l e =
-    ap (raised last) (drop_more items at d l)
-    ∙ ap (λ (z : Listing). z ∷ raised z.last (drop (at + 1) items)) (sym e)
-
--- one step of the loop that raises
-pub raise_next : (total items : List Listing) (at last : ℕ) (y d : Listing) → take at items ++ raised last (drop at items) ≡ total → at < length items → y ≡ record { first = (get_or items at d).first; last = max (get_or items at d).last last } → take (at + 1) (set items at y) ++ raised y.last (drop (at + 1) (set items at y)) ≡ total
-raise_next total items at last y d h l e =
-    ap (λ front. front ++ raised y.last (drop (at + 1) (set items at y))) (take_more_set items at y l)
-    ∙ ap (λ back. (take at items ++ y ∷ []) ++ raised y.last back) (drop-set-lt (at + 1) items at y (omega arith))
-    ∙ append_assoc (take at items) (y ∷ []) (raised y.last (drop (at + 1) items))
-    ∙ ap (λ back. take at items ++ back) (sym (raised_more items at last y d l e))
-    ∙ h
-
-pub raise_end : (total items : List Listing) (at last : ℕ) → take at items ++ raised last (drop at items) ≡ total → length items ≤ at → items ≡ total
-raise_end total items at last h l =
-    sym (ap (λ back. take at items ++ back) (at_drop_all (raised last) items at l) ∙ append-nil (take at items) ∙ take_all at items l) ∙ h
-
 -- The search: all listings before a place have begun, and none from there on.
 abbrev lists : ℕ → Listing → Bool
 lists c l = within l.first l.last c
@@ -104,6 +88,18 @@ any_map (l ∷ ls) c = ap (λ r. lists c l || r) (any_map ls c)
 
 abbrev pub Begun : ℕ → List Listing → ℕ → Type 0
 Begun c ls n = IsPartitionPoint (λ (l : Listing). leb l.first c ≡ true) (λ (l : Listing). leb l.first c ≡ false) ls n
+
+-- the place that the search found, in listings that rise
+pub begun_in_order : {F : Type 0} {g : Mut F (Bor Listing × Unit {0}) Bool} {f : F} (c n : ℕ) {ls items : List Listing} → ls ≡ items → AreRising items → ((q : Listing → Bool) → ComputesKey g q f → IsPartitionedBy q ls → IsPartitionPoint (λ y. q y ≡ true) (λ y. q y ≡ false) ls n) → ((a : Bor Listing × Unit {0}) (r : Bool) (f' : F) → Called g f a r f' → (r ≡ leb a.0.now.first c) × (f' ≡ f)) → Begun c ls n × AreRising ls
+begun_in_order {g = g} {f = f} c n {ls = ls} same rising clause calls =
+    let here : AreRising ls = subst AreRising (sym same) rising in (
+      IsPartitionPoint-from_clause (λ (l : Listing). leb l.first c) {g = g} {f = f} ls n clause (IsPartitionedBy-leb (λ (l : Listing). l.first) ls c here.firsts) calls,
+      here,
+    )
+
+-- what the listings of a value list, the value lists
+pub listed_as : (c : ℕ) {ls items : List Listing} {spans : List Span} → ls ≡ items → map span_of items ≡ spans → is_listed (map span_of ls) c ≡ is_listed spans c
+listed_as c same view = ap (λ (l : List Listing). is_listed (map span_of l) c) same ∙ ap (λ (l : List Span). is_listed l c) view
 
 past_at : (n k : ℕ) → k < n → (j : ℕ) × (n ≡ suc j)
 past_at zero k h = absurd (omega arith)
@@ -128,23 +124,23 @@ listed_some c n k d ls begun e bound within_last =
     ∙ list_any_at (lists c) ls k d (omega arith)
     (and_from (leb (get_or ls k d).first c) (leb c (get_or ls k d).last) (begun.0 k d (omega arith) (omega arith)) (le-leb c (get_or ls k d).last within_last))
 
-held_step : (t : Bool) (c n : ℕ) (d : Listing) (ls : List Listing) → leb c d.last ≡ t → Begun c ls n → AreRising ls → n ≤ length ls → 0 < n → d ≡ get_or ls (n - 1) d → t ≡ is_listed (map span_of ls) c
-held_step true c n d ls e begun rising bound full is =
-    sym (listed_some c n (n - 1) d ls begun (omega arith) bound (let l = leb-true c d.last e in let same = ap (λ (k : Listing). k.last) is in omega arith))
-held_step false c n d ls e begun rising bound full is =
-    sym (listed_none c n ls begun rising
+held_step : (t : Bool) (c n : ℕ) (d : Listing) (ls : List Listing) → leb c d.last ≡ t → Begun c ls n × AreRising ls → n ≤ length ls → 0 < n → d ≡ get_or ls (n - 1) d → t ≡ is_listed (map span_of ls) c
+held_step true c n d ls e found bound full is =
+    sym (listed_some c n (n - 1) d ls found.0 (omega arith) bound (let l = leb-true c d.last e in let same = ap (λ (k : Listing). k.last) is in omega arith))
+held_step false c n d ls e found bound full is =
+    sym (listed_none c n ls found.0 found.1
     (λ other k at. let l = leb-false c d.last e in
     let place : k ≡ n - 1 = omega arith in
     let same = ap (λ (j : Listing). j.last) (is ∙ get_or_default ls (n - 1) d other (omega arith) ∙ ap (λ i. get_or ls i other) (sym place)) in
     omega arith)
     bound)
 
-pub held : (c n : ℕ) (d : Listing) (ls : List Listing) → Begun c ls n → AreRising ls → n ≤ length ls → 0 < n → d ≡ get_or ls (n - 1) d → leb c d.last ≡ is_listed (map span_of ls) c
-held c n d ls begun rising bound full is = held_step (leb c d.last) c n d ls refl begun rising bound full is
+pub held : (c n : ℕ) (d : Listing) (ls : List Listing) → Begun c ls n × AreRising ls → n ≤ length ls → 0 < n → d ≡ get_or ls (n - 1) d → leb c d.last ≡ is_listed (map span_of ls) c
+held c n d ls found bound full is = held_step (leb c d.last) c n d ls refl found bound full is
 
-pub not_held : (c n : ℕ) (ls : List Listing) → Begun c ls n → AreRising ls → n ≤ length ls → n ≤ 0 → ltb 0 n ≡ is_listed (map span_of ls) c
-not_held c n ls begun rising bound none =
-    le-ltb 0 n none ∙ sym (listed_none c n ls begun rising (λ d k at. absurd (omega arith)) bound)
+pub not_held : (c n : ℕ) (ls : List Listing) → Begun c ls n × AreRising ls → n ≤ length ls → n ≤ 0 → ltb 0 n ≡ is_listed (map span_of ls) c
+not_held c n ls found bound none =
+    le-ltb 0 n none ∙ sym (listed_none c n ls found.0 found.1 (λ d k at. absurd (omega arith)) bound)
 
 -- another order lists the same
 pub sorted_lists_same : (old new : List Listing) (c : ℕ) → IsPermutation old new → is_listed (map span_of new) c ≡ is_listed (map span_of old) c

@@ -14,7 +14,7 @@ use Rattle.np_ucd.specs.Tests.{UcdFault, FieldCount, BadCode, OutOfOrder, BadCat
 use Rattle.np_ucd.specs.declared.faults.UcdFault.TheVariants.{TooLarge, ReadFailed, Memory}
 use Rattle.np_ucd.specs.inside.FieldReading.{category_value, class_value, mapping_value, opens_range}
 use Rattle.np_ucd.specs.inside.RecordReading.{field, code_in, category_in, class_in, mapping_in, opens, closes, maps, Neighbour, neighbour_of, is_open, has_other_count, has_bad_code, is_at_most, is_out_of_order, has_bad_category, has_bad_class, has_unread_mapping, differs, late_tests, first_that_fits, record_tests, record_fault}
-use Rattle.np_ucd.proofs.FieldGrammar.{fields_in, only_has, fifteen_are, category_said, category_read, class_read, opens_said, opens_read, closes_said, closes_read}
+use Rattle.np_ucd.proofs.FieldGrammar.{fields_in, only_has, fifteen_are, category_said, category_read, class_read, opens_is, closes_is}
 use Rattle.np_ucd.proofs.MappingGrammar.{mapping_read}
 use Rattle.np_ucd.proofs.ReadGrammar.{unsaid, same_code, count_is, code_is, category_is, class_is, Read, read, not_true, maps_said, maps_read}
 
@@ -44,17 +44,17 @@ open_said None (Some g) text m r h = absurd m
 open_said (Some b) None text m r h = absurd m
 open_said (Some b) (Some g) text m r h =
     let both = and_parts b.opens (not (closes text)) h in
-    (fields_in text, r.has, (opens_said g.name (sym m.opens ∙ both.0), λ last. both_ways (closes text) (not_true (closes text) both.1) (closes_read (field 1 text) last)))
+    (fields_in text, r.has, ((opens_is g.name).0 (sym m.opens ∙ both.0), λ last. both_ways (closes text) (not_true (closes text) both.1) ((closes_is (field 1 text)).1 last)))
 
 lone_said : (b : Option Neighbour) (nb : Option Fields) (text : List ℕ) → Match b nb → Read text → (closes text && not (is_open b)) ≡ true → Says (ClosesNoRange nb) text
-lone_said None None text m r h = (fields_in text, r.has, closes_said (field 1 text) (and_parts (closes text) true h).0)
+lone_said None None text m r h = (fields_in text, r.has, (closes_is (field 1 text)).0 (and_parts (closes text) true h).0)
 lone_said None (Some g) text m r h = absurd m
 lone_said (Some b) None text m r h = absurd m
 lone_said (Some b) (Some g) text m r h =
     let both = and_parts (closes text) (not b.opens) h in (
       fields_in text,
       r.has,
-      (closes_said (field 1 text) both.0, λ first. both_ways b.opens (not_true b.opens both.1) (m.opens ∙ opens_read g.name first)),
+      ((closes_is (field 1 text)).0 both.0, λ first. both_ways b.opens (not_true b.opens both.1) (m.opens ∙ (opens_is g.name).1 first)),
     )
 
 opened : (closing opening : Bool) → (closing && not opening) ≡ false → closing ≡ true → opening ≡ true
@@ -71,8 +71,8 @@ differs_said (Some b) (Some g) line text m r lone h =
       fields_in text,
       r.has,
       (
-        opens_said g.name (sym m.opens ∙ opened (closes text) b.opens lone both.0),
-        closes_said (field 1 text) both.0,
+        (opens_is g.name).0 (sym m.opens ∙ opened (closes text) b.opens lone both.0),
+        (closes_is (field 1 text)).0 both.0,
         ⊎_elim
             (λ category. inl (λ same. both_ways (bytes_eq (category_in text) b.category) (not_true _ category)
             ((bytes_eq-Decides (category_in text) b.category).1 (r.category_same ∙ same ∙ m.category))))
@@ -102,7 +102,7 @@ late_found b nb line text fault m r h =
     (λ e. (refl, differs_said b nb line text m r lone e))
     (λ _ h10. found_step ((opens text || closes text) && maps text) (RangeMaps line) None fault (Named nb line text)
     (λ e. let both = and_parts (opens text || closes text) (maps text) e in
-    (refl, (fields_in text, r.has, (⊎_elim (λ o. inl (opens_said (field 1 text) o)) (λ c. inr (closes_said (field 1 text) c)) (or_cases (opens text) (closes text) both.0), maps_said text r both.1))))
+    (refl, (fields_in text, r.has, (⊎_elim (λ o. inl ((opens_is (field 1 text)).0 o)) (λ c. inr ((closes_is (field 1 text)).0 c)) (or_cases (opens text) (closes text) both.0), maps_said text r both.1))))
     (λ _ none. absurd (cc))
     h10) h9) h8) h7) h
 
@@ -152,54 +152,11 @@ both_not true true h a b = true≢false h
 both_not true false h a b = false≢true b
 both_not false t h a b = false≢true a
 
--- the test of each number, from the first on
-at_count : (b : Option Neighbour) (line : ℕ) (text : List ℕ) (n : ℕ) → Passes b line text n → 1 ≤ n → has_other_count text ≡ false
-unfolding record_tests
-at_count b line text n past l = past (has_other_count text) (FieldCount line) (0, omega arith, refl) l
-
-at_code : (b : Option Neighbour) (line : ℕ) (text : List ℕ) (n : ℕ) → Passes b line text n → 2 ≤ n → has_bad_code text ≡ false
-unfolding record_tests
-at_code b line text n past l = past (has_bad_code text) (BadCode line) (1, omega arith, refl) l
-
-at_order : (b : Option Neighbour) (line : ℕ) (text : List ℕ) (n : ℕ) → Passes b line text n → 3 ≤ n → is_out_of_order b text ≡ false
-unfolding record_tests
-at_order b line text n past l = past (is_out_of_order b text) (OutOfOrder line) (2, omega arith, refl) l
-
-at_category : (b : Option Neighbour) (line : ℕ) (text : List ℕ) (n : ℕ) → Passes b line text n → 4 ≤ n → has_bad_category text ≡ false
-unfolding record_tests
-at_category b line text n past l = past (has_bad_category text) (BadCategory line) (3, omega arith, refl) l
-
-at_class : (b : Option Neighbour) (line : ℕ) (text : List ℕ) (n : ℕ) → Passes b line text n → 5 ≤ n → has_bad_class text ≡ false
-unfolding record_tests
-at_class b line text n past l = past (has_bad_class text) (BadClass line) (4, omega arith, refl) l
-
-at_mapping : (b : Option Neighbour) (line : ℕ) (text : List ℕ) (n : ℕ) → Passes b line text n → 6 ≤ n → has_unread_mapping text ≡ false
-unfolding record_tests
-at_mapping b line text n past l = past (has_unread_mapping text) (BadMapping line) (5, omega arith, refl) l
-
-at_surrogate : (b : Option Neighbour) (line : ℕ) (text : List ℕ) (n : ℕ) → Passes b line text n → 6 ≤ n → (maps text && not (scalar (code_in text))) ≡ false
-unfolding record_tests neighbour_of
-at_surrogate b line text n past l = past (maps text && not (scalar (code_in text))) (BadMapping line) (6, omega arith, refl) l
-
-at_open : (b : Option Neighbour) (line : ℕ) (text : List ℕ) (n : ℕ) → Passes b line text n → 7 ≤ n → (is_open b && not (closes text)) ≡ false
-unfolding record_tests neighbour_of
-at_open b line text n past l = past (is_open b && not (closes text)) (RangeOpen line) (7, omega arith, refl) l
-
-at_lone : (b : Option Neighbour) (line : ℕ) (text : List ℕ) (n : ℕ) → Passes b line text n → 8 ≤ n → (closes text && not (is_open b)) ≡ false
-unfolding record_tests neighbour_of
-at_lone b line text n past l = past (closes text && not (is_open b)) (RangeLone line) (8, omega arith, refl) l
-
-at_differs : (b : Option Neighbour) (line : ℕ) (text : List ℕ) (n : ℕ) → Passes b line text n → 9 ≤ n → (closes text && differs b (neighbour_of line text)) ≡ false
-unfolding record_tests neighbour_of
-at_differs b line text n past l = past (closes text && differs b (neighbour_of line text)) (RangeDiffers line) (9, omega arith, refl) l
-
-at_maps : (b : Option Neighbour) (line : ℕ) (text : List ℕ) (n : ℕ) → Passes b line text n → 10 ≤ n → ((opens text || closes text) && maps text) ≡ false
-unfolding record_tests neighbour_of
-at_maps b line text n past l = past ((opens text || closes text) && maps text) (RangeMaps line) (10, omega arith, refl) l
-
 read_at : (b : Option Neighbour) (line : ℕ) (text : List ℕ) (n : ℕ) → Passes b line text n → 6 ≤ n → Read text
+unfolding record_tests
 read_at b line text n past l =
-    read text (at_count b line text n past (omega arith)) (at_code b line text n past (omega arith)) (at_category b line text n past (omega arith)) (at_class b line text n past (omega arith)) (at_mapping b line text n past l)
+    read text (past _ (FieldCount line) (0, omega arith, refl) (omega arith)) (past _ (BadCode line) (1, omega arith, refl) (omega arith)) (past _ (BadCategory line) (3, omega arith, refl) (omega arith))
+    (past _ (BadClass line) (4, omega arith, refl) (omega arith)) (past _ (BadMapping line) (5, omega arith, refl) l)
 
 -- what is said of a record's fields is said of those that are read
 here : (P : Fields → Type 0) (text : List ℕ) → Says P text → P (fields_in text)
@@ -230,17 +187,17 @@ open_unfit b None text m h says = says
 open_unfit None (Some g) text m h says = m
 open_unfit (Some b) (Some g) text m h says =
     let is = here (LeavesRangeOpen g) text says in
-    both_not b.opens (not (closes text)) h (m.opens ∙ opens_read g.name is.0)
-    (ap not (false_from_ne_true (closes text) (λ e. is.1 (closes_said (field 1 text) e))))
+    both_not b.opens (not (closes text)) h (m.opens ∙ (opens_is g.name).1 is.0)
+    (ap not (false_from_ne_true (closes text) (λ e. is.1 ((closes_is (field 1 text)).0 e))))
 
 lone_unfit : (b : Option Neighbour) (nb : Option Fields) (text : List ℕ) → Match b nb → (closes text && not (is_open b)) ≡ false → Says (ClosesNoRange nb) text → ⊥
-lone_unfit None None text m h says = both_not (closes text) true h (closes_read (field 1 text) (here (ClosesNoRange None) text says)) refl
+lone_unfit None None text m h says = both_not (closes text) true h ((closes_is (field 1 text)).1 (here (ClosesNoRange None) text says)) refl
 lone_unfit None (Some g) text m h says = m
 lone_unfit (Some b) None text m h says = m
 lone_unfit (Some b) (Some g) text m h says =
     let is = here (ClosesNoRange (Some g)) text says in
-    both_not (closes text) (not b.opens) h (closes_read (field 1 text) is.0)
-    (ap not (false_from_ne_true b.opens (λ e. is.1 (opens_said g.name (sym m.opens ∙ e)))))
+    both_not (closes text) (not b.opens) h ((closes_is (field 1 text)).1 is.0)
+    (ap not (false_from_ne_true b.opens (λ e. is.1 ((opens_is g.name).0 (sym m.opens ∙ e)))))
 
 same_class : (text : List ℕ) (a c : ℕ) → IsClassOf text a → IsClassOf text c → a ≡ c
 same_class text a c h k = h.value ∙ sym k.value
@@ -256,7 +213,7 @@ differs_unfit b None line text m r h says = says
 differs_unfit None (Some g) line text m r h says = m
 differs_unfit (Some b) (Some g) line text m r h says =
     let is = here (DiffersInRange g) text says in
-    both_not (closes text) (not (bytes_eq (category_in text) b.category) || not (eqb (class_in text) b.class)) h (closes_read (field 1 text) is.1)
+    both_not (closes text) (not (bytes_eq (category_in text) b.category) || not (eqb (class_in text) b.class)) h ((closes_is (field 1 text)).1 is.1)
     (differ_true (bytes_eq (category_in text) b.category) (eqb (class_in text) b.class)
     (⊎_elim
     (λ category. inl (false_from_ne_true (bytes_eq (category_in text) b.category) (λ e.
@@ -268,28 +225,28 @@ differs_unfit (Some b) (Some g) line text m r h says =
 maps_unfit : (text : List ℕ) → Read text → ((opens text || closes text) && maps text) ≡ false → MapsInRange (fields_in text) → ⊥
 maps_unfit text r h is =
     both_not (opens text || closes text) (maps text) h
-    (⊎_elim (λ o. or_left (opens text) (closes text) (opens_read (field 1 text) o)) (λ c. or_right (opens text) (closes text) (closes_read (field 1 text) c)) is.0)
+    (⊎_elim (λ o. or_left (opens text) (closes text) ((opens_is (field 1 text)).1 o)) (λ c. or_right (opens text) (closes text) ((closes_is (field 1 text)).1 c)) is.0)
     (maps_read text r is.1)
 
 pub unfit : (b : Option Neighbour) (nb : Option Fields) (line : ℕ) (text : List ℕ) (other : UcdFault) → Match b nb → Passes b line text (test_of other) → Fits other nb text → ⊥
-unfolding is_out_of_order
-unfit b nb line text (FieldCount n) m past fits = fits (fields_in text) (count_is text (at_count b line text 1 past (omega arith)))
+unfolding is_out_of_order record_tests neighbour_of
+unfit b nb line text (FieldCount n) m past fits = fits (fields_in text) (count_is text (past _ (FieldCount line) (0, omega arith, refl) (omega arith)))
 unfit b nb line text (BadCode n) m past fits =
-    here HasBadCode text fits (code_in text) (code_is text (at_code b line text 2 past (omega arith)))
+    here HasBadCode text fits (code_in text) (code_is text (past _ (BadCode line) (1, omega arith, refl) (omega arith)))
 unfit b nb line text (OutOfOrder n) m past fits =
-    order_unfit b nb text m (code_is text (at_code b line text 3 past (omega arith))) (at_order b line text 3 past (omega arith)) fits
+    order_unfit b nb text m (code_is text (past _ (BadCode line) (1, omega arith, refl) (omega arith))) (past _ (OutOfOrder line) (2, omega arith, refl) (omega arith)) fits
 unfit b nb line text (BadCategory n) m past fits =
-    here HasBadCategory text fits (category_said (field 2 text) (category_in text) (category_is text (at_category b line text 4 past (omega arith)))).0
+    here HasBadCategory text fits (category_said (field 2 text) (category_in text) (category_is text (past _ (BadCategory line) (3, omega arith, refl) (omega arith)))).0
 unfit b nb line text (BadClass n) m past fits =
-    here HasBadClass text fits (class_in text) (class_is text (at_class b line text 5 past (omega arith)))
+    here HasBadClass text fits (class_in text) (class_is text (past _ (BadClass line) (4, omega arith, refl) (omega arith)))
 unfit b nb line text (BadMapping n) m past fits =
-    mapping_unfit text (read_at b line text 6 past (omega arith)) (at_surrogate b line text 6 past (omega arith)) (here HasBadMapping text fits)
-unfit b nb line text (RangeOpen n) m past fits = open_unfit b nb text m (at_open b line text 7 past (omega arith)) fits
-unfit b nb line text (RangeLone n) m past fits = lone_unfit b nb text m (at_lone b line text 8 past (omega arith)) fits
+    mapping_unfit text (read_at b line text 6 past (omega arith)) (past _ (BadMapping line) (6, omega arith, refl) (omega arith)) (here HasBadMapping text fits)
+unfit b nb line text (RangeOpen n) m past fits = open_unfit b nb text m (past _ (RangeOpen line) (7, omega arith, refl) (omega arith)) fits
+unfit b nb line text (RangeLone n) m past fits = lone_unfit b nb text m (past _ (RangeLone line) (8, omega arith, refl) (omega arith)) fits
 unfit b nb line text (RangeDiffers n) m past fits =
-    differs_unfit b nb line text m (read_at b line text 9 past (omega arith)) (at_differs b line text 9 past (omega arith)) fits
+    differs_unfit b nb line text m (read_at b line text 9 past (omega arith)) (past _ (RangeDiffers line) (9, omega arith, refl) (omega arith)) fits
 unfit b nb line text (RangeMaps n) m past fits =
-    maps_unfit text (read_at b line text 10 past (omega arith)) (at_maps b line text 10 past (omega arith)) (here MapsInRange text fits)
+    maps_unfit text (read_at b line text 10 past (omega arith)) (past _ (RangeMaps line) (10, omega arith, refl) (omega arith)) (here MapsInRange text fits)
 unfit b nb line text TooLarge m past fits = fits
 unfit b nb line text ReadFailed m past fits = fits
 unfit b nb line text Memory m past fits = fits
@@ -357,8 +314,8 @@ unfolding record_fault
 read_fine b line text h = read_at b line text 6 (λ t f in' l. none_true (record_tests b line text) t f h in') (omega arith)
 
 pub closing_fine : (b : Option Neighbour) (line : ℕ) (text : List ℕ) → record_fault b line text ≡ None → (closes text && not (is_open b)) ≡ false
-unfolding record_fault
-closing_fine b line text h = at_lone b line text 8 (λ t f in' l. none_true (record_tests b line text) t f h in') (omega arith)
+unfolding record_fault record_tests neighbour_of
+closing_fine b line text h = none_true (record_tests b line text) (closes text && not (is_open b)) (RangeLone line) h (8, omega arith, refl)
 
 pub matches : (line : ℕ) (text : List ℕ) → Read text → Matches (neighbour_of line text) (fields_in text)
 unfolding neighbour_of

@@ -1,6 +1,6 @@
 -- How a file is cut into lines, as functions of its bytes; `specs/Lines` says it in relations.
-use Rattle.std.specs.Prelude.{ℕ, ◌+◌, Bool, true, false, not, ◌||◌, ◌==◌, List, [], ◌∷◌, length, Option, Some, None, if◌then◌else◌}
-use Rattle.std.specs.List.{list_all, slice_split}
+use Rattle.std.specs.Prelude.{◌≡◌, ℕ, ◌+◌, ◌≤◌, Bool, true, false, not, ◌||◌, ◌==◌, List, [], ◌∷◌, length, drop, Option, Some, None, if◌then◌else◌}
+use Rattle.std.specs.List.{list_all, prefix_len, slice_split}
 use Rattle.np_code_points.specs.Lines.{Numbered, Walk}
 
 -- what stands before the first element that passes, or all where none does
@@ -78,4 +78,11 @@ walk_at passed rest = record {
   left = data_lines_from (passed + 1) (lines_of rest);
   passed = passed;
   total = passed + length (lines_of rest);
+}
+
+-- from a place to another one that the list has, each element passes
+abbrev pub HasPassed : (ℕ → Bool) → List ℕ → ℕ → ℕ → Type 0
+HasPassed p xs from at = record {
+  within : at ≤ length xs;
+  passed : from + prefix_len p (drop from xs) ≡ at + prefix_len p (drop at xs);
 }

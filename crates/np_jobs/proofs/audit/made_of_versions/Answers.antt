@@ -7,23 +7,17 @@ use Rattle.np_jobs.proofs.AuditLemmas.{lacks_old, made_against, refused_against}
 use Rattle.np_jobs.proofs.EndLemmas.{on_same, untouched}
 use Rattle.np_jobs.proofs.audit.made_of_versions.Goals as goal
 
-pub returns-clause-made : goal.returns-clause-made
-returns-clause-made g c =
+pub returns : goal.returns
+returns g c =
     let files = g.F.Read.remaining in
     let old_files : VersionReaders = record { data_file = stream_of files c.args.old_data_file.now c.read_version.new.data_file; exclusions_file = stream_of files c.args.old_exclusions_file.now c.read_version.new.exclusions_file } in
     let new_files : VersionReaders = record { data_file = stream_of files c.args.new_data_file.now c.made_against.new.new_data_file; exclusions_file = stream_of files c.args.new_exclusions_file.now c.made_against.new.new_exclusions_file } in
-    made_against old_files new_files c.in_ok-old.old c.made_against.result c.in_ok-old.ensures.built
-    (on_same files c.clear.new.self c.args.new_data_file.now c.made_against.new.new_data_file c.clear-2.new.self c.args.new_exclusions_file.now c.made_against.new.new_exclusions_file c.clear.ensures.device
-    c.clear-2.ensures.device (λ d e. IfOk c.made_against.result (MakesAgainst c.in_ok-old.old d e)) c.made_against.ensures.made)
-
-pub returns-clause-refused : goal.returns-clause-refused
-returns-clause-refused g c =
-    let files = g.F.Read.remaining in
-    let old_files : VersionReaders = record { data_file = stream_of files c.args.old_data_file.now c.read_version.new.data_file; exclusions_file = stream_of files c.args.old_exclusions_file.now c.read_version.new.exclusions_file } in
-    let new_files : VersionReaders = record { data_file = stream_of files c.args.new_data_file.now c.made_against.new.new_data_file; exclusions_file = stream_of files c.args.new_exclusions_file.now c.made_against.new.new_exclusions_file } in
-    refused_against old_files new_files c.in_ok-old.old c.made_against.result c.in_ok-old.ensures.built
-    (on_same files c.clear.new.self c.args.new_data_file.now c.made_against.new.new_data_file c.clear-2.new.self c.args.new_exclusions_file.now c.made_against.new.new_exclusions_file c.clear.ensures.device
-    c.clear-2.ensures.device (λ d e. IfErr c.made_against.result (LacksAgainst d e)) c.made_against.ensures.refused)
+    let cleared = on_same files c.clear.new.self c.args.new_data_file.now c.made_against.new.new_data_file c.clear-2.new.self c.args.new_exclusions_file.now c.made_against.new.new_exclusions_file c.clear.ensures.device
+    c.clear-2.ensures.device in
+    record {
+      made = made_against old_files new_files c.in_ok-old.old c.made_against.result c.in_ok-old.ensures.built (cleared (λ d e. IfOk c.made_against.result (MakesAgainst c.in_ok-old.old d e)) c.made_against.ensures.made);
+      refused = refused_against old_files new_files c.in_ok-old.old c.made_against.result c.in_ok-old.ensures.built (cleared (λ d e. IfErr c.made_against.result (LacksAgainst d e)) c.made_against.ensures.refused);
+    }
 
 pub returns-in_err-old-clause-refused : goal.returns-in_err-old-clause-refused
 returns-in_err-old-clause-refused g c =

@@ -2,7 +2,7 @@ use Rattle.std.proofs.Common.{◌≡◌, ℕ, ◌-◌, ◌≤◌, ◌++◌, Bool
 use Rattle.std.specs.Prelude.{codes}
 use Rattle.std.proofs.lemmas.Bool.{false≢true, eq-eqb}
 use Rattle.std.proofs.lemmas.List.{append_assoc, get_or_push, length_push}
-use Rattle.np_ucd.proofs.FieldGrammar.{opens_said, closes_said}
+use Rattle.np_ucd.proofs.FieldGrammar.{opens_is, closes_is}
 use Rattle.np_ucd.specs.inside.FieldReading.{opens_range, closes_range}
 use Rattle.np_ucd.proofs.fields.is_bracketed.Goals as goal
 
@@ -23,10 +23,10 @@ last_of_none [] h = refl
 last_of_none (b ∷ bs) h = absurd (omega arith)
 
 not_opening : (name : List ℕ) → eqb (get_or name (length name - 1) 0) 62 ≡ false → opens_range name ≡ false
-not_opening name = not_so name (codes ", First") (opens_range name) (opens_said name)
+not_opening name = not_so name (codes ", First") (opens_range name) ((opens_is name).0)
 
 not_closing : (name : List ℕ) → eqb (get_or name (length name - 1) 0) 62 ≡ false → closes_range name ≡ false
-not_closing name = not_so name (codes ", Last") (closes_range name) (closes_said name)
+not_closing name = not_so name (codes ", Last") (closes_range name) ((closes_is name).0)
 
 pub returns-then-name-gt0-clause-opening : goal.returns-then-name-gt0-clause-opening
 returns-then-name-gt0-clause-opening c = not_opening c.args.name.now
