@@ -2,10 +2,9 @@
 mod refused;
 mod schedules;
 
-use crate::common::{table_of, want};
+use crate::common::{V1, V2, tables_of, want};
 use np_chain::Chain;
 use np_code_points::Form;
-use np_code_points::fixtures::{V1_DATA, V1_EXCLUSIONS, V2_DATA, V2_EXCLUSIONS};
 use np_tables::RowTable;
 use np_world::fixtures::{
     EXCHANGE_REPORT, EXCHANGE_SCHEDULE, FORGED_REPORT, FORGED_SCHEDULE, RESTART_REPORT,
@@ -14,21 +13,6 @@ use np_world::fixtures::{
 use np_world::{Report, read_schedule, replay, report_text};
 use std::alloc::Global;
 use std::test::Fail;
-
-/// The data and the exclusions of a version.
-type Files<'t> = (&'t str, &'t str);
-
-const V1: Files = (V1_DATA, V1_EXCLUSIONS);
-
-const V2: Files = (V2_DATA, V2_EXCLUSIONS);
-
-fn tables_of(alloc: Global, versions: &[Files]) -> Result<Vec<RowTable>, Fail> {
-    let mut tables = Vec::new(alloc);
-    for (data, exclusions) in versions {
-        tables.push(table_of::<RowTable>(alloc, data, exclusions)?)?;
-    }
-    Ok(tables)
-}
 
 /// What comes of a script under NFC.
 fn replayed<'t>(

@@ -1,31 +1,11 @@
 //! Versions in a row.
-use crate::common::{version_of, want};
+use crate::common::{Files, S, V1, V2, tables_of, want};
 use np_chain::{Break, BreakKind, Chain, ChainFault};
 use np_code_points::Form;
-use np_code_points::fixtures::{
-    S_DATA, S_EXCLUSIONS, V1_DATA, V1_EXCLUSIONS, V2_DATA, V2_EXCLUSIONS,
-};
 use np_forms::{first_unassigned, npss};
 use np_tables::{NormTable, RowTable};
 use std::alloc::Global;
 use std::test::Fail;
-
-/// The data and the exclusions of a version.
-type Files<'t> = (&'t str, &'t str);
-
-const V1: Files = (V1_DATA, V1_EXCLUSIONS);
-
-const V2: Files = (V2_DATA, V2_EXCLUSIONS);
-
-const S: Files = (S_DATA, S_EXCLUSIONS);
-
-fn tables_of(alloc: Global, versions: &[Files]) -> Result<Vec<RowTable>, Fail> {
-    let mut tables = Vec::new(alloc);
-    for (data, exclusions) in versions {
-        tables.push(RowTable::new(alloc, version_of(alloc, data, exclusions)?)?)?;
-    }
-    Ok(tables)
-}
 
 fn is_a_chain(tables: &[RowTable]) -> Result<(), Fail> {
     let chain = Chain::check(tables)?;
