@@ -2,6 +2,7 @@
 use crate::common::{Files, V1, V2, version_of, want};
 use np_chain::{Break, BreakKind, audit, extends};
 use np_code_points::fixtures::{V1_DATA, V1_EXCLUSIONS};
+use np_code_points::told::want_told;
 use np_tables::Version;
 use std::alloc::Global;
 use std::test::Fail;
@@ -234,7 +235,7 @@ fn many_breaks_have_memory(rt: HostRuntime) -> Result<(), Fail> {
 
 #[test]
 fn a_break_is_told_in_words(rt: HostRuntime) -> Result<(), Fail> {
-    let text = format!(in rt.alloc(); "{}", told(BreakKind::NewComposite, 0xC1))?;
-    want(text.as_str() == "NewComposite 00C1", "a break")?;
+    let composed = told(BreakKind::NewComposite, 0xC1);
+    want_told(rt.alloc(), &[(composed, "NewComposite 00C1")])?;
     want(BreakKind::NowIncluded.name() == "NowIncluded", "a kind")
 }

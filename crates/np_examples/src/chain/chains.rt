@@ -2,6 +2,7 @@
 use crate::common::{Files, S, V1, V2, tables_of, want};
 use np_chain::{Break, BreakKind, Chain, ChainFault};
 use np_code_points::Form;
+use np_code_points::told::want_told;
 use np_forms::{first_unassigned, npss};
 use np_tables::{NormTable, RowTable};
 use std::alloc::Global;
@@ -74,15 +75,22 @@ fn the_first_version_that_breaks_is_told(rt: HostRuntime) -> Result<(), Fail> {
     wants_broken(rt.alloc(), &[V1, V1, S], 2, 0x61)
 }
 
+/// Each fault, and how it is told.
+const TOLD: [(ChainFault, &str); 2] = [
+    (
+        ChainFault::Broken {
+            at: 1,
+            brk: Break {
+                kind: BreakKind::Lost,
+                code: 0x1DFA,
+            },
+        },
+        "version 1 does not extend the one before: Lost 1DFA",
+    ),
+    (ChainFault::NoVersion, "no version"),
+];
+
 #[test]
 fn a_fault_is_told_in_words(rt: HostRuntime) -> Result<(), Fail> {
-    let brk = Break {
-        kind: BreakKind::Lost,
-        code: 0x1DFA,
-    };
-    let text = format!(in rt.alloc(); "{}", ChainFault::Broken { at: 1, brk })?;
-    let wanted = "version 1 does not extend the one before: Lost 1DFA";
-    want(text.as_str() == wanted, "a fault")?;
-    let text = format!(in rt.alloc(); "{}", ChainFault::NoVersion)?;
-    want(text.as_str() == "no version", "no table")
+    want_told(rt.alloc(), &TOLD)
 }

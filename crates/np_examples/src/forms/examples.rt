@@ -1,6 +1,7 @@
 //! What each call answers on worked examples.
 use super::wants_form;
 use crate::common::{Example, Made, S, V1, V2, holds_over_each, want};
+use np_code_points::told::want_told;
 use np_code_points::{Form, Memory};
 use np_forms::{NpssFault, equivalent, first_unassigned, is_form, is_stream_safe, npss};
 use np_tables::NormTable;
@@ -189,13 +190,21 @@ fn ligature<T: NormTable>(alloc: Global, table: &T) -> Result<(), Fail> {
     )
 }
 
+/// Each refusal, and how it is told; a code point in four hex digits at least.
+const TOLD: [(NpssFault, &str); 2] = [
+    (
+        NpssFault::Unassigned {
+            at: 12,
+            code: '\u{C5}',
+        },
+        "unassigned 00C5 at byte 12",
+    ),
+    (NpssFault::Memory, "out of memory"),
+];
+
 #[test]
 fn a_refusal_is_told_in_words(rt: HostRuntime) -> Result<(), Fail> {
-    let code = '\u{C5}';
-    let told = format!(in rt.alloc(); "{}", NpssFault::Unassigned { at: 12, code })?;
-    want(told.as_str() == "unassigned 00C5 at byte 12", "a refusal")?;
-    let told = format!(in rt.alloc(); "{}", NpssFault::Memory)?;
-    want(told.as_str() == "out of memory", "want of memory")
+    want_told(rt.alloc(), &TOLD)
 }
 
 fn lacks_kirat_rai<T: NormTable>(alloc: Global, v1: &T) -> Result<(), Fail> {
