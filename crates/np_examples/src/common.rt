@@ -2,6 +2,9 @@
 ghost use Rattle.std.specs.Prelude.{IsTrue, OnOk};
 
 use np_code_points::Memory;
+use np_code_points::fixtures::{
+    S_DATA, S_EXCLUSIONS, V1_DATA, V1_EXCLUSIONS, V2_DATA, V2_EXCLUSIONS,
+};
 use np_code_points::watched::Watched;
 use np_tables::{NormTable, PageTable, RowTable, Version};
 use np_ucd::{read_exclusions, read_rows};
@@ -15,14 +18,27 @@ pub(crate) fn want(holds: bool, what: &str) -> Result<(), Fail>
     if holds { Ok(()) } else { Err(Fail::new(what)) }
 }
 
+/// The data and the exclusions of a version.
+pub(crate) type Files<'t> = (&'t str, &'t str);
+
+/// The first fixture.
+pub(crate) const V1: Files = (V1_DATA, V1_EXCLUSIONS);
+
+/// The second fixture, which extends the first.
+pub(crate) const V2: Files = (V2_DATA, V2_EXCLUSIONS);
+
+/// The fixture whose composite spans a non-starter.
+pub(crate) const S: Files = (S_DATA, S_EXCLUSIONS);
+
 /// The version that two files give.
-pub(crate) fn version_of(alloc: Global, data: &str, exclusions: &str) -> Result<Version, Fail> {
+pub(crate) fn version_of(alloc: Global, files: Files<'_>) -> Result<Version, Fail> {
+    let (data, exclusions) = files;
     let rows = read_rows(alloc, &mut Watched::new(data.as_bytes()))?;
     let exclusions = read_exclusions(alloc, &mut Watched::new(exclusions.as_bytes()))?;
     Ok(Version::build(alloc, rows, exclusions)?)
 }
 
-/// A table that is made of a version: an example holds over each of them.
+/// A table that is made of a version.
 pub(crate) trait Made: NormTable + Drop {
     /// The table of a version.
     fn of(alloc: Global, version: Version) -> Result<Self, Memory>;
@@ -41,7 +57,42 @@ impl Made for PageTable {
 }
 
 /// A table of the version that two files give.
-pub(crate) fn table_of<T: Made>(alloc: Global, data: &str, exclusions: &str) -> Result<T, Fail> {
-    let version = version_of(alloc, data, exclusions)?;
+pub(crate) fn table_of<T: Made>(alloc: Global, files: Files<'_>) -> Result<T, Fail> {
+    let version = version_of(alloc, files)?;
     Ok(T::of(alloc, version)?)
+}
+
+/// The plain tables of several versions.
+pub(crate) fn tables_of(alloc: Global, versions: &[Files<'_>]) -> Result<Vec<RowTable>, Fail> {
+    let mut tables = Vec::new(alloc);
+    for files in versions {
+        tables.push(table_of::<RowTable>(alloc, *files)?)?;
+    }
+    Ok(tables)
+}
+
+/// An example that holds over any table of a version.
+pub(crate) trait Example {
+    /// Fails unless the example holds over the table.
+    fn holds<T: Made>(&self, alloc: Global, table: &T) -> Result<(), Fail>;
+}
+
+/// Fails unless the example holds over one kind of table.
+fn holds_over<T: Made, E: Example>(
+    alloc: Global,
+    files: Files<'_>,
+    example: &E,
+) -> Result<(), Fail> {
+    let table: T = table_of(alloc, files)?;
+    example.holds(alloc, &table)
+}
+
+/// Fails unless the example holds over each kind of table of the version that two files give.
+pub(crate) fn holds_over_each<E: Example>(
+    alloc: Global,
+    files: Files<'_>,
+    example: &E,
+) -> Result<(), Fail> {
+    holds_over::<RowTable, E>(alloc, files, example)?;
+    holds_over::<PageTable, E>(alloc, files, example)
 }

@@ -15,6 +15,8 @@ mod jobs;
 #[cfg(test)]
 mod node;
 #[cfg(test)]
+mod refused;
+#[cfg(test)]
 mod tables;
 #[cfg(test)]
 mod ucd;

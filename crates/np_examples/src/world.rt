@@ -2,10 +2,9 @@
 mod refused;
 mod schedules;
 
-use crate::common::{table_of, want};
+use crate::common::{Files, V1, V2, tables_of, want};
 use np_chain::Chain;
 use np_code_points::Form;
-use np_code_points::fixtures::{V1_DATA, V1_EXCLUSIONS, V2_DATA, V2_EXCLUSIONS};
 use np_tables::RowTable;
 use np_world::fixtures::{
     EXCHANGE_REPORT, EXCHANGE_SCHEDULE, FORGED_REPORT, FORGED_SCHEDULE, RESTART_REPORT,
@@ -14,21 +13,6 @@ use np_world::fixtures::{
 use np_world::{Report, read_schedule, replay, report_text};
 use std::alloc::Global;
 use std::test::Fail;
-
-/// The data and the exclusions of a version.
-type Files<'t> = (&'t str, &'t str);
-
-const V1: Files = (V1_DATA, V1_EXCLUSIONS);
-
-const V2: Files = (V2_DATA, V2_EXCLUSIONS);
-
-fn tables_of(alloc: Global, versions: &[Files]) -> Result<Vec<RowTable>, Fail> {
-    let mut tables = Vec::new(alloc);
-    for (data, exclusions) in versions {
-        tables.push(table_of::<RowTable>(alloc, data, exclusions)?)?;
-    }
-    Ok(tables)
-}
 
 /// What comes of a script under NFC.
 fn replayed<'t>(
@@ -41,57 +25,43 @@ fn replayed<'t>(
     Ok(replay(alloc, &chain, Form::Nfc, &schedule)?)
 }
 
-/// The script gives this report.
-fn wants_report(
-    alloc: Global,
-    tables: &[RowTable],
-    script: &str,
-    wanted: &str,
-) -> Result<(), Fail> {
+fn wants_text(alloc: Global, tables: &[RowTable], script: &str, wanted: &str) -> Result<(), Fail> {
     let report = replayed(alloc, tables, script)?;
     let text = report_text(alloc, &report)?;
     want(text.as_str() == wanted, script)
 }
 
+/// The script over these versions gives this report.
+fn wants_report(
+    alloc: Global,
+    versions: &[Files<'_>],
+    script: &str,
+    wanted: &str,
+) -> Result<(), Fail> {
+    let tables = tables_of(alloc, versions)?;
+    wants_text(alloc, tables.as_slice(), script, wanted)
+}
+
 #[test]
 fn messages_reach_nodes_before_and_after_an_upgrade(rt: HostRuntime) -> Result<(), Fail> {
-    let tables = tables_of(rt.alloc(), &[V1, V2])?;
-    wants_report(
-        rt.alloc(),
-        tables.as_slice(),
-        EXCHANGE_SCHEDULE,
-        EXCHANGE_REPORT,
-    )
+    wants_report(rt.alloc(), &[V1, V2], EXCHANGE_SCHEDULE, EXCHANGE_REPORT)
 }
 
 #[test]
 fn a_restarted_node_has_what_it_saved(rt: HostRuntime) -> Result<(), Fail> {
-    let tables = tables_of(rt.alloc(), &[V1, V2])?;
-    wants_report(
-        rt.alloc(),
-        tables.as_slice(),
-        RESTART_SCHEDULE,
-        RESTART_REPORT,
-    )
+    wants_report(rt.alloc(), &[V1, V2], RESTART_SCHEDULE, RESTART_REPORT)
 }
 
 #[test]
 fn forged_bytes_are_refused_in_order(rt: HostRuntime) -> Result<(), Fail> {
-    let tables = tables_of(rt.alloc(), &[V1])?;
-    wants_report(
-        rt.alloc(),
-        tables.as_slice(),
-        FORGED_SCHEDULE,
-        FORGED_REPORT,
-    )
+    wants_report(rt.alloc(), &[V1], FORGED_SCHEDULE, FORGED_REPORT)
 }
 
 #[test]
 fn a_message_that_was_never_sent_is_none(rt: HostRuntime) -> Result<(), Fail> {
-    let tables = tables_of(rt.alloc(), &[V1])?;
     wants_report(
         rt.alloc(),
-        tables.as_slice(),
+        &[V1],
         "room 0\nnodes 0\ndeliver 0 999999999\n",
         "0 no message\nnode 0 version 0 entries 0\n",
     )
@@ -99,10 +69,9 @@ fn a_message_that_was_never_sent_is_none(rt: HostRuntime) -> Result<(), Fail> {
 
 #[test]
 fn words_of_events_are_read_as_they_stand(rt: HostRuntime) -> Result<(), Fail> {
-    let tables = tables_of(rt.alloc(), &[V1])?;
     wants_report(
         rt.alloc(),
-        tables.as_slice(),
+        &[V1],
         "room 4\nnodes 0\naccept 0  0061\t0302 \naccept 0\nforge 0 430000000361CC8200000002c3A2\nask 0 / \nask 0 0061 0302 / 0061 0302\nask 0 / 0061 0302\nask 0 00e2 /\n",
         "0 kept 0\n1 kept 1\n2 known\n3 equal\n4 equal\n5 different\n6 not kept\nnode 0 version 0 entries 2\nentry 0061 0302 / 00E2\nentry - / -\n",
     )

@@ -1,7 +1,8 @@
 //! The breaks of one version against another.
-use crate::common::{version_of, want};
+use crate::common::{Files, V1, V2, version_of, want};
 use np_chain::{Break, BreakKind, audit, extends};
-use np_code_points::fixtures::{V1_DATA, V1_EXCLUSIONS, V2_DATA, V2_EXCLUSIONS};
+use np_code_points::fixtures::{V1_DATA, V1_EXCLUSIONS};
+use np_code_points::told::want_told;
 use np_tables::Version;
 use std::alloc::Global;
 use std::test::Fail;
@@ -34,23 +35,21 @@ fn wants_breaks(
 fn wants_after(
     alloc: Global,
     old: &Version,
-    data: &str,
-    exclusions: &str,
+    files: Files<'_>,
     breaks: &[Break],
 ) -> Result<(), Fail> {
-    let new = version_of(alloc, data, exclusions)?;
+    let new = version_of(alloc, files)?;
     wants_breaks(alloc, old, &new, breaks, "the breaks behind it")
 }
 
 /// The same, from the version of the two files.
 fn wants_before(
     alloc: Global,
-    data: &str,
-    exclusions: &str,
+    files: Files<'_>,
     new: &Version,
     breaks: &[Break],
 ) -> Result<(), Fail> {
-    let old = version_of(alloc, data, exclusions)?;
+    let old = version_of(alloc, files)?;
     wants_breaks(alloc, &old, new, breaks, "the breaks before it")
 }
 
@@ -83,13 +82,13 @@ pub const LOST: [Break; 6] = [
 
 #[test]
 fn an_earlier_version_loses_what_was_added(rt: HostRuntime) -> Result<(), Fail> {
-    let first = version_of(rt.alloc(), V1_DATA, V1_EXCLUSIONS)?;
+    let first = version_of(rt.alloc(), V1)?;
     added(rt.alloc(), &first)
 }
 
 fn added(alloc: Global, first: &Version) -> Result<(), Fail> {
-    wants_after(alloc, first, V2_DATA, V2_EXCLUSIONS, &[])?;
-    wants_before(alloc, V2_DATA, V2_EXCLUSIONS, first, &LOST)
+    wants_after(alloc, first, V2, &[])?;
+    wants_before(alloc, V2, first, &LOST)
 }
 
 // (text of the first fixture, what stands in its place, the break or none)
@@ -156,9 +155,9 @@ fn wants_one(
     let data = altered(alloc, old, new)?;
     match found {
         Some((kind, code)) => {
-            wants_after(alloc, first, &data, V1_EXCLUSIONS, &[told(kind, code)])
+            wants_after(alloc, first, (&data, V1_EXCLUSIONS), &[told(kind, code)])
         }
-        None => wants_after(alloc, first, &data, V1_EXCLUSIONS, &[]),
+        None => wants_after(alloc, first, (&data, V1_EXCLUSIONS), &[]),
     }
 }
 
@@ -175,23 +174,23 @@ fn each_altered(
 
 #[test]
 fn each_altered_line_is_one_break(rt: HostRuntime) -> Result<(), Fail> {
-    let first = version_of(rt.alloc(), V1_DATA, V1_EXCLUSIONS)?;
+    let first = version_of(rt.alloc(), V1)?;
     each_altered(rt.alloc(), &first, &ALTERED)
 }
 
 fn excluded(alloc: Global, first: &Version) -> Result<(), Fail> {
     let excluded = told(BreakKind::NowExcluded, 0x958);
-    wants_before(alloc, V1_DATA, "", first, &[excluded])?;
+    wants_before(alloc, (V1_DATA, ""), first, &[excluded])?;
     let included = told(BreakKind::NowIncluded, 0x958);
-    wants_after(alloc, first, V1_DATA, "", &[included])?;
+    wants_after(alloc, first, (V1_DATA, ""), &[included])?;
     // a new composite that is excluded from the first breaks nothing
     let data = altered(alloc, "00C5;", "00C1;X;Lu;0;L;0041 0301;;;;N;;;;;\n00C5;")?;
-    wants_after(alloc, first, &data, "00C1\n0958\n", &[])
+    wants_after(alloc, first, (&data, "00C1\n0958\n"), &[])
 }
 
 #[test]
 fn exclusions_come_with_a_composite_and_stay(rt: HostRuntime) -> Result<(), Fail> {
-    let first = version_of(rt.alloc(), V1_DATA, V1_EXCLUSIONS)?;
+    let first = version_of(rt.alloc(), V1)?;
     excluded(rt.alloc(), &first)
 }
 
@@ -199,15 +198,20 @@ const LAST: &str = "10FFFF;X;Co;0;L;;;;;N;;;;;\n";
 
 fn last_code_point(alloc: Global, plain: &Version) -> Result<(), Fail> {
     let lost = told(BreakKind::Lost, 0x10FFFF);
-    wants_after(alloc, plain, "", "", &[lost])?;
-    wants_before(alloc, "", "", plain, &[])?;
+    wants_after(alloc, plain, ("", ""), &[lost])?;
+    wants_before(alloc, ("", ""), plain, &[])?;
     let classed = told(BreakKind::ClassChanged, 0x10FFFF);
-    wants_after(alloc, plain, "10FFFF;X;Co;7;L;;;;;N;;;;;\n", "", &[classed])
+    wants_after(
+        alloc,
+        plain,
+        ("10FFFF;X;Co;7;L;;;;;N;;;;;\n", ""),
+        &[classed],
+    )
 }
 
 #[test]
 fn the_last_code_point_is_looked_at(rt: HostRuntime) -> Result<(), Fail> {
-    let plain = version_of(rt.alloc(), LAST, "")?;
+    let plain = version_of(rt.alloc(), (LAST, ""))?;
     last_code_point(rt.alloc(), &plain)
 }
 
@@ -218,20 +222,20 @@ const MANY: &str = "\
 
 /// Fails unless all of these are lost to an empty version.
 fn all_lost(alloc: Global, many: &Version) -> Result<(), Fail> {
-    let none = version_of(alloc, "", "")?;
+    let none = version_of(alloc, ("", ""))?;
     let breaks = audit(alloc, many, &none)?;
     want(breaks.len() == 524_288, "as many as there are")
 }
 
 #[test]
 fn many_breaks_have_memory(rt: HostRuntime) -> Result<(), Fail> {
-    let many = version_of(rt.alloc(), MANY, "")?;
+    let many = version_of(rt.alloc(), (MANY, ""))?;
     all_lost(rt.alloc(), &many)
 }
 
 #[test]
 fn a_break_is_told_in_words(rt: HostRuntime) -> Result<(), Fail> {
-    let text = format!(in rt.alloc(); "{}", told(BreakKind::NewComposite, 0xC1))?;
-    want(text.as_str() == "NewComposite 00C1", "a break")?;
+    let composed = told(BreakKind::NewComposite, 0xC1);
+    want_told(rt.alloc(), &[(composed, "NewComposite 00C1")])?;
     want(BreakKind::NowIncluded.name() == "NowIncluded", "a kind")
 }

@@ -1,31 +1,12 @@
 //! Versions in a row.
-use crate::common::{version_of, want};
+use crate::common::{Files, S, V1, V2, tables_of, want};
 use np_chain::{Break, BreakKind, Chain, ChainFault};
 use np_code_points::Form;
-use np_code_points::fixtures::{
-    S_DATA, S_EXCLUSIONS, V1_DATA, V1_EXCLUSIONS, V2_DATA, V2_EXCLUSIONS,
-};
+use np_code_points::told::want_told;
 use np_forms::{first_unassigned, npss};
 use np_tables::{NormTable, RowTable};
 use std::alloc::Global;
 use std::test::Fail;
-
-/// The data and the exclusions of a version.
-type Files<'t> = (&'t str, &'t str);
-
-const V1: Files = (V1_DATA, V1_EXCLUSIONS);
-
-const V2: Files = (V2_DATA, V2_EXCLUSIONS);
-
-const S: Files = (S_DATA, S_EXCLUSIONS);
-
-fn tables_of(alloc: Global, versions: &[Files]) -> Result<Vec<RowTable>, Fail> {
-    let mut tables = Vec::new(alloc);
-    for (data, exclusions) in versions {
-        tables.push(RowTable::new(alloc, version_of(alloc, data, exclusions)?)?)?;
-    }
-    Ok(tables)
-}
 
 fn is_a_chain(tables: &[RowTable]) -> Result<(), Fail> {
     let chain = Chain::check(tables)?;
@@ -94,15 +75,22 @@ fn the_first_version_that_breaks_is_told(rt: HostRuntime) -> Result<(), Fail> {
     wants_broken(rt.alloc(), &[V1, V1, S], 2, 0x61)
 }
 
+/// Each fault, and how it is told.
+const TOLD: [(ChainFault, &str); 2] = [
+    (
+        ChainFault::Broken {
+            at: 1,
+            brk: Break {
+                kind: BreakKind::Lost,
+                code: 0x1DFA,
+            },
+        },
+        "version 1 does not extend the one before: Lost 1DFA",
+    ),
+    (ChainFault::NoVersion, "no version"),
+];
+
 #[test]
 fn a_fault_is_told_in_words(rt: HostRuntime) -> Result<(), Fail> {
-    let brk = Break {
-        kind: BreakKind::Lost,
-        code: 0x1DFA,
-    };
-    let text = format!(in rt.alloc(); "{}", ChainFault::Broken { at: 1, brk })?;
-    let wanted = "version 1 does not extend the one before: Lost 1DFA";
-    want(text.as_str() == wanted, "a fault")?;
-    let text = format!(in rt.alloc(); "{}", ChainFault::NoVersion)?;
-    want(text.as_str() == "no version", "no table")
+    want_told(rt.alloc(), &TOLD)
 }

@@ -1,7 +1,7 @@
 //! Calls that were refused for want of memory: what they were lent is as it was, and the same call succeeds
-//! after all. Here there is plenty of memory; `tests/refusals.py` runs each test once for each of its
-//! allocations, with that one refused, and counts those after which a call of the test's name was made again.
+//! after all.
 use crate::common::want;
+use crate::refused::again;
 use np_code_points::Memory;
 use np_code_points::codes::write_code;
 use np_code_points::text::{chars_of, string_of};
@@ -9,10 +9,8 @@ use std::test::Fail;
 
 #[test]
 fn a_refused_chars_of_succeeds_after_all(rt: HostRuntime) -> Result<(), Fail> {
-    let chars = match chars_of(rt.alloc(), "\u{61}\u{302}") {
-        Ok(chars) => chars,
-        Err(Memory) => chars_of(rt.alloc(), "\u{61}\u{302}")?,
-    };
+    let alloc = rt.alloc();
+    let chars = again(&Memory, &|| chars_of(alloc, "\u{61}\u{302}"))?;
     want(
         chars.as_slice() == ['\u{61}', '\u{302}'].as_slice(),
         "two code points",
@@ -22,10 +20,8 @@ fn a_refused_chars_of_succeeds_after_all(rt: HostRuntime) -> Result<(), Fail> {
 #[test]
 fn a_refused_string_of_succeeds_after_all(rt: HostRuntime) -> Result<(), Fail> {
     let chars = ['\u{61}', '\u{302}'];
-    let text = match string_of(rt.alloc(), chars.as_slice()) {
-        Ok(text) => text,
-        Err(Memory) => string_of(rt.alloc(), chars.as_slice())?,
-    };
+    let alloc = rt.alloc();
+    let text = again(&Memory, &|| string_of(alloc, chars.as_slice()))?;
     want(text.as_str() == "\u{61}\u{302}", "their text")
 }
 

@@ -3,6 +3,7 @@ use crate::common::want;
 use np_code_points::codes::{code_of, hex_value, scalar_of, write_code};
 use np_code_points::hangul::{hangul_pair, hangul_parts};
 use np_code_points::text::{NotUtf8, chars_of, string_of, text_of};
+use np_code_points::told::want_told;
 use np_code_points::{Form, Memory};
 use std::alloc::Global;
 use std::test::Fail;
@@ -138,7 +139,5 @@ fn long_texts_have_memory(rt: HostRuntime) -> Result<(), Fail> {
 
 #[test]
 fn a_fault_says_the_place(rt: HostRuntime) -> Result<(), Fail> {
-    let text = format!(in rt.alloc(); "{}", NotUtf8 { at: 17 })?;
-    assert_eq!(rt; text.as_str(), "not UTF-8 at byte 17");
-    Ok(())
+    want_told(rt.alloc(), &[(NotUtf8 { at: 17 }, "not UTF-8 at byte 17")])
 }

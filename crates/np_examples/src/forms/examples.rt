@@ -1,12 +1,10 @@
 //! What each call answers on worked examples.
 use super::wants_form;
-use crate::common::{Made, table_of, want};
-use np_code_points::fixtures::{
-    S_DATA, S_EXCLUSIONS, V1_DATA, V1_EXCLUSIONS, V2_DATA, V2_EXCLUSIONS,
-};
+use crate::common::{Example, Made, S, V1, V2, holds_over_each, want};
+use np_code_points::told::want_told;
 use np_code_points::{Form, Memory};
 use np_forms::{NpssFault, equivalent, first_unassigned, is_form, is_stream_safe, npss};
-use np_tables::{NormTable, PageTable, RowTable};
+use np_tables::NormTable;
 use std::alloc::Global;
 use std::test::Fail;
 
@@ -123,18 +121,6 @@ const CANONICAL: [(&str, &str, &str); 32] = [
     ),
 ];
 
-/// Fails unless the stabilized form of `text` is `normal`.
-fn wants_npss<T: NormTable>(
-    alloc: Global,
-    table: &T,
-    wanted: Form,
-    text: &str,
-    normal: &str,
-) -> Result<(), Fail> {
-    let made = npss(alloc, table, wanted, text)?;
-    want(made.as_str() == normal, text)
-}
-
 /// Fails unless `text` is refused for this code point.
 fn wants_refusal<T: NormTable>(
     alloc: Global,
@@ -164,7 +150,8 @@ fn canonical<T: NormTable>(
 ) -> Result<(), Fail> {
     for (text, nfd, nfc) in rows {
         wants_form(alloc, table, Form::Nfd, text, nfd)?;
-        wants_npss(alloc, table, Form::Nfc, text, nfc)?;
+        let made = npss(alloc, table, Form::Nfc, text)?;
+        want(made.as_str() == *nfc, text)?;
         wants_equivalent(alloc, table, false, nfd, nfc)?;
     }
     Ok(())
@@ -180,17 +167,6 @@ fn told_from_others<T: NormTable>(alloc: Global, table: &T) -> Result<(), Fail> 
     want(is_form(alloc, table, Form::Nfd, ordered)?, "is ordered")
 }
 
-fn told_from_others_over<T: Made>(alloc: Global) -> Result<(), Fail> {
-    let table: T = table_of(alloc, V1_DATA, V1_EXCLUSIONS)?;
-    told_from_others(alloc, &table)
-}
-
-#[test]
-fn a_text_is_told_from_others_of_its_length(rt: HostRuntime) -> Result<(), Fail> {
-    told_from_others_over::<RowTable>(rt.alloc())?;
-    told_from_others_over::<PageTable>(rt.alloc())
-}
-
 fn prefixes<T: NormTable>(alloc: Global, table: &T) -> Result<(), Fail> {
     want(
         !equivalent(alloc, table, false, "\u{61}\u{302}", "\u{61}")?,
@@ -204,28 +180,6 @@ fn prefixes<T: NormTable>(alloc: Global, table: &T) -> Result<(), Fail> {
     wants_equivalent(alloc, table, false, "\u{16D6A}", "\u{16D6A}")
 }
 
-fn prefixes_over<T: Made>(alloc: Global) -> Result<(), Fail> {
-    let table: T = table_of(alloc, V1_DATA, V1_EXCLUSIONS)?;
-    prefixes(alloc, &table)
-}
-
-#[test]
-fn a_text_is_not_equivalent_with_its_prefix(rt: HostRuntime) -> Result<(), Fail> {
-    prefixes_over::<RowTable>(rt.alloc())?;
-    prefixes_over::<PageTable>(rt.alloc())
-}
-
-fn canonical_over<T: Made>(alloc: Global) -> Result<(), Fail> {
-    let table: T = table_of(alloc, V1_DATA, V1_EXCLUSIONS)?;
-    canonical(alloc, &table, &CANONICAL)
-}
-
-#[test]
-fn canonical_forms(rt: HostRuntime) -> Result<(), Fail> {
-    canonical_over::<RowTable>(rt.alloc())?;
-    canonical_over::<PageTable>(rt.alloc())
-}
-
 fn ligature<T: NormTable>(alloc: Global, table: &T) -> Result<(), Fail> {
     wants_form(alloc, table, Form::Nfkd, "\u{FB01}", "fi")?;
     wants_form(alloc, table, Form::Nfkc, "\u{FB01}", "fi")?;
@@ -236,24 +190,21 @@ fn ligature<T: NormTable>(alloc: Global, table: &T) -> Result<(), Fail> {
     )
 }
 
-fn ligature_over<T: Made>(alloc: Global) -> Result<(), Fail> {
-    let table: T = table_of(alloc, V1_DATA, V1_EXCLUSIONS)?;
-    ligature(alloc, &table)
-}
-
-#[test]
-fn a_ligature_is_compatible_with_its_letters(rt: HostRuntime) -> Result<(), Fail> {
-    ligature_over::<RowTable>(rt.alloc())?;
-    ligature_over::<PageTable>(rt.alloc())
-}
+/// Each refusal, and how it is told; a code point in four hex digits at least.
+const TOLD: [(NpssFault, &str); 2] = [
+    (
+        NpssFault::Unassigned {
+            at: 12,
+            code: '\u{C5}',
+        },
+        "unassigned 00C5 at byte 12",
+    ),
+    (NpssFault::Memory, "out of memory"),
+];
 
 #[test]
 fn a_refusal_is_told_in_words(rt: HostRuntime) -> Result<(), Fail> {
-    let code = '\u{C5}';
-    let told = format!(in rt.alloc(); "{}", NpssFault::Unassigned { at: 12, code })?;
-    want(told.as_str() == "unassigned 00C5 at byte 12", "a refusal")?;
-    let told = format!(in rt.alloc(); "{}", NpssFault::Memory)?;
-    want(told.as_str() == "out of memory", "want of memory")
+    want_told(rt.alloc(), &TOLD)
 }
 
 fn lacks_kirat_rai<T: NormTable>(alloc: Global, v1: &T) -> Result<(), Fail> {
@@ -281,33 +232,12 @@ fn lacks_kirat_rai<T: NormTable>(alloc: Global, v1: &T) -> Result<(), Fail> {
 
 fn has_kirat_rai<T: NormTable>(alloc: Global, v2: &T) -> Result<(), Fail> {
     let text = "\u{41}\u{16D67}";
-    wants_npss(alloc, v2, Form::Nfc, text, text)?;
+    let made = npss(alloc, v2, Form::Nfc, text)?;
+    want(made.as_str() == text, text)?;
     want(
         first_unassigned(v2, "\u{FFFE}") == Some(0),
         "a noncharacter",
     )
-}
-
-fn lacks_kirat_rai_over<T: Made>(alloc: Global) -> Result<(), Fail> {
-    let v1: T = table_of(alloc, V1_DATA, V1_EXCLUSIONS)?;
-    lacks_kirat_rai(alloc, &v1)
-}
-
-#[test]
-fn unassigned_code_points_are_refused(rt: HostRuntime) -> Result<(), Fail> {
-    lacks_kirat_rai_over::<RowTable>(rt.alloc())?;
-    lacks_kirat_rai_over::<PageTable>(rt.alloc())
-}
-
-fn has_kirat_rai_over<T: Made>(alloc: Global) -> Result<(), Fail> {
-    let v2: T = table_of(alloc, V2_DATA, V2_EXCLUSIONS)?;
-    has_kirat_rai(alloc, &v2)
-}
-
-#[test]
-fn code_points_assigned_later_are_taken(rt: HostRuntime) -> Result<(), Fail> {
-    has_kirat_rai_over::<RowTable>(rt.alloc())?;
-    has_kirat_rai_over::<PageTable>(rt.alloc())
 }
 
 /// Fails unless a text of more than 2 MiB has a form of 3 bytes for each 2 of its own.
@@ -326,33 +256,11 @@ fn grows<T: NormTable>(alloc: Global, table: &T) -> Result<(), Fail> {
     )
 }
 
-fn grows_over<T: Made>(alloc: Global) -> Result<(), Fail> {
-    let table: T = table_of(alloc, V1_DATA, V1_EXCLUSIONS)?;
-    grows(alloc, &table)
-}
-
-#[test]
-fn long_texts_have_memory(rt: HostRuntime) -> Result<(), Fail> {
-    grows_over::<RowTable>(rt.alloc())?;
-    grows_over::<PageTable>(rt.alloc())
-}
-
 fn starters<T: NormTable>(alloc: Global, table: &T) -> Result<(), Fail> {
     let three = "\u{16D67}\u{16D67}\u{16D67}";
     wants_form(alloc, table, Form::Nfc, three, "\u{16D68}\u{16D67}")?;
     let nested = "\u{16D63}\u{16D67}\u{16D67}";
     wants_form(alloc, table, Form::Nfc, nested, "\u{16D6A}")
-}
-
-fn starters_over<T: Made>(alloc: Global) -> Result<(), Fail> {
-    let table: T = table_of(alloc, V2_DATA, V2_EXCLUSIONS)?;
-    starters(alloc, &table)
-}
-
-#[test]
-fn starters_compose_from_the_left(rt: HostRuntime) -> Result<(), Fail> {
-    starters_over::<RowTable>(rt.alloc())?;
-    starters_over::<PageTable>(rt.alloc())
 }
 
 fn passed_non_starters<T: NormTable>(alloc: Global, table: &T) -> Result<(), Fail> {
@@ -373,13 +281,77 @@ fn passed_non_starters<T: NormTable>(alloc: Global, table: &T) -> Result<(), Fai
     wants_refusal(alloc, table, Form::Nfd, "\u{AC00}", fault)
 }
 
-fn passed_non_starters_over<T: Made>(alloc: Global) -> Result<(), Fail> {
-    let table: T = table_of(alloc, S_DATA, S_EXCLUSIONS)?;
-    passed_non_starters(alloc, &table)
+/// What forms show.
+#[derive(Clone, Copy)]
+enum Shown {
+    Canonical,
+    ToldFromOthers,
+    Prefixes,
+    Ligature,
+    LacksKiratRai,
+    HasKiratRai,
+    Growth,
+    Starters,
+    PassedNonStarters,
+}
+
+impl Example for Shown {
+    fn holds<T: Made>(&self, alloc: Global, table: &T) -> Result<(), Fail> {
+        match self {
+            Shown::Canonical => canonical(alloc, table, &CANONICAL),
+            Shown::ToldFromOthers => told_from_others(alloc, table),
+            Shown::Prefixes => prefixes(alloc, table),
+            Shown::Ligature => ligature(alloc, table),
+            Shown::LacksKiratRai => lacks_kirat_rai(alloc, table),
+            Shown::HasKiratRai => has_kirat_rai(alloc, table),
+            Shown::Growth => grows(alloc, table),
+            Shown::Starters => starters(alloc, table),
+            Shown::PassedNonStarters => passed_non_starters(alloc, table),
+        }
+    }
+}
+
+#[test]
+fn canonical_forms(rt: HostRuntime) -> Result<(), Fail> {
+    holds_over_each(rt.alloc(), V1, &Shown::Canonical)
+}
+
+#[test]
+fn a_text_is_told_from_others_of_its_length(rt: HostRuntime) -> Result<(), Fail> {
+    holds_over_each(rt.alloc(), V1, &Shown::ToldFromOthers)
+}
+
+#[test]
+fn a_text_is_not_equivalent_with_its_prefix(rt: HostRuntime) -> Result<(), Fail> {
+    holds_over_each(rt.alloc(), V1, &Shown::Prefixes)
+}
+
+#[test]
+fn a_ligature_is_compatible_with_its_letters(rt: HostRuntime) -> Result<(), Fail> {
+    holds_over_each(rt.alloc(), V1, &Shown::Ligature)
+}
+
+#[test]
+fn unassigned_code_points_are_refused(rt: HostRuntime) -> Result<(), Fail> {
+    holds_over_each(rt.alloc(), V1, &Shown::LacksKiratRai)
+}
+
+#[test]
+fn code_points_assigned_later_are_taken(rt: HostRuntime) -> Result<(), Fail> {
+    holds_over_each(rt.alloc(), V2, &Shown::HasKiratRai)
+}
+
+#[test]
+fn long_texts_have_memory(rt: HostRuntime) -> Result<(), Fail> {
+    holds_over_each(rt.alloc(), V1, &Shown::Growth)
+}
+
+#[test]
+fn starters_compose_from_the_left(rt: HostRuntime) -> Result<(), Fail> {
+    holds_over_each(rt.alloc(), V2, &Shown::Starters)
 }
 
 #[test]
 fn passed_non_starters_are_not_visited_again(rt: HostRuntime) -> Result<(), Fail> {
-    passed_non_starters_over::<RowTable>(rt.alloc())?;
-    passed_non_starters_over::<PageTable>(rt.alloc())
+    holds_over_each(rt.alloc(), S, &Shown::PassedNonStarters)
 }

@@ -1,12 +1,9 @@
 //! The laws on worked examples: a form is its own form, and a later version keeps it.
 use super::wants_form;
-use crate::common::{Made, table_of, want};
+use crate::common::{Example, Made, S, V1, V2, holds_over_each, table_of};
 use np_code_points::Form;
-use np_code_points::fixtures::{
-    S_DATA, S_EXCLUSIONS, V1_DATA, V1_EXCLUSIONS, V2_DATA, V2_EXCLUSIONS,
-};
 use np_forms::form;
-use np_tables::{NormTable, PageTable, RowTable};
+use np_tables::NormTable;
 use std::alloc::Global;
 use std::test::Fail;
 
@@ -70,24 +67,6 @@ fn keeps_forms<T: NormTable>(alloc: Global, table: &T, texts: &[&str]) -> Result
     Ok(())
 }
 
-fn keeps_of<T: Made>(alloc: Global, data: &str, exclusions: &str) -> Result<(), Fail> {
-    let table: T = table_of(alloc, data, exclusions)?;
-    keeps_forms(alloc, &table, &KEPT)?;
-    keeps_forms(alloc, &table, &OTHERS)
-}
-
-fn keeps_over<T: Made>(alloc: Global) -> Result<(), Fail> {
-    keeps_of::<T>(alloc, V1_DATA, V1_EXCLUSIONS)?;
-    keeps_of::<T>(alloc, V2_DATA, V2_EXCLUSIONS)?;
-    keeps_of::<T>(alloc, S_DATA, S_EXCLUSIONS)
-}
-
-#[test]
-fn a_form_is_its_own_form(rt: HostRuntime) -> Result<(), Fail> {
-    keeps_over::<RowTable>(rt.alloc())?;
-    keeps_over::<PageTable>(rt.alloc())
-}
-
 fn are_same<T: NormTable>(
     alloc: Global,
     first: &T,
@@ -102,18 +81,37 @@ fn are_same<T: NormTable>(
     Ok(())
 }
 
-fn second_as<T: Made>(alloc: Global, first: &T) -> Result<(), Fail> {
-    let second: T = table_of(alloc, V2_DATA, V2_EXCLUSIONS)?;
-    are_same(alloc, first, &second, &KEPT)
+/// What the laws show.
+#[derive(Clone, Copy)]
+enum Shown {
+    Kept,
+    Same,
 }
 
-fn later_over<T: Made>(alloc: Global) -> Result<(), Fail> {
-    let first: T = table_of(alloc, V1_DATA, V1_EXCLUSIONS)?;
-    second_as(alloc, &first)
+impl Example for Shown {
+    fn holds<T: Made>(&self, alloc: Global, table: &T) -> Result<(), Fail> {
+        match self {
+            Shown::Kept => {
+                keeps_forms(alloc, table, &KEPT)?;
+                keeps_forms(alloc, table, &OTHERS)
+            }
+            Shown::Same => {
+                let second: T = table_of(alloc, V2)?;
+                are_same(alloc, table, &second, &KEPT)
+            }
+        }
+    }
+}
+
+#[test]
+fn a_form_is_its_own_form(rt: HostRuntime) -> Result<(), Fail> {
+    for files in [V1, V2, S] {
+        holds_over_each(rt.alloc(), files, &Shown::Kept)?;
+    }
+    Ok(())
 }
 
 #[test]
 fn a_later_version_gives_the_same_forms(rt: HostRuntime) -> Result<(), Fail> {
-    later_over::<RowTable>(rt.alloc())?;
-    later_over::<PageTable>(rt.alloc())
+    holds_over_each(rt.alloc(), V1, &Shown::Same)
 }

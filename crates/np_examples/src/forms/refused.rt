@@ -1,14 +1,12 @@
-//! Calls that were refused for want of memory: what they were lent is as it was, and the same call succeeds
-//! after all. Here there is plenty of memory; `tests/refusals.py` runs each test once for each of its
-//! allocations, with that one refused, and counts those after which a call of the test's name was made again.
-use crate::common::{Made, table_of, want};
+//! Calls that were refused for want of memory, and succeed after all.
+use crate::common::{Example, Made, V1, holds_over_each, want};
+use crate::refused::again;
 use np_code_points::devices::Room;
-use np_code_points::fixtures::{V1_DATA, V1_EXCLUSIONS};
 use np_code_points::text::string_of;
 use np_code_points::watched::Watched;
 use np_code_points::{Form, Memory};
 use np_forms::{NpssFault, RunFault, Stream, equivalent, form, is_form, is_stream_safe, npss, run};
-use np_tables::{NormTable, PageTable, RowTable};
+use np_tables::NormTable;
 use std::alloc::Global;
 use std::test::Fail;
 
@@ -32,10 +30,7 @@ enum Call {
 }
 
 fn forms<T: NormTable>(alloc: Global, table: &T, wanted: Form, normal: &str) -> Result<(), Fail> {
-    let made = match form(alloc, table, wanted, TEXT) {
-        Ok(made) => made,
-        Err(Memory) => form(alloc, table, wanted, TEXT)?,
-    };
+    let made = again(&Memory, &|| form(alloc, table, wanted, TEXT))?;
     want(made.as_str() == normal, "the form")
 }
 
@@ -46,10 +41,7 @@ fn stabilized<T: NormTable>(alloc: Global, table: &T) -> Result<(), Fail> {
         code: '\u{16D67}',
     };
     want(lacking == Some(fault), "what is told at once")?;
-    let made = match npss(alloc, table, Form::Nfc, TEXT) {
-        Err(NpssFault::Memory) => npss(alloc, table, Form::Nfc, TEXT)?,
-        answer => answer?,
-    };
+    let made = again(&NpssFault::Memory, &|| npss(alloc, table, Form::Nfc, TEXT))?;
     want(made.as_str() == "\u{1EAD}", "the key")
 }
 
@@ -60,10 +52,7 @@ fn in_form<T: NormTable>(
     text: &str,
     holds: bool,
 ) -> Result<(), Fail> {
-    let answer = match is_form(alloc, table, wanted, text) {
-        Ok(answer) => answer,
-        Err(Memory) => is_form(alloc, table, wanted, text)?,
-    };
+    let answer = again(&Memory, &|| is_form(alloc, table, wanted, text))?;
     want(answer == holds, "whether it is in the form")
 }
 
@@ -73,51 +62,43 @@ fn stream_safe<T: NormTable>(
     text: &str,
     holds: bool,
 ) -> Result<(), Fail> {
-    let answer = match is_stream_safe(alloc, table, text) {
-        Ok(answer) => answer,
-        Err(Memory) => is_stream_safe(alloc, table, text)?,
-    };
+    let answer = again(&Memory, &|| is_stream_safe(alloc, table, text))?;
     want(answer == holds, "whether it is stream-safe")
 }
 
 fn alike<T: NormTable>(alloc: Global, table: &T, compat: bool) -> Result<(), Fail> {
-    let answer = match equivalent(alloc, table, compat, "\u{FB01}", "fi") {
-        Ok(answer) => answer,
-        Err(Memory) => equivalent(alloc, table, compat, "\u{FB01}", "fi")?,
-    };
+    let answer = again(
+        &Memory,
+        &|| equivalent(alloc, table, compat, "\u{FB01}", "fi"),
+    )?;
     want(answer == compat, "whether they are equivalent")
 }
 
-/// Feeds a code point, a second time where memory was refused and that is asked for.
-fn feeds<T: NormTable>(stream: &mut Stream<'_, T>, code: char, again: bool) -> Result<(), Fail> {
-    let ready = stream.ready().len();
-    let pending = stream.pending_len();
-    if let Err(refused) = stream.feed(code) {
-        want(
-            stream.ready().len() == ready && stream.pending_len() == pending,
-            "a refused code point changes nothing",
-        )?;
-        if !again {
-            return Err(refused.into());
-        }
-        stream.feed(code)?;
+/// Feeds a code point; where there is none, ends the text.
+fn step<T: NormTable>(stream: &mut Stream<'_, T>, code: Option<char>) -> Result<(), Memory> {
+    match code {
+        Some(code) => stream.feed(code),
+        None => stream.finish(),
     }
-    Ok(())
 }
 
-/// Ends the text, likewise.
-fn finishes<T: NormTable>(stream: &mut Stream<'_, T>, again: bool) -> Result<(), Fail> {
+/// Takes a step, a second time where memory was refused and that is asked for.
+fn steps<T: NormTable>(
+    stream: &mut Stream<'_, T>,
+    code: Option<char>,
+    again: bool,
+) -> Result<(), Fail> {
     let ready = stream.ready().len();
     let pending = stream.pending_len();
-    if let Err(refused) = stream.finish() {
+    if let Err(refused) = step(stream, code) {
         want(
             stream.ready().len() == ready && stream.pending_len() == pending,
-            "a refused end changes nothing",
+            "a refused step changes nothing",
         )?;
         if !again {
             return Err(refused.into());
         }
-        stream.finish()?;
+        step(stream, code)?;
     }
     Ok(())
 }
@@ -131,9 +112,9 @@ fn streams<T: NormTable>(
 ) -> Result<(), Fail> {
     let mut stream = Stream::new(alloc, table, wanted);
     for code in "\u{61}\u{302}\u{323}\u{41}\u{327}\u{30A}\u{FB01}".chars() {
-        feeds(&mut stream, code, call == Call::Feed)?;
+        steps(&mut stream, Some(code), call == Call::Feed)?;
     }
-    finishes(&mut stream, call == Call::Finish)?;
+    steps(&mut stream, None, call == Call::Finish)?;
     let made = string_of(alloc, stream.ready())?;
     want(made.as_str() == normal, normal)
 }
@@ -174,77 +155,68 @@ fn runs<T: NormTable>(alloc: Global, table: &T) -> Result<(), Fail> {
     wants_ran(answer, &room)
 }
 
-fn made_again<T: NormTable>(alloc: Global, table: &T, call: Call) -> Result<(), Fail> {
-    match call {
-        Call::Form => {
-            forms(alloc, table, Form::Nfd, "\u{61}\u{323}\u{302}")?;
-            forms(alloc, table, Form::Nfc, "\u{1EAD}")
+impl Example for Call {
+    fn holds<T: Made>(&self, alloc: Global, table: &T) -> Result<(), Fail> {
+        match self {
+            Call::Form => {
+                forms(alloc, table, Form::Nfd, "\u{61}\u{323}\u{302}")?;
+                forms(alloc, table, Form::Nfc, "\u{1EAD}")
+            }
+            Call::Npss => stabilized(alloc, table),
+            Call::IsForm => {
+                in_form(alloc, table, Form::Nfc, "\u{1EAD}", true)?;
+                in_form(alloc, table, Form::Nfd, "\u{1EAD}", false)
+            }
+            Call::IsStreamSafe => {
+                stream_safe(alloc, table, TEXT, true)?;
+                stream_safe(alloc, table, LONG, false)
+            }
+            Call::Equivalent => {
+                alike(alloc, table, false)?;
+                alike(alloc, table, true)
+            }
+            Call::Feed | Call::Finish => both_streams(alloc, table, *self),
+            Call::Run => runs(alloc, table),
         }
-        Call::Npss => stabilized(alloc, table),
-        Call::IsForm => {
-            in_form(alloc, table, Form::Nfc, "\u{1EAD}", true)?;
-            in_form(alloc, table, Form::Nfd, "\u{1EAD}", false)
-        }
-        Call::IsStreamSafe => {
-            stream_safe(alloc, table, TEXT, true)?;
-            stream_safe(alloc, table, LONG, false)
-        }
-        Call::Equivalent => {
-            alike(alloc, table, false)?;
-            alike(alloc, table, true)
-        }
-        Call::Feed | Call::Finish => both_streams(alloc, table, call),
-        Call::Run => runs(alloc, table),
     }
-}
-
-fn over<T: Made>(alloc: Global, call: Call) -> Result<(), Fail> {
-    let table: T = table_of(alloc, V1_DATA, V1_EXCLUSIONS)?;
-    made_again(alloc, &table, call)
-}
-
-/// The call over each table.
-fn succeeds(alloc: Global, call: Call) -> Result<(), Fail> {
-    over::<RowTable>(alloc, call)?;
-    over::<PageTable>(alloc, call)
 }
 
 #[test]
 fn a_refused_form_succeeds_after_all(rt: HostRuntime) -> Result<(), Fail> {
-    succeeds(rt.alloc(), Call::Form)
+    holds_over_each(rt.alloc(), V1, &Call::Form)
 }
 
 #[test]
 fn a_refused_npss_succeeds_after_all(rt: HostRuntime) -> Result<(), Fail> {
-    succeeds(rt.alloc(), Call::Npss)
+    holds_over_each(rt.alloc(), V1, &Call::Npss)
 }
 
 #[test]
 fn a_refused_is_form_succeeds_after_all(rt: HostRuntime) -> Result<(), Fail> {
-    succeeds(rt.alloc(), Call::IsForm)
+    holds_over_each(rt.alloc(), V1, &Call::IsForm)
 }
 
 #[test]
 fn a_refused_is_stream_safe_succeeds_after_all(rt: HostRuntime) -> Result<(), Fail> {
-    succeeds(rt.alloc(), Call::IsStreamSafe)
+    holds_over_each(rt.alloc(), V1, &Call::IsStreamSafe)
 }
 
 #[test]
 fn a_refused_equivalent_succeeds_after_all(rt: HostRuntime) -> Result<(), Fail> {
-    succeeds(rt.alloc(), Call::Equivalent)
+    holds_over_each(rt.alloc(), V1, &Call::Equivalent)
 }
 
 #[test]
 fn a_refused_feed_succeeds_after_all(rt: HostRuntime) -> Result<(), Fail> {
-    succeeds(rt.alloc(), Call::Feed)
+    holds_over_each(rt.alloc(), V1, &Call::Feed)
 }
 
 #[test]
 fn a_refused_finish_succeeds_after_all(rt: HostRuntime) -> Result<(), Fail> {
-    succeeds(rt.alloc(), Call::Finish)
+    holds_over_each(rt.alloc(), V1, &Call::Finish)
 }
 
 #[test]
 fn a_refused_run_succeeds_after_all(rt: HostRuntime) -> Result<(), Fail> {
-    succeeds(rt.alloc(), Call::Run)
+    holds_over_each(rt.alloc(), V1, &Call::Run)
 }

@@ -1,12 +1,11 @@
 //! Runs over whole inputs on worked examples.
-use crate::common::{Made, table_of, want};
+use crate::common::{Example, Made, V1, holds_over_each, want};
 use np_code_points::Form;
 use np_code_points::devices::{Failure, Room, Trickle};
-use np_code_points::fixtures::{V1_DATA, V1_EXCLUSIONS};
 use np_code_points::told::want_told;
 use np_code_points::watched::Watched;
 use np_forms::{RunFault, run};
-use np_tables::{NormTable, PageTable, RowTable};
+use np_tables::NormTable;
 use std::alloc::Global;
 use std::io::Read;
 use std::test::Fail;
@@ -130,62 +129,50 @@ fn failed_writes<T: NormTable>(alloc: Global, table: &T, failure: Failure) -> Re
     Ok(())
 }
 
-fn cuttings_over<T: Made>(alloc: Global) -> Result<(), Fail> {
-    let table: T = table_of(alloc, V1_DATA, V1_EXCLUSIONS)?;
-    cuttings(alloc, &table)
+/// What runs show.
+#[derive(Clone, Copy)]
+enum Shown {
+    Cuttings,
+    Rows,
+    FailedReads(Failure),
+    FailedWrites(Failure),
+}
+
+impl Example for Shown {
+    fn holds<T: Made>(&self, alloc: Global, table: &T) -> Result<(), Fail> {
+        match self {
+            Shown::Cuttings => cuttings(alloc, table),
+            Shown::Rows => wants_rows(alloc, table),
+            Shown::FailedReads(failure) => failed_reads(alloc, table, *failure),
+            Shown::FailedWrites(failure) => failed_writes(alloc, table, *failure),
+        }
+    }
 }
 
 #[test]
 fn pieces_decide_nothing(rt: HostRuntime) -> Result<(), Fail> {
-    cuttings_over::<RowTable>(rt.alloc())?;
-    cuttings_over::<PageTable>(rt.alloc())
-}
-
-fn wants_rows_over<T: Made>(alloc: Global) -> Result<(), Fail> {
-    let table: T = table_of(alloc, V1_DATA, V1_EXCLUSIONS)?;
-    wants_rows(alloc, &table)
+    holds_over_each(rt.alloc(), V1, &Shown::Cuttings)
 }
 
 #[test]
 fn runs_write_the_form_of_the_whole_input(rt: HostRuntime) -> Result<(), Fail> {
-    wants_rows_over::<RowTable>(rt.alloc())?;
-    wants_rows_over::<PageTable>(rt.alloc())
-}
-
-fn each_failed_read<T: NormTable>(alloc: Global, table: &T) -> Result<(), Fail> {
-    for failure in FAILURES {
-        failed_reads(alloc, table, failure)?;
-    }
-    Ok(())
-}
-
-fn failed_reads_over<T: Made>(alloc: Global) -> Result<(), Fail> {
-    let table: T = table_of(alloc, V1_DATA, V1_EXCLUSIONS)?;
-    each_failed_read(alloc, &table)
+    holds_over_each(rt.alloc(), V1, &Shown::Rows)
 }
 
 #[test]
 fn a_failed_read_leaves_what_is_ready(rt: HostRuntime) -> Result<(), Fail> {
-    failed_reads_over::<RowTable>(rt.alloc())?;
-    failed_reads_over::<PageTable>(rt.alloc())
-}
-
-fn each_failed_write<T: NormTable>(alloc: Global, table: &T) -> Result<(), Fail> {
     for failure in FAILURES {
-        failed_writes(alloc, table, failure)?;
+        holds_over_each(rt.alloc(), V1, &Shown::FailedReads(failure))?;
     }
     Ok(())
 }
 
-fn failed_writes_over<T: Made>(alloc: Global) -> Result<(), Fail> {
-    let table: T = table_of(alloc, V1_DATA, V1_EXCLUSIONS)?;
-    each_failed_write(alloc, &table)
-}
-
 #[test]
 fn failed_writes_and_a_failed_flush_are_told(rt: HostRuntime) -> Result<(), Fail> {
-    failed_writes_over::<RowTable>(rt.alloc())?;
-    failed_writes_over::<PageTable>(rt.alloc())
+    for failure in FAILURES {
+        holds_over_each(rt.alloc(), V1, &Shown::FailedWrites(failure))?;
+    }
+    Ok(())
 }
 
 /// Each fault, and how it is told.

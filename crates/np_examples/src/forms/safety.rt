@@ -1,9 +1,8 @@
 //! Which worked examples are stream-safe.
 use super::examples::repeated;
-use crate::common::{Made, table_of, want};
-use np_code_points::fixtures::{V1_DATA, V1_EXCLUSIONS};
+use crate::common::{Example, Made, V1, holds_over_each, want};
 use np_forms::is_stream_safe;
-use np_tables::{NormTable, PageTable, RowTable};
+use np_tables::NormTable;
 use std::alloc::Global;
 use std::test::Fail;
 
@@ -28,25 +27,20 @@ fn wants_safe<T: NormTable>(
     want(is_stream_safe(alloc, table, text.as_str())? == safe, before)
 }
 
-fn stream_safe<T: NormTable>(
-    alloc: Global,
-    table: &T,
-    rows: &[(&str, char, u32)],
-) -> Result<(), Fail> {
-    for (before, c, most) in rows {
-        wants_safe(alloc, table, before, *c, *most, true)?;
-        wants_safe(alloc, table, before, *c, most.saturating_add(1), false)?;
-    }
-    Ok(())
-}
+/// How many non-starters are stream-safe.
+struct Limits;
 
-fn stream_safe_over<T: Made>(alloc: Global) -> Result<(), Fail> {
-    let table: T = table_of(alloc, V1_DATA, V1_EXCLUSIONS)?;
-    stream_safe(alloc, &table, &SAFE)
+impl Example for Limits {
+    fn holds<T: Made>(&self, alloc: Global, table: &T) -> Result<(), Fail> {
+        for (before, c, most) in &SAFE {
+            wants_safe(alloc, table, before, *c, *most, true)?;
+            wants_safe(alloc, table, before, *c, most.saturating_add(1), false)?;
+        }
+        Ok(())
+    }
 }
 
 #[test]
 fn thirty_non_starters_are_stream_safe(rt: HostRuntime) -> Result<(), Fail> {
-    stream_safe_over::<RowTable>(rt.alloc())?;
-    stream_safe_over::<PageTable>(rt.alloc())
+    holds_over_each(rt.alloc(), V1, &Limits)
 }

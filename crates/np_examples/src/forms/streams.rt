@@ -1,10 +1,9 @@
 //! Streams on worked examples.
-use crate::common::{Made, table_of, want};
+use crate::common::{Example, Made, V1, V2, holds_over_each, want};
 use np_code_points::Form;
-use np_code_points::fixtures::{V1_DATA, V1_EXCLUSIONS, V2_DATA, V2_EXCLUSIONS};
 use np_code_points::text::string_of;
 use np_forms::Stream;
-use np_tables::{NormTable, PageTable, RowTable};
+use np_tables::NormTable;
 use std::alloc::Global;
 use std::test::Fail;
 
@@ -103,28 +102,6 @@ fn ends_and_begins<T: NormTable>(alloc: Global, stream: &mut Stream<'_, T>) -> R
     wants_text(alloc, stream.ready(), "\u{302}")
 }
 
-fn old_rows_over<T: Made>(alloc: Global) -> Result<(), Fail> {
-    let table: T = table_of(alloc, V1_DATA, V1_EXCLUSIONS)?;
-    wants_rows(alloc, &table, &OLD)
-}
-
-#[test]
-fn what_is_ready_is_the_form_before_its_last_starter(rt: HostRuntime) -> Result<(), Fail> {
-    old_rows_over::<RowTable>(rt.alloc())?;
-    old_rows_over::<PageTable>(rt.alloc())
-}
-
-fn new_rows_over<T: Made>(alloc: Global) -> Result<(), Fail> {
-    let table: T = table_of(alloc, V2_DATA, V2_EXCLUSIONS)?;
-    wants_rows(alloc, &table, &NEW)
-}
-
-#[test]
-fn starters_go_into_a_pending_starter(rt: HostRuntime) -> Result<(), Fail> {
-    new_rows_over::<RowTable>(rt.alloc())?;
-    new_rows_over::<PageTable>(rt.alloc())
-}
-
 /// A stream shows how much it holds, and none of it.
 fn shows_counts<T: NormTable>(alloc: Global, table: &T) -> Result<(), Fail> {
     let mut stream = Stream::new(alloc, table, Form::Nfc);
@@ -137,19 +114,42 @@ fn shows_counts<T: NormTable>(alloc: Global, table: &T) -> Result<(), Fail> {
     )
 }
 
-#[test]
-fn a_stream_shows_no_text(rt: HostRuntime) -> Result<(), Fail> {
-    let table: RowTable = table_of(rt.alloc(), V1_DATA, V1_EXCLUSIONS)?;
-    shows_counts(rt.alloc(), &table)
+/// What streams show.
+#[derive(Clone, Copy)]
+enum Shown {
+    OldRows,
+    NewRows,
+    Counts,
+    BeginsAnew,
 }
 
-fn begins_anew_over<T: Made>(alloc: Global) -> Result<(), Fail> {
-    let table: T = table_of(alloc, V1_DATA, V1_EXCLUSIONS)?;
-    begins_anew(alloc, &table)
+impl Example for Shown {
+    fn holds<T: Made>(&self, alloc: Global, table: &T) -> Result<(), Fail> {
+        match self {
+            Shown::OldRows => wants_rows(alloc, table, &OLD),
+            Shown::NewRows => wants_rows(alloc, table, &NEW),
+            Shown::Counts => shows_counts(alloc, table),
+            Shown::BeginsAnew => begins_anew(alloc, table),
+        }
+    }
+}
+
+#[test]
+fn what_is_ready_is_the_form_before_its_last_starter(rt: HostRuntime) -> Result<(), Fail> {
+    holds_over_each(rt.alloc(), V1, &Shown::OldRows)
+}
+
+#[test]
+fn starters_go_into_a_pending_starter(rt: HostRuntime) -> Result<(), Fail> {
+    holds_over_each(rt.alloc(), V2, &Shown::NewRows)
+}
+
+#[test]
+fn a_stream_shows_no_text(rt: HostRuntime) -> Result<(), Fail> {
+    holds_over_each(rt.alloc(), V1, &Shown::Counts)
 }
 
 #[test]
 fn a_new_text_begins_behind_a_finished_one(rt: HostRuntime) -> Result<(), Fail> {
-    begins_anew_over::<RowTable>(rt.alloc())?;
-    begins_anew_over::<PageTable>(rt.alloc())
+    holds_over_each(rt.alloc(), V1, &Shown::BeginsAnew)
 }

@@ -1,19 +1,11 @@
 //! Worked examples of the jobs over the fixtures.
+use super::{Command, Job, job_into};
 use crate::common::want;
 use np_code_points::Form;
 use np_code_points::fixtures::{V1_DATA, V1_EXCLUSIONS, V2_DATA, V2_EXCLUSIONS};
 use np_code_points::watched::Watched;
-use np_jobs::{audit_job, compare_job, key_job, normalize_job};
 use std::alloc::Global;
 use std::test::Fail;
-
-/// The commands on one text.
-#[derive(Clone, Copy)]
-enum Command {
-    Normalize,
-    Key,
-    Compare,
-}
 
 /// Status, standard output and standard error of a run.
 #[derive(Drop)]
@@ -34,20 +26,11 @@ fn is_answer(ran: &Ran, answer: &Answer<'_>) -> bool {
         && ran.error.as_slice() == error.as_bytes()
 }
 
-/// The run of a job on one text under the first fixture's exclusions.
-fn run(alloc: Global, job: Command, form: Form, data: &str, input: &[u8]) -> Ran {
-    let mut data = Watched::new(data.as_bytes());
-    let mut exclusions = Watched::new(V1_EXCLUSIONS.as_bytes());
-    let mut input = Watched::new(input);
+/// The run of a job.
+fn run(alloc: Global, job: &Job<'_>) -> Ran {
     let mut output = Watched::new(Vec::new(alloc));
     let mut error = Watched::new(Vec::new(alloc));
-    let (data, exclusions, input) = (&mut data, &mut exclusions, &mut input);
-    let (written, told) = (&mut output, &mut error);
-    let status = match job {
-        Command::Key => key_job(alloc, form, data, exclusions, input, written, told),
-        Command::Normalize => normalize_job(alloc, form, data, exclusions, input, written, told),
-        Command::Compare => compare_job(alloc, form, data, exclusions, input, written, told),
-    };
+    let status = job_into(alloc, job, &mut output, &mut error);
     Ran {
         status,
         output: output.into_inner(),
@@ -55,173 +38,146 @@ fn run(alloc: Global, job: Command, form: Form, data: &str, input: &[u8]) -> Ran
     }
 }
 
-/// Runs over the first fixture: job, form and input, and the answer.
-fn are_answered(alloc: Global, rows: &[(Command, Form, &str, Answer<'_>)]) -> Result<(), Fail> {
-    for (job, form, input, answer) in rows {
-        let ran = run(alloc, *job, *form, V1_DATA, input.as_bytes());
-        want(is_answer(&ran, answer), input)?;
+/// Fails with these words unless the run of a job answers so.
+fn wants_answer(alloc: Global, job: &Job<'_>, answer: &Answer<'_>, what: &str) -> Result<(), Fail> {
+    let ran = run(alloc, job);
+    want(is_answer(&ran, answer), what)
+}
+
+/// A run over the first fixture: the form, the input and the answer.
+type Row = (Form, &'static str, Answer<'static>);
+
+fn are_answered(alloc: Global, command: Command, rows: &[Row]) -> Result<(), Fail> {
+    for (form, input, answer) in rows {
+        let job = Job::Text(command, *form, V1_DATA, input.as_bytes());
+        wants_answer(alloc, &job, answer, input)?;
     }
     Ok(())
 }
 
+const KEYS: [Row; 5] = [
+    (Form::Nfd, "a\u{302}\u{323}", (0, "a\u{323}\u{302}", "")),
+    (Form::Nfc, "a\u{302}\u{323}", (0, "\u{1EAD}", "")),
+    (Form::Nfd, "", (0, "", "")),
+    (
+        Form::Nfd,
+        "A\u{16D67}",
+        (3, "", "unassigned 16D67 at byte 1\n"),
+    ),
+    (
+        Form::Nfc,
+        "\u{FFFE}",
+        (3, "", "unassigned FFFE at byte 0\n"),
+    ),
+];
+
 #[test]
 fn key_answers_the_worked_examples(rt: HostRuntime) -> Result<(), Fail> {
-    let text = "a\u{302}\u{323}";
-    are_answered(
-        rt.alloc(),
-        &[
-            (Command::Key, Form::Nfd, text, (0, "a\u{323}\u{302}", "")),
-            (Command::Key, Form::Nfc, text, (0, "\u{1EAD}", "")),
-            (Command::Key, Form::Nfd, "", (0, "", "")),
-            (
-                Command::Key,
-                Form::Nfd,
-                "A\u{16D67}",
-                (3, "", "unassigned 16D67 at byte 1\n"),
-            ),
-            (
-                Command::Key,
-                Form::Nfc,
-                "\u{FFFE}",
-                (3, "", "unassigned FFFE at byte 0\n"),
-            ),
-        ],
-    )
+    are_answered(rt.alloc(), Command::Key, &KEYS)
 }
+
+const NORMALIZED: [Row; 2] = [
+    (Form::Nfd, "a\u{302}\u{323}", (0, "a\u{323}\u{302}", "")),
+    (Form::Nfc, "\u{16D6A}", (0, "\u{16D6A}", "")),
+];
 
 #[test]
 fn normalize_answers_the_worked_examples(rt: HostRuntime) -> Result<(), Fail> {
-    are_answered(
-        rt.alloc(),
-        &[
-            (
-                Command::Normalize,
-                Form::Nfd,
-                "a\u{302}\u{323}",
-                (0, "a\u{323}\u{302}", ""),
-            ),
-            (
-                Command::Normalize,
-                Form::Nfc,
-                "\u{16D6A}",
-                (0, "\u{16D6A}", ""),
-            ),
-        ],
-    )
+    are_answered(rt.alloc(), Command::Normalize, &NORMALIZED)
 }
+
+const COMPARED: [Row; 4] = [
+    (Form::Nfc, "\u{FB01}\nfi\n", (1, "different\n", "")),
+    (Form::Nfkc, "\u{FB01}\nfi\n", (0, "equal\n", "")),
+    (Form::Nfc, "a", (4, "", "input: two lines wanted\n")),
+    // a text and its prefix
+    (Form::Nfc, "Aa\nA\n", (1, "different\n", "")),
+];
 
 #[test]
 fn compare_answers_the_worked_examples(rt: HostRuntime) -> Result<(), Fail> {
-    let ligature = "\u{FB01}\nfi\n";
-    are_answered(
-        rt.alloc(),
-        &[
-            (
-                Command::Compare,
-                Form::Nfc,
-                ligature,
-                (1, "different\n", ""),
-            ),
-            (Command::Compare, Form::Nfkc, ligature, (0, "equal\n", "")),
-            (
-                Command::Compare,
-                Form::Nfc,
-                "a",
-                (4, "", "input: two lines wanted\n"),
-            ),
-            // a text and its prefix
-            (
-                Command::Compare,
-                Form::Nfc,
-                "Aa\nA\n",
-                (1, "different\n", ""),
-            ),
-        ],
-    )
+    are_answered(rt.alloc(), Command::Compare, &COMPARED)
 }
+
+const LINES_WITH_UNASSIGNED: [Row; 3] = [
+    // two equal strings
+    (
+        Form::Nfc,
+        "b\nb\n",
+        (3, "", "first: unassigned 0062 at byte 0\n"),
+    ),
+    (
+        Form::Nfc,
+        "a\nab\n",
+        (3, "", "second: unassigned 0062 at byte 1\n"),
+    ),
+    // a last line with CR
+    (
+        Form::Nfc,
+        "a\na\r",
+        (3, "", "second: unassigned 000D at byte 1\n"),
+    ),
+];
 
 #[test]
 fn compare_wants_assigned_lines(rt: HostRuntime) -> Result<(), Fail> {
-    are_answered(
-        rt.alloc(),
-        &[
-            // two equal strings
-            (
-                Command::Compare,
-                Form::Nfc,
-                "b\nb\n",
-                (3, "", "first: unassigned 0062 at byte 0\n"),
-            ),
-            (
-                Command::Compare,
-                Form::Nfc,
-                "a\nab\n",
-                (3, "", "second: unassigned 0062 at byte 1\n"),
-            ),
-            // a last line with CR
-            (
-                Command::Compare,
-                Form::Nfc,
-                "a\na\r",
-                (3, "", "second: unassigned 000D at byte 1\n"),
-            ),
-        ],
-    )
+    are_answered(rt.alloc(), Command::Compare, &LINES_WITH_UNASSIGNED)
 }
+
+/// Jobs, their answers, and what they show.
+type JobRow = (Job<'static>, Answer<'static>, &'static str);
+
+fn jobs_are_answered(alloc: Global, rows: &[JobRow]) -> Result<(), Fail> {
+    for (job, answer, what) in rows {
+        wants_answer(alloc, job, answer, what)?;
+    }
+    Ok(())
+}
+
+const BAD: [JobRow; 2] = [
+    (
+        Job::Text(Command::Key, Form::Nfc, V1_DATA, b"a\xff"),
+        (4, "", "input: not UTF-8 at byte 1\n"),
+        "invalid bytes",
+    ),
+    (
+        Job::Text(Command::Key, Form::Nfd, "0041;X;Lu;0;L;;;;N;;;;;\n", b"A"),
+        (4, "", "version 0 data: line 1: FieldCount\n"),
+        "a short record",
+    ),
+];
 
 #[test]
 fn bad_bytes_and_bad_files_are_told(rt: HostRuntime) -> Result<(), Fail> {
-    let invalid = (4, "", "input: not UTF-8 at byte 1\n");
-    let ran = run(
-        rt.alloc(),
-        Command::Key,
-        Form::Nfc,
-        V1_DATA,
-        b"a\xff".as_slice(),
-    );
-    want(is_answer(&ran, &invalid), "invalid bytes")?;
-    let short = "0041;X;Lu;0;L;;;;N;;;;;\n";
-    let faulty = (4, "", "version 0 data: line 1: FieldCount\n");
-    let ran = run(rt.alloc(), Command::Key, Form::Nfd, short, b"A".as_slice());
-    want(is_answer(&ran, &faulty), "a short record")
+    jobs_are_answered(rt.alloc(), &BAD)
 }
 
-/// The audit of two data files, each with the same exclusions.
-fn audit(alloc: Global, old: &str, new: &str) -> Ran {
-    let mut old_data = Watched::new(old.as_bytes());
-    let mut old_exclusions = Watched::new(V1_EXCLUSIONS.as_bytes());
-    let mut new_data = Watched::new(new.as_bytes());
-    let mut new_exclusions = Watched::new(V2_EXCLUSIONS.as_bytes());
-    let mut output = Watched::new(Vec::new(alloc));
-    let mut error = Watched::new(Vec::new(alloc));
-    let status = audit_job(
-        alloc,
-        &mut old_data,
-        &mut old_exclusions,
-        &mut new_data,
-        &mut new_exclusions,
-        &mut output,
-        &mut error,
-    );
-    Ran {
-        status,
-        output: output.into_inner(),
-        error: error.into_inner(),
-    }
-}
-
-fn is_audit(alloc: Global, old: &str, new: &str, answer: &Answer<'_>) -> bool {
-    is_answer(&audit(alloc, old, new), answer)
-}
+const AUDITS: [JobRow; 3] = [
+    (
+        Job::Audit((V1_DATA, V1_EXCLUSIONS), (V2_DATA, V2_EXCLUSIONS)),
+        (0, "extends\n", ""),
+        "V1, V2",
+    ),
+    (
+        Job::Audit((V2_DATA, V1_EXCLUSIONS), (V1_DATA, V2_EXCLUSIONS)),
+        (
+            1,
+            "Lost 1DFA\nLost 16D63\nLost 16D67\nLost 16D68\nLost 16D69\nLost 16D6A\n",
+            "",
+        ),
+        "V2, V1",
+    ),
+    (
+        Job::Audit(
+            (V1_DATA, V1_EXCLUSIONS),
+            ("41;X;Lu;0;L;;;;;N;;;;;\n", V2_EXCLUSIONS),
+        ),
+        (4, "", "version 1 data: line 1: BadCode\n"),
+        "V1, a bad file",
+    ),
+];
 
 #[test]
 fn audit_answers_the_worked_examples(rt: HostRuntime) -> Result<(), Fail> {
-    let alloc = rt.alloc();
-    let lost = "Lost 1DFA\nLost 16D63\nLost 16D67\nLost 16D68\nLost 16D69\nLost 16D6A\n";
-    let extends = (0, "extends\n", "");
-    want(is_audit(alloc, V1_DATA, V2_DATA, &extends), "V1, V2")?;
-    want(is_audit(alloc, V2_DATA, V1_DATA, &(1, lost, "")), "V2, V1")?;
-    let faulty = (4, "", "version 1 data: line 1: BadCode\n");
-    let short = "41;X;Lu;0;L;;;;;N;;;;;\n";
-    want(is_audit(alloc, V1_DATA, short, &faulty), "V1, a bad file")
+    jobs_are_answered(rt.alloc(), &AUDITS)
 }

@@ -1,4 +1,5 @@
 //! Devices that fail in mid-stream, and marks from before.
+use super::{Command, Job, job_into};
 use crate::common::want;
 use np_code_points::Form;
 use np_code_points::devices::{Failure, Room, Trickle};
@@ -136,18 +137,15 @@ fn marks_from_before_tell_nothing(rt: HostRuntime) -> Result<(), Fail> {
     )
 }
 
-/// `key` of a text of one code point, into these writers.
+/// `key` of a text, into these writers.
 fn key_into<O: Write, E: Write>(
     alloc: Global,
     text: &str,
     output: &mut Watched<O>,
     error: &mut Watched<E>,
 ) -> u8 {
-    let mut data = Watched::new(V1_DATA.as_bytes());
-    let mut exclusions = Watched::new(V1_EXCLUSIONS.as_bytes());
-    let mut input = Watched::new(text.as_bytes());
-    let (data, exclusions, input) = (&mut data, &mut exclusions, &mut input);
-    key_job(alloc, Form::Nfc, data, exclusions, input, output, error)
+    let key = Job::Text(Command::Key, Form::Nfc, V1_DATA, text.as_bytes());
+    job_into(alloc, &key, output, error)
 }
 
 /// Whether `key` of `text` into a writer whose last one of so many calls fails says so, and calls
@@ -163,23 +161,21 @@ fn output_fails(alloc: Global, text: &str, calls: u64, failure: Failure) -> Resu
     Ok(status == 5 && is_told && failed && output.into_inner().calls() == calls)
 }
 
+/// The text, the number of calls, how the last one fails, and what that shows.
+const OUTPUTS: [(&str, u64, Failure, &str); 5] = [
+    ("a", 1, Failure::Error, "write"),
+    ("a", 1, Failure::Interrupted, "interrupted write"),
+    ("a", 1, Failure::TakesNothing, "write of nothing"),
+    ("a", 2, Failure::Error, "flush"),
+    ("", 1, Failure::Error, "flush of nothing"),
+];
+
 #[test]
 fn a_failed_write_or_flush_is_told(rt: HostRuntime) -> Result<(), Fail> {
-    let alloc = rt.alloc();
-    want(output_fails(alloc, "a", 1, Failure::Error)?, "write")?;
-    want(
-        output_fails(alloc, "a", 1, Failure::Interrupted)?,
-        "interrupted write",
-    )?;
-    want(
-        output_fails(alloc, "a", 1, Failure::TakesNothing)?,
-        "write of nothing",
-    )?;
-    want(output_fails(alloc, "a", 2, Failure::Error)?, "flush")?;
-    want(
-        output_fails(alloc, "", 1, Failure::Error)?,
-        "flush of nothing",
-    )
+    for (text, calls, failure, what) in &OUTPUTS {
+        want(output_fails(rt.alloc(), text, *calls, *failure)?, what)?;
+    }
+    Ok(())
 }
 
 /// The mark of standard error after a job for which it bore one before.
@@ -259,19 +255,16 @@ fn audit_calls(alloc: Global, failing: usize) -> (u8, [u64; 4]) {
 fn audit_reads_the_old_version_first(rt: HostRuntime) -> Result<(), Fail> {
     let alloc = rt.alloc();
     let (rows, listed) = (whole(V1_DATA), whole(V1_EXCLUSIONS));
-    want(audit_calls(alloc, 0) == (5, [1, 0, 0, 0]), "old data")?;
-    want(
-        audit_calls(alloc, 1) == (5, [rows, 1, 0, 0]),
-        "old exclusions",
-    )?;
-    want(
-        audit_calls(alloc, 2) == (5, [rows, listed, 1, 0]),
-        "new data",
-    )?;
-    want(
-        audit_calls(alloc, 3) == (5, [rows, listed, rows, 1]),
-        "new exclusions",
-    )
+    let rows = [
+        (0, [1, 0, 0, 0], "old data"),
+        (1, [rows, 1, 0, 0], "old exclusions"),
+        (2, [rows, listed, 1, 0], "new data"),
+        (3, [rows, listed, rows, 1], "new exclusions"),
+    ];
+    for (failing, calls, what) in rows {
+        want(audit_calls(alloc, failing) == (5, calls), what)?;
+    }
+    Ok(())
 }
 
 /// The status of a replay over two versions, whose file of this number fails at its first read; 4

@@ -1,12 +1,11 @@
 //! What a node answers to strings.
 use super::{wants_kept, wants_known, wants_refused, wants_taken};
-use crate::common::{Made, table_of, want};
+use crate::common::{Example, Made, V1, V2, holds_over_each, table_of, want};
 use np_chain::{Break, BreakKind};
-use np_code_points::fixtures::{V1_DATA, V1_EXCLUSIONS, V2_DATA, V2_EXCLUSIONS};
 use np_code_points::told::want_told;
 use np_code_points::{Form, Memory};
 use np_node::{Accepted, Node, NodeFault, Taken};
-use np_tables::{NormTable, PageTable, RowTable};
+use np_tables::NormTable;
 use std::alloc::Global;
 use std::test::Fail;
 
@@ -105,23 +104,25 @@ fn wants_unlike<T: NormTable>(node: &Node<'_, T>) -> Result<(), Fail> {
     want(node.same(angstrom, "b").is_none(), "not kept")
 }
 
-fn kept_once_over<T: Made>(alloc: Global) -> Result<(), Fail> {
-    let table: T = table_of(alloc, V1_DATA, V1_EXCLUSIONS)?;
-    kept_once(alloc, &table)
-}
-
-#[test]
-fn strings_are_kept_once(rt: HostRuntime) -> Result<(), Fail> {
-    kept_once_over::<RowTable>(rt.alloc())?;
-    kept_once_over::<PageTable>(rt.alloc())
-}
-
 fn kept_once<T: NormTable>(alloc: Global, table: &T) -> Result<(), Fail> {
     empty_string(alloc, table)?;
     no_room(alloc, table)?;
     little_room(alloc, table)?;
     longest(alloc, table)?;
     unlike_strings(alloc, table)
+}
+
+/// A noncharacter is unassigned in each version, and a letter of private use is not.
+fn wants_private<T: NormTable>(node: &mut Node<'_, T>) -> Result<(), Fail> {
+    let none = NodeFault::Unassigned {
+        at: 0,
+        code: '\u{FFFE}',
+    };
+    wants_refused(node, "\u{FFFE}".as_bytes(), none, "a noncharacter")?;
+    want(
+        node.accept("\u{E000}".as_bytes()).is_ok(),
+        "a private letter",
+    )
 }
 
 fn lacking<T: NormTable>(alloc: Global, table: &T) -> Result<(), Fail> {
@@ -131,26 +132,7 @@ fn lacking<T: NormTable>(alloc: Global, table: &T) -> Result<(), Fail> {
         code: '\u{16D67}',
     };
     wants_refused(&mut node, "A\u{16D67}".as_bytes(), fault, "a later letter")?;
-    let none = NodeFault::Unassigned {
-        at: 0,
-        code: '\u{FFFE}',
-    };
-    wants_refused(&mut node, "\u{FFFE}".as_bytes(), none, "a noncharacter")?;
-    want(
-        node.accept("\u{E000}".as_bytes()).is_ok(),
-        "a private letter",
-    )
-}
-
-fn lacking_over<T: Made>(alloc: Global) -> Result<(), Fail> {
-    let table: T = table_of(alloc, V1_DATA, V1_EXCLUSIONS)?;
-    lacking(alloc, &table)
-}
-
-#[test]
-fn unassigned_code_points_are_refused(rt: HostRuntime) -> Result<(), Fail> {
-    lacking_over::<RowTable>(rt.alloc())?;
-    lacking_over::<PageTable>(rt.alloc())
+    wants_private(&mut node)
 }
 
 fn later_letter<T: NormTable>(alloc: Global, table: &T) -> Result<(), Fail> {
@@ -163,26 +145,7 @@ fn later_letter<T: NormTable>(alloc: Global, table: &T) -> Result<(), Fail> {
         node.entry(0) == Some(("A\u{16D67}", "A\u{16D67}")),
         "itself as key",
     )?;
-    let none = NodeFault::Unassigned {
-        at: 0,
-        code: '\u{FFFE}',
-    };
-    wants_refused(&mut node, "\u{FFFE}".as_bytes(), none, "a noncharacter")?;
-    want(
-        node.accept("\u{E000}".as_bytes()).is_ok(),
-        "a private letter",
-    )
-}
-
-fn later_letter_over<T: Made>(alloc: Global) -> Result<(), Fail> {
-    let table: T = table_of(alloc, V2_DATA, V2_EXCLUSIONS)?;
-    later_letter(alloc, &table)
-}
-
-#[test]
-fn later_letters_are_kept(rt: HostRuntime) -> Result<(), Fail> {
-    later_letter_over::<RowTable>(rt.alloc())?;
-    later_letter_over::<PageTable>(rt.alloc())
+    wants_private(&mut node)
 }
 
 /// A node goes on to a later version and to its own, and not back.
@@ -212,20 +175,47 @@ fn wants_upgrades<'t, T: NormTable>(
     )
 }
 
-fn upgrades_to<T: Made>(alloc: Global, first: &T) -> Result<(), Fail> {
-    let second: T = table_of(alloc, V2_DATA, V2_EXCLUSIONS)?;
-    upgrades(alloc, first, &second)
+/// What answers show.
+#[derive(Clone, Copy)]
+enum Shown {
+    KeptOnce,
+    Lacking,
+    LaterLetter,
+    Upgrades,
 }
 
-fn upgrades_to_over<T: Made>(alloc: Global) -> Result<(), Fail> {
-    let first: T = table_of(alloc, V1_DATA, V1_EXCLUSIONS)?;
-    upgrades_to(alloc, &first)
+impl Example for Shown {
+    fn holds<T: Made>(&self, alloc: Global, table: &T) -> Result<(), Fail> {
+        match self {
+            Shown::KeptOnce => kept_once(alloc, table),
+            Shown::Lacking => lacking(alloc, table),
+            Shown::LaterLetter => later_letter(alloc, table),
+            Shown::Upgrades => {
+                let second: T = table_of(alloc, V2)?;
+                upgrades(alloc, table, &second)
+            }
+        }
+    }
+}
+
+#[test]
+fn strings_are_kept_once(rt: HostRuntime) -> Result<(), Fail> {
+    holds_over_each(rt.alloc(), V1, &Shown::KeptOnce)
+}
+
+#[test]
+fn unassigned_code_points_are_refused(rt: HostRuntime) -> Result<(), Fail> {
+    holds_over_each(rt.alloc(), V1, &Shown::Lacking)
+}
+
+#[test]
+fn later_letters_are_kept(rt: HostRuntime) -> Result<(), Fail> {
+    holds_over_each(rt.alloc(), V2, &Shown::LaterLetter)
 }
 
 #[test]
 fn upgrades_go_forward_alone(rt: HostRuntime) -> Result<(), Fail> {
-    upgrades_to_over::<RowTable>(rt.alloc())?;
-    upgrades_to_over::<PageTable>(rt.alloc())
+    holds_over_each(rt.alloc(), V1, &Shown::Upgrades)
 }
 
 /// Each fault, and how it is told; a code point in four hex digits at least.

@@ -1,11 +1,10 @@
 //! Cut and forged images: each is refused by name at its place, or it is the image of the node that it gives.
 use super::forged_answers::{ANSWERS, IMAGE};
-use crate::common::{Made, table_of, want};
+use crate::common::{Example, Made, V1, holds_over_each, want};
 use np_code_points::codes::hex_value;
-use np_code_points::fixtures::{V1_DATA, V1_EXCLUSIONS};
 use np_code_points::{Form, Memory};
 use np_node::{ImageFault, Node, NodeFault};
-use np_tables::{NormTable, PageTable, RowTable};
+use np_tables::NormTable;
 use std::alloc::Global;
 use std::test::Fail;
 
@@ -95,22 +94,21 @@ fn wants_line<T: NormTable>(
     Ok(())
 }
 
-fn wants_lines<T: NormTable>(alloc: Global, table: &T) -> Result<(), Fail> {
-    let mut image = Vec::new(alloc);
-    push_bytes(&mut image, IMAGE)?;
-    for line in ANSWERS.lines() {
-        wants_line(alloc, table, &image, line)?;
-    }
-    Ok(())
-}
+/// What restoring answers to each changed image.
+struct Answers;
 
-fn wants_lines_over<T: Made>(alloc: Global) -> Result<(), Fail> {
-    let table: T = table_of(alloc, V1_DATA, V1_EXCLUSIONS)?;
-    wants_lines(alloc, &table)
+impl Example for Answers {
+    fn holds<T: Made>(&self, alloc: Global, table: &T) -> Result<(), Fail> {
+        let mut image = Vec::new(alloc);
+        push_bytes(&mut image, IMAGE)?;
+        for line in ANSWERS.lines() {
+            wants_line(alloc, table, &image, line)?;
+        }
+        Ok(())
+    }
 }
 
 #[test]
 fn each_cut_and_forged_image_is_told(rt: HostRuntime) -> Result<(), Fail> {
-    wants_lines_over::<RowTable>(rt.alloc())?;
-    wants_lines_over::<PageTable>(rt.alloc())
+    holds_over_each(rt.alloc(), V1, &Answers)
 }

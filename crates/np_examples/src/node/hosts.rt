@@ -1,9 +1,8 @@
 //! A host's loop: what it sends, saves and moves is its own affair.
-use crate::common::{Made, table_of, want};
+use crate::common::{Example, Made, V1, V2, holds_over_each, table_of, want};
 use np_code_points::Form;
-use np_code_points::fixtures::{V1_DATA, V1_EXCLUSIONS, V2_DATA, V2_EXCLUSIONS};
 use np_node::{Accepted, Node};
-use np_tables::{NormTable, PageTable, RowTable};
+use np_tables::NormTable;
 use std::alloc::Global;
 use std::test::Fail;
 
@@ -28,18 +27,17 @@ fn host<'t, T: NormTable>(alloc: Global, old: &'t T, new: &'t T) -> Result<(), F
     want(away.same("a\u{302}", "\u{E2}") == Some(true), "there too")
 }
 
-fn host_of<T: Made>(alloc: Global, old: &T) -> Result<(), Fail> {
-    let new: T = table_of(alloc, V2_DATA, V2_EXCLUSIONS)?;
-    host(alloc, old, &new)
-}
+/// The loop of a host.
+struct HostLoop;
 
-fn host_of_over<T: Made>(alloc: Global) -> Result<(), Fail> {
-    let old: T = table_of(alloc, V1_DATA, V1_EXCLUSIONS)?;
-    host_of(alloc, &old)
+impl Example for HostLoop {
+    fn holds<T: Made>(&self, alloc: Global, old: &T) -> Result<(), Fail> {
+        let new: T = table_of(alloc, V2)?;
+        host(alloc, old, &new)
+    }
 }
 
 #[test]
 fn nodes_of_unlike_versions_agree(rt: HostRuntime) -> Result<(), Fail> {
-    host_of_over::<RowTable>(rt.alloc())?;
-    host_of_over::<PageTable>(rt.alloc())
+    holds_over_each(rt.alloc(), V1, &HostLoop)
 }

@@ -1,11 +1,10 @@
 //! Images, and nodes restored from them.
-ghost use Rattle.std.specs.Prelude.{◌≤◌};
-
-use crate::common::{Made, table_of, want};
+use super::{NoImage, wants_no_node, wants_no_nodes};
+use crate::common::{Example, Made, V1, V2, holds_over_each, want};
 use np_code_points::Form;
-use np_code_points::fixtures::{V1_DATA, V1_EXCLUSIONS, V2_DATA, V2_EXCLUSIONS};
+use np_code_points::told::want_told;
 use np_node::{ImageFault, Node, NodeFault};
-use np_tables::{NormTable, PageTable, RowTable};
+use np_tables::NormTable;
 use std::alloc::Global;
 use std::test::Fail;
 
@@ -49,30 +48,6 @@ fn restored<T: NormTable>(alloc: Global, table: &T) -> Result<(), Fail> {
     want(image.as_slice() == IMAGE, "the same image")
 }
 
-/// Restoring is refused so.
-fn wants_fault<T: NormTable>(
-    alloc: Global,
-    table: &T,
-    room: u32,
-    image: &[u8],
-    wanted: ImageFault,
-    what: &str,
-) -> Result<(), Fail>
-    requires { room ≤ 65536 }
-{
-    match Node::restore(alloc, table, Form::Nfc, room, image) {
-        Ok(_) => Err(Fail::new(what)),
-        Err(fault) => want(fault == wanted, what),
-    }
-}
-
-fn malformed(at: usize) -> ImageFault {
-    ImageFault {
-        entry: None,
-        fault: NodeFault::Malformed { at },
-    }
-}
-
 fn cut<T: NormTable>(alloc: Global, table: &T) -> Result<(), Fail> {
     for length in 0..IMAGE.len() {
         let at = match length {
@@ -88,61 +63,81 @@ fn cut<T: NormTable>(alloc: Global, table: &T) -> Result<(), Fail> {
             29..=32 => 29,
             _ => 33,
         };
-        wants_fault(alloc, table, 4, &IMAGE[..length], malformed(at), "cut")?;
+        let wanted = ImageFault {
+            entry: None,
+            fault: NodeFault::Malformed { at },
+        };
+        wants_no_node(alloc, table, 4, &IMAGE[..length], wanted, "cut")?;
     }
-    wants_fault(
-        alloc,
-        table,
-        4,
-        b"NPS1C\xff\xff\xff\xff",
-        malformed(9),
-        "a great count",
-    )?;
-    wants_fault(alloc, table, 4, b"NPS1\0\0\0\0\0", malformed(4), "no form")
+    Ok(())
 }
 
-fn refused<T: NormTable>(alloc: Global, table: &T) -> Result<(), Fail> {
-    let full = ImageFault {
-        entry: None,
-        fault: NodeFault::Full,
-    };
-    wants_fault(alloc, table, 1, IMAGE, full, "too little room")?;
-    let other = ImageFault {
-        entry: None,
-        fault: NodeFault::OtherForm,
-    };
-    wants_fault(alloc, table, 4, b"NPS1D\0\0\0\0", other, "another form")?;
-    let twice = ImageFault {
-        entry: Some(1),
-        fault: NodeFault::Malformed { at: 19 },
-    };
-    wants_fault(alloc, table, 4, TWICE, twice, "one entry twice")?;
-    let text = format!(in alloc; "{twice}")?;
-    want(
-        text.as_str() == "entry 1: malformed at byte 19",
-        "its words",
-    )?;
-    let differs = ImageFault {
-        entry: Some(1),
-        fault: NodeFault::KeyDiffers,
-    };
-    wants_fault(alloc, table, 4, TWO_KEYS, differs, "another key")?;
-    let lacks = ImageFault {
-        entry: Some(0),
-        fault: NodeFault::Unassigned {
+/// Images that are refused for themselves.
+const REFUSED: [NoImage; 7] = [
+    (
+        b"NPS1C\xff\xff\xff\xff",
+        None,
+        NodeFault::Malformed { at: 9 },
+        "a great count",
+    ),
+    (
+        b"NPS1\0\0\0\0\0",
+        None,
+        NodeFault::Malformed { at: 4 },
+        "no form",
+    ),
+    (b"NPS1D\0\0\0\0", None, NodeFault::OtherForm, "another form"),
+    (
+        TWICE,
+        Some(1),
+        NodeFault::Malformed { at: 19 },
+        "one entry twice",
+    ),
+    (TWO_KEYS, Some(1), NodeFault::KeyDiffers, "another key"),
+    (
+        LATER,
+        Some(0),
+        NodeFault::Unassigned {
             at: 0,
             code: '\u{16D67}',
         },
-    };
-    wants_fault(alloc, table, 4, LATER, lacks, "a later letter")?;
-    let none = ImageFault {
-        entry: Some(0),
-        fault: NodeFault::Unassigned {
+        "a later letter",
+    ),
+    (
+        NONE,
+        Some(0),
+        NodeFault::Unassigned {
             at: 0,
             code: '\u{FFFE}',
         },
-    };
-    wants_fault(alloc, table, 4, NONE, none, "a noncharacter")
+        "a noncharacter",
+    ),
+];
+
+/// An image for which the room is too little.
+const TOO_LARGE: [NoImage; 1] = [(IMAGE, None, NodeFault::Full, "too little room")];
+
+/// Each place of a fault, and how it is told.
+const WORDS: [(ImageFault, &str); 2] = [
+    (
+        ImageFault {
+            entry: Some(1),
+            fault: NodeFault::Malformed { at: 19 },
+        },
+        "entry 1: malformed at byte 19",
+    ),
+    (
+        ImageFault {
+            entry: None,
+            fault: NodeFault::Full,
+        },
+        "full",
+    ),
+];
+
+fn refused<T: NormTable>(alloc: Global, table: &T) -> Result<(), Fail> {
+    wants_no_nodes(alloc, table, 1, &TOO_LARGE)?;
+    wants_no_nodes(alloc, table, 4, &REFUSED)
 }
 
 fn images<T: NormTable>(alloc: Global, table: &T) -> Result<(), Fail> {
@@ -152,24 +147,29 @@ fn images<T: NormTable>(alloc: Global, table: &T) -> Result<(), Fail> {
     refused(alloc, table)
 }
 
-fn images_over<T: Made>(alloc: Global) -> Result<(), Fail> {
-    let table: T = table_of(alloc, V1_DATA, V1_EXCLUSIONS)?;
-    images(alloc, &table)
+/// What images show.
+#[derive(Clone, Copy)]
+enum Shown {
+    Images,
+    Restored,
+}
+
+impl Example for Shown {
+    fn holds<T: Made>(&self, alloc: Global, table: &T) -> Result<(), Fail> {
+        match self {
+            Shown::Images => images(alloc, table),
+            Shown::Restored => restored(alloc, table),
+        }
+    }
 }
 
 #[test]
 fn an_image_is_read_whole_or_not_at_all(rt: HostRuntime) -> Result<(), Fail> {
-    images_over::<RowTable>(rt.alloc())?;
-    images_over::<PageTable>(rt.alloc())
-}
-
-fn restored_over<T: Made>(alloc: Global) -> Result<(), Fail> {
-    let table: T = table_of(alloc, V2_DATA, V2_EXCLUSIONS)?;
-    restored(alloc, &table)
+    want_told(rt.alloc(), &WORDS)?;
+    holds_over_each(rt.alloc(), V1, &Shown::Images)
 }
 
 #[test]
 fn a_later_version_takes_the_image(rt: HostRuntime) -> Result<(), Fail> {
-    restored_over::<RowTable>(rt.alloc())?;
-    restored_over::<PageTable>(rt.alloc())
+    holds_over_each(rt.alloc(), V2, &Shown::Restored)
 }

@@ -1,10 +1,9 @@
 //! What a node answers to messages.
-use super::wants_taken;
-use crate::common::{Made, table_of, want};
+use super::{Told, wants_all_taken, wants_taken};
+use crate::common::{Example, Made, V1, holds_over_each, want};
 use np_code_points::Form;
-use np_code_points::fixtures::{V1_DATA, V1_EXCLUSIONS};
 use np_node::{Accepted, Node, NodeFault, Taken};
-use np_tables::{NormTable, PageTable, RowTable};
+use np_tables::NormTable;
 use std::alloc::Global;
 use std::test::Fail;
 
@@ -20,18 +19,18 @@ const OTHER: &[u8] = b"D\0\0\0\x03a\xcc\x82\0\0\0\x02\xc3\xa2";
 /// The right message and one byte more.
 const MORE: &[u8] = b"C\0\0\0\x03a\xcc\x82\0\0\0\x02\xc3\xa2\0";
 
+/// What the node answers, one message behind the other.
+const KEYS: [Told; 5] = [
+    (FORGED, Err(NodeFault::KeyDiffers), "forged"),
+    (RIGHT, Ok(Taken::Kept), "right"),
+    (RIGHT, Ok(Taken::Known), "right again"),
+    (FORGED, Err(NodeFault::KeyDiffers), "forged again"),
+    (OTHER, Err(NodeFault::OtherForm), "another form"),
+];
+
 fn keys_are_checked<T: NormTable>(alloc: Global, table: &T) -> Result<(), Fail> {
     let mut node = Node::new(alloc, table, Form::Nfc, 4);
-    wants_taken(&mut node, FORGED, Err(NodeFault::KeyDiffers), "forged")?;
-    wants_taken(&mut node, RIGHT, Ok(Taken::Kept), "right")?;
-    wants_taken(&mut node, RIGHT, Ok(Taken::Known), "right again")?;
-    wants_taken(
-        &mut node,
-        FORGED,
-        Err(NodeFault::KeyDiffers),
-        "forged again",
-    )?;
-    wants_taken(&mut node, OTHER, Err(NodeFault::OtherForm), "another form")?;
+    wants_all_taken(&mut node, &KEYS)?;
     want(node.len() == 1, "one entry")?;
     want(
         node.entry(0) == Some(("a\u{302}", "\u{E2}")),
@@ -39,26 +38,42 @@ fn keys_are_checked<T: NormTable>(alloc: Global, table: &T) -> Result<(), Fail> 
     )
 }
 
-fn shapes_are_checked<T: NormTable>(alloc: Global, table: &T) -> Result<(), Fail> {
-    let mut node = Node::new(alloc, table, Form::Nfc, 4);
-    wants_taken(
-        &mut node,
-        MORE,
-        Err(NodeFault::Malformed { at: 14 }),
-        "a byte more",
-    )?;
-    wants_taken(
-        &mut node,
+/// Messages that an empty node refuses.
+const REFUSED: [Told; 6] = [
+    (MORE, Err(NodeFault::Malformed { at: 14 }), "a byte more"),
+    (
         b"C\xff\xff\xff\xff",
         Err(NodeFault::Malformed { at: 5 }),
         "a great length",
-    )?;
-    wants_taken(
-        &mut node,
+    ),
+    (
         b"\0\0\0\0\0\0\0\0\0",
         Err(NodeFault::Malformed { at: 0 }),
         "no form",
-    )?;
+    ),
+    (
+        b"C\0\0\0\x01\xff\0\0\0\0",
+        Err(NodeFault::NotUtf8 { at: 0 }),
+        "not UTF-8",
+    ),
+    (
+        b"C\0\0\0\x03\xef\xbf\xbe\0\0\0\x03\xef\xbf\xbe",
+        Err(NodeFault::Unassigned {
+            at: 0,
+            code: '\u{FFFE}',
+        }),
+        "unassigned",
+    ),
+    (
+        b"C\0\0\0\x01a\0\0\0\x01\xff",
+        Err(NodeFault::KeyDiffers),
+        "a key that is not UTF-8",
+    ),
+];
+
+fn messages_are_checked<T: NormTable>(alloc: Global, table: &T) -> Result<(), Fail> {
+    let mut node = Node::new(alloc, table, Form::Nfc, 4);
+    wants_all_taken(&mut node, &REFUSED)?;
     for length in 0..RIGHT.len() {
         let at = match length {
             0 => 0,
@@ -77,32 +92,6 @@ fn shapes_are_checked<T: NormTable>(alloc: Global, table: &T) -> Result<(), Fail
     want(node.is_empty(), "nothing is kept")
 }
 
-fn strings_are_checked<T: NormTable>(alloc: Global, table: &T) -> Result<(), Fail> {
-    let mut node = Node::new(alloc, table, Form::Nfc, 4);
-    let lacks = NodeFault::Unassigned {
-        at: 0,
-        code: '\u{FFFE}',
-    };
-    wants_taken(
-        &mut node,
-        b"C\0\0\0\x01\xff\0\0\0\0",
-        Err(NodeFault::NotUtf8 { at: 0 }),
-        "not UTF-8",
-    )?;
-    wants_taken(
-        &mut node,
-        b"C\0\0\0\x03\xef\xbf\xbe\0\0\0\x03\xef\xbf\xbe",
-        Err(lacks),
-        "unassigned",
-    )?;
-    wants_taken(
-        &mut node,
-        b"C\0\0\0\x01a\0\0\0\x01\xff",
-        Err(NodeFault::KeyDiffers),
-        "a key that is not UTF-8",
-    )
-}
-
 fn told_to_its_sender<T: NormTable>(alloc: Global, table: &T) -> Result<(), Fail> {
     let mut node = Node::new(alloc, table, Form::Nfc, 4);
     match node.accept("a\u{302}".as_bytes())? {
@@ -114,20 +103,18 @@ fn told_to_its_sender<T: NormTable>(alloc: Global, table: &T) -> Result<(), Fail
     }
 }
 
-fn checked<T: NormTable>(alloc: Global, table: &T) -> Result<(), Fail> {
-    keys_are_checked(alloc, table)?;
-    shapes_are_checked(alloc, table)?;
-    strings_are_checked(alloc, table)?;
-    told_to_its_sender(alloc, table)
-}
+/// What messages show.
+struct Messages;
 
-fn checked_over<T: Made>(alloc: Global) -> Result<(), Fail> {
-    let table: T = table_of(alloc, V1_DATA, V1_EXCLUSIONS)?;
-    checked(alloc, &table)
+impl Example for Messages {
+    fn holds<T: Made>(&self, alloc: Global, table: &T) -> Result<(), Fail> {
+        keys_are_checked(alloc, table)?;
+        messages_are_checked(alloc, table)?;
+        told_to_its_sender(alloc, table)
+    }
 }
 
 #[test]
 fn messages_are_never_trusted(rt: HostRuntime) -> Result<(), Fail> {
-    checked_over::<RowTable>(rt.alloc())?;
-    checked_over::<PageTable>(rt.alloc())
+    holds_over_each(rt.alloc(), V1, &Messages)
 }

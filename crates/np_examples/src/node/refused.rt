@@ -1,15 +1,14 @@
 //! A node whose call was refused for want of memory is as it was, and the same call succeeds after all; what is
-//! refused for itself takes no memory. Here there is plenty of it; `tests/refusals.py` runs each test once for
-//! each of its allocations, with that one refused, and counts those after which a call of the test's name was
-//! made again.
+//! refused for itself takes no memory.
 ghost use Rattle.std.specs.Prelude.{◌≤◌};
 
-use super::{wants_kept, wants_known, wants_refused, wants_taken};
-use crate::common::{Made, table_of, want};
+use super::{
+    NoImage, Told, wants_all_taken, wants_kept, wants_known, wants_no_nodes, wants_refused,
+};
+use crate::common::{Example, Made, V1, holds_over_each, want};
 use np_code_points::Form;
-use np_code_points::fixtures::{V1_DATA, V1_EXCLUSIONS};
 use np_node::{Accepted, Node, NodeFault, Taken};
-use np_tables::{NormTable, PageTable, RowTable};
+use np_tables::NormTable;
 use std::alloc::Global;
 use std::test::Fail;
 
@@ -112,40 +111,46 @@ const REFUSED: [(&[u8], NodeFault); 4] = [
 ];
 
 /// Messages to a node that keeps `A`, and its answers.
-const TOLD: [(&[u8], Result<Taken, NodeFault>); 6] = [
-    (b"C\xff\xff\xff\xff", Err(NodeFault::Malformed { at: 5 })),
-    (b"D\0\0\0\x01A\0\0\0\x01A", Err(NodeFault::OtherForm)),
+const TOLD: [Told; 6] = [
+    (
+        b"C\xff\xff\xff\xff",
+        Err(NodeFault::Malformed { at: 5 }),
+        "a great length",
+    ),
+    (
+        b"D\0\0\0\x01A\0\0\0\x01A",
+        Err(NodeFault::OtherForm),
+        "another form",
+    ),
     (
         b"C\0\0\0\x01\xff\0\0\0\0",
         Err(NodeFault::NotUtf8 { at: 0 }),
+        "a string that is not UTF-8",
     ),
     (
         b"C\0\0\0\x01b\0\0\0\x01b",
         Err(NodeFault::Unassigned { at: 0, code: 'b' }),
+        "an unassigned letter",
     ),
-    (b"C\0\0\0\x01A\0\0\0\x01a", Err(NodeFault::KeyDiffers)),
-    (b"C\0\0\0\x01A\0\0\0\x01A", Ok(Taken::Known)),
+    (
+        b"C\0\0\0\x01A\0\0\0\x01a",
+        Err(NodeFault::KeyDiffers),
+        "another key",
+    ),
+    (b"C\0\0\0\x01A\0\0\0\x01A", Ok(Taken::Known), "what is kept"),
 ];
 
-/// Images of no node of a room of one, and why they are refused.
-const NO_IMAGES: [(&[u8], NodeFault); 3] = [
-    (b"NPS1C\xff\xff\xff\xff", NodeFault::Malformed { at: 9 }),
-    (b"NPS1D\0\0\0\0", NodeFault::OtherForm),
-    (IMAGE, NodeFault::Full),
+/// Images of no node of a room of one.
+const NO_IMAGES: [NoImage; 3] = [
+    (
+        b"NPS1C\xff\xff\xff\xff",
+        None,
+        NodeFault::Malformed { at: 9 },
+        "a great count",
+    ),
+    (b"NPS1D\0\0\0\0", None, NodeFault::OtherForm, "another form"),
+    (IMAGE, None, NodeFault::Full, "too little room"),
 ];
-
-fn wants_no_node<T: NormTable>(
-    alloc: Global,
-    table: &T,
-    rows: &[(&[u8], NodeFault)],
-) -> Result<(), Fail> {
-    for (image, fault) in rows {
-        let told = Node::restore(alloc, table, Form::Nfc, 1, image).err();
-        let told = told.ok_or("no image")?;
-        want(told.entry.is_none() && told.fault == *fault, "an image")?;
-    }
-    Ok(())
-}
 
 /// What a full node refuses for itself, and what it knows: it has none of it refused for want of memory.
 fn refuses<T: NormTable>(alloc: Global, table: &T) -> Result<(), Fail> {
@@ -153,56 +158,45 @@ fn refuses<T: NormTable>(alloc: Global, table: &T) -> Result<(), Fail> {
     for (string, fault) in &REFUSED {
         wants_refused(&mut node, string, *fault, "a string")?;
     }
-    for (message, answer) in &TOLD {
-        wants_taken(&mut node, message, *answer, "a message")?;
-    }
+    wants_all_taken(&mut node, &TOLD)?;
     wants_known(&mut node, b"A", "what is kept")?;
     want(keeps_one(&node), "nothing changes")?;
-    wants_no_node(alloc, table, &NO_IMAGES)
+    wants_no_nodes(alloc, table, 1, &NO_IMAGES)
 }
 
-fn made_again<T: NormTable>(alloc: Global, table: &T, call: Call) -> Result<(), Fail> {
-    match call {
-        Call::Accept => accepts(alloc, table),
-        Call::Take => takes(alloc, table),
-        Call::Image => saves(alloc, table),
-        Call::Restore => restores(alloc, table),
-        Call::Refusals => refuses(alloc, table),
+impl Example for Call {
+    fn holds<T: Made>(&self, alloc: Global, table: &T) -> Result<(), Fail> {
+        match self {
+            Call::Accept => accepts(alloc, table),
+            Call::Take => takes(alloc, table),
+            Call::Image => saves(alloc, table),
+            Call::Restore => restores(alloc, table),
+            Call::Refusals => refuses(alloc, table),
+        }
     }
-}
-
-fn over<T: Made>(alloc: Global, call: Call) -> Result<(), Fail> {
-    let table: T = table_of(alloc, V1_DATA, V1_EXCLUSIONS)?;
-    made_again(alloc, &table, call)
-}
-
-/// The call over each table.
-fn succeeds(alloc: Global, call: Call) -> Result<(), Fail> {
-    over::<RowTable>(alloc, call)?;
-    over::<PageTable>(alloc, call)
 }
 
 #[test]
 fn a_refused_accept_succeeds_after_all(rt: HostRuntime) -> Result<(), Fail> {
-    succeeds(rt.alloc(), Call::Accept)
+    holds_over_each(rt.alloc(), V1, &Call::Accept)
 }
 
 #[test]
 fn a_refused_take_succeeds_after_all(rt: HostRuntime) -> Result<(), Fail> {
-    succeeds(rt.alloc(), Call::Take)
+    holds_over_each(rt.alloc(), V1, &Call::Take)
 }
 
 #[test]
 fn a_refused_image_succeeds_after_all(rt: HostRuntime) -> Result<(), Fail> {
-    succeeds(rt.alloc(), Call::Image)
+    holds_over_each(rt.alloc(), V1, &Call::Image)
 }
 
 #[test]
 fn a_refused_restore_succeeds_after_all(rt: HostRuntime) -> Result<(), Fail> {
-    succeeds(rt.alloc(), Call::Restore)
+    holds_over_each(rt.alloc(), V1, &Call::Restore)
 }
 
 #[test]
 fn a_refused_allocation_is_none_of_a_refusal(rt: HostRuntime) -> Result<(), Fail> {
-    succeeds(rt.alloc(), Call::Refusals)
+    holds_over_each(rt.alloc(), V1, &Call::Refusals)
 }

@@ -1,9 +1,6 @@
 //! The plain table and the table of pages beside each other.
 use super::LAST;
-use crate::common::{Made, table_of, want};
-use np_code_points::fixtures::{
-    S_DATA, S_EXCLUSIONS, V1_DATA, V1_EXCLUSIONS, V2_DATA, V2_EXCLUSIONS,
-};
+use crate::common::{Files, S, V1, V2, table_of, want};
 use np_code_points::hangul::is_syllable;
 use np_tables::{NormTable, PageTable, RowTable};
 use std::alloc::Global;
@@ -102,26 +99,20 @@ fn answer_alike<T: NormTable, U: NormTable>(one: &T, two: &U) -> Result<(), Fail
     Ok(())
 }
 
-fn answers_like<T: Made, U: NormTable>(
-    alloc: Global,
-    other: &U,
-    data: &str,
-    listed: &str,
-) -> Result<(), Fail> {
-    let table: T = table_of(alloc, data, listed)?;
+fn answers_like<U: NormTable>(alloc: Global, files: Files<'_>, other: &U) -> Result<(), Fail> {
+    let table: RowTable = table_of(alloc, files)?;
     answer_alike(&table, other)
 }
 
-fn alike_over<T: Made, U: Made>(alloc: Global, data: &str, listed: &str) -> Result<(), Fail> {
-    let table: U = table_of(alloc, data, listed)?;
-    answers_like::<T, U>(alloc, &table, data, listed)
+fn alike_over(alloc: Global, files: Files<'_>) -> Result<(), Fail> {
+    let table: PageTable = table_of(alloc, files)?;
+    answers_like(alloc, files, &table)
 }
 
 #[test]
 fn both_tables_answer_alike_for_every_code_point(rt: HostRuntime) -> Result<(), Fail> {
-    let alloc = rt.alloc();
-    alike_over::<RowTable, PageTable>(alloc, V1_DATA, V1_EXCLUSIONS)?;
-    alike_over::<RowTable, PageTable>(alloc, V2_DATA, V2_EXCLUSIONS)?;
-    alike_over::<RowTable, PageTable>(alloc, S_DATA, S_EXCLUSIONS)?;
-    alike_over::<RowTable, PageTable>(alloc, LAST, "")
+    for files in [V1, V2, S, (LAST, "")] {
+        alike_over(rt.alloc(), files)?;
+    }
+    Ok(())
 }

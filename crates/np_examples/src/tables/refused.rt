@@ -1,31 +1,30 @@
-//! Versions and tables that were refused for want of memory, and are made of the same files after all. Here
-//! there is plenty of memory; `tests/refusals.py` runs each test once for each of its allocations, with that one
-//! refused, and counts those after which a call of the test's name was made again.
-use crate::common::want;
+//! Versions and tables that were refused for want of memory, and are made of the same files after all.
+use crate::common::{Made, V1, table_of, version_of, want};
 use np_code_points::Memory;
 use np_code_points::fixtures::{V1_DATA, V1_EXCLUSIONS};
 use np_code_points::watched::Watched;
 use np_tables::{NormTable, PageTable, RowTable, TableFault, Version};
-use np_ucd::{Exclusions, Rows, read_exclusions, read_rows};
+use np_ucd::{read_exclusions, read_rows};
 use std::alloc::Global;
 use std::test::Fail;
 
-fn rows(alloc: Global) -> Result<Rows, Fail> {
-    Ok(read_rows(alloc, &mut Watched::new(V1_DATA.as_bytes()))?)
+/// What a table has for the worked examples.
+fn answers<T: NormTable>(table: &T) -> Result<(), Fail> {
+    let pair = table.pair('\u{61}', '\u{323}');
+    want(pair == Some('\u{1EA1}'), "a pair")?;
+    let full = table.full('\u{1EAD}', false);
+    want(
+        full == ['\u{61}', '\u{323}', '\u{302}'].as_slice(),
+        "a full decomposition",
+    )
 }
 
-fn exclusions(alloc: Global) -> Result<Exclusions, Fail> {
-    Ok(read_exclusions(alloc, &mut Watched::new(V1_EXCLUSIONS.as_bytes()))?)
-}
-
-fn version(alloc: Global) -> Result<Version, Fail> {
-    Ok(Version::build(alloc, rows(alloc)?, exclusions(alloc)?)?)
-}
-
-/// The version, of its files read anew where memory was refused.
+/// The version, of its files read anew where memory was refused to the first one.
 fn version_again(alloc: Global) -> Result<Version, Fail> {
-    match Version::build(alloc, rows(alloc)?, exclusions(alloc)?) {
-        Err(TableFault::Memory) => version(alloc),
+    let rows = read_rows(alloc, &mut Watched::new(V1_DATA.as_bytes()))?;
+    let exclusions = read_exclusions(alloc, &mut Watched::new(V1_EXCLUSIONS.as_bytes()))?;
+    match Version::build(alloc, rows, exclusions) {
+        Err(TableFault::Memory) => version_of(alloc, V1),
         answer => Ok(answer?),
     }
 }
@@ -39,39 +38,25 @@ fn a_refused_build_succeeds_after_all(rt: HostRuntime) -> Result<(), Fail> {
     want(count_again(rt.alloc())? == 17_660, "its code points")
 }
 
-/// What a table has for the worked examples.
-fn answers<T: NormTable>(table: &T) -> Result<(), Fail> {
-    let pair = table.pair('\u{61}', '\u{323}');
-    want(pair == Some('\u{1EA1}'), "a pair")?;
-    let full = table.full('\u{1EAD}', false);
-    want(
-        full == ['\u{61}', '\u{323}', '\u{302}'].as_slice(),
-        "a full decomposition",
-    )
-}
-
-fn row_table_again(alloc: Global) -> Result<RowTable, Fail> {
-    match RowTable::new(alloc, version(alloc)?) {
-        Err(Memory) => Ok(RowTable::new(alloc, version(alloc)?)?),
+/// The table, of its files read anew where memory was refused to the first one.
+fn table_again<T: Made>(alloc: Global) -> Result<T, Fail> {
+    match T::of(alloc, version_of(alloc, V1)?) {
+        Err(Memory) => table_of(alloc, V1),
         Ok(table) => Ok(table),
     }
+}
+
+fn answers_again<T: Made>(alloc: Global) -> Result<(), Fail> {
+    let table: T = table_again(alloc)?;
+    answers(&table)
 }
 
 #[test]
 fn a_refused_row_table_succeeds_after_all(rt: HostRuntime) -> Result<(), Fail> {
-    let table = row_table_again(rt.alloc())?;
-    answers(&table)
-}
-
-fn page_table_again(alloc: Global) -> Result<PageTable, Fail> {
-    match PageTable::new(alloc, version(alloc)?) {
-        Err(Memory) => Ok(PageTable::new(alloc, version(alloc)?)?),
-        Ok(table) => Ok(table),
-    }
+    answers_again::<RowTable>(rt.alloc())
 }
 
 #[test]
 fn a_refused_page_table_succeeds_after_all(rt: HostRuntime) -> Result<(), Fail> {
-    let table = page_table_again(rt.alloc())?;
-    answers(&table)
+    answers_again::<PageTable>(rt.alloc())
 }

@@ -1,10 +1,9 @@
 //! Both tables over the fixtures.
 use super::LAST;
-use crate::common::{Made, table_of, want};
+use crate::common::{Example, Files, Made, S, V1, holds_over_each, table_of, want};
 use np_code_points::Form;
 use np_code_points::codes::write_code;
-use np_code_points::fixtures::{S_DATA, S_EXCLUSIONS, V1_DATA, V1_EXCLUSIONS};
-use np_tables::{NormTable, PageTable, RowTable};
+use np_tables::{NormTable, PageTable};
 use std::alloc::Global;
 use std::test::Fail;
 
@@ -66,17 +65,6 @@ fn answers_by_its_version<T: NormTable>(table: &T) -> Result<(), Fail> {
     has_fulls(table, &FULLS)
 }
 
-fn first_over<T: Made>(alloc: Global) -> Result<(), Fail> {
-    let table: T = table_of(alloc, V1_DATA, V1_EXCLUSIONS)?;
-    answers_by_its_version(&table)
-}
-
-#[test]
-fn tables_answer_by_their_version(rt: HostRuntime) -> Result<(), Fail> {
-    first_over::<RowTable>(rt.alloc())?;
-    first_over::<PageTable>(rt.alloc())
-}
-
 fn answers_the_last<T: NormTable>(table: &T) -> Result<(), Fail> {
     want(table.version().count() == 2, "two are assigned")?;
     want(table.assigned('\u{10FFFF}'), "the last is assigned")?;
@@ -86,17 +74,6 @@ fn answers_the_last<T: NormTable>(table: &T) -> Result<(), Fail> {
         table.full('\u{10FFFF}', true) == ['a'].as_slice(),
         "and its mapping",
     )
-}
-
-fn last_over<T: Made>(alloc: Global) -> Result<(), Fail> {
-    let table: T = table_of(alloc, LAST, "")?;
-    answers_the_last(&table)
-}
-
-#[test]
-fn the_last_code_point_is_one_like_others(rt: HostRuntime) -> Result<(), Fail> {
-    last_over::<RowTable>(rt.alloc())?;
-    last_over::<PageTable>(rt.alloc())
 }
 
 const MANY: u32 = 70_000;
@@ -123,32 +100,50 @@ fn answers_many<T: NormTable>(table: &T) -> Result<(), Fail> {
     want(!table.assigned('\u{31170}'), "none is behind it")
 }
 
-fn many_over<T: Made>(alloc: Global, data: &str) -> Result<(), Fail> {
-    let table: T = table_of(alloc, data, "")?;
-    answers_many(&table)
-}
-
-#[test]
-fn many_rows_have_memory(rt: HostRuntime) -> Result<(), Fail> {
-    let data = many_rows(rt.alloc())?;
-    many_over::<RowTable>(rt.alloc(), data.as_str())?;
-    many_over::<PageTable>(rt.alloc(), data.as_str())
-}
-
 fn answers_no_syllables<T: NormTable>(off: &T) -> Result<(), Fail> {
     want(!off.hangul(), "no arithmetic")?;
     want(off.pair('\u{1100}', '\u{1161}').is_none(), "no pair")
 }
 
-fn no_syllables_over<T: Made>(alloc: Global) -> Result<(), Fail> {
-    let off: T = table_of(alloc, S_DATA, S_EXCLUSIONS)?;
-    answers_no_syllables(&off)
+/// What both tables show.
+#[derive(Clone, Copy)]
+enum Shown {
+    First,
+    Last,
+    Many,
+    NoSyllables,
+}
+
+impl Example for Shown {
+    fn holds<T: Made>(&self, _alloc: Global, table: &T) -> Result<(), Fail> {
+        match self {
+            Shown::First => answers_by_its_version(table),
+            Shown::Last => answers_the_last(table),
+            Shown::Many => answers_many(table),
+            Shown::NoSyllables => answers_no_syllables(table),
+        }
+    }
+}
+
+#[test]
+fn tables_answer_by_their_version(rt: HostRuntime) -> Result<(), Fail> {
+    holds_over_each(rt.alloc(), V1, &Shown::First)
+}
+
+#[test]
+fn the_last_code_point_is_one_like_others(rt: HostRuntime) -> Result<(), Fail> {
+    holds_over_each(rt.alloc(), (LAST, ""), &Shown::Last)
+}
+
+#[test]
+fn many_rows_have_memory(rt: HostRuntime) -> Result<(), Fail> {
+    let data = many_rows(rt.alloc())?;
+    holds_over_each(rt.alloc(), (data.as_str(), ""), &Shown::Many)
 }
 
 #[test]
 fn no_syllable_goes_by_arithmetic_where_the_jamo_lack(rt: HostRuntime) -> Result<(), Fail> {
-    no_syllables_over::<RowTable>(rt.alloc())?;
-    no_syllables_over::<PageTable>(rt.alloc())
+    holds_over_each(rt.alloc(), S, &Shown::NoSyllables)
 }
 
 // How many bytes at the front of a text stand in a form as they are: composites and syllables come
@@ -187,7 +182,8 @@ const STANDING: [(Form, &str, usize); 24] = [
 ];
 
 // Pointed Hebrew: a letter, three points, and three presentation forms, which are excluded.
-const HEBREW: &str = "\
+const HEBREW: Files = (
+    "\
 05B7;X;Mn;17;R;;;;;N;;;;;
 05BC;X;Mn;21;R;;;;;N;;;;;
 05C1;X;Mn;24;R;;;;;N;;;;;
@@ -195,9 +191,9 @@ const HEBREW: &str = "\
 FB2A;X;Lo;0;R;05E9 05C1;;;;N;;;;;
 FB2C;X;Lo;0;R;FB49 05C1;;;;N;;;;;
 FB49;X;Lo;0;R;05E9 05BC;;;;N;;;;;
-";
-
-const HEBREW_LISTED: &str = "FB2A\nFB2C\nFB49\n";
+",
+    "FB2A\nFB2C\nFB49\n",
+);
 
 // The same of pointed Hebrew.
 const HEBREW_STANDING: [(Form, &str, usize); 5] = [
@@ -244,12 +240,12 @@ fn tells_what_forms_leave(table: &PageTable) -> Result<(), Fail> {
 
 #[test]
 fn forms_leave_what_stands_and_part_before_starters(rt: HostRuntime) -> Result<(), Fail> {
-    let table: PageTable = table_of(rt.alloc(), V1_DATA, V1_EXCLUSIONS)?;
+    let table: PageTable = table_of(rt.alloc(), V1)?;
     tells_what_forms_leave(&table)
 }
 
 #[test]
 fn points_stand_in_their_canonical_order(rt: HostRuntime) -> Result<(), Fail> {
-    let table: PageTable = table_of(rt.alloc(), HEBREW, HEBREW_LISTED)?;
+    let table: PageTable = table_of(rt.alloc(), HEBREW)?;
     tells_what_stands(&table, &HEBREW_STANDING)
 }

@@ -4,6 +4,7 @@ use crate::common::want;
 use np_code_points::fixtures::{
     S_DATA, S_EXCLUSIONS, V1_DATA, V1_EXCLUSIONS, V2_DATA, V2_EXCLUSIONS,
 };
+use np_code_points::told::want_told;
 use np_tables::{TableFault, Version};
 use np_ucd::MapKind;
 use std::alloc::{AllocError, Global};
@@ -127,26 +128,31 @@ fn wants_fault_of_edit(
     wants_fault(alloc, data.as_str(), V1_EXCLUSIONS, wanted)
 }
 
-#[test]
-fn faults_are_told(rt: HostRuntime) -> Result<(), Fail> {
-    wants_fault_of_edit(
-        rt.alloc(),
+/// A line of the first fixture, what stands in its place, and the fault.
+const EDITED: [(&str, &str, TableFault); 3] = [
+    (
         "030A;X;Mn;230;L;;;;;N;;;;;",
         "",
         TableFault::MapsToUnassigned { code: 0xC5 },
-    )?;
-    wants_fault_of_edit(
-        rt.alloc(),
+    ),
+    (
         "0041;X;Lu;0;L;;;;;N;;;;;",
         "0041;X;Lu;0;L;0041;;;;N;;;;;\n",
         TableFault::TooDeep { code: 0x41 },
-    )?;
-    wants_fault_of_edit(
-        rt.alloc(),
+    ),
+    (
         "00C5;X;Lu;0;L;0041 030A;;;;N;;;;;",
         "00C4;X;Lu;0;L;0041 030A;;;;N;;;;;\n00C5;X;Lu;0;L;0041 030A;;;;N;;;;;\n",
         TableFault::AmbiguousPair { code: 0xC5 },
-    )
+    ),
+];
+
+#[test]
+fn faults_are_told(rt: HostRuntime) -> Result<(), Fail> {
+    for (line, lines, fault) in &EDITED {
+        wants_fault_of_edit(rt.alloc(), line, lines, *fault)?;
+    }
+    Ok(())
 }
 
 #[test]
@@ -181,23 +187,22 @@ fn a_long_decomposition_is_told(rt: HostRuntime) -> Result<(), Fail> {
     wants_count(rt.alloc(), shorter.as_str(), "", 3)
 }
 
-/// Fails unless the fault is told in these words.
-fn wants_words(alloc: Global, fault: TableFault, words: &str) -> Result<(), Fail> {
-    let told = format!(in alloc; "{fault}")?;
-    want(told.as_str() == words, words)
-}
+/// Faults, and how they are told.
+const TOLD: [(TableFault, &str); 3] = [
+    (
+        TableFault::TooDeep { code: 0x41 },
+        "0041 has mappings that lead deeper than 32, or in a circle",
+    ),
+    (
+        TableFault::AmbiguousPair { code: 0x16D69 },
+        "16D69 has the pair of a smaller primary composite",
+    ),
+    (TableFault::Memory, "out of memory"),
+];
 
 #[test]
 fn faults_are_told_in_words(rt: HostRuntime) -> Result<(), Fail> {
-    let deep = "0041 has mappings that lead deeper than 32, or in a circle";
-    wants_words(rt.alloc(), TableFault::TooDeep { code: 0x41 }, deep)?;
-    let twin = "16D69 has the pair of a smaller primary composite";
-    wants_words(
-        rt.alloc(),
-        TableFault::AmbiguousPair { code: 0x16D69 },
-        twin,
-    )?;
-    wants_words(rt.alloc(), TableFault::Memory, "out of memory")
+    want_told(rt.alloc(), &TOLD)
 }
 
 #[test]

@@ -1,10 +1,9 @@
 //! Calls that were refused for want of memory: what they were lent is as it was, and the same call succeeds
-//! after all. Here there is plenty of memory; `tests/refusals.py` runs each test once for each of its
-//! allocations, with that one refused, and counts those after which a call of the test's name was made again.
+//! after all.
 ghost use Rattle.std.specs.Prelude.{◌≡◌, IfOk, length};
 
-use super::{V1, V2, tables_of};
-use crate::common::want;
+use crate::common::{V1, V2, tables_of, want};
+use crate::refused::again_where;
 use np_chain::Chain;
 use np_code_points::{Form, Memory};
 use np_tables::RowTable;
@@ -30,10 +29,11 @@ fn schedule_of(
 ) -> Result<Schedule, ScheduleFault>
     ensures { IfOk result (λ schedule. schedule.versions ≡ versions) }
 {
-    match read_schedule(alloc, script.as_bytes(), versions) {
-        Err(ScheduleFault::Memory) if again => read_schedule(alloc, script.as_bytes(), versions),
-        answer => answer,
-    }
+    again_where(
+        again,
+        &ScheduleFault::Memory,
+        &|| { read_schedule(alloc, script.as_bytes(), versions) },
+    )
 }
 
 /// Its report, likewise.
@@ -45,18 +45,16 @@ fn report_of<'t>(
 ) -> Result<Report<'t, RowTable>, Memory>
     requires { schedule.now.versions ≡ length chain.now }
 {
-    match replay(alloc, chain, Form::Nfc, schedule) {
-        Err(Memory) if again => replay(alloc, chain, Form::Nfc, schedule),
-        answer => answer,
-    }
+    again_where(
+        again,
+        &Memory,
+        &|| { replay(alloc, chain, Form::Nfc, schedule) },
+    )
 }
 
 /// The report's text, likewise.
 fn text_of(alloc: Global, report: &Report<'_, RowTable>, again: bool) -> Result<String, Memory> {
-    match report_text(alloc, report) {
-        Err(Memory) if again => report_text(alloc, report),
-        answer => answer,
-    }
+    again_where(again, &Memory, &|| report_text(alloc, report))
 }
 
 fn reports(

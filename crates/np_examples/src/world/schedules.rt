@@ -1,5 +1,7 @@
 //! Worked examples of schedules, and of lines that can't stand.
+use crate::common::want;
 use np_code_points::Memory;
+use np_code_points::told::want_told;
 use np_world::{ScheduleFault, read_schedule};
 use std::alloc::Global;
 use std::test::Fail;
@@ -16,9 +18,7 @@ fn faulty_line(alloc: Global, text: &str) -> Result<Option<u64>, Fail> {
 /// Each text has this faulty line.
 fn want_faults(alloc: Global, rows: &[(&str, u64)]) -> Result<(), Fail> {
     for (text, line) in rows {
-        if faulty_line(alloc, text)? != Some(*line) {
-            return Err(Fail::new(text));
-        }
+        want(faulty_line(alloc, text)? == Some(*line), text)?;
     }
     Ok(())
 }
@@ -26,58 +26,56 @@ fn want_faults(alloc: Global, rows: &[(&str, u64)]) -> Result<(), Fail> {
 /// Each text is a schedule.
 fn want_schedules(alloc: Global, texts: &[&str]) -> Result<(), Fail> {
     for text in texts {
-        if faulty_line(alloc, text)?.is_some() {
-            return Err(Fail::new(text));
-        }
+        want(faulty_line(alloc, text)?.is_none(), text)?;
     }
     Ok(())
 }
 
+/// Beginnings that can't stand, and their faulty lines.
+const BEGINNINGS: [(&str, u64); 13] = [
+    ("", 1),
+    ("# no line of data\n\n", 3),
+    ("room 4\n", 2),
+    ("room 4", 2),
+    ("room 4\n\n# and nothing", 4),
+    ("room 70000\n", 1),
+    ("room 65537\nnodes 0\n", 1),
+    ("room\nnodes 0\n", 1),
+    ("room 4 4\nnodes 0\n", 1),
+    ("nodes 0\nroom 4\n", 1),
+    ("room 4\nnodes\n", 2),
+    ("room 4\nnodes 2\n", 2),
+    ("room 4\nsave 0\n", 2),
+];
+
 #[test]
 fn a_schedule_begins_with_its_room_and_its_nodes(rt: HostRuntime) -> Result<(), Fail> {
-    want_faults(
-        rt.alloc(),
-        &[
-            ("", 1),
-            ("# no line of data\n\n", 3),
-            ("room 4\n", 2),
-            ("room 4", 2),
-            ("room 4\n\n# and nothing", 4),
-            ("room 70000\n", 1),
-            ("room 65537\nnodes 0\n", 1),
-            ("room\nnodes 0\n", 1),
-            ("room 4 4\nnodes 0\n", 1),
-            ("nodes 0\nroom 4\n", 1),
-            ("room 4\nnodes\n", 2),
-            ("room 4\nnodes 2\n", 2),
-            ("room 4\nsave 0\n", 2),
-        ],
-    )
+    want_faults(rt.alloc(), &BEGINNINGS)
 }
+
+/// Lines behind the beginning that are no events.
+const NO_EVENTS: [(&str, u64); 16] = [
+    ("room 4\nnodes 0\nask 0 0061\n", 3),
+    ("room 4\nnodes 0\nask 0 0061 / 0061 / 0061\n", 3),
+    ("room 4\nnodes 0\naccept 0 D800\n", 3),
+    ("room 4\nnodes 0\naccept 0 061\n", 3),
+    ("room 4\nnodes 0\naccept 0 0061 /\n", 3),
+    ("room 4\nnodes 0\naccept 0 0061 0061,\n", 3),
+    ("room 4\nnodes 0\nask 0 0061/0062\n", 3),
+    ("room 4\nnodes 0\naccept 1 0061\n", 3),
+    ("room 4\nnodes 0\ndeliver 0 1234567890\n", 3),
+    ("room 4\nnodes 0\nforge 0 abc\n", 3),
+    ("room 4\nnodes 0\nforge 0 ab cd\n", 3),
+    ("room 4\nnodes 0\nforge 0 0g\n", 3),
+    ("room 4\nnodes 0\nsave 0 0\n", 3),
+    ("room 4\nnodes 0\nSave 0\n", 3),
+    ("room 4\nnodes 0\nnodes 0\n", 3),
+    ("room 4\nnodes 0\nsave 0\nsave 1\nsave 2\n", 4),
+];
 
 #[test]
 fn the_third_line_is_named_where_it_is_no_event(rt: HostRuntime) -> Result<(), Fail> {
-    want_faults(
-        rt.alloc(),
-        &[
-            ("room 4\nnodes 0\nask 0 0061\n", 3),
-            ("room 4\nnodes 0\nask 0 0061 / 0061 / 0061\n", 3),
-            ("room 4\nnodes 0\naccept 0 D800\n", 3),
-            ("room 4\nnodes 0\naccept 0 061\n", 3),
-            ("room 4\nnodes 0\naccept 0 0061 /\n", 3),
-            ("room 4\nnodes 0\naccept 0 0061 0061,\n", 3),
-            ("room 4\nnodes 0\nask 0 0061/0062\n", 3),
-            ("room 4\nnodes 0\naccept 1 0061\n", 3),
-            ("room 4\nnodes 0\ndeliver 0 1234567890\n", 3),
-            ("room 4\nnodes 0\nforge 0 abc\n", 3),
-            ("room 4\nnodes 0\nforge 0 ab cd\n", 3),
-            ("room 4\nnodes 0\nforge 0 0g\n", 3),
-            ("room 4\nnodes 0\nsave 0 0\n", 3),
-            ("room 4\nnodes 0\nSave 0\n", 3),
-            ("room 4\nnodes 0\nnodes 0\n", 3),
-            ("room 4\nnodes 0\nsave 0\nsave 1\nsave 2\n", 4),
-        ],
-    )
+    want_faults(rt.alloc(), &NO_EVENTS)
 }
 
 #[test]
@@ -88,18 +86,18 @@ fn comments_blank_lines_and_carriage_returns_are_passed_over(rt: HostRuntime) ->
     )
 }
 
+/// Texts that are schedules.
+const SCHEDULES: [&str; 5] = [
+    "room 4\nnodes 0",
+    "room 0\r\nnodes 0\t1\r\n",
+    " room\t65536 \nnodes 0 1\n\taccept  0\t0061 \n",
+    "room 000000004\nnodes 000000001\ndeliver 0 999999999\n",
+    "room 4\nnodes 0\naccept 0\nask 0 /\nask 0 0061 /\nforge 0\nforge 0 aBcD\n",
+];
+
 #[test]
 fn words_stand_apart_by_blanks(rt: HostRuntime) -> Result<(), Fail> {
-    want_schedules(
-        rt.alloc(),
-        &[
-            "room 4\nnodes 0",
-            "room 0\r\nnodes 0\t1\r\n",
-            " room\t65536 \nnodes 0 1\n\taccept  0\t0061 \n",
-            "room 000000004\nnodes 000000001\ndeliver 0 999999999\n",
-            "room 4\nnodes 0\naccept 0\nask 0 /\nask 0 0061 /\nforge 0\nforge 0 aBcD\n",
-        ],
-    )
+    want_schedules(rt.alloc(), &SCHEDULES)
 }
 
 /// Whether a schedule of so many nodes stands; its faulty line where it doesn't.
@@ -120,23 +118,20 @@ fn with_nodes(alloc: Global, count: usize) -> Result<String, Memory> {
 
 #[test]
 fn nodes_are_64_at_most(rt: HostRuntime) -> Result<(), Fail> {
-    if line_of_nodes(rt.alloc(), 64)?.is_some() {
-        return Err(Fail::new("64 nodes"));
-    }
-    if line_of_nodes(rt.alloc(), 65)? != Some(2) {
-        return Err(Fail::new("65 nodes"));
-    }
-    Ok(())
+    want(line_of_nodes(rt.alloc(), 64)?.is_none(), "64 nodes")?;
+    want(line_of_nodes(rt.alloc(), 65)? == Some(2), "65 nodes")
 }
+
+/// Each fault, and how it is told.
+const TOLD: [(ScheduleFault, &str); 2] = [
+    (
+        ScheduleFault::Line { line: 12 },
+        "line 12: not what stands there in a schedule",
+    ),
+    (ScheduleFault::Memory, "out of memory"),
+];
 
 #[test]
 fn a_fault_is_told_in_words(rt: HostRuntime) -> Result<(), Fail> {
-    let told = format!(in rt.alloc(); "{}", ScheduleFault::Line { line: 12 })?;
-    assert_eq!(rt;
-        told.as_str(),
-        "line 12: not what stands there in a schedule"
-    );
-    let told = format!(in rt.alloc(); "{}", ScheduleFault::Memory)?;
-    assert_eq!(rt; told.as_str(), "out of memory");
-    Ok(())
+    want_told(rt.alloc(), &TOLD)
 }

@@ -21,132 +21,131 @@ fn read(alloc: Global, text: &str) -> Result<String, AllocError> {
     }
 }
 
-#[test]
-fn reads_words_that_name_a_job(rt: HostRuntime) -> Result<(), Fail> {
-    let alloc = rt.alloc();
-    let table = [
-        ("", "Help"),
-        (
-            "key --form nfd D E",
-            r#"Key { form: Nfd, files: VersionFiles { data_file: "D", exclusions_file: "E" } }"#,
-        ),
-        (
-            "key --form nfc D E",
-            r#"Key { form: Nfc, files: VersionFiles { data_file: "D", exclusions_file: "E" } }"#,
-        ),
-        (
-            "key --form nfkd D E",
-            r#"Key { form: Nfkd, files: VersionFiles { data_file: "D", exclusions_file: "E" } }"#,
-        ),
-        (
-            "key --form nfkc D E",
-            r#"Key { form: Nfkc, files: VersionFiles { data_file: "D", exclusions_file: "E" } }"#,
-        ),
-        (
-            "key --form=nfc D E",
-            r#"Key { form: Nfc, files: VersionFiles { data_file: "D", exclusions_file: "E" } }"#,
-        ),
-        (
-            "key D E --form nfd",
-            r#"Key { form: Nfd, files: VersionFiles { data_file: "D", exclusions_file: "E" } }"#,
-        ),
-        (
-            "key D --form nfd E",
-            r#"Key { form: Nfd, files: VersionFiles { data_file: "D", exclusions_file: "E" } }"#,
-        ),
-        (
-            "key --form nfc -- -D E",
-            r#"Key { form: Nfc, files: VersionFiles { data_file: "-D", exclusions_file: "E" } }"#,
-        ),
-        (
-            "normalize --form nfkc D E",
-            r#"Normalize { form: Nfkc, files: VersionFiles { data_file: "D", exclusions_file: "E" } }"#,
-        ),
-        (
-            "compare --form nfd D E",
-            r#"Compare { form: Nfd, files: VersionFiles { data_file: "D", exclusions_file: "E" } }"#,
-        ),
-        (
-            "audit A B C D",
-            r#"Audit { old: VersionFiles { data_file: "A", exclusions_file: "B" }, new: VersionFiles { data_file: "C", exclusions_file: "D" } }"#,
-        ),
-        (
-            "audit -- A B C -D",
-            r#"Audit { old: VersionFiles { data_file: "A", exclusions_file: "B" }, new: VersionFiles { data_file: "C", exclusions_file: "-D" } }"#,
-        ),
-    ];
-    for (text, want) in table {
-        assert_eq!(rt; read(alloc, text)?.as_str(), want, "at {text}");
+/// Fails unless each row's words, divided by spaces, are read as it says.
+fn are_read(alloc: Global, rows: &[(&str, &str)]) -> Result<(), Fail> {
+    for (text, wanted) in rows {
+        if read(alloc, text)?.as_str() != *wanted {
+            return Err(Fail::new(text));
+        }
     }
     Ok(())
 }
+
+const NFD_KEY: &str =
+    r#"Key { form: Nfd, files: VersionFiles { data_file: "D", exclusions_file: "E" } }"#;
+
+const NFC_KEY: &str =
+    r#"Key { form: Nfc, files: VersionFiles { data_file: "D", exclusions_file: "E" } }"#;
+
+/// Words that name a job, and the job.
+const JOBS: [(&str, &str); 13] = [
+    ("", "Help"),
+    ("key --form nfd D E", NFD_KEY),
+    ("key --form nfc D E", NFC_KEY),
+    (
+        "key --form nfkd D E",
+        r#"Key { form: Nfkd, files: VersionFiles { data_file: "D", exclusions_file: "E" } }"#,
+    ),
+    (
+        "key --form nfkc D E",
+        r#"Key { form: Nfkc, files: VersionFiles { data_file: "D", exclusions_file: "E" } }"#,
+    ),
+    ("key --form=nfc D E", NFC_KEY),
+    ("key D E --form nfd", NFD_KEY),
+    ("key D --form nfd E", NFD_KEY),
+    (
+        "key --form nfc -- -D E",
+        r#"Key { form: Nfc, files: VersionFiles { data_file: "-D", exclusions_file: "E" } }"#,
+    ),
+    (
+        "normalize --form nfkc D E",
+        r#"Normalize { form: Nfkc, files: VersionFiles { data_file: "D", exclusions_file: "E" } }"#,
+    ),
+    (
+        "compare --form nfd D E",
+        r#"Compare { form: Nfd, files: VersionFiles { data_file: "D", exclusions_file: "E" } }"#,
+    ),
+    (
+        "audit A B C D",
+        r#"Audit { old: VersionFiles { data_file: "A", exclusions_file: "B" }, new: VersionFiles { data_file: "C", exclusions_file: "D" } }"#,
+    ),
+    (
+        "audit -- A B C -D",
+        r#"Audit { old: VersionFiles { data_file: "A", exclusions_file: "B" }, new: VersionFiles { data_file: "C", exclusions_file: "-D" } }"#,
+    ),
+];
+
+#[test]
+fn reads_words_that_name_a_job(rt: HostRuntime) -> Result<(), Fail> {
+    are_read(rt.alloc(), &JOBS)
+}
+
+const NFC_REPLAY: &str =
+    r#"Replay { form: Nfc, schedule_file: "S", version_files: [VersionFiles { data_file: "D", exclusions_file: "E" }] }"#;
+
+/// Words that name a replay, and the replay.
+const REPLAYS: [(&str, &str); 7] = [
+    ("replay --form nfc S D E", NFC_REPLAY),
+    ("replay --form=nfc S D E", NFC_REPLAY),
+    ("replay S D E --form nfc", NFC_REPLAY),
+    ("replay S --form nfc D E", NFC_REPLAY),
+    ("replay S D --form nfc E", NFC_REPLAY),
+    ("replay --form nfc -- S D E", NFC_REPLAY),
+    (
+        "replay --form nfkd S D E F -- -G",
+        r#"Replay { form: Nfkd, schedule_file: "S", version_files: [VersionFiles { data_file: "D", exclusions_file: "E" }, VersionFiles { data_file: "F", exclusions_file: "-G" }] }"#,
+    ),
+];
 
 #[test]
 fn reads_words_that_name_a_replay(rt: HostRuntime) -> Result<(), Fail> {
-    let alloc = rt.alloc();
-    let one =
-        r#"Replay { form: Nfc, schedule_file: "S", version_files: [VersionFiles { data_file: "D", exclusions_file: "E" }] }"#;
-    let table = [
-        ("replay --form nfc S D E", one),
-        ("replay --form=nfc S D E", one),
-        ("replay S D E --form nfc", one),
-        ("replay S --form nfc D E", one),
-        ("replay S D --form nfc E", one),
-        ("replay --form nfc -- S D E", one),
-        (
-            "replay --form nfkd S D E F -- -G",
-            r#"Replay { form: Nfkd, schedule_file: "S", version_files: [VersionFiles { data_file: "D", exclusions_file: "E" }, VersionFiles { data_file: "F", exclusions_file: "-G" }] }"#,
-        ),
-    ];
-    for (text, want) in table {
-        assert_eq!(rt; read(alloc, text)?.as_str(), want, "at {text}");
-    }
-    Ok(())
+    are_read(rt.alloc(), &REPLAYS)
 }
+
+/// Words that name no job.
+const OTHERS: [&str; 36] = [
+    "--help",
+    "-h",
+    "--version",
+    "help",
+    "help key",
+    "key --help",
+    "key --form nfc --help D E",
+    "nothing",
+    "Key --form nfc D E",
+    "--",
+    "--form nfc key D E",
+    "key --form nfx D E",
+    "key --form NFC D E",
+    "key --form= D E",
+    "key D E",
+    "key --form nfc --form nfc D E",
+    "key --form nfc",
+    "key --form nfc D",
+    "key --form nfc D E F",
+    "key --form nfc --unknown D E",
+    "compare --form nfc D",
+    "normalize D E",
+    "audit A B C",
+    "audit A B C D E",
+    "audit --form nfc A B C D",
+    "replay --form nfc",
+    "replay --form nfc S",
+    "replay --form nfc S D",
+    "replay --form nfc S D E F",
+    "replay S D E",
+    "replay --form nfx S D E",
+    "replay --form nfc --form nfd S D E",
+    "replay --form nfc -D S D E",
+    "replay --help",
+    "replay --form nfc --help S D E",
+    "help replay",
+];
 
 #[test]
 fn refuses_every_other_word(rt: HostRuntime) -> Result<(), Fail> {
-    let alloc = rt.alloc();
-    let table = [
-        "--help",
-        "-h",
-        "--version",
-        "help",
-        "help key",
-        "key --help",
-        "key --form nfc --help D E",
-        "nothing",
-        "Key --form nfc D E",
-        "--",
-        "--form nfc key D E",
-        "key --form nfx D E",
-        "key --form NFC D E",
-        "key --form= D E",
-        "key D E",
-        "key --form nfc --form nfc D E",
-        "key --form nfc",
-        "key --form nfc D",
-        "key --form nfc D E F",
-        "key --form nfc --unknown D E",
-        "compare --form nfc D",
-        "normalize D E",
-        "audit A B C",
-        "audit A B C D E",
-        "audit --form nfc A B C D",
-        "replay --form nfc",
-        "replay --form nfc S",
-        "replay --form nfc S D",
-        "replay --form nfc S D E F",
-        "replay S D E",
-        "replay --form nfx S D E",
-        "replay --form nfc --form nfd S D E",
-        "replay --form nfc -D S D E",
-        "replay --help",
-        "replay --form nfc --help S D E",
-        "help replay",
-    ];
-    for text in table {
-        assert_eq!(rt; read(alloc, text)?.as_str(), "Usage", "at {text}");
+    for text in &OTHERS {
+        are_read(rt.alloc(), &[(text, "Usage")])?;
     }
     Ok(())
 }
