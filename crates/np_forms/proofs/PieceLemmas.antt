@@ -91,9 +91,6 @@ pub record ArePassed (whole other left right : List ℕ) : Type 0 where
   pub whole_is : whole ≡ passed ++ left
   pub other_is : other ≡ passed ++ right
 
-pub ArePassed-start : (whole other left right : List ℕ) → left ≡ whole → right ≡ other → ArePassed whole other left right
-ArePassed-start whole other left right e f = record { passed = []; whole_is = sym e; other_is = sym f }
-
 pub ArePassed-next : {whole other left right : List ℕ} (front before later after : List ℕ) → ArePassed whole other left right → left ≡ front ++ later → right ≡ before ++ after → front ≡ before → ArePassed whole other later after
 ArePassed-next front before later after p e f same =
     record {

@@ -25,10 +25,6 @@ use Rattle.np_tables.proofs.CompositeLemmas.{cases_Option, composite-starter}
 use Rattle.np_forms.proofs.FormLemmas.{IsNormalForm-normal_form, normal_form_is}
 use Rattle.np_forms.proofs.KeptLemmas.{is_ordered-decomposed, all_final, decomposed-final, decomposed-composed, decomposed-normal_form}
 
-pub list_all-front : (p : ℕ → Bool) (xs ys : List ℕ) → list_all p (xs ++ ys) ≡ true → list_all p xs ≡ true
-list_all-front p [] ys h = refl
-list_all-front p (x ∷ xs) ys h = let halves = and_parts (p x) (list_all p (xs ++ ys)) h in and_from _ _ halves.0 (list_all-front p xs ys halves.1)
-
 pub list_all-back : (p : ℕ → Bool) (xs ys : List ℕ) → list_all p (xs ++ ys) ≡ true → list_all p ys ≡ true
 list_all-back p [] ys h = h
 list_all-back p (x ∷ xs) ys h = list_all-back p xs ys (and_parts (p x) (list_all p (xs ++ ys)) h).1
