@@ -1,4 +1,3 @@
-use Rattle.std.proofs.Common.{arith}
 use Rattle.std.proofs.lemmas.Simd.{length-chunk}
 use lib.Lanes.{chunk}
 use Rattle.np_tables.proofs.AsciiLemmas.{first_other, no_others, others_mask}
