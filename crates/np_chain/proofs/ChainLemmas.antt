@@ -78,10 +78,6 @@ sound-more [] k w each here sound = cc
 sound-more (x ∷ xs) zero w each here sound = let same : w ≡ x = cc in All-cons IsSound x [] (subst IsSound same sound) (All-nil IsSound)
 sound-more (x ∷ xs) (suc k) w each here sound = All-cons IsSound x (take (suc k) xs) (each 0 x (omega arith)) (sound-more xs k w (later x (take k xs) each) here sound)
 
-pub first-chain : (vs : List VersionData) (v : VersionData) → slice_get vs 0 ≡ Some v → IsSound v → IsSoundChain (take 1 vs)
-first-chain [] v here sound = cc
-first-chain (x ∷ xs) v here sound = let same : v ≡ x = cc in record { chain = tt; sound = All-cons IsSound x [] (subst IsSound same sound) (All-nil IsSound) }
-
 pub more-chain : (vs : List VersionData) (at : ℕ) (v w : VersionData) → 1 ≤ at → IsSoundChain (take at vs) → slice_get vs (at - 1) ≡ Some v → slice_get vs at ≡ Some w → IsSound w → Extends v w → IsSoundChain (take (at + 1) vs)
 more-chain vs zero v w le is here next sound ext = absurd (omega arith)
 more-chain vs (suc k) v w le is here next sound ext =
@@ -92,15 +88,6 @@ more-chain vs (suc k) v w le is here next sound ext =
       chain = chain-more vs k v w is.chain (sym (ap (slice_get vs) before) ∙ here) next ext;
       sound = sound-more vs (suc k) w is.sound next sound;
     })
-
-take-whole : (vs : List VersionData) (n : ℕ) → length vs ≤ n → take n vs ≡ vs
-take-whole [] zero le = refl
-take-whole [] (suc n) le = refl
-take-whole (v ∷ vs) zero le = absurd (omega arith)
-take-whole (v ∷ vs) (suc n) le = ap (λ l. v ∷ l) (take-whole vs n (omega arith))
-
-pub whole-chain : (vs : List VersionData) (n : ℕ) → length vs ≤ n → IsSoundChain (take n vs) → IsSoundChain vs
-whole-chain vs n le is = subst IsSoundChain (take-whole vs n le) is
 
 -- a chain has no place that breaks it
 pub broken-refutes : (vs : List VersionData) (at : ℕ) (brk : Break) → IsFirstBroken vs at brk → IsChain vs → ⊥

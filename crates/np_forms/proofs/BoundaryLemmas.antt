@@ -114,14 +114,10 @@ module _ (v : VersionData) (sound : IsSound v) where
       ap (ended v (composes form)) (decomposed-one (is_compat form) c at.first at.rest (full_of-boundary v form c sound at) at.starter stays.rises)
       ∙ ended-folds (composes form) at.first at.rest c at.starter stays.returns
 
-  -- before what stays, or another boundary, what was written stands; a code point that stays is copied
+  -- before what stays, or another boundary, what was written stands
   pub normal_form-parts : (form : Form) (xs : List ℕ) (c : ℕ) (ys : List ℕ) → IsBoundary v form c → normal_form v form (xs ++ c ∷ ys) ≡ normal_form v form xs ++ normal_form v form (c ∷ ys)
   normal_form-parts form xs c ys at =
       normal_form-boundary v form xs c at.first at.rest ys (full_of-boundary v form c sound at) at.starter (λ on. composite-never v at.first (at.apart on))
-
-  pub normal_form-copies : (form : Form) (c d : ℕ) (ys : List ℕ) → Stays v form c → IsBoundary v form d → normal_form v form (c ∷ d ∷ ys) ≡ c ∷ normal_form v form (d ∷ ys)
-  normal_form-copies form c d ys stays at =
-      normal_form-parts form (c ∷ []) d ys at ∙ ap (λ l. l ++ normal_form v form (d ∷ ys)) (normal_form-stays form c stays)
 
 pub staying : Staying
 staying v form c sound stays =

@@ -2,7 +2,6 @@
 use Rattle.std.proofs.Common.{◌≡◌, ℕ, ◌<◌, ◌≤◌, Bool, true, false, List, [], ◌∷◌, ◌++◌, length, IsUtf8, chars, encode_utf8_all, flat_map, refl, sym, ap, subst, ◌∙◌, arith, append_assoc, append-nil}
 use Rattle.std.proofs.lemmas.Grind.{flat_map-append}
 use Rattle.std.proofs.lemmas.Str.{chars-append, encodes-chars}
-use Rattle.std.proofs.lemmas.List.{nil_from_length}
 use Rattle.std.specs.List.{list_all}
 use Rattle.np_code_points.specs.Forms.{is_compat, composes}
 use Rattle.np_code_points.specs.declared.forms.Form.{Form}
@@ -195,8 +194,3 @@ Writes-text a b c d w x y z u v form text head body middle tail sound version sa
     (Writes-parted a b c d w x y z u v form (chars head) (chars middle) start.first start.rest sound version same first brk made
     (subst (Writes c d z u) start.split last) (boundary-front v form (chars middle) (start.first ∷ start.rest) (subst (BeginsAtBoundary v form) body_is at_body))
     (subst (BeginsAtBoundary v form) start.split at_tail))
-
--- where there is no boundary
-pub Writes-head : (a b : StreamState) (w x text head body : List ℕ) → text ≡ head ++ body → length body ≡ 0 → Writes a b w x (chars head) → Writes a b w x (chars text)
-Writes-head a b w x text head body parts none first =
-    subst (λ l. Writes a b w x (chars l)) (sym (parts ∙ ap (λ l. head ++ l) (nil_from_length body none) ∙ append-nil head)) first

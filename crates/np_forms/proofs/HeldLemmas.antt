@@ -12,7 +12,7 @@ use Rattle.np_tables.specs.inside.FullDecompositions.{full_of}
 use Rattle.np_tables.proofs.MappingLemmas.{list_all-append, IsFullDecomposition-flat_map, full_decomposition-flat_map}
 use Rattle.np_forms.specs.Forms.{IsNormalForm}
 use Rattle.np_forms.specs.Starters.{is_non_starter}
-use Rattle.np_forms.specs.Streams.{IsCutAtLastStarter, IsOrderedAndComposed, IsStreaming}
+use Rattle.np_forms.specs.Streams.{IsCutAtLastStarter, IsOrderedAndComposed, IsStreaming, TakesIn}
 use Rattle.np_forms.specs.inside.CanonicalOrder.{canonical_order}
 use Rattle.np_forms.specs.inside.Composing.{compose}
 use Rattle.np_forms.specs.inside.Held.{Shape, no_starter, starter, IsHeld, Advances}
@@ -55,32 +55,26 @@ module _ (v : VersionData) (sound : IsSound v) where
       subst (λ l. IsHeld v e l out (pending ++ m ∷ ms)) (append_assoc ds (m ∷ []) ms)
       (subst (λ l. IsHeld v e ((ds ++ m ∷ []) ++ ms) out l) (append_assoc pending (m ∷ []) ms) next)
 
-  -- a starter takes the place of what was held back, which is ready
-  pub held_flush : (e : Bool) (ds out pending : List ℕ) (d : ℕ) → class_of v d ≤ 0 → IsHeld v e ds out pending → ((zs : List ℕ) → ended v e (canonical_order (class_of v) (pending ++ d ∷ zs)) ≡ ended v e (canonical_order (class_of v) pending) ++ ended v e (canonical_order (class_of v) (d ∷ zs))) → IsHeld v e (ds ++ d ∷ []) (out ++ ended v e (canonical_order (class_of v) pending)) (d ∷ [])
-  held_flush e ds out pending d low h parts =
+  -- a starter alone is held back
+  held_alone : (e : Bool) (ds out pending later : List ℕ) (d p : ℕ) → class_of v p ≤ 0 → IsHeld v e ds out pending → ((zs : List ℕ) → out ++ ended v e (canonical_order (class_of v) (pending ++ d ∷ zs)) ≡ later ++ ended v e (canonical_order (class_of v) (p ∷ zs))) → IsHeld v e (ds ++ d ∷ []) later (p ∷ [])
+  held_alone e ds out pending later d p low h goes =
       record {
         front = ds ++ d ∷ [];
         non_starters = [];
         split = sym (append-nil (ds ++ d ∷ []));
         all = refl;
-        shape = starter _ d [] low;
-        goes_on = λ zs.
-            ap (λ l. ended v e (canonical_order (class_of v) l)) (append_assoc ds (d ∷ []) zs) ∙ h.goes_on (d ∷ zs)
-            ∙ ap (λ l. out ++ l) (parts zs) ∙ sym (append_assoc out _ _);
+        shape = starter later p [] low;
+        goes_on = λ zs. ap (λ l. ended v e (canonical_order (class_of v) l)) (append_assoc ds (d ∷ []) zs) ∙ h.goes_on (d ∷ zs) ∙ goes zs;
       }
+
+  -- it takes the place of what was held back, which is ready
+  pub held_flush : (e : Bool) (ds out pending : List ℕ) (d : ℕ) → class_of v d ≤ 0 → IsHeld v e ds out pending → ((zs : List ℕ) → ended v e (canonical_order (class_of v) (pending ++ d ∷ zs)) ≡ ended v e (canonical_order (class_of v) pending) ++ ended v e (canonical_order (class_of v) (d ∷ zs))) → IsHeld v e (ds ++ d ∷ []) (out ++ ended v e (canonical_order (class_of v) pending)) (d ∷ [])
+  held_flush e ds out pending d low h parts =
+      held_alone e ds out pending (out ++ ended v e (canonical_order (class_of v) pending)) d d low h (λ zs. ap (λ l. out ++ l) (parts zs) ∙ sym (append_assoc out _ _))
 
   -- or goes into the starter that was held back alone
   pub held_join : (e : Bool) (ds out pending : List ℕ) (d p : ℕ) → class_of v p ≤ 0 → IsHeld v e ds out pending → ((zs : List ℕ) → ended v e (canonical_order (class_of v) (pending ++ d ∷ zs)) ≡ ended v e (canonical_order (class_of v) (p ∷ zs))) → IsHeld v e (ds ++ d ∷ []) out (p ∷ [])
-  held_join e ds out pending d p low h joins =
-      record {
-        front = ds ++ d ∷ [];
-        non_starters = [];
-        split = sym (append-nil (ds ++ d ∷ []));
-        all = refl;
-        shape = starter out p [] low;
-        goes_on = λ zs.
-            ap (λ l. ended v e (canonical_order (class_of v) l)) (append_assoc ds (d ∷ []) zs) ∙ h.goes_on (d ∷ zs) ∙ ap (λ l. out ++ l) (joins zs);
-      }
+  held_join e ds out pending d p low h joins = held_alone e ds out pending out d p low h (λ zs. ap (λ l. out ++ l) (joins zs))
 
   pub Advances-start : (e : Bool) (ready pending : List ℕ) → Advances v e [] ready pending ready pending
   Advances-start e ready pending =
@@ -125,7 +119,7 @@ module _ (v : VersionData) (sound : IsSound v) where
 
   starter_ended : (e : Bool) (s : ℕ) (ms : List ℕ) → class_of v s ≤ 0 → list_all (is_non_starter v) ms ≡ true → IsLastRun v sound (ended v e (canonical_order (class_of v) (s ∷ ms)))
   starter_ended false s ms low h =
-      record { head = s; non_starters = canonical_order (class_of v) ms; split = order_starter v sound s ms low; starter = omega arith; all = list_all-canonical_order (class_of v) (is_non_starter v) ms h }
+      record { s = s; ms = canonical_order (class_of v) ms; split = order_starter v sound s ms low; starter = omega arith; non_starters = list_all-canonical_order (class_of v) (is_non_starter v) ms h }
   starter_ended true s ms low h =
       let sorted = list_all-canonical_order (class_of v) (is_non_starter v) ms h in
       let e = compose_of_is v sound _ ∙ composed_starter v sound s ms low in
@@ -140,7 +134,7 @@ module _ (v : VersionData) (sound : IsSound v) where
   cut_held e out ms pending all (no_starter ns) =
       inr (record { nothing = refl; non_starters = ap (list_all (is_non_starter v)) (non_starters_ended e ns all) ∙ list_all-canonical_order (class_of v) (is_non_starter v) ns all })
   cut_held e out ms pending all (starter before s ns low) =
-      let r = starter_ended e s ns low all in inl (record { s = r.head; ms = r.non_starters; split = r.split; starter = r.starter; non_starters = r.all })
+      let r = starter_ended e s ns low all in inl (record { s = r.s; ms = r.ms; split = r.split; starter = r.starter; non_starters = r.non_starters })
 
   -- ---- the relation of the definitions
 
@@ -209,8 +203,8 @@ module _ (v : VersionData) (sound : IsSound v) where
   IsStreaming-start form = IsStreaming-held form [] [] [] (held_start (composes form))
 
   -- what one more code point of the text does
-  pub Advances-streams : (form : Form) (compat e : Bool) (c : ℕ) (parts ready pending ready_after pending_after : List ℕ) → compat ≡ is_compat form → e ≡ composes form → parts ≡ full_of v compat c → (a : Advances v e parts ready pending ready_after pending_after) → (fed out : List ℕ) → IsStreaming v form fed out pending → IsStreaming v form (fed ++ c ∷ []) (out ++ a.more) pending_after
-  Advances-streams form compat e c parts ready pending ready_after pending_after kind comp of_c a fed out s =
+  streams_on : (form : Form) (compat e : Bool) (c : ℕ) (parts ready pending ready_after pending_after : List ℕ) → compat ≡ is_compat form → e ≡ composes form → parts ≡ full_of v compat c → (a : Advances v e parts ready pending ready_after pending_after) → (fed out : List ℕ) → IsStreaming v form fed out pending → IsStreaming v form (fed ++ c ∷ []) (out ++ a.more) pending_after
+  streams_on form compat e c parts ready pending ready_after pending_after kind comp of_c a fed out s =
       let each = full_of v (is_compat form) in
       let h = subst (λ b. IsHeld v b (flat_map each fed) out pending) (sym comp) (held_streaming form fed out pending s) in
       let later = a.carries (flat_map each fed) out h in
@@ -218,6 +212,17 @@ module _ (v : VersionData) (sound : IsSound v) where
       ap (λ l. flat_map each fed ++ l) (of_c ∙ ap (λ b. full_of v b c) kind ∙ sym (append-nil (each c))) ∙ sym (flat_map-append each fed (c ∷ [])) in
       IsStreaming-held form (fed ++ c ∷ []) (out ++ a.more) pending_after
       (subst (λ l. IsHeld v (composes form) l (out ++ a.more) pending_after) more (subst (λ b. IsHeld v b (flat_map each fed ++ parts) (out ++ a.more) pending_after) comp later))
+
+  pub TakesIn-advances : (form : Form) (c : ℕ) {compat e : Bool} {parts ready pending ready_after pending_after : List ℕ} → compat ≡ is_compat form → e ≡ composes form → parts ≡ full_of v compat c → Advances v e parts ready pending ready_after pending_after
+      → TakesIn (record { version = v; form = form; ready = ready; pending = pending }) (record { version = v; form = form; ready = ready_after; pending = pending_after }) c
+  TakesIn-advances form c {compat} {e} {parts} {ready} {pending} {ready_after} {pending_after} kind comp of_c a =
+      record {
+        more = a.more;
+        ready = a.ready_is;
+        version = refl;
+        form = refl;
+        carries = streams_on form compat e c parts ready pending ready_after pending_after kind comp of_c a;
+      }
 
   -- what the end of the text does
   pub whole_streams : (form : Form) (e : Bool) (pending fed out : List ℕ) → e ≡ composes form → IsStreaming v form fed out pending → IsNormalForm v form fed (out ++ ended v e (canonical_order (class_of v) pending))

@@ -160,9 +160,6 @@ module _ (v : VersionData) (sound : IsSound v) where
       step_on : joined ccc join s bs c ≡ None → ComposeStep v (record { text = shown; place = p }) (record { text = shown; place = p + 1 })
       step_on h = (p_within, inr (record { none = joins_out h; text = refl; place = refl }))
 
-  stage : List ℕ → ℕ → Stage
-  stage xs n = record { text = xs; place = n }
-
   halts_after_step : (a b : Stage) (ys : List ℕ) → ComposeStep v a b → Halts v b ys → Halts v a ys
   halts_after_step a b ys s h = record { place = h.place; reached = one_more (ComposeStep v) a b _ s h.reached; ended = h.ended }
 

@@ -95,15 +95,6 @@ module _ (ccc : ℕ → ℕ) where
   is_ordered-back [] ys h = h
   is_ordered-back (x ∷ xs) ys h = is_ordered-back xs ys (is_ordered-tail x (xs ++ ys) h)
 
-  -- a starter may stand between any two ordered lists
-  pub is_ordered-at_starter : (xs : List ℕ) (s : ℕ) (ys : List ℕ) → ccc s ≤ 0 → is_ordered ccc xs ≡ true → is_ordered ccc ys ≡ true → is_ordered ccc (xs ++ s ∷ ys) ≡ true
-  is_ordered-at_starter [] s [] low front back = is_ordered-one s
-  is_ordered-at_starter [] s (y ∷ ys) low front back = is_ordered-cons s y ys (not_reorderable_rising s y (omega arith)) back
-  is_ordered-at_starter (x ∷ []) s ys low front back =
-      is_ordered-cons x s ys (not_reorderable_starter x s low) (is_ordered-at_starter [] s ys low is_ordered-nil back)
-  is_ordered-at_starter (x ∷ z ∷ xs) s ys low front back =
-      let both = is_ordered-parts x z xs front in is_ordered-cons x z (xs ++ s ∷ ys) both.0 (is_ordered-at_starter (z ∷ xs) s ys low both.1 back)
-
   -- a non-starter may be left out
   pub is_ordered-without_non_starter : (xs : List ℕ) (m : ℕ) (ys : List ℕ) → 0 < ccc m → is_ordered ccc (xs ++ m ∷ ys) ≡ true → is_ordered ccc (xs ++ ys) ≡ true
   is_ordered-without_non_starter [] m ys non_starter h = is_ordered-tail m ys h

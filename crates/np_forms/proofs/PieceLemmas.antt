@@ -1,5 +1,5 @@
 -- A form that is given piece by piece.
-use Rattle.std.proofs.Common.{◌≡◌, ◌≢◌, ℕ, ◌+◌, ◌≤◌, ◌↔◌, min, Bool, true, false, IsTrue, eqb, List, [], ◌∷◌, ◌++◌, length, take, drop, chars, encode_utf8_all, refl, sym, ap, ◌∙◌, append_assoc, ◌⊎◌, ⊎_elim, inl, inr, ◌&&◌, arith}
+use Rattle.std.proofs.Common.{◌≡◌, ◌≢◌, ℕ, ◌+◌, ◌≤◌, ◌↔◌, min, Bool, true, false, IsTrue, eqb, List, [], ◌∷◌, ◌++◌, length, take, drop, chars, encode_utf8_all, string_bytes, refl, sym, ap, ◌∙◌, append_assoc, ◌⊎◌, ⊎_elim, inl, inr, ◌&&◌, arith}
 use Rattle.std.proofs.lemmas.Bool.{false≢true, eqb-true, and_parts, and_from}
 use Rattle.std.proofs.lemmas.List.{append_cancel_left, nil_from_length, drop-drop, drop_min, take-append-drop, take-append-le}
 use Rattle.np_code_points.specs.declared.forms.Form.{Form}
@@ -11,7 +11,8 @@ use Rattle.np_forms.specs.Forms.{IsEquivalent}
 use Rattle.np_forms.specs.inside.NormalForms.{decomposed, normal_form}
 use Rattle.np_forms.proofs.AnswerLemmas.{IsEquivalent-lists, normal_form-decomposed}
 use Rattle.np_forms.specs.inside.Copies.{IsCopied, IsParted}
-use Rattle.np_forms.specs.inside.Pieces.{first_of, form_bytes}
+use Rattle.np_forms.specs.declared.pieces.Pieces.{Pieces}
+use Rattle.np_forms.specs.inside.Pieces.{first_of, form_bytes, front_of, left_of}
 use Rattle.np_forms.proofs.MatchLemmas.{form_cut, rest_nil}
 
 -- nothing stands in front
@@ -90,20 +91,16 @@ pub record ArePassed (whole other left right : List ℕ) : Type 0 where
   pub whole_is : whole ≡ passed ++ left
   pub other_is : other ≡ passed ++ right
 
-pub ArePassed-start : (whole other left right : List ℕ) → left ≡ whole → right ≡ other → ArePassed whole other left right
-ArePassed-start whole other left right e f = record { passed = []; whole_is = sym e; other_is = sym f }
-
-pub ArePassed-next : (whole other left right front before later after : List ℕ) → ArePassed whole other left right → left ≡ front ++ later → right ≡ before ++ after → front ≡ before → ArePassed whole other later after
-ArePassed-next whole other left right front before later after p e f same =
+pub ArePassed-next : {whole other left right : List ℕ} (front before later after : List ℕ) → ArePassed whole other left right → left ≡ front ++ later → right ≡ before ++ after → front ≡ before → ArePassed whole other later after
+ArePassed-next front before later after p e f same =
     record {
       passed = p.passed ++ front;
       whole_is = p.whole_is ∙ ap (λ l. p.passed ++ l) e ∙ sym (append_assoc p.passed front later);
       other_is = p.other_is ∙ ap (λ l. p.passed ++ l) (f ∙ ap (λ l. l ++ after) (sym same)) ∙ sym (append_assoc p.passed front after);
     }
 
-pub ArePassed-same : (whole other left right left₂ right₂ : List ℕ) → ArePassed whole other left right → left₂ ≡ left → right₂ ≡ right → ArePassed whole other left₂ right₂
-ArePassed-same whole other left right left₂ right₂ p e f =
-    record { passed = p.passed; whole_is = p.whole_is ∙ ap (λ l. p.passed ++ l) (sym e); other_is = p.other_is ∙ ap (λ l. p.passed ++ l) (sym f) }
+pub ArePassed-same : {whole other left right left₂ right₂ : List ℕ} → ArePassed whole other left right → left₂ ≡ left → right₂ ≡ right → ArePassed whole other left₂ right₂
+ArePassed-same p e f = record { passed = p.passed; whole_is = p.whole_is ∙ ap (λ l. p.passed ++ l) (sym e); other_is = p.other_is ∙ ap (λ l. p.passed ++ l) (sym f) }
 
 -- one of them is empty where neither is longer than nothing
 pub none_of_both : (front other : List ℕ) (count : ℕ) → count ≡ min (length front) (length other) → count ≡ 0 → (length front ≡ 0) ⊎ (length other ≡ 0)
@@ -111,45 +108,44 @@ none_of_both [] other count e none = inl refl
 none_of_both (b ∷ bs) [] count e none = inr refl
 none_of_both (b ∷ bs) (d ∷ ds) count e none = absurd (omega (arith, e, none))
 
-left_same : (whole other left right : List ℕ) → ArePassed whole other left right → whole ≡ other → left ≡ right
-left_same whole other left right p e = append_cancel_left p.passed left right (sym p.whole_is ∙ e ∙ p.other_is)
-
--- the fronts differ within a number of bytes
-pub ArePassed-differ : (whole other : List ℕ) (stays made more stays₂ made₂ more₂ : List ℕ) (n : ℕ) → ArePassed whole other (stays ++ (made ++ more)) (stays₂ ++ (made₂ ++ more₂)) →
-    n ≤ length (first_of stays made) → n ≤ length (first_of stays₂ made₂) → take n (first_of stays made) ≢ take n (first_of stays₂ made₂) → IsTrue false ↔ (whole ≡ other)
-ArePassed-differ whole other stays made more stays₂ made₂ more₂ n p fits fits₂ differ =
-    let one = left_begins stays made more in
-    let two = left_begins stays₂ made₂ more₂ in (
-      λ yes. absurd (false≢true yes),
-      λ same.
-          absurd (differ (sym (take-append-le n (first_of stays made) one.0 fits)
-          ∙ ap (take n) (sym one.1 ∙ left_same whole other _ _ p same ∙ two.1) ∙ take-append-le n (first_of stays₂ made₂) two.0 fits₂)),
-    )
-
 front_nil : (front rest : List ℕ) → front ++ rest ≡ [] → front ≡ []
 front_nil [] rest e = refl
 front_nil (b ∷ bs) rest e = absurd (cc)
 
--- nothing stands in front of one of them, and then nothing is left of it
-pub ArePassed-end : (whole other : List ℕ) (stays made more stays₂ made₂ more₂ : List ℕ) (b : Bool) → ArePassed whole other (stays ++ (made ++ more)) (stays₂ ++ (made₂ ++ more₂)) →
-    (first_of stays made ≡ [] → stays ++ (made ++ more) ≡ []) → (first_of stays₂ made₂ ≡ [] → stays₂ ++ (made₂ ++ more₂) ≡ []) →
-    (length (first_of stays made) ≡ 0) ⊎ (length (first_of stays₂ made₂) ≡ 0) → b ≡ (eqb (length (first_of stays made)) 0 && eqb (length (first_of stays₂ made₂)) 0) → IsTrue b ↔ (whole ≡ other)
-ArePassed-end whole other stays made more stays₂ made₂ more₂ b p empty empty₂ none is =
-    let one = left_begins stays made more in
-    let two = left_begins stays₂ made₂ more₂ in (
-      λ yes.
-          let both = and_parts (eqb (length (first_of stays made)) 0) (eqb (length (first_of stays₂ made₂)) 0) (sym is ∙ yes) in
-          let no_left = empty (nil_from_length (first_of stays made) (eqb-true _ 0 both.0)) in
-          let no_right = empty₂ (nil_from_length (first_of stays₂ made₂) (eqb-true _ 0 both.1)) in
-          p.whole_is ∙ ap (λ l. p.passed ++ l) (no_left ∙ sym no_right) ∙ sym p.other_is,
-      λ same.
-          let alike = left_same whole other _ _ p same in
-          let all : (stays ++ (made ++ more) ≡ []) × (stays₂ ++ (made₂ ++ more₂) ≡ []) = ⊎_elim
-          (λ h. let nil = empty (nil_from_length (first_of stays made) h) in (nil, sym alike ∙ nil))
-          (λ h. let nil = empty₂ (nil_from_length (first_of stays₂ made₂) h) in (alike ∙ nil, nil))
-          none in
-          is ∙ and_from _ _ (ap (λ l. eqb (length l) 0) (front_nil (first_of stays made) one.0 (sym one.1 ∙ all.0))) (ap (λ l. eqb (length l) 0) (front_nil (first_of stays₂ made₂) two.0 (sym two.1 ∙ all.1))),
-    )
+module _ (v : VersionData) (form : Form) (first second : Pieces) {whole other : List ℕ} (p : ArePassed whole other (left_of v form first) (left_of v form second)) where
+  begins : (x : Pieces) → (rest : List ℕ) × (left_of v form x ≡ front_of x ++ rest)
+  begins x = left_begins x.stays.now (drop x.taken (string_bytes x.made)) (form_bytes v form x.rest.now)
+
+  alike : whole ≡ other → left_of v form first ≡ left_of v form second
+  alike same = append_cancel_left p.passed (left_of v form first) (left_of v form second) (sym p.whole_is ∙ same ∙ p.other_is)
+
+  -- the fronts differ within a number of bytes
+  pub ArePassed-differ : (n : ℕ) → n ≤ length (front_of first) → n ≤ length (front_of second) → take n (front_of first) ≢ take n (front_of second) → IsTrue false ↔ (whole ≡ other)
+  ArePassed-differ n fits fits₂ differ =
+      let one = begins first in
+      let two = begins second in (
+        λ yes. absurd (false≢true yes),
+        λ same. absurd (differ (sym (take-append-le n (front_of first) one.0 fits) ∙ ap (take n) (sym one.1 ∙ alike same ∙ two.1) ∙ take-append-le n (front_of second) two.0 fits₂)),
+      )
+
+  -- nothing stands in front of one of them, and then nothing is left of it
+  pub ArePassed-end : {b : Bool} → (front_of first ≡ [] → left_of v form first ≡ []) → (front_of second ≡ [] → left_of v form second ≡ []) →
+      (length (front_of first) ≡ 0) ⊎ (length (front_of second) ≡ 0) → b ≡ (eqb (length (front_of first)) 0 && eqb (length (front_of second)) 0) → IsTrue b ↔ (whole ≡ other)
+  ArePassed-end empty empty₂ none is =
+      let one = begins first in
+      let two = begins second in (
+        λ yes.
+            let both = and_parts (eqb (length (front_of first)) 0) (eqb (length (front_of second)) 0) (sym is ∙ yes) in
+            let no_left = empty (nil_from_length (front_of first) (eqb-true _ 0 both.0)) in
+            let no_right = empty₂ (nil_from_length (front_of second) (eqb-true _ 0 both.1)) in
+            p.whole_is ∙ ap (λ l. p.passed ++ l) (no_left ∙ sym no_right) ∙ sym p.other_is,
+        λ same.
+            let all : (left_of v form first ≡ []) × (left_of v form second ≡ []) = ⊎_elim
+            (λ h. let nil = empty (nil_from_length (front_of first) h) in (nil, sym (alike same) ∙ nil))
+            (λ h. let nil = empty₂ (nil_from_length (front_of second) h) in (alike same ∙ nil, nil))
+            none in
+            is ∙ and_from _ _ (ap (λ l. eqb (length l) 0) (front_nil (front_of first) one.0 (sym one.1 ∙ all.0))) (ap (λ l. eqb (length l) 0) (front_nil (front_of second) two.0 (sym two.1 ∙ all.1))),
+      )
 
 -- ---- equivalence by the bytes of forms
 

@@ -1,8 +1,8 @@
 -- A run over a whole input, chunk by chunk.
-use Rattle.std.proofs.Common.{◌≡◌, ℕ, ◌+◌, ◌<◌, ◌≤◌, ◌⊎◌, List, [], ◌++◌, length, take, drop, chars, encode_utf8_all, flat_map, IsUtf8, Option, None, Some, refl, sym, ap, subst, ◌∙◌, arith, inl, inr, append_assoc, append-nil, length-append}
+use Rattle.std.proofs.Common.{◌≡◌, ℕ, ◌+◌, ◌<◌, ◌≤◌, ◌⊎◌, List, [], ◌++◌, length, take, drop, chars, encode_utf8_all, flat_map, IsUtf8, Option, None, Some, Result, refl, sym, ap, subst, ◌∙◌, arith, inl, inr, append_assoc, append-nil, length-append}
 use Rattle.std.proofs.KnownBytes.{Appends-trans, Consumes-trans}
 use Rattle.std.proofs.lemmas.Grind.{flat_map-append}
-use Rattle.std.proofs.lemmas.List.{take_all, take-append-drop, drop_at, drop-drop}
+use Rattle.std.proofs.lemmas.List.{nil_from_length, take_all, take-append-drop, drop_at, drop-drop}
 use Rattle.std.proofs.lemmas.Str.{chars-nil, chars-append, IsUtf8-nil, encodes-append, IsUtf8-append}
 use Rattle.std.specs.Io.KnownBytes.{Appends, Consumes, IsAtEnd}
 use Rattle.std.specs.Str.Lossy.{utf8_valid_len, utf8_error_len}
@@ -13,13 +13,13 @@ use Rattle.np_tables.specs.Conditions.{IsSound}
 use Rattle.np_tables.specs.Versions.{VersionData, class_of}
 use Rattle.np_tables.specs.inside.FullDecompositions.{full_of}
 use Rattle.np_forms.specs.Forms.{IsNormalForm}
-use Rattle.np_forms.specs.RunEnds.{BeginsText, Ends, IsRunWhole, IsReadTo, IsCauseOf, IsFrontOfForm, IsWrittenOf, IsRunCut}
+use Rattle.np_forms.specs.RunEnds.{BeginsText, Ends, IsRunWhole, IsReadTo, IsCauseOf, IsFrontOfForm, IsWrittenOf, IsRunCut, RunEnds}
 use Rattle.np_forms.specs.Streams.{IsStreaming, StreamState}
 use Rattle.np_forms.specs.declared.runs.RunFault.{RunFault}
 use Rattle.np_forms.specs.declared.runs.RunFault.TheVariants.{NotUtf8, ReadFailed, WriteFailed, TooLarge, Memory}
 use Rattle.np_forms.specs.inside.CanonicalOrder.{canonical_order}
 use Rattle.np_forms.specs.inside.NormalForms.{decomposed, ended, normal_form}
-use Rattle.np_forms.specs.inside.Running.{IsRunning, MayBegin, MayNotBegin, IsNextChunk, IsInputFault, IsPieceWritten, IsPieceCut, IsRestWritten, IsRestCut, Goes, Stops}
+use Rattle.np_forms.specs.inside.Running.{IsRunning, MayBegin, MayNotBegin, IsNextChunk, IsInputFault, IsPieceWritten, IsPieceCut, IsRestWritten, IsRestCut, Stops}
 use Rattle.np_forms.proofs.FormLemmas.{IsNormalForm-normal_form, normal_form_is}
 use Rattle.np_forms.proofs.HeldLemmas.{held_streaming}
 use Rattle.np_forms.proofs.RunTextLemmas.{take_past, prefix_past, prefix_left, one_prefix, longest_prefix, whole_prefix}
@@ -61,7 +61,7 @@ form_from_state : (v : VersionData) (form : Form) (s : StreamState) (fed list : 
 form_from_state v form s fed list version same h =
     subst (λ u. IsNormalForm u form fed list) version (subst (λ f. IsNormalForm s.version f fed list) same h)
 
-module _ (v : VersionData) (sound : IsSound v) where
+module _ {v : VersionData} (sound : IsSound v) where
   -- what was ever ready begins the form of the text, whatever follows
   form_front : (form : Form) (fed ready pending text : List ℕ) → IsStreaming v form fed ready pending → (rest : List ℕ) × (normal_form v form (fed ++ text) ≡ ready ++ rest)
   unfolding normal_form decomposed
@@ -91,7 +91,7 @@ module _ (v : VersionData) (sound : IsSound v) where
         normal = subst (λ l. IsNormalForm v form l (normal_form v form (chars done ++ chars (take n chunk)))) (sym text) (IsNormalForm-normal_form v sound form _);
       }
 
-  module _ (form : Form) (i₀ i₁ o₀ o₁ : Option (List ℕ)) (kept : List ℕ) (total count : ℕ) (s : StreamState) (r : IsRunning v form i₀ i₁ o₀ o₁ kept total count s) where
+  module _ {form : Form} {i₀ i₁ o₀ o₁ : Option (List ℕ)} {kept : List ℕ} {total count : ℕ} {s : StreamState} (r : IsRunning v form i₀ i₁ o₀ o₁ kept total count s) where
     taken_with : (i₂ : Option (List ℕ)) (came : List ℕ) → Consumes i₁ i₂ came → Consumes i₀ i₂ (r.done ++ (kept ++ came))
     taken_with i₂ came taken = subst (Consumes i₀ i₂) (append_assoc r.done kept came) (Consumes-trans i₀ i₁ i₂ (r.done ++ kept) came r.taken taken)
 
@@ -198,7 +198,7 @@ module _ (v : VersionData) (sound : IsSound v) where
           front = ready_front _ r.ready front.0 (encode_utf8_all r.ready) [] front.1 (sym (append-nil (encode_utf8_all r.ready)));
         }
 
-    module _ (i₂ : Option (List ℕ)) (chunk left : List ℕ) (new n : ℕ) (next : IsNextChunk i₁ i₂ kept chunk left total new n) where
+    module _ {i₂ : Option (List ℕ)} {chunk left : List ℕ} {new n : ℕ} (next : IsNextChunk i₁ i₂ kept chunk left total new n) {l : List ℕ} (text_is : l ≡ take n chunk) where
       taken_chunk : Consumes i₀ i₂ (r.done ++ chunk)
       taken_chunk = subst (λ l. Consumes i₀ i₂ (r.done ++ l)) (sym next.chunk_is) (taken_with i₂ next.came next.taken)
 
@@ -206,8 +206,9 @@ module _ (v : VersionData) (sound : IsSound v) where
       chunk_size = omega (arith, r.size, next.total_is, ap length next.chunk_is, length-append kept next.came)
 
       -- the text of the chunk was fed and written
-      pub step : (o₂ : Option (List ℕ)) (after : ℕ) (t : StreamState) → IsPieceWritten s t o₁ o₂ count after (chars (take n chunk)) → IsRunning v form i₀ i₂ o₀ o₂ left new after t
-      step o₂ after t w =
+      pub step : {o₂ : Option (List ℕ)} {after : ℕ} {t : StreamState} → IsPieceWritten s t o₁ o₂ count after (chars l) → IsRunning v form i₀ i₂ o₀ o₂ left new after t
+      step {o₂} {after} {t} written =
+          let w = subst (λ x. IsPieceWritten s t o₁ o₂ count after (chars x)) text_is written in
           let parts : take n chunk ++ left ≡ chunk = ap (λ l. take n chunk ++ l) next.left_is ∙ take-append-drop n chunk in
           let done = r.done ++ take n chunk in
           let fed = to_state v form s (chars r.done) r.ready s.pending r.version r.form_is r.streaming in
@@ -257,8 +258,9 @@ module _ (v : VersionData) (sound : IsSound v) where
             front = written list out front;
           }
 
-      pub cut_piece_by : (o₂ : Option (List ℕ)) (fault : RunFault) → (fault ≡ WriteFailed) ⊎ (fault ≡ Memory) → IsPieceCut s o₁ o₂ (chars (take n chunk)) → IsRunCut v form (ends_of i₀ i₂ o₀ o₂) fault
-      cut_piece_by o₂ fault by w =
+      pub cut_piece_by : {o₂ : Option (List ℕ)} {fault : RunFault} → (fault ≡ WriteFailed) ⊎ (fault ≡ Memory) → IsPieceCut s o₁ o₂ (chars l) → IsRunCut v form (ends_of i₀ i₂ o₀ o₂) fault
+      cut_piece_by {o₂} {fault} by cut =
+          let w = subst (λ x. IsPieceCut s o₁ o₂ (chars x)) text_is cut in
           elim by [
             | inl write ↦ subst (IsRunCut v form (ends_of i₀ i₂ o₀ o₂)) (sym write) (cut_piece o₂ WriteFailed w tt (λ list out h. h))
             | inr none ↦ subst (IsRunCut v form (ends_of i₀ i₂ o₀ o₂)) (sym none) (cut_piece o₂ Memory w tt (λ list out h. h))
@@ -266,20 +268,20 @@ module _ (v : VersionData) (sound : IsSound v) where
 
   -- ---- the end of the input, where no byte is left
 
-  module _ (form : Form) (i₀ i₁ o₀ o₁ : Option (List ℕ)) (total count : ℕ) (s : StreamState) (r : IsRunning v form i₀ i₁ o₀ o₁ [] total count s) (end : IsAtEnd i₁) (fits : total ≤ 4294967295) where
+  module _ {form : Form} {i₀ i₁ o₀ o₁ : Option (List ℕ)} {kept : List ℕ} {total count : ℕ} {s : StreamState} (r : IsRunning v form i₀ i₁ o₀ o₁ kept total count s) (none : length kept ≡ 0) (end : IsAtEnd i₁) (fits : total ≤ 4294967295) where
     fed : IsStreaming s.version s.form (chars r.done) r.ready s.pending
     fed = to_state v form s (chars r.done) r.ready s.pending r.version r.form_is r.streaming
 
     taken_whole : Consumes i₀ i₁ r.done
-    taken_whole = subst (Consumes i₀ i₁) (append-nil r.done) r.taken
+    taken_whole = subst (Consumes i₀ i₁) (ap (λ l. r.done ++ l) (nil_from_length kept none) ∙ append-nil r.done) r.taken
 
-    pub run_whole : (o₂ : Option (List ℕ)) (after : ℕ) → IsRestWritten s o₁ o₂ count after → IsRunWhole v form (ends_of i₀ i₁ o₀ o₂) after
-    run_whole o₂ after w =
+    pub run_whole : {o₂ : Option (List ℕ)} {after : ℕ} → IsRestWritten s o₁ o₂ count after → IsRunWhole v form (ends_of i₀ i₁ o₀ o₂) after
+    run_whole {o₂} {after} w =
         record {
           bytes = r.done;
           taken = taken_whole;
           end = end;
-          size = omega (arith, r.size);
+          size = omega (arith, r.size, none);
           utf8 = r.utf8;
           list = r.ready ++ w.more;
           normal = form_from_state v form s (chars r.done) (r.ready ++ w.more) r.version r.form_is (w.whole (chars r.done) r.ready fed);
@@ -309,7 +311,7 @@ module _ (v : VersionData) (sound : IsSound v) where
           list = list;
           read = record {
             taken = taken_whole;
-            size = omega (arith, r.size);
+            size = omega (arith, r.size, none);
             valid = whole_prefix r.done (length r.done) refl r.utf8;
             normal = subst (λ l. IsNormalForm v form (chars l) list) (sym all) (IsNormalForm-normal_form v sound form (chars r.done));
           };
@@ -319,8 +321,8 @@ module _ (v : VersionData) (sound : IsSound v) where
           front = written list out front;
         }
 
-    pub cut_rest_by : (o₂ : Option (List ℕ)) (fault : RunFault) → (fault ≡ WriteFailed) ⊎ (fault ≡ Memory) → IsRestCut s o₁ o₂ → IsRunCut v form (ends_of i₀ i₁ o₀ o₂) fault
-    cut_rest_by o₂ fault by w =
+    pub cut_rest_by : {o₂ : Option (List ℕ)} {fault : RunFault} → (fault ≡ WriteFailed) ⊎ (fault ≡ Memory) → IsRestCut s o₁ o₂ → IsRunCut v form (ends_of i₀ i₁ o₀ o₂) fault
+    cut_rest_by {o₂} {fault} by w =
         elim by [
           | inl write ↦ subst (IsRunCut v form (ends_of i₀ i₁ o₀ o₂)) (sym write) (cut_rest o₂ WriteFailed w tt (λ list out h. h))
           | inr none ↦ subst (IsRunCut v form (ends_of i₀ i₁ o₀ o₂)) (sym none) (cut_rest o₂ Memory w tt (λ list out h. h))
@@ -344,29 +346,23 @@ module _ (v : VersionData) (sound : IsSound v) where
         moved = moved;
       }
 
-  -- want of memory before the first read
-  pub cut_start : (form : Form) (i₀ o₀ : Option (List ℕ)) (s : StreamState) → s.version ≡ v → s.form ≡ form → s.ready ≡ [] → IsStreaming v form [] [] s.pending → IsRunCut v form (ends_of i₀ i₀ o₀ o₀) Memory
-  cut_start form i₀ o₀ s version same moved begins =
-      cut_input form i₀ i₀ o₀ o₀ [] 0 0 s (run_start form i₀ o₀ s version same moved begins) i₀ Memory
-      (record { came = []; taken = Consumes-nothing i₀; size = omega arith; cause = tt })
-
   -- ---- from the begin
 
-  module _ (form : Form) (i i' o o' : Option (List ℕ)) (kept : List ℕ) (total : ℕ) (s : StreamState) (same_in : i' ≡ i) (same_out : o' ≡ o) (version : s.version ≡ v) (form_is : s.form ≡ form) (moved : s.ready ≡ []) (begins : IsStreaming v form [] [] s.pending) (none : kept ≡ []) (zero_read : total ≡ 0) where
-    begun : IsRunning s.version form i' i' o' o' kept total 0 s
-    begun =
+  module _ {form : Form} {i i' o o' : Option (List ℕ)} {s : StreamState} (same_in : i' ≡ i) (same_out : o' ≡ o) (version : s.version ≡ v) (form_is : s.form ≡ form) (moved : s.ready ≡ []) (begins : IsStreaming v form [] [] s.pending) where
+    -- want of memory before the first read
+    pub cut_start : IsRunCut v form (ends_of i i' o o') Memory
+    cut_start =
+        subst (λ x. IsRunCut v form (ends_of x i' o o') Memory) same_in
+        (subst (λ x. IsRunCut v form (ends_of i' i' x o') Memory) same_out
+        (cut_input (run_start form i' o' s version form_is moved begins) i' Memory (record { came = []; taken = Consumes-nothing i'; size = omega arith; cause = tt })))
+
+    -- a run that nothing was read for
+    pub run_all : {kept : List ℕ} {total : ℕ} → kept ≡ [] → total ≡ 0 → (i₂ o₂ : Option (List ℕ)) (result : Result ℕ RunFault) → Stops s i' i₂ o' o₂ kept total 0 result → RunEnds v form (ends_of i i₂ o o₂) result
+    run_all {kept} {total} none zero_read i₂ o₂ result stops =
+        let start = run_start form i' o' s version form_is moved begins in
+        let begun : IsRunning s.version form i' i' o' o' kept total 0 s =
         subst (λ n. IsRunning s.version form i' i' o' o' kept n 0 s) (sym zero_read)
-        (subst (λ l. IsRunning s.version form i' i' o' o' l 0 0 s) (sym none)
-        (subst (λ u. IsRunning u form i' i' o' o' [] 0 0 s) (sym version) (run_start form i' o' s version form_is moved begins)))
-
-    pub cut_all : (i₂ o₂ : Option (List ℕ)) (fault : RunFault) → Stops s i' i₂ o' o₂ kept total 0 fault → IsRunCut v form (ends_of i i₂ o o₂) fault
-    cut_all i₂ o₂ fault stops =
-        subst (λ u. IsRunCut u form (ends_of i i₂ o o₂) fault) version
-        (subst (λ x. IsRunCut s.version form (ends_of x i₂ o o₂) fault) same_in
-        (subst (λ x. IsRunCut s.version form (ends_of i' i₂ x o₂) fault) same_out (stops form i' o' begun)))
-
-    pub went_all : (i₂ o₂ : Option (List ℕ)) (left : List ℕ) (new after : ℕ) (t : StreamState) → Goes s t i' i₂ o' o₂ kept left total new 0 after → IsRunning v form i i₂ o o₂ left new after t
-    went_all i₂ o₂ left new after t goes =
-        subst (λ u. IsRunning u form i i₂ o o₂ left new after t) version
-        (subst (λ x. IsRunning s.version form x i₂ o o₂ left new after t) same_in
-        (subst (λ x. IsRunning s.version form i' i₂ x o₂ left new after t) same_out (goes form i' o' begun)))
+        (subst (λ l. IsRunning s.version form i' i' o' o' l 0 0 s) (sym none) (subst (λ u. IsRunning u form i' i' o' o' [] 0 0 s) (sym version) start)) in
+        subst (λ u. RunEnds u form (ends_of i i₂ o o₂) result) version
+        (subst (λ x. RunEnds s.version form (ends_of x i₂ o o₂) result) same_in
+        (subst (λ x. RunEnds s.version form (ends_of i' i₂ x o₂) result) same_out (stops form i' o' begun)))

@@ -25,10 +25,6 @@ use Rattle.np_tables.proofs.CompositeLemmas.{cases_Option, composite-starter}
 use Rattle.np_forms.proofs.FormLemmas.{IsNormalForm-normal_form, normal_form_is}
 use Rattle.np_forms.proofs.KeptLemmas.{is_ordered-decomposed, all_final, decomposed-final, decomposed-composed, decomposed-normal_form}
 
-pub list_all-front : (p : ℕ → Bool) (xs ys : List ℕ) → list_all p (xs ++ ys) ≡ true → list_all p xs ≡ true
-list_all-front p [] ys h = refl
-list_all-front p (x ∷ xs) ys h = let halves = and_parts (p x) (list_all p (xs ++ ys)) h in and_from _ _ halves.0 (list_all-front p xs ys halves.1)
-
 pub list_all-back : (p : ℕ → Bool) (xs ys : List ℕ) → list_all p (xs ++ ys) ≡ true → list_all p ys ≡ true
 list_all-back p [] ys h = h
 list_all-back p (x ∷ xs) ys h = list_all-back p xs ys (and_parts (p x) (list_all p (xs ++ ys)) h).1
@@ -46,27 +42,45 @@ module _ (v : VersionData) (sound : IsSound v) where
   -- ---- the last starter that composition writes
 
   -- a starter and non-starters
-  pub record IsLastRun (ys : List ℕ) : Type 0 where
-    pub head : ℕ
-    pub non_starters : List ℕ
-    pub split : ys ≡ head ∷ non_starters
-    pub starter : class_of v head ≡ 0
-    pub all : list_all (is_non_starter v) non_starters ≡ true
+  abbrev pub IsLastRun : List ℕ → Type 0
+  IsLastRun = BeginsAtLastStarter v []
 
-  -- what comes out last comes from `rest` on, whatever follows
-  pub record LastAfter (s : ℕ) (bs cs : List ℕ) : Type 0 where
+  -- what `f` makes of cs comes from `rest` on at last, whatever follows
+  pub record LastFrom (f : List ℕ → List ℕ) (cs : List ℕ) : Type 0 where
     pub front : List ℕ
     pub first : ℕ
     pub rest : List ℕ
     pub out : List ℕ
     pub split : cs ≡ front ++ first ∷ rest
     pub starter : class_of v first ≤ 0
-    pub goes_on : (zs : List ℕ) → compose_after ccc join s bs (front ++ first ∷ zs) ≡ out ++ compose_after ccc join first [] zs
+    pub goes_on : (zs : List ℕ) → f (front ++ first ∷ zs) ≡ out ++ compose_after ccc join first [] zs
     pub last : IsLastRun (compose_after ccc join first [] rest)
 
-  pub last_after : (s : ℕ) (bs cs : List ℕ) → class_of v s ≤ 0 → list_all (is_non_starter v) bs ≡ true → IsLastRun (compose_after ccc join s bs cs) ⊎ LastAfter s bs cs
+  -- it does so behind one code point more
+  last_further : (f g : List ℕ → List ℕ) (before : List ℕ) (c : ℕ) (cs : List ℕ) → ((zs : List ℕ) → f (c ∷ zs) ≡ before ++ g zs) → LastFrom g cs → LastFrom f (c ∷ cs)
+  last_further f g before c cs goes part =
+      record {
+        front = c ∷ part.front;
+        first = part.first;
+        rest = part.rest;
+        out = before ++ part.out;
+        split = ap (λ l. c ∷ l) part.split;
+        starter = part.starter;
+        goes_on = λ zs. goes (part.front ++ part.first ∷ zs) ∙ ap (λ l. before ++ l) (part.goes_on zs) ∙ sym (append_assoc before part.out _);
+        last = part.last;
+      }
+
+  -- it does so from a starter on
+  last_from : (f : List ℕ → List ℕ) (before : List ℕ) (c : ℕ) (cs : List ℕ) → class_of v c ≤ 0 → ((zs : List ℕ) → f (c ∷ zs) ≡ before ++ compose_after ccc join c [] zs) → IsLastRun (compose_after ccc join c [] cs) ⊎ LastFrom (compose_after ccc join c []) cs → LastFrom f (c ∷ cs)
+  last_from f before c cs starts goes last =
+      elim last [
+        | inl whole ↦ record { front = []; first = c; rest = cs; out = before; split = refl; starter = starts; goes_on = goes; last = whole }
+        | inr part ↦ last_further f (compose_after ccc join c []) before c cs goes part
+      ]
+
+  pub last_after : (s : ℕ) (bs cs : List ℕ) → class_of v s ≤ 0 → list_all (is_non_starter v) bs ≡ true → IsLastRun (compose_after ccc join s bs cs) ⊎ LastFrom (compose_after ccc join s bs) cs
   last_after s bs [] starter non_starters =
-      inl (record { head = s; non_starters = bs; split = compose_after-nil ccc join s bs; starter = omega arith; all = non_starters })
+      inl (record { s = s; ms = bs; split = compose_after-nil ccc join s bs; starter = omega arith; non_starters = non_starters })
   last_after s bs (c ∷ cs) starter non_starters =
       elim (cases_Option (joined ccc join s bs c)) [
         | inr some ↦
@@ -74,17 +88,7 @@ module _ (v : VersionData) (sound : IsSound v) where
             let both = (joined-some ccc join s bs c some.0 some.1).1 in
             elim (last_after some.0 bs cs (let e = composite-starter v sound s c some.0 both in omega arith) non_starters) [
               | inl whole ↦ inl (subst IsLastRun (sym (goes cs)) whole)
-              | inr part ↦
-                  inr (record {
-                    front = c ∷ part.front;
-                    first = part.first;
-                    rest = part.rest;
-                    out = part.out;
-                    split = ap (λ l. c ∷ l) part.split;
-                    starter = part.starter;
-                    goes_on = λ zs. goes (part.front ++ part.first ∷ zs) ∙ part.goes_on zs;
-                    last = part.last;
-                  })
+              | inr part ↦ inr (last_further (compose_after ccc join s bs) (compose_after ccc join some.0 bs) [] c cs goes part)
             ]
         | inl none ↦
             elim (cases_lt 0 (class_of v c)) [
@@ -92,60 +96,14 @@ module _ (v : VersionData) (sound : IsSound v) where
                   let goes = λ (zs : List ℕ). compose_after-kept ccc join s bs c zs none non_starter in
                   elim (last_after s (bs ++ c ∷ []) cs starter (list_all-append (is_non_starter v) bs (c ∷ []) non_starters (and_from _ _ (non_starter_from c non_starter) refl))) [
                     | inl whole ↦ inl (subst IsLastRun (sym (goes cs)) whole)
-                    | inr part ↦
-                        inr (record {
-                          front = c ∷ part.front;
-                          first = part.first;
-                          rest = part.rest;
-                          out = part.out;
-                          split = ap (λ l. c ∷ l) part.split;
-                          starter = part.starter;
-                          goes_on = λ zs. goes (part.front ++ part.first ∷ zs) ∙ part.goes_on zs;
-                          last = part.last;
-                        })
+                    | inr part ↦ inr (last_further (compose_after ccc join s bs) (compose_after ccc join s (bs ++ c ∷ [])) [] c cs goes part)
                   ]
               | inr starts ↦
-                  let goes = λ (zs : List ℕ). compose_after-starter ccc join s bs c zs none starts in
-                  elim (last_after c [] cs starts refl) [
-                    | inl whole ↦
-                        inr (record {
-                          front = [];
-                          first = c;
-                          rest = cs;
-                          out = s ∷ bs;
-                          split = refl;
-                          starter = starts;
-                          goes_on = goes;
-                          last = whole;
-                        })
-                    | inr part ↦
-                        inr (record {
-                          front = c ∷ part.front;
-                          first = part.first;
-                          rest = part.rest;
-                          out = s ∷ (bs ++ part.out);
-                          split = ap (λ l. c ∷ l) part.split;
-                          starter = part.starter;
-                          goes_on = λ zs.
-                              goes (part.front ++ part.first ∷ zs) ∙ ap (λ l. s ∷ (bs ++ l)) (part.goes_on zs)
-                              ∙ ap (λ l. s ∷ l) (sym (append_assoc bs part.out _));
-                          last = part.last;
-                        })
-                  ]
+                  inr (last_from (compose_after ccc join s bs) (s ∷ bs) c cs starts (λ zs. compose_after-starter ccc join s bs c zs none starts) (last_after c [] cs starts refl))
             ]
       ]
 
-  record LastPart (ds : List ℕ) : Type 0 where
-    front : List ℕ
-    first : ℕ
-    rest : List ℕ
-    out : List ℕ
-    split : ds ≡ front ++ first ∷ rest
-    starter : class_of v first ≤ 0
-    goes_on : (zs : List ℕ) → compose ccc join (front ++ first ∷ zs) ≡ out ++ compose_after ccc join first [] zs
-    last : IsLastRun (compose_after ccc join first [] rest)
-
-  last_part : (ds : List ℕ) → (list_all (is_non_starter v) (compose ccc join ds) ≡ true) ⊎ LastPart ds
+  last_part : (ds : List ℕ) → (list_all (is_non_starter v) (compose ccc join ds) ≡ true) ⊎ LastFrom (compose ccc join) ds
   last_part [] = inl (ap (list_all (is_non_starter v)) (compose-nil ccc join))
   last_part (c ∷ cs) =
       elim (cases_lt 0 (class_of v c)) [
@@ -153,35 +111,9 @@ module _ (v : VersionData) (sound : IsSound v) where
             let goes = λ (zs : List ℕ). compose-non_starter ccc join c zs non_starter in
             elim (last_part cs) [
               | inl none ↦ inl (ap (list_all (is_non_starter v)) (goes cs) ∙ and_from _ _ (non_starter_from c non_starter) none)
-              | inr part ↦
-                  inr (record {
-                    front = c ∷ part.front;
-                    first = part.first;
-                    rest = part.rest;
-                    out = c ∷ part.out;
-                    split = ap (λ l. c ∷ l) part.split;
-                    starter = part.starter;
-                    goes_on = λ zs. goes (part.front ++ part.first ∷ zs) ∙ ap (λ l. c ∷ l) (part.goes_on zs);
-                    last = part.last;
-                  })
+              | inr part ↦ inr (last_further (compose ccc join) (compose ccc join) (c ∷ []) c cs goes part)
             ]
-        | inr starts ↦
-            let goes = λ (zs : List ℕ). compose-starter ccc join c zs starts in
-            elim (last_after c [] cs starts refl) [
-              | inl whole ↦
-                  inr (record { front = []; first = c; rest = cs; out = []; split = refl; starter = starts; goes_on = goes; last = whole })
-              | inr part ↦
-                  inr (record {
-                    front = c ∷ part.front;
-                    first = part.first;
-                    rest = part.rest;
-                    out = part.out;
-                    split = ap (λ l. c ∷ l) part.split;
-                    starter = part.starter;
-                    goes_on = λ zs. goes (part.front ++ part.first ∷ zs) ∙ part.goes_on zs;
-                    last = part.last;
-                  })
-            ]
+        | inr starts ↦ inr (last_from (compose ccc join) [] c cs starts (λ zs. compose-starter ccc join c zs starts) (last_after c [] cs starts refl))
       ]
 
   -- ---- the last starter is one place
@@ -228,11 +160,11 @@ module _ (v : VersionData) (sound : IsSound v) where
   unfolding compose_of
   compose_of_is xs = refl
 
-  more_composed : (compat : Bool) (ds x : List ℕ) (s : ℕ) (ms fs : List ℕ) → is_ordered ccc ds ≡ true → list_all (is_final v compat) ds ≡ true → compose ccc join ds ≡ x ++ s ∷ ms → class_of v s ≡ 0 → list_all (is_non_starter v) ms ≡ true → (part : LastPart ds) → compose ccc join (canonical_order ccc (ds ++ fs)) ≡ x ++ compose ccc join (canonical_order ccc (decomposed v compat (s ∷ ms) ++ fs))
+  more_composed : (compat : Bool) (ds x : List ℕ) (s : ℕ) (ms fs : List ℕ) → is_ordered ccc ds ≡ true → list_all (is_final v compat) ds ≡ true → compose ccc join ds ≡ x ++ s ∷ ms → class_of v s ≡ 0 → list_all (is_non_starter v) ms ≡ true → (part : LastFrom (compose ccc join) ds) → compose ccc join (canonical_order ccc (ds ++ fs)) ≡ x ++ compose ccc join (canonical_order ccc (decomposed v compat (s ∷ ms) ++ fs))
   more_composed compat ds x s ms fs ordered final is starter non_starters part =
       let tail = part.first ∷ part.rest in
       let ends = sym (ap (λ l. part.out ++ l) part.last.split) ∙ sym (ap (compose ccc join) part.split ∙ part.goes_on part.rest) ∙ is in
-      let same = one_last part.out x part.last.head s part.last.non_starters ms ends part.last.starter starter part.last.all non_starters in
+      let same = one_last part.out x part.last.s s part.last.ms ms ends part.last.starter starter part.last.non_starters non_starters in
       let ordered_is = ap (is_ordered ccc) (sym part.split) ∙ ordered in
       let final_is = ap (list_all (is_final v compat)) (sym part.split) ∙ final in
       let ordered_tail = is_ordered-back ccc part.front tail ordered_is in

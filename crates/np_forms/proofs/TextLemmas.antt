@@ -1,5 +1,5 @@
 -- A text that was read up to some place.
-use Rattle.std.proofs.Common.{◌≡◌, ℕ, ◌-◌, true, false, List, [], ◌∷◌, ◌++◌, length, chars, IsUtf8, encode_utf8, encode_utf8_all, refl, sym, ap, subst, ◌∙◌, arith, append_assoc, append-nil, length-append}
+use Rattle.std.proofs.Common.{◌≡◌, ℕ, ◌-◌, true, false, List, [], ◌∷◌, ◌++◌, length, chars, IsUtf8, encode_utf8, encode_utf8_all, refl, sym, ap, ◌∙◌, arith, append_assoc, append-nil, length-append}
 use Rattle.std.proofs.lemmas.Bool.{and_from}
 use Rattle.std.proofs.lemmas.List.{nil_from_length}
 use Rattle.std.proofs.lemmas.Str.{chars-nil, chars_past_char, encodes-append, IsUtf8-past_char}
@@ -17,9 +17,6 @@ pub record IsReadTo (v : VersionData) (s rest : List ℕ) : Type 0 where
   pub utf8 : IsUtf8 rest
 
 module _ (v : VersionData) where
-  pub IsReadTo-start : (s rest : List ℕ) → rest ≡ s → IsUtf8 s → IsReadTo v s rest
-  IsReadTo-start s rest e utf8 = record { before = []; bytes = sym e; text = ap chars (sym e); assigned = refl; utf8 = subst IsUtf8 (sym e) utf8 }
-
   pub IsReadTo-next : (s rest : List ℕ) (c : ℕ) (later : List ℕ) → IsReadTo v s rest → rest ≡ encode_utf8 c ++ later → is_assigned v c ≡ true → IsReadTo v s later
   IsReadTo-next s rest c later r e has =
       record {

@@ -66,12 +66,15 @@ fn take_in<T: NormTable>(composer: &mut Composer, table: &T, at: usize)
         return;
     }
     let place = composer.kept;
+    let starter = if class == 0 {
+        Some(place)
+    } else {
+        composer.starter
+    };
     composer.list[place] = c;
     composer.kept = place + 1;
+    composer.starter = starter;
     composer.last = class;
-    if class == 0 {
-        composer.starter = Some(place);
-    }
 }
 
 /// The composition of a list in canonical order, in the list's own memory.

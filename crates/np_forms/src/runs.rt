@@ -276,7 +276,7 @@ fn feed_all<R: Read, W: Write, T: NormTable>(
     ensures end { OnOk result (IsAtEnd (R.remaining (device_of source.new))) }
     ensures fits { OnOk result (input.new.total ≤ LIMIT) }
     ensures moved { OnOk result ((stream.new.ready ≡ []) × (string_bytes output.new.text ≡ []) × (vec_len input.new.kept ≤ input.new.total)) }
-    ensures err { IfErr result (Stops stream.old (R.remaining (device_of source.old)) (R.remaining (device_of source.new)) (W.contents (device_of target.old)) (W.contents (device_of target.new)) input.old.kept.items input.old.total output.old.count) }
+    ensures err { IfErr result (λ fault. Stops stream.old (R.remaining (device_of source.old)) (R.remaining (device_of source.new)) (W.contents (device_of target.old)) (W.contents (device_of target.new)) input.old.kept.items input.old.total output.old.count (Err fault)) }
     ensures read { result ≡ Err RunFault.ReadFailed ↔ (has_failed source.new ≡ true) }
     ensures write { result ≡ Err RunFault.WriteFailed ↔ (has_failed target.new ≡ true) }
 {
@@ -288,6 +288,34 @@ fn feed_all<R: Read, W: Write, T: NormTable>(
         let text = unsafe { from_utf8_unchecked(&input.chunk[..n]) };
         write_piece(stream, output, target, text)?;
     }
+}
+
+/// Goes on to the end of the input, and answers how many bytes the form has.
+fn run_on<R: Read, W: Write, T: NormTable>(
+    stream: &mut Stream<'_, T>,
+    input: &mut Input,
+    output: &mut Output,
+    source: &mut Watched<R>,
+    target: &mut Watched<W>,
+) -> Result<u64, RunFault>
+    requires sound { IsSound stream.old.version }
+    requires moved { stream.old.ready ≡ [] }
+    requires empty { string_bytes output.old.text ≡ [] }
+    requires reads { has_failed source.old ≡ false }
+    requires writes { has_failed target.old ≡ false }
+    requires fits { input.old.total ≤ LIMIT }
+    requires inside { vec_len input.old.kept ≤ input.old.total }
+    ensures ends { Stops stream.old (R.remaining (device_of source.old)) (R.remaining (device_of source.new)) (W.contents (device_of target.old)) (W.contents (device_of target.new)) input.old.kept.items input.old.total output.old.count result }
+    ensures read { result ≡ Err RunFault.ReadFailed ↔ (has_failed source.new ≡ true) }
+    ensures write { result ≡ Err RunFault.WriteFailed ↔ (has_failed target.new ≡ true) }
+{
+    feed_all(stream, input, output, source, target)?;
+    if !input.kept.is_empty() {
+        let at = input.total - input.kept.len() as u64;
+        return Err(RunFault::NotUtf8 { at });
+    }
+    write_rest(stream, output, target)?;
+    Ok(output.count)
 }
 
 /// An input of which nothing was read.
@@ -343,11 +371,5 @@ pub fn run<R: Read, W: Write, T: NormTable>(
         text: String::new(alloc),
         count: 0,
     };
-    feed_all(&mut stream, &mut input, &mut output, source, target)?;
-    if !input.kept.is_empty() {
-        let at = input.total - input.kept.len() as u64;
-        return Err(RunFault::NotUtf8 { at });
-    }
-    write_rest(&mut stream, &mut output, target)?;
-    Ok(output.count)
+    run_on(&mut stream, &mut input, &mut output, source, target)
 }

@@ -1,9 +1,10 @@
 -- Fields are read in one way, and where bytes stop being fields is one place.
-use Rattle.std.proofs.Common.{◌≡◌, ℕ, ◌+◌, ◌<◌, ◌^◌, inl, inr, List, ◌++◌, length, refl, sym, ap, ◌∙◌, subst, arith, length-append, append_assoc, w32}
+use Rattle.std.proofs.Common.{◌≡◌, ℕ, ◌+◌, ◌<◌, ◌^◌, inl, inr, List, ◌++◌, length, Option, Some, None, unwrap_or, is_some, true≢false, refl, sym, ap, ◌∙◌, subst, arith, length-append, append_assoc, w32}
 use Rattle.std.specs.Int.{from_be_bytes}
 use Rattle.std.proofs.lemmas.Nat.{from_be_bytes-to_be_bytes_4}
 use Rattle.np_node.proofs.ListLemmas.{same_front, same_back}
 use Rattle.np_node.specs.Fields.{number_bytes, field_bytes, entry_bytes, FitsFields, IsFieldFault, IsEntryFault}
+use Rattle.np_node.specs.Laws.{HasOneFault}
 use Rattle.np_node.specs.Strings.{Entry}
 
 pub length-number_bytes : (n : ℕ) → length (number_bytes n) ≡ 4
@@ -13,10 +14,6 @@ length-number_bytes n = refl
 pub length-field_bytes : (xs : List ℕ) → length (field_bytes xs) ≡ 4 + length xs
 unfolding field_bytes
 length-field_bytes xs = length-append (number_bytes (length xs)) xs ∙ ap (λ (n : ℕ). n + length xs) (length-number_bytes (length xs))
-
-pub length-entry_bytes : (e : Entry) → length (entry_bytes e) ≡ length (field_bytes e.string) + length (field_bytes e.key)
-unfolding entry_bytes
-length-entry_bytes e = length-append (field_bytes e.string) (field_bytes e.key)
 
 same_number : (m n : ℕ) → m < 2 ^ 32 → n < 2 ^ 32 → number_bytes m ≡ number_bytes n → m ≡ n
 unfolding number_bytes
@@ -86,3 +83,16 @@ one_entry_fault bytes at other (inr a) (inr b) =
     let first = one_field a.string b.string a.rest b.rest a.fits b.fits (sym a.split ∙ b.split) in
     let inner = one_field_fault a.rest a.inner b.inner a.fault (subst (λ (l : List ℕ). IsFieldFault l b.inner) (sym first.1) b.fault) in
     omega (arith, a.place, b.place, inner, ap (λ (l : List ℕ). length (field_bytes l)) first.0)
+
+-- ---- faults
+
+some-none : (at : ℕ) → Some at ≡ None → ⊥
+some-none at e = true≢false (ap is_some e)
+
+-- bytes that are read up to one place have one fault at most, and none where they spell something
+pub one_fault : {A : Type 0} (Spells : List ℕ → A → Type 0) (IsFault : List ℕ → ℕ → Type 0) (Stops : List ℕ → Option ℕ → Type 0) → ((bytes : List ℕ) (o p : Option ℕ) → Stops bytes o → Stops bytes p → p ≡ o)
+    → ((bytes : List ℕ) (a : A) → Spells bytes a → Stops bytes None) → ((bytes : List ℕ) (at : ℕ) → IsFault bytes at → Stops bytes (Some at)) → HasOneFault Spells IsFault
+one_fault Spells IsFault Stops one spelled fault_at = λ bytes at fault. (
+  λ a is. some-none at (one bytes None (Some at) (spelled bytes a is) (fault_at bytes at fault)),
+  λ other another. ap (λ o. unwrap_or o at) (one bytes (Some at) (Some other) (fault_at bytes at fault) (fault_at bytes other another)),
+)

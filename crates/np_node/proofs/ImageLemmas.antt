@@ -1,10 +1,10 @@
 -- Bytes are one image or have one fault place.
-use Rattle.std.proofs.Common.{◌≡◌, ◌≢◌, ℕ, ◌+◌, ◌<◌, ◌^◌, ◌⊎◌, inl, inr, List, [], ◌∷◌, ◌++◌, length, flat_map, All, Option, Some, None, unwrap_or, is_some, true≢false, refl, sym, ap, subst, ◌∙◌, arith, append-nil, append_assoc, length-append}
+use Rattle.std.proofs.Common.{◌≡◌, ◌≢◌, ℕ, ◌+◌, ◌<◌, ◌^◌, ◌⊎◌, inl, inr, List, [], ◌∷◌, ◌++◌, length, flat_map, All, Option, Some, None, refl, sym, ap, subst, ◌∙◌, arith, append-nil, append_assoc, length-append}
 use Rattle.std.proofs.lemmas.List.Elements.{All-head, All-tail}
 use Rattle.std.proofs.lemmas.List.{append_cancel_left}
 use Rattle.np_code_points.specs.Forms.{byte_of}
 use Rattle.np_code_points.specs.declared.forms.Form.{Form}
-use Rattle.np_node.proofs.FieldLemmas.{length-number_bytes, one_number, one_entry, whole_entry, one_entry_fault}
+use Rattle.np_node.proofs.FieldLemmas.{length-number_bytes, one_number, one_entry, whole_entry, one_entry_fault, one_fault}
 use Rattle.np_node.proofs.MessageLemmas.{one_form_byte}
 use Rattle.np_node.specs.Fields.{number_bytes, entry_bytes, FitsFields, IsEntryFault, LacksForm}
 use Rattle.np_node.specs.Images.{Image, image_name, head_bytes, entries_bytes, image_bytes, IsImage, IsImageFault}
@@ -208,11 +208,5 @@ fault-stops bytes at (inr (inr (inr (inr more)))) =
     behind-head bytes i.form (length i.entries) (entries_bytes i.entries ++ more.rest) (Some at) more.count (more.split ∙ image-cut i more.rest)
     (i.entries, more.rest, more.fits, refl, inr (refl, inr (more.more, ap Some (omega (arith, more.place, length-image_bytes i, length-head_bytes i.form (length i.entries))))))
 
-some-none : (at : ℕ) → Some at ≡ None → ⊥
-some-none at e = true≢false (ap is_some e)
-
 pub one_image_fault : HasOneFault IsImage IsImageFault
-one_image_fault bytes at fault = (
-  λ i is. some-none at (one_stop bytes None (Some at) (image-stops bytes i is) (fault-stops bytes at fault)),
-  λ other another. ap (λ o. unwrap_or o at) (one_stop bytes (Some at) (Some other) (fault-stops bytes at fault) (fault-stops bytes other another)),
-)
+one_image_fault = one_fault IsImage IsImageFault Stops one_stop image-stops fault-stops

@@ -1,9 +1,9 @@
 -- Bytes are one message or have one fault place.
-use Rattle.std.proofs.Common.{◌≡◌, ℕ, ◌+◌, ◌<◌, ◌⊎◌, inl, inr, List, [], ◌∷◌, ◌++◌, length, Option, Some, None, unwrap_or, is_some, true, false, true≢false, refl, sym, ap, subst, ◌∙◌, arith, append-nil, ◌==◌, if◌then◌else◌}
+use Rattle.std.proofs.Common.{◌≡◌, ℕ, ◌+◌, ◌<◌, ◌⊎◌, inl, inr, List, [], ◌∷◌, ◌++◌, length, Option, Some, None, unwrap_or, refl, sym, ap, subst, ◌∙◌, arith, append-nil, ◌==◌, if◌then◌else◌}
 use Rattle.np_code_points.specs.Forms.{byte_of}
 use Rattle.np_code_points.specs.declared.forms.Form.{Form}
 use Rattle.np_code_points.specs.declared.forms.Form.TheVariants.{Nfd, Nfc, Nfkd, Nfkc}
-use Rattle.np_node.proofs.FieldLemmas.{one_entry, whole_entry, one_entry_fault}
+use Rattle.np_node.proofs.FieldLemmas.{one_entry, whole_entry, one_entry_fault, one_fault}
 use Rattle.np_node.specs.Fields.{entry_bytes, FitsFields, IsEntryFault, LacksForm}
 use Rattle.np_node.specs.Laws.{HasOneFault, SpellsOne}
 use Rattle.np_node.specs.Messages.{Message, message_bytes, IsMessage, IsMessageFault}
@@ -109,11 +109,5 @@ fault-stops bytes at (inr (inr more)) =
     let m = more.message in
     inr (m.form, entry_bytes m.entry ++ more.rest, more.split ∙ message-cut m more.rest, inr (m.entry, more.rest, more.fits, refl, inr (more.more, ap Some more.place)))
 
-some-none : (at : ℕ) → Some at ≡ None → ⊥
-some-none at e = true≢false (ap is_some e)
-
 pub one_message_fault : HasOneFault IsMessage IsMessageFault
-one_message_fault bytes at fault = (
-  λ m is. some-none at (one_stop bytes None (Some at) (message-stops bytes m is) (fault-stops bytes at fault)),
-  λ other another. ap (λ o. unwrap_or o at) (one_stop bytes (Some at) (Some other) (fault-stops bytes at fault) (fault-stops bytes other another)),
-)
+one_message_fault = one_fault IsMessage IsMessageFault Stops one_stop message-stops fault-stops

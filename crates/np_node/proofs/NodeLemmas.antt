@@ -1,5 +1,5 @@
 -- What holds of a node as strings come to it, and along an extension.
-use Rattle.std.proofs.Common.{◌≡◌, ◌≢◌, ℕ, zero, suc, ◌+◌, ◌<◌, List, [], ◌∷◌, ◌++◌, length, take, slice_get, Some, get_or, All, AllPairs, Contains, Bool, true, false, true≢false, IsTrue, ◌↔◌, Result, Ok, Err, OnOk, OnErr, refl, sym, ap, subst, ◌∙◌, arith, length-append}
+use Rattle.std.proofs.Common.{◌≡◌, ◌≢◌, ℕ, zero, suc, ◌<◌, List, [], ◌∷◌, ◌++◌, length, take, slice_get, Some, get_or, All, AllPairs, Contains, Bool, true, false, true≢false, IsTrue, ◌↔◌, Result, Ok, Err, OnOk, OnErr, refl, sym, ap, subst, ◌∙◌, arith, length-append}
 use Rattle.std.proofs.lemmas.List.Elements.{All-push, All-weaker, All-head, All-tail}
 use Rattle.std.proofs.lemmas.List.Quantifiers.{all_pairs_push}
 use Rattle.np_chain.specs.Chain.{Extends}
@@ -71,26 +71,25 @@ pub either : {A T E : Type 0} (r : Result T E) (P : A → Type 0) (new a b : A) 
 either (Ok x) P new a b ok err pa pb = subst P (sym ok) pa
 either (Err x) P new a b ok err pa pb = subst P (sym err) pb
 
--- what is wrong with a string is refused with it
+-- what is wrong with a string is one of three faults
+string_faults : (v : VersionData) (string : List ℕ) (Wanted : NodeFault → Type 0) → (IsStringFault v string TooLong → Wanted TooLong)
+    → ((at : ℕ) → IsStringFault v string (NotUtf8 at) → Wanted (NotUtf8 at)) → ((at code : ℕ) → IsStringFault v string (Unassigned at code) → Wanted (Unassigned at code))
+    → (fault : NodeFault) → IsStringFault v string fault → Wanted fault
+string_faults v string Wanted long cut lacks TooLong h = long h
+string_faults v string Wanted long cut lacks (NotUtf8 at) h = cut at h
+string_faults v string Wanted long cut lacks (Unassigned at code) h = lacks at code h
+string_faults v string Wanted long cut lacks (Malformed at) h = absurd h
+string_faults v string Wanted long cut lacks OtherForm h = absurd h
+string_faults v string Wanted long cut lacks KeyDiffers h = absurd h
+string_faults v string Wanted long cut lacks Full h = absurd h
+string_faults v string Wanted long cut lacks Memory h = absurd h
+
+-- it is refused with it
 pub refuses-accept : (node : State) (string : List ℕ) (fault : NodeFault) → IsStringFault node.version string fault → AnswersAccept node string (Err fault)
-refuses-accept node string TooLong h = h
-refuses-accept node string (NotUtf8 at) h = h
-refuses-accept node string (Unassigned at code) h = h
-refuses-accept node string (Malformed at) h = absurd h
-refuses-accept node string OtherForm h = absurd h
-refuses-accept node string KeyDiffers h = absurd h
-refuses-accept node string Full h = absurd h
-refuses-accept node string Memory h = absurd h
+refuses-accept node string = string_faults node.version string (λ fault. AnswersAccept node string (Err fault)) (λ h. h) (λ at h. h) (λ at code h. h)
 
 pub refuses-entry : (node : State) (e : Entry) (fault : NodeFault) → IsStringFault node.version e.string fault → AnswersEntry node e (Err fault)
-refuses-entry node e TooLong h = h
-refuses-entry node e (NotUtf8 at) h = h
-refuses-entry node e (Unassigned at code) h = h
-refuses-entry node e (Malformed at) h = absurd h
-refuses-entry node e OtherForm h = absurd h
-refuses-entry node e KeyDiffers h = absurd h
-refuses-entry node e Full h = absurd h
-refuses-entry node e Memory h = absurd h
+refuses-entry node e = string_faults node.version e.string (λ fault. AnswersEntry node e (Err fault)) (λ h. h) (λ at h. h) (λ at code h. h)
 
 -- a string that stands beside one key has no other
 pub other-key : (v : VersionData) (form : Form) (string k l : List ℕ) (b : Bool) → IsSound v → IsKey v form string k → (IsTrue b ↔ (k ≡ l)) → b ≡ false → ¬ IsKey v form string l

@@ -1,5 +1,5 @@
 -- What a reader of fields went over.
-use Rattle.std.proofs.Common.{◌≡◌, ◌≢◌, ℕ, zero, suc, ◌+◌, ◌<◌, ◌≤◌, ◌^◌, ◌↔◌, inl, inr, Bool, true, false, true≢false, IsTrue, List, [], ◌∷◌, ◌++◌, length, take, drop, get_or, slice_get, Some, w32, refl, sym, ap, subst, ◌∙◌, arith, append-nil, append_assoc, length-append}
+use Rattle.std.proofs.Common.{◌≡◌, ℕ, zero, suc, ◌+◌, ◌<◌, ◌≤◌, ◌^◌, ◌↔◌, inl, inr, Bool, true, false, true≢false, IsTrue, List, [], ◌∷◌, ◌++◌, length, take, drop, get_or, slice_get, Some, w32, refl, sym, ap, subst, ◌∙◌, arith, append-nil, append_assoc, length-append}
 use Rattle.std.proofs.lemmas.Grind.{flat_map-append}
 use Rattle.std.proofs.lemmas.List.{nil_from_length, take_all}
 use Rattle.std.proofs.lemmas.List.Elements.{All-push}
@@ -54,9 +54,6 @@ key-lacks a b string inner at p fits fault place = (
   inr (record { string = string; rest = left_of b; inner = inner; fits = fits; split = p.split; fault = fault; place = refl }),
   omega (arith, place, p.place),
 )
-
-pub string-lacks : (a : Fields) (at : ℕ) → ((x : ℕ) × IsFieldFault (left_of a) x × (at ≡ a.at + x)) → (x : ℕ) × IsEntryFault (left_of a) x × (at ≡ a.at + x)
-string-lacks a at (x, fault, place) = (x, inl fault, place)
 
 -- the name was found where the bytes are those of the name
 pub skips-answer : (a b : Fields) (found name : List ℕ) (r : Bool) → Passes a b found → length found ≡ length name → (IsTrue r ↔ (found ≡ name)) → Skips a b name r

@@ -234,14 +234,3 @@ pub first_of_places : (v : VersionData) (cs : List Composite) → AreOrdered cs 
 first_of_places v cs order rows file first has least =
     is_first (IsAmbiguous v) first has
     (λ c h. let f = found v cs order rows file c h in at_most_low first f.code c f.low (least f.place f.code f.within f.suspect))
-
--- without an ambiguous code point, a pair has one primary composite at most
-pub unlike_from : (v : VersionData) → ((c : ℕ) → ¬ IsAmbiguous v c) → (a b c d : ℕ) → IsCompositeOf v a b c → IsCompositeOf v a b d → c ≡ d
-unlike_from v none a b c d one two =
-    elim (cases_order c d) [
-      | inl same ↦ same
-      | inr other ↦ elim other [
-        | inl less ↦ absurd (none d (record { primary = two.primary; other = c; smaller = less; other_primary = one.primary; same = one.mapping ∙ sym two.mapping }))
-        | inr more ↦ absurd (none c (record { primary = one.primary; other = d; smaller = more; other_primary = two.primary; same = two.mapping ∙ sym one.mapping }))
-      ]
-    ]

@@ -1,8 +1,8 @@
 -- The marks of the last round tell what is too deep and what is too long.
-use Rattle.std.proofs.Common.{◌≡◌, ◌≢◌, ℕ, suc, ◌+◌, ◌<◌, ◌≤◌, true, ◌&&◌, List, [], ◌∷◌, length, Option, Some, None, refl, sym, ap, subst, ◌∙◌, inl, inr, arith, leb, eqb, ◌⊎◌}
-use Rattle.std.proofs.lemmas.Bool.{cond-true, cond-false, cases_Bool, and_parts, eqb-true, eq-eqb, leb-true}
+use Rattle.std.proofs.Common.{◌≡◌, ◌≢◌, ℕ, suc, ◌+◌, ◌<◌, ◌≤◌, true, ◌&&◌, List, [], ◌∷◌, length, Option, Some, None, refl, sym, ap, subst, ◌∙◌, inl, inr, arith, eqb, ◌⊎◌}
+use Rattle.std.proofs.lemmas.Bool.{cases_Bool, and_parts, eqb-true, eq-eqb}
 use Rattle.std.specs.Cmp.Lexicographic.{pointwise}
-use Rattle.np_ucd.specs.Entries.{Entry, AreRows, IsRow}
+use Rattle.np_ucd.specs.Entries.{Entry, AreRows}
 use Rattle.np_code_points.specs.Hangul.{is_syllable}
 use Rattle.np_tables.specs.Versions.{VersionData, entry_at, mapping_in, file_mapping, has_hangul}
 use Rattle.np_tables.specs.inside.FullDecompositions.{full}
@@ -12,6 +12,7 @@ use Rattle.np_tables.specs.inside.FirstFaults.{IsFirst}
 use Rattle.np_tables.proofs.MappingLemmas.{decomposes_full, full-only}
 use Rattle.np_tables.proofs.DepthLemmas.{mark-file, marks-from_rows, settled_rows, mark-zero, mark-more, mark-deep, mark-length}
 use Rattle.np_tables.proofs.FirstLemmas.{IsAt, first_of}
+use Rattle.np_tables.proofs.RowLemmas.{entry_at-row, entry_at-within}
 use Rattle.np_tables.proofs.SyllableLemmas.{depth_two, syllable-bare, mark-syllable, mark-syllable_still, syllable_mark-late}
 
 -- ---- the last round
@@ -52,24 +53,9 @@ bare_one : (v : VersionData) (n : ℕ) → mapping_mark v n [] ≡ 1
 unfolding mapping_mark
 bare_one v n = refl
 
-some_same : {a b : Entry} → Some a ≡ Some b → a ≡ b
-some_same h = cc
-
 IsFirst-along : (P Q : ℕ → Type 0) → ((c : ℕ) → P c → Q c) → ((c : ℕ) → Q c → P c) → (o : Option ℕ) → IsFirst P o → IsFirst Q o
 IsFirst-along P Q there back None h = λ c q. h c (back c q)
 IsFirst-along P Q there back (Some c) h = record { holds = there c h.holds; least = λ d q. h.least d (back d q) }
-
-entry_at-row : (es : List Entry) (c : ℕ) (e : Entry) → AreRows es → entry_at es c ≡ Some e → IsRow e × (e.first ≤ c) × (c ≤ e.last)
-unfolding entry_at
-entry_at-row [] c e rows h = cc
-entry_at-row (f ∷ fs) c e rows h =
-    elim (cases_Bool (leb f.first c && leb c f.last)) [
-      | inl here ↦
-          let halves = and_parts _ _ here in
-          let found : f ≡ e = some_same (sym (cond-true _ _ _ here) ∙ h) in
-          subst (λ r. IsRow r × (r.first ≤ c) × (c ≤ r.last)) found (rows.0, leb-true f.first c halves.0, leb-true c f.last halves.1)
-      | inr later ↦ entry_at-row fs c e rows.2 (sym (cond-false _ _ _ later) ∙ h)
-    ]
 
 module _ (v : VersionData) (rows : AreRows v.entries) (n m : ℕ) (late : 2 ≤ n) (telling : IsTelling m) where
   marked_nonempty : (xs : List ℕ) → mapping_mark v n xs ≡ m → xs ≢ []
@@ -85,8 +71,9 @@ module _ (v : VersionData) (rows : AreRows v.entries) (n m : ℕ) (late : 2 ≤ 
   row_found : (c : ℕ) (o : Option Entry) → entry_at v.entries c ≡ o → mapping_mark v n (mapping_in o) ≡ m → IsAt (is_marked v n m) v.entries c
   row_found c None found h = absurd (marked_nonempty [] h refl)
   row_found c (Some e) found h =
-      let is = entry_at-row v.entries c e rows found in
-      let alone = is.0.alone (marked_nonempty e.mapping h) in
+      let row = entry_at-row v.entries c e rows found in
+      let within = entry_at-within v.entries c e found in
+      let alone = row.alone (marked_nonempty e.mapping h) in
       record { row = e; found = found; passes = eq-eqb _ m h; first = omega arith }
 
   pub at_row : (c : ℕ) → mark v n c ≡ m → IsAt (is_marked v n m) v.entries c

@@ -6,7 +6,7 @@ use Rattle.np_tables.specs.Versions.{entry_at, is_assigned, is_empty, decomposit
 use Rattle.np_tables.specs.Mappings.{has_depth}
 use Rattle.np_tables.specs.Conditions.{IsSound}
 use Rattle.np_tables.specs.Examples.{without_rows}
-use Rattle.np_tables.proofs.FactLemmas.{classes-at, scalars-at, mapped_scalar-at}
+use Rattle.np_tables.proofs.FactLemmas.{sound-by}
 use Rattle.np_tables.proofs.MappingLemmas.{is_empty-true, full_of-final, full_of-only, parts-cases}
 use Rattle.np_tables.proofs.CompositeLemmas.{mapped-assigned, composite-assigned}
 
@@ -25,17 +25,9 @@ shallow c = ap (list_all (has_depth without_rows 31)) (no_mapping c)
 
 pub IsSound-without_rows : IsSound without_rows
 IsSound-without_rows =
-    record {
-      rows = tt;
-      bounded = λ c h. absurd (both_ways _ (lacks c) h);
-      classes = λ c. classes-at without_rows c tt;
-      scalars = λ c. scalars-at without_rows c tt;
-      mapped_scalar = λ c. mapped_scalar-at without_rows c tt;
-      maps_to_assigned = λ c. ap (list_all (is_assigned without_rows)) (no_mapping c);
-      shallow = shallow;
-      short = λ c ys is.
-          let final = parts-cases without_rows true (λ l. is_empty l ≡ true) refl c (ap is_empty (no_mapping c)) in
-          let e = ap length (full_of-only without_rows true shallow c ys is ∙ full_of-final without_rows true shallow c final) in omega arith;
-      unlike = λ a b c d h k. absurd (both_ways _ (lacks c) (composite-assigned without_rows a b c h));
-      hangul = λ c among h. absurd (both_ways _ (lacks c) h);
-    }
+    sound-by without_rows tt (λ c. ap (list_all (is_assigned without_rows)) (no_mapping c)) shallow
+    (λ c ys is.
+    let final = parts-cases without_rows true (λ l. is_empty l ≡ true) refl c (ap is_empty (no_mapping c)) in
+    let e = ap length (full_of-only without_rows true shallow c ys is ∙ full_of-final without_rows true shallow c final) in omega arith)
+    (λ a b c d h k. absurd (both_ways _ (lacks c) (composite-assigned without_rows a b c h)))
+    (λ c among h. absurd (both_ways _ (lacks c) h))

@@ -15,7 +15,7 @@ use Rattle.np_tables.specs.Conditions.{IsSound}
 use Rattle.np_tables.specs.Examples.{letter_with_ring, plain, with_hangul, with_rows}
 use Rattle.np_tables.proofs.CompositeLemmas.{composite_parts}
 use Rattle.np_tables.proofs.DepthLemmas.{bare_depth, mark-length, mark-more, suc_depth}
-use Rattle.np_tables.proofs.FactLemmas.{bounded-at, classes-at, scalars-at, mapped_scalar-at}
+use Rattle.np_tables.proofs.FactLemmas.{sound-by}
 use Rattle.np_tables.proofs.HangulLemmas.{decomposition_kind-off, decomposition_mapping-off, decomposition_mapping-on, has_hangul-from, head_hangul, pair_assigned, shape_of}
 use Rattle.np_tables.proofs.HangulPlaces.{hangul_runs, Runs}
 use Rattle.np_tables.proofs.MappingLemmas.{full_of-final, full_of-mapped, full_of-only, parts-cases}
@@ -211,18 +211,7 @@ module _ (more : List Entry) where
 
     pub is_sound : IsSound version
     is_sound =
-        record {
-          rows = rows;
-          bounded = λ c h. bounded-at version c rows h;
-          classes = λ c. classes-at version c rows;
-          scalars = λ c. scalars-at version c rows;
-          mapped_scalar = λ c h. mapped_scalar-at version c rows h;
-          maps_to_assigned = maps_to_assigned;
-          shallow = shallow;
-          short = λ c ys is. (let e = ap length (full_of-only version true shallow c ys is) in let le = short c in omega arith);
-          unlike = unlike;
-          hangul = hangul;
-        }
+        sound-by version rows maps_to_assigned shallow (λ c ys is. (let e = ap length (full_of-only version true shallow c ys is) in let le = short c in omega arith)) unlike hangul
 
 -- ---- the three rows alone
 

@@ -1,11 +1,14 @@
 -- What holds of each code point because the rows are those of a data file.
-use Rattle.std.proofs.Common.{◌≡◌, ◌≢◌, ℕ, ◌<◌, ◌≤◌, true, ◌&&◌, [], Option, Some, None, is_some, refl, sym, ap, ◌∙◌, arith, inl, inr, lt-ltb}
+use Rattle.std.proofs.Common.{◌≡◌, ◌≢◌, ℕ, ◌<◌, ◌≤◌, true, ◌&&◌, List, [], ◌∷◌, length, Option, Some, None, is_some, refl, sym, ap, ◌∙◌, arith, inl, inr, lt-ltb}
 use lib.Utf8.{scalar}
 use Rattle.std.specs.List.{list_all}
 use Rattle.std.proofs.lemmas.Bool.{cond-true, cond-false, cases_Bool, and_parts, and_from}
 use Rattle.np_ucd.specs.Entries.{Entry, IsRow, AreRows}
 use Rattle.np_code_points.specs.Hangul.{is_syllable, syllable_pair}
-use Rattle.np_tables.specs.Versions.{VersionData, entry_at, is_assigned, class_of, class_in, file_mapping, mapping_in, decomposition_mapping, has_hangul}
+use Rattle.np_tables.specs.Composites.{IsCompositeOf}
+use Rattle.np_tables.specs.Conditions.{IsSound}
+use Rattle.np_tables.specs.Mappings.{IsFullDecomposition, has_depth}
+use Rattle.np_tables.specs.Versions.{VersionData, entry_at, is_assigned, is_hangul, class_of, class_in, file_mapping, mapping_in, decomposition_mapping, has_hangul}
 use Rattle.np_code_points.proofs.HangulLemmas.{pair_exists, pair_small}
 use Rattle.np_tables.proofs.PrimaryLemmas.{syllable_bounds}
 use Rattle.np_tables.proofs.RowLemmas.{entry_at-row, entry_at-within}
@@ -14,7 +17,7 @@ bounded_in : (o : Option Entry) (c : ℕ) → ((e : Entry) → o ≡ Some e → 
 bounded_in None c row last h = cc
 bounded_in (Some e) c row last h = let b = (row e refl).bounded in let l = last e refl in omega arith
 
-pub bounded-at : (v : VersionData) (c : ℕ) → AreRows v.entries → is_assigned v c ≡ true → c < 0x110000
+bounded-at : (v : VersionData) (c : ℕ) → AreRows v.entries → is_assigned v c ≡ true → c < 0x110000
 unfolding is_assigned
 bounded-at v c rows h = bounded_in (entry_at v.entries c) c (λ e is. entry_at-row v.entries c e rows is) (λ e is. (entry_at-within v.entries c e is).1) h
 
@@ -22,7 +25,7 @@ class_bound : (o : Option Entry) → ((e : Entry) → o ≡ Some e → IsRow e) 
 class_bound None row = omega arith
 class_bound (Some e) row = (row e refl).class
 
-pub classes-at : (v : VersionData) (c : ℕ) → AreRows v.entries → class_of v c ≤ 254
+classes-at : (v : VersionData) (c : ℕ) → AreRows v.entries → class_of v c ≤ 254
 unfolding class_of
 classes-at v c rows = class_bound (entry_at v.entries c) (λ e is. entry_at-row v.entries c e rows is)
 
@@ -39,7 +42,7 @@ scalars_pair c h =
     let small = pair_small c pair.0 pair.1 h pair.2 in
     ap (list_all scalar) pair.2 ∙ and_from _ _ (scalar_low pair.0 small.0) (and_from _ _ (scalar_low pair.1 small.1) refl)
 
-pub scalars-at : (v : VersionData) (c : ℕ) → AreRows v.entries → list_all scalar (decomposition_mapping v c) ≡ true
+scalars-at : (v : VersionData) (c : ℕ) → AreRows v.entries → list_all scalar (decomposition_mapping v c) ≡ true
 unfolding decomposition_mapping file_mapping
 scalars-at v c rows =
     elim (cases_Bool (has_hangul v && is_syllable c)) [
@@ -58,7 +61,7 @@ mapped_in_row (Some e) c row within h =
     let same : e.first ≡ c = omega arith in
     ap scalar (sym same) ∙ is.mapped_scalar h
 
-pub mapped_scalar-at : (v : VersionData) (c : ℕ) → AreRows v.entries → decomposition_mapping v c ≢ [] → scalar c ≡ true
+mapped_scalar-at : (v : VersionData) (c : ℕ) → AreRows v.entries → decomposition_mapping v c ≢ [] → scalar c ≡ true
 unfolding decomposition_mapping file_mapping
 mapped_scalar-at v c rows h =
     elim (cases_Bool (has_hangul v && is_syllable c)) [
@@ -67,3 +70,21 @@ mapped_scalar-at v c rows h =
           mapped_in_row (entry_at v.entries c) c (λ e is. entry_at-row v.entries c e rows is) (λ e is. entry_at-within v.entries c e is)
           (λ none. h (cond-false _ (syllable_pair c) (file_mapping v c) off ∙ none))
     ]
+
+-- rows of a data file meet the conditions where they meet those that no row tells alone
+pub sound-by : (v : VersionData) → AreRows v.entries → ((c : ℕ) → list_all (is_assigned v) (decomposition_mapping v c) ≡ true) → ((c : ℕ) → has_depth v 32 c ≡ true)
+    → ((c : ℕ) (full : List ℕ) → IsFullDecomposition v true (c ∷ []) full → length full ≤ 64) → ((a b c d : ℕ) → IsCompositeOf v a b c → IsCompositeOf v a b d → c ≡ d)
+    → ((c : ℕ) → is_hangul c ≡ true → is_assigned v c ≡ true → has_hangul v ≡ true) → IsSound v
+sound-by v rows assigned shallow short unlike hangul =
+    record {
+      rows = rows;
+      bounded = λ c h. bounded-at v c rows h;
+      classes = λ c. classes-at v c rows;
+      scalars = λ c. scalars-at v c rows;
+      mapped_scalar = λ c h. mapped_scalar-at v c rows h;
+      maps_to_assigned = assigned;
+      shallow = shallow;
+      short = short;
+      unlike = unlike;
+      hangul = hangul;
+    }

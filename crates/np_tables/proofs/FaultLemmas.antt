@@ -16,7 +16,7 @@ use Rattle.np_tables.specs.inside.FirstFaults.{AreFirsts}
 use Rattle.np_tables.specs.inside.FirstFaults.{sooner, least_fault}
 use Rattle.np_tables.specs.Mappings.{has_depth}
 use Rattle.np_tables.specs.Versions.{VersionData, is_assigned, decomposition_mapping}
-use Rattle.np_tables.proofs.FactLemmas.{bounded-at, classes-at, scalars-at, mapped_scalar-at}
+use Rattle.np_tables.proofs.FactLemmas.{sound-by}
 use Rattle.np_tables.proofs.HangulLemmas.{on_where_right}
 
 -- ---- a version without faults meets the conditions
@@ -31,30 +31,24 @@ sound-faultless v rows none =
       | inl ok ↦ ok
       | inr deep ↦ absurd (none (TooDeep c) (record { deep = deep }))
     ] in
-    record {
-      rows = rows;
-      bounded = λ c h. bounded-at v c rows h;
-      classes = λ c. classes-at v c rows;
-      scalars = λ c. scalars-at v c rows;
-      mapped_scalar = λ c h. mapped_scalar-at v c rows h;
-      maps_to_assigned = λ c. elim (cases_Bool (list_all (is_assigned v) (decomposition_mapping v c))) [
-        | inl ok ↦ ok
-        | inr lacks ↦ absurd (none (MapsToUnassigned c) (record { lacks = lacks }))
-      ];
-      shallow = shallow;
-      short = λ c full is. elim (cases_lt 64 (length full)) [
-        | inl long ↦ absurd (none (TooLong c) (record { shallow = shallow c; full = full; decomposes = is; long = long }))
-        | inr ok ↦ ok
-      ];
-      unlike = λ a b c d hc hd. elim (cases_order c d) [
-        | inl same ↦ same
-        | inr other ↦ elim other [
-          | inl lt ↦ absurd (unlike_below v none a b c d hc hd lt)
-          | inr gt ↦ absurd (unlike_below v none a b d c hd hc gt)
-        ]
-      ];
-      hangul = λ c h assigned. on_where_right v (λ d wrong. none (HangulWrong d) wrong) c h assigned;
-    }
+    sound-by v rows
+    (λ c. elim (cases_Bool (list_all (is_assigned v) (decomposition_mapping v c))) [
+      | inl ok ↦ ok
+      | inr lacks ↦ absurd (none (MapsToUnassigned c) (record { lacks = lacks }))
+    ])
+    shallow
+    (λ c full is. elim (cases_lt 64 (length full)) [
+      | inl long ↦ absurd (none (TooLong c) (record { shallow = shallow c; full = full; decomposes = is; long = long }))
+      | inr ok ↦ ok
+    ])
+    (λ a b c d hc hd. elim (cases_order c d) [
+      | inl same ↦ same
+      | inr other ↦ elim other [
+        | inl lt ↦ absurd (unlike_below v none a b c d hc hd lt)
+        | inr gt ↦ absurd (unlike_below v none a b d c hd hc gt)
+      ]
+    ])
+    (λ c h assigned. on_where_right v (λ d wrong. none (HangulWrong d) wrong) c h assigned)
 
 -- ---- the least of several faults
 
@@ -167,61 +161,37 @@ module _ (v : VersionData) (n : ℕ) (P : ℕ → Type 0) (fault : ℕ → Table
         | inr le ↦ subst (FirstTo v (n + 1)) (sym (cond-false (nat_lt here (place_of f)) (Some (fault c)) (Some f) (le-ltb here (place_of f) le))) (step_old f c first least le)
       ]
 
--- the kinds of faults, by number
-each_mapped : (v : VersionData) (g : TableFault) → HasFault v g → number_of g ≡ 0 + 1 → IsMappedToUnassigned v (place_of g)
-each_mapped v (MapsToUnassigned c) h n = h
-each_mapped v (TooDeep c) h n = absurd (omega arith)
-each_mapped v (TooLong c) h n = absurd (omega arith)
-each_mapped v (AmbiguousPair c) h n = absurd (omega arith)
-each_mapped v (HangulWrong c) h n = absurd (omega arith)
-each_mapped v Memory h n = absurd h
+-- what a fault is, by its number
+abbrev AreKinds : VersionData → TableFault → Type 0
+AreKinds v g =
+    (number_of g ≡ 1 → IsMappedToUnassigned v (place_of g))
+    × (number_of g ≡ 2 → IsTooDeep v (place_of g))
+    × (number_of g ≡ 3 → IsTooLong v (place_of g))
+    × (number_of g ≡ 4 → IsAmbiguous v (place_of g))
+    × (number_of g ≡ 5 → IsHangulWrong v (place_of g))
 
-each_deep : (v : VersionData) (g : TableFault) → HasFault v g → number_of g ≡ 1 + 1 → IsTooDeep v (place_of g)
-each_deep v (MapsToUnassigned c) h n = absurd (omega arith)
-each_deep v (TooDeep c) h n = h
-each_deep v (TooLong c) h n = absurd (omega arith)
-each_deep v (AmbiguousPair c) h n = absurd (omega arith)
-each_deep v (HangulWrong c) h n = absurd (omega arith)
-each_deep v Memory h n = absurd h
-
-each_long : (v : VersionData) (g : TableFault) → HasFault v g → number_of g ≡ 2 + 1 → IsTooLong v (place_of g)
-each_long v (MapsToUnassigned c) h n = absurd (omega arith)
-each_long v (TooDeep c) h n = absurd (omega arith)
-each_long v (TooLong c) h n = h
-each_long v (AmbiguousPair c) h n = absurd (omega arith)
-each_long v (HangulWrong c) h n = absurd (omega arith)
-each_long v Memory h n = absurd h
-
-each_ambiguous : (v : VersionData) (g : TableFault) → HasFault v g → number_of g ≡ 3 + 1 → IsAmbiguous v (place_of g)
-each_ambiguous v (MapsToUnassigned c) h n = absurd (omega arith)
-each_ambiguous v (TooDeep c) h n = absurd (omega arith)
-each_ambiguous v (TooLong c) h n = absurd (omega arith)
-each_ambiguous v (AmbiguousPair c) h n = h
-each_ambiguous v (HangulWrong c) h n = absurd (omega arith)
-each_ambiguous v Memory h n = absurd h
-
-each_hangul : (v : VersionData) (g : TableFault) → HasFault v g → number_of g ≡ 4 + 1 → IsHangulWrong v (place_of g)
-each_hangul v (MapsToUnassigned c) h n = absurd (omega arith)
-each_hangul v (TooDeep c) h n = absurd (omega arith)
-each_hangul v (TooLong c) h n = absurd (omega arith)
-each_hangul v (AmbiguousPair c) h n = absurd (omega arith)
-each_hangul v (HangulWrong c) h n = h
-each_hangul v Memory h n = absurd h
+kinds : (v : VersionData) (g : TableFault) → HasFault v g → AreKinds v g
+kinds v (MapsToUnassigned c) h = (λ n. h, λ n. absurd (omega arith), λ n. absurd (omega arith), λ n. absurd (omega arith), λ n. absurd (omega arith))
+kinds v (TooDeep c) h = (λ n. absurd (omega arith), λ n. h, λ n. absurd (omega arith), λ n. absurd (omega arith), λ n. absurd (omega arith))
+kinds v (TooLong c) h = (λ n. absurd (omega arith), λ n. absurd (omega arith), λ n. h, λ n. absurd (omega arith), λ n. absurd (omega arith))
+kinds v (AmbiguousPair c) h = (λ n. absurd (omega arith), λ n. absurd (omega arith), λ n. absurd (omega arith), λ n. h, λ n. absurd (omega arith))
+kinds v (HangulWrong c) h = (λ n. absurd (omega arith), λ n. absurd (omega arith), λ n. absurd (omega arith), λ n. absurd (omega arith), λ n. h)
+kinds v Memory h = absurd h
 
 kind_mapped : (v : VersionData) → IsKind v 0 (IsMappedToUnassigned v) MapsToUnassigned
-kind_mapped v = record { place = λ c. refl; number = λ c. omega arith; has = λ c h. h; each = each_mapped v }
+kind_mapped v = record { place = λ c. refl; number = λ c. omega arith; has = λ c h. h; each = λ g h. (kinds v g h).0 }
 
 kind_deep : (v : VersionData) → IsKind v 1 (IsTooDeep v) TooDeep
-kind_deep v = record { place = λ c. refl; number = λ c. omega arith; has = λ c h. h; each = each_deep v }
+kind_deep v = record { place = λ c. refl; number = λ c. omega arith; has = λ c h. h; each = λ g h. (kinds v g h).1 }
 
 kind_long : (v : VersionData) → IsKind v 2 (IsTooLong v) TooLong
-kind_long v = record { place = λ c. refl; number = λ c. omega arith; has = λ c h. h; each = each_long v }
+kind_long v = record { place = λ c. refl; number = λ c. omega arith; has = λ c h. h; each = λ g h. (kinds v g h).2 }
 
 kind_ambiguous : (v : VersionData) → IsKind v 3 (IsAmbiguous v) AmbiguousPair
-kind_ambiguous v = record { place = λ c. refl; number = λ c. omega arith; has = λ c h. h; each = each_ambiguous v }
+kind_ambiguous v = record { place = λ c. refl; number = λ c. omega arith; has = λ c h. h; each = λ g h. (kinds v g h).3 }
 
 kind_hangul : (v : VersionData) → IsKind v 4 (IsHangulWrong v) HangulWrong
-kind_hangul v = record { place = λ c. refl; number = λ c. omega arith; has = λ c h. h; each = each_hangul v }
+kind_hangul v = record { place = λ c. refl; number = λ c. omega arith; has = λ c h. h; each = λ g h. (kinds v g h).4 }
 
 -- the number of a fault that a version has is at most 5
 number-le : (v : VersionData) (g : TableFault) → HasFault v g → number_of g ≤ 5

@@ -18,8 +18,8 @@ use Rattle.np_tables.specs.declared.pairs.Composite.{Composite}
 use Rattle.np_tables.specs.inside.Pairs.{Lists, AreOfFile, pair_in, composites_in}
 use Rattle.np_tables.proofs.CompositeLemmas.{primary-from, primary-test}
 use Rattle.np_tables.proofs.HangulLemmas.{decomposition_mapping-off}
-use Rattle.np_tables.proofs.RowLemmas.{entry_at-nil, entry_at-hit, entry_at-miss}
-use Rattle.np_tables.proofs.FileRowLemmas.{row-at, first-at, found-lists, file_mapping-found, mapped-off}
+use Rattle.np_tables.proofs.RowLemmas.{entry_at-nil, entry_at-hit, entry_at-miss, at-row, entry_at-within}
+use Rattle.np_tables.proofs.FileRowLemmas.{first-at, file_mapping-found, mapped-off}
 
 -- ---- lists of lists
 
@@ -120,8 +120,8 @@ module _ (v : VersionData) (rows : AreRows v.entries) where
       let e = found.0 in
       let place = found-place v.entries c e found.1 in
       let here : e.mapping ≡ a ∷ b ∷ [] = sym (file_mapping-found v c e found.1) ∙ mapping in
-      let alone = (row-at v.entries place.0 e rows place.1).alone (is_pair-some e.mapping a b here) in
-      let lists = found-lists v.entries c e found.1 in
+      let alone = (at-row v.entries place.0 e rows place.1).alone (is_pair-some e.mapping a b here) in
+      let lists = entry_at-within v.entries c e found.1 in
       let same : e.first ≡ c = omega arith in
       let has = to_row (is_primary v e.first) e.first a b e.mapping (ap (is_primary v) same ∙ primary-test v c is.primary) here in
       flat-has (composites_in v) v.entries _ place.0 e place.1 (subst (λ k. Contains (pair_in (is_primary v e.first) e.first e.mapping) (record { first = a; second = b; code = k })) same has)

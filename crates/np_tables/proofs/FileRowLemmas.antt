@@ -1,19 +1,13 @@
 -- A row of the file at its place.
-use Rattle.std.proofs.Common.{◌≡◌, ℕ, zero, suc, ◌<◌, ◌≤◌, false, ◌&&◌, List, [], ◌∷◌, Some, sym, ap, subst, ◌∙◌, arith, inl, inr, le-leb, nat_le}
+use Rattle.std.proofs.Common.{◌≡◌, ℕ, zero, suc, ◌<◌, false, ◌&&◌, List, [], ◌∷◌, Some, ap, subst, ◌∙◌, arith, inl, inr, le-leb, nat_le}
 use Rattle.std.specs.List.{slice_get}
-use Rattle.std.proofs.lemmas.Bool.{cases_Bool, and_from, and_parts, and_right, lt-leb, leb-true, both_ways}
+use Rattle.std.proofs.lemmas.Bool.{cases_Bool, and_from, and_parts, and_right, lt-leb, both_ways}
 use Rattle.std.proofs.lemmas.Option.{none-some, same_Some}
-use Rattle.np_ucd.specs.Entries.{Entry, IsRow, AreRows}
-use Rattle.np_tables.specs.inside.RowPlaces.{lies_in}
+use Rattle.np_ucd.specs.Entries.{Entry, AreRows}
 use Rattle.np_tables.specs.Versions.{VersionData, entry_at, file_kind, file_mapping, is_empty, has_hangul, kind_in, mapping_in}
 use Rattle.np_code_points.specs.Hangul.{is_syllable}
-use Rattle.np_tables.proofs.RowLemmas.{entry_at-hit, entry_at-miss, entry_at-nil}
+use Rattle.np_tables.proofs.RowLemmas.{entry_at-hit, entry_at-miss}
 use Rattle.np_tables.proofs.HangulLemmas.{hangul_parts, syllable_row}
-
-pub row-at : (es : List Entry) (i : ℕ) (e : Entry) → AreRows es → slice_get es i ≡ Some e → IsRow e
-row-at [] i e rows h = absurd (none-some e h)
-row-at (x ∷ xs) zero e rows h = subst IsRow (same_Some x e h) rows.0
-row-at (x ∷ xs) (suc i) e rows h = row-at xs i e rows.2 h
 
 -- a later row lies behind
 later : (x : Entry) (xs : List Entry) (i : ℕ) (e : Entry) → AreRows (x ∷ xs) → slice_get xs i ≡ Some e → x.last < e.first
@@ -33,19 +27,6 @@ first-at (x ∷ xs) zero e rows h =
 first-at (x ∷ xs) (suc i) e rows h =
     let behind = later x xs i e rows h in
     entry_at-miss x xs e.first (and_right (nat_le x.first e.first) _ (lt-leb e.first x.last behind)) ∙ first-at xs i e rows.2 h
-
--- a row that is found lists the code point
-pub found-lists : (es : List Entry) (c : ℕ) (e : Entry) → entry_at es c ≡ Some e → (e.first ≤ c) × (c ≤ e.last)
-found-lists [] c e h = absurd (none-some e (sym (entry_at-nil c) ∙ h))
-found-lists (x ∷ xs) c e h =
-    elim (cases_Bool (lies_in (Some x) c)) [
-      | inl in_row ↦
-          let halves = and_parts (nat_le x.first c) (nat_le c x.last) in_row in
-          let low = leb-true x.first c halves.0 in
-          let high = leb-true c x.last halves.1 in
-          subst (λ (f : Entry). (f.first ≤ c) × (c ≤ f.last)) (same_Some x e (sym (entry_at-hit x xs c in_row) ∙ h)) (low, high)
-      | inr past ↦ found-lists xs c e (sym (entry_at-miss x xs c past) ∙ h)
-    ]
 
 -- what the file says where a row is found
 pub file_mapping-found : (v : VersionData) (c : ℕ) (e : Entry) → entry_at v.entries c ≡ Some e → file_mapping v c ≡ e.mapping

@@ -5,6 +5,7 @@ use Rattle.np_ucd.specs.Entries.{Entry, AreRows, IsBefore}
 use Rattle.np_tables.specs.Versions.{entry_at}
 use Rattle.np_tables.specs.inside.Depths.{first_row}
 use Rattle.np_tables.specs.inside.FirstFaults.{IsFirst}
+use Rattle.np_tables.proofs.RowLemmas.{entry_at-hit, entry_at-miss, entry_at-nil}
 
 -- ---- the first row that passes
 
@@ -14,18 +15,6 @@ pub record IsAt (p : Entry → Bool) (es : List Entry) (c : ℕ) : Type 0 where
   pub found : entry_at es c ≡ Some row
   pub passes : p row ≡ true
   pub first : row.first ≡ c
-
-entry_at-here : (e : Entry) (es : List Entry) (c : ℕ) → (leb e.first c && leb c e.last) ≡ true → entry_at (e ∷ es) c ≡ Some e
-unfolding entry_at
-entry_at-here e es c h = cond-true _ _ _ h
-
-entry_at-later : (e : Entry) (es : List Entry) (c : ℕ) → (leb e.first c && leb c e.last) ≡ false → entry_at (e ∷ es) c ≡ entry_at es c
-unfolding entry_at
-entry_at-later e es c h = cond-false _ _ _ h
-
-entry_at-none : (c : ℕ) → entry_at [] c ≡ None
-unfolding entry_at
-entry_at-none c = refl
 
 -- the rows begin above a
 abbrev IsAbove : ℕ → List Entry → Type 0
@@ -46,12 +35,12 @@ above_next e es a rows h =
 
 -- what is found lies above every row before it
 entry_at-above : (es : List Entry) (a c : ℕ) (r : Entry) → AreRows es → IsAbove a es → entry_at es c ≡ Some r → a < c
-entry_at-above [] a c r rows above found = let none = entry_at-none c in cc
+entry_at-above [] a c r rows above found = let none = entry_at-nil c in cc
 entry_at-above (e ∷ es) a c r rows above found =
     elim (cases_Bool (leb e.first c && leb c e.last)) [
       | inl here ↦ let low = leb-true e.first c (and_parts _ _ here).0 in omega arith
       | inr later ↦
-          entry_at-above es a c r rows.2 (above_next e es a rows above) (sym (entry_at-later e es c later) ∙ found)
+          entry_at-above es a c r rows.2 (above_next e es a rows above) (sym (entry_at-miss e es c later) ∙ found)
     ]
 
 pub first_row-hit : (p : Entry → Bool) (e : Entry) (es : List Entry) → p e ≡ true → first_row p (e ∷ es) ≡ Some e.first
@@ -72,7 +61,7 @@ module _ (p : Entry → Bool) where
       let over = entry_at-above es e.last c is.row rows.2 (above_before e es rows.1) is.found in
       record {
         row = is.row;
-        found = entry_at-later e es c (and_right _ _ (lt-leb c e.last over)) ∙ is.found;
+        found = entry_at-miss e es c (and_right _ _ (lt-leb c e.last over)) ∙ is.found;
         passes = is.passes;
         first = is.first;
       }
@@ -82,7 +71,7 @@ module _ (p : Entry → Bool) where
       let rises = rows.0.rises in
       record {
         row = e;
-        found = entry_at-here e es c (and_from _ _ (le-leb e.first c (omega arith)) (le-leb c e.last (omega arith)));
+        found = entry_at-hit e es c (and_from _ _ (le-leb e.first c (omega arith)) (le-leb c e.last (omega arith)));
         passes = h;
         first = same;
       }
@@ -109,7 +98,7 @@ module _ (p : Entry → Bool) where
         | inl here ↦ leb-true e.first d (and_parts _ _ here).0
         | inr later ↦
             let rises = rows.0.rises in
-            let over = entry_at-above es e.last d is.row rows.2 (above_before e es rows.1) (sym (entry_at-later e es d later) ∙ is.found) in
+            let over = entry_at-above es e.last d is.row rows.2 (above_before e es rows.1) (sym (entry_at-miss e es d later) ∙ is.found) in
             omega arith
       ]
 
@@ -119,12 +108,12 @@ module _ (p : Entry → Bool) where
   is_later : (e : Entry) (es : List Entry) (d : ℕ) → p e ≡ false → IsAt p (e ∷ es) d → IsAt p es d
   is_later e es d miss is =
       elim (cases_Bool (leb e.first d && leb d e.last)) [
-        | inl here ↦ absurd (both_ways _ miss (ap p (same_row e is.row _ (entry_at-here e es d here) is.found) ∙ is.passes))
-        | inr later ↦ record { row = is.row; found = sym (entry_at-later e es d later) ∙ is.found; passes = is.passes; first = is.first }
+        | inl here ↦ absurd (both_ways _ miss (ap p (same_row e is.row _ (entry_at-hit e es d here) is.found) ∙ is.passes))
+        | inr later ↦ record { row = is.row; found = sym (entry_at-miss e es d later) ∙ is.found; passes = is.passes; first = is.first }
       ]
 
   first_row-least : (es : List Entry) (d : ℕ) → AreRows es → IsAt p es d → IsUpTo (first_row p es) d
-  first_row-least [] d rows is = let none = entry_at-none d in let some = is.found in absurd (cc)
+  first_row-least [] d rows is = let none = entry_at-nil d in let some = is.found in absurd (cc)
   first_row-least (e ∷ es) d rows is =
       elim (cases_Bool (p e)) [
         | inl hit ↦ subst (λ o. IsUpTo o d) (sym (first_row-hit p e es hit)) (at_least e es d rows is)

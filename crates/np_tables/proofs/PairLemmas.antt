@@ -58,18 +58,6 @@ AreOrdered-from_sort xs ys range moved sorted =
 -- ---- slots with numbers
 
 module _ (slots : List ℕ) (cs : List Composite) where
-  -- one more composite whose slot has a number
-  pub one_numbered : (i : ℕ) (x : Composite) (number : ℕ) → i < length cs → x ≡ get_or cs i x → number ≡ get_or slots (slot_at x.first x.second) number → slot_at x.first x.second < length slots → 0 < number →
-      AllWithin (λ y. 0 < get_or slots (slot_at y.first y.second) 0) cs 0 i → AllWithin (λ y. 0 < get_or slots (slot_at y.first y.second) 0) cs 0 (i + 1)
-  one_numbered i x number lt is there fits some before = λ k d low less.
-      elim (cases_lt k i) [
-        | inl early ↦ before k d low early
-        | inr late ↦
-            let same : get_or cs k d ≡ x = ap (λ n. get_or cs n d) (omega arith) ∙ get_or_default cs i d x lt ∙ sym is in
-            let value : get_or slots (slot_at x.first x.second) 0 ≡ number = get_or_default slots (slot_at x.first x.second) 0 number fits ∙ sym there in
-            subst (λ (y : Composite). 0 < get_or slots (slot_at y.first y.second) 0) (sym same) (omega (arith, value, some))
-      ]
-
   -- a pair whose slot has none stands in no place
   pub lists-unnumbered : HaveNumbers slots cs → (a b number : ℕ) → slot_at a b < length slots → number ≡ get_or slots (slot_at a b) number → number ≡ 0 → (code : ℕ) → ¬ Lists cs a b code
   lists-unnumbered all a b number fits there none code has =
@@ -100,14 +88,6 @@ module _ (cs : List Composite) (order : AreOrdered cs) where
       let same : get_or cs at d ≡ x = get_or_default cs at d x lt ∙ sym is in
       let here = ap (λ (c : Composite). pair_rank c.first c.second) same in
       let up = pairs_rise at k d low high in
-      omega arith
-
-  -- a pair that stands in no place
-  pub lists-none : (a b at : ℕ) → AllWithin (λ c. pair_rank c.first c.second < pair_rank a b) cs 0 at → length cs ≤ at → (code : ℕ) → ¬ Lists cs a b code
-  lists-none a b at below past code is =
-      let d : Composite = record { first = a; second = b; code = code } in
-      let less = below is.0 d (omega arith) (omega (arith, is.1)) in
-      let same = ap (λ (c : Composite). pair_rank c.first c.second) is.2 in
       omega arith
 
   pub lists-other : (a b at : ℕ) (x : Composite) → a < 0x110000 → b < 0x110000 → AllWithin (λ c. pair_rank c.first c.second < pair_rank a b) cs 0 at → AllWithin (λ c. pair_rank a b ≤ pair_rank c.first c.second) cs at (length cs) → at < length cs → x ≡ get_or cs at x → ((x.first ≡ a) → ¬ (x.second ≡ b)) → (code : ℕ) → ¬ Lists cs a b code

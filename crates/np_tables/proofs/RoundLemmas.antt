@@ -66,9 +66,6 @@ pub record IsSum (v : VersionData) (n : ℕ) (xs : List ℕ) (s : ℕ) : Type 0 
   pub total : s ≡ min (length (flat_map (full v true n) xs)) 65
 
 module _ (v : VersionData) (n : ℕ) where
-  pub IsSum-none : IsSum v n [] 0
-  IsSum-none = record { known = refl; total = refl }
-
   flat_map-last : (xs : List ℕ) (x : ℕ) → length (flat_map (full v true n) (xs ++ x ∷ [])) ≡ length (flat_map (full v true n) xs) + length (full v true n x)
   flat_map-last xs x =
       ap length (flat_map-append (full v true n) xs (x ∷ []) ∙ ap (λ l. flat_map (full v true n) xs ++ l) (append-nil (full v true n x)))

@@ -73,6 +73,15 @@ at-row [] i e rows h = absurd (none-some e h)
 at-row (x ∷ xs) zero e rows h = subst IsRow (same_Some x e h) rows.0
 at-row (x ∷ xs) (suc i) e rows h = at-row xs i e rows.2 h
 
+-- a row's place is no greater than its code points
+pub place-bounded : (es : List Entry) (i : ℕ) (e : Entry) → AreRows es → slice_get es i ≡ Some e → i < 0x110000
+place-bounded es i e rows h =
+    let row = at-row es i e rows h in
+    let low = place-le es i e rows h in
+    let up = row.rises in
+    let bound = row.bounded in
+    omega arith
+
 pub out_of : (e : Entry) (c : ℕ) → e.last < c → lies_in (Some e) c ≡ false
 out_of e c h = and_right (nat_le e.first c) (nat_le c e.last) (lt-leb c e.last h)
 

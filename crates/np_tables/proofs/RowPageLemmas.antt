@@ -10,7 +10,7 @@ use Rattle.np_ucd.specs.Entries.{Entry, AreRows}
 use Rattle.np_tables.specs.Versions.{entry_at}
 use Rattle.np_tables.specs.inside.Pages.{word_place}
 use Rattle.np_tables.specs.inside.RowPlaces.{lies_in}
-use Rattle.np_tables.specs.inside.RowPages.{ArePagedRows, IsRowNumber, IsRowBlock, AreRowPages, IsNextRow, AreFirstPages, AreBegun, ArePushed, HasNoRow, GoesOn}
+use Rattle.np_tables.specs.inside.RowPages.{IsRowNumber, IsRowBlock, AreRowPages, IsNextRow, AreFirstPages, AreBegun, ArePushed, HasNoRow, GoesOn}
 use Rattle.np_tables.proofs.RowLemmas.{at-found, at-row, entry_at-row, entry_at-within, none-found, firsts-le, out_of, below_out}
 
 -- ---- rows by their places
@@ -66,11 +66,6 @@ number-some es at c number e rows here low high is =
       within = λ lt. let w = slice_get_within es at e here in omega arith;
       row = λ lt. ap (slice_get es) same ∙ at-found es at c e rows here low high;
     }
-
--- a code point in the same row has the same number
-pub number-same : (es : List Entry) (c d number : ℕ) → entry_at es d ≡ entry_at es c → IsRowNumber es c number → IsRowNumber es d number
-number-same es c d number same is =
-    record { none = λ z. same ∙ is.none z; within = is.within; row = λ lt. is.row lt ∙ sym same }
 
 -- the next row of a code point is that of a later one which it doesn't end before
 next-later : (es : List Entry) (at c d : ℕ) → IsNextRow es at c → c ≤ d → ((e : Entry) → slice_get es at ≡ Some e → d ≤ e.last) → IsNextRow es at d
@@ -129,30 +124,6 @@ goes_on-within es at first e rows next here low high =
 
 -- ---- pages that grow
 
--- one row number more
-pub pushed-more : (es : List Entry) (first count : ℕ) (old numbers : List ℕ) (at number to : ℕ) → ArePushed es first count old numbers at → IsRowNumber es (first + count) number → IsNextRow es to (first + count + 1) →
-    ArePushed es first (count + 1) old (numbers ++ number ∷ []) to
-pushed-more es first count old numbers at number to so_far is next =
-    let size = so_far.size in
-    let grown : length (numbers ++ number ∷ []) ≡ length numbers + 1 = length-append numbers (number ∷ []) in
-    record {
-      next = subst (IsNextRow es to) (omega arith) next;
-      size = omega arith;
-      kept = λ k lt. get_or_append_left numbers (number ∷ []) 0 k (omega arith) ∙ so_far.kept k lt;
-      each = λ low lt. elim (cases_lt low count) [
-        | inl less ↦ subst (IsRowNumber es (first + low)) (sym (get_or_append_left numbers (number ∷ []) 0 (length old + low) (omega arith))) (so_far.each low less)
-        | inr more ↦
-            let here : low ≡ count = omega arith in
-            let place : length numbers ≡ length old + low = omega arith in
-            let read : slice_index (numbers ++ number ∷ []) (length old + low) ≡ number = sym (ap (slice_index (numbers ++ number ∷ [])) place) ∙ get_or-append_seam numbers number [] 0 in
-            subst (IsRowNumber es (first + low)) (sym read) (subst (λ n. IsRowNumber es (first + n) number) (sym here) is)
-      ];
-    }
-
-pub pushed-none : (es : List Entry) (first : ℕ) (old : List ℕ) (at : ℕ) → IsNextRow es at first → ArePushed es first 0 old old at
-pushed-none es first old at next =
-    record { next = subst (IsNextRow es at) (omega arith) next; size = omega arith; kept = λ k lt. refl; each = λ low lt. absurd (omega arith) }
-
 -- numbers that begin with the earlier ones
 record AreKept (old new : List ℕ) : Type 0 where
   count : ℕ
@@ -199,31 +170,6 @@ begun-more es blocks old new block at pages kept fits is next =
       };
       next = subst (IsNextRow es at) (omega arith) next;
     }
-
-kept-all : (numbers : List ℕ) → AreKept numbers numbers
-kept-all numbers = record { count = 0; fits = omega arith; few = omega arith; same = λ k lt. refl }
-
--- a block number that serves, where no row has the code points
-pub begun-empty : (es : List Entry) (blocks numbers : List ℕ) (at : ℕ) → AreBegun es blocks numbers at → HasNoRow es at (length blocks * 256) → AreBegun es (blocks ++ 0 ∷ []) numbers at
-begun-empty es blocks numbers at begun has =
-    let some = begun.pages.counted.some in
-    let long = begun.pages.counted.length in
-    begun-more es blocks numbers numbers 0 at begun.pages (kept-all numbers) (omega arith)
-    (λ low lt. number-none es (length blocks * 256 + low) (slice_index numbers (0 * 256 + low)) (has.none low lt) (ap (slice_index numbers) (omega arith) ∙ begun.pages.none low lt))
-    has.next
-
--- one that serves twice, in the midst of a range
-pub begun-again : (es : List Entry) (blocks numbers : List ℕ) (at block : ℕ) → AreBegun es blocks numbers at → GoesOn es at (length blocks * 256) → block ≡ slice_index blocks (length blocks - 1) → AreBegun es (blocks ++ block ∷ []) numbers at
-begun-again es blocks numbers at block begun goes is =
-    let before = goes.before in
-    let last : length blocks - 1 < length blocks = omega arith in
-    let fits = begun.pages.within (length blocks - 1) last in
-    begun-more es blocks numbers numbers block at begun.pages (kept-all numbers) (omega arith)
-    (λ low lt.
-    number-same es (length blocks * 256 - 256 + low) (length blocks * 256 + low) (slice_index numbers (block * 256 + low)) (goes.same low lt)
-    (subst (λ n. IsRowNumber es n (slice_index numbers (block * 256 + low))) (omega arith)
-    (subst (λ b. IsRowNumber es ((length blocks - 1) * 256 + low) (slice_index numbers (b * 256 + low))) (sym is) (begun.pages.each (length blocks - 1) last low lt))))
-    goes.next
 
 -- a new block
 pub begun-block : (es : List Entry) (blocks old new : List ℕ) (at to block : ℕ) → AreBegun es blocks old at → ArePushed es (length blocks * 256) 256 old new to → block * 256 ≡ length old → AreBegun es (blocks ++ block ∷ []) new to
@@ -279,6 +225,3 @@ past_code_points es c rows h =
       | inl none ↦ none
       | inr some ↦ (let bound = (entry_at-row es c some.0 rows some.1).bounded in let within = entry_at-within es c some.0 some.1 in absurd (omega arith))
     ]
-
-pub paged-number : (es : List Entry) (blocks numbers : List ℕ) (c number : ℕ) → ArePagedRows es blocks numbers → c < 0x110000 → number ≡ slice_index numbers (word_place blocks c) → IsRowNumber es c number
-paged-number es blocks numbers c number are lt is = subst (IsRowNumber es c) (sym is) (are.pages.each c lt)

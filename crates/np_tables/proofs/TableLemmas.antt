@@ -15,10 +15,11 @@ use Rattle.np_tables.specs.Conditions.{IsSound}
 use Rattle.np_tables.specs.declared.pairs.Composite.{Composite}
 use Rattle.np_tables.specs.inside.Pairs.{Lists, AreOfFile}
 use Rattle.np_tables.specs.inside.FullLists.{FullLists, of_kind, row_full, AreFulls}
+use Rattle.np_tables.proofs.RowLemmas.{at-row, entry_at-within}
 use Rattle.np_tables.proofs.MappingLemmas.{IsFullDecomposition-full_of, is_empty-false}
 use Rattle.np_tables.proofs.CompositeLemmas.{cases_Option, composite-some, composite_from}
 use Rattle.np_tables.proofs.PrimaryLemmas.{primary-syllable}
-use Rattle.np_tables.proofs.FileRowLemmas.{row-at, first-at, found-lists, file_mapping-found}
+use Rattle.np_tables.proofs.FileRowLemmas.{first-at, file_mapping-found}
 use Rattle.np_tables.proofs.FullListLemmas.{lent-outside}
 use Rattle.np_tables.proofs.HangulLemmas.{decomposition_mapping-on}
 
@@ -73,8 +74,8 @@ row-shares v compat c at e rows place found =
     elim (cases_Bool (is_empty e.mapping)) [
       | inl none ↦ lent-outside v compat e.first (ap is_empty own ∙ none) ∙ sym (lent-outside v compat c (ap is_empty there ∙ none))
       | inr some ↦
-          let alone = (row-at v.entries at e rows place).alone (is_empty-false e.mapping some) in
-          let lists = found-lists v.entries c e found in
+          let alone = (at-row v.entries at e rows place).alone (is_empty-false e.mapping some) in
+          let lists = entry_at-within v.entries c e found in
           let same : e.first ≡ c = omega arith in
           ap (table_full v compat) same
     ]

@@ -3,7 +3,7 @@ ghost use Rattle.std.specs.Prelude.{◌≡◌, ◌+◌, ◌++◌, ◌≤◌, ◌
 ghost use Rattle.np_ucd.specs.Entries.{AreRows};
 ghost use Rattle.np_code_points.specs.Hangul.{is_syllable as in_block};
 ghost use Rattle.np_code_points.specs.inside.LineCuts.{after_byte, before_byte};
-ghost use Rattle.np_tables.specs.inside.Depths.{first_row, is_marked, mapping_mark, mark, parts_mark as mark_of_parts, row_marks, syllable_mark as mark_of_syllable};
+ghost use Rattle.np_tables.specs.inside.Depths.{first_row, is_marked, mapping_mark, mark, parts_mark as mark_of_parts, row_marks, syllable_depth as depth_of_syllable, syllable_mark as mark_of_syllable};
 ghost use Rattle.np_tables.specs.Faults.{IsTooDeep, IsTooLong};
 ghost use Rattle.np_tables.specs.inside.FirstFaults.{IsFirst};
 ghost use Rattle.np_tables.specs.Versions.{mapping_in};
@@ -184,16 +184,21 @@ fn part_mark(characters: &CharacterData, marks: &[u8], round: u32, code: u32) ->
     }
 }
 
-/// The mark of a syllable of the arithmetic: `<L, V>` has depth 1, `<LV, T>` depth 2.
+/// The depth of a syllable of the arithmetic: that of `<L, V>` is 1, that of `<LV, T>` 2.
+fn syllable_depth(code: u32) -> u8
+    requires { in_block code ≡ true }
+    ensures value { result ≡ depth_of_syllable code }
+    ensures bound { result ≤ 2 }
+{
+    if (code - S_BASE) % T_COUNT == 0 { 1 } else { 2 }
+}
+
+/// The mark of a syllable of the arithmetic.
 fn syllable_mark(round: u32, code: u32) -> u8
     requires { in_block code ≡ true }
     ensures { result ≡ mark_of_syllable round code }
 {
-    let depth = if (code - S_BASE) % T_COUNT == 0 {
-        1u8
-    } else {
-        2u8
-    };
+    let depth = syllable_depth(code);
     if u32::from(depth) <= round {
         depth + 1
     } else {

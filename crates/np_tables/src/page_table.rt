@@ -10,7 +10,6 @@ use crate::page_slots::slots_of;
 use crate::page_words::{Word, page_words, row_words, second_rows, word_of};
 use crate::standing_runs::standing_front;
 use crate::steps::{all_steps, is_ascii_staying};
-use crate::syllables::arithmetic_pair;
 use crate::tables::NormTable;
 use crate::version::Version;
 use crate::word_bits::has_bit;
@@ -115,10 +114,7 @@ impl NormTable for PageTable {
         if word_of(&self.index, &self.words, b).apart {
             return None;
         }
-        match arithmetic_pair(self.version.characters(), a, b) {
-            Some(syllable) => Some(syllable),
-            None => self.version.pairs().find(a, b),
-        }
+        self.version.composite_of(a, b)
     }
 
     fn full(&self, c: char, compat: bool) -> &[char] {

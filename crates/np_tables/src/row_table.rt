@@ -2,7 +2,6 @@
 ghost use Rattle.std.specs.Prelude.{◌≡◌, IfOk};
 
 use crate::fulls::Fulls;
-use crate::syllables::arithmetic_pair;
 use crate::tables::NormTable;
 use crate::version::Version;
 use np_code_points::Memory;
@@ -59,10 +58,7 @@ impl NormTable for RowTable {
     }
 
     fn pair(&self, a: char, b: char) -> Option<char> {
-        match arithmetic_pair(self.version.characters(), a, b) {
-            Some(syllable) => Some(syllable),
-            None => self.version.pairs().find(a, b),
-        }
+        self.version.composite_of(a, b)
     }
 
     fn full(&self, c: char, compat: bool) -> &[char] {

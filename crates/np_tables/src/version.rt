@@ -1,8 +1,9 @@
 //! Versions of the character tables (UAX #44).
-ghost use Rattle.std.specs.Prelude.{◌≡◌, ◌↔◌, ◌⊎◌, IfOk, OnOk, IfErr, IsTrue};
+ghost use Rattle.std.specs.Prelude.{◌≡◌, ◌↔◌, ◌⊎◌, ℕ, IfOk, OnOk, IfErr, IfSome, IfNone, IsTrue};
 ghost use Rattle.np_tables.specs.TableFaults.{IsFaultless, IsLeastFault};
 ghost use Rattle.np_tables.specs.declared.faults.TableFault.TheVariants.{Memory as OutOfMemory};
-ghost use Rattle.np_tables.specs.Composites.{IsPrimary};
+ghost use Rattle.np_tables.specs.Composites.{IsCompositeOf, IsPrimary};
+ghost use Rattle.np_tables.specs.inside.CompositeSearch.{composite};
 ghost use Rattle.np_tables.specs.inside.Primaries.{is_primary};
 ghost use Rattle.np_tables.specs.Conditions.{IsSound};
 ghost use Rattle.np_tables.specs.inside.Pairs.{AreOfFile};
@@ -14,6 +15,7 @@ use crate::counts::assigned_count as count_of;
 use crate::faults::TableFault;
 use crate::first_faults::fault_of;
 use crate::pairs::Pairs;
+use crate::syllables::arithmetic_pair;
 use np_ucd::{Exclusions, MapKind, Rows};
 use std::alloc::Global;
 use std::marker::Model;
@@ -86,6 +88,18 @@ impl Version {
         ensures { AreOfFile self.now result.now }
     {
         &self.pairs
+    }
+
+    /// The primary composite with this pair, syllables too.
+    pub(crate) fn composite_of(&self, first: char, second: char) -> Option<char>
+        ensures some { IfSome result (IsCompositeOf self.now first second) }
+        ensures none { IfNone result ((c : ℕ) → ¬ (IsCompositeOf self.now first second c)) }
+        ensures value { result ≡ composite self.now first second }
+    {
+        match arithmetic_pair(&self.characters, first, second) {
+            Some(syllable) => Some(syllable),
+            None => self.pairs.find(first, second),
+        }
     }
 
     /// Whether a code point is assigned: listed, alone or inside a range.

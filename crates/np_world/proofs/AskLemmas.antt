@@ -16,8 +16,9 @@ use Rattle.np_node.specs.Nodes.{IsKept}
 use Rattle.np_node.specs.Strings.{Entry, IsEntry}
 use Rattle.np_tables.specs.Conditions.{IsSound}
 use Rattle.np_tables.specs.Versions.{VersionData}
-use Rattle.np_world.specs.World.{MachineNode, Asks}
+use Rattle.np_world.specs.World.{MachineNode, Asks, If}
 use Rattle.np_world.specs.declared.members.Member.{Member}
+use Rattle.np_world.specs.declared.replies.Reply.{Reply}
 use Rattle.np_world.specs.declared.replies.Reply.TheVariants.{NotKept, Equal, Different}
 use Rattle.np_world.specs.inside.Mirrors.{Rules, setting_of, Mirrors, AreRules, Turns}
 use Rattle.np_world.proofs.TurnLemmas.{Deed, bytes_of, has_text, table_here, says}
@@ -67,6 +68,11 @@ module _ {T : Type 0} (model : T → VersionData) (rules : Rules T) (old : Membe
 
 -- ---- asking
 
+-- what is so in a case is so in one that means the same
+if_same : {A B : Type 0} (P Q : Type 0) → P ↔ Q → If P A B → If Q A B
+if_same P Q same (inl (is, a)) = inl (same.0 is, a)
+if_same P Q same (inr (not, b)) = inr (λ is. not (same.1 is), b)
+
 module _ {T : Type 0} (model : T → VersionData) (rules : Rules T) (old new : Member T) (left right : List ℕ) (told : List (Vec ℕ Global)) (same : new ≡ old) where
   abbrev pub deed_ask : Deed
   deed_ask version last = Asks (setting_of model rules) last (chars left) (chars right)
@@ -76,25 +82,14 @@ module _ {T : Type 0} (model : T → VersionData) (rules : Rules T) (old new : M
       says model rules deed_ask old new told NotKept same
       (λ node strings last are m sent end. (refl, inr (λ has. lacks (bytes_of model rules old node m left one has.0, bytes_of model rules old node m right other has.1), refl)))
 
-  module _ (stability : Stability) (forms : SameForms) (one : IsKept old.node.entries left) (other : IsKept old.node.entries right) where
-    pub asks-equal : IsEquivalent (model old.node.table) (is_compat old.node.form) (chars left) (chars right) → Turns model rules deed_ask old told Equal new told
-    asks-equal is =
-        says model rules deed_ask old new told Equal same
-        (λ node strings last are m sent end. (
-          refl,
-          inl (
-            (has_text model rules old node m left one, has_text model rules old node m right other),
-            inl ((equivalent_last model rules old node last m are stability forms end left right one other).0 is, refl),
-          ),
-        ))
-
-    pub asks-different : ¬ (IsEquivalent (model old.node.table) (is_compat old.node.form) (chars left) (chars right)) → Turns model rules deed_ask old told Different new told
-    asks-different not =
-        says model rules deed_ask old new told Different same
-        (λ node strings last are m sent end. (
-          refl,
-          inl (
-            (has_text model rules old node m left one, has_text model rules old node m right other),
-            inr (λ is. not ((equivalent_last model rules old node last m are stability forms end left right one other).1 is), refl),
-          ),
-        ))
+  pub asks-kept : Stability → SameForms → IsKept old.node.entries left → IsKept old.node.entries right → (reply : Reply)
+      → If (IsEquivalent (model old.node.table) (is_compat old.node.form) (chars left) (chars right)) (reply ≡ Equal) (reply ≡ Different) → Turns model rules deed_ask old told reply new told
+  asks-kept stability forms one other reply is =
+      says model rules deed_ask old new told reply same
+      (λ node strings last are m sent end. (
+        refl,
+        inl (
+          (has_text model rules old node m left one, has_text model rules old node m right other),
+          if_same _ _ (equivalent_last model rules old node last m are stability forms end left right one other) is,
+        ),
+      ))

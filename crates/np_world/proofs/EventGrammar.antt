@@ -5,7 +5,7 @@ use Rattle.std.specs.List.{AllZip}
 use Rattle.std.specs.Option.{option_and_then}
 use Rattle.std.specs.Str.{bytes_eq}
 use Rattle.std.proofs.lemmas.Bool.{cond-true, cond-false, and_from, and_parts, false_from_ne_true}
-use Rattle.np_code_points.specs.Codes.{IsScalarOf, code_value, is_hex_digit}
+use Rattle.np_code_points.specs.Codes.{IsScalarOf, is_hex_digit}
 use Rattle.np_code_points.specs.declared.words.Dividers.TheVariants.{Blanks}
 use Rattle.np_code_points.specs.inside.WordCuts.{words_of}
 use Rattle.np_code_points.specs.inside.WordValues.{scalars_of, scalar_value}

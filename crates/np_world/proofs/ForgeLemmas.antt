@@ -3,10 +3,11 @@ use Rattle.std.proofs.Common.{◌≡◌, ◌≢◌, ℕ, ◌<◌, ◌≤◌, Lis
 use Rattle.std.specs.Prelude.{chars, IsUtf8, IfOk}
 use Rattle.std.specs.declared.vec.Vec.{Vec}
 use Rattle.std.specs.declared.alloc.Global.{Global}
+use Rattle.np_code_points.specs.declared.Memory.{Memory}
 use Rattle.np_forms.specs.Assigned.{IsAssigned}
 use Rattle.np_node.specs.Laws.{HasOneFault, SpellsOne}
 use Rattle.np_node.specs.Messages.{Message, IsMessage, IsMessageFault}
-use Rattle.np_node.specs.Nodes.{NodeState, State, state_of, with_entry}
+use Rattle.np_node.specs.Nodes.{state_of, with_entry}
 use Rattle.np_node.specs.Strings.{Entry, IsEntry, IsKey}
 use Rattle.np_node.specs.Taking.{AnswersTake, LeavesTaken}
 use Rattle.np_node.specs.declared.faults.NodeFault.{NodeFault}
@@ -22,7 +23,7 @@ use Rattle.np_world.specs.inside.Mirrors.{Rules, setting_of, Mirrors, Turns}
 use Rattle.np_world.specs.inside.Told.{refusal_of}
 use Rattle.np_world.proofs.CaseLemmas.{Same, both, one_finding, one_if, one_name, same_as}
 use Rattle.np_world.proofs.StringLemmas.{not_assigned, not_utf8}
-use Rattle.np_world.proofs.TurnLemmas.{Deed, scene, finds-known, finds-full, finds-place, keeps_more, turned, says}
+use Rattle.np_world.proofs.TurnLemmas.{Deed, scene, finds-known, finds-full, finds-place, keeps_more, same_member, turned, says}
 
 -- bytes tell one string and key at most
 pub one_entry : SpellsOne IsMessage → (bytes : List ℕ) (m n : Message) → IsMessage bytes m → IsMessage bytes n → m ≡ n
@@ -30,6 +31,12 @@ one_entry one bytes m n first second = (one bytes [] m n first (subst (λ l. IsM
 
 not_long : (n : ℕ) → n ≤ 4096 → ¬ (4096 < n)
 not_long n short long = omega (arith, short, long)
+
+-- the reply to each answer
+abbrev pub reply_to : Result Taken NodeFault → Result Reply Memory
+reply_to (Ok taken.Known) = Ok Known
+reply_to (Ok taken.Kept) = Ok Kept
+reply_to (Err f) = refusal_of f
 
 module _ {T : Type 0} (model : T → VersionData) (rules : Rules T) (old new : Member T) (bytes : List ℕ) where
   abbrev pub deed_forge : Deed
@@ -54,7 +61,7 @@ module _ {T : Type 0} (model : T → VersionData) (rules : Rules T) (old new : M
       ))
 
   -- the refusals, in the order of the faults
-  pub forges-refused : (told : List (Vec ℕ Global)) (f : NodeFault) → AnswersTake (state_of model old.node) bytes (Err f) → new ≡ old → IfOk (refusal_of f) (λ reply. Turns model rules deed_forge old told reply new told)
+  forges-refused : (told : List (Vec ℕ Global)) (f : NodeFault) → AnswersTake (state_of model old.node) bytes (Err f) → new ≡ old → IfOk (refusal_of f) (λ reply. Turns model rules deed_forge old told reply new told)
   forges-refused told (fault.Malformed at) answers same =
       says model rules deed_forge old new told (Malformed at) same (λ node strings last are m sent end. inl (at, answers, refl, refl))
   forges-refused told fault.OtherForm answers same =
@@ -94,13 +101,13 @@ module _ {T : Type 0} (model : T → VersionData) (rules : Rules T) (old new : M
       (λ node strings last are m sent end. finds node m e answers.spelled (scene node strings) (scene node strings) Full answers.has.0 (finds-full model rules old node m strings e.string _ answers.has.1))
   forges-refused told fault.Memory answers same = tt
 
-  pub forges-known : (told : List (Vec ℕ Global)) → AnswersTake (state_of model old.node) bytes (Ok taken.Known) → new ≡ old → Turns model rules deed_forge old told Known new told
+  forges-known : (told : List (Vec ℕ Global)) → AnswersTake (state_of model old.node) bytes (Ok taken.Known) → new ≡ old → Turns model rules deed_forge old told Known new told
   forges-known told answers same =
       let e = answers.entry in
       says model rules deed_forge old new told Known same
       (λ node strings last are m sent end. finds node m e answers.spelled (scene node strings) (scene node strings) Known answers.has.0 (finds-known model rules old node m strings e.string _ answers.has.1))
 
-  pub forges-kept : (told : List (Vec ℕ Global)) → SpellsOne IsMessage → AnswersTake (state_of model old.node) bytes (Ok taken.Kept) → LeavesTaken old.node new.node bytes (Ok taken.Kept)
+  forges-kept : (told : List (Vec ℕ Global)) → SpellsOne IsMessage → AnswersTake (state_of model old.node) bytes (Ok taken.Kept) → LeavesTaken old.node new.node bytes (Ok taken.Kept)
       → new.index ≡ old.index → new.image ≡ old.image → Turns model rules deed_forge old told Kept new told
   forges-kept told one answers leaves index image =
       let e = answers.entry in
@@ -117,13 +124,17 @@ module _ {T : Type 0} (model : T → VersionData) (rules : Rules T) (old new : M
         messages = sent;
       })
 
--- ---- answers that are known
+  forges-by : (told : List (Vec ℕ Global)) → SpellsOne IsMessage → new.index ≡ old.index → new.image ≡ old.image → (r : Result Taken NodeFault)
+      → AnswersTake (state_of model old.node) bytes r → LeavesTaken old.node new.node bytes r → IfOk (reply_to r) (λ reply. Turns model rules deed_forge old told reply new told)
+  forges-by told one index image (Ok taken.Known) answers leaves = forges-known told answers (same_member new old index leaves image)
+  forges-by told one index image (Ok taken.Kept) answers leaves = forges-kept told one answers leaves index image
+  forges-by told one index image (Err f) answers leaves = forges-refused told f answers (same_member new old index leaves image)
 
-pub take_answers : (node : State) (bytes : List ℕ) (r x : Result Taken NodeFault) → r ≡ x → AnswersTake node bytes r → AnswersTake node bytes x
-take_answers node bytes r x same h = subst (λ a. AnswersTake node bytes a) same h
-
-pub take_leaves : {T : Type 0} (old new : NodeState T) (bytes : List ℕ) (r x : Result Taken NodeFault) → r ≡ x → LeavesTaken old new bytes r → LeavesTaken old new bytes x
-take_leaves old new bytes r x same h = subst (λ a. LeavesTaken old new bytes a) same h
+  -- whatever the node answers
+  pub forges : (told : List (Vec ℕ Global)) → SpellsOne IsMessage → new.index ≡ old.index → new.image ≡ old.image → {r x : Result Taken NodeFault} {back : Result Reply Memory} → r ≡ x → back ≡ reply_to x
+      → AnswersTake (state_of model old.node) bytes r → LeavesTaken old.node new.node bytes r → IfOk back (λ reply. Turns model rules deed_forge old told reply new told)
+  forges told one index image {r} {x} {back} same replies answers leaves =
+      subst (λ b. IfOk b (λ reply. Turns model rules deed_forge old told reply new told)) (sym (replies ∙ ap reply_to (sym same))) (forges-by told one index image r answers leaves)
 
 -- ---- one answer
 

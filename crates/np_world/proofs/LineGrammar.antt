@@ -1,6 +1,5 @@
 -- The first two lines of a schedule say what the grammar says.
 use Rattle.std.proofs.Common.{◌≡◌, ℕ, ◌<◌, ◌≤◌, Bool, true, false, ◌&&◌, cond, leb, ltb, List, [], ◌∷◌, length, Option, Some, None, option_map, codes, refl, sym, ap, subst, ◌∙◌, arith}
-use Rattle.std.specs.Bool.{Decides}
 use Rattle.std.specs.Char.{is_ascii_digit}
 use Rattle.std.specs.List.{All, AllZip}
 use Rattle.std.specs.Option.{option_and_then}
@@ -16,7 +15,6 @@ use Rattle.np_code_points.specs.inside.WordValues.{if_short, values_of}
 use Rattle.np_code_points.proofs.ValueGrammar.{short_from, from_short, zip_from, from_zip}
 use Rattle.np_code_points.proofs.WordGrammar.{are_words, only_words}
 use Rattle.np_world.specs.ScheduleLines.{IsNumber, IsNumberBelow, IsRoomLine, IsNodesLine}
-use Rattle.np_world.specs.declared.reading.verbs.Verb.TheVariants as verb
 use Rattle.np_world.specs.inside.LineValues.{is_number, number_value, if_below, below_value, room_value, starts_value}
 
 -- What gave a value.

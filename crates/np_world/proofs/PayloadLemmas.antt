@@ -1,10 +1,11 @@
 -- The words of strings and bytes, one after the other.
-use Rattle.std.proofs.Common.{◌≡◌, ℕ, ◌+◌, ◌-◌, ◌*◌, ◌<◌, ◌≤◌, Bool, true, false, ◌&&◌, cond, eqb, not, List, [], ◌∷◌, ◌++◌, length, get_or, take, drop, Option, Some, None, Bor, MatchOption, is_some, option_map, chars, encode_utf8, encode_utf8_all, IsUtf8, refl, sym, ap, ◌∙◌, arith}
+use Rattle.std.proofs.Common.{◌≡◌, ℕ, ◌+◌, ◌-◌, ◌*◌, ◌<◌, ◌≤◌, Bool, true, false, ◌&&◌, cond, eqb, not, List, [], ◌∷◌, ◌++◌, length, get_or, take, drop, Option, Some, None, Bor, MatchOption, is_some, option_map, Result, IfErr, chars, encode_utf8, encode_utf8_all, IsUtf8, refl, sym, ap, ◌∙◌, arith}
 use Rattle.std.specs.Char.{digit_value}
 use Rattle.std.specs.List.{AllZip}
 use Rattle.std.specs.Option.{option_and_then}
 use Rattle.std.proofs.lemmas.Bool.{cond-true, cond-false, eqb-true, true≢false}
 use Rattle.std.proofs.lemmas.List.{append-nil, take_rest}
+use Rattle.std.proofs.lemmas.Result.{IfErr-weaker}
 use Rattle.std.proofs.lemmas.Str.{chars_from_encodes, encodes-append, encodes-chars}
 use Rattle.np_code_points.specs.Codes.{IsScalarOf, is_hex_digit}
 use Rattle.np_code_points.specs.inside.WordValues.{scalar_value, scalars_of}
@@ -16,9 +17,12 @@ use Rattle.np_world.specs.declared.reading.faults.LineFault.{LineFault}
 use Rattle.np_world.specs.declared.reading.faults.LineFault.TheVariants.{Unfit, Memory}
 
 -- where one value lacks another does
-pub lacks_more : {A B : Type 0} (value : Option A) (other : Option B) (fault : LineFault) → (value ≡ None → other ≡ None) → Lacks value fault → Lacks other fault
+lacks_more : {A B : Type 0} (value : Option A) (other : Option B) (fault : LineFault) → (value ≡ None → other ≡ None) → Lacks value fault → Lacks other fault
 lacks_more value other Unfit more lacks = more lacks
 lacks_more value other Memory more lacks = tt
+
+pub lacks_by : {A B C : Type 0} (r : Result C LineFault) (value : Option A) (other : Option B) → (value ≡ None → other ≡ None) → IfErr r (Lacks value) → IfErr r (Lacks other)
+lacks_by r value other more h = IfErr-weaker r (Lacks value) (Lacks other) (λ fault. lacks_more value other fault more) h
 
 pub not_true_false : (b : Bool) → not b ≡ true → b ≡ false
 not_true_false true h = absurd (true≢false (sym h))

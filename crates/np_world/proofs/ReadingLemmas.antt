@@ -14,7 +14,7 @@ use Rattle.np_world.specs.ScheduleLines.{IsEventLine, IsNodesLine, IsRoomLine}
 use Rattle.np_world.specs.declared.reading.ScheduleFault.TheVariants.{Line}
 use Rattle.np_world.specs.inside.LineReading.{IsNoneOf}
 use Rattle.np_world.specs.inside.ScheduleReading.{AddsEvent, NextSays, HasTaken, IsUnfitEvent}
-use Rattle.np_world.proofs.LineLemmas.{one_room, one_starts, one_event, room_or_none, starts_or_none, event_or_none}
+use Rattle.np_world.proofs.LineLemmas.{one_value, some_or_none, room_is, starts_are, event_is}
 use Rattle.np_world.proofs.ScheduleLemmas.{EventHere, Begins, begins_taking, takes_next, takes_all, names_unfit, room_refused, starts_refused, events_refused, says_schedule}
 
 -- Each line says one thing, so all say one schedule.
@@ -25,7 +25,7 @@ one_events nodes [] (e ∷ a) b h k = absurd h
 one_events nodes (line ∷ lines) [] b h k = absurd h
 one_events nodes (line ∷ lines) (e ∷ a) [] h k = absurd k
 one_events nodes (line ∷ lines) (e ∷ a) (f ∷ b) h k =
-    let head : e ≡ f = one_event nodes line.text e f h.0 k.0 in
+    let head : e ≡ f = one_value (event_is nodes line.text) e f h.0 k.0 in
     let tail : a ≡ b = one_events nodes lines a b h.1 k.1 in
     cc
 
@@ -52,8 +52,8 @@ one_said : (a b : ScheduleData) (bytes : List ℕ) → SaysSchedule bytes a → 
 one_said a b bytes h k versions =
     let same = same_parts h.room k.room h.nodes k.nodes h.events k.events
     (only_data_lines bytes _ h.lines ∙ sym (only_data_lines bytes _ k.lines)) in
-    let room = one_room h.room.text a.room b.room h.room_says (subst (λ (r : Numbered). IsRoomLine r.text b.room) (sym same.first) k.room_says) in
-    let starts = one_starts a.versions h.nodes.text a.starts b.starts h.nodes_say
+    let room = one_value (room_is h.room.text) a.room b.room h.room_says (subst (λ (r : Numbered). IsRoomLine r.text b.room) (sym same.first) k.room_says) in
+    let starts = one_value (starts_are a.versions h.nodes.text) a.starts b.starts h.nodes_say
     (subst (λ v. IsNodesLine v h.nodes.text b.starts) (sym versions) (subst (λ (r : Numbered). IsNodesLine b.versions r.text b.starts) (sym same.second) k.nodes_say)) in
     let events = one_events (length a.starts) h.events a.events b.events h.events_say.0
     (subst (λ ss. AllZip (EventHere (length ss)) h.events b.events) (sym starts)
@@ -164,7 +164,7 @@ events_outcome nodes lines (line ∷ more) events h =
     (λ full. inl (line.line, unfit (inr full)))
     (cases_lt (length events) 1000000))
     (λ none. inl (line.line, unfit (inl none)))
-    (event_or_none nodes line.text)
+    (some_or_none (event_is nodes line.text))
 
 abbrev walk_to : List ℕ → List Numbered → Walk
 walk_to bytes left = record { left = left; passed = 0; total = length (lines_of bytes) }
@@ -199,7 +199,7 @@ behind_room bytes versions room (line ∷ left) first =
       starts_refused bytes versions (start_of bytes) (walk_to bytes (line ∷ left)) room (Line line.line) (start_begins bytes) first
           (inl (record { line = line; behind = left; left = refl; none = none; here = refl })),
     ))
-    (starts_or_none versions line.text)
+    (some_or_none (starts_are versions line.text))
 
 outcome_of : (bytes : List ℕ) (versions : ℕ) (lines : List Numbered) → data_lines_in bytes ≡ lines → Outcome bytes versions
 outcome_of bytes versions [] e =
@@ -212,7 +212,7 @@ outcome_of bytes versions (line ∷ left) e =
       room_refused bytes versions (start_of bytes) (Line line.line) (start_begins bytes)
           (inl (record { line = line; behind = left; left = e; none = none; here = refl })),
     ))
-    (room_or_none line.text)
+    (some_or_none (room_is line.text))
 
 pub one_reading : (bytes : List ℕ) (versions : ℕ) → HasOneReading bytes versions
 one_reading bytes versions = record {

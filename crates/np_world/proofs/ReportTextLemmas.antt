@@ -1,8 +1,8 @@
 -- Lists that are written piece by piece.
-use Rattle.std.proofs.Common.{◌≡◌, ℕ, ◌+◌, ◌<◌, ◌≤◌, true, false, List, [], ◌∷◌, ◌++◌, length, map, flat_map, take, inl, inr, Some, None, slice_get, refl, sym, ap, ◌∙◌, arith, append_assoc, codes}
+use Rattle.std.proofs.Common.{◌≡◌, ℕ, ◌+◌, ◌<◌, true, false, List, [], ◌∷◌, ◌++◌, length, map, flat_map, take, inl, inr, Some, None, slice_get, refl, sym, ap, ◌∙◌, arith, append_assoc, codes}
 use Rattle.std.specs.List.{enumerate_from}
 use Rattle.std.specs.Option.{option_map}
-use Rattle.std.proofs.lemmas.List.{take_more, take_all, flat_map_more, length-take-le}
+use Rattle.std.proofs.lemmas.List.{take_more, flat_map_more, length-take-le}
 use Rattle.std.proofs.lemmas.Bool.{false≢true, true≢false}
 use Rattle.std.proofs.lemmas.Option.{get_or_from_slice_get, none-some, slice_get-map, slice_get_cases, slice_get_within}
 use Rattle.np_code_points.specs.Codes.{code_digits}
@@ -55,9 +55,6 @@ numbered_more line xs k x here =
     ap (numbered_lines line) (take_more xs k x below ∙ ap (λ y. take k xs ++ y ∷ []) (get_or_from_slice_get xs k x x here))
     ∙ numbered_behind line (take k xs) x
     ∙ ap (λ n. numbered_lines line (take k xs) ++ line n x) (length-take-le k xs (omega (arith, below)))
-
-pub numbered_all : {A : Type 0} (line : ℕ → A → List ℕ) (xs : List A) (k : ℕ) → length xs ≤ k → numbered_lines line (take k xs) ≡ numbered_lines line xs
-numbered_all line xs k h = ap (numbered_lines line) (take_all k xs h)
 
 -- ---- lines of a list that is read by its places
 

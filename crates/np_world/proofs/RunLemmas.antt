@@ -41,10 +41,6 @@ module _ {T : Type 0} (model : T → VersionData) (rules : Rules T) where
   mirrored-push [] (n ∷ ns) member node are is = absurd are
   mirrored-push (m ∷ ms) [] member node are is = absurd are
 
-  -- nothing happened yet
-  pub ends-nothing : (starts : List ℕ) (events : List EventLine) (members : List (Member T)) → Begins model rules members starts → EndsRun model rules starts (map event_of (take 0 events)) [] members []
-  ends-nothing starts events members begins = record { world = start starts; run = (refl, refl); shows = record { nodes = begins.nodes; sent = tt }; images = begins.images }
-
   -- one event more
   pub ends-more : (starts : List ℕ) (events : List EventLine) (i : ℕ) (event : EventLine) (replies : List Reply) (members new : List (Member T)) (told new_told : List (Vec ℕ Global)) (reply : Reply) (more_replies : List Reply) → i < length events
       → more_replies ≡ replies ++ reply ∷ [] → event ≡ get_or events i event → AreRules model rules

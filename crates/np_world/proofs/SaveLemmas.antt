@@ -19,7 +19,7 @@ use Rattle.np_world.specs.World.{MachineNode, Saves, Restarts, Upgrades}
 use Rattle.np_world.specs.declared.members.Member.{Member}
 use Rattle.np_world.specs.declared.replies.Reply.TheVariants.{Version, LastVersion, Saved as TheSaved, Restarted}
 use Rattle.np_world.specs.inside.Mirrors.{texts_of, Rules, setting_of, saved_state, HasImage, HasSaved, Mirrors, AreMessages, AreRules, IsTurn}
-use Rattle.np_world.proofs.TurnLemmas.{same_member, table_here}
+use Rattle.np_world.proofs.TurnLemmas.{same_member, table_here, turns_to}
 
 -- ---- states
 
@@ -53,35 +53,25 @@ module _ {T : Type 0} (model : T → VersionData) (rules : Rules T) (old : Membe
   upgrades strings last t new told are saved some next index image node messages =
       let lift = next_saved are saved (model t) (slice_get-map model rules.tables (old.index + 1) ∙ ap (option_map model) next) in
       let moved : Member T = record { index = old.index + 1; node = record old.node { table = t }; image = old.image } in
-      let same : new ≡ moved = same_member new moved index node image in
       let place : old.index + 1 ≡ twin.index + 1 = ap (λ k. k + 1) m.index in
-      record {
-        next = record twin { index = twin.index + 1 };
-        more = strings;
-        does = inl (omega (arith, some, m.index, length-map rules.tables model), (ap Version place, refl));
-        mirrors = subst (λ w. Mirrors model rules w (record twin { index = twin.index + 1 })) (sym same)
-            (record {
-              index = place;
-              table = next;
-              form = m.form;
-              room = m.room;
-              node = lift (state_of model old.node) refl m.node;
-              strings = m.strings;
-              saved = lifted (model t) lift old.image twin.saved m.saved;
-            });
-        messages = messages;
-      }
+      turns_to model rules (λ v end. Upgrades (setting_of model rules)) twin (record twin { index = twin.index + 1 }) strings (model old.node.table) last (Version (old.index + 1)) new moved told (same_member new moved index node image)
+      (inl (omega (arith, some, m.index, length-map rules.tables model), (ap Version place, refl)))
+      (record {
+        index = place;
+        table = next;
+        form = m.form;
+        room = m.room;
+        node = lift (state_of model old.node) refl m.node;
+        strings = m.strings;
+        saved = lifted (model t) lift old.image twin.saved m.saved;
+      })
+      messages
 
   pub stays_last : (strings : List (List ℕ)) (last : VersionData) (new : Member T) (told : List (Vec ℕ Global)) → 0 < length rules.tables → length rules.tables - 1 ≤ old.index → new ≡ old → AreMessages (setting_of model rules) told strings
       → IsTurn model rules (λ v end. Upgrades (setting_of model rules)) twin strings (model old.node.table) last LastVersion new told
   stays_last strings last new told some end same messages =
-      record {
-        next = twin;
-        more = strings;
-        does = inr (λ lt. absurd (omega (arith, some, end, lt, m.index, length-map rules.tables model)), (refl, refl));
-        mirrors = subst (λ w. Mirrors model rules w twin) (sym same) m;
-        messages = messages;
-      }
+      turns_to model rules (λ v end. Upgrades (setting_of model rules)) twin twin strings (model old.node.table) last LastVersion new old told same
+      (inr (λ lt. absurd (omega (arith, some, end, lt, m.index, length-map rules.tables model)), (refl, refl))) m messages
 
   -- the next version extends the present one
   pub next_extends : AreRules model rules → (w : VersionData) → StandsAt (map model rules.tables) (old.index + 1) w → Extends (model old.node.table) w
@@ -99,29 +89,23 @@ module _ {T : Type 0} (model : T → VersionData) (rules : Rules T) (old : Membe
       → IsTurn model rules (λ v end. Saves) twin strings (model old.node.table) last TheSaved new told
   saves strings last bytes new told spelling index node image messages =
       let moved : Member T = record old { image = Some bytes } in
-      let same : new ≡ moved = same_member new moved index node image in
-      record {
-        next = record twin { saved = twin.strings };
-        more = strings;
-        does = (refl, refl);
-        mirrors = subst (λ w. Mirrors model rules w (record twin { saved = twin.strings })) (sym same)
-            (record {
-              index = m.index;
-              table = m.table;
-              form = m.form;
-              room = m.room;
-              node = m.node;
+      turns_to model rules (λ v end. Saves) twin (record twin { saved = twin.strings }) strings (model old.node.table) last TheSaved new moved told (same_member new moved index node image) (refl, refl)
+      (record {
+        index = m.index;
+        table = m.table;
+        form = m.form;
+        room = m.room;
+        node = m.node;
+        strings = m.strings;
+        saved =
+            record {
+              entries = old.node.entries;
+              spelling = spelling ∙ ap (λ f. image_bytes (record { form = f; entries = old.node.entries })) m.form;
+              node = subst IsNode state_is m.node;
               strings = m.strings;
-              saved =
-                  record {
-                    entries = old.node.entries;
-                    spelling = spelling ∙ ap (λ f. image_bytes (record { form = f; entries = old.node.entries })) m.form;
-                    node = subst IsNode state_is m.node;
-                    strings = m.strings;
-                  };
-            });
-        messages = messages;
-      }
+            };
+      })
+      messages
 
   -- a member that keeps other entries, which are those that were saved
   restored : (strings : List (List ℕ)) (last : VersionData) (new : Member T) (told : List (Vec ℕ Global)) (entries : List Entry) → new.index ≡ old.index → new.image ≡ old.image
@@ -130,15 +114,8 @@ module _ {T : Type 0} (model : T → VersionData) (rules : Rules T) (old : Membe
       → IsTurn model rules (λ v end. Restarts) twin strings (model old.node.table) last Restarted new told
   restored strings last new told entries index image node is texts messages =
       let moved : Member T = record { index = old.index; node = record { table = old.node.table; form = rules.form; room = rules.room; entries = entries }; image = old.image } in
-      let same : new ≡ moved = same_member new moved index node image in
-      record {
-        next = record twin { strings = twin.saved };
-        more = strings;
-        does = (refl, refl);
-        mirrors = subst (λ w. Mirrors model rules w (record twin { strings = twin.saved })) (sym same)
-            (record { index = m.index; table = m.table; form = refl; room = refl; node = is; strings = texts; saved = m.saved });
-        messages = messages;
-      }
+      turns_to model rules (λ v end. Restarts) twin (record twin { strings = twin.saved }) strings (model old.node.table) last Restarted new moved told (same_member new moved index node image) (refl, refl)
+      (record { index = m.index; table = m.table; form = refl; room = refl; node = is; strings = texts; saved = m.saved }) messages
 
   pub restarts-empty : (strings : List (List ℕ)) (last : VersionData) (new : Member T) (told : List (Vec ℕ Global)) → AreRules model rules → old.image ≡ None → new.index ≡ old.index → new.image ≡ old.image
       → new.node ≡ record { table = old.node.table; form = rules.form; room = rules.room; entries = [] } → AreMessages (setting_of model rules) told strings

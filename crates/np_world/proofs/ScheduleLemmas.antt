@@ -15,7 +15,7 @@ use Rattle.np_world.specs.declared.reading.ScheduleFault.{ScheduleFault}
 use Rattle.np_world.specs.declared.reading.ScheduleFault.TheVariants.{Line, Memory}
 use Rattle.np_world.specs.inside.LineReading.{IsNoneOf}
 use Rattle.np_world.specs.inside.ScheduleReading.{AddsEvent, AddsNone, NextSays, NextRefuses, HasTaken, NamesUnfit}
-use Rattle.np_world.proofs.LineLemmas.{one_starts}
+use Rattle.np_world.proofs.LineLemmas.{one_value, starts_are}
 
 abbrev pub EventHere : ℕ → Numbered → Event → Type 0
 EventHere nodes line event = IsEventLine nodes line.text event
@@ -165,7 +165,7 @@ events_refused bytes versions start walk rest room starts (Line number) h first 
       lines = subst (AreDataLines bytes) (first.left ∙ ap (λ ls. first.line ∷ ls) (second.left ∙ ap (λ ls. second.line ∷ ls) u.lines_are)) h.data_lines;
       stand = (room, starts, u.events, first.is, second.is, u.stand);
       falls = λ k.
-          let same = one_starts versions second.line.text k.1 starts k.4 second.is in
+          let same = one_value (starts_are versions second.line.text) k.1 starts k.4 second.is in
           u.falls k.2 (subst (λ ss. AreEventLines (length ss) (u.before ++ u.unfit ∷ []) k.2) same k.5);
       here = u.here;
     })

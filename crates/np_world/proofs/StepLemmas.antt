@@ -1,6 +1,7 @@
 -- One event of a replay is one step of the machine.
-use Rattle.std.proofs.Common.{◌≡◌, ℕ, zero, suc, ◌-◌, ◌<◌, List, [], ◌∷◌, length, get_or, set, map, slice_get, Some, Result, Ok, Err, refl, sym, ap, subst, ◌∙◌, arith}
+use Rattle.std.proofs.Common.{◌≡◌, ℕ, zero, suc, ◌-◌, ◌<◌, List, [], ◌∷◌, length, get_or, set, map, slice_get, Some, Result, refl, sym, ap, subst, ◌∙◌, arith}
 use Rattle.std.proofs.lemmas.List.{length-map, set-get_or}
+use Rattle.std.proofs.lemmas.Result.{IfOk-weaker}
 use Rattle.std.specs.Prelude.{IfOk, slice_set}
 use Rattle.std.specs.declared.vec.Vec.{Vec}
 use Rattle.std.specs.declared.alloc.Global.{Global}
@@ -13,10 +14,6 @@ use Rattle.np_world.specs.declared.replies.Reply.{Reply}
 use Rattle.np_world.specs.inside.Mirrors.{Rules, setting_of, Mirrors, IsReady, Turns}
 use Rattle.np_world.specs.inside.Worlds.{AreMirrored, IsShown, Steps}
 use Rattle.np_world.proofs.TurnLemmas.{table_here}
-
-pub if_ok : {A E : Type 0} (r : Result A E) (P Q : A → Type 0) → ((x : A) → P x → Q x) → IfOk r P → IfOk r Q
-if_ok (Ok x) P Q to h = to x h
-if_ok (Err e) P Q to h = h
 
 -- ---- lists
 
@@ -89,6 +86,12 @@ module _ {T : Type 0} (model : T → VersionData) (rules : Rules T) where
 
     pub stepped : Steps model rules members told said reply (set members (node_of event) new) new_told
     stepped = subst (λ e. Steps model rules members told e reply (set members (node_of event) new) new_told) (sym same) step_of_event
+
+  -- the same where the turn may want memory
+  pub ok_stepped : (members : List (Member T)) (told new_told : List (Vec ℕ Global)) {event said : Event} → said ≡ event → node_of said < length members → (d new : Member T) {E : Type 0} (r : Result Reply E)
+      → IfOk r (λ reply. Turns model rules (λ v end. Does (setting_of model rules) v end event) (get_or members (node_of event) d) told reply new new_told)
+      → IfOk r (λ reply. Steps model rules members told said reply (set members (node_of event) new) new_told)
+  ok_stepped members told new_told {event} {said} same named d new r turns = IfOk-weaker r _ _ (λ reply turn. stepped members told new_told event said same named d reply new turn) turns
 
   -- what is asked changes nothing
   pub unchanged : (members : List (Member T)) (told : List (Vec ℕ Global)) (k : ℕ) (d : Member T) (said : Event) (reply : Reply)

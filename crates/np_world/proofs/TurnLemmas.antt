@@ -92,6 +92,12 @@ module _ {T : Type 0} (model : T → VersionData) (rules : Rules T) (deed : Deed
   turned turn = λ node strings version last are m sent here end.
       subst (λ v. IsTurn model rules deed node strings v last reply new more) (version_is model rules old node m version here) (turn node strings last are m sent end)
 
+-- the machine's node goes on as the member does
+pub turns_to : {T : Type 0} (model : T → VersionData) (rules : Rules T) (deed : Deed) (node next : MachineNode) (strings : List (List ℕ)) (version last : VersionData) (reply : Reply) (new moved : Member T) (told : List (Vec ℕ Global)) → new ≡ moved
+    → deed version last (scene node strings) reply (scene next strings) → Mirrors model rules moved next → AreMessages (setting_of model rules) told strings → IsTurn model rules deed node strings version last reply new told
+turns_to model rules deed node next strings version last reply new moved told same does mirrors messages =
+    record { next = next; more = strings; does = does; mirrors = subst (λ w. Mirrors model rules w next) (sym same) mirrors; messages = messages }
+
 -- nothing but the reply
 pub says : {T : Type 0} (model : T → VersionData) (rules : Rules T) (deed : Deed) (old new : Member T) (told : List (Vec ℕ Global)) (reply : Reply) → new ≡ old
     → ((node : MachineNode) (strings : List (List ℕ)) (last : VersionData) → AreRules model rules → Mirrors model rules old node → AreMessages (setting_of model rules) told strings
@@ -99,4 +105,4 @@ pub says : {T : Type 0} (model : T → VersionData) (rules : Rules T) (deed : De
     → deed (model old.node.table) last (scene node strings) reply (scene node strings)) → Turns model rules deed old told reply new told
 says model rules deed old new told reply same does =
     turned model rules deed old new told told reply
-    (λ node strings last are m sent end. record { next = node; more = strings; does = does node strings last are m sent end; mirrors = subst (λ w. Mirrors model rules w node) (sym same) m; messages = sent })
+    (λ node strings last are m sent end. turns_to model rules deed node node strings (model old.node.table) last reply new old told same (does node strings last are m sent end) m sent)

@@ -1,11 +1,11 @@
 -- A run between two reads.
-use Rattle.std.specs.Prelude.{◌≡◌, ◌≢◌, ℕ, ◌+◌, ◌<◌, ◌≤◌, ◌⊎◌, ◌++◌, List, [], length, take, drop, chars, encode_utf8_all, IsUtf8, Option, None}
+use Rattle.std.specs.Prelude.{◌≡◌, ◌≢◌, ℕ, ◌+◌, ◌<◌, ◌≤◌, ◌⊎◌, ◌++◌, List, [], length, take, drop, chars, encode_utf8_all, IsUtf8, Option, None, Result}
 use Rattle.std.specs.Io.KnownBytes.{Appends, Consumes}
 use Rattle.std.specs.Str.Lossy.{utf8_error_len}
 use Rattle.np_code_points.specs.Text.{IsLongestValidPrefix}
 use Rattle.np_code_points.specs.declared.forms.Form.{Form}
 use Rattle.np_forms.specs.Forms.{IsNormalForm}
-use Rattle.np_forms.specs.RunEnds.{IsRunCut}
+use Rattle.np_forms.specs.RunEnds.{RunEnds}
 use Rattle.np_forms.specs.Streams.{IsStreaming, StreamState}
 use Rattle.np_forms.specs.declared.runs.RunFault.{RunFault}
 use Rattle.np_forms.specs.declared.runs.RunFault.TheVariants.{NotUtf8, ReadFailed, WriteFailed, TooLarge, Memory}
@@ -122,7 +122,7 @@ abbrev pub Goes : StreamState → StreamState → Option (List ℕ) → Option (
 Goes s t i₁ i₂ o₁ o₂ kept left old new before after =
     (form : Form) (i₀ o₀ : Option (List ℕ)) → IsRunning s.version form i₀ i₁ o₀ o₁ kept old before s → IsRunning s.version form i₀ i₂ o₀ o₂ left new after t
 
--- a run stops
-abbrev pub Stops : StreamState → Option (List ℕ) → Option (List ℕ) → Option (List ℕ) → Option (List ℕ) → List ℕ → ℕ → ℕ → RunFault → Type 0
-Stops s i₁ i₂ o₁ o₂ kept old before fault =
-    (form : Form) (i₀ o₀ : Option (List ℕ)) → IsRunning s.version form i₀ i₁ o₀ o₁ kept old before s → IsRunCut s.version form (record { in_before = i₀; in_after = i₂; out_before = o₀; out_after = o₂ }) fault
+-- a run ends
+abbrev pub Stops : StreamState → Option (List ℕ) → Option (List ℕ) → Option (List ℕ) → Option (List ℕ) → List ℕ → ℕ → ℕ → Result ℕ RunFault → Type 0
+Stops s i₁ i₂ o₁ o₂ kept old before result =
+    (form : Form) (i₀ o₀ : Option (List ℕ)) → IsRunning s.version form i₀ i₁ o₀ o₁ kept old before s → RunEnds s.version form (record { in_before = i₀; in_after = i₂; out_before = o₀; out_after = o₂ }) result

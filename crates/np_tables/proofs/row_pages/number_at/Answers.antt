@@ -2,27 +2,17 @@ use Rattle.std.proofs.Common.{◌+◌, ◌≤◌, refl, sym, ap, ◌∙◌, arit
 use Rattle.std.specs.Option.{option_map}
 use Rattle.std.proofs.lemmas.Bool.{false≢true, cases_eq, eq-eqb, eqb-true}
 use Rattle.np_ucd.specs.RowValues.{entry_of}
-use Rattle.np_tables.proofs.RowLemmas.{at-row, place-le}
+use Rattle.np_tables.proofs.RowLemmas.{at-row, place-bounded}
 use Rattle.np_tables.proofs.RowPageLemmas.{none_behind, none_left, number-none, number-some, next-within, next-behind}
 use Rattle.np_tables.proofs.row_pages.number_at.Goals as goal
 
 pub overflow_cast-result : goal.overflow_cast-result
 overflow_cast-result c =
-    let e = entry_of c.in-Some.row.now in
-    let row = at-row c.args.rows.now c.args.at e c.requires.rows (sym c.in-Some.ensures.row) in
-    let low = place-le c.args.rows.now c.args.at e c.requires.rows (sym c.in-Some.ensures.row) in
-    let up = row.rises in
-    let bound = row.bounded in
-    omega arith
+    omega (arith, place-bounded c.args.rows.now c.args.at (entry_of c.in-Some.row.now) c.requires.rows (sym c.in-Some.ensures.row))
 
 pub overflow_add-result : goal.overflow_add-result
 overflow_add-result c =
-    let e = entry_of c.in-Some.row.now in
-    let row = at-row c.args.rows.now c.args.at e c.requires.rows (sym c.in-Some.ensures.row) in
-    let low = place-le c.args.rows.now c.args.at e c.requires.rows (sym c.in-Some.ensures.row) in
-    let up = row.rises in
-    let bound = row.bounded in
-    omega arith
+    omega (arith, place-bounded c.args.rows.now c.args.at (entry_of c.in-Some.row.now) c.requires.rows (sym c.in-Some.ensures.row))
 
 pub returns-in-Some-clause-number : goal.returns-in-Some-clause-number
 returns-in-Some-clause-number c =
@@ -32,12 +22,7 @@ returns-in-Some-clause-number c =
 
 pub returns-in-Some-clause-bound : goal.returns-in-Some-clause-bound
 returns-in-Some-clause-bound c =
-    let e = entry_of c.in-Some.row.now in
-    let row = at-row c.args.rows.now c.args.at e c.requires.rows (sym c.in-Some.ensures.row) in
-    let low = place-le c.args.rows.now c.args.at e c.requires.rows (sym c.in-Some.ensures.row) in
-    let up = row.rises in
-    let bound = row.bounded in
-    λ _. omega arith
+    λ _. place-bounded c.args.rows.now c.args.at (entry_of c.in-Some.row.now) c.requires.rows (sym c.in-Some.ensures.row)
 
 pub returns-in-Some-clause-ends : goal.returns-in-Some-clause-ends
 returns-in-Some-clause-ends c =

@@ -1,10 +1,11 @@
 use Rattle.std.proofs.Common.{ap, sym, ◌∙◌, arith}
+use Rattle.std.proofs.lemmas.Result.{IfOk-weaker}
 use Rattle.std.specs.Prelude.{chars, string_bytes}
-use Rattle.np_world.specs.Events.{Accept, Deliver, Upgrade, Save, Restart, Ask, Forge, node_of}
+use Rattle.np_world.specs.Events.{Accept, Ask, Forge, node_of}
 use Rattle.np_world.specs.inside.Mirrors.{rules_of}
 use Rattle.np_world.specs.inside.Rust.{event_of}
 use Rattle.np_world.proofs.ImageLemmas.{images_kept, images_saved, images_stay, ok_any, saves}
-use Rattle.np_world.proofs.StepLemmas.{if_ok, ready_at, stepped, unchanged}
+use Rattle.np_world.proofs.StepLemmas.{ok_stepped, ready_at, stepped, unchanged}
 use Rattle.np_world.proofs.steps.step.Goals as goal
 
 pub upgrade-requires : goal.upgrade-requires
@@ -19,39 +20,28 @@ restart-requires g c =
 
 pub returns-in-Accept-clause-step : goal.returns-in-Accept-clause-step
 returns-in-Accept-clause-step g c =
-    let model = g.T.NormTable.model in
-    let rules = rules_of c.args.common.now in
-    let same = ap event_of c.in-Accept.is ∙ ap (λ b. Accept c.in-Accept.node (chars b)) (sym c.as_str.ensures.value) in
-    if_ok _ _ _ (λ reply turns. stepped model rules c.args.members.now c.args.sent.now.items c.accept.new.sent.items (Accept c.in-Accept.node (chars c.as_str.result.now)) (event_of c.args.event.now) same c.requires.named c.index-members-node.result reply c.accept.new.member turns) c.accept.ensures.turn
+    ok_stepped g.T.NormTable.model (rules_of c.args.common.now) c.args.members.now c.args.sent.now.items c.accept.new.sent.items (ap event_of c.in-Accept.is ∙ ap (λ b. Accept c.in-Accept.node (chars b)) (sym c.as_str.ensures.value)) c.requires.named
+    c.index-members-node.result c.accept.new.member c.accept.result c.accept.ensures.turn
 
 pub returns-in-Deliver-clause-step : goal.returns-in-Deliver-clause-step
 returns-in-Deliver-clause-step g c =
-    let model = g.T.NormTable.model in
-    let rules = rules_of c.args.common.now in
-    let same = ap event_of c.in-Deliver.is in
-    if_ok _ _ _ (λ reply turns. stepped model rules c.args.members.now c.args.sent.now.items c.args.sent.now.items (Deliver c.in-Deliver.node c.in-Deliver.message) (event_of c.args.event.now) same c.requires.named c.index-members-node-in-Deliver.result reply c.deliver.new.member turns) c.deliver.ensures.turn
+    ok_stepped g.T.NormTable.model (rules_of c.args.common.now) c.args.members.now c.args.sent.now.items c.args.sent.now.items (ap event_of c.in-Deliver.is) c.requires.named
+    c.index-members-node-in-Deliver.result c.deliver.new.member c.deliver.result c.deliver.ensures.turn
 
 pub returns-in-Save-clause-step : goal.returns-in-Save-clause-step
 returns-in-Save-clause-step g c =
-    let model = g.T.NormTable.model in
-    let rules = rules_of c.args.common.now in
-    let same = ap event_of c.in-Save.is in
-    if_ok _ _ _ (λ reply turns. stepped model rules c.args.members.now c.args.sent.now.items c.args.sent.now.items (Save c.in-Save.node) (event_of c.args.event.now) same c.requires.named c.index-members-node-in-Save.result reply c.save.new.member turns) (c.save.ensures.turn c.args.sent.now.items)
+    ok_stepped g.T.NormTable.model (rules_of c.args.common.now) c.args.members.now c.args.sent.now.items c.args.sent.now.items (ap event_of c.in-Save.is) c.requires.named
+    c.index-members-node-in-Save.result c.save.new.member c.save.result (c.save.ensures.turn c.args.sent.now.items)
 
 pub returns-in-Restart-clause-step : goal.returns-in-Restart-clause-step
 returns-in-Restart-clause-step g c =
-    let model = g.T.NormTable.model in
-    let rules = rules_of c.args.common.now in
-    let same = ap event_of c.in-Restart.is in
-    if_ok _ _ _ (λ reply turns. stepped model rules c.args.members.now c.args.sent.now.items c.args.sent.now.items (Restart c.in-Restart.node) (event_of c.args.event.now) same c.requires.named c.index-members-node-in-Restart.result reply c.restart.new.member turns) (c.restart.ensures.turn c.args.sent.now.items)
+    ok_stepped g.T.NormTable.model (rules_of c.args.common.now) c.args.members.now c.args.sent.now.items c.args.sent.now.items (ap event_of c.in-Restart.is) c.requires.named
+    c.index-members-node-in-Restart.result c.restart.new.member c.restart.result (c.restart.ensures.turn c.args.sent.now.items)
 
 pub returns-in-Upgrade-clause-step : goal.returns-in-Upgrade-clause-step
 returns-in-Upgrade-clause-step g c =
-    let model = g.T.NormTable.model in
-    let rules = rules_of c.args.common.now in
-    let same = ap event_of c.in-Upgrade.is in
-    stepped model rules c.args.members.now c.args.sent.now.items c.args.sent.now.items (Upgrade c.in-Upgrade.node) (event_of c.args.event.now) same c.requires.named c.index-members-node-in-Upgrade.result
-    c.upgrade.result c.upgrade.new.member (c.upgrade.ensures.turn c.args.sent.now.items)
+    stepped g.T.NormTable.model (rules_of c.args.common.now) c.args.members.now c.args.sent.now.items c.args.sent.now.items _ _ (ap event_of c.in-Upgrade.is) c.requires.named
+    c.index-members-node-in-Upgrade.result c.upgrade.result c.upgrade.new.member (c.upgrade.ensures.turn c.args.sent.now.items)
 
 pub returns-in-Ask-clause-step : goal.returns-in-Ask-clause-step
 returns-in-Ask-clause-step g c =
@@ -64,12 +54,8 @@ returns-in-Ask-clause-step g c =
 
 pub returns-in-Forge-clause-step : goal.returns-in-Forge-clause-step
 returns-in-Forge-clause-step g c =
-    let model = g.T.NormTable.model in
-    let rules = rules_of c.args.common.now in
-    let told = c.args.sent.now.items in
-    let same = ap event_of c.in-Forge.is ∙ ap (Forge c.in-Forge.node) (sym c.as_slice.ensures.value) in
-    if_ok _ _ _ (λ reply turns. stepped model rules c.args.members.now told told (Forge c.in-Forge.node c.as_slice.result.now) (event_of c.args.event.now) same c.requires.named c.index-members-node-in-Forge.result reply c.forge.new.member turns)
-    (c.forge.ensures.turn told)
+    ok_stepped g.T.NormTable.model (rules_of c.args.common.now) c.args.members.now c.args.sent.now.items c.args.sent.now.items (ap event_of c.in-Forge.is ∙ ap (Forge c.in-Forge.node) (sym c.as_slice.ensures.value)) c.requires.named
+    c.index-members-node-in-Forge.result c.forge.new.member c.forge.result (c.forge.ensures.turn c.args.sent.now.items)
 
 pub returns-in-Accept-clause-images : goal.returns-in-Accept-clause-images
 returns-in-Accept-clause-images g c =
@@ -93,7 +79,7 @@ returns-in-Forge-clause-images g c =
 
 pub returns-in-Save-clause-images : goal.returns-in-Save-clause-images
 returns-in-Save-clause-images g c =
-    if_ok _ _ _ (λ reply some. images_saved (event_of c.args.event.now) c.args.members.now c.in-Save.node c.save.new.member (ap event_of c.in-Save.is) (omega (arith, c.requires.named, ap node_of (ap event_of c.in-Save.is))) some) c.save.ensures.image
+    IfOk-weaker _ _ _ (λ reply some. images_saved (event_of c.args.event.now) c.args.members.now c.in-Save.node c.save.new.member (ap event_of c.in-Save.is) (omega (arith, c.requires.named, ap node_of (ap event_of c.in-Save.is))) some) c.save.ensures.image
 
 pub returns-in-Ask-clause-images : goal.returns-in-Ask-clause-images
 returns-in-Ask-clause-images g c = images_stay (event_of c.args.event.now) c.args.members.now (ap saves (ap event_of c.in-Ask.is))

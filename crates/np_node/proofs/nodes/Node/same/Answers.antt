@@ -1,4 +1,4 @@
-use Rattle.std.proofs.Common.{List, Contains, length, ap, arith, sym, subst, ◌∙◌}
+use Rattle.std.proofs.Common.{List, Contains, ap, arith, sym, subst, ◌∙◌}
 use Rattle.std.proofs.lemmas.List.{get_or-map, length-map}
 use Rattle.np_node.proofs.KeyLemmas.{same_keys}
 use Rattle.np_node.specs.Nodes.{IsKept}

@@ -1,10 +1,9 @@
-use Rattle.std.proofs.Common.{not, cond, length, option_and_then, Some, None, true, false, sym, ap, ◌≡◌, ◌∙◌, arith}
+use Rattle.std.proofs.Common.{length, option_and_then, sym, ap, ◌∙◌, arith}
 use Rattle.std.proofs.lemmas.List.{length_push}
-use Rattle.np_code_points.specs.inside.LineCuts.{is_empty}
 use Rattle.np_code_points.specs.inside.WordValues.{if_short, values_of}
-use Rattle.np_code_points.proofs.ValueGrammar.{joined, joined_none, joined_more, joined_bad, short_long, short_all}
+use Rattle.np_code_points.proofs.ValueGrammar.{joined, joined_none, joined_more, joined_bad, short_long}
 use Rattle.np_world.specs.inside.LineValues.{below_value}
-use Rattle.np_world.proofs.LineLemmas.{empty_is}
+use Rattle.np_world.proofs.LineLemmas.{places_said}
 use Rattle.np_world.proofs.reading.lines.places_of.Goals as goal
 
 pub loop-word-init : goal.loop-word-init
@@ -38,16 +37,8 @@ loop-word-preserved c = record {
 
 pub returns-then-is_empty-clause-refused : goal.returns-then-is_empty-clause-refused
 returns-then-is_empty-clause-refused c =
-    let value = below_value c.args.bound in
-    let none : is_empty c.loop-word.places.items ≡ true = empty_is c.loop-word.places.items _ true c.loop-word.places.ok.0 (sym c.is_empty.ensures ∙ c.if-is_empty.true) in
-    short_all value 64 (values_of value c.args.words) c.loop-word.places.items c.loop-word.word-iterator
-    c.loop-word.invariant.total c.in-None.ensures.steps.0 c.loop-word.invariant.room
-    ∙ ap (λ b. cond (not b) (Some c.loop-word.places.items) None) none
+    places_said c.args.bound c.loop-word.places.items c.loop-word.word-iterator c.loop-word.invariant.total c.in-None.ensures.steps.0 c.loop-word.invariant.room c.loop-word.places.ok.0 (sym c.is_empty.ensures ∙ c.if-is_empty.true)
 
 pub returns-else-is_empty-clause-places : goal.returns-else-is_empty-clause-places
 returns-else-is_empty-clause-places c =
-    let value = below_value c.args.bound in
-    let some : is_empty c.loop-word.places.items ≡ false = empty_is c.loop-word.places.items _ false c.loop-word.places.ok.0 (sym c.is_empty.ensures ∙ c.if-is_empty.false) in
-    short_all value 64 (values_of value c.args.words) c.loop-word.places.items c.loop-word.word-iterator
-    c.loop-word.invariant.total c.in-None.ensures.steps.0 c.loop-word.invariant.room
-    ∙ ap (λ b. cond (not b) (Some c.loop-word.places.items) None) some
+    places_said c.args.bound c.loop-word.places.items c.loop-word.word-iterator c.loop-word.invariant.total c.in-None.ensures.steps.0 c.loop-word.invariant.room c.loop-word.places.ok.0 (sym c.is_empty.ensures ∙ c.if-is_empty.false)

@@ -1,17 +1,12 @@
-use Rattle.std.proofs.Common.{cond, chars, string_bytes, Some, None, IfErr, ap, ◌∙◌, rules}
-use Rattle.std.proofs.lemmas.Result.{IfErr-weaker}
+use Rattle.std.proofs.Common.{cond, chars, string_bytes, Some, None, ap, ◌∙◌, rules}
 use Rattle.np_code_points.specs.inside.WordValues.{scalars_of}
-use Rattle.np_world.specs.inside.LineReading.{Lacks}
 use Rattle.np_world.specs.inside.LineValues.{up_to_slash, halves_value}
-use Rattle.np_world.proofs.PayloadLemmas.{lacks_more, not_true_false, not_false_true, halves_left, halves_alone, halves_right, halves_both}
+use Rattle.np_world.proofs.PayloadLemmas.{lacks_by, not_true_false, not_false_true, halves_left, halves_alone, halves_right, halves_both}
 use Rattle.np_world.proofs.reading.payloads.halves_in.Goals as goal
 
 pub returns-in_err-left-clause-refused : goal.returns-in_err-left-clause-refused
 returns-in_err-left-clause-refused c =
-    let left = scalars_of (up_to_slash c.args.words) in
-    let here : IfErr c.from_residual.result (Lacks left) = search rules in
-    IfErr-weaker c.from_residual.result (Lacks left) (Lacks (halves_value c.args.words))
-    (λ fault. lacks_more left (halves_value c.args.words) fault (halves_left c.args.words)) here
+    lacks_by c.from_residual.result (scalars_of (up_to_slash c.args.words)) (halves_value c.args.words) (halves_left c.args.words) (search rules)
 
 pub returns-then-not-left-clause-refused : goal.returns-then-not-left-clause-refused
 returns-then-not-left-clause-refused c =
@@ -22,9 +17,7 @@ pub returns-in_err-right-clause-refused : goal.returns-in_err-right-clause-refus
 returns-in_err-right-clause-refused c =
     let rest = c.part_in.new.words in
     let parted = c.in_ok-left.ensures.rest ∙ ap (λ t. cond t (Some rest) None) (not_false_true c.in_ok-left.left.at_slash c.if-not-left.false) in
-    let here : IfErr c.from_residual-in_err-right.result (Lacks (scalars_of rest)) = search rules in
-    IfErr-weaker c.from_residual-in_err-right.result (Lacks (scalars_of rest)) (Lacks (halves_value c.args.words))
-    (λ fault. lacks_more (scalars_of rest) (halves_value c.args.words) fault (halves_right c.args.words rest parted)) here
+    lacks_by c.from_residual-in_err-right.result (scalars_of rest) (halves_value c.args.words) (halves_right c.args.words rest parted) (search rules)
 
 pub returns-clause-codes : goal.returns-clause-codes
 returns-clause-codes c =
