@@ -2,3 +2,4 @@ pub mod AuditLemmas
 pub mod ChainLemmas
 pub mod EndLemmas
 pub mod ReplayLemmas
+pub mod VersionLemmas

@@ -1,10 +1,8 @@
 //! The two files of a version, read and built.
 ghost use Rattle.std.specs.Prelude.{◌≡◌, ◌⊎◌, IfOk, IfErr};
 ghost use Rattle.np_jobs.specs.Streams.{stream_of};
-ghost use Rattle.np_jobs.specs.Versions.{HasExclusions, HasRows, IsTablesFault, IsVersionFault, WasBuilt, WasRefused};
+ghost use Rattle.np_jobs.specs.Versions.{IsTablesFault, IsVersionFault, WasBuilt};
 ghost use Rattle.np_jobs.specs.Wraps.{Wraps};
-ghost use Rattle.np_ucd.specs.Exclusions.{IsFirstBadLine};
-ghost use Rattle.np_ucd.specs.FirstFaults.{IsFirstFault};
 ghost use Rattle.np_tables.specs.TableFaults.{IsFaultless};
 
 use crate::faults::VersionFault;
@@ -13,36 +11,6 @@ use np_tables::{PageTable, TableFault, Version};
 use np_ucd::{Exclusions, Rows, read_exclusions, read_rows};
 use std::alloc::Global;
 use std::io::Read;
-
-/// The rows of a data file.
-fn rows_of<R: Read>(
-    alloc: Global,
-    version: usize,
-    data_file: &mut Watched<R>,
-) -> Result<Rows, VersionFault>
-    ensures rows { IfOk result (HasRows (stream_of R.remaining data_file.old data_file.new)) }
-    ensures refused { IfErr result (Wraps (VersionFault.Data version) (WasRefused IsFirstFault (stream_of R.remaining data_file.old data_file.new))) }
-{
-    match read_rows(alloc, data_file) {
-        Ok(rows) => Ok(rows),
-        Err(fault) => Err(VersionFault::Data { version, fault }),
-    }
-}
-
-/// The code points that an exclusions file lists.
-fn exclusions_of<R: Read>(
-    alloc: Global,
-    version: usize,
-    exclusions_file: &mut Watched<R>,
-) -> Result<Exclusions, VersionFault>
-    ensures listed { IfOk result (HasExclusions (stream_of R.remaining exclusions_file.old exclusions_file.new)) }
-    ensures refused { IfErr result (Wraps (VersionFault.Exclusions version) (WasRefused IsFirstBadLine (stream_of R.remaining exclusions_file.old exclusions_file.new))) }
-{
-    match read_exclusions(alloc, exclusions_file) {
-        Ok(listed) => Ok(listed),
-        Err(fault) => Err(VersionFault::Exclusions { version, fault }),
-    }
-}
 
 /// The version of rows and exclusions.
 fn version_of(
@@ -79,8 +47,14 @@ pub fn read_version<R: Read>(
     ensures refused { IfErr result (IsVersionFault version (stream_of R.remaining data_file.old data_file.new) (stream_of R.remaining exclusions_file.old exclusions_file.new)) }
 {
     exclusions_file.clear();
-    let rows = rows_of(alloc, version, data_file)?;
-    let exclusions = exclusions_of(alloc, version, exclusions_file)?;
+    let rows = match read_rows(alloc, data_file) {
+        Ok(rows) => rows,
+        Err(fault) => return Err(VersionFault::Data { version, fault }),
+    };
+    let exclusions = match read_exclusions(alloc, exclusions_file) {
+        Ok(exclusions) => exclusions,
+        Err(fault) => return Err(VersionFault::Exclusions { version, fault }),
+    };
     version_of(alloc, version, rows, exclusions)
 }
 
