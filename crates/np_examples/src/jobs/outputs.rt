@@ -29,7 +29,7 @@ const JOBS: [(Job, &[u8]); 5] = [
     ),
     (Job::Audit(V1, V1), b"extends\n"),
     (
-        Job::Replay("room 1\nnodes 0\n"),
+        Job::ReplayOverOne("room 1\nnodes 0\n", V1),
         b"node 0 version 0 entries 0\n",
     ),
 ];
