@@ -6,7 +6,3 @@ mod outputs;
 mod refused;
 mod texts;
 mod words;
-
-use np_code_points::devices::Failure;
-
-const FAILURES: [Failure; 3] = [Failure::Error, Failure::Interrupted, Failure::TakesNothing];

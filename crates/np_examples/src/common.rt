@@ -2,6 +2,7 @@
 ghost use Rattle.std.specs.Prelude.{IsTrue, OnOk};
 
 use np_code_points::Memory;
+use np_code_points::devices::{Failure, Trickle};
 use np_code_points::fixtures::{
     S_DATA, S_EXCLUSIONS, V1_DATA, V1_EXCLUSIONS, V2_DATA, V2_EXCLUSIONS,
 };
@@ -9,6 +10,7 @@ use np_code_points::watched::Watched;
 use np_tables::{NormTable, PageTable, RowTable, Version};
 use np_ucd::{read_exclusions, read_rows};
 use std::alloc::Global;
+use std::io::Read;
 use std::test::Fail;
 
 /// Fails with these words where the fact does not hold.
@@ -16,6 +18,22 @@ pub(crate) fn want(holds: bool, what: &str) -> Result<(), Fail>
     ensures { OnOk result (IsTrue holds) }
 {
     if holds { Ok(()) } else { Err(Fail::new(what)) }
+}
+
+/// How a call of a device fails.
+pub(crate) const FAILURES: [Failure; 3] = [
+    Failure::Error,
+    Failure::Interrupted,
+    Failure::TakesNothing,
+];
+
+/// A reader of the bytes that has failed once, and whose mark says so.
+pub(crate) fn mended(bytes: &[u8]) -> Result<Watched<Trickle<'_>>, Fail> {
+    let mut source = Watched::new(Trickle::new(bytes, 100).failing_at(0, Failure::Error));
+    let mut piece = [0u8; 4];
+    let failed = source.read(&mut piece).is_err() && source.failed();
+    want(failed, "the first read fails")?;
+    Ok(source)
 }
 
 /// The data and the exclusions of a version.

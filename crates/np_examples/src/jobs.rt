@@ -5,13 +5,16 @@ mod outputs;
 mod refusals;
 mod replays;
 
-use crate::common::{Files, V1};
+ghost use Rattle.std.specs.Prelude.{◌≡◌, ◌≤◌, ◌%◌, length};
+
+use crate::common::{Files, want};
 use np_code_points::Form;
 use np_code_points::fixtures::V1_EXCLUSIONS;
 use np_code_points::watched::Watched;
 use np_jobs::{audit_job, compare_job, key_job, normalize_job, replay_job};
 use std::alloc::Global;
 use std::io::Write;
+use std::test::Fail;
 
 /// The commands on one text.
 #[derive(Clone, Copy)]
@@ -21,13 +24,14 @@ enum Command {
     Compare,
 }
 
-/// A job and what it reads: a text under NFC or another form over a data file and the first fixture's exclusions,
-/// the files of two versions, or a schedule over the first fixture.
+/// A job and what it reads: a form, a data file beside the first fixture's exclusions and a text; two versions; or a
+/// schedule over one version or two, under NFC.
 #[derive(Clone, Copy)]
 enum Job<'a> {
     Text(Command, Form, &'a str, &'a [u8]),
     Audit(Files<'a>, Files<'a>),
-    Replay(&'a str),
+    ReplayOverOne(&'a str, Files<'a>),
+    ReplayOverTwo(&'a str, Files<'a>, Files<'a>),
 }
 
 /// The status of a job into these writers.
@@ -42,7 +46,12 @@ fn job_into<O: Write, E: Write>(
             text_into(alloc, (*command, *form), data, input, output, error)
         }
         Job::Audit(old, new) => audit_into(alloc, *old, *new, output, error),
-        Job::Replay(schedule) => replay_into(alloc, schedule, output, error),
+        Job::ReplayOverOne(schedule, files) => {
+            replay_over_one(alloc, schedule, *files, output, error)
+        }
+        Job::ReplayOverTwo(schedule, old, new) => {
+            replay_over_two(alloc, schedule, (*old, *new), output, error)
+        }
     }
 }
 
@@ -87,17 +96,93 @@ fn audit_into<O: Write, E: Write>(
     )
 }
 
-fn replay_into<O: Write, E: Write>(
+fn replay_over_one<O: Write, E: Write>(
     alloc: Global,
     schedule: &str,
+    (data, exclusions): Files<'_>,
     output: &mut Watched<O>,
     error: &mut Watched<E>,
 ) -> u8 {
-    let mut schedule = Watched::new(schedule.as_bytes());
-    let (data, exclusions) = V1;
     let mut files = [
         Watched::new(data.as_bytes()),
         Watched::new(exclusions.as_bytes()),
     ];
-    replay_job(alloc, Form::Nfc, &mut schedule, &mut files, output, error)
+    replay_into(alloc, schedule, &mut files, output, error)
+}
+
+fn replay_over_two<O: Write, E: Write>(
+    alloc: Global,
+    schedule: &str,
+    (old, new): (Files<'_>, Files<'_>),
+    output: &mut Watched<O>,
+    error: &mut Watched<E>,
+) -> u8 {
+    let mut files = [
+        Watched::new(old.0.as_bytes()),
+        Watched::new(old.1.as_bytes()),
+        Watched::new(new.0.as_bytes()),
+        Watched::new(new.1.as_bytes()),
+    ];
+    replay_into(alloc, schedule, &mut files, output, error)
+}
+
+fn replay_into<'a, O: Write, E: Write>(
+    alloc: Global,
+    schedule: &'a str,
+    files: &mut [Watched<&'a [u8]>],
+    output: &mut Watched<O>,
+    error: &mut Watched<E>,
+) -> u8
+    requires even { length files.old % 2 ≡ 0 }
+    requires some { 2 ≤ length files.old }
+{
+    let mut schedule = Watched::new(schedule.as_bytes());
+    replay_job(alloc, Form::Nfc, &mut schedule, files, output, error)
+}
+
+/// Status, standard output and standard error of a run.
+#[derive(Drop)]
+struct Ran {
+    status: u8,
+    output: Vec<u8>,
+    error: Vec<u8>,
+}
+
+/// What a run has to answer: its status, and what it writes to the output or tells.
+type Answer<'a> = (u8, &'a str, &'a str);
+
+/// Whether a run answers so.
+fn is_answer(ran: &Ran, answer: &Answer<'_>) -> bool {
+    let (status, output, error) = answer;
+    ran.status == *status
+        && ran.output.as_slice() == output.as_bytes()
+        && ran.error.as_slice() == error.as_bytes()
+}
+
+/// The run of a job.
+fn run(alloc: Global, job: &Job<'_>) -> Ran {
+    let mut output = Watched::new(Vec::new(alloc));
+    let mut error = Watched::new(Vec::new(alloc));
+    let status = job_into(alloc, job, &mut output, &mut error);
+    Ran {
+        status,
+        output: output.into_inner(),
+        error: error.into_inner(),
+    }
+}
+
+/// Fails with these words unless the run of a job answers so.
+fn wants_answer(alloc: Global, job: &Job<'_>, answer: &Answer<'_>, what: &str) -> Result<(), Fail> {
+    let ran = run(alloc, job);
+    want(is_answer(&ran, answer), what)
+}
+
+/// Jobs, their answers, and what they show.
+type JobRow = (Job<'static>, Answer<'static>, &'static str);
+
+fn are_answered(alloc: Global, rows: &[JobRow]) -> Result<(), Fail> {
+    for (job, answer, what) in rows {
+        wants_answer(alloc, job, answer, what)?;
+    }
+    Ok(())
 }

@@ -1,14 +1,13 @@
 //! Worked examples, and files that are not what they should be.
 mod refused;
 
-use crate::common::want;
+use crate::common::{mended, want};
 use np_code_points::devices::{Endless, Failure, Trickle};
 use np_code_points::fixtures::{V1_DATA, V1_EXCLUSIONS};
 use np_code_points::told::want_told;
 use np_code_points::watched::Watched;
 use np_ucd::{Exclusions, MapKind, Rows, UcdFault, read_exclusions, read_rows};
 use std::alloc::Global;
-use std::io::Read;
 use std::test::Fail;
 
 fn rows_of(alloc: Global, text: &[u8], piece: usize) -> Result<Rows, UcdFault> {
@@ -313,15 +312,6 @@ fn a_failed_read_is_no_end_and_is_the_last(rt: HostRuntime) -> Result<(), Fail> 
         }
     }
     Ok(())
-}
-
-/// A reader of the bytes that has failed once, and whose mark says so.
-fn mended(bytes: &[u8]) -> Result<Watched<Trickle<'_>>, Fail> {
-    let mut source = Watched::new(Trickle::new(bytes, 100).failing_at(0, Failure::Error));
-    let mut piece = [0u8; 4];
-    let failed = source.read(&mut piece).is_err() && source.failed();
-    want(failed, "the first read fails")?;
-    Ok(source)
 }
 
 #[test]

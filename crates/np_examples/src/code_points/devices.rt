@@ -1,6 +1,5 @@
 //! The devices for tests keep their own word.
-use super::FAILURES;
-use crate::common::want;
+use crate::common::{FAILURES, want};
 use np_code_points::devices::{Endless, Failure, Room, Trickle};
 use std::alloc::Global;
 use std::io::{ErrorKind, Read, Result as IoResult, Write};

@@ -1,5 +1,5 @@
 //! Whole inputs: their end, their limit, and what a failure leaves.
-use super::FAILURES;
+use crate::common::{FAILURES, mended};
 use np_code_points::devices::{Endless, Failure, Trickle};
 use np_code_points::input::{InputFault, LIMIT, read_whole};
 use np_code_points::told::want_told;
@@ -55,10 +55,7 @@ fn a_failed_read_is_tried_once(rt: HostRuntime) -> Result<(), Fail> {
 
 #[test]
 fn an_old_failure_is_no_failure_of_this_input(rt: HostRuntime) -> Result<(), Fail> {
-    let mut piece = [0u8; 4];
-    let device = Trickle::new(b"abc".as_slice(), 2).failing_at(0, Failure::Error);
-    let mut source = Watched::new(device);
-    assert!(rt; source.read(&mut piece).is_err() && source.failed());
+    let mut source = mended(b"abc")?;
     let bytes = read_whole(rt.alloc(), &mut source)?;
     assert_eq!(rt; bytes.as_slice(), b"abc".as_slice());
     assert!(rt; !source.failed());

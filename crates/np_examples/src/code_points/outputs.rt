@@ -1,5 +1,5 @@
 //! Whole outputs: pieces, the flush, and what a failure leaves.
-use super::FAILURES;
+use crate::common::FAILURES;
 use np_code_points::Memory;
 use np_code_points::devices::{Failure, Room};
 use np_code_points::output::{WriteFailed, flush_once, write_out, write_whole};

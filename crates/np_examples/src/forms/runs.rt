@@ -1,5 +1,5 @@
 //! Runs over whole inputs on worked examples.
-use crate::common::{Example, Made, V1, holds_over_each, want};
+use crate::common::{Example, FAILURES, Made, V1, holds_over_each, want};
 use np_code_points::Form;
 use np_code_points::devices::{Failure, Room, Trickle};
 use np_code_points::told::want_told;
@@ -75,9 +75,6 @@ fn wants_rows<T: NormTable>(alloc: Global, table: &T) -> Result<(), Fail> {
     }
     Ok(())
 }
-
-/// How a call fails.
-const FAILURES: [Failure; 3] = [Failure::Error, Failure::Interrupted, Failure::TakesNothing];
 
 /// A read that fails at a call that is counted from 0.
 fn wants_failed_read<T: NormTable>(

@@ -1,53 +1,15 @@
 //! Worked examples of the jobs over the fixtures.
-use super::{Command, Job, job_into};
-use crate::common::want;
+use super::{Answer, Command, Job, JobRow, are_answered, wants_answer};
+use crate::common::{V1, V2};
 use np_code_points::Form;
-use np_code_points::fixtures::{V1_DATA, V1_EXCLUSIONS, V2_DATA, V2_EXCLUSIONS};
-use np_code_points::watched::Watched;
+use np_code_points::fixtures::{V1_DATA, V2_EXCLUSIONS};
 use std::alloc::Global;
 use std::test::Fail;
-
-/// Status, standard output and standard error of a run.
-#[derive(Drop)]
-struct Ran {
-    status: u8,
-    output: Vec<u8>,
-    error: Vec<u8>,
-}
-
-/// What a run has to answer: its status, and what it writes to the output or tells.
-type Answer<'a> = (u8, &'a str, &'a str);
-
-/// Whether a run answers so.
-fn is_answer(ran: &Ran, answer: &Answer<'_>) -> bool {
-    let (status, output, error) = answer;
-    ran.status == *status
-        && ran.output.as_slice() == output.as_bytes()
-        && ran.error.as_slice() == error.as_bytes()
-}
-
-/// The run of a job.
-fn run(alloc: Global, job: &Job<'_>) -> Ran {
-    let mut output = Watched::new(Vec::new(alloc));
-    let mut error = Watched::new(Vec::new(alloc));
-    let status = job_into(alloc, job, &mut output, &mut error);
-    Ran {
-        status,
-        output: output.into_inner(),
-        error: error.into_inner(),
-    }
-}
-
-/// Fails with these words unless the run of a job answers so.
-fn wants_answer(alloc: Global, job: &Job<'_>, answer: &Answer<'_>, what: &str) -> Result<(), Fail> {
-    let ran = run(alloc, job);
-    want(is_answer(&ran, answer), what)
-}
 
 /// A run over the first fixture: the form, the input and the answer.
 type Row = (Form, &'static str, Answer<'static>);
 
-fn are_answered(alloc: Global, command: Command, rows: &[Row]) -> Result<(), Fail> {
+fn texts_are_answered(alloc: Global, command: Command, rows: &[Row]) -> Result<(), Fail> {
     for (form, input, answer) in rows {
         let job = Job::Text(command, *form, V1_DATA, input.as_bytes());
         wants_answer(alloc, &job, answer, input)?;
@@ -73,7 +35,7 @@ const KEYS: [Row; 5] = [
 
 #[test]
 fn key_answers_the_worked_examples(rt: HostRuntime) -> Result<(), Fail> {
-    are_answered(rt.alloc(), Command::Key, &KEYS)
+    texts_are_answered(rt.alloc(), Command::Key, &KEYS)
 }
 
 const NORMALIZED: [Row; 2] = [
@@ -83,7 +45,7 @@ const NORMALIZED: [Row; 2] = [
 
 #[test]
 fn normalize_answers_the_worked_examples(rt: HostRuntime) -> Result<(), Fail> {
-    are_answered(rt.alloc(), Command::Normalize, &NORMALIZED)
+    texts_are_answered(rt.alloc(), Command::Normalize, &NORMALIZED)
 }
 
 const COMPARED: [Row; 4] = [
@@ -96,7 +58,7 @@ const COMPARED: [Row; 4] = [
 
 #[test]
 fn compare_answers_the_worked_examples(rt: HostRuntime) -> Result<(), Fail> {
-    are_answered(rt.alloc(), Command::Compare, &COMPARED)
+    texts_are_answered(rt.alloc(), Command::Compare, &COMPARED)
 }
 
 const LINES_WITH_UNASSIGNED: [Row; 3] = [
@@ -121,17 +83,7 @@ const LINES_WITH_UNASSIGNED: [Row; 3] = [
 
 #[test]
 fn compare_wants_assigned_lines(rt: HostRuntime) -> Result<(), Fail> {
-    are_answered(rt.alloc(), Command::Compare, &LINES_WITH_UNASSIGNED)
-}
-
-/// Jobs, their answers, and what they show.
-type JobRow = (Job<'static>, Answer<'static>, &'static str);
-
-fn jobs_are_answered(alloc: Global, rows: &[JobRow]) -> Result<(), Fail> {
-    for (job, answer, what) in rows {
-        wants_answer(alloc, job, answer, what)?;
-    }
-    Ok(())
+    texts_are_answered(rt.alloc(), Command::Compare, &LINES_WITH_UNASSIGNED)
 }
 
 const BAD: [JobRow; 2] = [
@@ -149,17 +101,13 @@ const BAD: [JobRow; 2] = [
 
 #[test]
 fn bad_bytes_and_bad_files_are_told(rt: HostRuntime) -> Result<(), Fail> {
-    jobs_are_answered(rt.alloc(), &BAD)
+    are_answered(rt.alloc(), &BAD)
 }
 
 const AUDITS: [JobRow; 3] = [
+    (Job::Audit(V1, V2), (0, "extends\n", ""), "V1, V2"),
     (
-        Job::Audit((V1_DATA, V1_EXCLUSIONS), (V2_DATA, V2_EXCLUSIONS)),
-        (0, "extends\n", ""),
-        "V1, V2",
-    ),
-    (
-        Job::Audit((V2_DATA, V1_EXCLUSIONS), (V1_DATA, V2_EXCLUSIONS)),
+        Job::Audit(V2, V1),
         (
             1,
             "Lost 1DFA\nLost 16D63\nLost 16D67\nLost 16D68\nLost 16D69\nLost 16D6A\n",
@@ -168,10 +116,7 @@ const AUDITS: [JobRow; 3] = [
         "V2, V1",
     ),
     (
-        Job::Audit(
-            (V1_DATA, V1_EXCLUSIONS),
-            ("41;X;Lu;0;L;;;;;N;;;;;\n", V2_EXCLUSIONS),
-        ),
+        Job::Audit(V1, ("41;X;Lu;0;L;;;;;N;;;;;\n", V2_EXCLUSIONS)),
         (4, "", "version 1 data: line 1: BadCode\n"),
         "V1, a bad file",
     ),
@@ -179,5 +124,5 @@ const AUDITS: [JobRow; 3] = [
 
 #[test]
 fn audit_answers_the_worked_examples(rt: HostRuntime) -> Result<(), Fail> {
-    jobs_are_answered(rt.alloc(), &AUDITS)
+    are_answered(rt.alloc(), &AUDITS)
 }

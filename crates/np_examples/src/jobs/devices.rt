@@ -1,16 +1,16 @@
 //! Devices that fail in mid-stream, and marks from before.
 use super::{Command, Job, job_into};
-use crate::common::want;
+use crate::common::{mended, want};
 use np_code_points::Form;
 use np_code_points::devices::{Failure, Room, Trickle};
 use np_code_points::fixtures::{V1_DATA, V1_EXCLUSIONS};
 use np_code_points::watched::Watched;
 use np_jobs::{audit_job, key_job, replay_job};
 use std::alloc::Global;
-use std::io::{Read, Write};
+use std::io::Write;
 use std::test::Fail;
 
-/// The readers of `key`: both files, and an input of `Aa`, each given a byte a read.
+/// The readers of `key`: both files, and an input of `Aa`.
 #[derive(Drop)]
 struct Readers<'a> {
     data: Watched<Trickle<'a>>,
@@ -105,27 +105,13 @@ fn a_failed_read_in_mid_stream_ends_the_job(rt: HostRuntime) -> Result<(), Fail>
     Ok(())
 }
 
-/// A read that fails, of a reader and so of its mark.
-fn mark<R: Read>(reader: &mut Watched<R>) {
-    // what it answers is seen in the mark
-    let _ = reader.read(&mut [0u8; 1]);
-}
-
 #[test]
 fn marks_from_before_tell_nothing(rt: HostRuntime) -> Result<(), Fail> {
-    let error = Failure::Error;
-    let mut readers = readers_of(
-        data().failing_at(0, error),
-        exclusions().failing_at(0, error),
-        input().failing_at(0, error),
-    );
-    mark(&mut readers.data);
-    mark(&mut readers.exclusions);
-    mark(&mut readers.input);
-    want(
-        readers.data.failed() && readers.exclusions.failed(),
-        "marks",
-    )?;
+    let mut readers = Readers {
+        data: mended(V1_DATA.as_bytes())?,
+        exclusions: mended(V1_EXCLUSIONS.as_bytes())?,
+        input: mended(b"Aa")?,
+    };
     let (status, output, error) = key_over(rt.alloc(), &mut readers);
     want(
         status == 0 && output.as_slice() == b"Aa".as_slice(),

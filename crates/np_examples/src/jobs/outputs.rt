@@ -1,6 +1,6 @@
 //! Each job into an output of which one write, or the flush, fails, in each way.
 use super::{Command, Job, job_into};
-use crate::common::{V1, want};
+use crate::common::{FAILURES, V1, want};
 use np_code_points::Form;
 use np_code_points::devices::{Failure, Room};
 use np_code_points::fixtures::V1_DATA;
@@ -29,7 +29,7 @@ const JOBS: [(Job, &[u8]); 5] = [
     ),
     (Job::Audit(V1, V1), b"extends\n"),
     (
-        Job::Replay("room 1\nnodes 0\n"),
+        Job::ReplayOverOne("room 1\nnodes 0\n", V1),
         b"node 0 version 0 entries 0\n",
     ),
 ];
@@ -68,7 +68,7 @@ fn each_call(alloc: Global, job: &Job<'_>, whole: &[u8], failure: Failure) -> Re
 
 #[test]
 fn each_failed_write_and_flush_is_told(rt: HostRuntime) -> Result<(), Fail> {
-    for failure in [Failure::Error, Failure::Interrupted, Failure::TakesNothing] {
+    for failure in FAILURES {
         for (job, whole) in &JOBS {
             each_call(rt.alloc(), job, whole, failure)?;
         }
