@@ -4,8 +4,7 @@ ghost use Rattle.std.specs.Io.KnownBytes.{Appends, Consumes, IsAtEnd};
 ghost use Rattle.np_code_points.specs.Text.{IsLongestValidPrefix};
 ghost use Rattle.np_code_points.specs.Watched.{device_of, has_failed};
 ghost use Rattle.np_forms.specs.RunEnds.{RunEnds};
-ghost use Rattle.np_tables.specs.Conditions.{IsSound};
-ghost use Rattle.np_forms.specs.inside.Running.{MayBegin, MayNotBegin, IsChunkFault, IsNextChunk, IsInputFault, IsPieceWritten, IsPieceCut, IsRestWritten, IsRestCut, Goes, Stops};
+ghost use Rattle.np_forms.specs.inside.Running.{IsBetweenReads, MayBegin, MayNotBegin, IsChunkFault, IsNextChunk, IsInputFault, IsPieceWritten, IsPieceCut, IsRestWritten, IsRestCut, Goes, Stops};
 
 use crate::streams::Stream;
 use crate::written::{write_end, write_text};
@@ -265,13 +264,7 @@ fn feed_all<R: Read, W: Write, T: NormTable>(
     source: &mut Watched<R>,
     target: &mut Watched<W>,
 ) -> Result<(), RunFault>
-    requires sound { IsSound stream.old.version }
-    requires moved { stream.old.ready ≡ [] }
-    requires empty { string_bytes output.old.text ≡ [] }
-    requires reads { has_failed source.old ≡ false }
-    requires writes { has_failed target.old ≡ false }
-    requires fits { input.old.total ≤ LIMIT }
-    requires inside { vec_len input.old.kept ≤ input.old.total }
+    requires { IsBetweenReads stream.old (string_bytes output.old.text) (vec_len input.old.kept) input.old.total (has_failed source.old) (has_failed target.old) }
     ensures ok { OnOk result (Goes stream.old stream.new (R.remaining (device_of source.old)) (R.remaining (device_of source.new)) (W.contents (device_of target.old)) (W.contents (device_of target.new)) input.old.kept.items input.new.kept.items input.old.total input.new.total output.old.count output.new.count) }
     ensures end { OnOk result (IsAtEnd (R.remaining (device_of source.new))) }
     ensures fits { OnOk result (input.new.total ≤ LIMIT) }
@@ -298,13 +291,7 @@ fn run_on<R: Read, W: Write, T: NormTable>(
     source: &mut Watched<R>,
     target: &mut Watched<W>,
 ) -> Result<u64, RunFault>
-    requires sound { IsSound stream.old.version }
-    requires moved { stream.old.ready ≡ [] }
-    requires empty { string_bytes output.old.text ≡ [] }
-    requires reads { has_failed source.old ≡ false }
-    requires writes { has_failed target.old ≡ false }
-    requires fits { input.old.total ≤ LIMIT }
-    requires inside { vec_len input.old.kept ≤ input.old.total }
+    requires { IsBetweenReads stream.old (string_bytes output.old.text) (vec_len input.old.kept) input.old.total (has_failed source.old) (has_failed target.old) }
     ensures ends { Stops stream.old (R.remaining (device_of source.old)) (R.remaining (device_of source.new)) (W.contents (device_of target.old)) (W.contents (device_of target.new)) input.old.kept.items input.old.total output.old.count result }
     ensures read { result ≡ Err RunFault.ReadFailed ↔ (has_failed source.new ≡ true) }
     ensures write { result ≡ Err RunFault.WriteFailed ↔ (has_failed target.new ≡ true) }

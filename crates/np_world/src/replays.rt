@@ -9,7 +9,7 @@ ghost use Rattle.np_world.specs.Runs.{setting_over, AgreeOn, AnswerAlike, AreKey
 ghost use Rattle.np_world.specs.inside.Mirrors.{rules_of, AreRules};
 ghost use Rattle.np_world.specs.inside.Played.{IsPlayed};
 ghost use Rattle.np_world.specs.inside.Worlds.{Begins, EndsRun};
-ghost use Rattle.np_world.specs.Schedules.{NameNodes};
+ghost use Rattle.np_world.specs.Schedules.{IsStandable, NameNodes};
 ghost use Rattle.np_world.specs.inside.Rust.{event_of};
 
 use crate::events::EventLine;
@@ -74,26 +74,18 @@ fn run_events<'t, T: NormTable>(
 
 /// Replays a schedule by nodes.
 fn play<'t, T: NormTable>(
-    alloc: Global,
-    chain: &Chain<'t, T>,
-    form: Form,
+    common: &Common<'_, 't, T>,
     schedule: &Schedule,
 ) -> Result<Report<'t, T>, Memory>
-    requires { schedule.now.versions ≡ length chain.now }
-    ensures { IfOk result (λ report. IsPlayed T.model chain.now form schedule.now report) }
+    requires rules { AreRules T.model (rules_of common.now) }
+    requires versions { schedule.now.versions ≡ length common.now.chain.now }
+    requires room { common.now.room ≡ schedule.now.room }
+    requires stands { IsStandable schedule.now }
+    ensures { IfOk result (λ report. IsPlayed T.model common.now.chain.now common.now.form schedule.now report) }
 {
-    let room = schedule.room();
-    // A chain's versions extend one another.
-    chain.meets_conditions();
-    let common = Common {
-        alloc,
-        chain,
-        form,
-        room,
-    };
     let starts = schedule.starts();
-    let mut members = first_members(&common, starts)?;
-    let Told { replies, sent } = run_events(&common, &mut members, starts, schedule.events())?;
+    let mut members = first_members(common, starts)?;
+    let Told { replies, sent } = run_events(common, &mut members, starts, schedule.events())?;
     Ok(Report {
         replies,
         sent,
@@ -150,5 +142,14 @@ pub fn replay<'t, T: NormTable>(
     // Along a chain forms stay, and equal forms are equivalence.
     np_chain::laws::stability();
     np_chain::laws::idempotence();
-    play(alloc, chain, form, schedule)
+    // A chain's versions extend one another.
+    chain.meets_conditions();
+    let room = schedule.room();
+    let common = Common {
+        alloc,
+        chain,
+        form,
+        room,
+    };
+    play(&common, schedule)
 }

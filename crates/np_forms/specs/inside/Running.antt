@@ -1,5 +1,5 @@
 -- A run between two reads.
-use Rattle.std.specs.Prelude.{◌≡◌, ◌≢◌, ℕ, ◌+◌, ◌<◌, ◌≤◌, ◌⊎◌, ◌++◌, List, [], length, take, drop, chars, encode_utf8_all, IsUtf8, Option, None, Result}
+use Rattle.std.specs.Prelude.{◌≡◌, ◌≢◌, ℕ, ◌+◌, ◌<◌, ◌≤◌, ◌⊎◌, ◌++◌, Bool, false, List, [], length, take, drop, chars, encode_utf8_all, IsUtf8, Option, None, Result}
 use Rattle.std.specs.Io.KnownBytes.{Appends, Consumes}
 use Rattle.std.specs.Str.Lossy.{utf8_error_len}
 use Rattle.np_code_points.specs.Text.{IsLongestValidPrefix}
@@ -9,6 +9,7 @@ use Rattle.np_forms.specs.RunEnds.{RunEnds}
 use Rattle.np_forms.specs.Streams.{IsStreaming, StreamState}
 use Rattle.np_forms.specs.declared.runs.RunFault.{RunFault}
 use Rattle.np_forms.specs.declared.runs.RunFault.TheVariants.{NotUtf8, ReadFailed, WriteFailed, TooLarge, Memory}
+use Rattle.np_tables.specs.Conditions.{IsSound}
 use Rattle.np_tables.specs.Versions.{VersionData}
 
 -- of what was read, from i₀ to i₁, all but the begin of a character was fed, and all that is ready is written, from o₀ to o₁
@@ -25,6 +26,16 @@ pub record IsRunning (v : VersionData) (form : Form) (i₀ i₁ o₀ o₁ : Opti
   pub version : s.version ≡ v
   pub form_is : s.form ≡ form
   pub moved : s.ready ≡ []
+
+-- what holds between two reads: nothing is ready that is not written, what is kept of a character was read, and neither device failed
+pub record IsBetweenReads (s : StreamState) (text : List ℕ) (kept total : ℕ) (read_failed write_failed : Bool) : Type 0 where
+  pub sound : IsSound s.version
+  pub moved : s.ready ≡ []
+  pub empty : text ≡ []
+  pub reads : read_failed ≡ false
+  pub writes : write_failed ≡ false
+  pub fits : total ≤ 4294967295
+  pub inside : kept ≤ total
 
 -- n bytes are the longest prefix of a chunk that is a text, and what follows them may begin a character
 pub record MayBegin (chunk : List ℕ) (n : ℕ) : Type 0 where

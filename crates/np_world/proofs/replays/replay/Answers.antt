@@ -1,6 +1,10 @@
+use Rattle.std.proofs.Common.{arith}
 use Rattle.std.proofs.lemmas.Result.{IfOk-weaker}
 use Rattle.np_world.proofs.ReportLemmas.{agree_on, images_are, indices_are, keys_are, nodes_are, one_is, replies_are, saved_are, sent_are, strings_are, tells_alike}
 use Rattle.np_world.proofs.replays.replay.Goals as goal
+
+pub play-requires-clause-rules : goal.play-requires-clause-rules
+play-requires-clause-rules g c = record { chain = c.meets_conditions.ensures; room = omega (arith, c.room-room.ensures.room, c.room-room.ensures.stands.room) }
 
 pub returns-clause-run : goal.returns-clause-run
 returns-clause-run g c = IfOk-weaker _ _ _ (λ report is. one_is g.T.NormTable.model c.args.chain.now c.args.form c.args.schedule.now report is c.one_run.ensures) c.play.ensures
