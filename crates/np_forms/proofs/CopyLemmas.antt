@@ -51,15 +51,12 @@ module _ (v : VersionData) (sound : IsSound v) (form : Form) where
       }
 
   -- a text whose forms are each for itself before a boundary
-  pub IsParted-at : (text front back : List ℕ) (c : ℕ) (later : List ℕ) → text ≡ front ++ back → IsUtf8 front → IsUtf8 back → back ≡ encode_utf8 c ++ later → IsBoundary v form c → IsParted v form text front back
-  IsParted-at text front back c later parts of_front of_back begins at =
-      let next = chars_past_char back later c of_back begins in
+  pub IsParted-at : (text front back : List ℕ) → text ≡ front ++ back → IsUtf8 front → IsUtf8 back → BeginsAtBoundary v form (chars back) → IsParted v form text front back
+  IsParted-at text front back parts of_front of_back at =
       record {
         parts = parts;
         utf8 = of_back;
-        parted = ap (normal_form v form) (ap chars parts ∙ chars-append front back of_front ∙ ap (λ l. chars front ++ l) next)
-            ∙ normal_form-parts v sound form (chars front) c (chars later) at
-            ∙ ap (λ l. normal_form v form (chars front) ++ normal_form v form l) (sym next);
+        parted = ap (normal_form v form) (ap chars parts ∙ chars-append front back of_front) ∙ parts-at (chars front) (chars back) at;
       }
 
   pub IsParted-whole : (text back : List ℕ) → length back ≡ 0 → IsUtf8 back → IsParted v form text text back

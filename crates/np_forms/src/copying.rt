@@ -44,33 +44,9 @@ pub(crate) fn split_standing<'a, T: NormTable>(
     text.split_at(before.len())
 }
 
-/// Cuts before the first code point behind the first one at which the form is known to part. It too
-/// is made part of each loop that calls it.
+/// Cuts before the first code point at which the form is known to part. It too is made part of each
+/// loop that calls it.
 #[inline(always)]
-pub(crate) fn split_segment<'a, T: NormTable>(
-    table: &T,
-    form: Form,
-    text: &'a str,
-) -> (&'a str, &'a str)
-    ensures parted { IsParted (T.model table.now) form text.now result.0.now result.1.now }
-    ensures some { 0 < length text.now → 0 < length result.0.now }
-{
-    table.meets_conditions();
-    let mut iter = text.chars();
-    // a segment has at least one code point
-    let _first = iter.next();
-    'scan: loop {
-        let here = iter.as_str();
-        let Some(c) = iter.next() else {
-            return (text, here);
-        };
-        if table.is_boundary(form, c) {
-            return (&text[..text.len() - here.len()], here);
-        }
-    }
-}
-
-/// Cuts before the first code point at which the form is known to part.
 pub(crate) fn split_head<'a, T: NormTable>(
     table: &T,
     form: Form,
@@ -91,6 +67,26 @@ pub(crate) fn split_head<'a, T: NormTable>(
             return (&text[..text.len() - here.len()], here);
         }
     }
+}
+
+/// Cuts before the first code point behind the first one at which the form is known to part.
+#[inline(always)]
+pub(crate) fn split_segment<'a, T: NormTable>(
+    table: &T,
+    form: Form,
+    text: &'a str,
+) -> (&'a str, &'a str)
+    ensures parted { IsParted (T.model table.now) form text.now result.0.now result.1.now }
+    ensures some { 0 < length text.now → 0 < length result.0.now }
+{
+    table.meets_conditions();
+    let mut iter = text.chars();
+    // a segment has at least one code point
+    let Some(_first) = iter.next() else {
+        return (text, text);
+    };
+    let (_front, later) = split_head(table, form, iter.as_str());
+    (&text[..text.len() - later.len()], later)
 }
 
 /// Cuts a text before the last code point at which the form is known to part; nothing is before it
