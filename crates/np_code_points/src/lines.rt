@@ -44,8 +44,8 @@ fn before_from(bytes: &[u8], from: usize, byte: u8) -> usize
     at
 }
 
-/// How many bytes stand before the first such byte, as far as steps of `N` bytes from a place on
-/// show it; or else the place that they come to, behind which fewer than `N` bytes are left.
+/// How many bytes stand before the first such byte from a place on, where steps of `N` bytes find
+/// it; or else the place that they come to, behind which fewer than `N` bytes are left.
 #[inline(always)]
 fn before_by_steps<const N: usize>(bytes: &[u8], from: usize, byte: u8) -> Result<usize, usize>
     requires some { 0 < N }

@@ -29,7 +29,7 @@ rows_read whole (Err e) fine is = tt
 listed_step : (bytes : List ℕ) (spans : List Span) (code : ℕ) → is_listed spans code ≡ is_listed (spans_in bytes) code → (is_listed spans code ≡ true) ↔ IsListedIn bytes code
 listed_step bytes spans code same = rw same (lists_codes bytes code)
 
--- what the lines of one list that was read
+-- the code points that a file lists that was read
 pub listed_read : {before after : Option (List ℕ)} {bytes : List ℕ} → IsReadWhole before after bytes → (r : Result (List Span) UcdFault) → OnOk r (exclusions_fault bytes ≡ None) → IfOk r (λ e. (code : ℕ) → is_listed e code ≡ is_listed (spans_in bytes) code) → IfOk r (λ e. (bytes : List ℕ) × IsReadWhole before after bytes × AreReadable bytes × ((code : ℕ) → (is_listed e code ≡ true) ↔ IsListedIn bytes code))
 listed_read {bytes = bytes} whole (Ok spans) fine same =
     (bytes, whole, are_readable bytes fine, λ code. listed_step bytes spans code (same code))

@@ -48,7 +48,7 @@ fifteen text rest a b c d f h behind = (
   behind.2 ∙ sym (ap (λ ps. get_or ps 5 []) h),
 )
 
--- What was read of a field's text says what the field says.
+-- A field says what was read of its text.
 pub said : {A : Type 0} (value : List ℕ → Option A) {o r : Option A} {x field : List ℕ} → x ≡ field → o ≡ value x → o ≡ r → value field ≡ r
 said value same reads is = ap value (sym same) ∙ sym reads ∙ is
 

@@ -80,7 +80,7 @@ walk_at passed rest = record {
   total = passed + length (lines_of rest);
 }
 
--- from a place to another one that the list has, each element passes
+-- another place, where the elements that pass end where those from the first place on do
 abbrev pub HasPassed : (ℕ → Bool) → List ℕ → ℕ → ℕ → Type 0
 HasPassed p xs from at = record {
   within : at ≤ length xs;
