@@ -356,7 +356,7 @@ module _ {v : VersionData} (sound : IsSound v) where
         (subst (λ x. IsRunCut v form (ends_of i' i' x o') Memory) same_out
         (cut_input (run_start form i' o' s version form_is moved begins) i' Memory (record { came = []; taken = Consumes-nothing i'; size = omega arith; cause = tt })))
 
-    -- a run that nothing was read for
+    -- a whole run
     pub run_all : {kept : List ℕ} {total : ℕ} → kept ≡ [] → total ≡ 0 → (i₂ o₂ : Option (List ℕ)) (result : Result ℕ RunFault) → Stops s i' i₂ o' o₂ kept total 0 result → RunEnds v form (ends_of i i₂ o o₂) result
     run_all {kept} {total} none zero_read i₂ o₂ result stops =
         let start = run_start form i' o' s version form_is moved begins in

@@ -1,9 +1,10 @@
 -- What a report that mirrors the machine's run says.
-use Rattle.std.proofs.Common.{◌≡◌, ℕ, zero, suc, ◌-◌, ◌≤◌, ◌⊎◌, ◌↔◌, List, [], ◌∷◌, length, get_or, map, slice_get, Option, Some, None, Bool, true, false, IsTrue, refl, sym, ap, subst, ◌∙◌, arith, inl, inr}
+use Rattle.std.proofs.Common.{◌≡◌, ℕ, zero, suc, ◌-◌, ◌≤◌, ◌⊎◌, ◌↔◌, List, [], ◌∷◌, length, get_or, map, slice_get, Option, Some, None, Bool, true, false, IsTrue, Result, refl, sym, ap, subst, ◌∙◌, arith, inl, inr}
 use Rattle.std.proofs.lemmas.List.{length-map}
 use Rattle.std.proofs.lemmas.Option.{slice_get_within}
+use Rattle.std.proofs.lemmas.Result.{IfOk-weaker}
 use Rattle.std.specs.Option.{option_map, option_and_then}
-use Rattle.std.specs.Prelude.{chars, Contains, IfSome, IsSome, IsSomeAnd, MatchOption}
+use Rattle.std.specs.Prelude.{chars, Contains, IfOk, IfSome, IsSome, IsSomeAnd, MatchOption}
 use Rattle.std.specs.declared.vec.Vec.{Vec}
 use Rattle.std.specs.declared.alloc.Global.{Global}
 use Rattle.np_chain.proofs.ChainLemmas.{StandsAt-from}
@@ -84,7 +85,12 @@ same_truth true false there back = sym (there refl)
 same_truth false true there back = back refl
 same_truth false false there back = refl
 
-module _ {T : Type 0} (model : T → VersionData) (tables : List T) (form : Form) (schedule : ScheduleData) (report : Report T) (is : IsPlayed model tables form schedule report) where
+-- what holds of each report that mirrors a run holds where one is answered
+pub of_played : {T : Type 0} {model : T → VersionData} {tables : List T} {form : Form} {schedule : ScheduleData} {E : Type 0} (r : Result (Report T) E) (P : Report T → Type 0) → IfOk r (IsPlayed model tables form schedule)
+    → ((report : Report T) → IsPlayed model tables form schedule report → P report) → IfOk r P
+of_played {model = model} {tables} {form} {schedule} r P played holds = IfOk-weaker r (IsPlayed model tables form schedule) P holds played
+
+module _ {T : Type 0} {model : T → VersionData} {tables : List T} {form : Form} {schedule : ScheduleData} {report : Report T} (is : IsPlayed model tables form schedule report) where
   abbrev rules : Rules T
   rules = rules_over tables form schedule
 
