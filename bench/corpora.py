@@ -75,6 +75,7 @@ LINES = {
     "latin": lambda source: words(source, latin_word),
     "latin-decomposed": lambda source: unicodedata.normalize("NFD", words(source, latin_word)),
     "korean": lambda source: words(source, korean_word),
+    "korean-decomposed": lambda source: unicodedata.normalize("NFD", words(source, korean_word)),
     "japanese": lambda source: words(source, japanese_word, between="", end="。"),
     "non-starters": lambda source: words(source, pointed_word),
     "runs": run_line,

@@ -83,7 +83,7 @@ parting v form xs c ys before after sound at of_before of_after =
 -- ---- what stays is its own form
 
 -- classes that never fall hold no reorderable pair
-is_ordered-never_falls : (ccc : ℕ → ℕ) (cs : List ℕ) → NeverFalls ccc cs → is_ordered ccc cs ≡ true
+pub is_ordered-never_falls : (ccc : ℕ → ℕ) (cs : List ℕ) → NeverFalls ccc cs → is_ordered ccc cs ≡ true
 is_ordered-never_falls ccc [] h = is_ordered-nil ccc
 is_ordered-never_falls ccc (a ∷ []) h = is_ordered-one ccc a
 is_ordered-never_falls ccc (a ∷ b ∷ cs) h = is_ordered-cons ccc a b cs (not_reorderable_rising ccc a b h.0) (is_ordered-never_falls ccc (b ∷ cs) h.1)
@@ -96,7 +96,7 @@ module _ (v : VersionData) (sound : IsSound v) where
       compose_after-joined (class_of v) (composite v) s [] b h.0 bs (joined-free (class_of v) (composite v) s [] b refl ∙ composite_from v sound s b h.0 h.1)
       ∙ compose_after-folds h.0 bs c h.2
 
-  ended-folds : (b : Bool) (s : ℕ) (rest : List ℕ) (c : ℕ) → class_of v s ≡ 0 → MatchBool b (FoldsTo v s rest c) (s ∷ rest ≡ c ∷ []) → ended v b (s ∷ rest) ≡ c ∷ []
+  pub ended-folds : (b : Bool) (s : ℕ) (rest : List ℕ) (c : ℕ) → class_of v s ≡ 0 → MatchBool b (FoldsTo v s rest c) (s ∷ rest ≡ c ∷ []) → ended v b (s ∷ rest) ≡ c ∷ []
   unfolding compose_of
   ended-folds true s rest c starter folds = compose-starter (class_of v) (composite v) s rest (omega arith) ∙ compose_after-folds s rest c folds
   ended-folds false s rest c starter same = same

@@ -47,7 +47,7 @@ module _ (v : VersionData) (sound : IsSound v) where
         is_ordered-cons (class_of v) a b (bs ++ ys) (not_reorderable_rising (class_of v) a b rises.0)
         (run_on b bs n ys (all 0 b (omega arith)) rises.1 (λ k d lt. all (suc k) d (omega arith)) lead)
 
-    rises_from : (a : ℕ) (rest : List ℕ) → class_of v a ≡ 0 → NeverFalls (class_of v) rest → NeverFalls (class_of v) (a ∷ rest)
+    pub rises_from : (a : ℕ) (rest : List ℕ) → class_of v a ≡ 0 → NeverFalls (class_of v) rest → NeverFalls (class_of v) (a ∷ rest)
     rises_from a [] starter rises = tt
     rises_from a (b ∷ bs) starter rises = (omega arith, rises)
 

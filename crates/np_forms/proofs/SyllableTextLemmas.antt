@@ -1,20 +1,31 @@
 -- Syllables written as the bytes of their jamo.
-use Rattle.std.proofs.Common.{◌≡◌, ℕ, ◌+◌, ◌-◌, ◌/◌, ◌%◌, ◌<◌, ◌≤◌, ◌≢◌, true, false, List, [], ◌∷◌, ◌++◌, length, get_or, chars, IsUtf8, encode_utf8_all, inl, inr, sym, ap, subst, ◌∙◌, arith, append-nil, length-append}
+use Rattle.std.proofs.Common.{◌≡◌, ℕ, ◌+◌, ◌-◌, ◌/◌, ◌%◌, ◌<◌, ◌≤◌, ◌≢◌, true, false, MatchBool, List, [], ◌∷◌, ◌++◌, length, get_or, chars, IsUtf8, encode_utf8_all, inl, inr, sym, ap, subst, ◌∙◌, arith, append-nil, length-append}
 use Rattle.std.proofs.lemmas.Bool.{cases_eq, cond-false, cond-true, le-ltb, lt-ltb}
 use Rattle.std.proofs.lemmas.Str.{chars_past_char, IsUtf8-past_char}
 use Rattle.std.specs.Char.{encode_utf8}
+use Rattle.std.specs.List.{list_all}
 use lib.Utf8.{low_scalar, scalar}
 use Rattle.np_code_points.specs.Forms.{is_compat, composes}
-use Rattle.np_code_points.specs.Hangul.{is_syllable}
+use Rattle.np_code_points.specs.Hangul.{is_syllable, syllable_pair}
 use Rattle.np_code_points.specs.declared.forms.Form.{Form}
 use Rattle.np_code_points.proofs.HangulLemmas.{pair_of_lv, pair_of_lvt}
-use Rattle.np_forms.specs.inside.Copies.{GoesOn}
-use Rattle.np_forms.specs.inside.NormalForms.{normal_form}
+use Rattle.np_forms.specs.inside.Copies.{BeginsAtBoundary, GoesOn}
+use Rattle.np_forms.specs.inside.Joins.{JoinsTrailing}
+use Rattle.np_forms.specs.inside.NormalForms.{ended, normal_form}
+use Rattle.np_forms.specs.inside.Segments.{IsFirstMade}
 use Rattle.np_forms.specs.inside.Syllables.{syllable_parts}
+use Rattle.np_forms.proofs.BoundaryLemmas.{ended-folds, is_ordered-never_falls}
+use Rattle.np_forms.proofs.CopyLemmas.{parts-at}
 use Rattle.np_forms.proofs.DecomposedLemmas.{IsClosed, closed-nil, closed-starter, form-closed, goes-made}
+use Rattle.np_forms.proofs.KeptLemmas.{decomposed-final}
+use Rattle.np_forms.proofs.StandingLemmas.{rises_from}
 use Rattle.np_forms.proofs.SyllableLemmas.{full_of-syllable, syllable_parts-two, syllable_parts-three}
-use Rattle.np_tables.proofs.HangulLemmas.{IsJamo, by_arithmetic, lv_shape, lvt_shape}
+use Rattle.np_tables.proofs.HangulLemmas.{IsJamo, by_arithmetic, leading_jamo, lv_shape, lvt_shape}
+use Rattle.np_tables.proofs.MappingLemmas.{IsFullDecomposition-full_of}
+use Rattle.np_tables.proofs.PageHintLemmas.{unfolds}
+use Rattle.np_tables.specs.Boundaries.{FoldsTo}
 use Rattle.np_tables.specs.Conditions.{IsSound}
+use Rattle.np_tables.specs.Mappings.{is_final}
 use Rattle.np_tables.specs.Versions.{VersionData, class_of, has_hangul}
 use Rattle.np_tables.specs.inside.FullDecompositions.{full_of}
 
@@ -109,3 +120,45 @@ module _ (v : VersionData) (on : has_hangul v ≡ true) where
             ∙ form-closed v sound form plain (s ∷ []) (syllable_parts s) (chars later) (append-nil (full_of v (is_compat form) s) ∙ full_of-syllable v (is_compat form) sound on s h) (closed-parts s h);
       })
       push
+
+-- ---- jamo compose to the syllable that they spell
+
+module _ (v : VersionData) (sound : IsSound v) (on : has_hangul v ≡ true) (form : Form) (composing : composes form ≡ true) where
+  joins : (s : ℕ) → is_syllable s ≡ true → normal_form v form (syllable_parts s) ≡ s ∷ []
+  unfolding normal_form
+  joins s h =
+      let compat = is_compat form in
+      let is = unfolds v sound on compat s h in
+      let parts : syllable_parts s ≡ is.first ∷ is.rest = sym (full_of-syllable v compat sound on s h) ∙ is.full in
+      let starter : class_of v is.first ≡ 0 = jamo-starter v on is.first (leading_jamo is.first is.lead) in
+      let final : list_all (is_final v compat) (is.first ∷ is.rest) ≡ true = subst (λ l. list_all (is_final v compat) l ≡ true) is.full (IsFullDecomposition-full_of v compat sound.shallow s).final in
+      let ordered = is_ordered-never_falls (class_of v) (is.first ∷ is.rest) (rises_from v sound form is.first is.rest starter is.rises) in
+      ap (normal_form v form) parts ∙ ap (ended v (composes form)) (decomposed-final v sound compat (is.first ∷ is.rest) final ordered)
+      ∙ ended-folds v sound (composes form) is.first is.rest s starter (subst (λ b. MatchBool b (FoldsTo v is.first is.rest s) (is.first ∷ is.rest ≡ s ∷ [])) (sym composing) is.folds)
+
+  spelled-made : (text later : List ℕ) (s : ℕ) → is_syllable s ≡ true → IsUtf8 later → length later ≤ length text → chars text ≡ syllable_parts s ++ chars later → BeginsAtBoundary v form (chars later) → IsFirstMade v form text later (s ∷ [])
+  spelled-made text later s h utf8 shorter is at =
+      record {
+        utf8 = utf8;
+        shorter = shorter;
+        made = ap (normal_form v form) is ∙ parts-at v sound form (syllable_parts s) (chars later) at ∙ ap (λ l. l ++ normal_form v form (chars later)) (joins s h);
+      }
+
+  pub joined-made : (text one two later : List ℕ) (lead vowel front s : ℕ) → IsUtf8 text → text ≡ encode_utf8 lead ++ one → one ≡ encode_utf8 vowel ++ two → is_syllable lead ≡ false → is_syllable front ≡ true → syllable_pair front ≡ lead ∷ vowel ∷ [] →
+      JoinsTrailing front two s later → BeginsAtBoundary v form (chars later) → IsFirstMade v form text later (s ∷ [])
+  joined-made text one two later lead vowel front s utf8 first second plain h pair joined at =
+      let of_one = IsUtf8-past_char text one lead utf8 first in
+      let of_two = IsUtf8-past_char one two vowel of_one second in
+      let begins : chars text ≡ lead ∷ vowel ∷ chars two = chars_past_char text one lead utf8 first ∙ ap (λ l. lead ∷ l) (chars_past_char one two vowel of_one second) in
+      let short : length two ≤ length text = omega (arith, ap length first, ap length second, length-append (encode_utf8 lead) one, length-append (encode_utf8 vowel) two) in
+      elim joined [
+        | inl alone ↦
+            let same : s ≡ front = alone.0 in
+            let its : later ≡ two = alone.1 in
+            spelled-made text later s (ap is_syllable same ∙ h) (subst IsUtf8 (sym its) of_two) (omega (arith, ap length its, short))
+            (begins ∙ ap (λ l. lead ∷ vowel ∷ chars l) (sym its) ∙ ap (λ l. l ++ chars later) (sym (ap syllable_parts same ∙ syllable_parts-two front lead vowel h pair plain))) at
+        | inr more ↦
+            spelled-made text later s more.2 (IsUtf8-past_char two later more.0 of_two more.1) (omega (arith, ap length more.1, length-append (encode_utf8 more.0) later, short))
+            (begins ∙ ap (λ l. lead ∷ vowel ∷ l) (chars_past_char two later more.0 of_two more.1)
+            ∙ ap (λ l. l ++ chars later) (sym (syllable_parts-three s front more.0 lead vowel more.2 more.3 h pair))) at
+      ]

@@ -11,6 +11,7 @@ ghost use Rattle.np_tables.specs.inside.FullDecompositions.{full_of};
 use crate::composing::pair_with_last;
 use crate::copying::write_next;
 use crate::ordering::may_follow;
+use crate::syllable_texts::join_syllables;
 use crate::written::append_chars;
 use np_code_points::hangul::is_syllable;
 use np_code_points::{Form, Memory};
@@ -133,7 +134,7 @@ fn compose_first<'a, T: NormTable>(
 
 /// Appends the form of the first segment of a text, and answers what follows it. The list is room
 /// that is used again.
-pub(crate) fn write_first<'a, T: NormTable>(
+fn write_first<'a, T: NormTable>(
     alloc: Global,
     table: &T,
     form: Form,
@@ -150,4 +151,26 @@ pub(crate) fn write_first<'a, T: NormTable>(
         return Ok(rest);
     }
     write_next(alloc, table, form, text, list, out)
+}
+
+/// Appends the form of the syllables that jamo spell at the front of a text, or else of its first
+/// segment, and answers what follows.
+pub(crate) fn write_composed<'a, T: NormTable>(
+    alloc: Global,
+    table: &T,
+    form: Form,
+    text: &'a str,
+    list: &mut Vec<char>,
+    out: &mut String,
+) -> Result<&'a str, Memory>
+    requires { composes form ≡ true }
+    ensures goes { IfOk result (λ rest. GoesOn (T.model table.now) form text.now rest.now (string_bytes out.old) (string_bytes out.new)) }
+    ensures shorter { IfOk result (λ rest. 0 < length text.now → length rest.now < length text.now) }
+{
+    let after = join_syllables(table, form, text, out)?;
+    if after.len() < text.len() {
+        return Ok(after);
+    }
+    let later = write_first(alloc, table, form, after, list, out)?;
+    Ok(later)
 }

@@ -4,7 +4,7 @@ ghost use Rattle.std.specs.Prelude.{◌≡◌, ◌<◌, ◌⊎◌, ◌++◌, [],
 ghost use Rattle.np_forms.specs.inside.Copies.{BeginsAtBoundary, GoesOn, IsCopied, IsParted};
 ghost use Rattle.np_forms.specs.inside.NormalForms.{normal_form};
 
-use crate::composed_texts::write_first;
+use crate::composed_texts::write_composed;
 use crate::decomposed_texts::write_decomposed;
 use crate::decomposing::decompose_into;
 use crate::held::settle;
@@ -168,7 +168,7 @@ pub(crate) fn write_form<T: NormTable>(
     'segments: while !rest.is_empty() {
         let (stays, behind) = split_standing(table, form, rest);
         out.push_str(stays)?;
-        rest = write_first(alloc, table, form, behind, &mut list, out)?;
+        rest = write_composed(alloc, table, form, behind, &mut list, out)?;
     }
     Ok(())
 }

@@ -1,12 +1,18 @@
-//! Hangul syllables, decomposed by arithmetic straight into UTF-8 (The Unicode Standard, section
-//! 3.12).
-ghost use Rattle.std.specs.Prelude.{◌≡◌, ◌+◌, ◌/◌, ◌%◌, ◌<◌, ◌≤◌, ◌++◌, ◌∷◌, [], true, false, string_bytes, encode_utf8_all, IfOk, OnOk};
+//! Hangul syllables by arithmetic, decomposed straight into UTF-8 and made of the jamo that spell them
+//! (The Unicode Standard, section 3.12).
+ghost use Rattle.std.specs.Prelude.{◌≡◌, ◌+◌, ◌/◌, ◌%◌, ◌<◌, ◌≤◌, ◌++◌, ◌∷◌, [], true, false, length, string_bytes, encode_utf8_all, IfOk, IfSome, OnOk};
 ghost use Rattle.np_code_points.specs.Forms.{composes};
 ghost use Rattle.np_code_points.specs.Hangul.{is_syllable as in_block};
 ghost use Rattle.np_forms.specs.inside.Copies.{GoesOn};
+ghost use Rattle.np_forms.specs.inside.Joins.{JoinsTrailing};
+ghost use Rattle.np_forms.specs.inside.Segments.{IsFirstMade};
 ghost use Rattle.np_forms.specs.inside.Syllables.{syllable_parts};
+ghost use Rattle.np_tables.specs.Versions.{has_hangul};
 
-use np_code_points::hangul::{L_BASE, S_BASE, T_BASE, T_COUNT, V_BASE, V_COUNT, is_syllable};
+use crate::copying::begins_at_boundary;
+use np_code_points::hangul::{
+    L_BASE, S_BASE, T_BASE, T_COUNT, V_BASE, V_COUNT, hangul_pair, is_syllable,
+};
 use np_code_points::{Form, Memory};
 use np_tables::NormTable;
 use std::str::from_utf8_unchecked;
@@ -121,5 +127,67 @@ pub(crate) fn write_syllables<'a, T: NormTable>(
             return Ok(here);
         }
         push_syllable(out, c)?;
+    }
+}
+
+/// The syllable that a leading part and what a text begins with make, or the part itself where they
+/// make none, and what follows.
+#[inline(always)]
+fn join_trailing(front: char, text: &str) -> (char, &str)
+    requires { in_block front ≡ true }
+    ensures joined { JoinsTrailing front text.now result.0 result.1.now }
+    ensures syllable { in_block result.0 ≡ true }
+{
+    let mut iter = text.chars();
+    let Some(last) = iter.next() else {
+        return (front, text);
+    };
+    match hangul_pair(front, last) {
+        Some(whole) => (whole, iter.as_str()),
+        None => (front, text),
+    }
+}
+
+/// The syllable whose jamo a text begins with, and what follows them, if a boundary does.
+#[inline(always)]
+fn split_syllable<'a, T: NormTable>(table: &T, form: Form, text: &'a str) -> Option<(char, &'a str)>
+    requires on { has_hangul (T.model table.now) ≡ true }
+    requires form { composes form ≡ true }
+    ensures made { IfSome result (λ cut. IsFirstMade (T.model table.now) form text.now cut.1.now (cut.0 ∷ [])) }
+    ensures shorter { IfSome result (λ cut. length cut.1.now < length text.now) }
+{
+    table.meets_conditions();
+    let mut iter = text.chars();
+    let lead = iter.next()?;
+    let vowel = iter.next()?;
+    let front = hangul_pair(lead, vowel)?;
+    let (syllable, later) = join_trailing(front, iter.as_str());
+    if is_syllable(lead as u32) || !begins_at_boundary(table, form, later) {
+        return None;
+    }
+    Some((syllable, later))
+}
+
+/// Appends the syllables whose jamo stand at the front of a text, where the arithmetic is on, and
+/// answers what follows them.
+pub(crate) fn join_syllables<'a, T: NormTable>(
+    table: &T,
+    form: Form,
+    text: &'a str,
+    out: &mut String,
+) -> Result<&'a str, Memory>
+    requires { composes form ≡ true }
+    ensures { IfOk result (λ rest. GoesOn (T.model table.now) form text.now rest.now (string_bytes out.old) (string_bytes out.new)) }
+{
+    let mut rest = text;
+    if !table.hangul() {
+        return Ok(rest);
+    }
+    'scan: loop {
+        let Some((syllable, later)) = split_syllable(table, form, rest) else {
+            return Ok(rest);
+        };
+        out.push(syllable)?;
+        rest = later;
     }
 }

@@ -116,13 +116,13 @@ hints-none v compat c = record { parts = λ form kind is. absurd (not_under (com
 -- ---- syllables
 
 -- a syllable decomposes to a leading consonant and what goes into it
-record Unfolds (v : VersionData) (compat : Bool) (c : ℕ) : Type 0 where
-  first : ℕ
-  rest : List ℕ
-  full : full_of v compat c ≡ first ∷ rest
-  lead : is_among 0x1100 19 first ≡ true
-  rises : NeverFalls (class_of v) rest
-  folds : FoldsTo v first rest c
+pub record Unfolds (v : VersionData) (compat : Bool) (c : ℕ) : Type 0 where
+  pub first : ℕ
+  pub rest : List ℕ
+  pub full : full_of v compat c ≡ first ∷ rest
+  pub lead : is_among 0x1100 19 first ≡ true
+  pub rises : NeverFalls (class_of v) rest
+  pub folds : FoldsTo v first rest c
 
 module _ (v : VersionData) (sound : IsSound v) (on : has_hangul v ≡ true) (compat : Bool) where
   counted : (c : ℕ) → is_syllable c ≡ true → parts v compat c ≡ syllable_pair c
@@ -177,7 +177,7 @@ module _ (v : VersionData) (sound : IsSound v) (on : has_hangul v ≡ true) (com
         folds = (a, pair_composite a is.leading is.vowel is.syllable is.pair, (c, pair_composite c a b h pair, refl));
       }
 
-  unfolds : (c : ℕ) → is_syllable c ≡ true → Unfolds v compat c
+  pub unfolds : (c : ℕ) → is_syllable c ≡ true → Unfolds v compat c
   unfolds c h =
       let pair = pair_exists c in
       elim (pair_kinds c pair.0 pair.1 h pair.2) [
