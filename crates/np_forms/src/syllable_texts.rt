@@ -11,7 +11,7 @@ ghost use Rattle.np_tables.specs.Versions.{has_hangul};
 
 use crate::copying::begins_at_boundary;
 use np_code_points::hangul::{
-    L_BASE, S_BASE, T_BASE, T_COUNT, V_BASE, V_COUNT, hangul_pair, is_syllable,
+    L_BASE, L_COUNT, S_BASE, T_BASE, T_COUNT, V_BASE, V_COUNT, hangul_pair, is_syllable,
 };
 use np_code_points::{Form, Memory};
 use np_tables::NormTable;
@@ -168,8 +168,40 @@ fn split_syllable<'a, T: NormTable>(table: &T, form: Form, text: &'a str) -> Opt
     Some((syllable, later))
 }
 
+/// Appends the syllables whose jamo stand at the front of a text, and answers what follows them.
+fn write_joined<'a, T: NormTable>(
+    table: &T,
+    form: Form,
+    text: &'a str,
+    out: &mut String,
+) -> Result<&'a str, Memory>
+    requires on { has_hangul (T.model table.now) ≡ true }
+    requires form { composes form ≡ true }
+    ensures { IfOk result (λ rest. GoesOn (T.model table.now) form text.now rest.now (string_bytes out.old) (string_bytes out.new)) }
+{
+    let mut rest = text;
+    'scan: loop {
+        let Some((syllable, later)) = split_syllable(table, form, rest) else {
+            return Ok(rest);
+        };
+        out.push(syllable)?;
+        rest = later;
+    }
+}
+
+/// Whether a text begins with a leading consonant. On this no answer depends.
+#[inline(always)]
+fn begins_with_lead(text: &str) -> bool {
+    match text.chars().next() {
+        Some(c) => (c as u32).wrapping_sub(L_BASE) < L_COUNT,
+        None => false,
+    }
+}
+
 /// Appends the syllables whose jamo stand at the front of a text, where the arithmetic is on, and
-/// answers what follows them.
+/// answers what follows them. It is made part of what calls it, so that any other text costs one
+/// comparison.
+#[inline(always)]
 pub(crate) fn join_syllables<'a, T: NormTable>(
     table: &T,
     form: Form,
@@ -179,15 +211,8 @@ pub(crate) fn join_syllables<'a, T: NormTable>(
     requires { composes form ≡ true }
     ensures { IfOk result (λ rest. GoesOn (T.model table.now) form text.now rest.now (string_bytes out.old) (string_bytes out.new)) }
 {
-    let mut rest = text;
-    if !table.hangul() {
-        return Ok(rest);
+    if begins_with_lead(text) && table.hangul() {
+        return write_joined(table, form, text, out);
     }
-    'scan: loop {
-        let Some((syllable, later)) = split_syllable(table, form, rest) else {
-            return Ok(rest);
-        };
-        out.push(syllable)?;
-        rest = later;
-    }
+    Ok(text)
 }
