@@ -1,22 +1,18 @@
 -- Forms that only decompose, written front by front.
-use Rattle.std.proofs.Common.{◌≡◌, ℕ, ◌<◌, ◌≤◌, true, false, List, [], ◌∷◌, ◌++◌, length, chars, IsUtf8, encode_utf8, encode_utf8_all, flat_map, refl, sym, ap, subst, ◌∙◌, arith, inl, inr, append_assoc, append-nil, length-append}
+use Rattle.std.proofs.Common.{◌≡◌, ℕ, true, false, List, [], ◌∷◌, ◌++◌, length, chars, IsUtf8, encode_utf8_all, flat_map, refl, sym, ap, subst, ◌∙◌, arith, inl, inr, append_assoc, length-append}
 use Rattle.std.proofs.lemmas.Grind.{flat_map-append}
-use Rattle.std.proofs.lemmas.Str.{chars_past_char, encodes-append, IsUtf8-past_char}
+use Rattle.std.proofs.lemmas.Str.{encodes-append}
 use Rattle.np_code_points.specs.Forms.{is_compat, composes}
 use Rattle.np_code_points.specs.declared.forms.Form.{Form}
 use Rattle.np_forms.specs.Order.{is_ordered}
 use Rattle.np_forms.specs.inside.CanonicalOrder.{canonical_order}
-use Rattle.np_forms.specs.inside.Copies.{BeginsAtBoundary, GoesOn, IsCopied, IsParted}
+use Rattle.np_forms.specs.inside.Copies.{GoesOn, IsCopied, IsParted}
 use Rattle.np_forms.specs.inside.NormalForms.{decomposed, ended, normal_form}
 use Rattle.np_forms.specs.inside.Segments.{IsFirstMade, Rises}
-use Rattle.np_forms.proofs.BoundaryLemmas.{full_of-boundary}
-use Rattle.np_forms.proofs.CopyLemmas.{parts-at}
 use Rattle.np_forms.proofs.OrderLemmas.{canonical_order-behind, canonical_order-ordered, is_ordered-canonical_order, is_ordered-cons, is_ordered-nil, is_ordered-one, is_ordered-parts, is_reorderable-false, not_reorderable_rising, not_reorderable_starter}
-use Rattle.np_forms.proofs.SyllableLemmas.{lent_some}
-use Rattle.np_tables.specs.Boundaries.{IsBoundary}
 use Rattle.np_tables.specs.Conditions.{IsSound}
 use Rattle.np_tables.specs.Versions.{VersionData, class_of}
-use Rattle.np_tables.specs.inside.FullDecompositions.{full_of, table_full}
+use Rattle.np_tables.specs.inside.FullDecompositions.{full_of}
 
 -- ---- classes that rise
 
@@ -56,24 +52,10 @@ module _ (ccc : ℕ → ℕ) where
       canonical_order-behind ccc xs later made (sym (canonical_order-ordered ccc made ordered))
       ∙ canonical_order-ordered ccc (xs ++ made) (is_ordered-rises 0 (xs ++ made) (closed made (rises-ordered made ordered)))
 
--- ---- what is lent for a boundary
-
-module _ (v : VersionData) (sound : IsSound v) (form : Form) where
-  one_behind : (a : ℕ) (rest : List ℕ) → class_of v a ≡ 0 → length rest ≤ 1 → is_ordered (class_of v) (a ∷ rest) ≡ true
-  one_behind a [] starter short = is_ordered-one (class_of v) a
-  one_behind a (b ∷ []) starter short = is_ordered-cons (class_of v) a b [] (not_reorderable_rising (class_of v) a b (omega (arith, starter))) (is_ordered-one (class_of v) b)
-  one_behind a (b ∷ d ∷ cs) starter short = absurd (omega arith)
-
-  -- what is lent for a boundary is in canonical order where it has one code point behind the starter
-  pub short-ordered : (c : ℕ) (lent : List ℕ) → lent ≡ table_full v (is_compat form) c → 0 < length lent → length lent ≤ 2 → IsBoundary v form c → is_ordered (class_of v) lent ≡ true
-  short-ordered c lent is some short at =
-      let whole : lent ≡ at.first ∷ at.rest = lent_some v (is_compat form) c lent is some ∙ full_of-boundary v form c sound at in
-      subst (λ l. is_ordered (class_of v) l ≡ true) (sym whole) (one_behind at.first at.rest at.starter (omega (arith, short, ap length whole)))
-
 -- ---- the form of what is decomposed already
 
 module _ (v : VersionData) (sound : IsSound v) (form : Form) (plain : composes form ≡ false) where
-  pub form-decomposes : (xs : List ℕ) → normal_form v form xs ≡ canonical_order (class_of v) (flat_map (full_of v (is_compat form)) xs)
+  form-decomposes : (xs : List ℕ) → normal_form v form xs ≡ canonical_order (class_of v) (flat_map (full_of v (is_compat form)) xs)
   unfolding normal_form decomposed
   form-decomposes xs = ap (λ b. ended v b (canonical_order (class_of v) (flat_map (full_of v (is_compat form)) xs))) plain
 
@@ -83,22 +65,6 @@ module _ (v : VersionData) (sound : IsSound v) (form : Form) (plain : composes f
       let f = full_of v (is_compat form) in
       form-decomposes (xs ++ ys) ∙ ap (canonical_order (class_of v)) (flat_map-append f xs ys ∙ ap (λ l. l ++ flat_map f ys) full)
       ∙ canonical_order-closed (class_of v) made (flat_map f ys) closed ∙ ap (λ l. made ++ l) (sym (form-decomposes ys))
-
-  -- ---- one code point
-
-  -- before a boundary, where what is lent for it is in canonical order
-  pub one-lent : (text later : List ℕ) (c : ℕ) → IsUtf8 text → text ≡ encode_utf8 c ++ later → BeginsAtBoundary v form (chars later) → (lent : List ℕ) → lent ≡ table_full v (is_compat form) c → 0 < length lent → is_ordered (class_of v) lent ≡ true →
-      IsFirstMade v form text later lent
-  one-lent text later c utf8 begins at lent is some ordered =
-      let made : lent ≡ normal_form v form (c ∷ []) =
-      sym (canonical_order-ordered (class_of v) lent ordered)
-      ∙ ap (canonical_order (class_of v)) (lent_some v (is_compat form) c lent is some ∙ sym (append-nil (full_of v (is_compat form) c)))
-      ∙ sym (form-decomposes (c ∷ [])) in
-      record {
-        utf8 = IsUtf8-past_char text later c utf8 begins;
-        shorter = omega (arith, ap length begins, length-append (encode_utf8 c) later);
-        made = ap (normal_form v form) (chars_past_char text later c utf8 begins) ∙ parts-at v sound form (c ∷ []) (chars later) at ∙ ap (λ l. l ++ normal_form v form (chars later)) (sym made);
-      }
 
 -- ---- one front behind another
 

@@ -14,6 +14,7 @@ pub mod MachineLemmas
 pub mod MatchLemmas
 pub mod OrderLaws
 pub mod OrderLemmas
+pub mod OutTextLemmas
 pub mod PendingLemmas
 pub mod PieceLemmas
 pub mod PushLemmas
@@ -22,10 +23,12 @@ pub mod RunTextLemmas
 pub mod RunningLemmas
 pub mod SegmentLemmas
 pub mod SortLemmas
+pub mod SpelledLemmas
 pub mod StandingLemmas
 pub mod StreamLemmas
 pub mod StreamSafeLemmas
 pub mod SyllableLemmas
 pub mod SyllableTextLemmas
 pub mod TextLemmas
+pub mod Utf8Lemmas
 pub mod WrittenLemmas

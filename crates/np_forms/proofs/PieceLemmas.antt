@@ -1,5 +1,5 @@
 -- A form that is given piece by piece.
-use Rattle.std.proofs.Common.{◌≡◌, ◌≢◌, ℕ, ◌+◌, ◌≤◌, ◌↔◌, min, Bool, true, false, IsTrue, eqb, List, [], ◌∷◌, ◌++◌, length, take, drop, chars, encode_utf8_all, string_bytes, refl, sym, ap, ◌∙◌, append_assoc, ◌⊎◌, ⊎_elim, inl, inr, ◌&&◌, arith}
+use Rattle.std.proofs.Common.{◌≡◌, ◌≢◌, ℕ, ◌+◌, ◌≤◌, ◌↔◌, min, Bool, true, false, IsTrue, eqb, List, [], ◌∷◌, ◌++◌, length, take, drop, chars, encode_utf8_all, refl, sym, ap, ◌∙◌, append_assoc, ◌⊎◌, ⊎_elim, inl, inr, ◌&&◌, arith}
 use Rattle.std.proofs.lemmas.Bool.{false≢true, eqb-true, and_parts, and_from}
 use Rattle.std.proofs.lemmas.List.{append_cancel_left, nil_from_length, drop-drop, drop_min, take-append-drop, take-append-le}
 use Rattle.np_code_points.specs.declared.forms.Form.{Form}
@@ -114,7 +114,7 @@ front_nil (b ∷ bs) rest e = absurd (cc)
 
 module _ (v : VersionData) (form : Form) (first second : Pieces) {whole other : List ℕ} (p : ArePassed whole other (left_of v form first) (left_of v form second)) where
   begins : (x : Pieces) → (rest : List ℕ) × (left_of v form x ≡ front_of x ++ rest)
-  begins x = left_begins x.stays.now (drop x.taken (string_bytes x.made)) (form_bytes v form x.rest.now)
+  begins x = left_begins x.stays.now (drop x.taken x.made) (form_bytes v form x.rest.now)
 
   alike : whole ≡ other → left_of v form first ≡ left_of v form second
   alike same = append_cancel_left p.passed (left_of v form first) (left_of v form second) (sym p.whole_is ∙ same ∙ p.other_is)

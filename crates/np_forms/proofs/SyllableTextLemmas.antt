@@ -1,6 +1,6 @@
 -- Syllables written as the bytes of their jamo.
 use Rattle.std.proofs.Common.{◌≡◌, ℕ, ◌+◌, ◌-◌, ◌/◌, ◌%◌, ◌<◌, ◌≤◌, ◌≢◌, true, false, MatchBool, List, [], ◌∷◌, ◌++◌, length, get_or, chars, IsUtf8, encode_utf8_all, inl, inr, sym, ap, subst, ◌∙◌, arith, append-nil, length-append}
-use Rattle.std.proofs.lemmas.Bool.{cases_eq, cond-false, cond-true, le-ltb, lt-ltb}
+use Rattle.std.proofs.lemmas.Bool.{cases_eq}
 use Rattle.std.proofs.lemmas.Str.{chars_past_char, IsUtf8-past_char}
 use Rattle.std.specs.Char.{encode_utf8}
 use Rattle.std.specs.List.{list_all}
@@ -19,6 +19,7 @@ use Rattle.np_forms.proofs.CopyLemmas.{parts-at}
 use Rattle.np_forms.proofs.DecomposedLemmas.{IsClosed, closed-nil, closed-starter, form-closed, goes-made}
 use Rattle.np_forms.proofs.KeptLemmas.{decomposed-final}
 use Rattle.np_forms.proofs.StandingLemmas.{rises_from}
+use Rattle.np_forms.proofs.Utf8Lemmas.{encode_three}
 use Rattle.np_forms.proofs.SyllableLemmas.{full_of-syllable, syllable_parts-two, syllable_parts-three}
 use Rattle.np_tables.proofs.HangulLemmas.{IsJamo, by_arithmetic, leading_jamo, lv_shape, lvt_shape}
 use Rattle.np_tables.proofs.MappingLemmas.{IsFullDecomposition-full_of}
@@ -31,14 +32,6 @@ use Rattle.np_tables.specs.inside.FullDecompositions.{full_of}
 
 -- ---- characters of three bytes
 
-abbrev three : ℕ → List ℕ
-three c = (224 + c / 4096) ∷ (128 + c / 64 % 64) ∷ (128 + c % 64) ∷ []
-
-pub encode_three : (c : ℕ) → 0x800 ≤ c → c < 0xD800 → encode_utf8 c ≡ three c
-unfolding encode_utf8
-encode_three c low high =
-    cond-false _ _ _ (le-ltb c 128 (omega arith)) ∙ cond-false _ _ _ (le-ltb c 2048 low) ∙ cond-true _ _ _ (lt-ltb c 65536 (omega arith))
-
 -- the bytes of a character
 abbrev pub IsThree : ℕ → ℕ → ℕ → ℕ → Type 0
 IsThree c x y z = (x ≡ 224 + c / 4096) × (y ≡ 128 + c / 64 % 64) × (z ≡ 128 + c % 64)
@@ -48,7 +41,7 @@ IsMiddle c = (0x800 ≤ c) × (c < 0xD800)
 
 spelled : (c x y z : ℕ) → IsMiddle c → IsThree c x y z → encode_utf8 c ≡ x ∷ y ∷ z ∷ []
 spelled c x y z range is =
-    encode_three c range.0 range.1 ∙ ap (λ p. p ∷ (128 + c / 64 % 64) ∷ (128 + c % 64) ∷ []) (sym is.0) ∙ ap (λ p. x ∷ p ∷ (128 + c % 64) ∷ []) (sym is.1) ∙ ap (λ p. x ∷ y ∷ p ∷ []) (sym is.2)
+    encode_three c range.0 (omega (arith, range.1)) ∙ ap (λ p. p ∷ (128 + c / 64 % 64) ∷ (128 + c % 64) ∷ []) (sym is.0) ∙ ap (λ p. x ∷ p ∷ (128 + c % 64) ∷ []) (sym is.1) ∙ ap (λ p. x ∷ y ∷ p ∷ []) (sym is.2)
 
 pub two_spelled : (a b x y z x2 y2 z2 : ℕ) → IsMiddle a → IsMiddle b → IsThree a x y z → IsThree b x2 y2 z2 → encode_utf8_all (a ∷ b ∷ []) ≡ x ∷ y ∷ z ∷ x2 ∷ y2 ∷ z2 ∷ []
 two_spelled a b x y z x2 y2 z2 of_a of_b is_a is_b =

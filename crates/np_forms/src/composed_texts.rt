@@ -1,6 +1,6 @@
 //! Segments that compose code point by code point as they are decomposed, where their decomposition is
 //! in canonical order as it comes; any other goes through a list that is sorted.
-ghost use Rattle.std.specs.Prelude.{◌≡◌, ◌<◌, ◌++◌, ◌∷◌, [], List, ℕ, true, length, vec_len, string_bytes, IfOk, IfSome};
+ghost use Rattle.std.specs.Prelude.{◌≡◌, ◌<◌, ◌++◌, ◌∷◌, [], List, ℕ, true, length, vec_len, IfOk, IfSome};
 ghost use Rattle.std.specs.Option.{ForSome};
 ghost use Rattle.np_code_points.specs.Forms.{composes};
 ghost use Rattle.np_forms.specs.inside.Copies.{GoesOn};
@@ -11,8 +11,7 @@ ghost use Rattle.np_tables.specs.inside.FullDecompositions.{full_of};
 use crate::composing::pair_with_last;
 use crate::copying::write_next;
 use crate::ordering::may_follow;
-use crate::syllable_texts::join_syllables;
-use crate::written::append_chars;
+use crate::out_texts::OutText;
 use np_code_points::hangul::is_syllable;
 use np_code_points::{Form, Memory};
 use np_tables::NormTable;
@@ -134,43 +133,21 @@ fn compose_first<'a, T: NormTable>(
 
 /// Appends the form of the first segment of a text, and answers what follows it. The list is room
 /// that is used again.
-fn write_first<'a, T: NormTable>(
+pub(crate) fn write_first<'a, T: NormTable>(
     alloc: Global,
     table: &T,
     form: Form,
     text: &'a str,
     list: &mut Vec<char>,
-    out: &mut String,
+    out: &mut OutText,
 ) -> Result<&'a str, Memory>
     requires { composes form ≡ true }
-    ensures goes { IfOk result (λ rest. GoesOn (T.model table.now) form text.now rest.now (string_bytes out.old) (string_bytes out.new)) }
+    ensures goes { IfOk result (λ rest. GoesOn (T.model table.now) form text.now rest.now out.old out.new) }
     ensures shorter { IfOk result (λ rest. 0 < length text.now → length rest.now < length text.now) }
 {
     if let Some(rest) = compose_first(table, form, text, list)? {
-        append_chars(out, list)?;
+        out.append_chars(list)?;
         return Ok(rest);
     }
     write_next(alloc, table, form, text, list, out)
-}
-
-/// Appends the form of the syllables that jamo spell at the front of a text, or else of its first
-/// segment, and answers what follows.
-pub(crate) fn write_composed<'a, T: NormTable>(
-    alloc: Global,
-    table: &T,
-    form: Form,
-    text: &'a str,
-    list: &mut Vec<char>,
-    out: &mut String,
-) -> Result<&'a str, Memory>
-    requires { composes form ≡ true }
-    ensures goes { IfOk result (λ rest. GoesOn (T.model table.now) form text.now rest.now (string_bytes out.old) (string_bytes out.new)) }
-    ensures shorter { IfOk result (λ rest. 0 < length text.now → length rest.now < length text.now) }
-{
-    let after = join_syllables(table, form, text, out)?;
-    if after.len() < text.len() {
-        return Ok(after);
-    }
-    let later = write_first(alloc, table, form, after, list, out)?;
-    Ok(later)
 }

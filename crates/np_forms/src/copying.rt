@@ -1,14 +1,13 @@
 //! The form of a whole text, in which what stays is copied, and what is left goes segment by segment
 //! through decomposition, ordering and composition (UAX #15, section 9.1).
-ghost use Rattle.std.specs.Prelude.{◌≡◌, ◌<◌, ◌⊎◌, ◌++◌, [], length, chars, string_bytes, encode_utf8_all, IsTrue, IsUtf8, IfOk, OnOk};
+ghost use Rattle.std.specs.Prelude.{◌≡◌, ◌<◌, ◌⊎◌, ◌++◌, [], length, chars, encode_utf8_all, IsTrue, IsUtf8, IfOk, OnOk};
 ghost use Rattle.np_forms.specs.inside.Copies.{BeginsAtBoundary, GoesOn, IsCopied, IsParted};
 ghost use Rattle.np_forms.specs.inside.NormalForms.{normal_form};
 
-use crate::composed_texts::write_composed;
-use crate::decomposed_texts::write_decomposed;
 use crate::decomposing::decompose_into;
+use crate::fronts::write_front;
 use crate::held::settle;
-use crate::written::append_chars;
+use crate::out_texts::OutText;
 use np_code_points::{Form, Memory};
 use np_tables::NormTable;
 use std::alloc::Global;
@@ -91,6 +90,7 @@ pub(crate) fn split_segment<'a, T: NormTable>(
 
 /// Cuts a text before the last code point at which the form is known to part; nothing is before it
 /// where there is none.
+#[inline(always)]
 pub(crate) fn split_tail<'a, T: NormTable>(
     table: &T,
     form: Form,
@@ -121,13 +121,13 @@ pub(crate) fn write_segment<T: NormTable>(
     form: Form,
     segment: &str,
     list: &mut Vec<char>,
-    out: &mut String,
+    out: &mut OutText,
 ) -> Result<(), Memory>
-    ensures { OnOk result (string_bytes out.new ≡ string_bytes out.old ++ encode_utf8_all (normal_form (T.model table.now) form (chars segment.now))) }
+    ensures { OnOk result (out.new ≡ out.old ++ encode_utf8_all (normal_form (T.model table.now) form (chars segment.now))) }
 {
     decompose_into(table, form.compat(), segment, list)?;
     settle(alloc, table, form.composes(), list)?;
-    append_chars(out, list)
+    out.append_chars(list)
 }
 
 /// Appends the form of the first segment of a text, and answers what follows it. The list is room
@@ -139,9 +139,9 @@ pub(crate) fn write_next<'a, T: NormTable>(
     form: Form,
     text: &'a str,
     list: &mut Vec<char>,
-    out: &mut String,
+    out: &mut OutText,
 ) -> Result<&'a str, Memory>
-    ensures goes { IfOk result (λ rest. GoesOn (T.model table.now) form text.now rest.now (string_bytes out.old) (string_bytes out.new)) }
+    ensures goes { IfOk result (λ rest. GoesOn (T.model table.now) form text.now rest.now out.old out.new) }
     ensures shorter { IfOk result (λ rest. 0 < length text.now → length rest.now < length text.now) }
 {
     let (segment, later) = split_segment(table, form, text);
@@ -156,19 +156,14 @@ pub(crate) fn write_form<T: NormTable>(
     table: &T,
     form: Form,
     text: &str,
-    out: &mut String,
+    out: &mut OutText,
 ) -> Result<(), Memory>
-    ensures { OnOk result (string_bytes out.new ≡ string_bytes out.old ++ encode_utf8_all (normal_form (T.model table.now) form (chars text.now))) }
+    ensures { OnOk result (out.new ≡ out.old ++ encode_utf8_all (normal_form (T.model table.now) form (chars text.now))) }
 {
-    if !form.composes() {
-        return write_decomposed(alloc, table, form, text, out);
-    }
     let mut list = Vec::new(alloc);
     let mut rest = text;
-    'segments: while !rest.is_empty() {
-        let (stays, behind) = split_standing(table, form, rest);
-        out.push_str(stays)?;
-        rest = write_composed(alloc, table, form, behind, &mut list, out)?;
+    'fronts: while !rest.is_empty() {
+        rest = write_front(alloc, table, form, rest, &mut list, out)?;
     }
     Ok(())
 }

@@ -7,6 +7,7 @@ ghost use Rattle.np_forms.specs.inside.NormalForms.{decomposed as decomposed_lis
 use crate::copying::{split_segment, split_standing, write_form, write_segment};
 use crate::decomposing::full_decomposition;
 use crate::ordering::order;
+use crate::out_texts::OutText;
 use np_code_points::{Form, Memory};
 use np_tables::NormTable;
 use std::alloc::Global;
@@ -41,9 +42,9 @@ pub fn form<T: NormTable>(
     ensures bytes { IfOk result (λ t. string_bytes t ≡ encode_utf8_all (normal_form (T.model table.now) form (chars text.now))) }
 {
     table.meets_conditions();
-    let mut out = String::with_capacity(alloc, text.len())?;
+    let mut out = OutText::with_room(alloc, text.len())?;
     write_form(alloc, table, form, text, &mut out)?;
-    Ok(out)
+    Ok(out.into_text())
 }
 
 /// What follows a front, where the bytes begin with it.
@@ -62,7 +63,7 @@ fn behind_segment<'a, T: NormTable>(
     segment: &str,
     bytes: &'a [u8],
     list: &mut Vec<char>,
-    made: &mut String,
+    made: &mut OutText,
 ) -> Result<Option<&'a [u8]>, Memory>
     ensures { IfOk result (IsBehind bytes.now (encode_utf8_all (normal_form (T.model table.now) form (chars segment.now)))) }
 {
@@ -87,7 +88,7 @@ pub fn is_form<T: NormTable>(
 {
     table.meets_conditions();
     let mut list = Vec::new(alloc);
-    let mut made = String::new(alloc);
+    let mut made = OutText::new(alloc);
     let mut left = text.as_bytes();
     let mut rest = text;
     'segments: while !rest.is_empty() {

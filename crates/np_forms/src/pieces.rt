@@ -5,6 +5,7 @@ ghost use Rattle.np_forms.specs.inside.Pieces.{form_bytes, front_of, left_of};
 ghost use Rattle.np_tables.specs.Versions.{VersionData};
 
 use crate::copying::{split_segment, split_standing, write_segment};
+use crate::out_texts::OutText;
 use np_code_points::{Form, Memory};
 use np_tables::NormTable;
 use std::alloc::Global;
@@ -15,7 +16,7 @@ use std::alloc::Global;
 struct Pieces<'a> {
     stays: &'a [u8],
     /// The form of the segment, of which the first `taken` bytes are passed.
-    made: String,
+    made: OutText,
     taken: usize,
     rest: &'a str,
     /// Room that is used again.
@@ -30,7 +31,7 @@ impl<'a> Pieces<'a> {
     {
         Pieces {
             stays: &[],
-            made: String::new(alloc),
+            made: OutText::new(alloc),
             taken: 0,
             rest: text,
             list: Vec::new(alloc),

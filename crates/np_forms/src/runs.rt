@@ -1,11 +1,12 @@
 //! Whole inputs, normalized as they are read.
-ghost use Rattle.std.specs.Prelude.{◌≡◌, ◌≢◌, ◌↔◌, ◌⊎◌, chars as chars_in, ◌+◌, ◌<◌, ◌≤◌, ◌++◌, ℕ, List, [], false, true, length, take, drop, vec_len, string_bytes, None, Err, IfNone, IfOk, IfErr, IsErr, OnOk, OnErr, IfSome, MatchResult};
+ghost use Rattle.std.specs.Prelude.{◌≡◌, ◌≢◌, ◌↔◌, ◌⊎◌, chars as chars_in, ◌+◌, ◌<◌, ◌≤◌, ◌++◌, ℕ, List, [], false, true, length, take, drop, vec_len, None, Err, IfNone, IfOk, IfErr, IsErr, OnOk, OnErr, IfSome, MatchResult};
 ghost use Rattle.std.specs.Io.KnownBytes.{Appends, Consumes, IsAtEnd};
 ghost use Rattle.np_code_points.specs.Text.{IsLongestValidPrefix};
 ghost use Rattle.np_code_points.specs.Watched.{device_of, has_failed};
 ghost use Rattle.np_forms.specs.RunEnds.{RunEnds};
 ghost use Rattle.np_forms.specs.inside.Running.{IsBetweenReads, MayBegin, MayNotBegin, IsChunkFault, IsNextChunk, IsInputFault, IsPieceWritten, IsPieceCut, IsRestWritten, IsRestCut, Goes, Stops};
 
+use crate::out_texts::OutText;
 use crate::streams::Stream;
 use crate::written::{write_end, write_text};
 use np_code_points::output::{flush_once, write_whole};
@@ -183,17 +184,17 @@ fn next_chunk<R: Read>(
 /// What is to be written.
 #[derive(Drop)]
 struct Output {
-    text: String,
+    text: OutText,
     /// How many bytes were written.
     count: u64,
 }
 
 /// Writes a text out, and empties it.
 fn write_text_out<W: Write>(output: &mut Output, target: &mut Watched<W>) -> Result<(), RunFault>
-    ensures ok { OnOk result (Appends (W.contents (device_of target.old)) (W.contents (device_of target.new)) (string_bytes output.old.text)) }
-    ensures count { OnOk result (output.new.count ≡ output.old.count + length (string_bytes output.old.text)) }
-    ensures empty { OnOk result (string_bytes output.new.text ≡ []) }
-    ensures err { OnErr result ((out : List ℕ) × ((rest : List ℕ) × (string_bytes output.old.text ≡ out ++ rest)
+    ensures ok { OnOk result (Appends (W.contents (device_of target.old)) (W.contents (device_of target.new)) output.old.text) }
+    ensures count { OnOk result (output.new.count ≡ output.old.count + length output.old.text) }
+    ensures empty { OnOk result (output.new.text ≡ []) }
+    ensures err { OnErr result ((out : List ℕ) × ((rest : List ℕ) × (output.old.text ≡ out ++ rest)
         × Appends (W.contents (device_of target.old)) (W.contents (device_of target.new)) out)) }
     ensures failed { result ≡ Err RunFault.WriteFailed ↔ (has_failed target.new ≡ true) }
     ensures fault { IfErr result (λ fault. (fault ≡ RunFault.WriteFailed) ⊎ (fault ≡ RunFault.Memory)) }
@@ -202,7 +203,10 @@ fn write_text_out<W: Write>(output: &mut Output, target: &mut Watched<W>) -> Res
         return Err(RunFault::WriteFailed);
     };
     // No output has so many bytes.
-    let Some(count) = output.count.checked_add(output.text.len() as u64) else {
+    let Some(count) = output
+        .count
+        .checked_add(output.text.as_bytes().len() as u64)
+    else {
         return Err(RunFault::Memory);
     };
     output.count = count;
@@ -218,10 +222,10 @@ fn write_piece<W: Write, T: NormTable>(
     text: &str,
 ) -> Result<(), RunFault>
     requires moved { stream.old.ready ≡ [] }
-    requires empty { string_bytes output.old.text ≡ [] }
+    requires empty { output.old.text ≡ [] }
     requires clear { has_failed target.old ≡ false }
     ensures ok { OnOk result (IsPieceWritten stream.old stream.new (W.contents (device_of target.old)) (W.contents (device_of target.new)) output.old.count output.new.count (chars_in text.now)) }
-    ensures empty { OnOk result (string_bytes output.new.text ≡ []) }
+    ensures empty { OnOk result (output.new.text ≡ []) }
     ensures err { OnErr result (IsPieceCut stream.old (W.contents (device_of target.old)) (W.contents (device_of target.new)) (chars_in text.now)) }
     ensures failed { result ≡ Err RunFault.WriteFailed ↔ (has_failed target.new ≡ true) }
     ensures fault { IfErr result (λ fault. (fault ≡ RunFault.WriteFailed) ⊎ (fault ≡ RunFault.Memory)) }
@@ -239,7 +243,7 @@ fn write_rest<W: Write, T: NormTable>(
     target: &mut Watched<W>,
 ) -> Result<(), RunFault>
     requires moved { stream.old.ready ≡ [] }
-    requires empty { string_bytes output.old.text ≡ [] }
+    requires empty { output.old.text ≡ [] }
     requires clear { has_failed target.old ≡ false }
     ensures ok { OnOk result (IsRestWritten stream.old (W.contents (device_of target.old)) (W.contents (device_of target.new)) output.old.count output.new.count) }
     ensures err { OnErr result (IsRestCut stream.old (W.contents (device_of target.old)) (W.contents (device_of target.new))) }
@@ -264,11 +268,11 @@ fn feed_all<R: Read, W: Write, T: NormTable>(
     source: &mut Watched<R>,
     target: &mut Watched<W>,
 ) -> Result<(), RunFault>
-    requires { IsBetweenReads stream.old (string_bytes output.old.text) (vec_len input.old.kept) input.old.total (has_failed source.old) (has_failed target.old) }
+    requires { IsBetweenReads stream.old output.old.text (vec_len input.old.kept) input.old.total (has_failed source.old) (has_failed target.old) }
     ensures ok { OnOk result (Goes stream.old stream.new (R.remaining (device_of source.old)) (R.remaining (device_of source.new)) (W.contents (device_of target.old)) (W.contents (device_of target.new)) input.old.kept.items input.new.kept.items input.old.total input.new.total output.old.count output.new.count) }
     ensures end { OnOk result (IsAtEnd (R.remaining (device_of source.new))) }
     ensures fits { OnOk result (input.new.total ≤ LIMIT) }
-    ensures moved { OnOk result ((stream.new.ready ≡ []) × (string_bytes output.new.text ≡ []) × (vec_len input.new.kept ≤ input.new.total)) }
+    ensures moved { OnOk result ((stream.new.ready ≡ []) × (output.new.text ≡ []) × (vec_len input.new.kept ≤ input.new.total)) }
     ensures err { IfErr result (λ fault. Stops stream.old (R.remaining (device_of source.old)) (R.remaining (device_of source.new)) (W.contents (device_of target.old)) (W.contents (device_of target.new)) input.old.kept.items input.old.total output.old.count (Err fault)) }
     ensures read { result ≡ Err RunFault.ReadFailed ↔ (has_failed source.new ≡ true) }
     ensures write { result ≡ Err RunFault.WriteFailed ↔ (has_failed target.new ≡ true) }
@@ -291,7 +295,7 @@ fn run_on<R: Read, W: Write, T: NormTable>(
     source: &mut Watched<R>,
     target: &mut Watched<W>,
 ) -> Result<u64, RunFault>
-    requires { IsBetweenReads stream.old (string_bytes output.old.text) (vec_len input.old.kept) input.old.total (has_failed source.old) (has_failed target.old) }
+    requires { IsBetweenReads stream.old output.old.text (vec_len input.old.kept) input.old.total (has_failed source.old) (has_failed target.old) }
     ensures ends { Stops stream.old (R.remaining (device_of source.old)) (R.remaining (device_of source.new)) (W.contents (device_of target.old)) (W.contents (device_of target.new)) input.old.kept.items input.old.total output.old.count result }
     ensures read { result ≡ Err RunFault.ReadFailed ↔ (has_failed source.new ≡ true) }
     ensures write { result ≡ Err RunFault.WriteFailed ↔ (has_failed target.new ≡ true) }
@@ -355,7 +359,7 @@ pub fn run<R: Read, W: Write, T: NormTable>(
         return Err(RunFault::Memory);
     };
     let mut output = Output {
-        text: String::new(alloc),
+        text: OutText::new(alloc),
         count: 0,
     };
     run_on(&mut stream, &mut input, &mut output, source, target)

@@ -1,6 +1,6 @@
 //! Hangul syllables by arithmetic, decomposed straight into UTF-8 and made of the jamo that spell them
 //! (The Unicode Standard, section 3.12).
-ghost use Rattle.std.specs.Prelude.{◌≡◌, ◌+◌, ◌/◌, ◌%◌, ◌<◌, ◌≤◌, ◌++◌, ◌∷◌, [], true, false, length, string_bytes, encode_utf8_all, IfOk, IfSome, OnOk};
+ghost use Rattle.std.specs.Prelude.{◌≡◌, ◌+◌, ◌/◌, ◌%◌, ◌<◌, ◌≤◌, ◌++◌, ◌∷◌, [], true, false, length, encode_utf8_all, IfOk, IfSome, OnOk};
 ghost use Rattle.np_code_points.specs.Forms.{composes};
 ghost use Rattle.np_code_points.specs.Hangul.{is_syllable as in_block};
 ghost use Rattle.np_forms.specs.inside.Copies.{GoesOn};
@@ -10,44 +10,20 @@ ghost use Rattle.np_forms.specs.inside.Syllables.{syllable_parts};
 ghost use Rattle.np_tables.specs.Versions.{has_hangul};
 
 use crate::copying::begins_at_boundary;
+use crate::out_texts::OutText;
+use crate::utf8_bytes::{last_byte, lead_byte, middle_byte};
 use np_code_points::hangul::{
     L_BASE, L_COUNT, S_BASE, T_BASE, T_COUNT, V_BASE, V_COUNT, hangul_pair, is_syllable,
 };
 use np_code_points::{Form, Memory};
 use np_tables::NormTable;
-use std::str::from_utf8_unchecked;
-
-/// The first of the three bytes of a character.
-#[inline(always)]
-fn lead_byte(code: u32) -> u8
-    requires { code < 0xD800 }
-    ensures { result ≡ 224 + code / 4096 }
-{
-    (0xE0 + code / 4096) as u8
-}
-
-/// The second of the three bytes of a character.
-#[inline(always)]
-fn middle_byte(code: u32) -> u8
-    ensures { result ≡ 128 + code / 64 % 64 }
-{
-    (0x80 + code / 64 % 64) as u8
-}
-
-/// The last of the three bytes of a character.
-#[inline(always)]
-fn last_byte(code: u32) -> u8
-    ensures { result ≡ 128 + code % 64 }
-{
-    (0x80 + code % 64) as u8
-}
 
 /// Appends two characters of three bytes each.
 #[inline(always)]
-fn push_two(out: &mut String, a: u32, b: u32) -> Result<(), Memory>
+fn push_two(out: &mut OutText, a: u32, b: u32) -> Result<(), Memory>
     requires first { (0x800 ≤ a) × (a < 0xD800) }
     requires second { (0x800 ≤ b) × (b < 0xD800) }
-    ensures { OnOk result (string_bytes out.new ≡ string_bytes out.old ++ encode_utf8_all (a ∷ b ∷ [])) }
+    ensures { OnOk result (out.new ≡ out.old ++ encode_utf8_all (a ∷ b ∷ [])) }
 {
     let bytes = [
         lead_byte(a),
@@ -57,17 +33,16 @@ fn push_two(out: &mut String, a: u32, b: u32) -> Result<(), Memory>
         middle_byte(b),
         last_byte(b),
     ];
-    out.push_str(unsafe { from_utf8_unchecked(&bytes) })?;
-    Ok(())
+    out.append_bytes(&bytes)
 }
 
 /// Appends three characters of three bytes each.
 #[inline(always)]
-fn push_three(out: &mut String, a: u32, b: u32, c: u32) -> Result<(), Memory>
+fn push_three(out: &mut OutText, a: u32, b: u32, c: u32) -> Result<(), Memory>
     requires first { (0x800 ≤ a) × (a < 0xD800) }
     requires second { (0x800 ≤ b) × (b < 0xD800) }
     requires third { (0x800 ≤ c) × (c < 0xD800) }
-    ensures { OnOk result (string_bytes out.new ≡ string_bytes out.old ++ encode_utf8_all (a ∷ b ∷ c ∷ [])) }
+    ensures { OnOk result (out.new ≡ out.old ++ encode_utf8_all (a ∷ b ∷ c ∷ [])) }
 {
     let bytes = [
         lead_byte(a),
@@ -80,15 +55,14 @@ fn push_three(out: &mut String, a: u32, b: u32, c: u32) -> Result<(), Memory>
         middle_byte(c),
         last_byte(c),
     ];
-    out.push_str(unsafe { from_utf8_unchecked(&bytes) })?;
-    Ok(())
+    out.append_bytes(&bytes)
 }
 
 /// Appends the full decomposition of a syllable.
 #[inline(always)]
-fn push_syllable(out: &mut String, c: char) -> Result<(), Memory>
+fn push_syllable(out: &mut OutText, c: char) -> Result<(), Memory>
     requires { in_block c ≡ true }
-    ensures { OnOk result (string_bytes out.new ≡ string_bytes out.old ++ encode_utf8_all (syllable_parts c)) }
+    ensures { OnOk result (out.new ≡ out.old ++ encode_utf8_all (syllable_parts c)) }
 {
     let index = c as u32 - S_BASE;
     let block = index / T_COUNT;
@@ -108,10 +82,10 @@ pub(crate) fn write_syllables<'a, T: NormTable>(
     table: &T,
     form: Form,
     text: &'a str,
-    out: &mut String,
+    out: &mut OutText,
 ) -> Result<&'a str, Memory>
     requires { composes form ≡ false }
-    ensures { IfOk result (λ rest. GoesOn (T.model table.now) form text.now rest.now (string_bytes out.old) (string_bytes out.new)) }
+    ensures { IfOk result (λ rest. GoesOn (T.model table.now) form text.now rest.now out.old out.new) }
 {
     table.meets_conditions();
     if !table.hangul() {
@@ -173,18 +147,18 @@ fn write_joined<'a, T: NormTable>(
     table: &T,
     form: Form,
     text: &'a str,
-    out: &mut String,
+    out: &mut OutText,
 ) -> Result<&'a str, Memory>
     requires on { has_hangul (T.model table.now) ≡ true }
     requires form { composes form ≡ true }
-    ensures { IfOk result (λ rest. GoesOn (T.model table.now) form text.now rest.now (string_bytes out.old) (string_bytes out.new)) }
+    ensures { IfOk result (λ rest. GoesOn (T.model table.now) form text.now rest.now out.old out.new) }
 {
     let mut rest = text;
     'scan: loop {
         let Some((syllable, later)) = split_syllable(table, form, rest) else {
             return Ok(rest);
         };
-        out.push(syllable)?;
+        out.append_char(syllable)?;
         rest = later;
     }
 }
@@ -206,10 +180,10 @@ pub(crate) fn join_syllables<'a, T: NormTable>(
     table: &T,
     form: Form,
     text: &'a str,
-    out: &mut String,
+    out: &mut OutText,
 ) -> Result<&'a str, Memory>
     requires { composes form ≡ true }
-    ensures { IfOk result (λ rest. GoesOn (T.model table.now) form text.now rest.now (string_bytes out.old) (string_bytes out.new)) }
+    ensures { IfOk result (λ rest. GoesOn (T.model table.now) form text.now rest.now out.old out.new) }
 {
     if begins_with_lead(text) && table.hangul() {
         return write_joined(table, form, text, out);

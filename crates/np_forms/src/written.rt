@@ -1,28 +1,19 @@
 //! Texts written as a stream gives them.
-ghost use Rattle.std.specs.Prelude.{◌≡◌, ◌++◌, ◌∷◌, [], chars as chars_in, string_bytes, encode_utf8_all, OnOk};
+ghost use Rattle.std.specs.Prelude.{◌≡◌, ◌++◌, ◌∷◌, [], chars as chars_in, encode_utf8_all, OnOk};
 ghost use Rattle.np_forms.specs.inside.Written.{Breaks, Writes, WritesEnd};
 
 use crate::copying::{split_head, split_tail, write_form};
+use crate::out_texts::OutText;
 use crate::streams::Stream;
 use np_code_points::Memory;
 use np_tables::NormTable;
 
-/// Writes code points to the end of a text.
-pub(crate) fn append_chars(out: &mut String, chars: &[char]) -> Result<(), Memory>
-    ensures { OnOk result (string_bytes out.new ≡ string_bytes out.old ++ encode_utf8_all chars.now) }
-{
-    for c in chars {
-        out.push(*c)?;
-    }
-    Ok(())
-}
-
 /// Moves what is ready to the end of a text.
-fn take_ready<T: NormTable>(stream: &mut Stream<'_, T>, out: &mut String) -> Result<(), Memory>
+fn take_ready<T: NormTable>(stream: &mut Stream<'_, T>, out: &mut OutText) -> Result<(), Memory>
     ensures stream { OnOk result (stream.new ≡ record stream.old { ready = [] }) }
-    ensures bytes { OnOk result (string_bytes out.new ≡ string_bytes out.old ++ encode_utf8_all stream.old.ready) }
+    ensures bytes { OnOk result (out.new ≡ out.old ++ encode_utf8_all stream.old.ready) }
 {
-    append_chars(out, stream.ready())?;
+    out.append_chars(stream.ready())?;
     stream.clear_ready();
     Ok(())
 }
@@ -30,11 +21,11 @@ fn take_ready<T: NormTable>(stream: &mut Stream<'_, T>, out: &mut String) -> Res
 /// Feeds a code point, and writes what became ready.
 fn write_char<T: NormTable>(
     stream: &mut Stream<'_, T>,
-    out: &mut String,
+    out: &mut OutText,
     c: char,
 ) -> Result<(), Memory>
     requires { stream.old.ready ≡ [] }
-    ensures { OnOk result (Writes stream.old stream.new (string_bytes out.old) (string_bytes out.new) (c ∷ [])) }
+    ensures { OnOk result (Writes stream.old stream.new out.old out.new (c ∷ [])) }
 {
     stream.feed(c)?;
     take_ready(stream, out)?;
@@ -44,11 +35,11 @@ fn write_char<T: NormTable>(
 /// Feeds a text code point by code point, and writes what became ready.
 fn write_chars<T: NormTable>(
     stream: &mut Stream<'_, T>,
-    out: &mut String,
+    out: &mut OutText,
     text: &str,
 ) -> Result<(), Memory>
     requires { stream.old.ready ≡ [] }
-    ensures { OnOk result (Writes stream.old stream.new (string_bytes out.old) (string_bytes out.new) (chars_in text.now)) }
+    ensures { OnOk result (Writes stream.old stream.new out.old out.new (chars_in text.now)) }
 {
     for c in text.chars() {
         write_char(stream, out, c)?;
@@ -59,10 +50,10 @@ fn write_chars<T: NormTable>(
 /// Ends the text, and writes the rest of its normal form.
 pub(crate) fn write_end<T: NormTable>(
     stream: &mut Stream<'_, T>,
-    out: &mut String,
+    out: &mut OutText,
 ) -> Result<(), Memory>
     requires { stream.old.ready ≡ [] }
-    ensures { OnOk result (WritesEnd stream.old (string_bytes out.old) (string_bytes out.new)) }
+    ensures { OnOk result (WritesEnd stream.old out.old out.new) }
 {
     stream.finish()?;
     take_ready(stream, out)?;
@@ -70,9 +61,9 @@ pub(crate) fn write_end<T: NormTable>(
 }
 
 /// Ends the text, writes the rest of its normal form, and begins a new text.
-fn write_break<T: NormTable>(stream: &mut Stream<'_, T>, out: &mut String) -> Result<(), Memory>
+fn write_break<T: NormTable>(stream: &mut Stream<'_, T>, out: &mut OutText) -> Result<(), Memory>
     requires { stream.old.ready ≡ [] }
-    ensures { OnOk result (Breaks stream.old stream.new (string_bytes out.old) (string_bytes out.new)) }
+    ensures { OnOk result (Breaks stream.old stream.new out.old out.new) }
 {
     stream.finish()?;
     take_ready(stream, out)?;
@@ -83,11 +74,11 @@ fn write_break<T: NormTable>(stream: &mut Stream<'_, T>, out: &mut String) -> Re
 /// boundary and what begins at the last one; what lies between has its form for itself.
 pub(crate) fn write_text<T: NormTable>(
     stream: &mut Stream<'_, T>,
-    out: &mut String,
+    out: &mut OutText,
     text: &str,
 ) -> Result<(), Memory>
     requires { stream.old.ready ≡ [] }
-    ensures { OnOk result (Writes stream.old stream.new (string_bytes out.old) (string_bytes out.new) (chars_in text.now)) }
+    ensures { OnOk result (Writes stream.old stream.new out.old out.new (chars_in text.now)) }
 {
     let (alloc, table, form) = stream.rules();
     table.meets_conditions();

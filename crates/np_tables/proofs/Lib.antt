@@ -1,7 +1,7 @@
 pub mod AccessLemmas
 pub mod AmbiguityLemmas
-pub mod AsciiLemmas
 pub mod AnswerLemmas
+pub mod AsciiLemmas
 pub mod CompositeLemmas
 pub mod CountLemmas
 pub mod DepthLemmas
@@ -29,6 +29,8 @@ pub mod RightLemmas
 pub mod RoundLemmas
 pub mod RowLemmas
 pub mod RowPageLemmas
+pub mod SpelledLemmas
+pub mod SpellingLemmas
 pub mod StandingLemmas
 pub mod StepLemmas
 pub mod SyllableLemmas

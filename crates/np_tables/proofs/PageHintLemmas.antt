@@ -100,6 +100,26 @@ module _ (v : VersionData) (compat : Bool) (c class : ℕ) (apart : Bool) (final
         stays = λ form kind is. record { boundary = own-boundary form kind (stays_as (composes form) class apart is); rises = tt; returns = returns_itself v c (composes form) };
       }
 
+-- ---- all but that it stays where the form composes
+
+abbrev less : Bool → Hints → Hints
+less b h = record { parts = h.parts; parts_composing = h.parts_composing; stays = h.stays; stays_composing = b }
+
+parts_less : (b less_is : Bool) (h : Hints) → parts_under b (less less_is h) ≡ true → parts_under b h ≡ true
+parts_less false less_is h is = is
+parts_less true less_is h is = is
+
+stays_less : (b less_is : Bool) (h : Hints) → (less_is ≡ true → h.stays_composing ≡ true) → stays_under b (less less_is h) ≡ true → stays_under b h ≡ true
+stays_less false less_is h only is = is
+stays_less true less_is h only is = only is
+
+pub hints-less : (v : VersionData) (compat : Bool) (c : ℕ) (h : Hints) (less_is : Bool) → (less_is ≡ true → h.stays_composing ≡ true) → AreHints v compat c h → AreHints v compat c (less less_is h)
+hints-less v compat c h less_is only are =
+    record {
+      parts = λ form kind is. are.parts form kind (parts_less (composes form) less_is h is);
+      stays = λ form kind is. are.stays form kind (stays_less (composes form) less_is h only is);
+    }
+
 -- ---- where nothing is known
 
 not_under : (b : Bool) → parts_under b no_hints ≡ true → ⊥

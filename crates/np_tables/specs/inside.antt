@@ -14,5 +14,8 @@ pub mod Pairs
 pub mod Primaries
 pub mod RowPages
 pub mod RowPlaces
+pub mod Spelled
+pub mod Spellings
 pub mod Steps
 pub mod Suspects
+pub mod Tables

@@ -66,6 +66,17 @@ impl Fulls {
         })
     }
 
+    /// How many rows there are.
+    pub(crate) fn count(&self, compat: bool) -> usize
+        ensures { result ≡ length (of_kind compat self.now) }
+    {
+        if compat {
+            self.compatible.len()
+        } else {
+            self.canonical.len()
+        }
+    }
+
     /// What is lent for the row at a place, from 0.
     pub(crate) fn lent(&self, at: usize, compat: bool) -> &[char]
         requires { at < length (of_kind compat self.now) }

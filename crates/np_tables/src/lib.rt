@@ -32,6 +32,8 @@ mod row_index;
 mod row_pages;
 mod row_places;
 mod row_table;
+mod spelled;
+mod spellings;
 mod standing_runs;
 mod steps;
 mod syllables;

@@ -8,7 +8,9 @@ ghost use Rattle.np_ucd.specs.Entries.{Entry, IsRow};
 ghost use Rattle.np_ucd.specs.RowValues.{entry_of};
 
 use crate::fulls::{Fulls, is_lent};
-use crate::page_hints::{Hints, NO_HINTS, SYLLABLE, eight_bits, list_hints, own_hints};
+use crate::page_hints::{
+    Hints, NO_HINTS, SYLLABLE, eight_bits, leading_hints, list_hints, own_hints,
+};
 use crate::row_places::{mapped_code, row_in};
 use crate::version::Version;
 use np_ucd::Row;
@@ -90,8 +92,10 @@ fn bare_bits(version: &Version, row: &Row, own: Hints, leads_apart: bool) -> u8
     ensures { AreRowBits version.now (entry_of row.now) result }
 {
     version.meets_conditions();
+    let leading = touches(row, 0x1100, 0x1112);
+    let known = leading_hints(leading, own);
     if !touches(row, 0xAC00, 0xD7A3) {
-        eight_bits(own, own)
+        eight_bits(known, known)
     } else if leads_apart && version.has_hangul() && 0xAC00 <= row.first && row.last <= 0xD7A3 {
         eight_bits(SYLLABLE, SYLLABLE)
     } else {

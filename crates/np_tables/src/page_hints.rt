@@ -4,7 +4,7 @@ ghost use Rattle.std.specs.Prelude.{◌≡◌, ◌∷◌, ◌<◌, ◌≤◌, []
 ghost use Rattle.np_code_points.specs.declared.forms.Form.{Form};
 ghost use Rattle.np_tables.specs.Boundaries.{FoldsTo, NeverFalls};
 ghost use Rattle.np_tables.specs.Mappings.{IsFullDecomposition};
-ghost use Rattle.np_tables.specs.Versions.{class_of};
+ghost use Rattle.np_tables.specs.Versions.{VersionData, class_of};
 ghost use Rattle.np_tables.specs.inside.PageHints.{AreHints, AreLeadsApart, FoldsBy, IsApart, bit as spec_bit, decomposing, eight_bits as spec_eight_bits, four_bits as spec_four_bits, is_late_jamo as spec_is_late_jamo, own_hints as spec_own_hints, parts_place as spec_parts_place, stays_place as spec_stays_place};
 ghost use Rattle.np_tables.specs.inside.PageWords.{AreSeconds};
 
@@ -65,6 +65,19 @@ pub(crate) fn own_hints(class: u8, apart: bool) -> Hints
     }
 }
 
+/// The same, but that a leading consonant isn't known to stay where the form composes: mostly it begins a
+/// syllable.
+pub(crate) fn leading_hints(leading: bool, own: Hints) -> Hints
+    ensures { (v : VersionData) (compat : Bool) (c : ℕ) → AreHints v compat c own → AreHints v compat c result }
+{
+    Hints {
+        parts: own.parts,
+        parts_composing: own.parts_composing,
+        stays: own.stays,
+        stays_composing: own.stays_composing && !leading,
+    }
+}
+
 /// Whether a code point is a vowel or a trailing consonant of a syllable, or stands between them.
 fn is_late_jamo(code: u32) -> bool
     ensures { result ≡ spec_is_late_jamo code }
@@ -74,7 +87,7 @@ fn is_late_jamo(code: u32) -> bool
 
 /// Whether a code point is known to be the second part of no primary composite: the second part of
 /// a syllable is a vowel or a trailing consonant.
-fn is_apart(version: &Version, seconds: &[bool], code: u32) -> bool
+pub(crate) fn is_apart(version: &Version, seconds: &[bool], code: u32) -> bool
     requires { AreSeconds version.now seconds.now }
     ensures { IsTrue result → IsApart version.now code }
 {
@@ -102,7 +115,7 @@ pub(crate) fn are_leads_apart(version: &Version, seconds: &[bool]) -> bool
 }
 
 /// Whether no combining class is less than the one before.
-fn never_falls(version: &Version, list: &[char]) -> bool
+pub(crate) fn never_falls(version: &Version, list: &[char]) -> bool
     ensures { IsTrue result → NeverFalls (class_of version.now) list.now }
 {
     match list {

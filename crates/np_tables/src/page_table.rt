@@ -2,12 +2,14 @@
 //! decompositions, and one sorted list of pairs.
 ghost use Rattle.std.specs.Prelude.{◌≡◌, true, IfOk};
 ghost use Rattle.np_tables.specs.inside.PageWords.{ArePages, IsAsciiStaying};
+ghost use Rattle.np_tables.specs.inside.Spelled.{AreSpelled};
 ghost use Rattle.np_tables.specs.inside.Steps.{all_steps as spec_all_steps};
 
 use crate::fulls::Fulls;
 use crate::page_hints::parts_place;
 use crate::page_slots::slots_of;
 use crate::page_words::{Word, page_words, row_words, second_rows, word_of};
+use crate::spelled::Spelled;
 use crate::standing_runs::standing_front;
 use crate::steps::{all_steps, is_ascii_staying};
 use crate::tables::NormTable;
@@ -23,7 +25,7 @@ use std::marker::Model;
 /// its full decompositions stand, which are shared where both kinds are the same. Beside the words
 /// stands what a scan asks of each under the four forms, a byte for each.
 ///
-/// It takes some 1.4 MiB beside its version for the files of Unicode 15. Each call takes constant
+/// It takes some 1.7 MiB beside its version for the files of Unicode 15. Each call takes constant
 /// time, but `pair`, which searches by halves where the pair shares its slot with others, and
 /// `standing`, which reads what it counts.
 #[derive(Debug, Drop)]
@@ -36,6 +38,8 @@ pub struct PageTable {
     /// For each word what a scan asks under each form.
     steps: Vec<u32>,
     fulls: Fulls,
+    /// The forms of single code points.
+    spelled: Spelled,
     /// Whether all ASCII stays under every form.
     ascii: bool,
     ghost are_steps: { steps.items ≡ spec_all_steps words.items },
@@ -43,20 +47,24 @@ pub struct PageTable {
 }
 
 impl Model for PageTable {
-    ghost use Rattle.np_tables.specs.inside.PageWords.{ArePages};
+    ghost use Rattle.np_tables.specs.inside.Tables.{ArePageTables};
     ghost use Rattle.np_tables.specs.Versions.{VersionData};
 
     ghost Value = { VersionData };
 
     ghost view = { λ a. a.version };
 
-    ghost invariant = { λ a. ArePages a.version a.fulls a.index.items a.words.items };
+    ghost invariant = { λ a. ArePageTables a.version a.fulls a.index.items a.words.items a.spelled };
 }
 
-/// What a table keeps of a version that is lent: the blocks' numbers, their words, and the full
-/// decompositions.
-fn pages_of(alloc: Global, version: &Version) -> Result<(Vec<u16>, Vec<Word>, Fulls), Memory>
-    ensures { IfOk result (λ r. ArePages version.now r.2 r.0.items r.1.items) }
+/// What a table keeps of a version that is lent: the blocks' numbers, their words, the full
+/// decompositions, and what is written of them.
+fn pages_of(
+    alloc: Global,
+    version: &Version,
+) -> Result<(Vec<u16>, Vec<Word>, Fulls, Spelled), Memory>
+    ensures pages { IfOk result (λ r. ArePages version.now r.2 r.0.items r.1.items) }
+    ensures spelled { IfOk result (λ r. AreSpelled version.now r.2 r.3) }
 {
     let pages = version.characters().pages();
     let (fulls, slots) = slots_of(alloc, version.characters())?;
@@ -65,7 +73,8 @@ fn pages_of(alloc: Global, version: &Version) -> Result<(Vec<u16>, Vec<Word>, Fu
     let words = page_words(alloc, &rows, &pages.numbers)?;
     let mut index = Vec::with_capacity(alloc, pages.index.len())?;
     index.extend_from_slice(&pages.index)?;
-    Ok((index, words, fulls))
+    let spelled = Spelled::new(alloc, version, &seconds, &fulls)?;
+    Ok((index, words, fulls, spelled))
 }
 
 impl PageTable {
@@ -77,7 +86,7 @@ impl PageTable {
     pub fn new(alloc: Global, version: Version) -> Result<PageTable, Memory>
         ensures { IfOk result (λ t. t ≡ version) }
     {
-        let (index, words, fulls) = pages_of(alloc, &version)?;
+        let (index, words, fulls, spelled) = pages_of(alloc, &version)?;
         let steps = all_steps(alloc, &words)?;
         let ascii = is_ascii_staying(&index, &steps);
         Ok(PageTable {
@@ -86,6 +95,7 @@ impl PageTable {
             words,
             steps,
             fulls,
+            spelled,
             ascii,
         })
     }
@@ -124,6 +134,11 @@ impl NormTable for PageTable {
             return &[];
         }
         self.fulls.lent(slot as usize, compat)
+    }
+
+    fn spelled(&self, form: Form, c: char) -> Option<(&[u8], usize)> {
+        let slot = word_of(&self.index, &self.words, c).fulls;
+        self.spelled.at(form, slot as usize)
     }
 
     fn is_boundary(&self, form: Form, c: char) -> bool {

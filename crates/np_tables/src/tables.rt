@@ -8,6 +8,7 @@ ghost use Rattle.np_tables.specs.Conditions.{IsSound};
 ghost use Rattle.np_tables.specs.Mappings.{IsLent};
 ghost use Rattle.np_tables.specs.Standing.{AreStanding};
 ghost use Rattle.np_tables.specs.inside.FullDecompositions.{table_full};
+ghost use Rattle.np_tables.specs.inside.Spelled.{IsSpelled};
 ghost use Rattle.np_tables.specs.Versions.{VersionData, class_of, has_hangul, is_assigned};
 
 use crate::version::Version;
@@ -62,12 +63,22 @@ pub trait NormTable {
         ensures lent { IsLent (model self.now) compat c result.now }
         ensures value { result.now ≡ table_full (model self.now) compat c };
 
+    /// The form of a code point by itself, where that is its full decomposition and the table keeps it as
+    /// UTF-8: bytes, and how many of them at the front it has. A table may answer none.
+    fn spelled(&self, form: Form, c: char) -> Option<(&[u8], usize)>
+        ensures { IfSome result (λ cut. IsSpelled (model self.now) form c cut.0.now cut.1) }
+    {
+        // nothing is claimed of either, so that a plain table need not know
+        let _unused = (form, c);
+        None
+    }
+
     /// Whether a normal form is known to part before a code point (UAX #15, section 9.1). A table
     /// may answer `false` of one at which it does.
     fn is_boundary(&self, form: Form, c: char) -> bool
         ensures { IsTrue result → IsBoundary (model self.now) form c }
     {
-        // nothing is claimed of either, so that a plain table need not know
+        // the same
         let _unused = (form, c);
         false
     }
@@ -110,6 +121,10 @@ impl<T: NormTable> NormTable for &T {
 
     fn full(&self, c: char, compat: bool) -> &[char] {
         (**self).full(c, compat)
+    }
+
+    fn spelled(&self, form: Form, c: char) -> Option<(&[u8], usize)> {
+        (**self).spelled(form, c)
     }
 
     fn is_boundary(&self, form: Form, c: char) -> bool {

@@ -3,7 +3,7 @@ use super::LAST;
 use crate::common::{Example, Files, Made, S, V1, holds_over_each, table_of, want};
 use np_code_points::Form;
 use np_code_points::codes::write_code;
-use np_tables::{NormTable, PageTable};
+use np_tables::{NormTable, PageTable, RowTable};
 use std::alloc::Global;
 use std::test::Fail;
 
@@ -149,7 +149,8 @@ fn no_syllable_goes_by_arithmetic_where_the_jamo_lack(rt: HostRuntime) -> Result
 // How many bytes at the front of a text stand in a form as they are: composites and syllables come
 // back, singletons and excluded ones don't, nor what has a mapping that counts. Non-starters follow
 // where no class is less than the one before and, where the form composes, they are no second parts;
-// behind a composite none is taken to follow.
+// behind a composite none is taken to follow. A leading consonant is not taken to stand where the form
+// composes.
 const STANDING: [(Form, &str, usize); 24] = [
     (Form::Nfc, "A\u{E2}\u{1EAD}\u{AC01}\u{D7A3}", 12),
     (Form::Nfkc, "A\u{E2}\u{1EAD}\u{AC01}\u{D7A3}", 12),
@@ -170,8 +171,8 @@ const STANDING: [(Form, &str, usize); 24] = [
     (Form::Nfc, "A\u{327}\u{323}", 3),
     (Form::Nfc, "\u{E2}\u{327}", 2),
     (Form::Nfd, "\u{1112}\u{1175}\u{11C2} \u{1100}\u{1161}", 16),
-    (Form::Nfc, "\u{D788} \u{AC00}\u{AC01}\u{1100}\u{1161}", 13),
-    (Form::Nfkc, "\u{D788} \u{1112}\u{1175}", 7),
+    (Form::Nfc, "\u{D788} \u{AC00}\u{AC01}\u{1100}\u{1161}", 10),
+    (Form::Nfkc, "\u{D788} \u{1112}\u{1175}", 4),
     (Form::Nfd, "afifififififififififififififififia\u{212B}", 34),
     (
         Form::Nfd,
@@ -248,4 +249,43 @@ fn forms_leave_what_stands_and_part_before_starters(rt: HostRuntime) -> Result<(
 fn points_stand_in_their_canonical_order(rt: HostRuntime) -> Result<(), Fail> {
     let table: PageTable = table_of(rt.alloc(), HEBREW)?;
     tells_what_stands(&table, &HEBREW_STANDING)
+}
+
+// The form of a code point by itself, where that is its full decomposition: none is told where it
+// has no mapping of the kind, or something in it may compose.
+const SPELLED: [(Form, char, &str); 12] = [
+    (Form::Nfd, '\u{E2}', "a\u{302}"),
+    (Form::Nfd, '\u{1EAD}', "a\u{323}\u{302}"),
+    (Form::Nfd, '\u{344}', "\u{308}\u{301}"),
+    (Form::Nfkd, '\u{212B}', "A\u{30A}"),
+    (Form::Nfkd, '\u{FB01}', "fi"),
+    (Form::Nfkc, '\u{FB01}', "fi"),
+    (Form::Nfc, '\u{FB01}', ""),
+    (Form::Nfd, 'A', ""),
+    (Form::Nfd, '\u{AC00}', ""),
+    (Form::Nfc, '\u{E2}', ""),
+    (Form::Nfc, '\u{212B}', ""),
+    (Form::Nfkc, '\u{344}', ""),
+];
+
+/// Whether a table spells the form of a code point so; the empty text stands for none.
+fn spells<T: NormTable>(table: &T, form: Form, c: char, text: &str) -> bool {
+    match table.spelled(form, c) {
+        Some((bytes, count)) => count == text.len() && bytes.starts_with(text.as_bytes()),
+        None => text.is_empty(),
+    }
+}
+
+#[test]
+fn forms_of_single_code_points_are_spelled(rt: HostRuntime) -> Result<(), Fail> {
+    let table: PageTable = table_of(rt.alloc(), V1)?;
+    let plain: RowTable = table_of(rt.alloc(), V1)?;
+    for (form, c, text) in &SPELLED {
+        want(spells(&&table, *form, *c, text), text)?;
+        want(
+            spells(&plain, *form, *c, ""),
+            "a plain table spells nothing",
+        )?;
+    }
+    Ok(())
 }

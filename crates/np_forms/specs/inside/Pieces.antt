@@ -1,5 +1,5 @@
 -- A text whose normal form is given piece by piece.
-use Rattle.std.specs.Prelude.{ℕ, List, [], ◌∷◌, ◌++◌, drop, chars, encode_utf8_all, string_bytes}
+use Rattle.std.specs.Prelude.{ℕ, List, [], ◌∷◌, ◌++◌, drop, chars, encode_utf8_all}
 use Rattle.np_code_points.specs.declared.forms.Form.{Form}
 use Rattle.np_forms.specs.declared.pieces.Pieces.{Pieces}
 use Rattle.np_forms.specs.inside.NormalForms.{normal_form}
@@ -16,8 +16,8 @@ first_of (b ∷ bs) other = b ∷ bs
 
 -- what stands in front: what stays in the text, or what is left of the form of a segment
 abbrev pub front_of : Pieces → List ℕ
-front_of p = first_of p.stays.now (drop p.taken (string_bytes p.made))
+front_of p = first_of p.stays.now (drop p.taken p.made)
 
 -- all that is left of the form
 abbrev pub left_of : VersionData → Form → Pieces → List ℕ
-left_of v form p = p.stays.now ++ (drop p.taken (string_bytes p.made) ++ form_bytes v form p.rest.now)
+left_of v form p = p.stays.now ++ (drop p.taken p.made ++ form_bytes v form p.rest.now)

@@ -1,5 +1,5 @@
 -- Segments that are composed code point by code point.
-use Rattle.std.specs.Prelude.{◌≡◌, ℕ, ◌≤◌, ◌⊎◌, ⊤, true, List, [], ◌∷◌, ◌++◌, Option, length, chars, flat_map, IsUtf8}
+use Rattle.std.specs.Prelude.{◌≡◌, ℕ, ◌≤◌, ◌⊎◌, ⊤, true, List, [], ◌∷◌, ◌++◌, Option, length, take, chars, flat_map, encode_utf8_all, IsUtf8}
 use Rattle.np_code_points.specs.Forms.{is_compat}
 use Rattle.np_code_points.specs.declared.forms.Form.{Form}
 use Rattle.np_forms.specs.Order.{is_ordered}
@@ -32,3 +32,11 @@ pub record IsFirstMade (v : VersionData) (form : Form) (text rest list : List �
   pub utf8 : IsUtf8 rest
   pub shorter : length rest ≤ length text
   pub made : normal_form v form (chars text) ≡ list ++ normal_form v form (chars rest)
+
+-- the same, where the list is spelled by the first bytes
+pub record IsFirstSpelled (v : VersionData) (form : Form) (text rest bytes : List ℕ) (count : ℕ) : Type 0 where
+  pub list : List ℕ
+  pub made : IsFirstMade v form text rest list
+  pub fits : count ≤ length bytes
+  pub utf8 : IsUtf8 (take count bytes)
+  pub is : take count bytes ≡ encode_utf8_all list

@@ -1,4 +1,4 @@
-use Rattle.std.proofs.Common.{List, ℕ, ◌++◌, Option, IfSome, string_bytes, encode_utf8_all, ap, subst, ◌∙◌}
+use Rattle.std.proofs.Common.{List, ℕ, ◌++◌, Option, IfSome, encode_utf8_all, ap, subst, ◌∙◌}
 use denote.Ref.{Bor}
 use Rattle.np_forms.specs.inside.Segments.{IsFirstMade}
 use Rattle.np_forms.proofs.DecomposedLemmas.{goes-made}
@@ -10,7 +10,7 @@ returns-in-Some-clause-goes g c =
     let form = c.args.form in
     let text = c.args.text.now in
     let list = c.compose_first.new.list.items in
-    let before = string_bytes c.args.out.now in
-    goes-made v form text c.in-Some.rest.now list before (string_bytes c.append_chars.new.out)
+    let before = c.args.out.now in
+    goes-made v form text c.in-Some.rest.now list before c.append_chars.new.self
     (subst (λ (o : Option (Bor (List ℕ))). IfSome o (λ (r : Bor (List ℕ)). IsFirstMade v form text r.now list)) c.in-Some.is c.in_ok-rest.ensures.made)
     (c.in_ok-append_chars.ensures ∙ ap (λ (l : List ℕ). before ++ encode_utf8_all l) c.deref.ensures.value)

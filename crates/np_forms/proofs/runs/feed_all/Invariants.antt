@@ -1,4 +1,4 @@
-use Rattle.std.proofs.Common.{◌≡◌, ◌≤◌, ◌-◌, [], false, string_bytes, vec_len}
+use Rattle.std.proofs.Common.{◌≡◌, ◌≤◌, ◌-◌, [], false, vec_len}
 use Rattle.np_code_points.specs.Watched.{device_of, has_failed}
 use Rattle.np_forms.specs.inside.Running.{Goes}
 use Rattle.np_forms.proofs.runs.feed_all.Given as goal
@@ -8,7 +8,7 @@ invariant-chunks g l = record {
   goes : Goes l.fn.stream l.stream (g.R.Read.remaining (device_of l.fn.source)) (g.R.Read.remaining (device_of l.source)) (g.W.Write.contents (device_of l.fn.target)) (g.W.Write.contents (device_of l.target)) l.fn.input.kept.items l.input.kept.items l.fn.input.total l.input.total l.fn.output.count l.output.count;
   version : l.stream.version ≡ l.fn.stream.version;
   moved : l.stream.ready ≡ [];
-  empty : string_bytes l.output.text ≡ [];
+  empty : l.output.text ≡ [];
   reads : has_failed l.source ≡ false;
   writes : has_failed l.target ≡ false;
   fits : l.input.total ≤ 4294967295;

@@ -1,11 +1,11 @@
-use Rattle.std.proofs.Common.{◌∷◌, [], string_bytes, sym, subst}
+use Rattle.std.proofs.Common.{◌∷◌, [], sym, subst}
 use Rattle.np_forms.specs.inside.Written.{Writes}
 use Rattle.np_forms.proofs.WrittenLemmas.{Writes-fed}
 use Rattle.np_forms.proofs.written.write_char.Goals as goal
 
 pub returns : goal.returns
 returns g c =
-    let before = string_bytes c.args.out.now in
-    let after = string_bytes c.take_ready.new.out in
+    let before = c.args.out.now in
+    let after = c.take_ready.new.out in
     subst (λ s. Writes c.args.stream.now s before after (c.args.c ∷ [])) (sym c.in_ok-take_ready.ensures.stream)
     (Writes-fed c.args.stream.now c.feed.new.self before after c.args.c c.requires c.in_ok-feed.ensures.ok c.in_ok-take_ready.ensures.bytes)

@@ -1,4 +1,4 @@
-use Rattle.std.proofs.Common.{string_bytes, rules}
+use Rattle.std.proofs.Common.{rules}
 use Rattle.std.proofs.lemmas.Result.{on_ok_weaker}
 use Rattle.np_forms.proofs.ChunkLemmas.{Writes-text}
 use Rattle.np_forms.proofs.written.write_text.Goals as goal
@@ -8,7 +8,7 @@ returns g c =
     on_ok_weaker c.write_chars-2.result
     (λ last.
     Writes-text c.args.stream.now c.write_chars.new.stream c.write_break.new.stream c.write_chars-2.new.stream
-    (string_bytes c.args.out.now) (string_bytes c.write_chars.new.out) (string_bytes c.write_break.new.out) (string_bytes c.write_form.new.out) (string_bytes c.write_chars-2.new.out)
+    c.args.out.now c.write_chars.new.out c.write_break.new.out c.write_form.new.out c.write_chars-2.new.out
     (g.T.NormTable.model c.rules-form.result.1.now) c.rules-form.result.2 c.args.text.now c.split_head.result.0.now c.split_head.result.1.now c.split_tail.result.0.now c.split_tail.result.1.now
     c.meets_conditions.ensures c.rules-form.ensures.version c.rules-form.ensures.form c.split_head.ensures.parts c.split_tail.ensures.parts
     c.split_head.ensures.front c.split_tail.ensures.front c.split_tail.ensures.back (c.split_tail.ensures.some (search rules)) c.split_head.ensures.at (c.split_tail.ensures.at c.split_head.ensures.at)

@@ -8,7 +8,7 @@ pub returns-then-not-touches : goal.returns-then-not-touches
 returns-then-not-touches c =
     let v = c.args.version.now in
     let e = entry_of c.args.row.now in
-    subst (AreRowBits v e) (sym c.eight_bits.ensures) (bits-bare v e c.args.own c.requires.bare (sym c.touches.ensures ∙ c.if-not-touches.true) c.requires.own)
+    subst (AreRowBits v e) (sym c.eight_bits.ensures) (bits-bare v e c.leading_hints-known.result c.requires.bare (sym c.touches.ensures ∙ c.if-not-touches.true) (λ compat code found final. c.leading_hints-known.ensures v compat code (c.requires.own compat code found final)))
 
 pub returns-then-row-le55203 : goal.returns-then-row-le55203
 returns-then-row-le55203 c =

@@ -4,8 +4,8 @@ use Rattle.np_tables.specs.inside.RowPages.{AreRowPages}
 use Rattle.np_tables.proofs.PageWordLemmas.{pages-from}
 use Rattle.np_tables.proofs.page_table.pages_of.Goals as goal
 
-pub returns : goal.returns
-returns c =
+pub returns-clause-pages : goal.returns-clause-pages
+returns-clause-pages c =
     let v = c.args.version.now in
     let fulls = c.in_ok-fulls.fulls in
     let slots = c.in_ok-fulls.slots.items in

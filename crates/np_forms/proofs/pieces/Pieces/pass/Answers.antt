@@ -1,4 +1,4 @@
-use Rattle.std.proofs.Common.{◌+◌, min, length, string_bytes, sym, ap, ◌∙◌}
+use Rattle.std.proofs.Common.{◌+◌, min, length, sym, ap, ◌∙◌}
 use Rattle.std.proofs.lemmas.List.{take_rest}
 use Rattle.np_forms.specs.inside.Pieces.{form_bytes}
 use Rattle.np_forms.proofs.PieceLemmas.{passed_stays_to, passed_made_from}
@@ -7,7 +7,7 @@ use Rattle.np_forms.proofs.pieces.Pieces.pass.Goals as goal
 pub returns-then-is_empty : goal.returns-then-is_empty
 returns-then-is_empty c v form =
     let p = c.args.self.now in
-    passed_made_from p.stays.now (string_bytes p.made) (form_bytes v form p.rest.now) p.taken c.args.count _ (sym c.is_empty.ensures ∙ c.if-is_empty.true) (ap (λ k. k + c.args.count) (c.min.ensures ∙ ap (λ l. min p.taken (length l)) c.as_bytes.ensures.value))
+    passed_made_from p.stays.now p.made (form_bytes v form p.rest.now) p.taken c.args.count _ (sym c.is_empty.ensures ∙ c.if-is_empty.true) (ap (λ k. k + c.args.count) (c.min.ensures ∙ ap (λ l. min p.taken (length l)) c.as_bytes.ensures))
 
 pub returns-else-is_empty : goal.returns-else-is_empty
 returns-else-is_empty c v form =

@@ -8,6 +8,6 @@ use Rattle.np_tables.proofs.page_table.PageTableNormTable.is_boundary.Goals as g
 pub returns : goal.returns
 returns c = λ is.
     let fields = c.self.inside in
-    boundary-read c.args.self.now fields.version c.self.view_is fields.fulls fields.index.items fields.words.items c.self.invariant c.args.form c.args.c (omega arith) c.word_of.result
+    boundary-read c.args.self.now fields.version c.self.view_is fields.fulls fields.index.items fields.words.items c.self.invariant.pages c.args.form c.args.c (omega arith) c.word_of.result
     (c.word_of.ensures ∙ ap (λ w. get_or w (word_place c.deref.result.now c.args.c) no_word) c.deref-2.ensures.value ∙ ap (λ i. get_or fields.words.items (word_place i c.args.c) no_word) c.deref.ensures.value)
     (ap (has_bit c.word_of.result.hints) (sym c.parts_place.ensures.place) ∙ sym c.has_bit.ensures ∙ is)

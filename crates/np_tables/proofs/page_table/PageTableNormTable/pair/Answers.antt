@@ -9,10 +9,10 @@ use Rattle.np_tables.proofs.page_table.PageTableNormTable.pair.Goals as goal
 pub returns-then-word_of-clause-none : goal.returns-then-word_of-clause-none
 returns-then-word_of-clause-none c =
     let fields = c.self.inside in
-    pair-apart c.args.self.now fields.version c.self.view_is fields.fulls fields.index.items fields.words.items c.self.invariant c.args.a c.args.b (omega arith) c.word_of.result
+    pair-apart c.args.self.now fields.version c.self.view_is fields.fulls fields.index.items fields.words.items c.self.invariant.pages c.args.a c.args.b (omega arith) c.word_of.result
     (c.word_of.ensures ∙ ap (λ w. get_or w (word_place c.deref.result.now c.args.b) no_word) c.deref-2.ensures.value ∙ ap (λ i. get_or fields.words.items (word_place i c.args.b) no_word) c.deref.ensures.value)
     c.if-word_of.true
 
 pub returns-then-word_of-clause-value : goal.returns-then-word_of-clause-value
 returns-then-word_of-clause-value c =
-    pair-value c.args.self.now (subst IsSound c.self.view_is c.self.invariant.sound) c.args.a c.args.b None tt (returns-then-word_of-clause-none c)
+    pair-value c.args.self.now (subst IsSound c.self.view_is c.self.invariant.pages.sound) c.args.a c.args.b None tt (returns-then-word_of-clause-none c)

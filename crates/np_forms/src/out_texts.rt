@@ -1,0 +1,218 @@
+//! Texts that are written at their end, into memory that was made before: a short run of bytes costs a load
+//! and a store of one size, whatever its length.
+ghost use Rattle.std.specs.Prelude.{◌≡◌, ◌+◌, ◌≤◌, ◌<◌, ◌++◌, [], length, take, vec_len, string_bytes, encode_utf8, encode_utf8_all, IsUtf8, IfOk, OnOk};
+
+use crate::utf8_bytes::{four_bytes, three_bytes, two_bytes};
+use np_code_points::Memory;
+use std::alloc::Global;
+use std::marker::Model;
+use std::simd::prelude::*;
+
+/// How many bytes are copied in one step.
+const STEP: usize = 32;
+
+/// How many bytes are filled at once for what is still to be written: what `Vec` reserves beyond that costs
+/// no memory until it is filled.
+const FILLED: usize = 65_536;
+
+/// A text in the front of its room. What stands behind it there is of no text.
+#[derive(Drop)]
+pub(crate) struct OutText {
+    room: Vec<u8>,
+    len: usize,
+    ghost within: { len ≤ vec_len room },
+}
+
+impl Model for OutText {
+    ghost use Rattle.std.specs.Prelude.{ℕ, List, IsUtf8, take};
+
+    ghost Value = { List ℕ };
+
+    ghost view = { λ a. take a.len a.room.items };
+
+    ghost invariant = { λ a. IsUtf8 (take a.len a.room.items) };
+}
+
+/// Makes the room longer, so that so many bytes and a step have room behind the first `len`.
+#[inline(never)]
+fn grow_room(room: &mut Vec<u8>, len: usize, count: usize) -> Result<(), Memory>
+    requires { len ≤ vec_len room.old }
+    ensures same { take len room.new.items ≡ take len room.old.items }
+    ensures within { len ≤ vec_len room.new }
+    ensures space { OnOk result (len + count ≤ vec_len room.new) }
+{
+    let Some(least) = len.checked_add(count) else {
+        return Err(Memory);
+    };
+    let more = len.min(FILLED) + STEP;
+    room.resize(least.saturating_add(more), 0)?;
+    Ok(())
+}
+
+/// Sees that so many bytes have room behind the first `len`.
+#[inline(always)]
+fn make_room(room: &mut Vec<u8>, len: usize, count: usize) -> Result<(), Memory>
+    requires { len ≤ vec_len room.old }
+    ensures same { take len room.new.items ≡ take len room.old.items }
+    ensures within { len ≤ vec_len room.new }
+    ensures space { OnOk result (len + count ≤ vec_len room.new) }
+{
+    if room.len() - len >= count {
+        return Ok(());
+    }
+    grow_room(room, len, count)
+}
+
+/// Writes a run, and answers the place behind it.
+#[inline(always)]
+fn write_run(room: &mut Vec<u8>, at: usize, run: &[u8]) -> usize
+    requires { at + length run.now ≤ vec_len room.old }
+    ensures bytes { take result room.new.items ≡ take at room.old.items ++ run.now }
+    ensures within { result ≤ vec_len room.new }
+{
+    let end = at + run.len();
+    room[at..end].copy_from_slice(run);
+    end
+}
+
+/// Stores the first `count` bytes of a run, and what follows them up to a step.
+#[inline(always)]
+fn store_step(room: &mut [u8], at: usize, run: &[u8], count: usize) -> usize
+    requires few { count ≤ 32 }
+    requires run { 32 ≤ length run.now }
+    requires space { at + 32 ≤ length room.old }
+    ensures bytes { take result room.new ≡ take at room.old ++ take count run.now }
+    ensures within { result ≤ length room.new }
+    ensures length { length room.new ≡ length room.old }
+{
+    u8x32::from_slice(run).copy_to_slice(&mut room[at..]);
+    at + count
+}
+
+/// Writes the first `count` bytes of a run, and what follows them up to a step, and answers the place
+/// behind the first.
+#[inline(always)]
+fn write_step(room: &mut Vec<u8>, at: usize, run: &[u8], count: usize) -> usize
+    requires few { count ≤ 32 }
+    requires run { 32 ≤ length run.now }
+    requires space { at + 32 ≤ vec_len room.old }
+    ensures bytes { take result room.new.items ≡ take at room.old.items ++ take count run.now }
+    ensures within { result ≤ vec_len room.new }
+{
+    store_step(room, at, run, count)
+}
+
+impl OutText {
+    /// No text, and no room.
+    pub(crate) fn new(alloc: Global) -> OutText
+        ensures { result ≡ [] }
+    {
+        OutText {
+            room: Vec::new(alloc),
+            len: 0,
+        }
+    }
+
+    /// No text, and room for so many bytes and a step.
+    pub(crate) fn with_room(alloc: Global, count: usize) -> Result<OutText, Memory>
+        ensures { IfOk result (λ t. t ≡ []) }
+    {
+        let mut room = Vec::with_capacity(alloc, count.saturating_add(STEP))?;
+        room.resize(count.min(FILLED) + STEP, 0)?;
+        Ok(OutText { room, len: 0 })
+    }
+
+    /// Its bytes.
+    pub(crate) fn as_bytes(&self) -> &[u8]
+        ensures { result.now ≡ self.now }
+    {
+        &self.room[..self.len]
+    }
+
+    /// Takes the text away, and leaves the room.
+    pub(crate) fn clear(&mut self)
+        ensures { self.new ≡ [] }
+    {
+        self.len = 0;
+    }
+
+    /// The text, without the room behind it.
+    pub(crate) fn into_text(self) -> String
+        ensures { string_bytes result ≡ self }
+    {
+        let OutText { mut room, len, .. } = self;
+        room.truncate(len);
+        unsafe { String::from_utf8_unchecked(room) }
+    }
+
+    /// Appends bytes. It is made part of what calls it, so that a number of them that the program tells
+    /// is copied by so many stores.
+    #[inline(always)]
+    pub(crate) fn append_bytes(&mut self, bytes: &[u8]) -> Result<(), Memory>
+        requires { IsUtf8 bytes.now }
+        ensures { OnOk result (self.new ≡ self.old ++ bytes.now) }
+    {
+        make_room(&mut self.room, self.len, bytes.len())?;
+        self.len = write_run(&mut self.room, self.len, bytes);
+        Ok(())
+    }
+
+    /// The same, but that it is called.
+    #[inline(never)]
+    fn append_run(&mut self, run: &[u8]) -> Result<(), Memory>
+        requires { IsUtf8 run.now }
+        ensures { OnOk result (self.new ≡ self.old ++ run.now) }
+    {
+        self.append_bytes(run)
+    }
+
+    /// Appends the first `count` of some bytes. It is quickest where there is a step of them.
+    #[inline(always)]
+    pub(crate) fn append_first(&mut self, bytes: &[u8], count: usize) -> Result<(), Memory>
+        requires fits { count ≤ length bytes.now }
+        requires utf8 { IsUtf8 (take count bytes.now) }
+        ensures { OnOk result (self.new ≡ self.old ++ take count bytes.now) }
+    {
+        if count <= STEP && bytes.len() >= STEP && self.room.len() - self.len >= STEP {
+            self.len = write_step(&mut self.room, self.len, bytes, count);
+            return Ok(());
+        }
+        self.append_run(&bytes[..count])
+    }
+
+    /// Appends a front of a text.
+    #[inline(always)]
+    pub(crate) fn append_front(&mut self, text: &str, front: &str) -> Result<(), Memory>
+        requires { take (length front.now) text.now ≡ front.now }
+        ensures { OnOk result (self.new ≡ self.old ++ front.now) }
+    {
+        self.append_first(text.as_bytes(), front.len())
+    }
+
+    /// Appends a character.
+    #[inline(always)]
+    pub(crate) fn append_char(&mut self, c: char) -> Result<(), Memory>
+        ensures { OnOk result (self.new ≡ self.old ++ encode_utf8 c) }
+    {
+        let code = c as u32;
+        if code < 0x80 {
+            self.append_bytes(&[code as u8])
+        } else if code < 0x800 {
+            self.append_bytes(&two_bytes(code))
+        } else if code < 0x1_0000 {
+            self.append_bytes(&three_bytes(code))
+        } else {
+            self.append_bytes(&four_bytes(code))
+        }
+    }
+
+    /// Appends characters.
+    pub(crate) fn append_chars(&mut self, chars: &[char]) -> Result<(), Memory>
+        ensures { OnOk result (self.new ≡ self.old ++ encode_utf8_all chars.now) }
+    {
+        for c in chars {
+            self.append_char(*c)?;
+        }
+        Ok(())
+    }
+}

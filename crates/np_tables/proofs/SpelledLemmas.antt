@@ -1,0 +1,46 @@
+-- What a table keeps of single code points under each form, and what it answers of it.
+use Rattle.std.proofs.Common.{◌≡◌, ℕ, ◌<◌, true, false, List, [], ◌∷◌, length, take, get_or, encode_utf8_all, sym, ap, subst, arith, inl, inr, length-take-le}
+use Rattle.np_code_points.specs.declared.forms.Form.{Form}
+use Rattle.np_code_points.specs.declared.forms.Form.TheVariants.{Nfd, Nfc, Nfkd, Nfkc}
+use Rattle.np_code_points.specs.Forms.{is_compat}
+use Rattle.np_tables.specs.Versions.{VersionData}
+use Rattle.np_tables.specs.declared.page_words.Word.{Word}
+use Rattle.np_tables.specs.declared.spelled.Spelled.{Spelled}
+use Rattle.np_tables.specs.inside.FullLists.{FullLists, of_kind}
+use Rattle.np_tables.specs.inside.FullDecompositions.{table_full}
+use Rattle.np_tables.specs.inside.PageWords.{IsWord, no_word}
+use Rattle.np_tables.specs.inside.Pages.{word_place}
+use Rattle.np_tables.specs.inside.Spelled.{AreSpelled, IsSpelled, kept_of}
+use Rattle.np_tables.specs.inside.Spellings.{AreSpellings, IsFront, IsSpelling}
+use Rattle.np_tables.specs.inside.Tables.{ArePageTables}
+
+pub each_form : (v : VersionData) (lists : FullLists) (s : Spelled) → AreSpellings v Nfd (of_kind false lists) s.nfd → AreSpellings v Nfc (of_kind false lists) s.nfc → AreSpellings v Nfkd (of_kind true lists) s.nfkd → AreSpellings v Nfkc (of_kind true lists) s.nfkc → AreSpelled v lists s
+each_form v lists s nfd nfc nfkd nfkc Nfd = nfd
+each_form v lists s nfd nfc nfkd nfkc Nfc = nfc
+each_form v lists s nfd nfc nfkd nfkc Nfkd = nfkd
+each_form v lists s nfd nfc nfkd nfkc Nfkc = nfkc
+
+some_encoded : (lent : List ℕ) → 0 < length (encode_utf8_all lent) → 0 < length lent
+some_encoded [] some = absurd (omega arith)
+some_encoded (x ∷ xs) some = omega arith
+
+pub spelled-read : (v u : VersionData) → u ≡ v → (lists : FullLists) (blocks : List ℕ) (words : List Word) (spelled : Spelled) → ArePageTables u lists blocks words spelled → (form : Form) (c : ℕ) → c < 0x110000 →
+    (w : Word) → w ≡ get_or words (word_place blocks c) no_word → (bytes : List ℕ) (count : ℕ) → IsFront (get_or (kept_of form spelled) w.fulls []) bytes count → IsSpelled v form c bytes count
+spelled-read v u same lists blocks words spelled are form c lt w at bytes count front =
+    let word : IsWord u lists c w = subst (IsWord u lists c) (sym at) (are.pages.each c lt) in
+    let lent : get_or (of_kind (is_compat form) lists) w.fulls [] ≡ table_full u (is_compat form) c = word.slot.lent (is_compat form) in
+    let spelling : IsSpelling u form (table_full u (is_compat form) c) (take count bytes) =
+    subst (λ l. IsSpelling u form l (take count bytes)) lent (subst (IsSpelling u form (get_or (of_kind (is_compat form) lists) w.fulls [])) (sym front.is) (are.spelled_is form w.fulls)) in
+    let long : length (take count bytes) ≡ count = length-take-le count bytes front.fits in
+    subst (λ x. IsSpelled x form c bytes count) same
+    (elim spelling.is [
+      | inl none ↦ absurd (omega (arith, ap length none, long, front.some))
+      | inr known ↦
+          record {
+            settled = known.1;
+            some = some_encoded (table_full u (is_compat form) c) (omega (arith, ap length known.0, long, front.some));
+            fits = front.fits;
+            utf8 = spelling.utf8;
+            is = known.0;
+          }
+    ])

@@ -1,0 +1,7 @@
+use Rattle.np_code_points.specs.Forms.{is_compat}
+use Rattle.np_tables.specs.inside.FullLists.{of_kind}
+use Rattle.np_tables.specs.inside.Spellings.{AreSpellingsSoFar}
+use Rattle.np_tables.proofs.spellings.Spellings.new.Given as goal
+
+abbrev pub invariant-loop-slot : goal.invariant-loop-slot
+invariant-loop-slot l = AreSpellingsSoFar l.version l.form (of_kind (is_compat l.form) l.fulls) l.bytes.items l.spans.items l.slot
