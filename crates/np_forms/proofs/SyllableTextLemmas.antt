@@ -1,16 +1,16 @@
 -- Syllables written as the bytes of their jamo.
-use Rattle.std.proofs.Common.{◌≡◌, ℕ, ◌+◌, ◌-◌, ◌/◌, ◌%◌, ◌<◌, ◌≤◌, ◌≢◌, true, false, MatchBool, List, [], ◌∷◌, ◌++◌, length, get_or, chars, IsUtf8, encode_utf8_all, inl, inr, sym, ap, subst, ◌∙◌, arith, append-nil, length-append}
-use Rattle.std.proofs.lemmas.Bool.{cases_eq}
-use Rattle.std.proofs.lemmas.Str.{chars_past_char, IsUtf8-past_char}
-use Rattle.std.specs.Char.{encode_utf8}
+use Rattle.std.proofs.Common.{◌≡◌, ℕ, ◌+◌, ◌-◌, ◌*◌, ◌/◌, ◌%◌, ◌<◌, ◌≤◌, ◌≢◌, true, false, MatchBool, List, [], ◌∷◌, ◌++◌, length, get_or, chars, IsCharBoundary, IsUtf8, encode_utf8_all, drop, encode_utf8, inl, inr, refl, suc, sym, take, ap, subst, ◌∙◌, arith, append-nil, length-append}
+use Rattle.std.proofs.lemmas.Bool.{and_from, cases_eq, le-leb, lt-ltb}
+use Rattle.std.proofs.Math.Seq.{take-suc}
+use Rattle.std.proofs.lemmas.List.{length-drop, take-append-drop}
+use Rattle.std.proofs.lemmas.Str.{chars-append, chars-encodes, chars_past_char, IsCharBoundary-from_take, IsUtf8-drop, IsUtf8-past_char}
 use Rattle.std.specs.List.{list_all}
-use lib.Utf8.{low_scalar, scalar}
+use lib.Utf8.{low_scalar, scalar, scalars}
 use Rattle.np_code_points.specs.Forms.{is_compat, composes}
-use Rattle.np_code_points.specs.Hangul.{is_syllable, syllable_pair}
+use Rattle.np_code_points.specs.Hangul.{is_syllable}
 use Rattle.np_code_points.specs.declared.forms.Form.{Form}
-use Rattle.np_code_points.proofs.HangulLemmas.{pair_of_lv, pair_of_lvt}
+use Rattle.np_code_points.proofs.HangulLemmas.{among_bounds, pair_of_lv, pair_of_lvt}
 use Rattle.np_forms.specs.inside.Copies.{BeginsAtBoundary, GoesOn}
-use Rattle.np_forms.specs.inside.Joins.{JoinsTrailing}
 use Rattle.np_forms.specs.inside.NormalForms.{ended, normal_form}
 use Rattle.np_forms.specs.inside.Segments.{IsFirstMade}
 use Rattle.np_forms.specs.inside.Syllables.{syllable_parts}
@@ -39,7 +39,7 @@ IsThree c x y z = (x ≡ 224 + c / 4096) × (y ≡ 128 + c / 64 % 64) × (z ≡ 
 abbrev pub IsMiddle : ℕ → Type 0
 IsMiddle c = (0x800 ≤ c) × (c < 0xD800)
 
-spelled : (c x y z : ℕ) → IsMiddle c → IsThree c x y z → encode_utf8 c ≡ x ∷ y ∷ z ∷ []
+pub spelled : (c x y z : ℕ) → IsMiddle c → IsThree c x y z → encode_utf8 c ≡ x ∷ y ∷ z ∷ []
 spelled c x y z range is =
     encode_three c range.0 (omega (arith, range.1)) ∙ ap (λ p. p ∷ (128 + c / 64 % 64) ∷ (128 + c % 64) ∷ []) (sym is.0) ∙ ap (λ p. x ∷ p ∷ (128 + c % 64) ∷ []) (sym is.1) ∙ ap (λ p. x ∷ y ∷ p ∷ []) (sym is.2)
 
@@ -80,6 +80,102 @@ module _ (s : ℕ) (h : is_syllable s ≡ true) where
       syllable_parts-three s shape.base shape.last lv.leading lv.vowel h shape.pair lv.syllable lv.pair
       ∙ ap (λ x. x ∷ lv.vowel ∷ shape.last ∷ []) lead ∙ ap (λ x. (0x1100 + (s - 0xAC00) / 28 / 21) ∷ x ∷ shape.last ∷ []) vowel
       ∙ ap (λ x. (0x1100 + (s - 0xAC00) / 28 / 21) ∷ (0x1161 + (s - 0xAC00) / 28 % 21) ∷ x ∷ []) last
+
+-- ---- syllables from the bytes of their jamo
+
+pub parts-scalars : (s : ℕ) → is_syllable s ≡ true → scalars (syllable_parts s) ≡ true
+parts-scalars s h =
+    let range = among_bounds 0xAC00 11172 s h in
+    elim (cases_eq ((s - 0xAC00) % 28) 0) [
+      | inl even ↦
+          subst (λ l. scalars l ≡ true) (sym (parts-lv s h even))
+          (and_from _ _ (low_scalar (0x1100 + (s - 0xAC00) / 28 / 21) (omega (arith, range.1))) (and_from _ _ (low_scalar (0x1161 + (s - 0xAC00) / 28 % 21) (omega arith)) refl))
+      | inr odd ↦
+          subst (λ l. scalars l ≡ true) (sym (parts-lvt s h odd))
+          (and_from _ _ (low_scalar (0x1100 + (s - 0xAC00) / 28 / 21) (omega (arith, range.1))) (and_from _ _ (low_scalar (0x1161 + (s - 0xAC00) / 28 % 21) (omega arith))
+          (and_from _ _ (low_scalar (0x11A7 + (s - 0xAC00) % 28) (omega arith)) refl)))
+    ]
+
+-- one byte more at the front
+grown : (l : List ℕ) (j : ℕ) (xs : List ℕ) → j < length l → take j l ≡ xs → take (j + 1) l ≡ xs ++ (get_or l j 0 ∷ [])
+grown l j xs more is =
+    let next : j + 1 ≡ suc j = omega arith in
+    ap (λ n. take n l) next ∙ take-suc l j 0 more ∙ ap (λ x. x ++ (get_or l j 0 ∷ [])) is
+
+take-six : (l : List ℕ) → 9 ≤ length l → take 6 l ≡ get_or l 0 0 ∷ get_or l 1 0 ∷ get_or l 2 0 ∷ get_or l 3 0 ∷ get_or l 4 0 ∷ get_or l 5 0 ∷ []
+take-six l long =
+    grown l 5 (get_or l 0 0 ∷ get_or l 1 0 ∷ get_or l 2 0 ∷ get_or l 3 0 ∷ get_or l 4 0 ∷ []) (omega arith)
+    (grown l 4 (get_or l 0 0 ∷ get_or l 1 0 ∷ get_or l 2 0 ∷ get_or l 3 0 ∷ []) (omega arith)
+    (grown l 3 (get_or l 0 0 ∷ get_or l 1 0 ∷ get_or l 2 0 ∷ []) (omega arith)
+    (grown l 2 (get_or l 0 0 ∷ get_or l 1 0 ∷ []) (omega arith)
+    (grown l 1 (get_or l 0 0 ∷ []) (omega arith) (grown l 0 [] (omega arith) refl)))))
+
+take-nine : (l : List ℕ) → 9 ≤ length l → take 9 l ≡ get_or l 0 0 ∷ get_or l 1 0 ∷ get_or l 2 0 ∷ get_or l 3 0 ∷ get_or l 4 0 ∷ get_or l 5 0 ∷ get_or l 6 0 ∷ get_or l 7 0 ∷ get_or l 8 0 ∷ []
+take-nine l long =
+    grown l 8 (get_or l 0 0 ∷ get_or l 1 0 ∷ get_or l 2 0 ∷ get_or l 3 0 ∷ get_or l 4 0 ∷ get_or l 5 0 ∷ get_or l 6 0 ∷ get_or l 7 0 ∷ []) (omega arith)
+    (grown l 7 (get_or l 0 0 ∷ get_or l 1 0 ∷ get_or l 2 0 ∷ get_or l 3 0 ∷ get_or l 4 0 ∷ get_or l 5 0 ∷ get_or l 6 0 ∷ []) (omega arith)
+    (grown l 6 (get_or l 0 0 ∷ get_or l 1 0 ∷ get_or l 2 0 ∷ get_or l 3 0 ∷ get_or l 4 0 ∷ get_or l 5 0 ∷ []) (omega arith) (take-six l long)))
+
+-- bytes that spell a leading consonant and a vowel, of which the syllable s is made with a trailing consonant or none
+pub record AreFirstJamo (bytes : List ℕ) (lead vowel trailing s : ℕ) : Type 0 where
+  pub long : 9 ≤ length bytes
+  pub leads : lead < 19
+  pub vowels : vowel < 21
+  pub trailings : trailing < 28
+  pub is : s ≡ 0xAC00 + (lead * 21 + vowel) * 28 + trailing
+  pub first : encode_utf8 (0x1100 + lead) ≡ get_or bytes 0 0 ∷ get_or bytes 1 0 ∷ get_or bytes 2 0 ∷ []
+  pub second : encode_utf8 (0x1161 + vowel) ≡ get_or bytes 3 0 ∷ get_or bytes 4 0 ∷ get_or bytes 5 0 ∷ []
+
+module _ (bytes : List ℕ) (lead vowel trailing s : ℕ) (are : AreFirstJamo bytes lead vowel trailing s) where
+  pub front-syllable : is_syllable s ≡ true
+  front-syllable = and_from _ _ (le-leb 0xAC00 s (omega (arith, are.is))) (lt-ltb s 0xD7A4 (omega (arith, are.is, are.leads, are.vowels, are.trailings)))
+
+  lead-back : (s - 0xAC00) / 28 / 21 ≡ lead
+  lead-back = omega (arith, are.is, are.vowels, are.trailings)
+
+  vowel-back : (s - 0xAC00) / 28 % 21 ≡ vowel
+  vowel-back = omega (arith, are.is, are.vowels, are.trailings)
+
+  trailing-back : (s - 0xAC00) % 28 ≡ trailing
+  trailing-back = omega (arith, are.is, are.trailings)
+
+  both-back : (rest : List ℕ) → (0x1100 + (s - 0xAC00) / 28 / 21) ∷ (0x1161 + (s - 0xAC00) / 28 % 21) ∷ rest ≡ (0x1100 + lead) ∷ (0x1161 + vowel) ∷ rest
+  both-back rest = ap (λ x. (0x1100 + x) ∷ (0x1161 + (s - 0xAC00) / 28 % 21) ∷ rest) lead-back ∙ ap (λ x. (0x1100 + lead) ∷ (0x1161 + x) ∷ rest) vowel-back
+
+  -- the bytes of a list of code points that the two begin
+  begun : (rest : List ℕ) → encode_utf8_all ((0x1100 + lead) ∷ (0x1161 + vowel) ∷ rest)
+      ≡ get_or bytes 0 0 ∷ get_or bytes 1 0 ∷ get_or bytes 2 0 ∷ get_or bytes 3 0 ∷ get_or bytes 4 0 ∷ get_or bytes 5 0 ∷ encode_utf8_all rest
+  begun rest = ap (λ l. l ++ (encode_utf8 (0x1161 + vowel) ++ encode_utf8_all rest)) are.first
+      ∙ ap (λ l. get_or bytes 0 0 ∷ get_or bytes 1 0 ∷ get_or bytes 2 0 ∷ (l ++ encode_utf8_all rest)) are.second
+
+  pub front_two : trailing ≡ 0 → take 6 bytes ≡ encode_utf8_all (syllable_parts s)
+  front_two none = take-six bytes are.long ∙ sym (ap encode_utf8_all (parts-lv s front-syllable (trailing-back ∙ none) ∙ both-back []) ∙ begun [])
+
+  pub front_three : trailing ≢ 0 → encode_utf8 (0x11A7 + trailing) ≡ get_or bytes 6 0 ∷ get_or bytes 7 0 ∷ get_or bytes 8 0 ∷ [] → take 9 bytes ≡ encode_utf8_all (syllable_parts s)
+  front_three some third =
+      let parts : syllable_parts s ≡ (0x1100 + lead) ∷ (0x1161 + vowel) ∷ (0x11A7 + trailing) ∷ [] =
+      parts-lvt s front-syllable (λ even. some (sym trailing-back ∙ even)) ∙ both-back ((0x11A7 + (s - 0xAC00) % 28) ∷ [])
+      ∙ ap (λ x. (0x1100 + lead) ∷ (0x1161 + vowel) ∷ (0x11A7 + x) ∷ []) trailing-back in
+      take-nine bytes are.long ∙ sym (ap encode_utf8_all parts ∙ begun ((0x11A7 + trailing) ∷ [])
+      ∙ ap (λ l. get_or bytes 0 0 ∷ get_or bytes 1 0 ∷ get_or bytes 2 0 ∷ get_or bytes 3 0 ∷ get_or bytes 4 0 ∷ get_or bytes 5 0 ∷ (l ++ [])) third)
+
+-- a text that begins with the bytes of its jamo
+pub record BeginsWithJamo (text : List ℕ) (s n : ℕ) : Type 0 where
+  pub syllable : is_syllable s ≡ true
+  pub utf8 : IsUtf8 text
+  pub within : n ≤ length text
+  pub front : take n text ≡ encode_utf8_all (syllable_parts s)
+
+module _ (text : List ℕ) (s n : ℕ) (begins : BeginsWithJamo text s n) where
+  pub jamo-boundary : IsCharBoundary text n
+  jamo-boundary = IsCharBoundary-from_take text n begins.utf8 begins.within (syllable_parts s, (parts-scalars s begins.syllable, sym begins.front))
+
+  pub jamo-chars : chars text ≡ syllable_parts s ++ chars (drop n text)
+  jamo-chars =
+      let parts = syllable_parts s in
+      let scalar_parts = parts-scalars s begins.syllable in
+      let whole : text ≡ encode_utf8_all parts ++ drop n text = sym (take-append-drop n text) ∙ ap (λ l. l ++ drop n text) begins.front in
+      ap chars whole ∙ chars-append (encode_utf8_all parts) (drop n text) (parts, (scalar_parts, refl)) ∙ ap (λ l. l ++ chars (drop n text)) (chars-encodes parts scalar_parts)
 
 -- ---- nothing moves into a syllable's jamo
 
@@ -137,21 +233,7 @@ module _ (v : VersionData) (sound : IsSound v) (on : has_hangul v ≡ true) (for
         made = ap (normal_form v form) is ∙ parts-at v sound form (syllable_parts s) (chars later) at ∙ ap (λ l. l ++ normal_form v form (chars later)) (joins s h);
       }
 
-  pub joined-made : (text one two later : List ℕ) (lead vowel front s : ℕ) → IsUtf8 text → text ≡ encode_utf8 lead ++ one → one ≡ encode_utf8 vowel ++ two → is_syllable lead ≡ false → is_syllable front ≡ true → syllable_pair front ≡ lead ∷ vowel ∷ [] →
-      JoinsTrailing front two s later → BeginsAtBoundary v form (chars later) → IsFirstMade v form text later (s ∷ [])
-  joined-made text one two later lead vowel front s utf8 first second plain h pair joined at =
-      let of_one = IsUtf8-past_char text one lead utf8 first in
-      let of_two = IsUtf8-past_char one two vowel of_one second in
-      let begins : chars text ≡ lead ∷ vowel ∷ chars two = chars_past_char text one lead utf8 first ∙ ap (λ l. lead ∷ l) (chars_past_char one two vowel of_one second) in
-      let short : length two ≤ length text = omega (arith, ap length first, ap length second, length-append (encode_utf8 lead) one, length-append (encode_utf8 vowel) two) in
-      elim joined [
-        | inl alone ↦
-            let same : s ≡ front = alone.0 in
-            let its : later ≡ two = alone.1 in
-            spelled-made text later s (ap is_syllable same ∙ h) (subst IsUtf8 (sym its) of_two) (omega (arith, ap length its, short))
-            (begins ∙ ap (λ l. lead ∷ vowel ∷ chars l) (sym its) ∙ ap (λ l. l ++ chars later) (sym (ap syllable_parts same ∙ syllable_parts-two front lead vowel h pair plain))) at
-        | inr more ↦
-            spelled-made text later s more.2 (IsUtf8-past_char two later more.0 of_two more.1) (omega (arith, ap length more.1, length-append (encode_utf8 more.0) later, short))
-            (begins ∙ ap (λ l. lead ∷ vowel ∷ l) (chars_past_char two later more.0 of_two more.1)
-            ∙ ap (λ l. l ++ chars later) (sym (syllable_parts-three s front more.0 lead vowel more.2 more.3 h pair))) at
-      ]
+  pub front-made : (text later : List ℕ) (s n : ℕ) → BeginsWithJamo text s n → later ≡ drop n text → BeginsAtBoundary v form (chars later) → IsFirstMade v form text later (s ∷ [])
+  front-made text later s n begins back at =
+      spelled-made text later s begins.syllable (subst IsUtf8 (sym back) (IsUtf8-drop text n begins.utf8 (jamo-boundary text s n begins)))
+      (omega (arith, ap length back, length-drop n text)) (jamo-chars text s n begins ∙ ap (λ l. syllable_parts s ++ chars l) (sym back)) at

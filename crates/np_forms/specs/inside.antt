@@ -3,7 +3,6 @@ pub mod Composers
 pub mod Composing
 pub mod Copies
 pub mod Held
-pub mod Joins
 pub mod NormalForms
 pub mod Pieces
 pub mod Running

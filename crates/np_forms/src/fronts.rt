@@ -34,47 +34,8 @@ fn split_spelled<'t, 'a, T: NormTable>(
     Some((bytes, count, later))
 }
 
-/// Appends the form of the syllables at the front of a text, or of those that jamo spell there, and
-/// answers what follows.
-#[inline(always)]
-fn past_syllables<'a, T: NormTable>(
-    table: &T,
-    form: Form,
-    text: &'a str,
-    out: &mut OutText,
-) -> Result<&'a str, Memory>
-    ensures { IfOk result (λ rest. GoesOn (T.model table.now) form text.now rest.now out.old out.new) }
-{
-    if form.composes() {
-        join_syllables(table, form, text, out)
-    } else {
-        write_syllables(table, form, text, out)
-    }
-}
-
-/// Appends the form of the first segment of a text, and answers what follows it. The list is room that
-/// is used again.
-#[inline(always)]
-fn past_segment<'a, T: NormTable>(
-    alloc: Global,
-    table: &T,
-    form: Form,
-    text: &'a str,
-    list: &mut Vec<char>,
-    out: &mut OutText,
-) -> Result<&'a str, Memory>
-    ensures goes { IfOk result (λ rest. GoesOn (T.model table.now) form text.now rest.now out.old out.new) }
-    ensures shorter { IfOk result (λ rest. 0 < length text.now → length rest.now < length text.now) }
-{
-    if form.composes() {
-        write_first(alloc, table, form, text, list, out)
-    } else {
-        write_next(alloc, table, form, text, list, out)
-    }
-}
-
-/// Appends the form of the syllables at the front of a text, or else of its first segment, and
-/// answers what follows.
+/// Appends the form of the syllables at the front of a text, or of those that jamo spell there, or else of
+/// its first segment, and answers what follows. The list is room that is used again.
 fn write_changed<'a, T: NormTable>(
     alloc: Global,
     table: &T,
@@ -86,12 +47,19 @@ fn write_changed<'a, T: NormTable>(
     ensures goes { IfOk result (λ rest. GoesOn (T.model table.now) form text.now rest.now out.old out.new) }
     ensures shorter { IfOk result (λ rest. 0 < length text.now → length rest.now < length text.now) }
 {
-    let after = past_syllables(table, form, text, out)?;
+    let after = if form.composes() {
+        join_syllables(table, form, text, out)?
+    } else {
+        write_syllables(table, form, text, out)?
+    };
     if after.len() < text.len() {
         return Ok(after);
     }
-    let later = past_segment(alloc, table, form, after, list, out)?;
-    Ok(later)
+    if form.composes() {
+        write_first(alloc, table, form, after, list, out)
+    } else {
+        write_next(alloc, table, form, after, list, out)
+    }
 }
 
 /// Appends the form of some front of a text that isn't empty, and answers what follows it. What is

@@ -22,6 +22,7 @@ mod equivalence;
 mod forms;
 mod fronts;
 mod held;
+mod jamo_bytes;
 pub mod laws;
 mod ordering;
 mod out_texts;

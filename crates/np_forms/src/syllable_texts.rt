@@ -4,16 +4,16 @@ ghost use Rattle.std.specs.Prelude.{◌≡◌, ◌+◌, ◌/◌, ◌%◌, ◌<�
 ghost use Rattle.np_code_points.specs.Forms.{composes};
 ghost use Rattle.np_code_points.specs.Hangul.{is_syllable as in_block};
 ghost use Rattle.np_forms.specs.inside.Copies.{GoesOn};
-ghost use Rattle.np_forms.specs.inside.Joins.{JoinsTrailing};
 ghost use Rattle.np_forms.specs.inside.Segments.{IsFirstMade};
 ghost use Rattle.np_forms.specs.inside.Syllables.{syllable_parts};
 ghost use Rattle.np_tables.specs.Versions.{has_hangul};
 
 use crate::copying::begins_at_boundary;
+use crate::jamo_bytes::{THREE_JAMO, jamo_front};
 use crate::out_texts::OutText;
 use crate::utf8_bytes::{last_byte, lead_byte, middle_byte};
 use np_code_points::hangul::{
-    L_BASE, L_COUNT, S_BASE, T_BASE, T_COUNT, V_BASE, V_COUNT, hangul_pair, is_syllable,
+    L_BASE, L_COUNT, S_BASE, T_BASE, T_COUNT, V_BASE, V_COUNT, is_syllable,
 };
 use np_code_points::{Form, Memory};
 use np_tables::NormTable;
@@ -104,25 +104,8 @@ pub(crate) fn write_syllables<'a, T: NormTable>(
     }
 }
 
-/// The syllable that a leading part and what a text begins with make, or the part itself where they
-/// make none, and what follows.
-#[inline(always)]
-fn join_trailing(front: char, text: &str) -> (char, &str)
-    requires { in_block front ≡ true }
-    ensures joined { JoinsTrailing front text.now result.0 result.1.now }
-    ensures syllable { in_block result.0 ≡ true }
-{
-    let mut iter = text.chars();
-    let Some(last) = iter.next() else {
-        return (front, text);
-    };
-    match hangul_pair(front, last) {
-        Some(whole) => (whole, iter.as_str()),
-        None => (front, text),
-    }
-}
-
-/// The syllable whose jamo a text begins with, and what follows them, if a boundary does.
+/// The syllable whose jamo a text begins with, and what follows them, if a boundary does. Where fewer
+/// bytes are left than three jamo have, none is told.
 #[inline(always)]
 fn split_syllable<'a, T: NormTable>(table: &T, form: Form, text: &'a str) -> Option<(char, &'a str)>
     requires on { has_hangul (T.model table.now) ≡ true }
@@ -131,12 +114,13 @@ fn split_syllable<'a, T: NormTable>(table: &T, form: Form, text: &'a str) -> Opt
     ensures shorter { IfSome result (λ cut. length cut.1.now < length text.now) }
 {
     table.meets_conditions();
-    let mut iter = text.chars();
-    let lead = iter.next()?;
-    let vowel = iter.next()?;
-    let front = hangul_pair(lead, vowel)?;
-    let (syllable, later) = join_trailing(front, iter.as_str());
-    if is_syllable(lead as u32) || !begins_at_boundary(table, form, later) {
+    let bytes = text.as_bytes();
+    if bytes.len() < THREE_JAMO {
+        return None;
+    }
+    let (syllable, count) = jamo_front(bytes)?;
+    let (_jamo, later) = text.split_at(count);
+    if !begins_at_boundary(table, form, later) {
         return None;
     }
     Some((syllable, later))

@@ -1,14 +1,35 @@
-use Rattle.std.proofs.Common.{◌++◌, encode_utf8, sym, ap, ◌∙◌}
-use Rattle.std.specs.Str.Iter.{chars_rest}
-use Rattle.np_forms.proofs.SyllableTextLemmas.{joined-made}
+use Rattle.std.proofs.Common.{◌≡◌, ◌≤◌, length, subst, take, encode_utf8_all, arith}
+use Rattle.np_forms.specs.inside.Syllables.{syllable_parts}
+use Rattle.np_forms.proofs.SyllableTextLemmas.{front-made, jamo-boundary}
 use Rattle.np_forms.proofs.syllable_texts.split_syllable.Goals as goal
+
+pub split_at-requires : goal.split_at-requires
+split_at-requires g c =
+    let syllable = c.in_ok-syllable.syllable in
+    let n = c.in_ok-syllable.count in
+    let same = c.as_bytes-bytes.ensures.value in
+    jamo-boundary c.args.text.now syllable n
+    (record {
+      syllable = c.in_ok-syllable.ensures.syllable;
+      utf8 = c.utf8.text;
+      within = subst (λ l. n ≤ length l) same c.in_ok-syllable.ensures.within;
+      front = subst (λ l. take n l ≡ encode_utf8_all (syllable_parts syllable)) same c.in_ok-syllable.ensures.spelled;
+    })
 
 pub returns-clause-made : goal.returns-clause-made
 returns-clause-made g c =
-    joined-made (g.T.NormTable.model c.args.table.now) c.meets_conditions.ensures c.requires.on c.args.form c.requires.form
-    c.args.text.now (chars_rest c.next.new.self) c.as_str.result.now c.join_trailing-syllable.result.1.now
-    c.in_ok-lead.lead c.in_ok-vowel.vowel c.in_ok-front.front c.join_trailing-syllable.result.0 c.utf8.text
-    (sym c.chars-iter.ensures.rest ∙ c.in_ok-lead.ensures.steps.0)
-    (c.in_ok-vowel.ensures.steps.0 ∙ ap (λ l. encode_utf8 c.in_ok-vowel.vowel ++ l) (sym c.as_str.ensures))
-    (sym c.is_syllable.ensures ∙ c.if-is_syllable.false) c.in_ok-front.ensures.some c.in_ok-front.ensures.parts
-    c.join_trailing-syllable.ensures.joined (c.begins_at_boundary.ensures c.if-not-begins_at_boundary.false)
+    let syllable = c.in_ok-syllable.syllable in
+    let n = c.in_ok-syllable.count in
+    let same = c.as_bytes-bytes.ensures.value in
+    front-made (g.T.NormTable.model c.args.table.now) c.meets_conditions.ensures c.requires.on c.args.form c.requires.form
+    c.args.text.now c.split_at.result.1.now syllable n
+    (record {
+      syllable = c.in_ok-syllable.ensures.syllable;
+      utf8 = c.utf8.text;
+      within = subst (λ l. n ≤ length l) same c.in_ok-syllable.ensures.within;
+      front = subst (λ l. take n l ≡ encode_utf8_all (syllable_parts syllable)) same c.in_ok-syllable.ensures.spelled;
+    })
+    c.split_at.ensures.back (c.begins_at_boundary.ensures c.if-not-begins_at_boundary.false)
+
+pub returns-clause-shorter : goal.returns-clause-shorter
+returns-clause-shorter g c = omega (arith, c.in_ok-syllable.ensures.some, c.in_ok-syllable.ensures.within, c.split_at.ensures.back_len)
