@@ -31,6 +31,7 @@ fn append_syllable(list: &mut Vec<char>, c: char) -> Result<bool, Memory>
 }
 
 /// Appends the full decomposition of a code point.
+#[inline(always)]
 pub(crate) fn append<T: NormTable>(
     list: &mut Vec<char>,
     table: &T,
