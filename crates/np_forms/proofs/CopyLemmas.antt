@@ -1,5 +1,5 @@
 -- What stays is copied, and segments are made each for itself.
-use Rattle.std.proofs.Common.{◌≡◌, ◌≢◌, ℕ, ◌-◌, ◌<◌, ◌⊎◌, List, [], ◌∷◌, ◌++◌, length, chars, IsUtf8, encode_utf8, encode_utf8_all, refl, sym, ap, subst, ◌∙◌, arith, inl, inr, append_assoc, append-nil, length-append, take_at, drop_at, Bool, true, false, take, drop, slice_range, IsCharBoundary, flat_map}
+use Rattle.std.proofs.Common.{◌≤◌, ◌≡◌, ◌≢◌, ℕ, ◌-◌, ◌<◌, ◌⊎◌, List, [], ◌∷◌, ◌++◌, length, chars, IsUtf8, encode_utf8, encode_utf8_all, refl, sym, ap, subst, ◌∙◌, arith, inl, inr, append_assoc, append-nil, length-append, take_at, drop_at, Bool, true, false, take, drop, slice_range, IsCharBoundary, flat_map}
 use Rattle.std.proofs.lemmas.List.{append_cancel_right, nil_from_length}
 use Rattle.std.proofs.lemmas.Bool.{cases_lt}
 use Rattle.std.proofs.lemmas.Str.{chars-nil, chars-append, chars_past_char, encodes-append, encodes-chars, IsCharBoundary-at_seam, IsCharBoundary-from_take, IsUtf8-drop}
@@ -106,6 +106,15 @@ module _ (v : VersionData) (sound : IsSound v) (form : Form) (text : List ℕ) (
   pub IsCopied-cut : BeginsAtBoundary v form (chars back) → IsCopied v form text front back
   IsCopied-cut at =
       IsCopied-at v sound form text front back h.front h.end cut-parts (subst IsUtf8 (sym cut-back) h.utf8) cut-front (h.text ∙ ap (λ l. h.front ++ chars l) (sym cut-back)) h.walk at
+
+-- a front that stands as a whole, before a boundary
+pub IsCopied-whole : (v : VersionData) (sound : IsSound v) (form : Form) (text front back : List ℕ) (n : ℕ) (h : AreStanding v form front n) → text ≡ front ++ back → length front ≤ n → IsUtf8 front → IsUtf8 back →
+    BeginsAtBoundary v form (chars back) → IsCopied v form text front back
+IsCopied-whole v sound form text front back n h parts all of_front of_back at =
+    let none : h.back ≡ [] = nil_from_length h.back (omega (arith, all, h.place, ap length h.split, length-append (encode_utf8_all h.front) h.back)) in
+    let spelled : front ≡ encode_utf8_all h.front = h.split ∙ ap (λ l. encode_utf8_all h.front ++ l) none ∙ append-nil _ in
+    let its : chars front ≡ h.front = h.text ∙ ap (λ l. h.front ++ chars l) none ∙ ap (λ l. h.front ++ l) chars-nil ∙ append-nil h.front in
+    IsCopied-at v sound form text front back h.front h.end parts of_back spelled (ap chars parts ∙ chars-append front back of_front ∙ ap (λ l. l ++ chars back) its) h.walk at
 
 some_list : (cs : List ℕ) → (cs ≢ []) → 0 < length cs
 some_list [] h = absurd (h refl)

@@ -3,7 +3,7 @@
 ghost use Rattle.std.specs.Prelude.{◌≡◌, ◌+◌, ◌/◌, ◌%◌, ◌<◌, ◌≤◌, ◌++◌, ◌∷◌, [], true, false, length, encode_utf8_all, IfOk, IfSome, OnOk};
 ghost use Rattle.np_code_points.specs.Forms.{composes};
 ghost use Rattle.np_code_points.specs.Hangul.{is_syllable as in_block};
-ghost use Rattle.np_forms.specs.inside.Copies.{GoesOn};
+ghost use Rattle.np_forms.specs.inside.Copies.{GoesOn, IsCopied};
 ghost use Rattle.np_forms.specs.inside.Segments.{IsFirstMade};
 ghost use Rattle.np_forms.specs.inside.Syllables.{syllable_parts};
 ghost use Rattle.np_tables.specs.Versions.{has_hangul};
@@ -76,8 +76,46 @@ fn push_syllable(out: &mut OutText, c: char) -> Result<(), Memory>
     }
 }
 
-/// Appends the full decompositions of the syllables at the front of a text, where the arithmetic is
-/// on, and answers what follows them.
+/// Cuts off the ASCII character at the front of a text, where it stands in the form as it is and the form
+/// parts behind it; none where the text begins with anything else.
+#[inline(always)]
+fn split_space<'a, T: NormTable>(table: &T, form: Form, text: &'a str) -> Option<(&'a str, &'a str)>
+    ensures { IfSome result (λ cut. IsCopied (T.model table.now) form text.now cut.0.now cut.1.now) }
+{
+    table.meets_conditions();
+    let mut iter = text.chars();
+    let c = iter.next()?;
+    if !c.is_ascii() {
+        return None;
+    }
+    let later = iter.as_str();
+    let space = &text[..text.len() - later.len()];
+    if table.standing(form, space) < space.len() || !begins_at_boundary(table, form, later) {
+        return None;
+    }
+    Some((space, later))
+}
+
+/// Appends the ASCII character at the front of a text, where it stands in the form as it is, and answers
+/// what follows it. So words of syllables go on behind a space.
+#[inline(always)]
+fn write_space<'a, T: NormTable>(
+    table: &T,
+    form: Form,
+    text: &'a str,
+    out: &mut OutText,
+) -> Result<&'a str, Memory>
+    ensures { IfOk result (λ rest. GoesOn (T.model table.now) form text.now rest.now out.old out.new) }
+{
+    let Some((space, later)) = split_space(table, form, text) else {
+        return Ok(text);
+    };
+    out.append_bytes(space.as_bytes())?;
+    Ok(later)
+}
+
+/// Appends the full decompositions of the syllables at the front of a text, of which single ASCII
+/// characters may stand between two, where the arithmetic is on, and answers what follows them.
 pub(crate) fn write_syllables<'a, T: NormTable>(
     table: &T,
     form: Form,
@@ -101,6 +139,7 @@ pub(crate) fn write_syllables<'a, T: NormTable>(
             return Ok(here);
         }
         push_syllable(out, c)?;
+        iter = write_space(table, form, iter.as_str(), out)?.chars();
     }
 }
 
@@ -126,7 +165,8 @@ fn split_syllable<'a, T: NormTable>(table: &T, form: Form, text: &'a str) -> Opt
     Some((syllable, later))
 }
 
-/// Appends the syllables whose jamo stand at the front of a text, and answers what follows them.
+/// Appends the syllables whose jamo stand at the front of a text, of which single ASCII characters may
+/// stand between two, and answers what follows them.
 fn write_joined<'a, T: NormTable>(
     table: &T,
     form: Form,
@@ -143,7 +183,7 @@ fn write_joined<'a, T: NormTable>(
             return Ok(rest);
         };
         out.append_char(syllable)?;
-        rest = later;
+        rest = write_space(table, form, later, out)?;
     }
 }
 

@@ -19,7 +19,7 @@ pub(super) fn repeated(alloc: Global, before: &str, c: char, count: u32) -> Resu
 }
 
 // (text, NFD, NFC)
-const CANONICAL: [(&str, &str, &str); 32] = [
+const CANONICAL: [(&str, &str, &str); 35] = [
     ("", "", ""),
     ("\u{61}\u{302}\u{323}", "\u{61}\u{323}\u{302}", "\u{1EAD}"),
     ("\u{212B}", "\u{41}\u{30A}", "\u{C5}"),
@@ -118,6 +118,22 @@ const CANONICAL: [(&str, &str, &str); 32] = [
         "\u{1112}\u{1161}\u{11AB}",
         "\u{1112}\u{1161}\u{11AB}",
         "\u{D55C}",
+    ),
+    // what stands between syllables, and what composes there
+    (
+        "\u{1112}\u{1161}\u{11AB}\u{66}\u{AC00}",
+        "\u{1112}\u{1161}\u{11AB}\u{66}\u{1100}\u{1161}",
+        "\u{D55C}\u{66}\u{AC00}",
+    ),
+    (
+        "\u{1112}\u{1161}\u{11AB}\u{66}\u{1112}\u{1161}\u{11AB}",
+        "\u{1112}\u{1161}\u{11AB}\u{66}\u{1112}\u{1161}\u{11AB}",
+        "\u{D55C}\u{66}\u{D55C}",
+    ),
+    (
+        "\u{1112}\u{1161}\u{11AB}\u{61}\u{302}\u{D55C}",
+        "\u{1112}\u{1161}\u{11AB}\u{61}\u{302}\u{1112}\u{1161}\u{11AB}",
+        "\u{D55C}\u{E2}\u{D55C}",
     ),
 ];
 
