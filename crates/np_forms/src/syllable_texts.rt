@@ -1,6 +1,6 @@
 //! Hangul syllables by arithmetic, decomposed straight into UTF-8 and made of the jamo that spell them
 //! (The Unicode Standard, section 3.12).
-ghost use Rattle.std.specs.Prelude.{◌≡◌, ◌+◌, ◌/◌, ◌%◌, ◌<◌, ◌≤◌, ◌++◌, ◌∷◌, [], true, false, length, encode_utf8_all, IfOk, IfSome, OnOk};
+ghost use Rattle.std.specs.Prelude.{◌≡◌, ◌+◌, ◌/◌, ◌%◌, ◌<◌, ◌≤◌, ◌++◌, ◌∷◌, [], true, false, length, encode_utf8, encode_utf8_all, IfOk, IfSome, OnOk};
 ghost use Rattle.np_code_points.specs.Forms.{composes};
 ghost use Rattle.np_code_points.specs.Hangul.{is_syllable as in_block};
 ghost use Rattle.np_forms.specs.inside.Copies.{GoesOn, IsCopied};
@@ -13,7 +13,7 @@ use crate::jamo_bytes::{THREE_JAMO, jamo_front};
 use crate::out_texts::OutText;
 use crate::utf8_bytes::{last_byte, lead_byte, middle_byte};
 use np_code_points::hangul::{
-    L_BASE, L_COUNT, S_BASE, T_BASE, T_COUNT, V_BASE, V_COUNT, is_syllable,
+    L_BASE, L_COUNT, S_BASE, S_COUNT, T_BASE, T_COUNT, V_BASE, V_COUNT, is_syllable,
 };
 use np_code_points::{Form, Memory};
 use np_tables::NormTable;
@@ -76,41 +76,72 @@ fn push_syllable(out: &mut OutText, c: char) -> Result<(), Memory>
     }
 }
 
-/// Cuts off the ASCII character at the front of a text, where it stands in the form as it is and the form
-/// parts behind it; none where the text begins with anything else.
+/// Whether a text begins with ASCII. On this no answer depends.
 #[inline(always)]
-fn split_space<'a, T: NormTable>(table: &T, form: Form, text: &'a str) -> Option<(&'a str, &'a str)>
-    ensures { IfSome result (λ cut. IsCopied (T.model table.now) form text.now cut.0.now cut.1.now) }
+fn begins_with_ascii(text: &str) -> bool {
+    match text.as_bytes().first() {
+        Some(byte) => byte.is_ascii(),
+        None => false,
+    }
+}
+
+/// Whether a text begins with one of so many code points from the first of them on. On this no answer
+/// depends.
+#[inline(always)]
+fn begins_among(text: &str, first: u32, count: u32) -> bool {
+    match text.chars().next() {
+        Some(c) => (c as u32).wrapping_sub(first) < count,
+        None => false,
+    }
+}
+
+/// The ASCII character that a text begins with, and what follows it, where it stands in the form as it is
+/// and the form parts behind it. None where what follows begins with none of so many code points: a text
+/// of other words has nothing to go on with.
+#[inline(always)]
+fn split_space<'a, T: NormTable>(
+    table: &T,
+    form: Form,
+    text: &'a str,
+    first: u32,
+    count: u32,
+) -> Option<(char, &'a str)>
+    ensures { IfSome result (λ cut. IsCopied (T.model table.now) form text.now (encode_utf8 cut.0) cut.1.now) }
 {
     table.meets_conditions();
-    let mut iter = text.chars();
-    let c = iter.next()?;
-    if !c.is_ascii() {
+    if !begins_with_ascii(text) {
         return None;
     }
+    let mut iter = text.chars();
+    let c = iter.next()?;
     let later = iter.as_str();
+    if !begins_among(later, first, count) {
+        return None;
+    }
     let space = &text[..text.len() - later.len()];
     if table.standing(form, space) < space.len() || !begins_at_boundary(table, form, later) {
         return None;
     }
-    Some((space, later))
+    Some((c, later))
 }
 
-/// Appends the ASCII character at the front of a text, where it stands in the form as it is, and answers
-/// what follows it. So words of syllables go on behind a space.
+/// Appends the ASCII character at the front of a text, where words go on behind it with one of so many
+/// code points, and answers what follows it.
 #[inline(always)]
 fn write_space<'a, T: NormTable>(
     table: &T,
     form: Form,
     text: &'a str,
+    first: u32,
+    count: u32,
     out: &mut OutText,
 ) -> Result<&'a str, Memory>
     ensures { IfOk result (λ rest. GoesOn (T.model table.now) form text.now rest.now out.old out.new) }
 {
-    let Some((space, later)) = split_space(table, form, text) else {
+    let Some((c, later)) = split_space(table, form, text, first, count) else {
         return Ok(text);
     };
-    out.append_bytes(space.as_bytes())?;
+    out.append_char(c)?;
     Ok(later)
 }
 
@@ -139,7 +170,7 @@ pub(crate) fn write_syllables<'a, T: NormTable>(
             return Ok(here);
         }
         push_syllable(out, c)?;
-        iter = write_space(table, form, iter.as_str(), out)?.chars();
+        iter = write_space(table, form, iter.as_str(), S_BASE, S_COUNT, out)?.chars();
     }
 }
 
@@ -183,16 +214,7 @@ fn write_joined<'a, T: NormTable>(
             return Ok(rest);
         };
         out.append_char(syllable)?;
-        rest = write_space(table, form, later, out)?;
-    }
-}
-
-/// Whether a text begins with a leading consonant. On this no answer depends.
-#[inline(always)]
-fn begins_with_lead(text: &str) -> bool {
-    match text.chars().next() {
-        Some(c) => (c as u32).wrapping_sub(L_BASE) < L_COUNT,
-        None => false,
+        rest = write_space(table, form, later, L_BASE, L_COUNT, out)?;
     }
 }
 
@@ -209,7 +231,7 @@ pub(crate) fn join_syllables<'a, T: NormTable>(
     requires { composes form ≡ true }
     ensures { IfOk result (λ rest. GoesOn (T.model table.now) form text.now rest.now out.old out.new) }
 {
-    if begins_with_lead(text) && table.hangul() {
+    if begins_among(text, L_BASE, L_COUNT) && table.hangul() {
         return write_joined(table, form, text, out);
     }
     Ok(text)

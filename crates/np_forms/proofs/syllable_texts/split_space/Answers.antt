@@ -1,4 +1,5 @@
-use Rattle.std.proofs.Common.{◌≡◌, ◌++◌, encode_utf8, sym, ap, ◌∙◌, arith}
+use Rattle.std.proofs.Common.{◌≡◌, ◌++◌, encode_utf8, sym, ap, subst, ◌∙◌, arith}
+use Rattle.np_forms.specs.inside.Copies.{IsCopied}
 use Rattle.np_forms.proofs.CopyLemmas.{IsCopied-whole, front_of, seam}
 use Rattle.np_forms.proofs.syllable_texts.split_space.Goals as goal
 
@@ -13,6 +14,7 @@ returns g c =
     let space = c.range-space.result.now in
     let parts : text ≡ encode_utf8 c.in_ok-c.c ++ later = sym c.chars-iter.ensures.rest ∙ c.in_ok-c.ensures.steps.0 ∙ ap (λ l. encode_utf8 c.in_ok-c.c ++ l) (sym c.as_str-later.ensures) in
     let is : space ≡ encode_utf8 c.in_ok-c.c = c.range-space.ensures.value ∙ front_of text (encode_utf8 c.in_ok-c.c) later parts in
-    IsCopied-whole (g.T.NormTable.model c.args.table.now) c.meets_conditions.ensures c.args.form text space later c.standing.result c.standing.ensures
+    subst (λ l. IsCopied (g.T.NormTable.model c.args.table.now) c.args.form text l later) is
+    (IsCopied-whole (g.T.NormTable.model c.args.table.now) c.meets_conditions.ensures c.args.form text space later c.standing.result c.standing.ensures
     (parts ∙ ap (λ l. l ++ later) (sym is)) (omega (arith, c.if-standing-space.false)) c.range-space.utf8 c.as_str-later.utf8
-    (c.begins_at_boundary.ensures c.if-not-begins_at_boundary.false)
+    (c.begins_at_boundary.ensures c.if-not-begins_at_boundary.false))
