@@ -66,7 +66,7 @@ impl Fulls {
         })
     }
 
-    /// How many rows there are.
+    /// How many slots there are.
     pub(crate) fn count(&self, compat: bool) -> usize
         ensures { result ≡ length (of_kind compat self.now) }
     {
@@ -77,7 +77,7 @@ impl Fulls {
         }
     }
 
-    /// What is lent for the row at a place, from 0.
+    /// What is lent for a slot, from 0.
     pub(crate) fn lent(&self, at: usize, compat: bool) -> &[char]
         requires { at < length (of_kind compat self.now) }
         ensures { result.now ≡ slice_index_or (of_kind compat self.now) at [] }
