@@ -96,8 +96,8 @@ fn begins_among(text: &str, first: u32, count: u32) -> bool {
 }
 
 /// The ASCII character that a text begins with, and what follows it, where it stands in the form as it is
-/// and the form parts behind it. None where what follows begins with none of so many code points: a text
-/// of other words has nothing to go on with.
+/// and the form parts behind it. None where what follows doesn't begin with one of so many code points
+/// from the first of them on: only words of these go on.
 #[inline(always)]
 fn split_space<'a, T: NormTable>(
     table: &T,
