@@ -1,11 +1,15 @@
 //! Text that comes code point by code point, and its normal form as it becomes ready (The Unicode
 //! Standard, D118 to D121).
-ghost use Rattle.std.specs.Prelude.{◌≡◌, [], length, OnErr, OnOk};
+ghost use Rattle.std.specs.Prelude.{◌≡◌, ◌∷◌, [], true, length, IsTrue, OnErr, OnOk};
+ghost use Rattle.np_forms.specs.Starters.{is_non_starter};
 ghost use Rattle.np_forms.specs.Streams.{IsStreaming, StreamState, TakesIn, Finishes};
+ghost use Rattle.np_tables.specs.Conditions.{IsSound};
+ghost use Rattle.np_tables.specs.inside.FullDecompositions.{full_of};
 
 use crate::decomposing::append;
 use crate::held::{Held, finish, push_all};
 use crate::ordering::are_non_starters;
+use np_code_points::hangul::is_syllable;
 use np_code_points::{Form, Memory};
 use np_tables::NormTable;
 use std::alloc::Global;
@@ -20,6 +24,19 @@ fn copy_to(list: &mut Vec<char>, from: &[char]) -> Result<(), Memory>
     list.clear();
     list.extend_from_slice(from)?;
     Ok(())
+}
+
+/// Whether a code point is a non-starter and its own full decomposition: as most are of a long run.
+#[inline(always)]
+fn is_kept_non_starter<T: NormTable>(table: &T, compat: bool, c: char) -> bool
+    requires { IsSound (T.model table.now) }
+    ensures full { IsTrue result → full_of (T.model table.now) compat c ≡ c ∷ [] }
+    ensures non_starter { IsTrue result → is_non_starter (T.model table.now) c ≡ true }
+{
+    if table.class(c) == 0 || is_syllable(c as u32) {
+        return false;
+    }
+    table.full(c, compat).is_empty()
 }
 
 /// The normal form of a text that comes code point by code point. What is ready is the form of the
@@ -97,9 +114,14 @@ impl<'t, T: NormTable> Stream<'t, T> {
         ensures err { OnErr result (self.new ≡ self.old) }
     {
         self.table.meets_conditions();
+        let compat = self.form.compat();
+        if is_kept_non_starter(self.table, compat, c) {
+            self.held.pending.push(c)?;
+            return Ok(());
+        }
         let hangul = self.table.hangul();
         self.parts.clear();
-        append(&mut self.parts, self.table, hangul, self.form.compat(), c)?;
+        append(&mut self.parts, self.table, hangul, compat, c)?;
         if are_non_starters(self.table, &self.parts) {
             self.held.pending.extend_from_slice(&self.parts)?;
             return Ok(());
