@@ -224,6 +224,12 @@ module _ (v : VersionData) (sound : IsSound v) where
         carries = streams_on form compat e c parts ready pending ready_after pending_after kind comp of_c a;
       }
 
+  -- a code point of non-starters alone is held back
+  pub TakesIn-non_starters : (form : Form) (c : ℕ) {compat : Bool} {parts ready pending pending_after : List ℕ} → compat ≡ is_compat form → parts ≡ full_of v compat c → list_all (is_non_starter v) parts ≡ true → pending ++ parts ≡ pending_after
+      → TakesIn (record { version = v; form = form; ready = ready; pending = pending }) (record { version = v; form = form; ready = ready; pending = pending_after }) c
+  TakesIn-non_starters form c {compat} {parts} {ready} {pending} {pending_after} kind of_c all grown =
+      TakesIn-advances form c kind refl of_c (subst (Advances v (composes form) parts ready pending ready) grown (Advances-non_starters (composes form) ready pending parts all))
+
   -- what the end of the text does
   pub whole_streams : (form : Form) (e : Bool) (pending fed out : List ℕ) → e ≡ composes form → IsStreaming v form fed out pending → IsNormalForm v form fed (out ++ ended v e (canonical_order (class_of v) pending))
   whole_streams form e pending fed out comp s =
