@@ -49,6 +49,7 @@ CALLS = [
     Call("new", "np_tables", "page_table.rt", "Err(Memory)", "a_refused_page_table_"),
     Call("form", "np_forms", "forms.rt", "Err(Memory)", "a_refused_form_"),
     Call("npss", "np_forms", "stabilized.rt", "Err(NpssFault::Memory)", "a_refused_npss_"),
+    Call("into_npss", "np_forms", "stabilized.rt", "Err(NpssFault::Memory)", "a_refused_into_npss_"),
     Call("is_form", "np_forms", "forms.rt", "Err(Memory)", "a_refused_is_form_"),
     Call("is_stream_safe", "np_forms", "stream_safety.rt", "Err(Memory)", "a_refused_is_stream_safe_"),
     Call("equivalent", "np_forms", "equivalence.rt", "Err(Memory)", "a_refused_equivalent_"),

@@ -2,14 +2,17 @@
 use Rattle.std.proofs.Common.{◌≤◌, ◌≡◌, ◌≢◌, ℕ, ◌-◌, ◌<◌, ◌⊎◌, List, [], ◌∷◌, ◌++◌, length, chars, IsUtf8, encode_utf8, encode_utf8_all, refl, sym, ap, subst, ◌∙◌, arith, inl, inr, append_assoc, append-nil, length-append, take_at, drop_at, Bool, true, false, take, drop, slice_range, IsCharBoundary, flat_map}
 use Rattle.std.proofs.lemmas.List.{append_cancel_right, nil_from_length}
 use Rattle.std.proofs.lemmas.Bool.{cases_lt}
-use Rattle.std.proofs.lemmas.Str.{chars-nil, chars-append, chars_past_char, encodes-append, encodes-chars, IsCharBoundary-at_seam, IsCharBoundary-from_take, IsUtf8-drop}
+use Rattle.std.proofs.lemmas.Str.{chars-nil, chars-append, chars_past_char, encodes-append, encodes-chars, IsCharBoundary-at_seam, IsCharBoundary-from_take, IsUtf8-drop, IsUtf8-take}
 use Rattle.np_code_points.specs.declared.forms.Form.{Form}
+use Rattle.np_forms.specs.Assigned.{IsAssigned}
 use Rattle.np_forms.specs.inside.CanonicalOrder.{canonical_order}
 use Rattle.np_forms.specs.inside.Composing.{compose_of}
 use Rattle.np_forms.specs.inside.Copies.{BeginsAtBoundary, IsCopied, IsParted}
 use Rattle.np_forms.specs.inside.NormalForms.{decomposed, ended, normal_form}
+use Rattle.np_forms.specs.inside.Readings.{IsReadAssigned}
 use Rattle.np_forms.proofs.BoundaryLemmas.{normal_form-parts}
 use Rattle.np_forms.proofs.StandingLemmas.{standing_form}
+use Rattle.np_forms.proofs.TextLemmas.{IsReadAssigned-front}
 use Rattle.np_tables.specs.Boundaries.{IsBoundary}
 use Rattle.np_tables.specs.Conditions.{IsSound}
 use Rattle.np_tables.specs.Versions.{VersionData, class_of}
@@ -75,6 +78,10 @@ seam s front back e utf8 =
     let n : length front ≡ length s - length back = omega (arith, ap length e, length-append front back) in
     subst (IsCharBoundary s) n (IsCharBoundary-at_seam s front back e utf8)
 
+pub IsUtf8-front : (s front back : List ℕ) → s ≡ front ++ back → IsUtf8 s → IsUtf8 back → IsUtf8 front
+IsUtf8-front s front back e utf8 of_back =
+    subst IsUtf8 (ap (take (length front)) e ∙ take_at front back (length front) refl) (IsUtf8-take s (length front) utf8 (IsCharBoundary-at_seam s front back e of_back))
+
 pub front_of : (s front back : List ℕ) → s ≡ front ++ back → slice_range s 0 (length s - length back) ≡ front
 front_of s front back e =
     let n : length front ≡ length s - length back - 0 = omega (arith, ap length e, length-append front back) in
@@ -89,6 +96,18 @@ module _ (v : VersionData) (form : Form) (text : List ℕ) (n : ℕ) (h : AreSta
 
   pub cut_at-back : drop n text ≡ h.back
   cut_at-back = ap (drop n) h.split ∙ drop_at (encode_utf8_all h.front) h.back n (sym h.place)
+
+-- where nothing is behind it, the text is its own form
+pub IsCopied-own : (v : VersionData) (form : Form) (text stays behind : List ℕ) → IsCopied v form text stays behind → length behind ≡ 0 → text ≡ encode_utf8_all (normal_form v form (chars text))
+IsCopied-own v form text stays behind copied none =
+    let empty = nil_from_length behind none in
+    let after : encode_utf8_all (normal_form v form (chars behind)) ≡ [] = ap (λ l. encode_utf8_all (normal_form v form l)) (ap chars empty ∙ chars-nil) ∙ ap encode_utf8_all (normal_form-nil v form) in
+    copied.parts ∙ ap (λ l. stays ++ l) (empty ∙ sym after) ∙ sym copied.copied
+
+-- what stands is read, where each code point of it is assigned
+pub IsCopied-read : (v : VersionData) (form : Form) (text stays behind : List ℕ) → IsUtf8 text → IsCopied v form text stays behind → IsAssigned v (chars stays) → IsReadAssigned v text behind
+IsCopied-read v form text stays behind utf8 copied all =
+    IsReadAssigned-front v text stays behind copied.parts (IsUtf8-front text stays behind copied.parts utf8 copied.utf8) copied.utf8 all
 
 -- ---- a text cut behind what stands as it is
 
@@ -133,10 +152,13 @@ module _ (v : VersionData) (form : Form) (text : List ℕ) (n : ℕ) (h : AreSta
   own-text : text ≡ own ++ (part ++ h.back)
   own-text = h.split ∙ ap (λ l. l ++ h.back) (sym (of_front ∙ cut_at-front v form text n h) ∙ e) ∙ append_assoc own part h.back
 
+  pub own-front : take (length own) text ≡ own
+  own-front = ap (take (length own)) own-text ∙ take_at own (part ++ h.back) (length own) refl
+
   pub own-boundary : IsCharBoundary text (length own)
   own-boundary =
       IsCharBoundary-from_take text (length own) utf8 (omega (arith, ap length own-text, length-append own (part ++ h.back)))
-      (subst IsUtf8 (sym (ap (take (length own)) own-text ∙ take_at own (part ++ h.back) (length own) refl)) of_own)
+      (subst IsUtf8 (sym own-front) of_own)
 
   -- the text behind what is cut off
   own-drop : drop (length own) text ≡ part ++ h.back

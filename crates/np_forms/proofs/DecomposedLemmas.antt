@@ -1,5 +1,5 @@
 -- Forms that only decompose, written front by front.
-use Rattle.std.proofs.Common.{◌≡◌, ℕ, true, false, List, [], ◌∷◌, ◌++◌, length, chars, IsUtf8, encode_utf8_all, flat_map, refl, sym, ap, subst, ◌∙◌, arith, inl, inr, append_assoc, length-append}
+use Rattle.std.proofs.Common.{◌≡◌, ℕ, ◌≤◌, true, false, List, [], ◌∷◌, ◌++◌, length, chars, IsUtf8, encode_utf8_all, flat_map, refl, sym, ap, subst, ◌∙◌, arith, inl, inr, append_assoc, length-append}
 use Rattle.std.proofs.lemmas.Grind.{flat_map-append}
 use Rattle.std.proofs.lemmas.Str.{encodes-append}
 use Rattle.np_code_points.specs.Forms.{is_compat, composes}
@@ -70,19 +70,28 @@ module _ (v : VersionData) (sound : IsSound v) (form : Form) (plain : composes f
 
 module _ (v : VersionData) (form : Form) where
   pub goes-start : (text old : List ℕ) → IsUtf8 text → GoesOn v form text text old old
-  goes-start text old utf8 = record { utf8 = utf8; shorter = omega arith; written = refl }
+  goes-start text old utf8 = record { end = record { front = []; parts = refl; utf8 = utf8 }; written = refl }
 
   pub goes-both : (text middle rest old between new : List ℕ) → GoesOn v form text middle old between → GoesOn v form middle rest between new → GoesOn v form text rest old new
   goes-both text middle rest old between new one two =
-      record { utf8 = two.utf8; shorter = (let a = one.shorter in let b = two.shorter in omega arith); written = two.written ∙ one.written }
+      record {
+        end = record {
+          front = one.end.front ++ two.end.front;
+          parts = one.end.parts ∙ ap (λ l. one.end.front ++ l) two.end.parts ∙ sym (append_assoc one.end.front two.end.front rest);
+          utf8 = two.end.utf8;
+        };
+        written = two.written ∙ one.written;
+      }
+
+  pub goes-shorter : (text rest old new : List ℕ) → GoesOn v form text rest old new → length rest ≤ length text
+  goes-shorter text rest old new goes = omega (arith, ap length goes.end.parts, length-append goes.end.front rest)
 
   -- a front that stands in the form as it is
   pub goes-copied : (text stays behind old new : List ℕ) → IsCopied v form text stays behind → new ≡ old ++ stays → GoesOn v form text behind old new
   goes-copied text stays behind old new cut push =
       let after = encode_utf8_all (normal_form v form (chars behind)) in
       record {
-        utf8 = cut.utf8;
-        shorter = omega (arith, ap length cut.parts, length-append stays behind);
+        end = record { front = stays; parts = cut.parts; utf8 = cut.utf8 };
         written = ap (λ l. l ++ after) push ∙ append_assoc old stays after ∙ ap (λ l. old ++ l) (sym cut.copied);
       }
 
@@ -91,8 +100,7 @@ module _ (v : VersionData) (form : Form) where
   goes-made text later made old new first push =
       let after = normal_form v form (chars later) in
       record {
-        utf8 = first.utf8;
-        shorter = first.shorter;
+        end = first.end;
         written = ap (λ l. l ++ encode_utf8_all after) push ∙ append_assoc old (encode_utf8_all made) (encode_utf8_all after)
             ∙ ap (λ l. old ++ l) (sym (encodes-append made after) ∙ ap encode_utf8_all (sym first.made));
       }
@@ -101,4 +109,4 @@ module _ (v : VersionData) (form : Form) where
   pub goes-parted : (text segment later old new : List ℕ) → IsParted v form text segment later → new ≡ old ++ encode_utf8_all (normal_form v form (chars segment)) → GoesOn v form text later old new
   goes-parted text segment later old new cut =
       goes-made text later (normal_form v form (chars segment)) old new
-      (record { utf8 = cut.utf8; shorter = omega (arith, ap length cut.parts, length-append segment later); made = cut.parted })
+      (record { end = record { front = segment; parts = cut.parts; utf8 = cut.utf8 }; made = cut.parted })

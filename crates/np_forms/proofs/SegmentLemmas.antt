@@ -1,8 +1,8 @@
 -- Segments that are composed code point by code point.
-use Rattle.std.proofs.Common.{◌≡◌, ℕ, ◌<◌, ◌≤◌, ◌⊎◌, true, List, [], ◌∷◌, ◌++◌, length, set, chars, IsUtf8, encode_utf8, flat_map, Option, Some, None, refl, sym, ap, subst, ◌∙◌, arith, append_assoc, append-nil, length-append}
+use Rattle.std.proofs.Common.{◌≡◌, ℕ, ◌<◌, ◌≤◌, ◌⊎◌, true, List, [], ◌∷◌, ◌++◌, length, set, chars, IsUtf8, encode_utf8, encode_utf8_all, flat_map, Option, Some, None, refl, sym, ap, subst, ◌∙◌, arith, append_assoc, append-nil}
 use Rattle.std.proofs.lemmas.Grind.{flat_map-append}
 use Rattle.std.proofs.lemmas.List.{nil_from_length}
-use Rattle.std.proofs.lemmas.Str.{chars-nil, chars_past_char, IsUtf8-past_char}
+use Rattle.std.proofs.lemmas.Str.{chars-nil, chars_past_char, encodes-append, IsUtf8-past_char}
 use Rattle.np_code_points.specs.Forms.{is_compat, composes}
 use Rattle.np_code_points.specs.declared.forms.Form.{Form}
 use Rattle.np_forms.specs.Order.{is_ordered}
@@ -75,7 +75,7 @@ module _ (v : VersionData) where
         settled-is_form v form xs done list (is_compat form) true refl (sym on) refl (made ∙ ap (compose_of v) (sym (canonical_order-ordered ccc done ordered)))
 
     pub read-start : (text : List ℕ) → IsUtf8 text → IsReadUpTo v form text text [] None 0 0
-    read-start text utf8 = record { front = []; utf8 = utf8; shorter = omega arith; split = refl; composed = composed-start }
+    read-start text utf8 = record { front = []; utf8 = utf8; bytes = refl; split = refl; composed = composed-start }
 
     pub read-more : (text rest later : List ℕ) (c : ℕ) (list made : List ℕ) (starter starter₂ : Option ℕ) (kept kept₂ read read₂ : ℕ) → rest ≡ encode_utf8 c ++ later → IsReadUpTo v form text rest list starter kept read →
         ((done : List ℕ) → IsComposedOf v done list starter kept read → IsComposedOf v (done ++ full c) made starter₂ kept₂ read₂) → IsReadUpTo v form text later made starter₂ kept₂ read₂
@@ -83,7 +83,8 @@ module _ (v : VersionData) where
         record {
           front = a.front ++ c ∷ [];
           utf8 = IsUtf8-past_char rest later c a.utf8 begins;
-          shorter = omega (arith, a.shorter, ap length begins, length-append (encode_utf8 c) later);
+          bytes = a.bytes ∙ ap (λ l. encode_utf8_all a.front ++ l) begins ∙ sym (append_assoc (encode_utf8_all a.front) (encode_utf8 c) later)
+              ∙ ap (λ l. l ++ later) (ap (λ l. encode_utf8_all a.front ++ l) (sym (append-nil (encode_utf8 c))) ∙ sym (encodes-append a.front (c ∷ [])));
           split = a.split ∙ ap (λ l. a.front ++ l) (chars_past_char rest later c a.utf8 begins) ∙ sym (append_assoc a.front (c ∷ []) (chars later));
           composed = subst (λ l. IsComposedOf v l made starter₂ kept₂ read₂) (ap (λ l. flat_map full a.front ++ l) (sym (append-nil (full c))) ∙ sym (flat_map-append full a.front (c ∷ []))) (step (flat_map full a.front) a.composed);
         }
@@ -92,8 +93,7 @@ module _ (v : VersionData) where
       read-at : BeginsAtBoundary v form (chars rest) → IsFirstMade v form text rest list
       read-at at =
           record {
-            utf8 = a.utf8;
-            shorter = a.shorter;
+            end = record { front = encode_utf8_all a.front; parts = a.bytes; utf8 = a.utf8 };
             made = ap (normal_form v form) a.split ∙ parts-at v sound form a.front (chars rest) at ∙ ap (λ l. l ++ normal_form v form (chars rest)) (sym (made-form on a.front list starter kept read a.composed));
           }
 

@@ -1,5 +1,6 @@
 -- A code point whose form by itself is its full decomposition.
-use Rattle.std.proofs.Common.{◌≡◌, ℕ, ◌<◌, Bool, true, false, suc, List, [], ◌∷◌, ◌++◌, length, chars, All, MatchBool, IsUtf8, encode_utf8, refl, sym, ap, ◌∙◌, arith, append-nil, length-append}
+use Rattle.std.proofs.Common.{Option, None, Some, ◌⊎◌, inl, inr, ◌≡◌, ℕ, ◌<◌, Bool, true, false, suc, List, [], ◌∷◌, ◌++◌, length, chars, All, MatchBool, IsUtf8, encode_utf8, refl, sym, ap, ◌∙◌, arith, append-nil}
+use Rattle.std.specs.Option.{is_some}
 use Rattle.std.proofs.lemmas.Str.{chars_past_char, IsUtf8-past_char}
 use Rattle.np_code_points.specs.Forms.{is_compat, composes}
 use Rattle.np_code_points.specs.declared.forms.Form.{Form}
@@ -16,11 +17,17 @@ use Rattle.np_forms.proofs.OrderLemmas.{canonical_order-ordered}
 use Rattle.np_forms.proofs.SyllableLemmas.{lent_some}
 use Rattle.np_tables.specs.Boundaries.{NeverFalls}
 use Rattle.np_tables.specs.Conditions.{IsSound}
-use Rattle.np_tables.specs.Versions.{VersionData, class_of}
+use Rattle.np_tables.proofs.TableLemmas.{full-none}
+use Rattle.np_tables.specs.Versions.{VersionData, class_of, entry_at, is_assigned}
+use Rattle.np_ucd.specs.Entries.{Entry}
 use Rattle.np_tables.specs.inside.CompositeSearch.{composite}
 use Rattle.np_tables.specs.inside.FullDecompositions.{full_of, table_full}
 use Rattle.np_tables.specs.inside.Spelled.{IsSpelled}
 use Rattle.np_tables.specs.inside.Spellings.{IsApartStarter, IsSettled}
+
+cases_entry : (o : Option Entry) → (o ≡ None) ⊎ ((e : Entry) × (o ≡ Some e))
+cases_entry None = inl refl
+cases_entry (Some e) = inr (e, refl)
 
 module _ (v : VersionData) where
   -- ---- starters that are second parts of nothing
@@ -61,13 +68,21 @@ module _ (v : VersionData) where
         (ap (canonical_order (class_of v)) (append-nil (full_of v (is_compat form) c) ∙ sym (lent_some v (is_compat form) c lent is some)) ∙ canonical_order-ordered (class_of v) lent (settled-ordered (composes form) lent settled))
         ∙ settled-ended (composes form) lent settled
 
+    -- it is assigned
+    pub spelled-assigned : (c : ℕ) (bytes : List ℕ) (count : ℕ) → IsSpelled v form c bytes count → is_assigned v c ≡ true
+    unfolding is_assigned
+    spelled-assigned c bytes count spelled =
+        elim (cases_entry (entry_at v.entries c)) [
+          | inl none ↦ absurd (omega (arith, spelled.some, ap length (full-none v (is_compat form) c none)))
+          | inr some ↦ ap is_some some.1
+        ]
+
     pub first-spelled : (text later : List ℕ) (c : ℕ) → IsUtf8 text → text ≡ encode_utf8 c ++ later → BeginsAtBoundary v form (chars later) → (bytes : List ℕ) (count : ℕ) → IsSpelled v form c bytes count → IsFirstSpelled v form text later bytes count
     first-spelled text later c utf8 begins at bytes count spelled =
         let lent = table_full v (is_compat form) c in
         let made : IsFirstMade v form text later lent =
         record {
-          utf8 = IsUtf8-past_char text later c utf8 begins;
-          shorter = omega (arith, ap length begins, length-append (encode_utf8 c) later);
+          end = record { front = encode_utf8 c; parts = begins; utf8 = IsUtf8-past_char text later c utf8 begins };
           made = ap (normal_form v form) (chars_past_char text later c utf8 begins) ∙ parts-at v sound form (c ∷ []) (chars later) at
               ∙ ap (λ l. l ++ normal_form v form (chars later)) (settled-form c lent refl spelled.some spelled.settled);
         } in

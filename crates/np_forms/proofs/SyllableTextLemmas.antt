@@ -1,8 +1,8 @@
 -- Syllables written as the bytes of their jamo.
-use Rattle.std.proofs.Common.{◌≡◌, ℕ, ◌+◌, ◌-◌, ◌*◌, ◌/◌, ◌%◌, ◌<◌, ◌≤◌, ◌≢◌, true, false, MatchBool, List, [], ◌∷◌, ◌++◌, length, get_or, chars, IsCharBoundary, IsUtf8, encode_utf8_all, drop, encode_utf8, inl, inr, refl, suc, sym, take, ap, subst, ◌∙◌, arith, append-nil, length-append}
+use Rattle.std.proofs.Common.{◌≡◌, ℕ, ◌+◌, ◌-◌, ◌*◌, ◌/◌, ◌%◌, ◌<◌, ◌≤◌, ◌≢◌, true, false, MatchBool, List, [], ◌∷◌, ◌++◌, length, get_or, chars, IsCharBoundary, IsUtf8, encode_utf8_all, drop, encode_utf8, inl, inr, refl, suc, sym, take, ap, subst, ◌∙◌, arith, append-nil}
 use Rattle.std.proofs.lemmas.Bool.{and_from, cases_eq, le-leb, lt-ltb}
 use Rattle.std.proofs.Math.Seq.{take-suc}
-use Rattle.std.proofs.lemmas.List.{length-drop, take-append-drop}
+use Rattle.std.proofs.lemmas.List.{take-append-drop}
 use Rattle.std.proofs.lemmas.Str.{chars-append, chars-encodes, chars_past_char, IsCharBoundary-from_take, IsUtf8-drop, IsUtf8-past_char}
 use Rattle.std.specs.List.{list_all}
 use lib.Utf8.{low_scalar, scalar, scalars}
@@ -10,8 +10,10 @@ use Rattle.np_code_points.specs.Forms.{is_compat, composes}
 use Rattle.np_code_points.specs.Hangul.{is_syllable}
 use Rattle.np_code_points.specs.declared.forms.Form.{Form}
 use Rattle.np_code_points.proofs.HangulLemmas.{among_bounds, pair_of_lv, pair_of_lvt}
+use Rattle.np_forms.specs.Assigned.{IsAssigned}
 use Rattle.np_forms.specs.inside.Copies.{BeginsAtBoundary, GoesOn}
 use Rattle.np_forms.specs.inside.NormalForms.{ended, normal_form}
+use Rattle.np_forms.specs.inside.Readings.{IsReadAssigned}
 use Rattle.np_forms.specs.inside.Segments.{IsFirstMade}
 use Rattle.np_forms.specs.inside.Syllables.{syllable_parts}
 use Rattle.np_forms.proofs.BoundaryLemmas.{ended-folds, is_ordered-never_falls}
@@ -21,13 +23,13 @@ use Rattle.np_forms.proofs.KeptLemmas.{decomposed-final}
 use Rattle.np_forms.proofs.StandingLemmas.{rises_from}
 use Rattle.np_forms.proofs.Utf8Lemmas.{encode_three}
 use Rattle.np_forms.proofs.SyllableLemmas.{full_of-syllable, syllable_parts-two, syllable_parts-three}
-use Rattle.np_tables.proofs.HangulLemmas.{IsJamo, by_arithmetic, leading_jamo, lv_shape, lvt_shape}
+use Rattle.np_tables.proofs.HangulLemmas.{IsJamo, by_arithmetic, leading_jamo, lv_shape, lvt_shape, syllable_hangul}
 use Rattle.np_tables.proofs.MappingLemmas.{IsFullDecomposition-full_of}
 use Rattle.np_tables.proofs.PageHintLemmas.{unfolds}
 use Rattle.np_tables.specs.Boundaries.{FoldsTo}
 use Rattle.np_tables.specs.Conditions.{IsSound}
 use Rattle.np_tables.specs.Mappings.{is_final}
-use Rattle.np_tables.specs.Versions.{VersionData, class_of, has_hangul}
+use Rattle.np_tables.specs.Versions.{VersionData, class_of, has_hangul, is_assigned}
 use Rattle.np_tables.specs.inside.FullDecompositions.{full_of}
 
 -- ---- characters of three bytes
@@ -166,22 +168,62 @@ pub record BeginsWithJamo (text : List ℕ) (s n : ℕ) : Type 0 where
   pub within : n ≤ length text
   pub front : take n text ≡ encode_utf8_all (syllable_parts s)
 
+-- the text as bytes
+pub begins_with_jamo : (text bytes : List ℕ) (s n : ℕ) → bytes ≡ text → IsUtf8 text → is_syllable s ≡ true → n ≤ length bytes → take n bytes ≡ encode_utf8_all (syllable_parts s) → BeginsWithJamo text s n
+begins_with_jamo text bytes s n same utf8 syllable within front =
+    record { syllable = syllable; utf8 = utf8; within = subst (λ l. n ≤ length l) same within; front = subst (λ l. take n l ≡ encode_utf8_all (syllable_parts s)) same front }
+
 module _ (text : List ℕ) (s n : ℕ) (begins : BeginsWithJamo text s n) where
   pub jamo-boundary : IsCharBoundary text n
   jamo-boundary = IsCharBoundary-from_take text n begins.utf8 begins.within (syllable_parts s, (parts-scalars s begins.syllable, sym begins.front))
+
+  pub jamo-bytes : text ≡ encode_utf8_all (syllable_parts s) ++ drop n text
+  jamo-bytes = sym (take-append-drop n text) ∙ ap (λ l. l ++ drop n text) begins.front
 
   pub jamo-chars : chars text ≡ syllable_parts s ++ chars (drop n text)
   jamo-chars =
       let parts = syllable_parts s in
       let scalar_parts = parts-scalars s begins.syllable in
-      let whole : text ≡ encode_utf8_all parts ++ drop n text = sym (take-append-drop n text) ∙ ap (λ l. l ++ drop n text) begins.front in
-      ap chars whole ∙ chars-append (encode_utf8_all parts) (drop n text) (parts, (scalar_parts, refl)) ∙ ap (λ l. l ++ chars (drop n text)) (chars-encodes parts scalar_parts)
+      ap chars jamo-bytes ∙ chars-append (encode_utf8_all parts) (drop n text) (parts, (scalar_parts, refl)) ∙ ap (λ l. l ++ chars (drop n text)) (chars-encodes parts scalar_parts)
 
 -- ---- nothing moves into a syllable's jamo
 
 module _ (v : VersionData) (on : has_hangul v ≡ true) where
   jamo-starter : (c : ℕ) → IsJamo c → class_of v c ≡ 0
   jamo-starter c jamo = (by_arithmetic v on c jamo.hangul).class
+
+  jamo-assigned : (c : ℕ) → IsJamo c → is_assigned v c ≡ true
+  jamo-assigned c jamo = (by_arithmetic v on c jamo.hangul).assigned
+
+  pub syllable-assigned : (s : ℕ) → is_syllable s ≡ true → is_assigned v s ≡ true
+  syllable-assigned s h = (by_arithmetic v on s (syllable_hangul s h)).assigned
+
+  parts-assigned : (s : ℕ) → is_syllable s ≡ true → IsAssigned v (syllable_parts s)
+  parts-assigned s h =
+      let has = is_assigned v in
+      elim (cases_eq ((s - 0xAC00) % 28) 0) [
+        | inl even ↦
+            let lv = lv_shape s h even in
+            ap (list_all has) (syllable_parts-two s lv.leading lv.vowel h lv.pair lv.first.single)
+            ∙ and_from (has lv.leading) (list_all has (lv.vowel ∷ [])) (jamo-assigned lv.leading lv.first) (and_from (has lv.vowel) true (jamo-assigned lv.vowel lv.second) refl)
+        | inr odd ↦
+            let shape = lvt_shape s h odd in
+            let lv = shape.front in
+            ap (list_all has) (syllable_parts-three s shape.base shape.last lv.leading lv.vowel h shape.pair lv.syllable lv.pair)
+            ∙ and_from (has lv.leading) (list_all has (lv.vowel ∷ shape.last ∷ [])) (jamo-assigned lv.leading lv.first)
+            (and_from (has lv.vowel) (list_all has (shape.last ∷ [])) (jamo-assigned lv.vowel lv.second) (and_from (has shape.last) true (jamo-assigned shape.last shape.back) refl))
+      ]
+
+  -- the jamo of a syllable are read
+  pub jamo-read : (text later : List ℕ) (s n : ℕ) → BeginsWithJamo text s n → later ≡ drop n text → IsReadAssigned v text later
+  jamo-read text later s n begins back =
+      record {
+        before = syllable_parts s;
+        bytes = jamo-bytes text s n begins ∙ ap (λ l. encode_utf8_all (syllable_parts s) ++ l) (sym back);
+        text = jamo-chars text s n begins ∙ ap (λ l. syllable_parts s ++ chars l) (sym back);
+        assigned = parts-assigned s begins.syllable;
+        utf8 = subst IsUtf8 (sym back) (IsUtf8-drop text n begins.utf8 (jamo-boundary text s n begins));
+      }
 
   closed-parts : (s : ℕ) → is_syllable s ≡ true → IsClosed (class_of v) (syllable_parts s)
   closed-parts s h =
@@ -203,8 +245,7 @@ module _ (v : VersionData) (on : has_hangul v ≡ true) where
   goes-syllable form sound plain text later s old new utf8 begins h push =
       goes-made v form text later (syllable_parts s) old new
       (record {
-        utf8 = IsUtf8-past_char text later s utf8 begins;
-        shorter = omega (arith, ap length begins, length-append (encode_utf8 s) later);
+        end = record { front = encode_utf8 s; parts = begins; utf8 = IsUtf8-past_char text later s utf8 begins };
         made = ap (normal_form v form) (chars_past_char text later s utf8 begins)
             ∙ form-closed v sound form plain (s ∷ []) (syllable_parts s) (chars later) (append-nil (full_of v (is_compat form) s) ∙ full_of-syllable v (is_compat form) sound on s h) (closed-parts s h);
       })
@@ -225,15 +266,14 @@ module _ (v : VersionData) (sound : IsSound v) (on : has_hangul v ≡ true) (for
       ap (normal_form v form) parts ∙ ap (ended v (composes form)) (decomposed-final v sound compat (is.first ∷ is.rest) final ordered)
       ∙ ended-folds v sound (composes form) is.first is.rest s starter (subst (λ b. MatchBool b (FoldsTo v is.first is.rest s) (is.first ∷ is.rest ≡ s ∷ [])) (sym composing) is.folds)
 
-  spelled-made : (text later : List ℕ) (s : ℕ) → is_syllable s ≡ true → IsUtf8 later → length later ≤ length text → chars text ≡ syllable_parts s ++ chars later → BeginsAtBoundary v form (chars later) → IsFirstMade v form text later (s ∷ [])
-  spelled-made text later s h utf8 shorter is at =
+  spelled-made : (text front later : List ℕ) (s : ℕ) → is_syllable s ≡ true → IsUtf8 later → text ≡ front ++ later → chars text ≡ syllable_parts s ++ chars later → BeginsAtBoundary v form (chars later) → IsFirstMade v form text later (s ∷ [])
+  spelled-made text front later s h utf8 parts is at =
       record {
-        utf8 = utf8;
-        shorter = shorter;
+        end = record { front = front; parts = parts; utf8 = utf8 };
         made = ap (normal_form v form) is ∙ parts-at v sound form (syllable_parts s) (chars later) at ∙ ap (λ l. l ++ normal_form v form (chars later)) (joins s h);
       }
 
   pub front-made : (text later : List ℕ) (s n : ℕ) → BeginsWithJamo text s n → later ≡ drop n text → BeginsAtBoundary v form (chars later) → IsFirstMade v form text later (s ∷ [])
   front-made text later s n begins back at =
-      spelled-made text later s begins.syllable (subst IsUtf8 (sym back) (IsUtf8-drop text n begins.utf8 (jamo-boundary text s n begins)))
-      (omega (arith, ap length back, length-drop n text)) (jamo-chars text s n begins ∙ ap (λ l. syllable_parts s ++ chars l) (sym back)) at
+      spelled-made text (take n text) later s begins.syllable (subst IsUtf8 (sym back) (IsUtf8-drop text n begins.utf8 (jamo-boundary text s n begins)))
+      (sym (take-append-drop n text) ∙ ap (λ l. take n text ++ l) (sym back)) (jamo-chars text s n begins ∙ ap (λ l. syllable_parts s ++ chars l) (sym back)) at

@@ -1,24 +1,63 @@
 -- A text that was read up to some place.
-use Rattle.std.proofs.Common.{◌≡◌, ℕ, ◌-◌, true, false, List, [], ◌∷◌, ◌++◌, length, chars, IsUtf8, encode_utf8, encode_utf8_all, refl, sym, ap, ◌∙◌, arith, append_assoc, append-nil, length-append}
-use Rattle.std.proofs.lemmas.Bool.{and_from}
+use Rattle.std.proofs.Common.{◌≡◌, ℕ, ◌-◌, Bool, true, false, List, [], ◌∷◌, ◌++◌, ◌≤◌, length, take, take_all, chars, IsUtf8, encode_utf8, encode_utf8_all, refl, sym, ap, ◌∙◌, arith, append_assoc, append-nil, length-append}
+use Rattle.std.proofs.lemmas.Bool.{and_from, and_parts}
 use Rattle.std.proofs.lemmas.List.{nil_from_length}
-use Rattle.std.proofs.lemmas.Str.{chars-nil, chars_past_char, encodes-append, IsUtf8-past_char}
+use Rattle.std.proofs.lemmas.Str.{chars-append, chars-nil, chars_past_char, encodes-append, encodes-chars, IsUtf8-past_char}
 use Rattle.std.specs.List.{list_all}
 use Rattle.np_tables.specs.Versions.{VersionData, is_assigned}
 use Rattle.np_forms.specs.Assigned.{IsAssigned, IsFirstUnassigned}
+use Rattle.np_forms.specs.inside.Readings.{IsReadAssigned}
 use Rattle.np_tables.proofs.MappingLemmas.{list_all-append}
 
--- what was read of s is assigned, and `rest` is left
-pub record IsReadTo (v : VersionData) (s rest : List ℕ) : Type 0 where
-  pub before : List ℕ
-  pub bytes : s ≡ encode_utf8_all before ++ rest
-  pub text : chars s ≡ before ++ chars rest
-  pub assigned : IsAssigned v before
-  pub utf8 : IsUtf8 rest
+list_all-front : (p : ℕ → Bool) (xs ys : List ℕ) → list_all p (xs ++ ys) ≡ true → list_all p xs ≡ true
+list_all-front p [] ys all = refl
+list_all-front p (x ∷ xs) ys all = let halves = and_parts (p x) (list_all p (xs ++ ys)) all in and_from _ _ halves.0 (list_all-front p xs ys halves.1)
+
+-- ---- texts in two parts
+
+module _ (v : VersionData) (text front back : List ℕ) (utf8 : IsUtf8 front) (parts : text ≡ front ++ back) where
+  pub assigned-front : IsAssigned v (chars text) → IsAssigned v (chars front)
+  assigned-front all = list_all-front (is_assigned v) (chars front) (chars back) (ap (list_all (is_assigned v)) (sym (chars-append front back utf8) ∙ sym (ap chars parts)) ∙ all)
+
+  pub assigned-both : IsAssigned v (chars front) → IsAssigned v (chars back) → IsAssigned v (chars text)
+  assigned-both one two = ap (list_all (is_assigned v)) (ap chars parts ∙ chars-append front back utf8) ∙ list_all-append (is_assigned v) (chars front) (chars back) one two
+
+-- a code point that is all of a text
+pub assigned-one : (v : VersionData) (text : List ℕ) (n c : ℕ) → IsUtf8 text → text ≡ encode_utf8 c → length text ≤ n → IsAssigned v (chars (take n text)) → is_assigned v c ≡ true
+assigned-one v text n c utf8 is all h =
+    let whole : chars (take n text) ≡ c ∷ [] = ap chars (take_all n text all) ∙ chars_past_char text [] c utf8 (is ∙ sym (append-nil (encode_utf8 c))) ∙ ap (λ l. c ∷ l) chars-nil in
+    (and_parts (is_assigned v c) true (sym (ap (list_all (is_assigned v)) whole) ∙ h)).0
+
+-- ---- texts that were read up to some place
 
 module _ (v : VersionData) where
-  pub IsReadTo-next : (s rest : List ℕ) (c : ℕ) (later : List ℕ) → IsReadTo v s rest → rest ≡ encode_utf8 c ++ later → is_assigned v c ≡ true → IsReadTo v s later
-  IsReadTo-next s rest c later r e has =
+  pub IsReadAssigned-start : (s : List ℕ) → IsUtf8 s → IsReadAssigned v s s
+  IsReadAssigned-start s utf8 = record { before = []; bytes = refl; text = refl; assigned = refl; utf8 = utf8 }
+
+  pub IsReadAssigned-both : (s middle rest : List ℕ) → IsReadAssigned v s middle → IsReadAssigned v middle rest → IsReadAssigned v s rest
+  IsReadAssigned-both s middle rest one two =
+      record {
+        before = one.before ++ two.before;
+        bytes = one.bytes ∙ ap (λ l. encode_utf8_all one.before ++ l) two.bytes ∙ sym (append_assoc (encode_utf8_all one.before) (encode_utf8_all two.before) rest)
+            ∙ ap (λ l. l ++ rest) (sym (encodes-append one.before two.before));
+        text = one.text ∙ ap (λ l. one.before ++ l) two.text ∙ sym (append_assoc one.before two.before (chars rest));
+        assigned = list_all-append (is_assigned v) one.before two.before one.assigned two.assigned;
+        utf8 = two.utf8;
+      }
+
+  -- behind a front that is assigned
+  pub IsReadAssigned-front : (s front rest : List ℕ) → s ≡ front ++ rest → IsUtf8 front → IsUtf8 rest → IsAssigned v (chars front) → IsReadAssigned v s rest
+  IsReadAssigned-front s front rest parts of_front of_rest all =
+      record {
+        before = chars front;
+        bytes = parts ∙ ap (λ l. l ++ rest) (sym (encodes-chars front of_front));
+        text = ap chars parts ∙ chars-append front rest of_front;
+        assigned = all;
+        utf8 = of_rest;
+      }
+
+  pub IsReadAssigned-next : (s rest : List ℕ) (c : ℕ) (later : List ℕ) → IsReadAssigned v s rest → rest ≡ encode_utf8 c ++ later → is_assigned v c ≡ true → IsReadAssigned v s later
+  IsReadAssigned-next s rest c later r e has =
       record {
         before = r.before ++ c ∷ [];
         bytes = r.bytes ∙ ap (λ l. encode_utf8_all r.before ++ l) e ∙ sym (append_assoc (encode_utf8_all r.before) (encode_utf8 c) later)
@@ -28,12 +67,12 @@ module _ (v : VersionData) where
         utf8 = IsUtf8-past_char rest later c r.utf8 e;
       }
 
-  pub IsReadTo-end : (s rest : List ℕ) → IsReadTo v s rest → length rest ≡ 0 → IsAssigned v (chars s)
-  IsReadTo-end s rest r none =
+  pub IsReadAssigned-end : (s rest : List ℕ) → IsReadAssigned v s rest → length rest ≡ 0 → IsAssigned v (chars s)
+  IsReadAssigned-end s rest r none =
       ap (list_all (is_assigned v)) (r.text ∙ ap (λ l. r.before ++ l) (ap chars (nil_from_length rest none) ∙ chars-nil) ∙ append-nil r.before) ∙ r.assigned
 
-  pub IsReadTo-stop : (s rest : List ℕ) (c : ℕ) (later : List ℕ) → IsReadTo v s rest → rest ≡ encode_utf8 c ++ later → is_assigned v c ≡ false → IsFirstUnassigned v (chars s) (length s - length rest) c
-  IsReadTo-stop s rest c later r e lacks =
+  pub IsReadAssigned-stop : (s rest : List ℕ) (c : ℕ) (later : List ℕ) → IsReadAssigned v s rest → rest ≡ encode_utf8 c ++ later → is_assigned v c ≡ false → IsFirstUnassigned v (chars s) (length s - length rest) c
+  IsReadAssigned-stop s rest c later r e lacks =
       record {
         before = r.before;
         after = chars later;

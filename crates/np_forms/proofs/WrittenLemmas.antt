@@ -96,3 +96,11 @@ IsWrittenForm-made v sound form text before after nothing written =
       is = IsNormalForm-normal_form v sound form text;
       bytes_is = written ∙ ap (λ l. l ++ encode_utf8_all (normal_form v form text)) nothing;
     }
+
+-- what the bytes of the function's form write
+module _ (v : VersionData) (sound : IsSound v) (form : Form) (text bytes : List ℕ) (utf8 : IsUtf8 bytes) (written : bytes ≡ encode_utf8_all (normal_form v form text)) where
+  pub made_form : IsNormalForm v form text (chars bytes)
+  made_form = written_form v form text bytes utf8 (IsWrittenForm-made v sound form text [] bytes refl written)
+
+  pub made_chars : chars bytes ≡ normal_form v form text
+  made_chars = written_chars v sound form text bytes utf8 (IsWrittenForm-made v sound form text [] bytes refl written)

@@ -5,6 +5,7 @@ pub mod Copies
 pub mod Held
 pub mod NormalForms
 pub mod Pieces
+pub mod Readings
 pub mod Running
 pub mod Runs
 pub mod Segments

@@ -5,7 +5,8 @@ ghost use Rattle.np_forms.specs.Assigned.{IsAssigned, IsFirstUnassigned};
 use np_tables::NormTable;
 
 /// The first code point that is not assigned, with its byte place, from 0; none where each is
-/// assigned.
+/// assigned. It is called, so that the loop that writes forms, which seldom asks, stays small.
+#[inline(never)]
 pub fn first_lacking<T: NormTable>(table: &T, text: &str) -> Option<(usize, char)>
     ensures none { IfNone result (IsAssigned (T.model table.now) (chars text.now)) }
     ensures some { IfSome result (λ found. IsFirstUnassigned (T.model table.now) (chars text.now) found.0 found.1) }

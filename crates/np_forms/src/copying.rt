@@ -1,9 +1,12 @@
 //! The form of a whole text, in which what stays is copied, and what is left goes segment by segment
 //! through decomposition, ordering and composition (UAX #15, section 9.1).
-ghost use Rattle.std.specs.Prelude.{◌≡◌, ◌<◌, ◌⊎◌, ◌++◌, [], length, chars, encode_utf8_all, IsTrue, IsUtf8, IfOk, OnOk};
-ghost use Rattle.np_forms.specs.inside.Copies.{BeginsAtBoundary, GoesOn, IsCopied, IsParted};
+ghost use Rattle.std.specs.Prelude.{◌≡◌, ◌<◌, ◌⊎◌, ◌++◌, [], false, length, chars, encode_utf8_all, IsTrue, IsUtf8, IfOk, OnOk};
+ghost use Rattle.np_forms.specs.Assigned.{IsAssigned};
+ghost use Rattle.np_forms.specs.inside.Copies.{BeginsAtBoundary, GoesOn, IsCopied, IsEndOf, IsParted};
 ghost use Rattle.np_forms.specs.inside.NormalForms.{normal_form};
+ghost use Rattle.np_forms.specs.inside.Readings.{IsReadAssigned};
 
+use crate::assigned::first_lacking;
 use crate::decomposing::decompose_into;
 use crate::fronts::write_front;
 use crate::held::settle;
@@ -23,18 +26,21 @@ pub(crate) fn begins_at_boundary<T: NormTable>(table: &T, form: Form, text: &str
     }
 }
 
-/// Cuts off the longest front that is known to stand in the form as it is. It is made part of each
-/// loop that calls it, so that what the form asks is looked up once.
+/// Cuts off the longest front that is known to stand in the form as it is; where `assigned` is asked for,
+/// each of its code points is. It is made part of each loop that calls it, so that what the form asks is
+/// looked up once.
 #[inline(always)]
 pub(crate) fn split_standing<'a, T: NormTable>(
     table: &T,
     form: Form,
+    assigned: bool,
     text: &'a str,
 ) -> (&'a str, &'a str)
-    ensures { IsCopied (T.model table.now) form text.now result.0.now result.1.now }
+    ensures copied { IsCopied (T.model table.now) form text.now result.0.now result.1.now }
+    ensures assigned { IsTrue assigned → IsAssigned (T.model table.now) (chars result.0.now) }
 {
     table.meets_conditions();
-    let (front, back) = text.split_at(table.standing(form, text));
+    let (front, back) = text.split_at(table.standing(form, assigned, text));
     if begins_at_boundary(table, form, back) {
         return (front, back);
     }
@@ -149,8 +155,51 @@ pub(crate) fn write_next<'a, T: NormTable>(
     Ok(later)
 }
 
-/// Appends the form of a text: what is known to stay is copied, and each segment of what is left is
-/// made by itself.
+/// Whether the form may go on behind a front. Where assigned code points are asked for, those of the front
+/// that are not known to be are looked up: they stand between `after` and `later`.
+#[inline(always)]
+fn may_go_on<T: NormTable>(table: &T, assigned: bool, after: &str, later: &str) -> bool
+    requires { IsEndOf after.now later.now }
+    ensures read { IsTrue assigned → IsTrue result → IsReadAssigned (T.model table.now) after.now later.now }
+    ensures always { assigned ≡ false → IsTrue result }
+{
+    if !assigned || after.len() == later.len() {
+        return true;
+    }
+    match first_lacking(table, &after[..after.len() - later.len()]) {
+        Some(_lacking) => false,
+        None => true,
+    }
+}
+
+/// Appends the form of a text in one pass: what is known to stay is copied, and each segment of what is
+/// left is made by itself. Where `assigned` is asked for, it tells whether each code point is, and where
+/// one is not, the form may be cut short; most are known to be by what was looked up to write them.
+pub(crate) fn write_fronts<T: NormTable>(
+    alloc: Global,
+    table: &T,
+    form: Form,
+    assigned: bool,
+    text: &str,
+    out: &mut OutText,
+) -> Result<bool, Memory>
+    ensures form { IfOk result (λ all. IsTrue all → out.new ≡ out.old ++ encode_utf8_all (normal_form (T.model table.now) form (chars text.now))) }
+    ensures assigned { IfOk result (λ all. IsTrue assigned → IsTrue all → IsAssigned (T.model table.now) (chars text.now)) }
+    ensures always { IfOk result (λ all. assigned ≡ false → IsTrue all) }
+{
+    let mut list = Vec::new(alloc);
+    let mut rest = text;
+    'fronts: while !rest.is_empty() {
+        let (after, later) = write_front(alloc, table, form, assigned, rest, &mut list, out)?;
+        if !may_go_on(table, assigned, after, later) {
+            return Ok(false);
+        }
+        rest = later;
+    }
+    Ok(true)
+}
+
+/// Appends the form of a text.
 pub(crate) fn write_form<T: NormTable>(
     alloc: Global,
     table: &T,
@@ -160,10 +209,7 @@ pub(crate) fn write_form<T: NormTable>(
 ) -> Result<(), Memory>
     ensures { OnOk result (out.new ≡ out.old ++ encode_utf8_all (normal_form (T.model table.now) form (chars text.now))) }
 {
-    let mut list = Vec::new(alloc);
-    let mut rest = text;
-    'fronts: while !rest.is_empty() {
-        rest = write_front(alloc, table, form, rest, &mut list, out)?;
-    }
+    // where nothing is asked of the code points, none ends it
+    let _all = write_fronts(alloc, table, form, false, text, out)?;
     Ok(())
 }

@@ -92,7 +92,7 @@ pub fn is_form<T: NormTable>(
     let mut left = text.as_bytes();
     let mut rest = text;
     'segments: while !rest.is_empty() {
-        let (stays, after) = split_standing(table, wanted, rest);
+        let (stays, after) = split_standing(table, wanted, false, rest);
         let (segment, later) = split_segment(table, wanted, after);
         let Some(past) = behind(left, stays.as_bytes()) else {
             return Ok(false);

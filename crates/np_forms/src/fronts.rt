@@ -1,7 +1,8 @@
 //! Fronts of a text, one behind the other: what stands in the form is copied, what a table spells and
 //! syllables are written at once, and what is left goes segment by segment.
-ghost use Rattle.std.specs.Prelude.{◌≡◌, ◌<◌, length, true, false, IfOk, IfSome};
-ghost use Rattle.np_forms.specs.inside.Copies.{GoesOn};
+ghost use Rattle.std.specs.Prelude.{◌≡◌, ◌<◌, length, true, false, IfOk, IfSome, IsTrue};
+ghost use Rattle.np_forms.specs.inside.Copies.{GoesOn, IsEndOf};
+ghost use Rattle.np_forms.specs.inside.Readings.{IsReadAssigned};
 ghost use Rattle.np_forms.specs.inside.Segments.{IsFirstSpelled};
 
 use crate::composed_texts::write_first;
@@ -21,6 +22,7 @@ fn split_spelled<'t, 'a, T: NormTable>(
     text: &'a str,
 ) -> Option<(&'t [u8], usize, &'a str)>
     ensures made { IfSome result (λ cut. IsFirstSpelled (T.model table.now) form text.now cut.2.now cut.0.now cut.1) }
+    ensures read { IfSome result (λ cut. IsReadAssigned (T.model table.now) text.now cut.2.now) }
     ensures shorter { IfSome result (λ cut. length cut.2.now < length text.now) }
 {
     table.meets_conditions();
@@ -35,7 +37,8 @@ fn split_spelled<'t, 'a, T: NormTable>(
 }
 
 /// Appends the form of the syllables at the front of a text, or of those that jamo spell there, or else of
-/// its first segment, and answers what follows. The list is room that is used again.
+/// its first segment. Answers what follows the code points that are known to be assigned by that, and
+/// what follows all. The list is room that is used again.
 fn write_changed<'a, T: NormTable>(
     alloc: Global,
     table: &T,
@@ -43,9 +46,11 @@ fn write_changed<'a, T: NormTable>(
     text: &'a str,
     list: &mut Vec<char>,
     out: &mut OutText,
-) -> Result<&'a str, Memory>
-    ensures goes { IfOk result (λ rest. GoesOn (T.model table.now) form text.now rest.now out.old out.new) }
-    ensures shorter { IfOk result (λ rest. 0 < length text.now → length rest.now < length text.now) }
+) -> Result<(&'a str, &'a str), Memory>
+    ensures goes { IfOk result (λ cut. GoesOn (T.model table.now) form text.now cut.1.now out.old out.new) }
+    ensures read { IfOk result (λ cut. IsReadAssigned (T.model table.now) text.now cut.0.now) }
+    ensures end { IfOk result (λ cut. IsEndOf cut.0.now cut.1.now) }
+    ensures shorter { IfOk result (λ cut. 0 < length text.now → length cut.1.now < length text.now) }
 {
     let after = if form.composes() {
         join_syllables(table, form, text, out)?
@@ -53,40 +58,45 @@ fn write_changed<'a, T: NormTable>(
         write_syllables(table, form, text, out)?
     };
     if after.len() < text.len() {
-        return Ok(after);
+        return Ok((after, after));
     }
-    if form.composes() {
-        write_first(alloc, table, form, after, list, out)
+    let later = if form.composes() {
+        write_first(alloc, table, form, after, list, out)?
     } else {
-        write_next(alloc, table, form, after, list, out)
-    }
+        write_next(alloc, table, form, after, list, out)?
+    };
+    Ok((after, later))
 }
 
-/// Appends the form of some front of a text that isn't empty, and answers what follows it. What is
-/// asked of the code point behind what stands is asked before anything is written, and so once.
+/// Appends the form of some front of a text that isn't empty. Answers what follows the code points that
+/// are known to be assigned, where `assigned` asks for them, and what follows the front. What is asked
+/// of the code point behind what stands is asked before anything is written, and so once.
 #[inline(always)]
 pub(crate) fn write_front<'a, T: NormTable>(
     alloc: Global,
     table: &T,
     form: Form,
+    assigned: bool,
     text: &'a str,
     list: &mut Vec<char>,
     out: &mut OutText,
-) -> Result<&'a str, Memory>
+) -> Result<(&'a str, &'a str), Memory>
     requires { 0 < length text.now }
-    ensures goes { IfOk result (λ rest. GoesOn (T.model table.now) form text.now rest.now out.old out.new) }
-    ensures shorter { IfOk result (λ rest. length rest.now < length text.now) }
+    ensures goes { IfOk result (λ cut. GoesOn (T.model table.now) form text.now cut.1.now out.old out.new) }
+    ensures read { IfOk result (λ cut. IsTrue assigned → IsReadAssigned (T.model table.now) text.now cut.0.now) }
+    ensures end { IfOk result (λ cut. IsEndOf cut.0.now cut.1.now) }
+    ensures shorter { IfOk result (λ cut. length cut.1.now < length text.now) }
 {
-    let (stays, behind) = split_standing(table, form, text);
+    let (stays, behind) = split_standing(table, form, assigned, text);
     let spelled = split_spelled(table, form, behind);
     out.append_front(text, stays)?;
     if let Some((bytes, count, later)) = spelled {
         out.append_first(bytes, count)?;
-        return Ok(later);
+        return Ok((later, later));
     }
     if behind.is_empty() {
-        return Ok(behind);
+        return Ok((behind, behind));
     }
-    let later = write_changed(alloc, table, form, behind, list, out)?;
-    Ok(later)
+    let (after, later) = write_changed(alloc, table, form, behind, list, out)?;
+    Ok((after, later))
 }

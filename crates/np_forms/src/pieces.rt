@@ -73,7 +73,7 @@ impl<'a> Pieces<'a> {
         ensures same { OnOk result (left_of (T.model table.now) form self.new ≡ left_of (T.model table.now) form self.old) }
         ensures shorter { OnOk result (0 < length self.old.rest.now → length self.new.rest.now < length self.old.rest.now) }
     {
-        let (stays, after) = split_standing(table, form, self.rest);
+        let (stays, after) = split_standing(table, form, false, self.rest);
         let (segment, later) = split_segment(table, form, after);
         self.taken = 0;
         self.made.clear();

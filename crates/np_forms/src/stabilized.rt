@@ -1,13 +1,15 @@
 //! Stabilized strings (UAX #15, section 12).
-ghost use Rattle.std.specs.Prelude.{◌≡◌, chars, string_bytes, encode_utf8_all, IfOk, IfErr, OnOk};
+ghost use Rattle.std.specs.Prelude.{◌≡◌, ◌++◌, chars, string_bytes, encode_utf8_all, IfOk, IfErr, IfSome, IsTrue, OnOk};
 ghost use Rattle.np_forms.specs.Assigned.{IsAssigned};
 ghost use Rattle.np_forms.specs.Faults.{IsNpssFault};
 ghost use Rattle.np_forms.specs.Forms.{IsNormalForm};
+ghost use Rattle.np_forms.specs.inside.Copies.{IsCopied};
 ghost use Rattle.np_forms.specs.inside.NormalForms.{normal_form};
 
 use crate::assigned::first_lacking;
-use crate::forms::form;
-use np_code_points::Form;
+use crate::copying::{split_standing, write_fronts};
+use crate::out_texts::OutText;
+use np_code_points::{Form, Memory};
 use np_tables::NormTable;
 use std::alloc::Global;
 use thiserror::Error;
@@ -28,12 +30,61 @@ pub enum NpssFault {
     Memory,
 }
 
+/// The form of a text that was cut behind some assigned code points that stand in it; none where one of
+/// the others is not assigned.
+fn assigned_form<T: NormTable>(
+    alloc: Global,
+    table: &T,
+    wanted: Form,
+    text: &str,
+    stays: &str,
+    behind: &str,
+) -> Result<Option<String>, Memory>
+    requires copied { IsCopied (T.model table.now) wanted text.now stays.now behind.now }
+    requires assigned { IsAssigned (T.model table.now) (chars stays.now) }
+    ensures form { IfOk result (λ made. IfSome made (λ t. string_bytes t ≡ encode_utf8_all (normal_form (T.model table.now) wanted (chars text.now)))) }
+    ensures assigned { IfOk result (λ made. IfSome made (λ _. IsAssigned (T.model table.now) (chars text.now))) }
+{
+    let mut out = OutText::with_room(alloc, text.len())?;
+    out.append_front(text, stays)?;
+    if write_fronts(alloc, table, wanted, true, behind, &mut out)? {
+        Ok(Some(out.into_text()))
+    } else {
+        Ok(None)
+    }
+}
+
+/// The stabilized form of a text that was cut behind some assigned code points that stand in it.
+fn stabilize<T: NormTable>(
+    alloc: Global,
+    table: &T,
+    wanted: Form,
+    text: &str,
+    stays: &str,
+    behind: &str,
+) -> Result<String, NpssFault>
+    requires copied { IsCopied (T.model table.now) wanted text.now stays.now behind.now }
+    requires assigned { IsAssigned (T.model table.now) (chars stays.now) }
+    ensures bytes { IfOk result (λ t. string_bytes t ≡ encode_utf8_all (normal_form (T.model table.now) wanted (chars text.now))) }
+    ensures assigned { OnOk result (IsAssigned (T.model table.now) (chars text.now)) }
+    ensures fault { IfErr result (IsNpssFault (T.model table.now) (chars text.now)) }
+{
+    if let Ok(Some(key)) = assigned_form(alloc, table, wanted, text, stays, behind) {
+        return Ok(key);
+    }
+    // either memory ran out, or a code point is not assigned, which takes no memory to tell
+    match first_lacking(table, text) {
+        Some((at, code)) => Err(NpssFault::Unassigned { at, code }),
+        None => Err(NpssFault::Memory),
+    }
+}
+
 /// The stabilized form of a text: its normal form, refused where a code point is not assigned.
 ///
 /// # Errors
 ///
-/// `Unassigned` exactly where a code point is not assigned, decided before memory is taken;
-/// `Memory` where memory ran out.
+/// `Unassigned` exactly where a code point is not assigned, whether or not there is memory; `Memory`
+/// where memory ran out.
 pub fn npss<T: NormTable>(
     alloc: Global,
     table: &T,
@@ -46,11 +97,36 @@ pub fn npss<T: NormTable>(
     ensures assigned { OnOk result (IsAssigned (T.model table.now) (chars text.now)) }
     ensures fault { IfErr result (IsNpssFault (T.model table.now) (chars text.now)) }
 {
-    if let Some((at, code)) = first_lacking(table, text) {
-        return Err(NpssFault::Unassigned { at, code });
+    table.meets_conditions();
+    let (stays, behind) = split_standing(table, wanted, true, text);
+    let key = stabilize(alloc, table, wanted, text, stays, behind)?;
+    Ok(key)
+}
+
+/// The same of a text that is given up. Where it is known to be its own stabilized form, it is answered
+/// itself, and no memory is taken.
+///
+/// # Errors
+///
+/// As `npss`.
+pub fn into_npss<T: NormTable>(
+    alloc: Global,
+    table: &T,
+    wanted: Form,
+    text: String,
+) -> Result<String, NpssFault>
+    ensures normal { IfOk result (λ t. IsNormalForm (T.model table.now) wanted (chars (string_bytes text)) (chars (string_bytes t))) }
+    ensures value { IfOk result (λ t. chars (string_bytes t) ≡ normal_form (T.model table.now) wanted (chars (string_bytes text))) }
+    ensures bytes { IfOk result (λ t. string_bytes t ≡ encode_utf8_all (normal_form (T.model table.now) wanted (chars (string_bytes text)))) }
+    ensures assigned { OnOk result (IsAssigned (T.model table.now) (chars (string_bytes text))) }
+    ensures fault { IfErr result (IsNpssFault (T.model table.now) (chars (string_bytes text))) }
+{
+    table.meets_conditions();
+    let whole = text.as_str();
+    let (stays, behind) = split_standing(table, wanted, true, whole);
+    if behind.is_empty() {
+        return Ok(text);
     }
-    match form(alloc, table, wanted, text) {
-        Ok(t) => Ok(t),
-        Err(_) => Err(NpssFault::Memory),
-    }
+    let key = stabilize(alloc, table, wanted, whole, stays, behind)?;
+    Ok(key)
 }

@@ -4,9 +4,10 @@ ghost use Rattle.std.specs.Prelude.{◌≡◌, ◌+◌, ◌/◌, ◌%◌, ◌<�
 ghost use Rattle.np_code_points.specs.Forms.{composes};
 ghost use Rattle.np_code_points.specs.Hangul.{is_syllable as in_block};
 ghost use Rattle.np_forms.specs.inside.Copies.{GoesOn, IsCopied};
+ghost use Rattle.np_forms.specs.inside.Readings.{IsReadAssigned};
 ghost use Rattle.np_forms.specs.inside.Segments.{IsFirstMade};
 ghost use Rattle.np_forms.specs.inside.Syllables.{syllable_parts};
-ghost use Rattle.np_tables.specs.Versions.{has_hangul};
+ghost use Rattle.np_tables.specs.Versions.{has_hangul, is_assigned};
 
 use crate::copying::begins_at_boundary;
 use crate::jamo_bytes::{THREE_JAMO, jamo_front};
@@ -95,9 +96,9 @@ fn begins_among(text: &str, first: u32, count: u32) -> bool {
     }
 }
 
-/// The ASCII character that a text begins with, and what follows it, where it stands in the form as it is
-/// and the form parts behind it. None where what follows doesn't begin with one of so many code points
-/// from the first of them on: only words of these go on.
+/// The ASCII character that a text begins with, and what follows it, where it is assigned and stands in the
+/// form as it is, and the form parts behind it. None where what follows doesn't begin with one of so many
+/// code points from the first of them on: only words of these go on.
 #[inline(always)]
 fn split_space<'a, T: NormTable>(
     table: &T,
@@ -106,7 +107,8 @@ fn split_space<'a, T: NormTable>(
     first: u32,
     count: u32,
 ) -> Option<(char, &'a str)>
-    ensures { IfSome result (λ cut. IsCopied (T.model table.now) form text.now (encode_utf8 cut.0) cut.1.now) }
+    ensures copied { IfSome result (λ cut. IsCopied (T.model table.now) form text.now (encode_utf8 cut.0) cut.1.now) }
+    ensures assigned { IfSome result (λ cut. is_assigned (T.model table.now) cut.0 ≡ true) }
 {
     table.meets_conditions();
     if !begins_with_ascii(text) {
@@ -119,7 +121,7 @@ fn split_space<'a, T: NormTable>(
         return None;
     }
     let space = &text[..text.len() - later.len()];
-    if table.standing(form, space) < space.len() || !begins_at_boundary(table, form, later) {
+    if table.standing(form, true, space) < space.len() || !begins_at_boundary(table, form, later) {
         return None;
     }
     Some((c, later))
@@ -136,7 +138,8 @@ fn write_space<'a, T: NormTable>(
     count: u32,
     out: &mut OutText,
 ) -> Result<&'a str, Memory>
-    ensures { IfOk result (λ rest. GoesOn (T.model table.now) form text.now rest.now out.old out.new) }
+    ensures goes { IfOk result (λ rest. GoesOn (T.model table.now) form text.now rest.now out.old out.new) }
+    ensures read { IfOk result (λ rest. IsReadAssigned (T.model table.now) text.now rest.now) }
 {
     let Some((c, later)) = split_space(table, form, text, first, count) else {
         return Ok(text);
@@ -154,7 +157,8 @@ pub(crate) fn write_syllables<'a, T: NormTable>(
     out: &mut OutText,
 ) -> Result<&'a str, Memory>
     requires { composes form ≡ false }
-    ensures { IfOk result (λ rest. GoesOn (T.model table.now) form text.now rest.now out.old out.new) }
+    ensures goes { IfOk result (λ rest. GoesOn (T.model table.now) form text.now rest.now out.old out.new) }
+    ensures read { IfOk result (λ rest. IsReadAssigned (T.model table.now) text.now rest.now) }
 {
     table.meets_conditions();
     if !table.hangul() {
@@ -181,6 +185,7 @@ fn split_syllable<'a, T: NormTable>(table: &T, form: Form, text: &'a str) -> Opt
     requires on { has_hangul (T.model table.now) ≡ true }
     requires form { composes form ≡ true }
     ensures made { IfSome result (λ cut. IsFirstMade (T.model table.now) form text.now cut.1.now (cut.0 ∷ [])) }
+    ensures read { IfSome result (λ cut. IsReadAssigned (T.model table.now) text.now cut.1.now) }
     ensures shorter { IfSome result (λ cut. length cut.1.now < length text.now) }
 {
     table.meets_conditions();
@@ -206,7 +211,8 @@ fn write_joined<'a, T: NormTable>(
 ) -> Result<&'a str, Memory>
     requires on { has_hangul (T.model table.now) ≡ true }
     requires form { composes form ≡ true }
-    ensures { IfOk result (λ rest. GoesOn (T.model table.now) form text.now rest.now out.old out.new) }
+    ensures goes { IfOk result (λ rest. GoesOn (T.model table.now) form text.now rest.now out.old out.new) }
+    ensures read { IfOk result (λ rest. IsReadAssigned (T.model table.now) text.now rest.now) }
 {
     let mut rest = text;
     'scan: loop {
@@ -229,7 +235,8 @@ pub(crate) fn join_syllables<'a, T: NormTable>(
     out: &mut OutText,
 ) -> Result<&'a str, Memory>
     requires { composes form ≡ true }
-    ensures { IfOk result (λ rest. GoesOn (T.model table.now) form text.now rest.now out.old out.new) }
+    ensures goes { IfOk result (λ rest. GoesOn (T.model table.now) form text.now rest.now out.old out.new) }
+    ensures read { IfOk result (λ rest. IsReadAssigned (T.model table.now) text.now rest.now) }
 {
     if begins_among(text, L_BASE, L_COUNT) && table.hangul() {
         return write_joined(table, form, text, out);

@@ -8,22 +8,22 @@ use crate::faults::TextFault;
 use crate::texts::{TextJob, made_of_text};
 use np_code_points::Form;
 use np_code_points::watched::Watched;
-use np_forms::{NpssFault, npss};
+use np_forms::{NpssFault, into_npss};
 use np_tables::NormTable;
 use std::alloc::Global;
 use std::io::{Read, Write};
 
-/// The stabilized string of a text.
+/// The stabilized string of a text, which is given up.
 pub(super) fn make_key<T: NormTable>(
     alloc: Global,
     form: Form,
     table: &T,
-    text: &str,
+    text: String,
 ) -> Result<Made, TextFault>
-    ensures key { IfOk result (λ m. IsKey form (T.model table.now) text.now m.is_yes (string_bytes m.text)) }
-    ensures refused { IfErr result (LacksKey (T.model table.now) text.now) }
+    ensures key { IfOk result (λ m. IsKey form (T.model table.now) (string_bytes text) m.is_yes (string_bytes m.text)) }
+    ensures refused { IfErr result (LacksKey (T.model table.now) (string_bytes text)) }
 {
-    match npss(alloc, table, form, text) {
+    match into_npss(alloc, table, form, text) {
         Ok(key) => Ok(Made {
             text: key,
             is_yes: true,

@@ -26,20 +26,20 @@ pub enum TextJob {
     Compare,
 }
 
-/// What a job makes of a text under a table.
+/// What a job makes of a text, which is given up, under a table.
 fn make<T: NormTable>(
     alloc: Global,
     job: TextJob,
     form: Form,
     table: &T,
-    text: &str,
+    text: String,
 ) -> Result<Made, TextFault>
-    ensures made { IfOk result (λ m. Makes job form (T.model table.now) text.now m.is_yes (string_bytes m.text)) }
-    ensures refused { IfErr result (Refuses job (T.model table.now) text.now) }
+    ensures made { IfOk result (λ m. Makes job form (T.model table.now) (string_bytes text) m.is_yes (string_bytes m.text)) }
+    ensures refused { IfErr result (Refuses job (T.model table.now) (string_bytes text)) }
 {
     match job {
         TextJob::Key => make_key(alloc, form, table, text),
-        TextJob::Compare => make_comparison(alloc, form, table, text),
+        TextJob::Compare => make_comparison(alloc, form, table, text.as_str()),
     }
 }
 
@@ -54,14 +54,14 @@ fn read_input<R: Read>(alloc: Global, input: &mut Watched<R>) -> Result<Vec<u8>,
     }
 }
 
-/// The text that the bytes write.
-fn text_in(bytes: &[u8]) -> Result<&str, TextFault>
-    ensures text { IfOk result (λ text. text.now ≡ bytes.now) }
-    ensures valid { IfOk result (λ text. IsUtf8 bytes.now) }
-    ensures refused { IfErr result (IsNoText bytes.now) }
+/// The text that the bytes write, in the same memory.
+fn text_in(bytes: Vec<u8>) -> Result<String, TextFault>
+    ensures text { IfOk result (λ text. string_bytes text ≡ bytes.items) }
+    ensures valid { IfOk result (λ text. IsUtf8 bytes.items) }
+    ensures refused { IfErr result (IsNoText bytes.items) }
 {
-    match text_of(bytes) {
-        Ok(text) => Ok(text),
+    match text_of(bytes.as_slice()) {
+        Ok(_same) => Ok(unsafe { String::from_utf8_unchecked(bytes) }),
         Err(fault) => Err(TextFault::NotUtf8 { at: fault.at }),
     }
 }
@@ -78,7 +78,7 @@ fn made_under<T: NormTable, I: Read>(
     ensures refused { IfErr result (IsTextFault (Refuses job (T.model table.now)) (stream_of I.remaining input.old input.new)) }
 {
     let bytes = read_input(alloc, input)?;
-    let text = text_in(bytes.as_slice())?;
+    let text = text_in(bytes)?;
     make(alloc, job, form, table, text)
 }
 

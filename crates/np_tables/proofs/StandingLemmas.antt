@@ -1,9 +1,10 @@
 -- Runs of code points that may follow one another as they are.
-use Rattle.std.proofs.Common.{◌≡◌, ℕ, ◌-◌, ◌<◌, ◌≤◌, Bool, true, false, ◌&&◌, suc, List, [], ◌∷◌, ◌++◌, length, get_or, take, drop, chars, IsUtf8, encode_utf8, encode_utf8_all, All, sym, ap, subst, ◌∙◌, arith, append_assoc, append-nil, length-append, refl, inl, inr}
+use Rattle.std.proofs.Common.{◌≡◌, ℕ, ◌-◌, ◌<◌, ◌≤◌, Bool, true, false, ◌&&◌, suc, List, [], ◌∷◌, ◌++◌, length, get_or, take, drop, take_at, chars, IsUtf8, encode_utf8, encode_utf8_all, All, sym, ap, subst, ◌∙◌, arith, append_assoc, append-nil, length-append, refl, inl, inr}
+use Rattle.std.specs.List.{list_all}
 use Rattle.std.specs.Str.{IsAscii, IsCharBoundary}
-use Rattle.std.proofs.lemmas.Bool.{and_parts, cases_Bool, cond-false, or_from}
+use Rattle.std.proofs.lemmas.Bool.{and_from, and_parts, cases_Bool, cond-false, or_from}
 use Rattle.std.proofs.lemmas.List.{get_or_default, get_or-map, take-append-drop}
-use Rattle.std.proofs.lemmas.Str.{chars-append, chars-IsAscii, chars_past_char, encodes-append, encodes-IsAscii, IsCharBoundary-from_take, IsUtf8-drop, IsUtf8-from_ascii, IsUtf8-past_char}
+use Rattle.std.proofs.lemmas.Str.{chars-append, chars_from_encodes, chars-IsAscii, chars_past_char, encodes-append, encodes-IsAscii, IsCharBoundary-at_seam, IsCharBoundary-from_take, IsUtf8-drop, IsUtf8-take, IsUtf8-from_ascii, IsUtf8-past_char}
 use Rattle.np_code_points.specs.Hangul.{is_syllable}
 use Rattle.np_code_points.specs.declared.forms.Form.{Form}
 use Rattle.np_code_points.specs.declared.forms.Form.TheVariants.{Nfd, Nfc, Nfkd, Nfkc}
@@ -12,17 +13,17 @@ use Rattle.np_tables.specs.Boundaries.{IsBoundary, Stays}
 use Rattle.np_tables.specs.Conditions.{IsSound}
 use Rattle.np_tables.specs.Mappings.{is_final}
 use Rattle.np_tables.specs.Standing.{AreStanding, MayFollow, StaysUpTo, Walks}
-use Rattle.np_tables.specs.Versions.{VersionData, class_of, has_hangul}
+use Rattle.np_tables.specs.Versions.{VersionData, class_of, has_hangul, is_assigned}
 use Rattle.np_tables.specs.declared.page_words.Word.{Word}
 use Rattle.np_tables.specs.inside.FullDecompositions.{full_of, table_full}
 use Rattle.np_tables.specs.inside.FullLists.{FullLists, of_kind}
 use Rattle.np_tables.specs.inside.Pages.{word_place}
 use Rattle.np_tables.specs.inside.PageWords.{AreFollowing, ArePages, Follows, IsAsciiStaying, IsPast, no_word}
-use Rattle.np_tables.specs.inside.PageHints.{decomposing}
+use Rattle.np_tables.specs.inside.PageHints.{decomposing, has_bit, stays_place}
 use Rattle.np_tables.specs.inside.Steps.{all_steps, step_in, step_of, steps_of}
 use Rattle.np_tables.proofs.HangulLemmas.{by_arithmetic, syllable_hangul}
 use Rattle.np_tables.proofs.MappingLemmas.{full_of-only, full_of-some}
-use Rattle.np_tables.proofs.StepLemmas.{own_under, place-within, step_at, step_inert, step_own, step_stays}
+use Rattle.np_tables.proofs.StepLemmas.{own_under, place-within, step_assigned, step_at, step_low, step_own, step_stays}
 use Rattle.np_tables.proofs.WalkLemmas.{Walks-append, Walks-weaker}
 
 -- ---- ASCII stands for itself
@@ -85,13 +86,13 @@ module _ (Step : ℕ → ℕ → ℕ → Type 0) where
       }
 
 -- ASCII that stays leads from any class to 0
-pub ascii_follows : (blocks steps : List ℕ) (form : Form) → IsAsciiStaying blocks steps → (last c : ℕ) → c < 128 → Follows blocks steps form last c 0
-ascii_follows blocks steps form ascii last c lt =
+pub ascii_follows : (least : ℕ) (blocks steps : List ℕ) (form : Form) → least ≤ 255 → IsAsciiStaying blocks steps → (last c : ℕ) → c < 128 → Follows least blocks steps form last c 0
+ascii_follows least blocks steps form le ascii last c lt =
     let whole : step_in form (get_or steps (word_place blocks c) 0) ≡ 255 = ap (step_in form) (ascii c lt) ∙ own_under form in
-    (omega arith, inl (omega (arith, whole), inr whole))
+    (omega arith, omega (arith, whole, le), inl (omega (arith, whole), inr whole))
 
-pub following-stop : (blocks steps : List ℕ) (form : Form) (s rest : List ℕ) (last n : ℕ) → IsWalkedTo (Follows blocks steps form) s rest last → n ≡ length s - length rest → AreFollowing blocks steps form s n
-following-stop blocks steps form s rest last n r is =
+pub following-stop : (least : ℕ) (blocks steps : List ℕ) (form : Form) (s rest : List ℕ) (last n : ℕ) → IsWalkedTo (Follows least blocks steps form) s rest last → n ≡ length s - length rest → AreFollowing least blocks steps form s n
+following-stop least blocks steps form s rest last n r is =
     record {
       front = r.before;
       back = rest;
@@ -154,12 +155,12 @@ module _ (v u : VersionData) (same : u ≡ v) (lists : FullLists) (blocks : List
       ap (λ l. step_in form (get_or l (word_place blocks c) 0)) are_steps
       ∙ ap (step_in form) (get_or-map steps_of words (word_place blocks c) no_word 0 (place-within blocks (length words) pages.within c lt)) ∙ step_at form _
 
-  step_follows : (last c n : ℕ) → Follows blocks steps form last c n → MayFollow u form last c n
-  step_follows last c n h =
+  step_follows : (least last c n : ℕ) → Follows least blocks steps form last c n → MayFollow u form last c n
+  step_follows least last c n h =
       let w = get_or words (word_place blocks c) no_word in
       let word = pages.each c h.0 in
       let read = step_read c h.0 in
-      elim h.1 [
+      elim h.2 [
         | inl stays ↦
             let bit = step_stays form w (omega (arith, read, stays.0)) in
             let itself = word.hints.stays form bit in
@@ -169,22 +170,43 @@ module _ (v u : VersionData) (same : u ≡ v) (lists : FullLists) (blocks : List
             ]
         | inr goes ↦
             let compat = is_compat form in
-            let inert = step_inert form w (omega (arith, read, goes.0)) (omega (arith, read, goes.1)) in
-            let non_starter : 0 < class_of u c = omega (arith, word.class, inert.0, read, goes.0) in
-            let none = sym (word.slot.lent compat) ∙ ap (λ k. get_or (of_kind compat lists) k []) inert.1 ∙ pages.none compat in
-            inr (
-              record {
-                non_starter = non_starter;
-                unmapped = final-lent u compat c none (plain_non_starter u c non_starter);
-                apart = λ on. word.apart (inert.2 on);
-              },
-              goes.2 ∙ read ∙ sym inert.0 ∙ word.class,
-              goes.3,
-            )
+            elim (step_low form w (omega (arith, read, goes.0)) (omega (arith, read, goes.1))) [
+              | inl own ↦
+                  let bits = and_parts (has_bit w.hints (stays_place form)) (has_bit w.hints (stays_place (decomposing compat))) own in
+                  inl (up_to-own u pages.sound form c n (word.hints.stays (decomposing compat) bits.1) (word.hints.stays form bits.0))
+              | inr inert ↦
+                  let non_starter : 0 < class_of u c = omega (arith, word.class, inert.0, read, goes.0) in
+                  let none = sym (word.slot.lent compat) ∙ ap (λ k. get_or (of_kind compat lists) k []) inert.1 ∙ pages.none compat in
+                  inr (
+                    record {
+                      non_starter = non_starter;
+                      unmapped = final-lent u compat c none (plain_non_starter u c non_starter);
+                      apart = λ on. word.apart (inert.2 on);
+                    },
+                    goes.2 ∙ read ∙ sym inert.0 ∙ word.class,
+                    goes.3,
+                  )
+            ]
       ]
 
-  pub following-standing : (text : List ℕ) (n : ℕ) → AreFollowing blocks steps form text n → AreStanding v form text n
-  following-standing text n are =
+  -- above the least step of what is not assigned each is
+  walk-assigned : (least last end : ℕ) (cs : List ℕ) → 2 ≤ least → Walks (Follows least blocks steps form) last cs end → list_all (is_assigned u) cs ≡ true
+  walk-assigned least last end [] two walk = refl
+  walk-assigned least last end (c ∷ cs) two walk =
+      let h = walk.1 in
+      let w = get_or words (word_place blocks c) no_word in
+      and_from (is_assigned u c) (list_all (is_assigned u) cs) (sym (pages.each c h.0).assigned ∙ step_assigned form w (omega (arith, two, h.1, step_read c h.0))) (walk-assigned least walk.0 end cs two walk.2)
+
+  pub following-assigned : (least : ℕ) (text : List ℕ) (n : ℕ) → 2 ≤ least → IsUtf8 text → AreFollowing least blocks steps form text n → list_all (is_assigned v) (chars (take n text)) ≡ true
+  following-assigned least text n two utf8 are =
+      let front = encode_utf8_all are.front in
+      let at : IsCharBoundary text n = subst (IsCharBoundary text) (sym are.place) (IsCharBoundary-at_seam text front are.back are.split are.utf8) in
+      let spelled : front ≡ take n text = sym (ap (take n) are.split ∙ take_at front are.back n (sym are.place)) in
+      let its : are.front ≡ chars (take n text) = chars_from_encodes are.front (take n text) (IsUtf8-take text n utf8 at) spelled in
+      subst (λ x. list_all (is_assigned x) (chars (take n text)) ≡ true) same (ap (list_all (is_assigned u)) (sym its) ∙ walk-assigned least 0 are.end are.front two are.walk)
+
+  pub following-standing : (least : ℕ) (text : List ℕ) (n : ℕ) → AreFollowing least blocks steps form text n → AreStanding v form text n
+  following-standing least text n are =
       record {
         front = are.front;
         back = are.back;
@@ -192,6 +214,6 @@ module _ (v u : VersionData) (same : u ≡ v) (lists : FullLists) (blocks : List
         split = are.split;
         text = are.text;
         utf8 = are.utf8;
-        walk = subst (λ x. Walks (MayFollow x form) 0 are.front are.end) same (Walks-weaker (Follows blocks steps form) (MayFollow u form) step_follows 0 are.end are.front are.walk);
+        walk = subst (λ x. Walks (MayFollow x form) 0 are.front are.end) same (Walks-weaker (Follows least blocks steps form) (MayFollow u form) (step_follows least) 0 are.end are.front are.walk);
         place = are.place;
       }

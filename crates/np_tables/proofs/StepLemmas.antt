@@ -8,7 +8,7 @@ use Rattle.np_tables.specs.declared.page_words.Word.{Word}
 use Rattle.np_tables.specs.inside.PageHints.{decomposing, has_bit, stays_place}
 use Rattle.np_tables.specs.inside.PageWords.{StepFollows}
 use Rattle.np_tables.specs.inside.Pages.{AreWithin, word_place}
-use Rattle.np_tables.specs.inside.Steps.{low_behind, step_in, step_of, steps_of}
+use Rattle.np_tables.specs.inside.Steps.{assigned_step, is_own, low_behind, step_in, step_of, steps_of}
 
 pub own_under : (form : Form) → step_in form 0xFFFFFFFF ≡ 255
 own_under Nfd = refl
@@ -21,14 +21,16 @@ apart_where true composing h on = refl
 apart_where false true h on = h
 apart_where false false h on = on
 
+-- ---- of what is assigned
+
 -- what it was made of
 abbrev Cases : Form → Word → Type 0
 Cases form w =
-    ((has_bit w.hints (stays_place form) ≡ true) × (((has_bit w.hints (stays_place (decomposing (is_compat form))) ≡ true) × (step_of form w ≡ 255)) ⊎ (step_of form w ≡ 254)))
-    ⊎ (((w.class < 254) × (w.fulls ≡ 0) × (composes form ≡ true → w.apart ≡ true) × (step_of form w ≡ w.class)) ⊎ (step_of form w ≡ 0))
+    ((has_bit w.hints (stays_place form) ≡ true) × (((has_bit w.hints (stays_place (decomposing (is_compat form))) ≡ true) × (assigned_step form w ≡ 255)) ⊎ (assigned_step form w ≡ 254)))
+    ⊎ (((w.class < 254) × (w.fulls ≡ 0) × (composes form ≡ true → w.apart ≡ true) × (assigned_step form w ≡ w.class)) ⊎ (assigned_step form w ≡ 0))
 
 cases : (form : Form) (w : Word) → Cases form w
-unfolding step_of
+unfolding assigned_step
 cases form w =
     elim (cases_Bool (has_bit w.hints (stays_place form))) [
       | inl stays ↦ elim (cases_Bool (has_bit w.hints (stays_place (decomposing (is_compat form))))) [
@@ -44,24 +46,70 @@ cases form w =
       ]
     ]
 
-pub step_le : (form : Form) (w : Word) → step_of form w ≤ 255
-step_le form w = elim (cases form w) [ inl stays ↦ elim stays.1 [ inl own ↦ omega (arith, own.1) | inr other ↦ omega (arith, other) ] | inr moves ↦ elim moves [ inl inert ↦ omega (arith, inert.0, inert.3) | inr none ↦ omega (arith, none) ] ]
+assigned_le : (form : Form) (w : Word) → assigned_step form w ≤ 255
+assigned_le form w = elim (cases form w) [ inl stays ↦ elim stays.1 [ inl own ↦ omega (arith, own.1) | inr other ↦ omega (arith, other) ] | inr moves ↦ elim moves [ inl inert ↦ omega (arith, inert.0, inert.3) | inr none ↦ omega (arith, none) ] ]
 
-pub step_stays : (form : Form) (w : Word) → 254 ≤ step_of form w → has_bit w.hints (stays_place form) ≡ true
-step_stays form w h = elim (cases form w) [ inl stays ↦ stays.0 | inr moves ↦ elim moves [ inl inert ↦ absurd (omega (arith, h, inert.0, inert.3)) | inr none ↦ absurd (omega (arith, h, none)) ] ]
+assigned_stays : (form : Form) (w : Word) → 254 ≤ assigned_step form w → has_bit w.hints (stays_place form) ≡ true
+assigned_stays form w h = elim (cases form w) [ inl stays ↦ stays.0 | inr moves ↦ elim moves [ inl inert ↦ absurd (omega (arith, h, inert.0, inert.3)) | inr none ↦ absurd (omega (arith, h, none)) ] ]
 
-pub step_own : (form : Form) (w : Word) → step_of form w ≡ 255 → has_bit w.hints (stays_place (decomposing (is_compat form))) ≡ true
-step_own form w h =
+assigned_own : (form : Form) (w : Word) → assigned_step form w ≡ 255 → has_bit w.hints (stays_place (decomposing (is_compat form))) ≡ true
+assigned_own form w h =
     elim (cases form w) [
       | inl stays ↦ elim stays.1 [ inl own ↦ own.0 | inr other ↦ absurd (omega (arith, h, other)) ]
       | inr moves ↦ elim moves [ inl inert ↦ absurd (omega (arith, h, inert.0, inert.3)) | inr none ↦ absurd (omega (arith, h, none)) ]
     ]
 
-pub step_inert : (form : Form) (w : Word) → 0 < step_of form w → step_of form w < 254 → (w.class ≡ step_of form w) × (w.fulls ≡ 0) × (composes form ≡ true → w.apart ≡ true)
-step_inert form w some low =
+assigned_inert : (form : Form) (w : Word) → 0 < assigned_step form w → assigned_step form w < 254 → (w.class ≡ assigned_step form w) × (w.fulls ≡ 0) × (composes form ≡ true → w.apart ≡ true)
+assigned_inert form w some low =
     elim (cases form w) [
       | inl stays ↦ elim stays.1 [ inl own ↦ absurd (omega (arith, low, own.1)) | inr other ↦ absurd (omega (arith, low, other)) ]
       | inr moves ↦ elim moves [ inl inert ↦ (sym inert.3, inert.1, inert.2) | inr none ↦ absurd (omega (arith, some, none)) ]
+    ]
+
+-- ---- of any
+
+-- what it was made of
+abbrev Whole : Form → Word → Type 0
+Whole form w = ((w.assigned ≡ true) × (step_of form w ≡ assigned_step form w)) ⊎ (((is_own form w ≡ true) × (step_of form w ≡ 1)) ⊎ (step_of form w ≡ 0))
+
+whole : (form : Form) (w : Word) → Whole form w
+unfolding step_of
+whole form w =
+    elim (cases_Bool w.assigned) [
+      | inl on ↦ inl (on, cond-true _ _ _ on)
+      | inr off ↦ elim (cases_Bool (is_own form w)) [
+        | inl own ↦ inr (inl (own, cond-false _ _ _ off ∙ cond-true _ _ _ own))
+        | inr other ↦ inr (inr (cond-false _ _ _ off ∙ cond-false _ _ _ other))
+      ]
+    ]
+
+pub step_le : (form : Form) (w : Word) → step_of form w ≤ 255
+step_le form w = elim (whole form w) [ inl on ↦ omega (arith, on.1, assigned_le form w) | inr off ↦ elim off [ inl own ↦ omega (arith, own.1) | inr none ↦ omega (arith, none) ] ]
+
+-- above 1 it is assigned
+pub step_assigned : (form : Form) (w : Word) → 2 ≤ step_of form w → w.assigned ≡ true
+step_assigned form w h = elim (whole form w) [ inl on ↦ on.0 | inr off ↦ elim off [ inl own ↦ absurd (omega (arith, h, own.1)) | inr none ↦ absurd (omega (arith, h, none)) ] ]
+
+pub step_stays : (form : Form) (w : Word) → 254 ≤ step_of form w → has_bit w.hints (stays_place form) ≡ true
+step_stays form w h =
+    elim (whole form w) [
+      | inl on ↦ assigned_stays form w (omega (arith, h, on.1))
+      | inr off ↦ elim off [ inl own ↦ absurd (omega (arith, h, own.1)) | inr none ↦ absurd (omega (arith, h, none)) ]
+    ]
+
+pub step_own : (form : Form) (w : Word) → step_of form w ≡ 255 → has_bit w.hints (stays_place (decomposing (is_compat form))) ≡ true
+step_own form w h =
+    elim (whole form w) [
+      | inl on ↦ assigned_own form w (sym on.1 ∙ h)
+      | inr off ↦ elim off [ inl own ↦ absurd (omega (arith, h, own.1)) | inr none ↦ absurd (omega (arith, h, none)) ]
+    ]
+
+-- an inert non-starter, or what is not assigned
+pub step_low : (form : Form) (w : Word) → 0 < step_of form w → step_of form w < 254 → (is_own form w ≡ true) ⊎ ((w.class ≡ step_of form w) × (w.fulls ≡ 0) × (composes form ≡ true → w.apart ≡ true))
+step_low form w some low =
+    elim (whole form w) [
+      | inl on ↦ (let inert = assigned_inert form w (omega (arith, some, on.1)) (omega (arith, low, on.1)) in inr (inert.0 ∙ sym on.1, inert.1, inert.2))
+      | inr off ↦ elim off [ inl own ↦ inl own.0 | inr none ↦ absurd (omega (arith, some, none)) ]
     ]
 
 -- each form's own step
@@ -79,15 +127,15 @@ own_bit Nfc = refl
 own_bit Nfkd = refl
 own_bit Nfkc = refl
 
-step_of-own : (form : Form) (w : Word) → w.hints ≡ 255 → step_of form w ≡ 255
-unfolding step_of
-step_of-own form w all =
-    cond-true _ _ _ (ap (λ h. has_bit h (stays_place form)) all ∙ own_bit form)
+step_of-own : (form : Form) (w : Word) → w.assigned ≡ true → w.hints ≡ 255 → step_of form w ≡ 255
+unfolding step_of assigned_step
+step_of-own form w on all =
+    cond-true _ _ _ on ∙ cond-true _ _ _ (ap (λ h. has_bit h (stays_place form)) all ∙ own_bit form)
     ∙ cond-true _ _ _ (ap (λ h. has_bit h (stays_place (decomposing (is_compat form)))) all ∙ own_bit (decomposing (is_compat form)))
 
-pub steps_of-own : (w : Word) → w.hints ≡ 255 → steps_of w ≡ 0xFFFFFFFF
+pub steps_of-own : (w : Word) → w.assigned ≡ true → w.hints ≡ 255 → steps_of w ≡ 0xFFFFFFFF
 unfolding steps_of
-steps_of-own w all = omega (arith, step_of-own Nfd w all, step_of-own Nfc w all, step_of-own Nfkd w all, step_of-own Nfkc w all)
+steps_of-own w on all = omega (arith, step_of-own Nfd w on all, step_of-own Nfc w on all, step_of-own Nfkd w on all, step_of-own Nfkc w on all)
 
 -- the step of a code point stands within
 pub place-within : (blocks : List ℕ) (words : ℕ) → AreWithin 4352 blocks words → (c : ℕ) → c < 0x110000 → word_place blocks c < words
@@ -97,16 +145,16 @@ place-within blocks words within c lt = omega (arith, lt, within.each (c / 256) 
 -- ---- the least step that may follow
 
 -- a step that is no less leads to a class that is no greater than the next least step
-pub step_onward : (step low last : ℕ) → last ≤ low → 1 ≤ low → low ≤ step → step ≤ 255 → (n : ℕ) × (n ≤ low_behind step) × (1 ≤ low_behind step) × StepFollows step last n
-step_onward step low last behind some le top =
+pub step_onward : (least step low last : ℕ) → 1 ≤ least → last ≤ low → least ≤ low → low ≤ step → step ≤ 255 → (n : ℕ) × (n ≤ low_behind least step) × (least ≤ low_behind least step) × StepFollows step last n
+step_onward least step low last one behind some le top =
     elim (cases_Bool (step == 255)) [
       | inl own ↦
-          let next : low_behind step ≡ 1 = cond-true _ _ _ own in
-          (1, omega (arith, next), omega (arith, next), inl (omega (arith, eqb-true step 255 own), inr (eqb-true step 255 own)))
+          let next : low_behind least step ≡ least = cond-true _ _ _ own in
+          (least, omega (arith, next), omega (arith, next), inl (omega (arith, eqb-true step 255 own), inr (eqb-true step 255 own)))
       | inr other ↦
-          let next : low_behind step ≡ step = cond-false _ _ _ other in
+          let next : low_behind least step ≡ step = cond-false _ _ _ other in
           elim (cases_lt step 254) [
-            | inl inert ↦ (step, omega (arith, next), omega (arith, next, some, le), inr (omega (arith, some, le), inert, refl, omega (arith, behind, le)))
+            | inl inert ↦ (step, omega (arith, next), omega (arith, next, some, le), inr (omega (arith, one, some, le), inert, refl, omega (arith, behind, le)))
             | inr stays ↦ (step, omega (arith, next), omega (arith, next, some, le), inl (omega (arith, stays), inl (omega (arith, stays, eqb-false step 255 other, top))))
           ]
     ]

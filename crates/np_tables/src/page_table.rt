@@ -11,7 +11,7 @@ use crate::page_slots::slots_of;
 use crate::page_words::{Word, page_words, row_words, second_rows, word_of};
 use crate::spelled::Spelled;
 use crate::standing_runs::standing_front;
-use crate::steps::{all_steps, is_ascii_staying};
+use crate::steps::{all_steps, is_ascii_staying, least_step};
 use crate::tables::NormTable;
 use crate::version::Version;
 use crate::word_bits::has_bit;
@@ -148,7 +148,14 @@ impl NormTable for PageTable {
         )
     }
 
-    fn standing(&self, form: Form, text: &str) -> usize {
-        standing_front(&self.index, &self.steps, self.ascii, form, text)
+    fn standing(&self, form: Form, assigned: bool, text: &str) -> usize {
+        standing_front(
+            &self.index,
+            &self.steps,
+            self.ascii,
+            least_step(assigned),
+            form,
+            text,
+        )
     }
 }

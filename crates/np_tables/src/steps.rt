@@ -3,7 +3,7 @@
 ghost use Rattle.std.specs.Prelude.{◌≡◌, ◌/◌, ◌%◌, ◌^◌, ◌<◌, ℕ, length, slice_index_or, IfOk, IsTrue};
 ghost use Rattle.np_tables.specs.inside.PageWords.{IsAsciiStaying};
 ghost use Rattle.np_tables.specs.inside.Pages.{AreWithin, word_place};
-ghost use Rattle.np_tables.specs.inside.Steps.{all_steps as spec_all_steps, low_behind as spec_low_behind, step_of as spec_step_of, step_place as spec_step_place, steps_of as spec_steps_of};
+ghost use Rattle.np_tables.specs.inside.Steps.{all_steps as spec_all_steps, assigned_step as spec_assigned_step, least_step as spec_least_step, low_behind as spec_low_behind, step_of as spec_step_of, step_place as spec_step_place, steps_of as spec_steps_of};
 
 use crate::page_hints::{own_place, stays_place};
 use crate::page_words::{Word, place_in};
@@ -18,14 +18,18 @@ const OWN: u8 = 255;
 /// greater.
 const STAYS: u8 = 254;
 
+/// The step of what is not assigned, which stands as it is, below all else; the non-starters of class 1
+/// have it too.
+const UNASSIGNED: u8 = 1;
+
 /// Of what stays under every form and is its own full decomposition.
 const ALL_OWN: u32 = 0xFFFF_FFFF;
 
-/// The step of a word under a form: `OWN`, `STAYS`, the class of a non-starter that may stand as it
-/// is, or 0.
-#[tactic(auto, unfolding(crate::specs::inside::Steps::step_of))]
-fn step_of(form: Form, word: Word) -> u8
-    ensures { result ≡ spec_step_of form word }
+/// The step of an assigned code point's word under a form: `OWN`, `STAYS`, the class of a non-starter
+/// that may stand as it is, or 0.
+#[tactic(auto, unfolding(crate::specs::inside::Steps::assigned_step))]
+fn assigned_step(form: Form, word: Word) -> u8
+    ensures { result ≡ spec_assigned_step form word }
 {
     if has_bit(word.hints, stays_place(form)) {
         return if has_bit(word.hints, own_place(form.compat())) {
@@ -38,13 +42,26 @@ fn step_of(form: Form, word: Word) -> u8
     if inert { word.class } else { 0 }
 }
 
+/// The step of a word under a form.
+#[tactic(auto, unfolding(crate::specs::inside::Steps::step_of))]
+fn step_of(form: Form, word: Word) -> u8
+    ensures { result ≡ spec_step_of form word }
+{
+    if word.assigned {
+        return assigned_step(form, word);
+    }
+    let own = has_bit(word.hints, stays_place(form))
+        && has_bit(word.hints, own_place(form.compat()));
+    if own { UNASSIGNED } else { 0 }
+}
+
 /// The steps of a word under all forms.
 #[tactic(auto, unfolding(crate::specs::inside::Steps::steps_of))]
 fn steps_of(word: Word) -> u32
     ensures { result ≡ spec_steps_of word }
 {
     // most code points stay under all
-    if word.hints == 255 {
+    if word.assigned && word.hints == 255 {
         return ALL_OWN;
     }
     u32::from(step_of(Form::Nfd, word))
@@ -97,12 +114,20 @@ pub(crate) fn step_at(blocks: &[u16], steps: &[u32], place: u32, c: char) -> u8
     ((steps_at(blocks, steps, c) >> place) % 256) as u8
 }
 
+/// The least step of a code point that may stand: of any, or of an assigned one.
+#[inline(always)]
+pub(crate) fn least_step(assigned: bool) -> u8
+    ensures { result ≡ spec_least_step assigned }
+{
+    if assigned { UNASSIGNED + 1 } else { 1 }
+}
+
 /// The least step that may follow a code point of this one.
 #[inline(always)]
-pub(crate) fn low_behind(step: u8) -> u8
-    ensures { result ≡ spec_low_behind step }
+pub(crate) fn low_behind(least: u8, step: u8) -> u8
+    ensures { result ≡ spec_low_behind least step }
 {
-    if step == OWN { 1 } else { step }
+    if step == OWN { least } else { step }
 }
 
 /// Whether all ASCII stays under every form, and is its own full decomposition.

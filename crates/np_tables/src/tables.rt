@@ -1,5 +1,6 @@
 //! What normalization asks of a version.
-ghost use Rattle.std.specs.Prelude.{◌≡◌, ℕ, IfSome, IfNone, IsTrue};
+ghost use Rattle.std.specs.List.{list_all};
+ghost use Rattle.std.specs.Prelude.{◌≡◌, ℕ, true, take, chars, IfSome, IfNone, IsTrue};
 ghost use Rattle.np_code_points.specs.declared.forms.Form.{Form};
 ghost use Rattle.np_tables.specs.Boundaries.{IsBoundary};
 ghost use Rattle.np_tables.specs.Composites.{IsCompositeOf};
@@ -16,7 +17,8 @@ use np_code_points::Form;
 
 /// No byte at the front of a text: nothing stands there, whatever the version and the form are.
 fn claim_nothing(text: &str) -> usize
-    ensures { (v : VersionData) (form : Form) → AreStanding v form text.now result }
+    ensures standing { (v : VersionData) (form : Form) → AreStanding v form text.now result }
+    ensures assigned { (v : VersionData) → list_all (is_assigned v) (chars (take result text.now)) ≡ true }
 {
     let _unused = text;
     0
@@ -85,12 +87,14 @@ pub trait NormTable {
 
     /// How many bytes at the front of a text are known to stand in the form as they are, if a
     /// boundary or nothing follows: code points that stay, and behind them non-starters in canonical
-    /// order that compose with nothing. A table may answer less, down to 0.
-    fn standing(&self, form: Form, text: &str) -> usize
-        ensures { AreStanding (model self.now) form text.now result }
+    /// order that compose with nothing; where `assigned` is asked for, each of them is. A table may answer
+    /// less, down to 0.
+    fn standing(&self, form: Form, assigned: bool, text: &str) -> usize
+        ensures standing { AreStanding (model self.now) form text.now result }
+        ensures assigned { IsTrue assigned → list_all (is_assigned (model self.now)) (chars (take result text.now)) ≡ true }
     {
         // the same
-        let _unused = form;
+        let _unused = (form, assigned);
         claim_nothing(text)
     }
 }
@@ -131,7 +135,7 @@ impl<T: NormTable> NormTable for &T {
         (**self).is_boundary(form, c)
     }
 
-    fn standing(&self, form: Form, text: &str) -> usize {
-        (**self).standing(form, text)
+    fn standing(&self, form: Form, assigned: bool, text: &str) -> usize {
+        (**self).standing(form, assigned, text)
     }
 }

@@ -3,7 +3,7 @@ use super::wants_form;
 use crate::common::{Example, Made, S, V1, V2, holds_over_each, want};
 use np_code_points::told::want_told;
 use np_code_points::{Form, Memory};
-use np_forms::{NpssFault, equivalent, first_unassigned, is_form, is_stream_safe, npss};
+use np_forms::{NpssFault, equivalent, first_unassigned, into_npss, is_form, is_stream_safe, npss};
 use np_tables::NormTable;
 use std::alloc::Global;
 use std::test::Fail;
@@ -145,7 +145,10 @@ fn wants_refusal<T: NormTable>(
     text: &str,
     fault: NpssFault,
 ) -> Result<(), Fail> {
-    want(npss(alloc, table, wanted, text).err() == Some(fault), text)
+    want(npss(alloc, table, wanted, text).err() == Some(fault), text)?;
+    let given = repeated(alloc, text, 'A', 0)?;
+    let refused = into_npss(alloc, table, wanted, given).err();
+    want(refused == Some(fault), text)
 }
 
 /// Fails unless the texts are equivalent.
@@ -168,6 +171,9 @@ fn canonical<T: NormTable>(
         wants_form(alloc, table, Form::Nfd, text, nfd)?;
         let made = npss(alloc, table, Form::Nfc, text)?;
         want(made.as_str() == *nfc, text)?;
+        let given = repeated(alloc, text, 'A', 0)?;
+        let kept = into_npss(alloc, table, Form::Nfc, given)?;
+        want(kept.as_str() == *nfc, text)?;
         wants_equivalent(alloc, table, false, nfd, nfc)?;
     }
     Ok(())
@@ -223,6 +229,30 @@ fn a_refusal_is_told_in_words(rt: HostRuntime) -> Result<(), Fail> {
     want_told(rt.alloc(), &TOLD)
 }
 
+/// Texts whose last code point alone is not assigned: behind what stands, what changes, what composes,
+/// syllables and the jamo of one.
+const LACKING: [(Form, &str, usize); 8] = [
+    (Form::Nfc, "AAAAAAAAAAAAAAAAAAAAAAAAAAAAAAAAA\u{16D67}", 33),
+    (Form::Nfd, "A\u{327}\u{302}\u{16D67}", 5),
+    (Form::Nfc, "\u{E2}\u{16D67}", 2),
+    (Form::Nfd, "\u{E2}\u{16D67}", 2),
+    (Form::Nfc, "a\u{302}\u{16D67}", 3),
+    (Form::Nfkd, "\u{FB01}\u{16D67}", 3),
+    (Form::Nfd, "\u{AC00}\u{AC01}\u{16D67}", 6),
+    (Form::Nfc, "\u{1100}\u{1161}\u{16D67}", 6),
+];
+
+fn lacks_behind_each_front<T: NormTable>(alloc: Global, v1: &T) -> Result<(), Fail> {
+    for (wanted, text, at) in &LACKING {
+        let fault = NpssFault::Unassigned {
+            at: *at,
+            code: '\u{16D67}',
+        };
+        wants_refusal(alloc, v1, *wanted, text, fault)?;
+    }
+    Ok(())
+}
+
 fn lacks_kirat_rai<T: NormTable>(alloc: Global, v1: &T) -> Result<(), Fail> {
     let text = "\u{41}\u{16D67}";
     let fault = NpssFault::Unassigned {
@@ -239,6 +269,7 @@ fn lacks_kirat_rai<T: NormTable>(alloc: Global, v1: &T) -> Result<(), Fail> {
         code: '\u{10FFFF}',
     };
     wants_refusal(alloc, v1, Form::Nfkc, "A\u{10FFFF}", last)?;
+    lacks_behind_each_front(alloc, v1)?;
     want(first_unassigned(v1, text) == Some(1), "at the second byte")?;
     want(
         first_unassigned(v1, "\u{E000}").is_none(),

@@ -5,7 +5,9 @@ use np_code_points::devices::Room;
 use np_code_points::text::string_of;
 use np_code_points::watched::Watched;
 use np_code_points::{Form, Memory};
-use np_forms::{NpssFault, RunFault, Stream, equivalent, form, is_form, is_stream_safe, npss, run};
+use np_forms::{
+    NpssFault, RunFault, Stream, equivalent, form, into_npss, is_form, is_stream_safe, npss, run,
+};
 use np_tables::NormTable;
 use std::alloc::Global;
 use std::test::Fail;
@@ -21,6 +23,7 @@ const LONG: &str =
 enum Call {
     Form,
     Npss,
+    IntoNpss,
     IsForm,
     IsStreamSafe,
     Equivalent,
@@ -43,6 +46,22 @@ fn stabilized<T: NormTable>(alloc: Global, table: &T) -> Result<(), Fail> {
     want(lacking == Some(fault), "what is told at once")?;
     let made = again(&NpssFault::Memory, &|| npss(alloc, table, Form::Nfc, TEXT))?;
     want(made.as_str() == "\u{1EAD}", "the key")
+}
+
+/// A text that changes and one that doesn't, given up: the first is handed over again where memory for
+/// its form was refused.
+fn stabilized_in_place<T: NormTable>(alloc: Global, table: &T) -> Result<(), Fail> {
+    let given = string_of(alloc, &['\u{61}', '\u{302}', '\u{323}'])?;
+    let made = match into_npss(alloc, table, Form::Nfc, given) {
+        Err(NpssFault::Memory) => {
+            let given = string_of(alloc, &['\u{61}', '\u{302}', '\u{323}'])?;
+            into_npss(alloc, table, Form::Nfc, given)?
+        }
+        made => made?,
+    };
+    want(made.as_str() == "\u{1EAD}", "the key")?;
+    let kept = into_npss(alloc, table, Form::Nfc, made)?;
+    want(kept.as_str() == "\u{1EAD}", "the key of the key")
 }
 
 fn in_form<T: NormTable>(
@@ -163,6 +182,7 @@ impl Example for Call {
                 forms(alloc, table, Form::Nfc, "\u{1EAD}")
             }
             Call::Npss => stabilized(alloc, table),
+            Call::IntoNpss => stabilized_in_place(alloc, table),
             Call::IsForm => {
                 in_form(alloc, table, Form::Nfc, "\u{1EAD}", true)?;
                 in_form(alloc, table, Form::Nfd, "\u{1EAD}", false)
@@ -189,6 +209,11 @@ fn a_refused_form_succeeds_after_all(rt: HostRuntime) -> Result<(), Fail> {
 #[test]
 fn a_refused_npss_succeeds_after_all(rt: HostRuntime) -> Result<(), Fail> {
     holds_over_each(rt.alloc(), V1, &Call::Npss)
+}
+
+#[test]
+fn a_refused_into_npss_succeeds_after_all(rt: HostRuntime) -> Result<(), Fail> {
+    holds_over_each(rt.alloc(), V1, &Call::IntoNpss)
 }
 
 #[test]

@@ -149,8 +149,8 @@ fn no_syllable_goes_by_arithmetic_where_the_jamo_lack(rt: HostRuntime) -> Result
 // How many bytes at the front of a text stand in a form as they are: composites and syllables come
 // back, singletons and excluded ones don't, nor what has a mapping that counts. Non-starters follow
 // where no class is less than the one before and, where the form composes, they are no second parts;
-// behind a composite none is taken to follow. A leading consonant is not taken to stand where the form
-// composes.
+// behind a composite none is taken to follow, nor what is not assigned. A leading consonant is not taken
+// to stand where the form composes.
 const STANDING: [(Form, &str, usize); 24] = [
     (Form::Nfc, "A\u{E2}\u{1EAD}\u{AC01}\u{D7A3}", 12),
     (Form::Nfkc, "A\u{E2}\u{1EAD}\u{AC01}\u{D7A3}", 12),
@@ -171,8 +171,8 @@ const STANDING: [(Form, &str, usize); 24] = [
     (Form::Nfc, "A\u{327}\u{323}", 3),
     (Form::Nfc, "\u{E2}\u{327}", 2),
     (Form::Nfd, "\u{1112}\u{1175}\u{11C2} \u{1100}\u{1161}", 16),
-    (Form::Nfc, "\u{D788} \u{AC00}\u{AC01}\u{1100}\u{1161}", 10),
-    (Form::Nfkc, "\u{D788} \u{1112}\u{1175}", 4),
+    (Form::Nfc, "\u{D788}A\u{AC00}\u{AC01}\u{1100}\u{1161}", 10),
+    (Form::Nfkc, "\u{D788}A\u{1112}\u{1175}", 4),
     (Form::Nfd, "afifififififififififififififififia\u{212B}", 34),
     (
         Form::Nfd,
@@ -180,6 +180,16 @@ const STANDING: [(Form, &str, usize); 24] = [
         32,
     ),
     (Form::Nfkc, "", 0),
+];
+
+// What is not assigned stands too, but where assigned code points are asked for.
+const LACKING: [(Form, &str, usize, usize); 6] = [
+    (Form::Nfd, "A\u{16D67}A", 6, 1),
+    (Form::Nfc, "A\u{16D67}A", 6, 1),
+    (Form::Nfkd, "\u{10FFFF}", 4, 0),
+    (Form::Nfd, "\u{16D67}\u{302}", 6, 0),
+    (Form::Nfc, "A\u{E2}\u{AC01}", 6, 6),
+    (Form::Nfc, "\u{D788} A", 3, 3),
 ];
 
 // Pointed Hebrew: a letter, three points, and three presentation forms, which are excluded.
@@ -219,7 +229,18 @@ const PARTING: [(Form, char, bool); 8] = [
 
 fn tells_what_stands<T: NormTable>(table: &T, rows: &[(Form, &str, usize)]) -> Result<(), Fail> {
     for (form, text, count) in rows {
-        want(table.standing(*form, text) == *count, text)?;
+        want(table.standing(*form, false, text) == *count, text)?;
+    }
+    Ok(())
+}
+
+fn tells_what_stands_assigned<T: NormTable>(
+    table: &T,
+    rows: &[(Form, &str, usize, usize)],
+) -> Result<(), Fail> {
+    for (form, text, any, assigned) in rows {
+        want(table.standing(*form, false, text) == *any, text)?;
+        want(table.standing(*form, true, text) == *assigned, text)?;
     }
     Ok(())
 }
@@ -236,6 +257,7 @@ fn tells_where_forms_part<T: NormTable>(
 
 fn tells_what_forms_leave(table: &PageTable) -> Result<(), Fail> {
     tells_what_stands(table, &STANDING)?;
+    tells_what_stands_assigned(table, &LACKING)?;
     tells_where_forms_part(table, &PARTING)
 }
 

@@ -1,5 +1,5 @@
 -- Texts cut where their forms part.
-use Rattle.std.specs.Prelude.{◌≡◌, ◌≢◌, ℕ, ◌≤◌, ⊤, List, [], ◌∷◌, ◌++◌, Option, MatchOption, length, chars, encode_utf8_all, IsUtf8}
+use Rattle.std.specs.Prelude.{◌≡◌, ◌≢◌, ℕ, ⊤, List, [], ◌∷◌, ◌++◌, Option, MatchOption, chars, encode_utf8_all, IsUtf8}
 use denote.Ref.{Bor}
 use Rattle.np_code_points.specs.declared.forms.Form.{Form}
 use Rattle.np_forms.specs.inside.NormalForms.{normal_form}
@@ -23,10 +23,15 @@ pub record IsParted (v : VersionData) (form : Form) (text front back : List ℕ)
   pub utf8 : IsUtf8 back
   pub parted : normal_form v form (chars text) ≡ normal_form v form (chars front) ++ normal_form v form (chars back)
 
+-- `rest` is the end of a text
+pub record IsEndOf (text rest : List ℕ) : Type 0 where
+  pub front : List ℕ
+  pub parts : text ≡ front ++ rest
+  pub utf8 : IsUtf8 rest
+
 -- some front of a text was written in the form, and its rest is left
 pub record GoesOn (v : VersionData) (form : Form) (text rest old new : List ℕ) : Type 0 where
-  pub utf8 : IsUtf8 rest
-  pub shorter : length rest ≤ length text
+  pub end : IsEndOf text rest
   pub written : new ++ encode_utf8_all (normal_form v form (chars rest)) ≡ old ++ encode_utf8_all (normal_form v form (chars text))
 
 -- what follows a front, where the bytes begin with it

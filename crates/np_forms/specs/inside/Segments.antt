@@ -4,6 +4,7 @@ use Rattle.np_code_points.specs.Forms.{is_compat}
 use Rattle.np_code_points.specs.declared.forms.Form.{Form}
 use Rattle.np_forms.specs.Order.{is_ordered}
 use Rattle.np_forms.specs.inside.Composers.{IsComposing}
+use Rattle.np_forms.specs.inside.Copies.{IsEndOf}
 use Rattle.np_forms.specs.inside.NormalForms.{normal_form}
 use Rattle.np_tables.specs.Versions.{VersionData, class_of}
 use Rattle.np_tables.specs.inside.FullDecompositions.{full_of}
@@ -23,14 +24,13 @@ pub record IsComposedOf (v : VersionData) (done list : List ℕ) (starter : Opti
 pub record IsReadUpTo (v : VersionData) (form : Form) (text rest list : List ℕ) (starter : Option ℕ) (kept read : ℕ) : Type 0 where
   pub front : List ℕ
   pub utf8 : IsUtf8 rest
-  pub shorter : length rest ≤ length text
+  pub bytes : text ≡ encode_utf8_all front ++ rest
   pub split : chars text ≡ front ++ chars rest
   pub composed : IsComposedOf v (flat_map (full_of v (is_compat form)) front) list starter kept read
 
 -- `list` is the form of a front of a text, and `rest` is what follows it
 pub record IsFirstMade (v : VersionData) (form : Form) (text rest list : List ℕ) : Type 0 where
-  pub utf8 : IsUtf8 rest
-  pub shorter : length rest ≤ length text
+  pub end : IsEndOf text rest
   pub made : normal_form v form (chars text) ≡ list ++ normal_form v form (chars rest)
 
 -- the same, where the list is spelled by the first bytes

@@ -127,16 +127,18 @@ pub record IsPast (P : ℕ → Type 0) (text rest : List ℕ) : Type 0 where
   pub passed : All P front
 
 -- by its step a code point may stand behind code points of classes up to `last`, and then the classes are up to n: one that
--- stays, of which nothing but itself is known where its full decomposition is another, or an inert non-starter
+-- stays, of which nothing but itself is known where its full decomposition is another, or what stands below all else
 abbrev pub StepFollows : ℕ → ℕ → ℕ → Type 0
 StepFollows step last n = ((254 ≤ step) × ((n ≡ 254) ⊎ (step ≡ 255))) ⊎ ((0 < step) × (step < 254) × (n ≡ step) × (last ≤ n))
 
-abbrev pub Follows : List ℕ → List ℕ → Form → ℕ → ℕ → ℕ → Type 0
-Follows blocks steps form last c n = (c < 0x110000) × StepFollows (step_in form (slice_index_or steps (word_place blocks c) 0)) last n
+-- the step is no less than the least one
+abbrev pub Follows : ℕ → List ℕ → List ℕ → Form → ℕ → ℕ → ℕ → Type 0
+Follows least blocks steps form last c n =
+    (c < 0x110000) × (least ≤ step_in form (slice_index_or steps (word_place blocks c) 0)) × StepFollows (step_in form (slice_index_or steps (word_place blocks c) 0)) last n
 
 -- by their steps the code points in the first n bytes of a text may follow one another as they are
-abbrev pub AreFollowing : List ℕ → List ℕ → Form → List ℕ → ℕ → Type 0
-AreFollowing blocks steps form = AreWalked (Follows blocks steps form)
+abbrev pub AreFollowing : ℕ → List ℕ → List ℕ → Form → List ℕ → ℕ → Type 0
+AreFollowing least blocks steps form = AreWalked (Follows least blocks steps form)
 
 -- all ASCII stays under every form, and is its own full decomposition
 abbrev pub IsAsciiStaying : List ℕ → List ℕ → Type 0

@@ -1,18 +1,26 @@
 -- What a scan asks of a code point under each form, in one byte: whether, and behind which classes, it may stand as it is.
-use Rattle.std.specs.Prelude.{ℕ, ◌+◌, ◌*◌, ◌/◌, ◌%◌, ◌^◌, ◌==◌, ◌&&◌, ◌||◌, not, nat_lt, map, List, if◌then◌else◌}
+use Rattle.std.specs.Prelude.{ℕ, Bool, ◌+◌, ◌*◌, ◌/◌, ◌%◌, ◌^◌, ◌==◌, ◌&&◌, ◌||◌, not, nat_lt, map, List, if◌then◌else◌}
 use Rattle.np_code_points.specs.declared.forms.Form.{Form}
 use Rattle.np_code_points.specs.declared.forms.Form.TheVariants.{Nfd, Nfc, Nfkd, Nfkc}
 use Rattle.np_code_points.specs.Forms.{composes, is_compat}
 use Rattle.np_tables.specs.declared.page_words.Word.{Word}
 use Rattle.np_tables.specs.inside.PageHints.{decomposing, has_bit, stays_place}
 
--- by its word: 255 and 254 of what stays, of which 255 is its own full decomposition; from 1 to 253 the class of a non-starter
--- without a mapping that, where the form composes, is no second part; 0 of what is not known to stand
-unfoldable pub step_of : Form → Word → ℕ
-step_of form w =
+-- whether a form leaves it as it is, and it is its own full decomposition
+abbrev pub is_own : Form → Word → Bool
+is_own form w = has_bit w.hints (stays_place form) && has_bit w.hints (stays_place (decomposing (is_compat form)))
+
+-- of what is assigned: 255 and 254 of what stays, of which 255 is its own full decomposition; from 1 to 253 the class of a
+-- non-starter without a mapping that, where the form composes, is no second part; 0 of what is not known to stand
+unfoldable pub assigned_step : Form → Word → ℕ
+assigned_step form w =
     if has_bit w.hints (stays_place form)
     then (if has_bit w.hints (stays_place (decomposing (is_compat form))) then 255 else 254)
     else (if nat_lt w.class 254 && (w.fulls == 0 && (w.apart || not (composes form))) then w.class else 0)
+
+-- by its word: what is not assigned stands too, but below all else
+unfoldable pub step_of : Form → Word → ℕ
+step_of form w = if w.assigned then assigned_step form w else (if is_own form w then 1 else 0)
 
 -- under each form
 unfoldable pub steps_of : Word → ℕ
@@ -31,6 +39,10 @@ step_place Nfkc = 24
 abbrev pub step_in : Form → ℕ → ℕ
 step_in form steps = steps / 2 ^ step_place form % 256
 
+-- the least step that may stand at all: above 1 that is of an assigned code point
+abbrev pub least_step : Bool → ℕ
+least_step assigned = if assigned then 2 else 1
+
 -- the least step that may follow a code point of this one
-abbrev pub low_behind : ℕ → ℕ
-low_behind step = if step == 255 then 1 else step
+abbrev pub low_behind : ℕ → ℕ → ℕ
+low_behind least step = if step == 255 then least else step

@@ -1,10 +1,10 @@
 use Rattle.std.proofs.Common.{length}
 use Rattle.std.specs.Str.Iter.{chars_rest}
-use Rattle.np_forms.proofs.TextLemmas.{IsReadTo}
+use Rattle.np_forms.specs.inside.Readings.{IsReadAssigned}
 use Rattle.np_forms.proofs.assigned.first_lacking.Given as goal
 
 abbrev pub invariant-scan : goal.invariant-scan
-invariant-scan g l = IsReadTo (g.T.NormTable.model l.table) l.text (chars_rest l.iter)
+invariant-scan g l = IsReadAssigned (g.T.NormTable.model l.table) l.text (chars_rest l.iter)
 
 abbrev pub decreases-scan : goal.decreases-scan
 decreases-scan g l = length (chars_rest l.iter)

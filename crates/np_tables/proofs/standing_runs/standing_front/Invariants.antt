@@ -5,7 +5,7 @@ use Rattle.np_tables.proofs.StandingLemmas.{IsWalkedTo}
 use Rattle.np_tables.proofs.standing_runs.standing_front.Given as goal
 
 abbrev pub invariant-scan : goal.invariant-scan
-invariant-scan l = (last : ℕ) × (last ≤ l.low) × (1 ≤ l.low) × IsWalkedTo (Follows l.blocks l.steps l.fn.form) l.text (chars_rest l.iter) last
+invariant-scan l = (last : ℕ) × (last ≤ l.low) × (l.fn.least ≤ l.low) × IsWalkedTo (Follows l.fn.least l.blocks l.steps l.fn.form) l.text (chars_rest l.iter) last
 
 abbrev pub decreases-scan : goal.decreases-scan
 decreases-scan l = length (chars_rest l.iter)

@@ -1,0 +1,15 @@
+use Rattle.std.proofs.Common.{◌++◌, sym, ap, ◌∙◌}
+use Rattle.np_forms.proofs.CopyLemmas.{front_of, seam}
+use Rattle.np_forms.proofs.TextLemmas.{IsReadAssigned-front}
+use Rattle.np_forms.proofs.copying.may_go_on.Goals as goal
+
+pub range-requires-clause-end_boundary : goal.range-requires-clause-end_boundary
+range-requires-clause-end_boundary g c = seam c.args.after.now c.requires.front c.args.later.now c.requires.parts c.requires.utf8
+
+pub returns-in-None-clause-read : goal.returns-in-None-clause-read
+returns-in-None-clause-read g c = λ _ _.
+    let end = c.requires in
+    let after = c.args.after.now in
+    let later = c.args.later.now in
+    let is = c.range.ensures.value ∙ front_of after end.front later end.parts in
+    IsReadAssigned-front (g.T.NormTable.model c.args.table.now) after c.range.result.now later (end.parts ∙ ap (λ l. l ++ later) (sym is)) c.range.utf8 end.utf8 c.in-None.ensures.none

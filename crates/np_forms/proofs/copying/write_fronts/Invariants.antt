@@ -1,0 +1,12 @@
+use Rattle.std.proofs.Common.{IsTrue, length}
+use Rattle.np_forms.specs.inside.Copies.{GoesOn}
+use Rattle.np_forms.specs.inside.Readings.{IsReadAssigned}
+use Rattle.np_forms.proofs.copying.write_fronts.Given as goal
+
+abbrev pub invariant-fronts : goal.invariant-fronts
+invariant-fronts g l =
+    let v = g.T.NormTable.model l.table in
+    GoesOn v l.form l.text l.rest l.fn.out l.out × (IsTrue l.assigned → IsReadAssigned v l.text l.rest)
+
+abbrev pub decreases-fronts : goal.decreases-fronts
+decreases-fronts g l = length l.rest

@@ -1,0 +1,34 @@
+use Rattle.std.proofs.Common.{◌≡◌, encode_utf8_all, rules, chars, string_bytes, ap, subst, ◌∙◌}
+use Rattle.std.proofs.lemmas.Str.{IsUtf8-string_bytes}
+use Rattle.np_forms.specs.inside.NormalForms.{normal_form}
+use Rattle.np_forms.proofs.CopyLemmas.{IsCopied-own}
+use Rattle.np_forms.proofs.WrittenLemmas.{made_chars, made_form}
+use Rattle.np_forms.proofs.stabilized.into_npss.Goals as goal
+
+pub returns-then-is_empty-clause-bytes : goal.returns-then-is_empty-clause-bytes
+returns-then-is_empty-clause-bytes g c =
+    let v = g.T.NormTable.model c.args.table.now in
+    subst (λ l. l ≡ encode_utf8_all (normal_form v c.args.wanted (chars l))) c.as_str-whole.ensures.value
+    (IsCopied-own v c.args.wanted c.as_str-whole.result.now c.split_standing.result.0.now c.split_standing.result.1.now c.split_standing.ensures.copied (search rules))
+
+pub returns-then-is_empty-clause-normal : goal.returns-then-is_empty-clause-normal
+returns-then-is_empty-clause-normal g c =
+    made_form (g.T.NormTable.model c.args.table.now) c.meets_conditions.ensures c.args.wanted (chars (string_bytes c.args.text)) (string_bytes c.args.text) (IsUtf8-string_bytes c.args.text) (returns-then-is_empty-clause-bytes g c)
+
+pub returns-then-is_empty-clause-value : goal.returns-then-is_empty-clause-value
+returns-then-is_empty-clause-value g c =
+    made_chars (g.T.NormTable.model c.args.table.now) c.meets_conditions.ensures c.args.wanted (chars (string_bytes c.args.text)) (string_bytes c.args.text) (IsUtf8-string_bytes c.args.text) (returns-then-is_empty-clause-bytes g c)
+
+pub returns-clause-normal : goal.returns-clause-normal
+returns-clause-normal g c =
+    let v = g.T.NormTable.model c.args.table.now in
+    let key = c.in_ok-key.key in
+    let bytes = c.in_ok-key.ensures.bytes ∙ ap (λ l. encode_utf8_all (normal_form v c.args.wanted (chars l))) c.as_str-whole.ensures.value in
+    made_form v c.meets_conditions.ensures c.args.wanted (chars (string_bytes c.args.text)) (string_bytes key) (IsUtf8-string_bytes key) bytes
+
+pub returns-clause-value : goal.returns-clause-value
+returns-clause-value g c =
+    let v = g.T.NormTable.model c.args.table.now in
+    let key = c.in_ok-key.key in
+    let bytes = c.in_ok-key.ensures.bytes ∙ ap (λ l. encode_utf8_all (normal_form v c.args.wanted (chars l))) c.as_str-whole.ensures.value in
+    made_chars v c.meets_conditions.ensures c.args.wanted (chars (string_bytes c.args.text)) (string_bytes key) (IsUtf8-string_bytes key) bytes

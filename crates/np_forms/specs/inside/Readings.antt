@@ -1,0 +1,12 @@
+-- Texts of which a front was read, each code point of it assigned.
+use Rattle.std.specs.Prelude.{◌≡◌, ℕ, List, ◌++◌, chars, encode_utf8_all, IsUtf8}
+use Rattle.np_forms.specs.Assigned.{IsAssigned}
+use Rattle.np_tables.specs.Versions.{VersionData}
+
+-- what was read of s is assigned, and `rest` is left
+pub record IsReadAssigned (v : VersionData) (s rest : List ℕ) : Type 0 where
+  pub before : List ℕ
+  pub bytes : s ≡ encode_utf8_all before ++ rest
+  pub text : chars s ≡ before ++ chars rest
+  pub assigned : IsAssigned v before
+  pub utf8 : IsUtf8 rest
