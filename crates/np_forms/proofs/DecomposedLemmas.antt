@@ -1,5 +1,5 @@
 -- Forms that only decompose, written front by front.
-use Rattle.std.proofs.Common.{◌≡◌, ℕ, ◌≤◌, true, false, List, [], ◌∷◌, ◌++◌, length, chars, IsUtf8, encode_utf8_all, flat_map, refl, sym, ap, subst, ◌∙◌, arith, inl, inr, append_assoc, length-append}
+use Rattle.std.proofs.Common.{◌≡◌, ℕ, true, false, List, [], ◌∷◌, ◌++◌, chars, IsUtf8, encode_utf8_all, flat_map, refl, sym, ap, subst, ◌∙◌, arith, inl, inr, append_assoc}
 use Rattle.std.proofs.lemmas.Grind.{flat_map-append}
 use Rattle.std.proofs.lemmas.Str.{encodes-append}
 use Rattle.np_code_points.specs.Forms.{is_compat, composes}
@@ -82,9 +82,6 @@ module _ (v : VersionData) (form : Form) where
         };
         written = two.written ∙ one.written;
       }
-
-  pub goes-shorter : (text rest old new : List ℕ) → GoesOn v form text rest old new → length rest ≤ length text
-  goes-shorter text rest old new goes = omega (arith, ap length goes.end.parts, length-append goes.end.front rest)
 
   -- a front that stands in the form as it is
   pub goes-copied : (text stays behind old new : List ℕ) → IsCopied v form text stays behind → new ≡ old ++ stays → GoesOn v form text behind old new

@@ -19,16 +19,15 @@ pub returns-then-is_empty-clause-value : goal.returns-then-is_empty-clause-value
 returns-then-is_empty-clause-value g c =
     made_chars (g.T.NormTable.model c.args.table.now) c.meets_conditions.ensures c.args.wanted (chars (string_bytes c.args.text)) (string_bytes c.args.text) (IsUtf8-string_bytes c.args.text) (returns-then-is_empty-clause-bytes g c)
 
+pub returns-clause-bytes : goal.returns-clause-bytes
+returns-clause-bytes g c =
+    let v = g.T.NormTable.model c.args.table.now in
+    c.in_ok-key.ensures.bytes ∙ ap (λ l. encode_utf8_all (normal_form v c.args.wanted (chars l))) c.as_str-whole.ensures.value
+
 pub returns-clause-normal : goal.returns-clause-normal
 returns-clause-normal g c =
-    let v = g.T.NormTable.model c.args.table.now in
-    let key = c.in_ok-key.key in
-    let bytes = c.in_ok-key.ensures.bytes ∙ ap (λ l. encode_utf8_all (normal_form v c.args.wanted (chars l))) c.as_str-whole.ensures.value in
-    made_form v c.meets_conditions.ensures c.args.wanted (chars (string_bytes c.args.text)) (string_bytes key) (IsUtf8-string_bytes key) bytes
+    made_form (g.T.NormTable.model c.args.table.now) c.meets_conditions.ensures c.args.wanted (chars (string_bytes c.args.text)) (string_bytes c.in_ok-key.key) (IsUtf8-string_bytes c.in_ok-key.key) (returns-clause-bytes g c)
 
 pub returns-clause-value : goal.returns-clause-value
 returns-clause-value g c =
-    let v = g.T.NormTable.model c.args.table.now in
-    let key = c.in_ok-key.key in
-    let bytes = c.in_ok-key.ensures.bytes ∙ ap (λ l. encode_utf8_all (normal_form v c.args.wanted (chars l))) c.as_str-whole.ensures.value in
-    made_chars v c.meets_conditions.ensures c.args.wanted (chars (string_bytes c.args.text)) (string_bytes key) (IsUtf8-string_bytes key) bytes
+    made_chars (g.T.NormTable.model c.args.table.now) c.meets_conditions.ensures c.args.wanted (chars (string_bytes c.args.text)) (string_bytes c.in_ok-key.key) (IsUtf8-string_bytes c.in_ok-key.key) (returns-clause-bytes g c)
