@@ -207,16 +207,6 @@ settled-is_form v form xs list made compat composed kind last full is =
     is ∙ ap (λ b. ended v b (canonical_order (class_of v) list)) last
     ∙ ap (λ l. ended v (composes form) (canonical_order (class_of v) l)) (full ∙ ap (λ b. flat_map (full_of v b) xs) kind)
 
-pub one_more_segment : (v : VersionData) (form : Form) (whole before pushed written rest stays behind segment later : List ℕ) → IsCopied v form rest stays behind → IsParted v form behind segment later →
-    pushed ≡ before ++ stays → written ≡ pushed ++ encode_utf8_all (normal_form v form (chars segment)) → before ++ encode_utf8_all (normal_form v form (chars rest)) ≡ whole →
-    written ++ encode_utf8_all (normal_form v form (chars later)) ≡ whole
-one_more_segment v form whole before pushed written rest stays behind segment later copied parted push write all =
-    let made = encode_utf8_all (normal_form v form (chars segment)) in
-    let after = encode_utf8_all (normal_form v form (chars later)) in
-    ap (λ l. l ++ after) (write ∙ ap (λ l. l ++ made) push) ∙ append_assoc (before ++ stays) made after ∙ append_assoc before stays (made ++ after)
-    ∙ ap (λ l. before ++ (stays ++ l)) (sym (encodes-append (normal_form v form (chars segment)) (normal_form v form (chars later))) ∙ ap encode_utf8_all (sym parted.parted))
-    ∙ ap (λ l. before ++ l) (sym copied.copied) ∙ all
-
 pub form-end : (v : VersionData) (form : Form) (whole out rest : List ℕ) → out ++ encode_utf8_all (normal_form v form (chars rest)) ≡ whole → length rest ≡ 0 → out ≡ whole
 form-end v form whole out rest all none =
     sym (append-nil out) ∙ ap (λ l. out ++ l) (sym (ap (λ l. encode_utf8_all (normal_form v form l)) (ap chars (nil_from_length rest none) ∙ chars-nil) ∙ ap encode_utf8_all (normal_form-nil v form))) ∙ all

@@ -6,7 +6,7 @@ use Rattle.np_code_points.specs.Forms.{is_compat, composes}
 use Rattle.np_code_points.specs.declared.forms.Form.{Form}
 use Rattle.np_forms.specs.Order.{is_ordered}
 use Rattle.np_forms.specs.inside.CanonicalOrder.{canonical_order}
-use Rattle.np_forms.specs.inside.Copies.{GoesOn, IsCopied, IsParted}
+use Rattle.np_forms.specs.inside.Copies.{GoesOn, IsCopied}
 use Rattle.np_forms.specs.inside.NormalForms.{decomposed, ended, normal_form}
 use Rattle.np_forms.specs.inside.Segments.{IsFirstMade, Rises}
 use Rattle.np_forms.proofs.OrderLemmas.{canonical_order-behind, canonical_order-ordered, is_ordered-canonical_order, is_ordered-cons, is_ordered-nil, is_ordered-one, is_ordered-parts, is_reorderable-false, not_reorderable_rising, not_reorderable_starter}
@@ -101,9 +101,3 @@ module _ (v : VersionData) (form : Form) where
         written = ap (λ l. l ++ encode_utf8_all after) push ∙ append_assoc old (encode_utf8_all made) (encode_utf8_all after)
             ∙ ap (λ l. old ++ l) (sym (encodes-append made after) ∙ ap encode_utf8_all (sym first.made));
       }
-
-  -- a segment
-  pub goes-parted : (text segment later old new : List ℕ) → IsParted v form text segment later → new ≡ old ++ encode_utf8_all (normal_form v form (chars segment)) → GoesOn v form text later old new
-  goes-parted text segment later old new cut =
-      goes-made text later (normal_form v form (chars segment)) old new
-      (record { end = record { front = segment; parts = cut.parts; utf8 = cut.utf8 }; made = cut.parted })

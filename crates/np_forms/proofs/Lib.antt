@@ -1,6 +1,7 @@
 pub mod AnswerLemmas
 pub mod BoundaryLemmas
 pub mod ChunkLemmas
+pub mod ClassLemmas
 pub mod ComposeLemmas
 pub mod ComposerLemmas
 pub mod CopyLemmas

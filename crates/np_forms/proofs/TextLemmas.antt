@@ -1,23 +1,37 @@
 -- A text that was read up to some place.
 use Rattle.std.proofs.Common.{◌≡◌, ℕ, ◌-◌, Bool, true, false, List, [], ◌∷◌, ◌++◌, ◌≤◌, length, take, take_all, chars, IsUtf8, encode_utf8, encode_utf8_all, refl, sym, ap, ◌∙◌, arith, append_assoc, append-nil, length-append}
-use Rattle.std.proofs.lemmas.Bool.{and_from, and_parts}
+use Rattle.std.proofs.lemmas.Bool.{and_from, and_parts, both_ways}
 use Rattle.std.proofs.lemmas.List.{nil_from_length}
 use Rattle.std.proofs.lemmas.Str.{chars-append, chars-nil, chars_past_char, encodes-append, encodes-chars, IsUtf8-past_char}
 use Rattle.std.specs.List.{list_all}
 use Rattle.np_tables.specs.Versions.{VersionData, is_assigned}
 use Rattle.np_forms.specs.Assigned.{IsAssigned, IsFirstUnassigned}
-use Rattle.np_forms.specs.inside.Readings.{IsReadAssigned}
+use Rattle.np_forms.specs.inside.Copies.{IsEndOf}
+use Rattle.np_forms.specs.inside.Readings.{IsRead, IsReadAssigned}
 use Rattle.np_tables.proofs.MappingLemmas.{list_all-append}
 
 list_all-front : (p : ℕ → Bool) (xs ys : List ℕ) → list_all p (xs ++ ys) ≡ true → list_all p xs ≡ true
 list_all-front p [] ys all = refl
 list_all-front p (x ∷ xs) ys all = let halves = and_parts (p x) (list_all p (xs ++ ys)) all in and_from _ _ halves.0 (list_all-front p xs ys halves.1)
 
+list_all-back : (p : ℕ → Bool) (xs ys : List ℕ) → list_all p (xs ++ ys) ≡ true → list_all p ys ≡ true
+list_all-back p [] ys all = all
+list_all-back p (x ∷ xs) ys all = list_all-back p xs ys (and_parts (p x) (list_all p (xs ++ ys)) all).1
+
+-- what has a code point that is not assigned is not assigned
+pub lacks-unassigned : (v : VersionData) (xs : List ℕ) (at code : ℕ) → IsFirstUnassigned v xs at code → IsAssigned v xs → ⊥
+lacks-unassigned v xs at code first all =
+    let here = list_all-back (is_assigned v) first.before (code ∷ first.after) (ap (list_all (is_assigned v)) (sym first.split) ∙ all) in
+    both_ways _ first.lacks (and_parts (is_assigned v code) (list_all (is_assigned v) first.after) here).0
+
 -- ---- texts in two parts
 
 module _ (v : VersionData) (text front back : List ℕ) (utf8 : IsUtf8 front) (parts : text ≡ front ++ back) where
   pub assigned-front : IsAssigned v (chars text) → IsAssigned v (chars front)
   assigned-front all = list_all-front (is_assigned v) (chars front) (chars back) (ap (list_all (is_assigned v)) (sym (chars-append front back utf8) ∙ sym (ap chars parts)) ∙ all)
+
+  pub assigned-back : IsAssigned v (chars text) → IsAssigned v (chars back)
+  assigned-back all = list_all-back (is_assigned v) (chars front) (chars back) (ap (list_all (is_assigned v)) (sym (chars-append front back utf8) ∙ sym (ap chars parts)) ∙ all)
 
   pub assigned-both : IsAssigned v (chars front) → IsAssigned v (chars back) → IsAssigned v (chars text)
   assigned-both one two = ap (list_all (is_assigned v)) (ap chars parts ∙ chars-append front back utf8) ∙ list_all-append (is_assigned v) (chars front) (chars back) one two
@@ -29,6 +43,21 @@ assigned-one v text n c utf8 is all h =
     (and_parts (is_assigned v c) true (sym (ap (list_all (is_assigned v)) whole) ∙ h)).0
 
 -- ---- texts that were read up to some place
+
+pub IsRead-start : (text : List ℕ) → IsUtf8 text → IsRead text text []
+IsRead-start text utf8 = record { utf8 = utf8; bytes = refl; split = refl }
+
+pub IsRead-next : (text rest : List ℕ) (c : ℕ) (later front : List ℕ) → rest ≡ encode_utf8 c ++ later → IsRead text rest front → IsRead text later (front ++ c ∷ [])
+IsRead-next text rest c later front begins r =
+    record {
+      utf8 = IsUtf8-past_char rest later c r.utf8 begins;
+      bytes = r.bytes ∙ ap (λ l. encode_utf8_all front ++ l) begins ∙ sym (append_assoc (encode_utf8_all front) (encode_utf8 c) later)
+          ∙ ap (λ l. l ++ later) (ap (λ l. encode_utf8_all front ++ l) (sym (append-nil (encode_utf8 c))) ∙ sym (encodes-append front (c ∷ [])));
+      split = r.split ∙ ap (λ l. front ++ l) (chars_past_char rest later c r.utf8 begins) ∙ sym (append_assoc front (c ∷ []) (chars later));
+    }
+
+pub IsRead-end : (text rest front : List ℕ) → IsRead text rest front → IsEndOf text rest
+IsRead-end text rest front r = record { front = encode_utf8_all front; parts = r.bytes; utf8 = r.utf8 }
 
 module _ (v : VersionData) where
   pub IsReadAssigned-start : (s : List ℕ) → IsUtf8 s → IsReadAssigned v s s
@@ -55,6 +84,10 @@ module _ (v : VersionData) where
         assigned = all;
         utf8 = of_rest;
       }
+
+  -- what is left of an assigned text is assigned
+  pub IsReadAssigned-rest : (s rest : List ℕ) → IsReadAssigned v s rest → IsAssigned v (chars s) → IsAssigned v (chars rest)
+  IsReadAssigned-rest s rest r all = list_all-back (is_assigned v) r.before (chars rest) (ap (list_all (is_assigned v)) (sym r.text) ∙ all)
 
   pub IsReadAssigned-next : (s rest : List ℕ) (c : ℕ) (later : List ℕ) → IsReadAssigned v s rest → rest ≡ encode_utf8 c ++ later → is_assigned v c ≡ true → IsReadAssigned v s later
   IsReadAssigned-next s rest c later r e has =

@@ -67,17 +67,6 @@ pub record IsWrittenForm (v : VersionData) (form : Form) (text bytes : List ℕ)
   pub is : IsNormalForm v form text list
   pub bytes_is : bytes ≡ encode_utf8_all list
 
-pub form_written : (v : VersionData) (form : Form) (a b : StreamState) (x y z text : List ℕ) → a.version ≡ v → a.form ≡ form → x ≡ [] → IsStreaming v form [] [] a.pending → Writes a b x y text → WritesEnd b y z → IsWrittenForm v form text z
-form_written v form a b x y z text version same nothing begins w e =
-    let start = subst (λ u. IsStreaming u a.form [] [] a.pending) (sym version) (subst (λ f. IsStreaming v f [] [] a.pending) (sym same) begins) in
-    let mid = same_streaming a b text w.more b.pending w.version w.form (w.carries [] [] start) in
-    let whole = e.whole text w.more mid in
-    record {
-      list = w.more ++ e.more;
-      is = subst (λ u. IsNormalForm u form text (w.more ++ e.more)) (w.version ∙ version) (subst (λ f. IsNormalForm b.version f text (w.more ++ e.more)) (w.form ∙ same) whole);
-      bytes_is = more_bytes x y z w.more e.more w.written e.written ∙ ap (λ l. l ++ encode_utf8_all (w.more ++ e.more)) nothing;
-    }
-
 -- by the function
 pub written_bytes : (v : VersionData) (sound : IsSound v) (form : Form) (text bytes : List ℕ) → IsWrittenForm v form text bytes → bytes ≡ encode_utf8_all (normal_form v form text)
 written_bytes v sound form text bytes w = w.bytes_is ∙ ap encode_utf8_all (normal_form_is v sound form text w.list w.is)

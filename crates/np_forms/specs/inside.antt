@@ -1,8 +1,10 @@
 pub mod CanonicalOrder
+pub mod Classes
 pub mod Composers
 pub mod Composing
 pub mod Copies
 pub mod Held
+pub mod InPlace
 pub mod NormalForms
 pub mod Pieces
 pub mod Readings

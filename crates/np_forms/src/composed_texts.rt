@@ -1,153 +1,164 @@
-//! Segments that compose code point by code point as they are decomposed, where their decomposition is
-//! in canonical order as it comes; any other goes through a list that is sorted.
-ghost use Rattle.std.specs.Prelude.{◌≡◌, ◌<◌, ◌++◌, ◌∷◌, [], List, ℕ, true, length, vec_len, IfOk, IfSome};
-ghost use Rattle.std.specs.Option.{ForSome};
+//! Segments that compose to one code point, which is found as they are decomposed, without a list: an accented
+//! letter and what it is spelled with. Any other goes through a list that is sorted.
+ghost use Rattle.std.specs.Prelude.{◌≡◌, ◌<◌, ◌++◌, ◌∷◌, [], List, ℕ, None, true, length, IfOk, IfSome};
 ghost use Rattle.np_code_points.specs.Forms.{composes};
 ghost use Rattle.np_forms.specs.inside.Copies.{GoesOn};
-ghost use Rattle.np_forms.specs.inside.Segments.{IsComposedOf, IsFirstMade};
+ghost use Rattle.np_forms.specs.inside.Segments.{IsComposedOf, IsFirstMade, IsFoldedOf};
 ghost use Rattle.np_tables.specs.Conditions.{IsSound};
 ghost use Rattle.np_tables.specs.inside.FullDecompositions.{full_of};
 
-use crate::composing::pair_with_last;
+use crate::classes::Classed;
 use crate::copying::write_next;
 use crate::ordering::may_follow;
 use crate::out_texts::OutText;
+use crate::plain_texts::split_plain;
 use np_code_points::hangul::is_syllable;
 use np_code_points::{Form, Memory};
 use np_tables::NormTable;
 use std::alloc::Global;
 
-/// What is known of a list that was composed of code points in canonical order.
+/// What code points in canonical order compose to, where that is a single one.
 #[derive(Clone, Copy)]
-struct Composed {
-    /// The place of the last starter.
-    starter: Option<usize>,
-    /// The class of the last code point that was kept behind it, 0 where there is none.
-    kept: u8,
-    /// The class of the last code point that was read, 0 where there is none.
+struct Folded {
+    /// That code point.
+    code: char,
+    /// The class of the last code point that was read.
     read: u8,
 }
 
-/// Of an empty list.
-const EMPTY: Composed = Composed {
-    starter: None,
-    kept: 0,
-    read: 0,
-};
-
-/// Takes in the next code point of a full decomposition, and tells whether that is in canonical
-/// order so far. What was composed grows in its own list, and so needs room; `composing` takes in
-/// what stands in the same list, and needs none.
+/// A starter, behind which others may follow.
 #[inline(always)]
-fn take_in_order<T: NormTable>(
-    table: &T,
-    list: &mut Vec<char>,
-    composed: &mut Composed,
-    d: char,
-) -> Result<bool, Memory>
-    requires in_range { ForSome composed.old.starter (λ q. q < vec_len list.old) }
-    ensures in_range { IfOk result (λ _. ForSome composed.new.starter (λ q. q < vec_len list.new)) }
-    ensures goes { IfOk result (λ ordered. ordered ≡ true → (done : List ℕ) →
-        IsComposedOf (T.model table.now) done list.old.items composed.old.starter composed.old.kept composed.old.read →
-        IsComposedOf (T.model table.now) (done ++ d ∷ []) list.new.items composed.new.starter composed.new.kept composed.new.read) }
+fn fold_start<T: NormTable>(table: &T, c: char) -> Option<Folded>
+    ensures { IfSome result (λ new. (done : List ℕ) → IsComposedOf (T.model table.now) done [] None 0 0 → IsFoldedOf (T.model table.now) (done ++ c ∷ []) new) }
+{
+    if table.class(c) == 0 {
+        Some(Folded { code: c, read: 0 })
+    } else {
+        None
+    }
+}
+
+/// Takes in the next code point of a full decomposition; none where it is out of order, or composes with
+/// nothing.
+#[inline(always)]
+fn fold_next<T: NormTable>(table: &T, folded: Folded, d: char) -> Option<Folded>
+    ensures { IfSome result (λ new. (done : List ℕ) → IsFoldedOf (T.model table.now) done folded → IsFoldedOf (T.model table.now) (done ++ d ∷ []) new) }
 {
     let class = table.class(d);
-    if !may_follow(composed.read, class) {
-        return Ok(false);
+    if !may_follow(folded.read, class) {
+        return None;
     }
-    composed.read = class;
-    if let Some((q, p)) = pair_with_last(table, list, composed.starter, composed.kept, d, class) {
-        list[q] = p;
-        return Ok(true);
-    }
-    let place = list.len();
-    list.push(d)?;
-    composed.kept = class;
-    if class == 0 {
-        composed.starter = Some(place);
-    }
-    Ok(true)
+    let code = table.pair(folded.code, d)?;
+    Some(Folded { code, read: class })
 }
 
-/// Takes in the full decomposition of a code point, and tells whether it is in canonical order so
-/// far. A syllable is not taken in.
+/// Takes in several.
 #[inline(always)]
-fn take_in_full<T: NormTable>(
-    table: &T,
-    compat: bool,
-    list: &mut Vec<char>,
-    composed: &mut Composed,
-    c: char,
-) -> Result<bool, Memory>
-    requires sound { IsSound (T.model table.now) }
-    requires in_range { ForSome composed.old.starter (λ q. q < vec_len list.old) }
-    ensures in_range { IfOk result (λ _. ForSome composed.new.starter (λ q. q < vec_len list.new)) }
-    ensures goes { IfOk result (λ ordered. ordered ≡ true → (done : List ℕ) →
-        IsComposedOf (T.model table.now) done list.old.items composed.old.starter composed.old.kept composed.old.read →
-        IsComposedOf (T.model table.now) (done ++ full_of (T.model table.now) compat c) list.new.items composed.new.starter composed.new.kept composed.new.read) }
+fn fold_all<T: NormTable>(table: &T, folded: Folded, list: &[char]) -> Option<Folded>
+    ensures { IfSome result (λ new. (done : List ℕ) → IsFoldedOf (T.model table.now) done folded → IsFoldedOf (T.model table.now) (done ++ list.now) new) }
+{
+    let mut now = folded;
+    for d in list {
+        now = fold_next(table, now, *d)?;
+    }
+    Some(now)
+}
+
+/// Begins with the full decomposition of a code point; none of a syllable.
+#[inline(always)]
+fn fold_first<T: NormTable>(table: &T, compat: bool, c: char) -> Option<Folded>
+    requires { IsSound (T.model table.now) }
+    ensures { IfSome result (λ new. (done : List ℕ) → IsComposedOf (T.model table.now) done [] None 0 0 → IsFoldedOf (T.model table.now) (done ++ full_of (T.model table.now) compat c) new) }
+{
+    match table.full(c, compat) {
+        [first, rest @ ..] => {
+            let begun = fold_start(table, *first)?;
+            fold_all(table, begun, rest)
+        }
+        [] => {
+            if is_syllable(c as u32) {
+                return None;
+            }
+            fold_start(table, c)
+        }
+    }
+}
+
+/// Takes in the full decomposition of a code point; none of a syllable.
+#[inline(always)]
+fn fold_full<T: NormTable>(table: &T, compat: bool, folded: Folded, c: char) -> Option<Folded>
+    requires { IsSound (T.model table.now) }
+    ensures { IfSome result (λ new. (done : List ℕ) → IsFoldedOf (T.model table.now) done folded → IsFoldedOf (T.model table.now) (done ++ full_of (T.model table.now) compat c) new) }
 {
     let full = table.full(c, compat);
-    if full.is_empty() {
-        if is_syllable(c as u32) {
-            return Ok(false);
-        }
-        return take_in_order(table, list, composed, c);
+    if !full.is_empty() {
+        return fold_all(table, folded, full);
     }
-    for d in full {
-        if !take_in_order(table, list, composed, *d)? {
-            return Ok(false);
-        }
+    if is_syllable(c as u32) {
+        return None;
     }
-    Ok(true)
+    fold_next(table, folded, c)
 }
 
-/// Makes a list the form of the first segment of a text, and answers what follows it; none where the
-/// segment's full decomposition is not in canonical order, or it has a syllable.
-fn compose_first<'a, T: NormTable>(
-    table: &T,
-    form: Form,
-    text: &'a str,
-    list: &mut Vec<char>,
-) -> Result<Option<&'a str>, Memory>
+/// The code point that the first segment of a text composes to, and what follows the segment; none where
+/// that is not one code point, or is not found so.
+#[inline(always)]
+fn fold_segment<'a, T: NormTable>(table: &T, form: Form, text: &'a str) -> Option<(char, &'a str)>
     requires { composes form ≡ true }
-    ensures made { IfOk result (λ found. IfSome found (λ rest. IsFirstMade (T.model table.now) form text.now rest.now list.new.items)) }
-    ensures shorter { IfOk result (λ found. IfSome found (λ rest. 0 < length text.now → length rest.now < length text.now)) }
+    ensures made { IfSome result (λ cut. IsFirstMade (T.model table.now) form text.now cut.1.now (cut.0 ∷ [])) }
+    ensures shorter { IfSome result (λ cut. length cut.1.now < length text.now) }
 {
     table.meets_conditions();
-    list.clear();
-    let mut composed = EMPTY;
     let mut iter = text.chars();
+    let first = iter.next()?;
+    let mut folded = fold_first(table, form.compat(), first)?;
     'scan: loop {
         let here = iter.as_str();
+        let code = folded.code;
         let Some(c) = iter.next() else {
-            return Ok(Some(here));
+            return Some((code, here));
         };
-        if here.len() < text.len() && table.is_boundary(form, c) {
-            return Ok(Some(here));
+        if table.is_boundary(form, c) {
+            return Some((code, here));
         }
-        if !take_in_full(table, form.compat(), list, &mut composed, c)? {
-            return Ok(None);
-        }
+        folded = fold_full(table, form.compat(), folded, c)?;
     }
 }
 
-/// Appends the form of the first segment of a text, and answers what follows it. The list is room
-/// that is used again.
+/// Whether the first code point of a text has no fewer bytes than these. On this no answer depends.
+#[inline(always)]
+fn is_first_all_of(text: &str, stood: usize) -> bool {
+    match text.chars().next() {
+        Some(c) => stood <= c.len_utf8(),
+        None => false,
+    }
+}
+
+/// Appends the form of the first segment of a text, of which so many bytes stand as they are if a boundary
+/// follows them, and answers what follows the segment. The list is room that is used again.
 pub(crate) fn write_first<'a, T: NormTable>(
     alloc: Global,
     table: &T,
     form: Form,
     text: &'a str,
-    list: &mut Vec<char>,
+    stood: usize,
+    list: &mut Vec<Classed>,
     out: &mut OutText,
 ) -> Result<&'a str, Memory>
     requires { composes form ≡ true }
     ensures goes { IfOk result (λ rest. GoesOn (T.model table.now) form text.now rest.now out.old out.new) }
     ensures shorter { IfOk result (λ rest. 0 < length text.now → length rest.now < length text.now) }
 {
-    if let Some(rest) = compose_first(table, form, text, list)? {
-        out.append_chars(list)?;
-        return Ok(rest);
+    // what stands behind the first code point composes with nothing
+    if is_first_all_of(text, stood) {
+        if let Some((code, rest)) = fold_segment(table, form, text) {
+            out.append_char(code)?;
+            return Ok(rest);
+        }
+        if let Some((plain, rest)) = split_plain(table, form, text) {
+            out.append_front(text, plain)?;
+            return Ok(rest);
+        }
     }
     write_next(alloc, table, form, text, list, out)
 }

@@ -1,19 +1,23 @@
 //! Canonical composition in one pass (The Unicode Standard, D117).
-ghost use Rattle.std.specs.Prelude.{◌≡◌, ◌<◌, ◌≤◌, ◌+◌, ℕ, List, true, length, take, drop, vec_len, IfSome};
+ghost use Rattle.std.specs.Prelude.{◌≡◌, ◌<◌, ◌≤◌, ◌+◌, ℕ, List, true, length, vec_len, IfSome};
 ghost use Rattle.std.specs.Option.{ForSome};
-ghost use Rattle.np_forms.specs.inside.Composers.{IsComposing, pair_with_last as pair_found};
+ghost use Rattle.np_forms.specs.inside.Classes.{codes_of, with_classes};
+ghost use Rattle.np_forms.specs.inside.Composers.{pair_with_last as pair_found};
+ghost use Rattle.np_forms.specs.inside.InPlace.{IsInPlace};
 ghost use Rattle.np_forms.specs.inside.Composing.{compose_of};
 ghost use Rattle.np_forms.specs.Order.{is_ordered};
 ghost use Rattle.np_tables.specs.Versions.{class_of};
 
+use crate::classes::Classed;
 use np_tables::NormTable;
 
-/// A composition inside its own list. The first `kept` places hold what was composed so far; what
-/// is still to be read stands at a place that is no smaller. Of what was composed, the place of the
-/// last starter, and the class of the last code point that was kept behind it, 0 where there is none.
+/// A composition inside its own list. The first `kept` places hold what was composed so far, beside
+/// classes that are of no account; what is still to be read stands at a place that is no smaller. Of what
+/// was composed, the place of the last starter, and the class of the last code point that was kept behind
+/// it, 0 where there is none.
 #[derive(Drop)]
 struct Composer {
-    list: Vec<char>,
+    list: Vec<Classed>,
     kept: usize,
     starter: Option<usize>,
     last: u8,
@@ -28,20 +32,19 @@ struct Composer {
 #[tactic(auto, unfolding(crate::specs::inside::Composers::pair_with_last))]
 pub(crate) fn pair_with_last<T: NormTable>(
     table: &T,
-    list: &[char],
+    list: &[Classed],
     starter: Option<usize>,
     last: u8,
     c: char,
     class: u8,
 ) -> Option<(usize, char)>
-    requires class { class ≡ class_of (T.model table.now) c }
     requires in_range { ForSome starter (λ q. q < length list.now) }
-    ensures pair { result ≡ pair_found (T.model table.now) list.now starter last c }
+    ensures pair { class ≡ class_of (T.model table.now) c → result ≡ pair_found (T.model table.now) (codes_of list.now) starter last c }
     ensures in_range { IfSome result (λ found. found.0 < length list.now) }
 {
     let q = starter?;
     if last == 0 || last < class {
-        let p = table.pair(list[q], c)?;
+        let p = table.pair(list[q].code, c)?;
         Some((q, p))
     } else {
         None
@@ -52,21 +55,26 @@ pub(crate) fn pair_with_last<T: NormTable>(
 fn take_in<T: NormTable>(composer: &mut Composer, table: &T, at: usize)
     requires kept { composer.old.kept ≤ at }
     requires place { at < vec_len composer.old.list }
-    ensures composing { (whole : List ℕ) →
-        IsComposing (T.model table.now) whole (take composer.old.kept composer.old.list.items) composer.old.starter composer.old.last (drop at composer.old.list.items) →
-        IsComposing (T.model table.now) whole (take composer.new.kept composer.new.list.items) composer.new.starter composer.new.last (drop (at + 1) composer.new.list.items) }
+    ensures composing { (whole : List ℕ) → IsInPlace (T.model table.now) whole at composer.old.list.items composer.old.kept composer.old.starter composer.old.last → IsInPlace (T.model table.now) whole (at + 1) composer.new.list.items composer.new.kept composer.new.starter composer.new.last }
     ensures kept { composer.new.kept ≤ at + 1 }
     ensures length { vec_len composer.new.list ≡ vec_len composer.old.list }
 {
     let c = composer.list[at];
-    let class = table.class(c);
     let done = &composer.list[..composer.kept];
-    if let Some((q, p)) = pair_with_last(table, done, composer.starter, composer.last, c, class) {
-        composer.list[q] = p;
+    let found = pair_with_last(
+        table,
+        done,
+        composer.starter,
+        composer.last,
+        c.code,
+        c.class,
+    );
+    if let Some((q, p)) = found {
+        composer.list[q] = Classed { code: p, class: 0 };
         return;
     }
     let place = composer.kept;
-    let starter = if class == 0 {
+    let starter = if c.class == 0 {
         Some(place)
     } else {
         composer.starter
@@ -74,13 +82,14 @@ fn take_in<T: NormTable>(composer: &mut Composer, table: &T, at: usize)
     composer.list[place] = c;
     composer.kept = place + 1;
     composer.starter = starter;
-    composer.last = class;
+    composer.last = c.class;
 }
 
-/// The composition of a list in canonical order, in the list's own memory.
-pub(crate) fn compose<T: NormTable>(table: &T, text: Vec<char>) -> Vec<char>
-    requires { is_ordered (class_of (T.model table.now)) text.items ≡ true }
-    ensures { result.items ≡ compose_of (T.model table.now) text.items }
+/// The composition of a list in canonical order, in the list's own memory, beside classes that are of no
+/// account.
+pub(crate) fn compose<T: NormTable>(table: &T, text: Vec<Classed>) -> Vec<Classed>
+    ensures { (cs : List ℕ) → text.items ≡ with_classes (T.model table.now) cs → is_ordered (class_of (T.model table.now)) cs ≡ true →
+        codes_of result.items ≡ compose_of (T.model table.now) cs }
 {
     let mut composer = Composer {
         list: text,

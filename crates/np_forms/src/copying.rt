@@ -7,7 +7,8 @@ ghost use Rattle.np_forms.specs.inside.NormalForms.{normal_form};
 ghost use Rattle.np_forms.specs.inside.Readings.{IsReadAssigned};
 
 use crate::assigned::first_lacking;
-use crate::decomposing::decompose_into;
+use crate::classes::Classed;
+use crate::decomposing::{decompose_first, decompose_into};
 use crate::fronts::write_front;
 use crate::held::settle;
 use crate::out_texts::OutText;
@@ -27,26 +28,28 @@ pub(crate) fn begins_at_boundary<T: NormTable>(table: &T, form: Form, text: &str
 }
 
 /// Cuts off the longest front that is known to stand in the form as it is; where `assigned` is asked for,
-/// each of its code points is. It is made part of each loop that calls it, so that what the form asks is
-/// looked up once.
+/// each of its code points is. The third answer is how many bytes behind the cut would stand too, if a
+/// boundary followed them. It is made part of each loop that calls it, so that what the form asks is looked
+/// up once.
 #[inline(always)]
 pub(crate) fn split_standing<'a, T: NormTable>(
     table: &T,
     form: Form,
     assigned: bool,
     text: &'a str,
-) -> (&'a str, &'a str)
+) -> (&'a str, &'a str, usize)
     ensures copied { IsCopied (T.model table.now) form text.now result.0.now result.1.now }
     ensures assigned { IsTrue assigned → IsAssigned (T.model table.now) (chars result.0.now) }
 {
     table.meets_conditions();
     let (front, back) = text.split_at(table.standing(form, assigned, text));
     if begins_at_boundary(table, form, back) {
-        return (front, back);
+        return (front, back, 0);
     }
     // what may change begins at the last boundary
-    let (before, _last) = split_tail(table, form, front);
-    text.split_at(before.len())
+    let (before, last) = split_tail(table, form, front);
+    let (stays, behind) = text.split_at(before.len());
+    (stays, behind, last.len())
 }
 
 /// Cuts before the first code point at which the form is known to part. It too is made part of each
@@ -126,14 +129,14 @@ pub(crate) fn write_segment<T: NormTable>(
     table: &T,
     form: Form,
     segment: &str,
-    list: &mut Vec<char>,
+    list: &mut Vec<Classed>,
     out: &mut OutText,
 ) -> Result<(), Memory>
     ensures { OnOk result (out.new ≡ out.old ++ encode_utf8_all (normal_form (T.model table.now) form (chars segment.now))) }
 {
     decompose_into(table, form.compat(), segment, list)?;
     settle(alloc, table, form.composes(), list)?;
-    out.append_chars(list)
+    out.append_codes(list)
 }
 
 /// Appends the form of the first segment of a text, and answers what follows it. The list is room
@@ -144,14 +147,16 @@ pub(crate) fn write_next<'a, T: NormTable>(
     table: &T,
     form: Form,
     text: &'a str,
-    list: &mut Vec<char>,
+    list: &mut Vec<Classed>,
     out: &mut OutText,
 ) -> Result<&'a str, Memory>
     ensures goes { IfOk result (λ rest. GoesOn (T.model table.now) form text.now rest.now out.old out.new) }
     ensures shorter { IfOk result (λ rest. 0 < length text.now → length rest.now < length text.now) }
 {
-    let (segment, later) = split_segment(table, form, text);
-    write_segment(alloc, table, form, segment, list, out)?;
+    table.meets_conditions();
+    let later = decompose_first(table, form, text, list)?;
+    settle(alloc, table, form.composes(), list)?;
+    out.append_codes(list)?;
     Ok(later)
 }
 
@@ -161,6 +166,7 @@ pub(crate) fn write_next<'a, T: NormTable>(
 fn may_go_on<T: NormTable>(table: &T, assigned: bool, after: &str, later: &str) -> bool
     requires { IsEndOf after.now later.now }
     ensures read { IsTrue assigned → IsTrue result → IsReadAssigned (T.model table.now) after.now later.now }
+    ensures lacking { result ≡ false → ¬ IsAssigned (T.model table.now) (chars after.now) }
     ensures always { assigned ≡ false → IsTrue result }
 {
     if !assigned || after.len() == later.len() {
@@ -185,6 +191,7 @@ pub(crate) fn write_fronts<T: NormTable>(
 ) -> Result<bool, Memory>
     ensures form { IfOk result (λ all. IsTrue all → out.new ≡ out.old ++ encode_utf8_all (normal_form (T.model table.now) form (chars text.now))) }
     ensures assigned { IfOk result (λ all. IsTrue assigned → IsTrue all → IsAssigned (T.model table.now) (chars text.now)) }
+    ensures lacking { IfOk result (λ all. all ≡ false → ¬ IsAssigned (T.model table.now) (chars text.now)) }
     ensures always { IfOk result (λ all. assigned ≡ false → IsTrue all) }
 {
     let mut list = Vec::new(alloc);

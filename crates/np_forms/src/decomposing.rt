@@ -1,39 +1,50 @@
-//! Full decompositions (The Unicode Standard, D68 and D65).
-ghost use Rattle.std.specs.Prelude.{◌≡◌, ◌++◌, [], chars, flat_map, if◌then◌else◌, IfOk, OnOk};
-ghost use Rattle.np_code_points.specs.Hangul.{is_syllable};
+//! Full decompositions (The Unicode Standard, D68 and D65), each code point beside its class.
+ghost use Rattle.std.specs.Prelude.{◌≡◌, ◌<◌, ◌++◌, ◌∷◌, [], length, true, chars, flat_map, IfOk, OnOk};
+ghost use Rattle.np_code_points.specs.Hangul.{is_syllable as in_block};
+ghost use Rattle.np_forms.specs.inside.Classes.{with_classes};
+ghost use Rattle.np_forms.specs.inside.Copies.{BeginsAtBoundary};
+ghost use Rattle.np_forms.specs.inside.Segments.{IsDecomposedUpTo};
 ghost use Rattle.np_forms.specs.inside.Syllables.{syllable_parts};
 ghost use Rattle.np_tables.specs.Conditions.{IsSound};
 ghost use Rattle.np_tables.specs.inside.FullDecompositions.{full_of};
 ghost use Rattle.np_tables.specs.Versions.{has_hangul};
 
-use np_code_points::Memory;
-use np_code_points::hangul::hangul_parts;
+use crate::classes::{Classed, push_classed, with_class};
+use np_code_points::hangul::{hangul_parts, is_syllable};
+use np_code_points::{Form, Memory};
 use np_tables::NormTable;
-use std::alloc::Global;
 
-/// Appends the full decomposition of a syllable by arithmetic, and tells whether `c` is one.
-fn append_syllable(list: &mut Vec<char>, c: char) -> Result<bool, Memory>
-    ensures syllable { IfOk result (λ b. b ≡ is_syllable c) }
-    ensures items { IfOk result (λ b. list.new.items ≡ list.old.items ++ (if b then syllable_parts c else [])) }
+/// Whether a code point is its own full decomposition.
+#[inline(always)]
+pub(crate) fn is_own<T: NormTable>(table: &T, compat: bool, c: char) -> bool
+    requires { IsSound (T.model table.now) }
+    ensures { result ≡ true → full_of (T.model table.now) compat c ≡ c ∷ [] }
 {
+    if is_syllable(c as u32) {
+        return false;
+    }
+    table.full(c, compat).is_empty()
+}
+
+/// Appends the full decomposition of a syllable by arithmetic.
+fn append_syllable<T: NormTable>(list: &mut Vec<Classed>, table: &T, c: char) -> Result<(), Memory>
+    requires { in_block c ≡ true }
+    ensures { OnOk result (list.new.items ≡ list.old.items ++ with_classes (T.model table.now) (syllable_parts c)) }
+{
+    // each syllable has parts
     let Some((first, second)) = hangul_parts(c) else {
-        return Ok(false);
+        return Ok(());
     };
     match hangul_parts(first) {
-        Some((lead, vowel)) => {
-            list.push(lead)?;
-            list.push(vowel)?;
-        }
-        None => list.push(first)?,
+        Some((lead, vowel)) => push_classed(table, &[lead, vowel, second], list),
+        None => push_classed(table, &[first, second], list),
     }
-    list.push(second)?;
-    Ok(true)
 }
 
 /// Appends the full decomposition of a code point.
 #[inline(always)]
 pub(crate) fn append<T: NormTable>(
-    list: &mut Vec<char>,
+    list: &mut Vec<Classed>,
     table: &T,
     hangul: bool,
     compat: bool,
@@ -41,17 +52,16 @@ pub(crate) fn append<T: NormTable>(
 ) -> Result<(), Memory>
     requires sound { IsSound (T.model table.now) }
     requires hangul { hangul ≡ has_hangul (T.model table.now) }
-    ensures { OnOk result (list.new.items ≡ list.old.items ++ full_of (T.model table.now) compat c) }
+    ensures { OnOk result (list.new.items ≡ list.old.items ++ with_classes (T.model table.now) (full_of (T.model table.now) compat c)) }
 {
     let full = table.full(c, compat);
     if !full.is_empty() {
-        list.extend_from_slice(full)?;
-        return Ok(());
+        return push_classed(table, full, list);
     }
-    if hangul && append_syllable(list, c)? {
-        return Ok(());
+    if hangul && is_syllable(c as u32) {
+        return append_syllable(list, table, c);
     }
-    list.push(c)?;
+    list.push(with_class(table, c))?;
     Ok(())
 }
 
@@ -60,9 +70,9 @@ pub(crate) fn decompose_into<T: NormTable>(
     table: &T,
     compat: bool,
     text: &str,
-    list: &mut Vec<char>,
+    list: &mut Vec<Classed>,
 ) -> Result<(), Memory>
-    ensures { OnOk result (list.new.items ≡ flat_map (full_of (T.model table.now) compat) (chars text.now)) }
+    ensures { OnOk result (list.new.items ≡ with_classes (T.model table.now) (flat_map (full_of (T.model table.now) compat) (chars text.now))) }
 {
     table.meets_conditions();
     let hangul = table.hangul();
@@ -73,16 +83,31 @@ pub(crate) fn decompose_into<T: NormTable>(
     Ok(())
 }
 
-/// The full decomposition of a text, in the order of the text.
-pub(crate) fn full_decomposition<T: NormTable>(
-    alloc: Global,
+/// Makes a list the full decomposition of the first segment of a text, which ends before the first code
+/// point behind its first one at which the form is known to part, and answers what follows it.
+pub(crate) fn decompose_first<'a, T: NormTable>(
     table: &T,
-    compat: bool,
-    text: &str,
-) -> Result<Vec<char>, Memory>
-    ensures { IfOk result (λ list. list.items ≡ flat_map (full_of (T.model table.now) compat) (chars text.now)) }
+    form: Form,
+    text: &'a str,
+    list: &mut Vec<Classed>,
+) -> Result<&'a str, Memory>
+    ensures decomposed { IfOk result (λ rest. IsDecomposedUpTo (T.model table.now) form text.now rest.now list.new.items) }
+    ensures at { IfOk result (λ rest. BeginsAtBoundary (T.model table.now) form (chars rest.now)) }
+    ensures shorter { IfOk result (λ rest. 0 < length text.now → length rest.now < length text.now) }
 {
-    let mut list = Vec::with_capacity(alloc, text.len())?;
-    decompose_into(table, compat, text, &mut list)?;
-    Ok(list)
+    table.meets_conditions();
+    let hangul = table.hangul();
+    let compat = form.compat();
+    list.clear();
+    let mut iter = text.chars();
+    'scan: loop {
+        let here = iter.as_str();
+        let Some(c) = iter.next() else {
+            return Ok(here);
+        };
+        if here.len() < text.len() && table.is_boundary(form, c) {
+            return Ok(here);
+        }
+        append(list, table, hangul, compat, c)?;
+    }
 }

@@ -1,28 +1,31 @@
 //! The four normalization forms (The Unicode Standard, D118 to D121).
 ghost use Rattle.std.specs.Prelude.{◌≡◌, ◌↔◌, IsTrue, chars, string_bytes, encode_utf8_all, IfOk};
 ghost use Rattle.np_forms.specs.Forms.{IsNormalForm};
+ghost use Rattle.np_forms.specs.inside.Classes.{with_classes};
 ghost use Rattle.np_forms.specs.inside.Copies.{IsBehind};
 ghost use Rattle.np_forms.specs.inside.NormalForms.{decomposed as decomposed_list, normal_form};
 
+use crate::classes::Classed;
 use crate::copying::{split_segment, split_standing, write_form, write_segment};
-use crate::decomposing::full_decomposition;
+use crate::decomposing::decompose_into;
 use crate::ordering::order;
 use crate::out_texts::OutText;
 use np_code_points::{Form, Memory};
 use np_tables::NormTable;
 use std::alloc::Global;
 
-/// The full decomposition of a text in canonical order.
+/// The full decomposition of a text in canonical order, each code point beside its class.
 pub(crate) fn decomposed<T: NormTable>(
     alloc: Global,
     table: &T,
     compat: bool,
     text: &str,
-) -> Result<Vec<char>, Memory>
-    ensures { IfOk result (λ list. list.items ≡ decomposed_list (T.model table.now) compat (chars text.now)) }
+) -> Result<Vec<Classed>, Memory>
+    ensures { IfOk result (λ list. list.items ≡ with_classes (T.model table.now) (decomposed_list (T.model table.now) compat (chars text.now))) }
 {
-    let mut list = full_decomposition(alloc, table, compat, text)?;
-    order(alloc, table, &mut list)?;
+    let mut list = Vec::with_capacity(alloc, text.len())?;
+    decompose_into(table, compat, text, &mut list)?;
+    order(alloc, &mut list)?;
     Ok(list)
 }
 
@@ -62,7 +65,7 @@ fn behind_segment<'a, T: NormTable>(
     form: Form,
     segment: &str,
     bytes: &'a [u8],
-    list: &mut Vec<char>,
+    list: &mut Vec<Classed>,
     made: &mut OutText,
 ) -> Result<Option<&'a [u8]>, Memory>
     ensures { IfOk result (IsBehind bytes.now (encode_utf8_all (normal_form (T.model table.now) form (chars segment.now)))) }
@@ -92,7 +95,7 @@ pub fn is_form<T: NormTable>(
     let mut left = text.as_bytes();
     let mut rest = text;
     'segments: while !rest.is_empty() {
-        let (stays, after) = split_standing(table, wanted, false, rest);
+        let (stays, after, _stood) = split_standing(table, wanted, false, rest);
         let (segment, later) = split_segment(table, wanted, after);
         let Some(past) = behind(left, stays.as_bytes()) else {
             return Ok(false);

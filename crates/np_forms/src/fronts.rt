@@ -5,6 +5,7 @@ ghost use Rattle.np_forms.specs.inside.Copies.{GoesOn, IsEndOf};
 ghost use Rattle.np_forms.specs.inside.Readings.{IsReadAssigned};
 ghost use Rattle.np_forms.specs.inside.Segments.{IsFirstSpelled};
 
+use crate::classes::Classed;
 use crate::composed_texts::write_first;
 use crate::copying::{begins_at_boundary, split_standing, write_next};
 use crate::out_texts::OutText;
@@ -37,14 +38,16 @@ fn split_spelled<'t, 'a, T: NormTable>(
 }
 
 /// Appends the form of the syllables at the front of a text, or of those that jamo spell there, or else of
-/// its first segment. Answers what follows the code points that are known to be assigned by that, and
-/// what follows all. The list is room that is used again.
+/// its first segment, of which so many bytes stand as they are if a boundary follows them. Answers what
+/// follows the code points that are known to be assigned by that, and what follows all. The list is room
+/// that is used again.
 fn write_changed<'a, T: NormTable>(
     alloc: Global,
     table: &T,
     form: Form,
     text: &'a str,
-    list: &mut Vec<char>,
+    stood: usize,
+    list: &mut Vec<Classed>,
     out: &mut OutText,
 ) -> Result<(&'a str, &'a str), Memory>
     ensures goes { IfOk result (λ cut. GoesOn (T.model table.now) form text.now cut.1.now out.old out.new) }
@@ -61,7 +64,7 @@ fn write_changed<'a, T: NormTable>(
         return Ok((after, after));
     }
     let later = if form.composes() {
-        write_first(alloc, table, form, after, list, out)?
+        write_first(alloc, table, form, after, stood, list, out)?
     } else {
         write_next(alloc, table, form, after, list, out)?
     };
@@ -78,7 +81,7 @@ pub(crate) fn write_front<'a, T: NormTable>(
     form: Form,
     assigned: bool,
     text: &'a str,
-    list: &mut Vec<char>,
+    list: &mut Vec<Classed>,
     out: &mut OutText,
 ) -> Result<(&'a str, &'a str), Memory>
     requires { 0 < length text.now }
@@ -87,7 +90,7 @@ pub(crate) fn write_front<'a, T: NormTable>(
     ensures end { IfOk result (λ cut. IsEndOf cut.0.now cut.1.now) }
     ensures shorter { IfOk result (λ cut. length cut.1.now < length text.now) }
 {
-    let (stays, behind) = split_standing(table, form, assigned, text);
+    let (stays, behind, stood) = split_standing(table, form, assigned, text);
     let spelled = split_spelled(table, form, behind);
     out.append_front(text, stays)?;
     if let Some((bytes, count, later)) = spelled {
@@ -97,6 +100,6 @@ pub(crate) fn write_front<'a, T: NormTable>(
     if behind.is_empty() {
         return Ok((behind, behind));
     }
-    let (after, later) = write_changed(alloc, table, form, behind, list, out)?;
+    let (after, later) = write_changed(alloc, table, form, behind, stood, list, out)?;
     Ok((after, later))
 }

@@ -14,6 +14,7 @@
 #![tactic(auto)]
 
 mod assigned;
+mod classes;
 mod composed_texts;
 mod composing;
 mod copying;
@@ -27,6 +28,7 @@ pub mod laws;
 mod ordering;
 mod out_texts;
 mod pieces;
+mod plain_texts;
 mod runs;
 mod stabilized;
 mod stream_safety;

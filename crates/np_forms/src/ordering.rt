@@ -1,12 +1,13 @@
 //! Canonical ordering (The Unicode Standard, D109).
-ghost use Rattle.std.specs.Prelude.{◌≡◌, ◌≤◌, ◌<◌, ◌⊎◌, ◌++◌, true, length, take, drop, slice_index, IsTrue, IfOk, OnOk, OnErr};
+ghost use Rattle.std.specs.Prelude.{◌≡◌, ◌≤◌, ◌<◌, ◌⊎◌, ◌++◌, ℕ, List, true, length, take, drop, slice_index, IsTrue, IfOk, OnOk, OnErr};
 ghost use Rattle.std.specs.List.{list_all};
 ghost use Rattle.np_forms.specs.Starters.{is_non_starter};
 ghost use Rattle.np_forms.specs.Order.{is_ordered};
 ghost use Rattle.np_forms.specs.inside.CanonicalOrder.{canonical_order};
-ghost use Rattle.np_tables.specs.Versions.{class_of};
+ghost use Rattle.np_forms.specs.inside.Classes.{IsOrderedOn, with_classes};
+ghost use Rattle.np_tables.specs.Versions.{VersionData, class_of};
 
-use np_tables::NormTable;
+use crate::classes::Classed;
 use std::alloc::{AllocError, Global};
 
 /// Whether a code point of this class may stand behind one of the class `last` in canonical order.
@@ -18,16 +19,16 @@ pub(crate) fn may_follow(last: u8, class: u8) -> bool
 }
 
 /// How many non-starters stand at the front, and whether they are in canonical order already.
-fn non_starters_at_front<T: NormTable>(table: &T, list: &[char]) -> (usize, bool)
+fn non_starters_at_front(list: &[Classed]) -> (usize, bool)
     ensures bound { result.0 ≤ length list.now }
-    ensures non_starters { list_all (is_non_starter (T.model table.now)) (take result.0 list.now) ≡ true }
-    ensures starter { result.0 < length list.now → class_of (T.model table.now) (slice_index list.now result.0) ≡ 0 }
-    ensures ordered { result.1 ≡ true → is_ordered (class_of (T.model table.now)) (take result.0 list.now) ≡ true }
+    ensures non_starters { (v : VersionData) (cs : List ℕ) → list.now ≡ with_classes v cs → list_all (is_non_starter v) (take result.0 cs) ≡ true }
+    ensures starter { (v : VersionData) (cs : List ℕ) → list.now ≡ with_classes v cs → result.0 < length cs → class_of v (slice_index cs result.0) ≡ 0 }
+    ensures ordered { (v : VersionData) (cs : List ℕ) → list.now ≡ with_classes v cs → result.1 ≡ true → is_ordered (class_of v) (take result.0 cs) ≡ true }
 {
     let mut last = 0;
     let mut ordered = true;
     for (i, c) in list.iter().enumerate() {
-        let class = table.class(*c);
+        let class = c.class;
         if class == 0 {
             return (i, ordered);
         }
@@ -40,57 +41,60 @@ fn non_starters_at_front<T: NormTable>(table: &T, list: &[char]) -> (usize, bool
 }
 
 /// Whether a list holds non-starters alone.
-pub(crate) fn are_non_starters<T: NormTable>(table: &T, list: &[char]) -> bool
-    ensures { result ≡ true → list_all (is_non_starter (T.model table.now)) list.now ≡ true }
+pub(crate) fn are_non_starters(list: &[Classed]) -> bool
+    ensures { (v : VersionData) (cs : List ℕ) → list.now ≡ with_classes v cs → result ≡ true → list_all (is_non_starter v) cs ≡ true }
 {
-    let (count, _) = non_starters_at_front(table, list);
+    let (count, _) = non_starters_at_front(list);
     count == list.len()
 }
 
 /// Puts a run of non-starters in canonical order, by a stable sort.
-fn sort_non_starters<T: NormTable>(
-    alloc: Global,
-    table: &T,
-    non_starters: &mut [char],
-) -> Result<(), AllocError>
-    requires { list_all (is_non_starter (T.model table.now)) non_starters.old ≡ true }
-    ensures ok { OnOk result (non_starters.new ≡ canonical_order (class_of (T.model table.now)) non_starters.old) }
+fn sort_non_starters(alloc: Global, non_starters: &mut [Classed]) -> Result<(), AllocError>
+    ensures ok { OnOk result ((v : VersionData) (cs : List ℕ) → list_all (is_non_starter v) cs ≡ true → non_starters.old ≡ with_classes v cs → non_starters.new ≡ with_classes v (canonical_order (class_of v) cs)) }
     ensures err { OnErr result (non_starters.new ≡ non_starters.old) }
 {
-    non_starters.sort_by_key(alloc, |c| table.class(*c))
+    non_starters.sort_by_key(alloc, |c| c.class)
 }
 
 /// Puts the run of non-starters that begins at `at` in canonical order, and answers the place
 /// behind the starter that ends it. Memory is taken only where the run is not in order.
-fn order_run<T: NormTable>(
-    alloc: Global,
-    table: &T,
-    list: &mut [char],
-    at: usize,
-) -> Result<usize, AllocError>
+fn order_run(alloc: Global, list: &mut [Classed], at: usize) -> Result<usize, AllocError>
     requires { at < length list.old }
     ensures next { IfOk result (λ next. at < next) }
-    ensures ordered { IfOk result (λ next. take at list.old ++ canonical_order (class_of (T.model table.now)) (drop at list.old)
-        ≡ take next list.new ++ canonical_order (class_of (T.model table.now)) (drop next list.new)) }
+    ensures ordered { IfOk result (λ next. (v : VersionData) (cs : List ℕ) → list.old ≡ with_classes v cs → IsOrderedOn v cs at next list.new) }
 {
-    let (count, ordered) = non_starters_at_front(table, &list[at..]);
+    let (count, ordered) = non_starters_at_front(&list[at..]);
     if !ordered {
-        sort_non_starters(alloc, table, &mut list[at..at + count])?;
+        sort_non_starters(alloc, &mut list[at..at + count])?;
     }
     Ok(at + count + 1)
 }
 
-/// Puts a list in canonical order, run by run.
-pub(crate) fn order<T: NormTable>(
-    alloc: Global,
-    table: &T,
-    list: &mut [char],
-) -> Result<(), AllocError>
-    ensures { OnOk result (list.new ≡ canonical_order (class_of (T.model table.now)) list.old) }
+/// Whether a list is in canonical order, as most are.
+#[inline(always)]
+fn is_in_order(list: &[Classed]) -> bool
+    ensures { result ≡ true → (v : VersionData) (cs : List ℕ) → list.now ≡ with_classes v cs → is_ordered (class_of v) cs ≡ true }
 {
+    let mut last = 0;
+    for c in list {
+        if !may_follow(last, c.class) {
+            return false;
+        }
+        last = c.class;
+    }
+    true
+}
+
+/// Puts a list in canonical order, run by run.
+pub(crate) fn order(alloc: Global, list: &mut [Classed]) -> Result<(), AllocError>
+    ensures { OnOk result ((v : VersionData) (cs : List ℕ) → list.old ≡ with_classes v cs → list.new ≡ with_classes v (canonical_order (class_of v) cs)) }
+{
+    if is_in_order(list) {
+        return Ok(());
+    }
     let mut at = 0;
     'runs: while at < list.len() {
-        at = order_run(alloc, table, list, at)?;
+        at = order_run(alloc, list, at)?;
     }
     Ok(())
 }

@@ -1,7 +1,9 @@
 //! Texts that are written at their end, into memory that was made before: a short run of bytes costs a load
 //! and a store of one size, whatever its length.
-ghost use Rattle.std.specs.Prelude.{◌≡◌, ◌+◌, ◌≤◌, ◌<◌, ◌++◌, [], length, take, vec_len, string_bytes, encode_utf8, encode_utf8_all, IsUtf8, IfOk, OnOk};
+ghost use Rattle.std.specs.Prelude.{◌≡◌, ◌+◌, ◌*◌, ◌≤◌, ◌<◌, ◌++◌, [], length, take, vec_len, string_bytes, encode_utf8, encode_utf8_all, IsUtf8, IfOk, OnOk};
+ghost use Rattle.np_forms.specs.inside.Classes.{codes_of};
 
+use crate::classes::Classed;
 use crate::utf8_bytes::{four_bytes, three_bytes, two_bytes};
 use np_code_points::Memory;
 use std::alloc::Global;
@@ -14,6 +16,9 @@ const STEP: usize = 32;
 /// How many bytes are filled at once for what is still to be written: what `Vec` reserves beyond that costs
 /// no memory until it is filled.
 const FILLED: usize = 65_536;
+
+/// The most bytes that a character has.
+const MOST: usize = 4;
 
 /// A text in the front of its room. What stands behind it there is of no text.
 #[derive(Drop)]
@@ -63,16 +68,27 @@ fn make_room(room: &mut Vec<u8>, len: usize, count: usize) -> Result<(), Memory>
     grow_room(room, len, count)
 }
 
-/// Writes a run, and answers the place behind it.
+/// Puts a run into a room, and answers the place behind it.
+#[inline(always)]
+fn put_run(room: &mut [u8], at: usize, run: &[u8]) -> usize
+    requires { at + length run.now ≤ length room.old }
+    ensures bytes { take result room.new ≡ take at room.old ++ run.now }
+    ensures place { result ≡ at + length run.now }
+    ensures length { length room.new ≡ length room.old }
+{
+    let end = at + run.len();
+    room[at..end].copy_from_slice(run);
+    end
+}
+
+/// The same at the end of what was written.
 #[inline(always)]
 fn write_run(room: &mut Vec<u8>, at: usize, run: &[u8]) -> usize
     requires { at + length run.now ≤ vec_len room.old }
     ensures bytes { take result room.new.items ≡ take at room.old.items ++ run.now }
     ensures within { result ≤ vec_len room.new }
 {
-    let end = at + run.len();
-    room[at..end].copy_from_slice(run);
-    end
+    put_run(room, at, run)
 }
 
 /// Stores the first `count` bytes of a run, and what follows them up to a step.
@@ -100,6 +116,64 @@ fn write_step(room: &mut Vec<u8>, at: usize, run: &[u8], count: usize) -> usize
     ensures within { result ≤ vec_len room.new }
 {
     store_step(room, at, run, count)
+}
+
+/// Puts a character where any has room, and answers the place behind it.
+#[inline(always)]
+fn put_char(room: &mut [u8], at: usize, c: char) -> usize
+    requires { at + 4 ≤ length room.old }
+    ensures bytes { take result room.new ≡ take at room.old ++ encode_utf8 c }
+    ensures utf8 { IsUtf8 (encode_utf8 c) }
+    ensures place { result ≤ at + 4 }
+    ensures length { length room.new ≡ length room.old }
+{
+    let code = c as u32;
+    if code < 0x80 {
+        put_run(room, at, &[code as u8])
+    } else if code < 0x800 {
+        put_run(room, at, &two_bytes(code))
+    } else if code < 0x1_0000 {
+        put_run(room, at, &three_bytes(code))
+    } else {
+        put_run(room, at, &four_bytes(code))
+    }
+}
+
+/// The same at the end of what was written.
+#[inline(always)]
+fn write_char(room: &mut Vec<u8>, at: usize, c: char) -> usize
+    requires { at + 4 ≤ vec_len room.old }
+    ensures bytes { take result room.new.items ≡ take at room.old.items ++ encode_utf8 c }
+    ensures utf8 { IsUtf8 (encode_utf8 c) }
+    ensures within { result ≤ vec_len room.new }
+{
+    put_char(room, at, c)
+}
+
+/// Puts the code points of a list where four bytes have room for each, and answers the place behind them.
+fn put_codes(room: &mut [u8], at: usize, list: &[Classed]) -> usize
+    requires { at + 4 * length list.now ≤ length room.old }
+    ensures bytes { take result room.new ≡ take at room.old ++ encode_utf8_all (codes_of list.now) }
+    ensures utf8 { IsUtf8 (encode_utf8_all (codes_of list.now)) }
+    ensures within { result ≤ length room.new }
+    ensures length { length room.new ≡ length room.old }
+{
+    let mut end = at;
+    for c in list {
+        end = put_char(room, end, c.code);
+    }
+    end
+}
+
+/// The same at the end of what was written.
+#[inline(always)]
+fn write_codes(room: &mut Vec<u8>, at: usize, list: &[Classed]) -> usize
+    requires { at + 4 * length list.now ≤ vec_len room.old }
+    ensures bytes { take result room.new.items ≡ take at room.old.items ++ encode_utf8_all (codes_of list.now) }
+    ensures utf8 { IsUtf8 (encode_utf8_all (codes_of list.now)) }
+    ensures within { result ≤ vec_len room.new }
+{
+    put_codes(room, at, list)
 }
 
 impl OutText {
@@ -194,16 +268,9 @@ impl OutText {
     pub(crate) fn append_char(&mut self, c: char) -> Result<(), Memory>
         ensures { OnOk result (self.new ≡ self.old ++ encode_utf8 c) }
     {
-        let code = c as u32;
-        if code < 0x80 {
-            self.append_bytes(&[code as u8])
-        } else if code < 0x800 {
-            self.append_bytes(&two_bytes(code))
-        } else if code < 0x1_0000 {
-            self.append_bytes(&three_bytes(code))
-        } else {
-            self.append_bytes(&four_bytes(code))
-        }
+        make_room(&mut self.room, self.len, MOST)?;
+        self.len = write_char(&mut self.room, self.len, c);
+        Ok(())
     }
 
     /// Appends characters.
@@ -213,6 +280,18 @@ impl OutText {
         for c in chars {
             self.append_char(*c)?;
         }
+        Ok(())
+    }
+
+    /// Appends the code points of a list. Room for any is made once.
+    pub(crate) fn append_codes(&mut self, list: &[Classed]) -> Result<(), Memory>
+        ensures { OnOk result (self.new ≡ self.old ++ encode_utf8_all (codes_of list.now)) }
+    {
+        let Some(most) = list.len().checked_mul(MOST) else {
+            return Err(Memory);
+        };
+        make_room(&mut self.room, self.len, most)?;
+        self.len = write_codes(&mut self.room, self.len, list);
         Ok(())
     }
 }

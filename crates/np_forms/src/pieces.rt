@@ -4,6 +4,7 @@ ghost use Rattle.np_code_points.specs.declared.forms.Form.{Form};
 ghost use Rattle.np_forms.specs.inside.Pieces.{form_bytes, front_of, left_of};
 ghost use Rattle.np_tables.specs.Versions.{VersionData};
 
+use crate::classes::Classed;
 use crate::copying::{split_segment, split_standing, write_segment};
 use crate::out_texts::OutText;
 use np_code_points::{Form, Memory};
@@ -20,7 +21,7 @@ struct Pieces<'a> {
     taken: usize,
     rest: &'a str,
     /// Room that is used again.
-    list: Vec<char>,
+    list: Vec<Classed>,
 }
 
 impl<'a> Pieces<'a> {
@@ -73,7 +74,7 @@ impl<'a> Pieces<'a> {
         ensures same { OnOk result (left_of (T.model table.now) form self.new ≡ left_of (T.model table.now) form self.old) }
         ensures shorter { OnOk result (0 < length self.old.rest.now → length self.new.rest.now < length self.old.rest.now) }
     {
-        let (stays, after) = split_standing(table, form, false, self.rest);
+        let (stays, after, _stood) = split_standing(table, form, false, self.rest);
         let (segment, later) = split_segment(table, form, after);
         self.taken = 0;
         self.made.clear();

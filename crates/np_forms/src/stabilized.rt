@@ -1,5 +1,5 @@
 //! Stabilized strings (UAX #15, section 12).
-ghost use Rattle.std.specs.Prelude.{◌≡◌, ◌++◌, chars, string_bytes, encode_utf8_all, IfOk, IfErr, IfSome, IsTrue, OnOk};
+ghost use Rattle.std.specs.Prelude.{◌≡◌, ◌++◌, chars, string_bytes, encode_utf8_all, IfOk, IfErr, IfNone, IfSome, IsTrue, OnOk};
 ghost use Rattle.np_forms.specs.Assigned.{IsAssigned};
 ghost use Rattle.np_forms.specs.Faults.{IsNpssFault};
 ghost use Rattle.np_forms.specs.Forms.{IsNormalForm};
@@ -44,6 +44,7 @@ fn assigned_form<T: NormTable>(
     requires assigned { IsAssigned (T.model table.now) (chars stays.now) }
     ensures form { IfOk result (λ made. IfSome made (λ t. string_bytes t ≡ encode_utf8_all (normal_form (T.model table.now) wanted (chars text.now)))) }
     ensures assigned { IfOk result (λ made. IfSome made (λ _. IsAssigned (T.model table.now) (chars text.now))) }
+    ensures lacking { IfOk result (λ made. IfNone made (¬ IsAssigned (T.model table.now) (chars text.now))) }
 {
     let mut out = OutText::with_room(alloc, text.len())?;
     out.append_front(text, stays)?;
@@ -98,7 +99,7 @@ pub fn npss<T: NormTable>(
     ensures fault { IfErr result (IsNpssFault (T.model table.now) (chars text.now)) }
 {
     table.meets_conditions();
-    let (stays, behind) = split_standing(table, wanted, true, text);
+    let (stays, behind, _stood) = split_standing(table, wanted, true, text);
     let key = stabilize(alloc, table, wanted, text, stays, behind)?;
     Ok(key)
 }
@@ -123,7 +124,7 @@ pub fn into_npss<T: NormTable>(
 {
     table.meets_conditions();
     let whole = text.as_str();
-    let (stays, behind) = split_standing(table, wanted, true, whole);
+    let (stays, behind, _stood) = split_standing(table, wanted, true, whole);
     if behind.is_empty() {
         return Ok(text);
     }

@@ -1,15 +1,16 @@
 //! Text that comes code point by code point, and its normal form as it becomes ready (The Unicode
 //! Standard, D118 to D121).
-ghost use Rattle.std.specs.Prelude.{◌≡◌, ◌∷◌, [], true, length, IsTrue, OnErr, OnOk};
+ghost use Rattle.std.specs.Prelude.{◌≡◌, ◌++◌, ◌∷◌, [], true, length, IsTrue, OnErr, OnOk};
 ghost use Rattle.np_forms.specs.Starters.{is_non_starter};
 ghost use Rattle.np_forms.specs.Streams.{IsStreaming, StreamState, TakesIn, Finishes};
+ghost use Rattle.np_forms.specs.inside.Classes.{codes_of};
 ghost use Rattle.np_tables.specs.Conditions.{IsSound};
 ghost use Rattle.np_tables.specs.inside.FullDecompositions.{full_of};
 
-use crate::decomposing::append;
+use crate::classes::{Classed, push_codes};
+use crate::decomposing::{append, is_own};
 use crate::held::{Held, finish, push_all};
 use crate::ordering::are_non_starters;
-use np_code_points::hangul::is_syllable;
 use np_code_points::{Form, Memory};
 use np_tables::NormTable;
 use std::alloc::Global;
@@ -26,6 +27,21 @@ fn copy_to(list: &mut Vec<char>, from: &[char]) -> Result<(), Memory>
     Ok(())
 }
 
+/// Appends the code points of a list, all of them or none.
+fn hold_back(pending: &mut Vec<char>, parts: &[Classed]) -> Result<(), Memory>
+    ensures ok { OnOk result (pending.new.items ≡ pending.old.items ++ codes_of parts.now) }
+    ensures err { OnErr result (pending.new.items ≡ pending.old.items) }
+{
+    let count = pending.len();
+    match push_codes(parts, pending) {
+        Ok(()) => Ok(()),
+        Err(fault) => {
+            pending.truncate(count);
+            Err(fault)
+        }
+    }
+}
+
 /// Whether a code point is a non-starter and its own full decomposition: as most are of a long run.
 #[inline(always)]
 fn is_kept_non_starter<T: NormTable>(table: &T, compat: bool, c: char) -> bool
@@ -33,10 +49,10 @@ fn is_kept_non_starter<T: NormTable>(table: &T, compat: bool, c: char) -> bool
     ensures full { IsTrue result → full_of (T.model table.now) compat c ≡ c ∷ [] }
     ensures non_starter { IsTrue result → is_non_starter (T.model table.now) c ≡ true }
 {
-    if table.class(c) == 0 || is_syllable(c as u32) {
+    if table.class(c) == 0 {
         return false;
     }
-    table.full(c, compat).is_empty()
+    is_own(table, compat, c)
 }
 
 /// The normal form of a text that comes code point by code point. What is ready is the form of the
@@ -51,7 +67,7 @@ pub struct Stream<'t, T: NormTable> {
     form: Form,
     alloc: Global,
     held: Held,
-    parts: Vec<char>,
+    parts: Vec<Classed>,
     kept: Vec<char>,
 }
 
@@ -90,6 +106,7 @@ impl<'t, T: NormTable> Stream<'t, T> {
             held: Held {
                 ready: Vec::new(alloc),
                 pending: Vec::new(alloc),
+                room: Vec::new(alloc),
             },
             parts: Vec::new(alloc),
             kept: Vec::new(alloc),
@@ -122,9 +139,8 @@ impl<'t, T: NormTable> Stream<'t, T> {
         let hangul = self.table.hangul();
         self.parts.clear();
         append(&mut self.parts, self.table, hangul, compat, c)?;
-        if are_non_starters(self.table, &self.parts) {
-            self.held.pending.extend_from_slice(&self.parts)?;
-            return Ok(());
+        if are_non_starters(&self.parts) {
+            return hold_back(&mut self.held.pending, &self.parts);
         }
         copy_to(&mut self.kept, &self.held.pending)?;
         let ready = self.held.ready.len();

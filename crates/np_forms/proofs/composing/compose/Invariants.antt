@@ -1,8 +1,12 @@
-use Rattle.std.proofs.Common.{◌≡◌, ◌≤◌, take, drop, length}
-use Rattle.np_forms.specs.inside.Composers.{IsComposing}
+use Rattle.std.proofs.Common.{◌≡◌, ◌≤◌, ℕ, List, true, length}
+use Rattle.np_forms.specs.Order.{is_ordered}
+use Rattle.np_forms.specs.inside.Classes.{with_classes}
+use Rattle.np_forms.specs.inside.InPlace.{IsInPlace}
+use Rattle.np_tables.specs.Versions.{class_of}
 use Rattle.np_forms.proofs.composing.compose.Given as goal
 
 abbrev pub invariant-loop-at : goal.invariant-loop-at
 invariant-loop-at g l =
-    IsComposing (g.T.NormTable.model l.table) l.fn.text.items (take l.composer.kept l.composer.list.items) l.composer.starter l.composer.last (drop l.at l.composer.list.items)
+    let v = g.T.NormTable.model l.table in
+    ((cs : List ℕ) → l.fn.text.items ≡ with_classes v cs → is_ordered (class_of v) cs ≡ true → IsInPlace v cs l.at l.composer.list.items l.composer.kept l.composer.starter l.composer.last)
     × (l.composer.kept ≤ l.at) × (length l.composer.list.items ≡ length l.fn.text.items)

@@ -1,6 +1,6 @@
 use Rattle.std.proofs.Common.{◌++◌, sym, ap, ◌∙◌}
 use Rattle.np_forms.proofs.CopyLemmas.{front_of, seam}
-use Rattle.np_forms.proofs.TextLemmas.{IsReadAssigned-front}
+use Rattle.np_forms.proofs.TextLemmas.{assigned-front, lacks-unassigned, IsReadAssigned-front}
 use Rattle.np_forms.proofs.copying.may_go_on.Goals as goal
 
 pub range-requires-clause-end_boundary : goal.range-requires-clause-end_boundary
@@ -13,3 +13,13 @@ returns-in-None-clause-read g c = λ _ _.
     let later = c.args.later.now in
     let is = c.range.ensures.value ∙ front_of after end.front later end.parts in
     IsReadAssigned-front (g.T.NormTable.model c.args.table.now) after c.range.result.now later (end.parts ∙ ap (λ l. l ++ later) (sym is)) c.range.utf8 end.utf8 c.in-None.ensures.none
+
+pub returns-in-Some-clause-lacking : goal.returns-in-Some-clause-lacking
+returns-in-Some-clause-lacking g c = λ _ all.
+    let v = g.T.NormTable.model c.args.table.now in
+    let end = c.requires in
+    let after = c.args.after.now in
+    let later = c.args.later.now in
+    let is = c.range.ensures.value ∙ front_of after end.front later end.parts in
+    let parts = end.parts ∙ ap (λ l. l ++ later) (sym is) in
+    lacks-unassigned v _ _ _ c.in-Some.ensures.some (assigned-front v after c.range.result.now later c.range.utf8 parts all)

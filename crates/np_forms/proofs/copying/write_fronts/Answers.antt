@@ -1,7 +1,8 @@
-use Rattle.std.proofs.Common.{rules}
+use Rattle.std.proofs.Common.{inl, inr, rules}
+use Rattle.std.proofs.lemmas.Bool.{both_ways, cases_Bool}
 use Rattle.np_forms.proofs.CopyLemmas.{form-end}
 use Rattle.np_forms.proofs.DecomposedLemmas.{goes-both, goes-start}
-use Rattle.np_forms.proofs.TextLemmas.{IsReadAssigned-both, IsReadAssigned-end, IsReadAssigned-start}
+use Rattle.np_forms.proofs.TextLemmas.{IsReadAssigned-both, IsReadAssigned-end, IsReadAssigned-rest, IsReadAssigned-start}
 use Rattle.np_forms.proofs.copying.write_fronts.Goals as goal
 
 pub fronts-init : goal.fronts-init
@@ -29,3 +30,17 @@ returns-clause-form g c = λ _. form-end (g.T.NormTable.model c.args.table.now) 
 
 pub returns-clause-assigned : goal.returns-clause-assigned
 returns-clause-assigned g c = λ asked _. IsReadAssigned-end (g.T.NormTable.model c.args.table.now) c.args.text.now c.fronts.rest.now (c.fronts.invariant.1 asked) (search rules)
+
+pub returns-then-not-may_go_on-clause-lacking : goal.returns-then-not-may_go_on-clause-lacking
+returns-then-not-may_go_on-clause-lacking g c = λ _ all.
+    let v = g.T.NormTable.model c.args.table.now in
+    let text = c.args.text.now in
+    let rest = c.fronts.rest.now in
+    let after = c.in_ok-after.after.now in
+    let stops = c.if-not-may_go_on.true in
+    elim (cases_Bool c.args.assigned) [
+      | inr none ↦ both_ways _ stops (c.may_go_on.ensures.always none)
+      | inl asked ↦
+          let read = IsReadAssigned-both v text rest after (c.fronts.invariant.1 asked) (c.in_ok-after.ensures.read asked) in
+          c.may_go_on.ensures.lacking stops (IsReadAssigned-rest v text after read all)
+    ]

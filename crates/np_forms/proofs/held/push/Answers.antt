@@ -26,9 +26,9 @@ returns-in-Some-clause-ok g c =
     let low : class_of v d ≤ 0 = omega (arith, c.class.ensures, c.if-class-ne0.false) in
     let found = c.in-Some.ensures.some in
     let on : e ≡ true = found.0 in
-    let one : c.settle.new.list.items ≡ found.1.0 ∷ [] = sym c.deref.ensures.value ∙ found.1.1 in
+    let one : c.settle_codes.new.codes.items ≡ found.1.0 ∷ [] = sym c.deref.ensures.value ∙ found.1.1 in
     let is : ended v true (canonical_order (class_of v) pending) ≡ found.1.0 ∷ [] =
-    ap (λ b. ended v b (canonical_order (class_of v) pending)) (sym on) ∙ sym c.in_ok-settle.ensures ∙ one in
+    ap (λ b. ended v b (canonical_order (class_of v) pending)) (sym on) ∙ sym c.in_ok-settle_codes.ensures ∙ one in
     Advances-kept v c.requires e (d ∷ []) c.args.held.now.ready.items pending _
     (λ ds out h.
     let joins = held_joins v c.requires ds out pending found.1.0 d p low (subst (λ b. IsHeld v b ds out pending) on h) is found.1.2 in
@@ -42,7 +42,7 @@ returns-clause-ok g c =
     let ready = c.args.held.now.ready.items in
     let d = c.args.d in
     let low : class_of v d ≤ 0 = omega (arith, c.class.ensures, c.if-class-ne0.false) in
-    let settled = c.in_ok-settle.ensures in
+    let settled = c.in_ok-settle_codes.ensures in
     let value = ended v e (canonical_order (class_of v) pending) in
     let left : d ∷ [] ≡ c.push-2.new.self.items = sym (c.in_ok-push-2.ensures.items ∙ ap (λ l. l ++ d ∷ []) c.clear.ensures.items) in
     record {

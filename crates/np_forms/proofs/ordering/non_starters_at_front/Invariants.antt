@@ -1,6 +1,8 @@
-use Rattle.std.proofs.Common.{take}
+use Rattle.std.proofs.Common.{◌≡◌, ℕ, List, take}
+use Rattle.np_forms.specs.inside.Classes.{with_classes}
 use Rattle.np_forms.proofs.RunLemmas.{IsRunTo}
+use Rattle.np_tables.specs.Versions.{VersionData}
 use Rattle.np_forms.proofs.ordering.non_starters_at_front.Given as goal
 
 abbrev pub invariant-loop-i : goal.invariant-loop-i
-invariant-loop-i g l = IsRunTo (g.T.NormTable.model l.table) (take l.i l.list) l.last l.ordered
+invariant-loop-i l = (v : VersionData) (cs : List ℕ) → l.list ≡ with_classes v cs → IsRunTo v (take l.i cs) l.last l.ordered

@@ -1,16 +1,31 @@
-use Rattle.std.proofs.Common.{◌++◌, drop, sym, ap, ◌∙◌, append-nil}
+use Rattle.std.proofs.Common.{◌≤◌, ◌++◌, drop, length, refl, sym, ap, ◌∙◌, append-nil, arith}
 use Rattle.std.proofs.lemmas.List.{take_all, drop_all}
 use Rattle.np_tables.specs.Versions.{class_of}
 use Rattle.np_forms.specs.inside.CanonicalOrder.{canonical_order}
-use Rattle.np_forms.proofs.OrderLemmas.{canonical_order-nil}
+use Rattle.np_forms.specs.inside.Classes.{with_classes}
+use Rattle.np_forms.proofs.ClassLemmas.{same_length}
+use Rattle.np_forms.proofs.OrderLemmas.{canonical_order-nil, canonical_order-ordered}
 use Rattle.np_forms.proofs.ordering.order.Goals as goal
 
+pub returns-then-is_in_order : goal.returns-then-is_in_order
+returns-then-is_in_order c = λ v cs is. is ∙ ap (with_classes v) (sym (canonical_order-ordered (class_of v) cs (c.is_in_order.ensures c.if-is_in_order.true v cs is)))
+
+pub runs-init : goal.runs-init
+runs-init c = λ v cs is. record { new = cs; is = is; same = refl }
+
 pub runs-preserved : goal.runs-preserved
-runs-preserved g c = c.runs.invariant ∙ c.in_ok-at.ensures.ordered
+runs-preserved c = λ v cs is.
+    let old = c.runs.invariant v cs is in
+    let new = c.in_ok-at.ensures.ordered v old.new old.is in
+    record { new = new.new; is = new.is; same = old.same ∙ new.same }
 
 pub returns : goal.returns
-returns g c =
-    let ccc = class_of (g.T.NormTable.model c.args.table.now) in
-    let list = c.runs.list in
-    sym (c.runs.invariant ∙ ap (λ l. l ++ canonical_order ccc (drop c.runs.at list)) (take_all c.runs.at list c.runs-test.false)
-    ∙ ap (λ l. list ++ canonical_order ccc l) (drop_all c.runs.at list c.runs-test.false) ∙ ap (λ l. list ++ l) (canonical_order-nil ccc) ∙ append-nil list)
+returns c = λ v cs is.
+    let ccc = class_of v in
+    let all = c.runs.invariant v cs is in
+    let at = c.runs.at in
+    let end : length all.new ≤ at = omega (arith, c.runs-test.false, same_length v c.runs.list all.new all.is) in
+    all.is
+    ∙ ap (with_classes v)
+    (sym (all.same ∙ ap (λ l. l ++ canonical_order ccc (drop at all.new)) (take_all at all.new end)
+    ∙ ap (λ l. all.new ++ canonical_order ccc l) (drop_all at all.new end) ∙ ap (λ l. all.new ++ l) (canonical_order-nil ccc) ∙ append-nil all.new))

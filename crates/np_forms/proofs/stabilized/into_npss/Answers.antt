@@ -9,7 +9,7 @@ pub returns-then-is_empty-clause-bytes : goal.returns-then-is_empty-clause-bytes
 returns-then-is_empty-clause-bytes g c =
     let v = g.T.NormTable.model c.args.table.now in
     subst (λ l. l ≡ encode_utf8_all (normal_form v c.args.wanted (chars l))) c.as_str-whole.ensures.value
-    (IsCopied-own v c.args.wanted c.as_str-whole.result.now c.split_standing.result.0.now c.split_standing.result.1.now c.split_standing.ensures.copied (search rules))
+    (IsCopied-own v c.args.wanted c.as_str-whole.result.now c.split_standing-stood.result.0.now c.split_standing-stood.result.1.now c.split_standing-stood.ensures.copied (search rules))
 
 pub returns-then-is_empty-clause-normal : goal.returns-then-is_empty-clause-normal
 returns-then-is_empty-clause-normal g c =

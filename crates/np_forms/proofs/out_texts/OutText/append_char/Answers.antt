@@ -1,17 +1,7 @@
-use Rattle.std.proofs.Common.{sym}
-use Rattle.std.proofs.lemmas.Str.{IsUtf8-encode}
-use Rattle.np_forms.proofs.OutTextLemmas.{utf8_same}
-use Rattle.np_forms.proofs.Utf8Lemmas.{encode_one}
+use Rattle.std.proofs.Common.{encode_utf8}
+use Rattle.np_forms.proofs.OutTextLemmas.{utf8_grown, utf8_same}
 use Rattle.np_forms.proofs.out_texts.OutText.append_char.Goals as goal
 
-pub append_bytes-requires : goal.append_bytes-requires
-append_bytes-requires c = utf8_same _ _ (sym (encode_one c.args.c c.if-code-lt128.true)) (IsUtf8-encode c.args.c c.ranges.c.0)
-
-pub append_bytes-requires-then-code-lt2048 : goal.append_bytes-requires-then-code-lt2048
-append_bytes-requires-then-code-lt2048 c = utf8_same _ _ c.two_bytes.ensures (IsUtf8-encode c.args.c c.ranges.c.0)
-
-pub append_bytes-requires-then-code-lt65536 : goal.append_bytes-requires-then-code-lt65536
-append_bytes-requires-then-code-lt65536 c = utf8_same _ _ c.three_bytes.ensures (IsUtf8-encode c.args.c c.ranges.c.0)
-
-pub append_bytes-requires-else-code-lt65536 : goal.append_bytes-requires-else-code-lt65536
-append_bytes-requires-else-code-lt65536 c = utf8_same _ _ c.four_bytes.ensures (IsUtf8-encode c.args.c c.ranges.c.0)
+pub invariant_of-self-2 : goal.invariant_of-self-2
+invariant_of-self-2 c =
+    utf8_grown _ _ (encode_utf8 c.args.c) c.write_char-self-inside.ensures.bytes (utf8_same _ _ c.make_room.ensures.same c.self.invariant) c.write_char-self-inside.ensures.utf8

@@ -3,10 +3,10 @@ use Rattle.std.proofs.lemmas.Bool.{and_right}
 use Rattle.np_code_points.specs.Hangul.{is_syllable}
 use Rattle.np_tables.specs.Versions.{has_hangul}
 use Rattle.np_forms.proofs.SyllableLemmas.{lent_none}
-use Rattle.np_forms.proofs.streams.is_kept_non_starter.Goals as goal
+use Rattle.np_forms.proofs.decomposing.is_own.Goals as goal
 
-pub returns-clause-full : goal.returns-clause-full
-returns-clause-full g c empty =
+pub returns : goal.returns
+returns g c = λ empty.
     let v = g.T.NormTable.model c.args.table.now in
     let lent = c.full.result.now in
     let none : length lent ≡ 0 = eqb-true (length lent) 0 (sym c.is_empty.ensures ∙ empty) in
