@@ -4,8 +4,9 @@
 Takes the files of the folder, or of Debian's package unicode-data. Worked examples of each command;
 all of NormalizationTest.txt; random texts against two implementations that no one here wrote; the
 count of records and of assigned code points; a break of each kind; versions of several ages against
-each other; and long histories of nodes over these versions against a model (histories.py). What can't
-be done here is skipped, with the reason. Ends in a line 'N passed, M failed'.
+each other; texts cut at random places (cuttings.py); and long histories of nodes over these versions
+against a model (histories.py). What can't be done here is skipped, with the reason. Ends in a line
+'N passed, M failed'.
 
 Strings go through the program joined by LF, a starter that composes with nothing, so one run serves
 a form. Nothing here is drawn by chance: the seed is fixed.
@@ -24,6 +25,7 @@ from pathlib import Path
 sys.dont_write_bytecode = True
 
 import ucd
+from cuttings import check_cuttings
 from harness import FORMS, Tally, built_program, run
 from histories import check_histories
 
@@ -70,6 +72,12 @@ class Published:
 
 def codes(text):
     return bytes.fromhex(text)
+
+
+def strings_of(published):
+    """The strings of NormalizationTest.txt, or None where it isn't there."""
+    text = ucd.text_of(published.files, "NormalizationTest.txt")
+    return text and [string for _, columns, _ in ucd.test_strings(text) for string in columns]
 
 
 def check_examples(tally, program, published):
@@ -353,6 +361,7 @@ def main():
         check_normalization_test(tally, program, published)
         check_random_texts(tally, program, published)
         check_compared_pairs(tally, program, published)
+        check_cuttings(tally, program, published.versions, strings_of(published))
         check_breaks(tally, program, published, Path(folder))
         check_ages(tally, program, published, Path(folder))
         check_histories(tally, program, published, AGES, Path(folder))
