@@ -28,7 +28,7 @@ PATIENCE = 60
 
 
 def pieces_of(text, source):
-    """The text in pieces, whose lengths are as often below a number as above its square."""
+    """The text in pieces of random lengths, half of which are below some 90 bytes."""
     at = 0
     while at < len(text):
         length = int(LONGEST ** source.random())
