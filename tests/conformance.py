@@ -74,12 +74,6 @@ def codes(text):
     return bytes.fromhex(text)
 
 
-def strings_of(published):
-    """The strings of NormalizationTest.txt, or None where it isn't there."""
-    text = ucd.text_of(published.files, "NormalizationTest.txt")
-    return text and [string for _, columns, _ in ucd.test_strings(text) for string in columns]
-
-
 def check_examples(tally, program, published):
     """A worked example for each answer that a command has."""
     for form, want in (("nfd", "61cca3cc82"), ("nfc", "e1baad"), ("nfkd", "61cca3cc82"), ("nfkc", "e1baad")):
@@ -361,7 +355,7 @@ def main():
         check_normalization_test(tally, program, published)
         check_random_texts(tally, program, published)
         check_compared_pairs(tally, program, published)
-        check_cuttings(tally, program, published.versions, strings_of(published))
+        check_cuttings(tally, program, published.versions, ucd.each_test_string(published.files))
         check_breaks(tally, program, published, Path(folder))
         check_ages(tally, program, published, Path(folder))
         check_histories(tally, program, published, AGES, Path(folder))

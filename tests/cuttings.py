@@ -70,6 +70,7 @@ def check_cuttings(tally, program, versions, test_strings):
     for name in corpora.NAMES:
         text = corpora.corpus(name, SIZE, test_strings)
         if text is None:
+            print(f"skipped: {name} in pieces: NormalizationTest.txt is not there")
             continue
         for form in FORMS:
             words = ["normalize", "--form", form, *versions]

@@ -156,3 +156,9 @@ def test_strings(text):
                        for field in line.split(";")[:5]]
             lines.append((number, columns, part == "@Part1"))
     return lines
+
+
+def each_test_string(files):
+    """The strings of all columns of NormalizationTest.txt, or None where it isn't among the files."""
+    text = text_of(files, "NormalizationTest.txt")
+    return text and [string for _, columns, _ in test_strings(text) for string in columns]

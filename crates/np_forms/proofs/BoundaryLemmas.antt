@@ -1,5 +1,5 @@
 -- A normal form parts before a boundary.
-use Rattle.std.proofs.Common.{◌≡◌, ℕ, ◌≤◌, Bool, true, false, List, [], ◌∷◌, ◌++◌, None, flat_map, refl, sym, ap, subst, ◌∙◌, arith, inl, inr, append-nil, MatchBool}
+use Rattle.std.proofs.Common.{◌≡◌, ℕ, ◌≤◌, Bool, true, false, List, [], ◌∷◌, ◌++◌, None, flat_map, refl, sym, ap, subst, ◌∙◌, arith, append-nil, MatchBool}
 use Rattle.std.proofs.lemmas.Grind.{flat_map-append}
 use Rattle.np_code_points.specs.Forms.{is_compat, composes}
 use Rattle.np_code_points.specs.declared.forms.Form.{Form}
@@ -12,10 +12,9 @@ use Rattle.np_forms.specs.inside.NormalForms.{decomposed, ended, normal_form}
 use Rattle.np_forms.proofs.ComposeLemmas.{compose-at_boundary, compose-starter, compose_after-joined, compose_after-nil, joined-free}
 use Rattle.np_forms.proofs.FormLemmas.{IsNormalForm-normal_form, normal_form_is}
 use Rattle.np_forms.proofs.OrderLemmas.{canonical_order-nil, canonical_order-at_starter, canonical_order-ordered, is_ordered-cons, is_ordered-nil, is_ordered-one, not_reorderable_rising}
-use Rattle.np_tables.proofs.CompositeLemmas.{cases_Option, composite-some, composite_from}
+use Rattle.np_tables.proofs.CompositeLemmas.{composite-never, composite_from}
 use Rattle.np_tables.proofs.MappingLemmas.{full_decomposition-flat_map}
 use Rattle.np_tables.specs.Boundaries.{IsBoundary, NeverFalls, FoldsTo, Stays}
-use Rattle.np_tables.specs.Composites.{IsCompositeOf}
 use Rattle.np_tables.specs.Conditions.{IsSound}
 use Rattle.np_tables.specs.Versions.{VersionData, class_of}
 use Rattle.np_tables.specs.inside.CompositeSearch.{composite}
@@ -58,14 +57,6 @@ module _ (v : VersionData) where
       ap (ended v b) (decomposed-boundary compat xs c s rest ys full starter)
       ∙ ended-boundary b (decomposed v compat xs) s (canonical_order (class_of v) (rest ++ flat_map (full_of v compat) ys)) starter apart
       ∙ ap (λ l. ended v b (decomposed v compat xs) ++ ended v b l) (sym (decomposed-begins compat c s rest ys full starter))
-
-  -- no pair with this second part has a composite
-  pub composite-never : (s : ℕ) → ((a p : ℕ) → ¬ (IsCompositeOf v a s p)) → (a : ℕ) → composite v a s ≡ None
-  composite-never s never a =
-      elim (cases_Option (composite v a s)) [
-        | inr some ↦ absurd (never a some.0 (composite-some v a s some.0 some.1))
-        | inl none_there ↦ none_there
-      ]
 
 -- the full decomposition that a boundary names is that of the function
 pub full_of-boundary : (v : VersionData) (form : Form) (c : ℕ) → IsSound v → (at : IsBoundary v form c) → full_of v (is_compat form) c ≡ at.first ∷ at.rest

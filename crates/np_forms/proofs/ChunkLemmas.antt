@@ -10,7 +10,7 @@ use Rattle.np_tables.specs.Conditions.{IsSound}
 use Rattle.np_tables.specs.Versions.{VersionData, class_of}
 use Rattle.np_tables.specs.inside.CompositeSearch.{composite}
 use Rattle.np_tables.specs.inside.FullDecompositions.{full_of}
-use Rattle.np_tables.proofs.CompositeLemmas.{composite-starter}
+use Rattle.np_tables.proofs.CompositeLemmas.{composite-never, composite-starter}
 use Rattle.np_forms.specs.Forms.{IsNormalForm}
 use Rattle.np_forms.specs.Starters.{is_non_starter}
 use Rattle.np_forms.specs.Streams.{IsStreaming, StreamState}
@@ -20,7 +20,7 @@ use Rattle.np_forms.specs.inside.Copies.{BeginsAtBoundary}
 use Rattle.np_forms.specs.inside.Held.{Shape, no_starter, starter, IsHeld}
 use Rattle.np_forms.specs.inside.NormalForms.{decomposed, ended, normal_form}
 use Rattle.np_forms.specs.inside.Written.{Writes, Breaks}
-use Rattle.np_forms.proofs.BoundaryLemmas.{composite-never, ended-boundary, full_of-boundary, normal_form-parts}
+use Rattle.np_forms.proofs.BoundaryLemmas.{ended-boundary, full_of-boundary, normal_form-parts}
 use Rattle.np_forms.proofs.ComposeLemmas.{compose-starter, compose_after-nil, compose_after-cases}
 use Rattle.np_forms.proofs.CopyLemmas.{normal_form-nil}
 use Rattle.np_forms.proofs.FormLemmas.{normal_form_is}

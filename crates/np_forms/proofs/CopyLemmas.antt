@@ -7,7 +7,7 @@ use Rattle.np_code_points.specs.declared.forms.Form.{Form}
 use Rattle.np_forms.specs.Assigned.{IsAssigned}
 use Rattle.np_forms.specs.inside.CanonicalOrder.{canonical_order}
 use Rattle.np_forms.specs.inside.Composing.{compose_of}
-use Rattle.np_forms.specs.inside.Copies.{BeginsAtBoundary, IsCopied, IsParted}
+use Rattle.np_forms.specs.inside.Copies.{BeginsAtBoundary, IsCopied}
 use Rattle.np_forms.specs.inside.NormalForms.{decomposed, ended, normal_form}
 use Rattle.np_forms.specs.inside.Readings.{IsReadAssigned}
 use Rattle.np_forms.proofs.BoundaryLemmas.{normal_form-parts}
@@ -51,24 +51,6 @@ module _ (v : VersionData) (sound : IsSound v) (form : Form) where
         utf8 = utf8;
         copied = ap (λ l. encode_utf8_all (normal_form v form l)) text_is ∙ ap encode_utf8_all (copies cs end (chars back) walk at)
             ∙ encodes-append cs (normal_form v form (chars back)) ∙ ap (λ l. l ++ encode_utf8_all (normal_form v form (chars back))) (sym spelled);
-      }
-
-  -- a text whose forms are each for itself before a boundary
-  pub IsParted-at : (text front back : List ℕ) → text ≡ front ++ back → IsUtf8 front → IsUtf8 back → BeginsAtBoundary v form (chars back) → IsParted v form text front back
-  IsParted-at text front back parts of_front of_back at =
-      record {
-        parts = parts;
-        utf8 = of_back;
-        parted = ap (normal_form v form) (ap chars parts ∙ chars-append front back of_front) ∙ parts-at (chars front) (chars back) at;
-      }
-
-  pub IsParted-whole : (text back : List ℕ) → length back ≡ 0 → IsUtf8 back → IsParted v form text text back
-  IsParted-whole text back none utf8 =
-      let empty = nil_from_length back none in
-      record {
-        parts = sym (append-nil text) ∙ ap (λ l. text ++ l) (sym empty);
-        utf8 = utf8;
-        parted = sym (append-nil _) ∙ ap (λ l. normal_form v form (chars text) ++ l) (sym (ap (normal_form v form) (ap chars empty ∙ chars-nil) ∙ normal_form-nil v form));
       }
 
 -- ---- where a text is cut

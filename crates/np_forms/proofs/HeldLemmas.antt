@@ -230,6 +230,15 @@ module _ (v : VersionData) (sound : IsSound v) where
   TakesIn-non_starters form c {compat} {parts} {ready} {pending} {pending_after} kind of_c all grown =
       TakesIn-advances form c kind refl of_c (subst (Advances v (composes form) parts ready pending ready) grown (Advances-non_starters (composes form) ready pending parts all))
 
+  -- non-starters that are their own full decompositions are held back
+  pub holds_non_starters : (form : Form) (compat : Bool) (cs pending fed out : List ℕ) → compat ≡ is_compat form → flat_map (full_of v compat) cs ≡ cs → list_all (is_non_starter v) cs ≡ true → IsStreaming v form fed out pending → IsStreaming v form (fed ++ cs) out (pending ++ cs)
+  holds_non_starters form compat cs pending fed out kind own all s =
+      let each = full_of v (is_compat form) in
+      let later = held_all (composes form) (flat_map each fed) out pending cs all (held_streaming form fed out pending s) in
+      let more : flat_map each fed ++ cs ≡ flat_map each (fed ++ cs) =
+      ap (λ l. flat_map each fed ++ l) (sym own ∙ ap (λ b. flat_map (full_of v b) cs) kind) ∙ sym (flat_map-append each fed cs) in
+      IsStreaming-held form (fed ++ cs) out (pending ++ cs) (subst (λ l. IsHeld v (composes form) l out (pending ++ cs)) more later)
+
   -- what the end of the text does
   pub whole_streams : (form : Form) (e : Bool) (pending fed out : List ℕ) → e ≡ composes form → IsStreaming v form fed out pending → IsNormalForm v form fed (out ++ ended v e (canonical_order (class_of v) pending))
   whole_streams form e pending fed out comp s =

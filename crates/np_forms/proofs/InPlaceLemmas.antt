@@ -3,28 +3,27 @@ use Rattle.std.proofs.Common.{◌≡◌, ℕ, suc, ◌+◌, ◌<◌, ◌≤◌, 
 use Rattle.std.proofs.Math.Seq.{drop-cons, take-set-lt}
 use Rattle.std.proofs.lemmas.List.{take_more_set, drop-set-lt, length-take-le, length-map, map-set, map_push}
 use Rattle.np_tables.specs.Versions.{VersionData, class_of}
-use Rattle.np_forms.specs.declared.classes.Classed.{Classed}
-use Rattle.np_forms.specs.inside.Classes.{codes_of, with_class, with_classes}
+use Rattle.np_forms.specs.inside.Classes.{CodeAndClass, codes_of, with_class, with_classes}
 use Rattle.np_forms.specs.inside.Composers.{IsAfterStarter, IsComposing, pair_with_last}
 use Rattle.np_forms.specs.inside.InPlace.{IsInPlace}
 use Rattle.np_forms.proofs.ComposerLemmas.{push_joins, push_starts, push_keeps}
 
 -- the first of what is left
-record Next (v : VersionData) (rest : List ℕ) (x : Classed) (tail : List Classed) : Type 0 where
+record Next (v : VersionData) (rest : List ℕ) (x : CodeAndClass) (tail : List CodeAndClass) : Type 0 where
   d : ℕ
   ds : List ℕ
   split : rest ≡ d ∷ ds
   is : x ≡ with_class v d
   left : tail ≡ with_classes v ds
 
-next_of : (v : VersionData) (rest : List ℕ) (x : Classed) (tail : List Classed) → x ∷ tail ≡ with_classes v rest → Next v rest x tail
+next_of : (v : VersionData) (rest : List ℕ) (x : CodeAndClass) (tail : List CodeAndClass) → x ∷ tail ≡ with_classes v rest → Next v rest x tail
 next_of v [] x tail e = cc
 next_of v (d ∷ ds) x tail e = record { d = d; ds = ds; split = refl; is = cc; left = cc }
 
-abbrev code : Classed → ℕ
+abbrev code : CodeAndClass → ℕ
 code x = x.code
 
-module _ (v : VersionData) (whole : List ℕ) (list : List Classed) (kept at : ℕ) (x : Classed) (starter : Option ℕ) (last : ℕ) (behind : kept ≤ at) (inside : at < length list) (here : x ≡ get_or list at x) (a : IsInPlace v whole at list kept starter last) where
+module _ (v : VersionData) (whole : List ℕ) (list : List CodeAndClass) (kept at : ℕ) (x : CodeAndClass) (starter : Option ℕ) (last : ℕ) (behind : kept ≤ at) (inside : at < length list) (here : x ≡ get_or list at x) (a : IsInPlace v whole at list kept starter last) where
   abbrev done : List ℕ
   done = codes_of (take kept list)
 
@@ -39,16 +38,16 @@ module _ (v : VersionData) (whole : List ℕ) (list : List Classed) (kept at : �
   reads = subst (IsComposing v whole done starter last) (next.split ∙ ap (λ c. c ∷ next.ds) (sym (ap code next.is))) a.composing
 
   class_is : x.class ≡ class_of v x.code
-  class_is = ap (λ (y : Classed). y.class) next.is ∙ ap (class_of v) (sym (ap code next.is))
+  class_is = ap (λ (y : CodeAndClass). y.class) next.is ∙ ap (class_of v) (sym (ap code next.is))
 
   -- a store in front changes nothing of it
-  left : (i : ℕ) (y : Classed) → i ≤ at → drop (at + 1) (set list i y) ≡ with_classes v next.ds
+  left : (i : ℕ) (y : CodeAndClass) → i ≤ at → drop (at + 1) (set list i y) ≡ with_classes v next.ds
   left i y le = drop-set-lt (at + 1) list i y (omega arith) ∙ next.left
 
   more : codes_of (take (kept + 1) (set list kept x)) ≡ done ++ x.code ∷ []
   more = ap codes_of (take_more_set list kept x (omega arith)) ∙ map_push code (take kept list) x
 
-  pub in_place_joins : (q p : ℕ) (y : Classed) → y.code ≡ p → q < kept → (x.class ≡ class_of v x.code → pair_with_last v done starter last x.code ≡ Some (q, p)) → IsInPlace v whole (at + 1) (set list q y) kept starter last
+  pub in_place_joins : (q p : ℕ) (y : CodeAndClass) → y.code ≡ p → q < kept → (x.class ≡ class_of v x.code → pair_with_last v done starter last x.code ≡ Some (q, p)) → IsInPlace v whole (at + 1) (set list q y) kept starter last
   in_place_joins q p y is low found =
       let step = push_joins v whole done starter last x.code q p next.ds (found class_is) reads in
       let shown : codes_of (take kept (set list q y)) ≡ set done q p = ap codes_of (take-set-lt kept list q y low) ∙ map-set code (take kept list) q y ∙ ap (set done q) is in

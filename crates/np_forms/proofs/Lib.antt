@@ -7,6 +7,7 @@ pub mod ComposerLemmas
 pub mod CopyLemmas
 pub mod DecomposedLemmas
 pub mod FormLemmas
+pub mod FrontLemmas
 pub mod HeldLemmas
 pub mod InPlaceLemmas
 pub mod KeptLemmas

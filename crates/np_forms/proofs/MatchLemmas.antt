@@ -2,12 +2,12 @@
 use Rattle.std.proofs.Common.{◌≡◌, ◌≢◌, ℕ, ◌↔◌, Bool, false, IsTrue, eqb, List, [], ◌++◌, length, chars, IsUtf8, encode_utf8_all, refl, sym, ap, ◌∙◌, append_assoc, append-nil}
 use Rattle.std.proofs.lemmas.Bool.{false≢true, eqb-true}
 use Rattle.std.proofs.lemmas.List.{append_cancel_left, nil_from_length}
-use Rattle.std.proofs.lemmas.Str.{chars-nil, chars_from_encodes, encodes-append, encodes-chars}
+use Rattle.std.proofs.lemmas.Str.{chars-nil, chars_from_encodes, encodes-chars}
 use Rattle.np_code_points.specs.declared.forms.Form.{Form}
 use Rattle.np_tables.specs.Conditions.{IsSound}
 use Rattle.np_tables.specs.Versions.{VersionData}
 use Rattle.np_forms.specs.Forms.{IsNormalForm}
-use Rattle.np_forms.specs.inside.Copies.{IsCopied, IsParted}
+use Rattle.np_forms.specs.inside.Copies.{IsCopied}
 use Rattle.np_forms.specs.inside.NormalForms.{normal_form}
 use Rattle.np_forms.specs.inside.Pieces.{form_bytes}
 use Rattle.np_forms.proofs.AnswerLemmas.{IsNormalForm-value}
@@ -26,21 +26,19 @@ module _ (v : VersionData) (form : Form) where
   pub IsMatched-start : (text left : List ℕ) → left ≡ text → IsUtf8 text → IsMatched v form text left text
   IsMatched-start text left e utf8 = record { matched = []; text_is = sym e; form_is = refl; utf8 = utf8 }
 
-  -- the form of a text that is cut twice
-  pub form_cut : (rest stays after segment later : List ℕ) → IsCopied v form rest stays after → IsParted v form after segment later → form_bytes v form rest ≡ stays ++ (form_bytes v form segment ++ form_bytes v form later)
-  form_cut rest stays after segment later copied parted =
-      copied.copied ∙ ap (λ l. stays ++ l) (ap encode_utf8_all parted.parted ∙ encodes-append (normal_form v form (chars segment)) (normal_form v form (chars later)))
+  -- the form of a text, of which a front stays and some bytes are made
+  pub form_cut : (rest stays after made later : List ℕ) → IsCopied v form rest stays after → made ++ form_bytes v form later ≡ form_bytes v form after → form_bytes v form rest ≡ stays ++ (made ++ form_bytes v form later)
+  form_cut rest stays after made later copied goes = copied.copied ∙ ap (λ l. stays ++ l) (sym goes)
 
-  pub IsMatched-next : (text left rest stays after segment later past last : List ℕ) → IsMatched v form text left rest → IsCopied v form rest stays after → IsParted v form after segment later →
-      left ≡ stays ++ past → past ≡ form_bytes v form segment ++ last → IsMatched v form text last later
-  IsMatched-next text left rest stays after segment later past last m copied parted first second =
-      let made = form_bytes v form segment in
+  pub IsMatched-next : (text left rest stays after made later past last : List ℕ) → IsMatched v form text left rest → IsCopied v form rest stays after → made ++ form_bytes v form later ≡ form_bytes v form after → IsUtf8 later →
+      left ≡ stays ++ past → past ≡ made ++ last → IsMatched v form text last later
+  IsMatched-next text left rest stays after made later past last m copied goes utf8 first second =
       record {
         matched = m.matched ++ (stays ++ made);
         text_is = m.text_is ∙ ap (λ l. m.matched ++ l) (first ∙ ap (λ l. stays ++ l) second ∙ sym (append_assoc stays made last)) ∙ sym (append_assoc m.matched (stays ++ made) last);
-        form_is = m.form_is ∙ ap (λ l. m.matched ++ l) (form_cut rest stays after segment later copied parted ∙ sym (append_assoc stays made (form_bytes v form later)))
+        form_is = m.form_is ∙ ap (λ l. m.matched ++ l) (form_cut rest stays after made later copied goes ∙ sym (append_assoc stays made (form_bytes v form later)))
             ∙ sym (append_assoc m.matched (stays ++ made) (form_bytes v form later));
-        utf8 = parted.utf8;
+        utf8 = utf8;
       }
 
   -- what is left begins as the form of the rest does, where the text is its form
@@ -62,13 +60,13 @@ module _ (v : VersionData) (form : Form) where
       λ is. absurd (other more (left_is text left rest m (form_own text utf8 is) ∙ e)),
     )
 
-    -- the same of the form of the segment behind what stays
-    pub no_form_behind : (text left rest stays after segment later past : List ℕ) → IsUtf8 text → IsMatched v form text left rest → IsCopied v form rest stays after → IsParted v form after segment later →
-        left ≡ stays ++ past → ((r : List ℕ) → past ≢ form_bytes v form segment ++ r) → IsTrue false ↔ IsNormalForm v form (chars text) (chars text)
-    no_form_behind text left rest stays after segment later past utf8 m copied parted first other =
-        no_form text left rest (stays ++ form_bytes v form segment) (form_bytes v form later) utf8 m
-        (form_cut rest stays after segment later copied parted ∙ sym (append_assoc stays (form_bytes v form segment) (form_bytes v form later)))
-        (λ r e. other r (append_cancel_left stays past (form_bytes v form segment ++ r) (sym first ∙ e ∙ append_assoc stays (form_bytes v form segment) r)))
+    -- the same of the bytes that are made behind what stays
+    pub no_form_behind : (text left rest stays after made later past : List ℕ) → IsUtf8 text → IsMatched v form text left rest → IsCopied v form rest stays after → made ++ form_bytes v form later ≡ form_bytes v form after →
+        left ≡ stays ++ past → ((r : List ℕ) → past ≢ made ++ r) → IsTrue false ↔ IsNormalForm v form (chars text) (chars text)
+    no_form_behind text left rest stays after made later past utf8 m copied goes first other =
+        no_form text left rest (stays ++ made) (form_bytes v form later) utf8 m
+        (form_cut rest stays after made later copied goes ∙ sym (append_assoc stays made (form_bytes v form later)))
+        (λ r e. other r (append_cancel_left stays past (made ++ r) (sym first ∙ e ∙ append_assoc stays made r)))
 
     -- at the end of the form
     pub form_end : (text left rest : List ℕ) (b : Bool) → IsUtf8 text → IsMatched v form text left rest → length rest ≡ 0 → b ≡ eqb (length left) 0 → IsTrue b ↔ IsNormalForm v form (chars text) (chars text)

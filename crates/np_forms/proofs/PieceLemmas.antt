@@ -10,7 +10,7 @@ use Rattle.np_tables.specs.Versions.{VersionData}
 use Rattle.np_forms.specs.Forms.{IsEquivalent}
 use Rattle.np_forms.specs.inside.NormalForms.{decomposed, normal_form}
 use Rattle.np_forms.proofs.AnswerLemmas.{IsEquivalent-lists, normal_form-decomposed}
-use Rattle.np_forms.specs.inside.Copies.{IsCopied, IsParted}
+use Rattle.np_forms.specs.inside.Copies.{IsCopied}
 use Rattle.np_forms.specs.declared.pieces.Pieces.{Pieces}
 use Rattle.np_forms.specs.inside.Pieces.{first_of, form_bytes, front_of, left_of}
 use Rattle.np_forms.proofs.MatchLemmas.{form_cut, rest_nil}
@@ -31,10 +31,8 @@ module _ (v : VersionData) (form : Form) where
       ap (λ l. l ++ (made ++ form_bytes v form rest)) (first_nil stays made e) ∙ ap (λ l. l ++ form_bytes v form rest) (other_nil stays made e)
 
   -- the next piece is cut off the rest
-  pub left_next : (rest stays after segment later made : List ℕ) → IsCopied v form rest stays after → IsParted v form after segment later → made ≡ form_bytes v form segment →
-      stays ++ (made ++ form_bytes v form later) ≡ form_bytes v form rest
-  left_next rest stays after segment later made copied parted is =
-      ap (λ l. stays ++ (l ++ form_bytes v form later)) is ∙ sym (form_cut v form rest stays after segment later copied parted)
+  pub left_next : (rest stays after later made : List ℕ) → IsCopied v form rest stays after → made ++ form_bytes v form later ≡ form_bytes v form after → stays ++ (made ++ form_bytes v form later) ≡ form_bytes v form rest
+  left_next rest stays after later made copied goes = sym (form_cut v form rest stays after made later copied goes)
 
   -- nothing in front and no rest
   pub left_nil : (stays made rest : List ℕ) → first_of stays made ≡ [] → length rest ≡ 0 → stays ++ (made ++ form_bytes v form rest) ≡ []

@@ -10,10 +10,9 @@ use Rattle.np_forms.specs.Order.{is_ordered}
 use Rattle.np_forms.specs.inside.Composers.{IsComposing, and_place, pair_with_last}
 use Rattle.np_forms.specs.inside.Composing.{compose_of}
 use Rattle.np_forms.specs.inside.Copies.{BeginsAtBoundary, IsCopied}
-use Rattle.np_forms.specs.declared.classes.Classed.{Classed}
 use Rattle.np_forms.specs.declared.plain_texts.Plain.{Plain}
 use Rattle.np_forms.specs.inside.CanonicalOrder.{canonical_order}
-use Rattle.np_forms.specs.inside.Classes.{with_class, with_classes}
+use Rattle.np_forms.specs.inside.Classes.{CodeAndClass, with_class, with_classes}
 use Rattle.np_forms.specs.inside.NormalForms.{ended, normal_form}
 use Rattle.np_forms.proofs.TextLemmas.{IsRead-start, IsRead-next, IsRead-end}
 use Rattle.np_forms.specs.inside.Segments.{IsComposedOf, IsDecomposedUpTo, IsFirstMade, IsPlainOf, IsPlainUpTo, IsReadUpTo, Rises}
@@ -31,7 +30,7 @@ module _ (v : VersionData) where
   abbrev ccc : ℕ → ℕ
   ccc = class_of v
 
-  composed-start : IsComposedOf v [] [] None 0 0
+  pub composed-start : IsComposedOf v [] [] None 0 0
   composed-start = record { rises = λ later h. h; composing = λ rest h. IsComposing-start v rest h }
 
   -- ---- one more code point
@@ -46,11 +45,11 @@ module _ (v : VersionData) where
               subst (λ w. IsComposing v w made starter₂ kept₂ rest) (sym e) (step (done ++ d ∷ rest) rest (a.composing (d ∷ rest) (subst (λ w. is_ordered ccc w ≡ true) e h)));
         }
 
-    composed-joins : (q p : ℕ) → pair_with_last v list starter kept d ≡ Some (q, p) → IsComposedOf v (done ++ d ∷ []) (set list q p) starter kept class
+    pub composed-joins : (q p : ℕ) → pair_with_last v list starter kept d ≡ Some (q, p) → IsComposedOf v (done ++ d ∷ []) (set list q p) starter kept class
     composed-joins q p found =
         subst (λ k. IsComposedOf v (done ++ d ∷ []) (set list q p) starter kept k) (sym is) (one_more (set list q p) starter kept (λ whole rest h. push_joins v whole list starter kept d q p rest found h))
 
-    composed-starts : (made : List ℕ) (place : ℕ) → class ≡ 0 → made ≡ list ++ d ∷ [] → place ≡ length list → pair_with_last v list starter kept d ≡ None → IsComposedOf v (done ++ d ∷ []) made (Some place) class class
+    pub composed-starts : (made : List ℕ) (place : ℕ) → class ≡ 0 → made ≡ list ++ d ∷ [] → place ≡ length list → pair_with_last v list starter kept d ≡ None → IsComposedOf v (done ++ d ∷ []) made (Some place) class class
     composed-starts made place zero more at none =
         let now = list ++ d ∷ [] in
         let step = one_more now (Some (length list)) 0 (λ whole rest h. push_starts v whole list starter kept d rest none (sym is ∙ zero) h) in
@@ -122,7 +121,7 @@ module _ (v : VersionData) where
     abbrev full : ℕ → List ℕ
     full = full_of v (is_compat form)
 
-    made-form : composes form ≡ true → (xs list : List ℕ) (starter : Option ℕ) (kept read : ℕ) → IsComposedOf v (flat_map full xs) list starter kept read → list ≡ normal_form v form xs
+    pub made-form : composes form ≡ true → (xs list : List ℕ) (starter : Option ℕ) (kept read : ℕ) → IsComposedOf v (flat_map full xs) list starter kept read → list ≡ normal_form v form xs
     unfolding compose_of
     made-form on xs list starter kept read a =
         let done = flat_map full xs in
@@ -152,7 +151,7 @@ module _ (v : VersionData) where
     pub decomposed-start : (text : List ℕ) → IsUtf8 text → IsDecomposedUpTo v form text text []
     decomposed-start text utf8 = record { front = []; reads = IsRead-start text utf8; is = refl }
 
-    pub decomposed-more : (text rest later : List ℕ) (c : ℕ) (list made : List Classed) → rest ≡ encode_utf8 c ++ later → IsDecomposedUpTo v form text rest list → made ≡ list ++ with_classes v (full c) → IsDecomposedUpTo v form text later made
+    pub decomposed-more : (text rest later : List ℕ) (c : ℕ) (list made : List CodeAndClass) → rest ≡ encode_utf8 c ++ later → IsDecomposedUpTo v form text rest list → made ≡ list ++ with_classes v (full c) → IsDecomposedUpTo v form text later made
     decomposed-more text rest later c list made begins a more =
         record {
           front = a.front ++ c ∷ [];
@@ -161,7 +160,7 @@ module _ (v : VersionData) where
         }
 
     -- settled, it is the form of a front, where a boundary follows
-    pub decomposed-made : (text rest : List ℕ) (list : List Classed) (codes : List ℕ) (composed : Bool) → composed ≡ composes form → IsDecomposedUpTo v form text rest list → BeginsAtBoundary v form (chars rest) →
+    pub decomposed-made : (text rest : List ℕ) (list : List CodeAndClass) (codes : List ℕ) (composed : Bool) → composed ≡ composes form → IsDecomposedUpTo v form text rest list → BeginsAtBoundary v form (chars rest) →
         ((cs : List ℕ) → list ≡ with_classes v cs → codes ≡ ended v composed (canonical_order ccc cs)) → IsFirstMade v form text rest codes
     decomposed-made text rest list codes composed last a at settled =
         let made = settled-is_form v form a.front (flat_map full a.front) codes (is_compat form) composed refl last refl (settled (flat_map full a.front) a.is) in

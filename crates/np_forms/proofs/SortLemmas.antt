@@ -7,10 +7,9 @@ use Rattle.std.proofs.lemmas.List.Sorted.{IsNonDecreasingBy-drop}
 use Rattle.std.specs.List.{list_all, filter}
 use Rattle.std.specs.List.Sorted.{IsNonDecreasingBy, IsStableByKey, ties}
 use Rattle.std.specs.Ordering.{nat_cmp, is_lt}
-use Rattle.np_forms.specs.declared.classes.Classed.{Classed}
 use Rattle.np_forms.specs.Order.{is_reorderable, is_ordered}
 use Rattle.np_forms.specs.inside.CanonicalOrder.{canonical_order}
-use Rattle.np_forms.specs.inside.Classes.{with_class, with_classes}
+use Rattle.np_forms.specs.inside.Classes.{CodeAndClass, with_class, with_classes}
 use Rattle.np_forms.specs.Starters.{is_starter}
 use Rattle.np_forms.proofs.OrderLemmas.{is_reorderable-true, is_reorderable-false, is_ordered-parts, is_ordered-canonical_order, list_all-canonical_order, canonical_order-keeps}
 use Rattle.np_forms.proofs.ComposeLemmas.{is_starter-false}
@@ -125,7 +124,7 @@ module _ (v : VersionData) where
   abbrev ccc_of : ℕ → ℕ
   ccc_of = class_of v
 
-  abbrev class : Classed → ℕ
+  abbrev class : CodeAndClass → ℕ
   class x = x.class
 
   -- ordered non-starters rise
@@ -139,17 +138,17 @@ module _ (v : VersionData) where
       (elim (is_reorderable-false ccc_of c d both.0) [ inl low ↦ absurd (omega arith) | inr up ↦ up ], Rises-ordered (d ∷ ds) both.1 later)
 
   -- what has a class, beside the class or alone
-  filter-with_classes : (k : ℕ) (cs : List ℕ) → filter (λ (y : Classed). k == y.class) (with_classes v cs) ≡ with_classes v (filter (of_class ccc_of k) cs)
+  filter-with_classes : (k : ℕ) (cs : List ℕ) → filter (λ (y : CodeAndClass). k == y.class) (with_classes v cs) ≡ with_classes v (filter (of_class ccc_of k) cs)
   filter-with_classes k [] = refl
   filter-with_classes k (c ∷ cs) =
-      let p = λ (y : Classed). k == y.class in
+      let p = λ (y : CodeAndClass). k == y.class in
       elim (cases_Bool (of_class ccc_of k c)) [
         | inl on ↦ cond-true _ _ _ on ∙ ap (λ l. with_class v c ∷ l) (filter-with_classes k cs) ∙ ap (with_classes v) (sym (cond-true _ _ _ on))
         | inr off ↦ cond-false _ _ _ off ∙ filter-with_classes k cs ∙ ap (with_classes v) (sym (cond-false _ _ _ off))
       ]
 
   -- so a stable sort of non-starters gives their canonical order
-  pub canonical_order-from_sort : (cs : List ℕ) (ys : List Classed) → list_all (λ c. not (is_starter ccc_of c)) cs ≡ true → IsNonDecreasingBy class ys → IsStableByKey class nat_cmp (with_classes v cs) ys → ys ≡ with_classes v (canonical_order ccc_of cs)
+  pub canonical_order-from_sort : (cs : List ℕ) (ys : List CodeAndClass) → list_all (λ c. not (is_starter ccc_of c)) cs ≡ true → IsNonDecreasingBy class ys → IsStableByKey class nat_cmp (with_classes v cs) ys → ys ≡ with_classes v (canonical_order ccc_of cs)
   canonical_order-from_sort cs ys non_starters rises stable =
       one_list class ys (with_classes v (canonical_order ccc_of cs)) (Rises-non_decreasing class ys rises)
       (Rises-ordered (canonical_order ccc_of cs) (is_ordered-canonical_order ccc_of cs) (list_all-canonical_order ccc_of (λ c. not (is_starter ccc_of c)) cs non_starters))

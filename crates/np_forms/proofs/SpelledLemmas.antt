@@ -1,19 +1,18 @@
--- A code point whose form by itself is its full decomposition.
-use Rattle.std.proofs.Common.{Option, None, Some, ◌⊎◌, inl, inr, ◌≡◌, ℕ, ◌<◌, Bool, true, false, suc, List, [], ◌∷◌, ◌++◌, length, chars, All, MatchBool, IsUtf8, encode_utf8, refl, sym, ap, ◌∙◌, arith, append-nil}
+-- A code point whose form by itself is known.
+use Rattle.std.proofs.Common.{Option, None, Some, ◌⊎◌, inl, inr, ◌≡◌, ℕ, ◌≤◌, Bool, true, false, List, [], ◌∷◌, ◌++◌, length, chars, MatchBool, IsUtf8, encode_utf8, flat_map, refl, sym, ap, subst, ◌∙◌, arith, append_assoc, append-nil}
 use Rattle.std.specs.Option.{is_some}
+use Rattle.std.proofs.lemmas.List.{get_or_at, set_at}
 use Rattle.std.proofs.lemmas.Str.{chars_past_char, IsUtf8-past_char}
 use Rattle.np_code_points.specs.Forms.{is_compat, composes}
 use Rattle.np_code_points.specs.declared.forms.Form.{Form}
-use Rattle.np_forms.specs.Order.{is_ordered}
-use Rattle.np_forms.specs.inside.CanonicalOrder.{canonical_order}
-use Rattle.np_forms.specs.inside.Composing.{compose, compose_after, compose_of}
+use Rattle.np_forms.specs.inside.Composers.{and_place, pair_with_last}
 use Rattle.np_forms.specs.inside.Copies.{BeginsAtBoundary}
-use Rattle.np_forms.specs.inside.NormalForms.{decomposed, ended, normal_form}
-use Rattle.np_forms.specs.inside.Segments.{IsFirstMade, IsFirstSpelled}
-use Rattle.np_forms.proofs.BoundaryLemmas.{composite-never, is_ordered-never_falls}
-use Rattle.np_forms.proofs.ComposeLemmas.{compose-nil, compose-starter, compose_after-nil, compose_after-starter, joined-none}
-use Rattle.np_forms.proofs.CopyLemmas.{parts-at}
+use Rattle.np_forms.specs.inside.NormalForms.{normal_form}
+use Rattle.np_forms.specs.inside.Segments.{IsComposedOf, IsFirstMade, IsFirstSpelled}
+use Rattle.np_forms.proofs.BoundaryLemmas.{is_ordered-never_falls}
+use Rattle.np_forms.proofs.CopyLemmas.{parts-at, settled-is_form}
 use Rattle.np_forms.proofs.OrderLemmas.{canonical_order-ordered}
+use Rattle.np_forms.proofs.SegmentLemmas.{composed-joins, composed-start, composed-starts, folded-starts, made-form, pair-apart}
 use Rattle.np_forms.proofs.SyllableLemmas.{lent_some}
 use Rattle.np_tables.specs.Boundaries.{NeverFalls}
 use Rattle.np_tables.specs.Conditions.{IsSound}
@@ -23,50 +22,71 @@ use Rattle.np_ucd.specs.Entries.{Entry}
 use Rattle.np_tables.specs.inside.CompositeSearch.{composite}
 use Rattle.np_tables.specs.inside.FullDecompositions.{full_of, table_full}
 use Rattle.np_tables.specs.inside.Spelled.{IsSpelled}
-use Rattle.np_tables.specs.inside.Spellings.{IsApartStarter, IsSettled}
+use Rattle.np_tables.specs.inside.Spellings.{Composes, ComposesOn}
 
 cases_entry : (o : Option Entry) → (o ≡ None) ⊎ ((e : Entry) × (o ≡ Some e))
 cases_entry None = inl refl
 cases_entry (Some e) = inr (e, refl)
 
+-- what was read is composed to a list, whatever stands in it last
+record IsComposedTo (v : VersionData) (done list : List ℕ) : Type 0 where
+  starter : Option ℕ
+  kept : ℕ
+  read : ℕ
+  composed : IsComposedOf v done list starter kept read
+
 module _ (v : VersionData) where
-  -- ---- starters that are second parts of nothing
+  -- ---- code points that compose one after the other
 
-  starters-rise : (cs : List ℕ) → All (IsApartStarter v) cs → NeverFalls (class_of v) cs
-  starters-rise [] all = tt
-  starters-rise (a ∷ []) all = tt
-  starters-rise (a ∷ b ∷ cs) all = (omega (arith, (all 0 a (omega arith)).0), starters-rise (b ∷ cs) (λ k d lt. all (suc k) d (omega arith)))
+  -- the next one goes into what is held
+  held-joins : (done before : List ℕ) (held last d p : ℕ) → composite v held d ≡ Some p → (class_of v d ≡ 0) ⊎ (last ≤ class_of v d) →
+      IsComposedOf v done (before ++ held ∷ []) (Some (length before)) 0 last → IsComposedOf v (done ++ d ∷ []) (before ++ p ∷ []) (Some (length before)) 0 (class_of v d)
+  unfolding pair_with_last
+  held-joins done before held last d p found up a =
+      let q = length before in
+      let list = before ++ held ∷ [] in
+      let pair : pair_with_last v list (Some q) 0 d ≡ Some (q, p) = ap (λ x. and_place q (composite v x d)) (get_or_at before held [] 0 q refl) ∙ ap (and_place q) found in
+      subst (λ l. IsComposedOf v (done ++ d ∷ []) l (Some q) 0 (class_of v d)) (set_at before held [] p q refl)
+      (composed-joins v done list (Some q) 0 last d (class_of v d) refl up a q p pair)
 
-  compose_after-apart : (s : ℕ) (bs cs : List ℕ) → All (IsApartStarter v) cs → compose_after (class_of v) (composite v) s bs cs ≡ s ∷ (bs ++ cs)
-  compose_after-apart s bs [] all = compose_after-nil (class_of v) (composite v) s bs ∙ ap (λ l. s ∷ l) (sym (append-nil bs))
-  compose_after-apart s bs (c ∷ cs) all =
-      let here = all 0 c (omega arith) in
-      compose_after-starter (class_of v) (composite v) s bs c cs (joined-none (class_of v) (composite v) s bs c (composite-never v c here.1 s)) (omega (arith, here.0))
-      ∙ ap (λ l. s ∷ (bs ++ l)) (compose_after-apart c [] cs (λ k d lt. all (suc k) d (omega arith)))
+  -- the next one is held in its place
+  held-starts : (done before : List ℕ) (held last d : ℕ) → class_of v d ≡ 0 → composite v held d ≡ None →
+      IsComposedOf v done (before ++ held ∷ []) (Some (length before)) 0 last → IsComposedOf v (done ++ d ∷ []) ((before ++ held ∷ []) ++ d ∷ []) (Some (length (before ++ held ∷ []))) 0 0
+  held-starts done before held last d starter none a =
+      let q = length before in
+      let list = before ++ held ∷ [] in
+      composed-starts v done list (Some q) 0 last d 0 (sym starter) (inl refl) a (list ++ d ∷ []) (length list) refl refl refl (pair-apart v list q 0 d held (get_or_at before held [] 0 q refl) none)
 
-  compose-apart : (cs : List ℕ) → All (IsApartStarter v) cs → compose (class_of v) (composite v) cs ≡ cs
-  compose-apart [] all = compose-nil (class_of v) (composite v)
-  compose-apart (c ∷ cs) all =
-      compose-starter (class_of v) (composite v) c cs (omega (arith, (all 0 c (omega arith)).0)) ∙ compose_after-apart c [] cs (λ k d lt. all (suc k) d (omega arith))
+  held-composes : (done before : List ℕ) (held last : ℕ) (ds list : List ℕ) → IsComposedOf v done (before ++ held ∷ []) (Some (length before)) 0 last → ComposesOn v held last ds list → IsComposedTo v (done ++ ds) (before ++ list)
+  held-composes done before held last [] list a is =
+      record {
+        starter = Some (length before);
+        kept = 0;
+        read = last;
+        composed = subst (λ l. IsComposedOf v l (before ++ list) (Some (length before)) 0 last) (sym (append-nil done)) (subst (λ l. IsComposedOf v done (before ++ l) (Some (length before)) 0 last) (sym is) a);
+      }
+  held-composes done before held last (d ∷ ds) list a (inl (p, found, up, later)) =
+      subst (λ l. IsComposedTo v l (before ++ list)) (append_assoc done (d ∷ []) ds) (held-composes (done ++ d ∷ []) before p (class_of v d) ds list (held-joins done before held last d p found up a) later)
+  held-composes done before held last (d ∷ ds) list a (inr (later, starter, none, same, is)) =
+      subst (λ l. IsComposedTo v l (before ++ list)) (append_assoc done (d ∷ []) ds)
+      (subst (λ l. IsComposedTo v ((done ++ d ∷ []) ++ ds) l) (append_assoc before (held ∷ []) later ∙ ap (λ l. before ++ l) (sym same))
+      (held-composes (done ++ d ∷ []) (before ++ held ∷ []) d 0 ds later (held-starts done before held last d starter none a) is))
 
-  -- ---- what is settled is a form as it is
-
-  settled-ordered : (b : Bool) (lent : List ℕ) → MatchBool b (All (IsApartStarter v) lent) (NeverFalls (class_of v) lent) → is_ordered (class_of v) lent ≡ true
-  settled-ordered true lent all = is_ordered-never_falls (class_of v) lent (starters-rise lent all)
-  settled-ordered false lent rises = is_ordered-never_falls (class_of v) lent rises
-
-  settled-ended : (b : Bool) (lent : List ℕ) → MatchBool b (All (IsApartStarter v) lent) (NeverFalls (class_of v) lent) → ended v b lent ≡ lent
-  unfolding compose_of
-  settled-ended true lent all = compose-apart lent all
-  settled-ended false lent rises = refl
+  composes-composed : (lent list : List ℕ) → Composes v lent list → IsComposedTo v lent list
+  composes-composed [] list none = absurd none
+  composes-composed (c ∷ cs) list (starter, is) = held-composes (c ∷ []) [] c 0 cs list (folded-starts v [] c starter (composed-start v)) is
 
   module _ (sound : IsSound v) (form : Form) where
-    settled-form : (c : ℕ) (lent : List ℕ) → lent ≡ table_full v (is_compat form) c → 0 < length lent → IsSettled v form lent → normal_form v form (c ∷ []) ≡ lent
-    unfolding normal_form decomposed
-    settled-form c lent is some settled =
-        ap (ended v (composes form))
-        (ap (canonical_order (class_of v)) (append-nil (full_of v (is_compat form) c) ∙ sym (lent_some v (is_compat form) c lent is some)) ∙ canonical_order-ordered (class_of v) lent (settled-ordered (composes form) lent settled))
-        ∙ settled-ended (composes form) lent settled
+    -- ---- what a full decomposition settles to is the form
+
+    settled-form : (b : Bool) (c : ℕ) (lent list : List ℕ) → b ≡ composes form → lent ≡ flat_map (full_of v (is_compat form)) (c ∷ []) → MatchBool b (Composes v lent list) (NeverFalls (class_of v) lent × (list ≡ lent)) →
+        normal_form v form (c ∷ []) ≡ list
+    settled-form true c lent list on full composes_to =
+        let made = composes-composed lent list composes_to in
+        sym (made-form v sound form (sym on) (c ∷ []) list made.starter made.kept made.read (subst (λ l. IsComposedOf v l list made.starter made.kept made.read) full made.composed))
+    settled-form false c lent list off full (rises, same) =
+        sym (settled-is_form v form (c ∷ []) lent list (is_compat form) false refl off full
+        (same ∙ sym (canonical_order-ordered (class_of v) lent (is_ordered-never_falls (class_of v) lent rises))))
 
     -- it is assigned
     pub spelled-assigned : (c : ℕ) (bytes : List ℕ) (count : ℕ) → IsSpelled v form c bytes count → is_assigned v c ≡ true
@@ -80,10 +100,11 @@ module _ (v : VersionData) where
     pub first-spelled : (text later : List ℕ) (c : ℕ) → IsUtf8 text → text ≡ encode_utf8 c ++ later → BeginsAtBoundary v form (chars later) → (bytes : List ℕ) (count : ℕ) → IsSpelled v form c bytes count → IsFirstSpelled v form text later bytes count
     first-spelled text later c utf8 begins at bytes count spelled =
         let lent = table_full v (is_compat form) c in
-        let made : IsFirstMade v form text later lent =
+        let full : lent ≡ flat_map (full_of v (is_compat form)) (c ∷ []) = lent_some v (is_compat form) c lent refl spelled.some ∙ sym (append-nil (full_of v (is_compat form) c)) in
+        let made : IsFirstMade v form text later spelled.list =
         record {
           end = record { front = encode_utf8 c; parts = begins; utf8 = IsUtf8-past_char text later c utf8 begins };
           made = ap (normal_form v form) (chars_past_char text later c utf8 begins) ∙ parts-at v sound form (c ∷ []) (chars later) at
-              ∙ ap (λ l. l ++ normal_form v form (chars later)) (settled-form c lent refl spelled.some spelled.settled);
+              ∙ ap (λ l. l ++ normal_form v form (chars later)) (settled-form (composes form) c lent spelled.list refl full spelled.settles);
         } in
-        record { list = lent; made = made; fits = spelled.fits; utf8 = spelled.utf8; is = spelled.is }
+        record { list = spelled.list; made = made; fits = spelled.fits; utf8 = spelled.utf8; is = spelled.is }

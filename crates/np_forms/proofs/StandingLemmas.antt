@@ -5,10 +5,10 @@ use Rattle.np_code_points.specs.declared.forms.Form.{Form}
 use Rattle.np_forms.specs.Order.{is_ordered}
 use Rattle.np_forms.specs.inside.Composing.{compose, compose_after, compose_of}
 use Rattle.np_forms.specs.inside.NormalForms.{decomposed, ended, normal_form}
-use Rattle.np_forms.proofs.BoundaryLemmas.{composite-never, full_of-boundary}
+use Rattle.np_forms.proofs.BoundaryLemmas.{full_of-boundary}
 use Rattle.np_forms.proofs.ComposeLemmas.{compose-nil, compose-non_starter, compose-starter, compose_after-joined, compose_after-kept, compose_after-nil, compose_after-starter, joined-free, joined-none}
 use Rattle.np_forms.proofs.OrderLemmas.{canonical_order-ordered, is_ordered-cons, is_ordered-nil, is_ordered-one, not_reorderable_rising, not_reorderable_starter}
-use Rattle.np_tables.proofs.CompositeLemmas.{composite_from}
+use Rattle.np_tables.proofs.CompositeLemmas.{composite-never, composite_from}
 use Rattle.np_tables.proofs.MappingLemmas.{full_of-final}
 use Rattle.np_tables.specs.Boundaries.{FoldsTo, NeverFalls, Stays}
 use Rattle.np_tables.specs.Conditions.{IsSound}

@@ -56,6 +56,14 @@ IsRead-next text rest c later front begins r =
       split = r.split ∙ ap (λ l. front ++ l) (chars_past_char rest later c r.utf8 begins) ∙ sym (append_assoc front (c ∷ []) (chars later));
     }
 
+pub IsRead-both : (text middle rest one two : List ℕ) → IsRead text middle one → IsRead middle rest two → IsRead text rest (one ++ two)
+IsRead-both text middle rest one two first second =
+    record {
+      utf8 = second.utf8;
+      bytes = first.bytes ∙ ap (λ l. encode_utf8_all one ++ l) second.bytes ∙ sym (append_assoc (encode_utf8_all one) (encode_utf8_all two) rest) ∙ ap (λ l. l ++ rest) (sym (encodes-append one two));
+      split = first.split ∙ ap (λ l. one ++ l) second.split ∙ sym (append_assoc one two (chars rest));
+    }
+
 pub IsRead-end : (text rest front : List ℕ) → IsRead text rest front → IsEndOf text rest
 IsRead-end text rest front r = record { front = encode_utf8_all front; parts = r.bytes; utf8 = r.utf8 }
 

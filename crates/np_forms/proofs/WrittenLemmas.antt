@@ -1,13 +1,16 @@
 -- A stream whose ready code points are moved to the end of a text.
-use Rattle.std.proofs.Common.{◌≡◌, ℕ, List, [], ◌∷◌, ◌++◌, IsUtf8, chars, encode_utf8_all, refl, sym, ap, subst, ◌∙◌, append_assoc, append-nil}
+use Rattle.std.proofs.Common.{◌≡◌, ℕ, Bool, List, [], ◌∷◌, ◌++◌, IsUtf8, chars, encode_utf8_all, refl, sym, ap, subst, ◌∙◌, append_assoc, append-nil}
 use Rattle.std.proofs.lemmas.Str.{encodes-append, chars_from_encodes}
 use Rattle.np_code_points.specs.declared.forms.Form.{Form}
 use Rattle.np_tables.specs.Conditions.{IsSound}
-use Rattle.np_tables.specs.Versions.{VersionData}
+use Rattle.np_tables.specs.Versions.{VersionData, class_of}
+use Rattle.np_code_points.specs.Forms.{composes}
 use Rattle.np_forms.specs.Forms.{IsNormalForm}
-use Rattle.np_forms.specs.Streams.{IsStreaming, StreamState, TakesIn, Finishes}
-use Rattle.np_forms.specs.inside.NormalForms.{normal_form}
-use Rattle.np_forms.specs.inside.Written.{Writes, WritesEnd}
+use Rattle.np_forms.specs.Streams.{IsStreaming, StreamState, TakesIn}
+use Rattle.np_forms.specs.inside.CanonicalOrder.{canonical_order}
+use Rattle.np_forms.specs.inside.NormalForms.{ended, normal_form}
+use Rattle.np_forms.specs.inside.Written.{Breaks, HoldsFront, Writes}
+use Rattle.np_forms.proofs.HeldLemmas.{IsStreaming-start, whole_streams}
 use Rattle.np_forms.proofs.FormLemmas.{IsNormalForm-normal_form, normal_form_is}
 
 -- a stream under the version and the form of another state
@@ -38,9 +41,21 @@ Writes-fed old mid before after c empty t is =
       carries = t.carries;
     }
 
-pub WritesEnd-finished : (old mid : StreamState) (before after : List ℕ) → old.ready ≡ [] → Finishes old mid → after ≡ before ++ encode_utf8_all mid.ready → WritesEnd old before after
-WritesEnd-finished old mid before after empty f is =
-    record { more = f.more; written = is ∙ ap (λ l. before ++ encode_utf8_all l) (f.ready ∙ ap (λ l. l ++ f.more) empty); whole = f.whole }
+-- what was pending is written, in canonical order, and composed where the form composes
+pub Breaks-settled : (v : VersionData) (sound : IsSound v) (form : Form) (e : Bool) (pending ready left before after settled : List ℕ) → e ≡ composes form → ready ≡ [] → left ≡ [] → settled ≡ ended v e (canonical_order (class_of v) pending) → after ≡ before ++ encode_utf8_all settled
+    → Breaks (record { version = v; form = form; ready = ready; pending = pending }) (record { version = v; form = form; ready = ready; pending = left }) before after
+Breaks-settled v sound form e pending ready left before after settled comp empty nothing is grown =
+    record {
+      ends = record {
+        more = ended v e (canonical_order (class_of v) pending);
+        written = grown ∙ ap (λ l. before ++ encode_utf8_all l) is;
+        whole = λ fed out s. whole_streams v sound form e pending fed out comp s;
+      };
+      version = refl;
+      form = refl;
+      moved = empty;
+      begins = subst (IsStreaming v form [] []) (sym nothing) (IsStreaming-start v sound form);
+    }
 
 pub more_bytes : (x y z xs ys : List ℕ) → y ≡ x ++ encode_utf8_all xs → z ≡ y ++ encode_utf8_all ys → z ≡ x ++ encode_utf8_all (xs ++ ys)
 more_bytes x y z xs ys of_y of_z =
@@ -60,6 +75,27 @@ Writes-next a b c x y z text next first second =
           subst (λ l. IsStreaming a.version a.form l (out ++ (first.more ++ second.more)) c.pending) (append_assoc fed text next)
           (subst (λ l. IsStreaming a.version a.form ((fed ++ text) ++ next) l c.pending) (append_assoc out first.more second.more) last);
     }
+
+-- behind what was written the front of a text is held back
+pub Writes-held : (a b c : StreamState) (x y text rest next : List ℕ) → Writes a b x y text → (h : HoldsFront b c rest next) → Writes a c x y (text ++ h.front)
+Writes-held a b c x y text rest next first h =
+    record {
+      more = first.more;
+      written = first.written;
+      version = h.version ∙ first.version;
+      form = h.form ∙ first.form;
+      moved = h.ready ∙ first.moved;
+      carries = λ fed out s.
+          let mid = same_streaming a b (fed ++ text) (out ++ first.more) b.pending first.version first.form (first.carries fed out s) in
+          let last = same_streaming b a ((fed ++ text) ++ h.front) (out ++ first.more) c.pending (sym first.version) (sym first.form) (h.carries (fed ++ text) (out ++ first.more) mid) in
+          subst (λ l. IsStreaming a.version a.form l (out ++ first.more) c.pending) (append_assoc fed text h.front) last;
+    }
+
+-- before what is written the front of a text is held back
+pub Writes-behind : (a b c : StreamState) (x y text rest : List ℕ) → a.ready ≡ [] → HoldsFront a b text rest → Writes b c x y (chars rest) → Writes a c x y (chars text)
+Writes-behind a b c x y text rest empty h second =
+    let front = Writes-held a a b x x [] text rest (Writes-start a x empty) h in
+    subst (Writes a c x y) (sym h.reads.split) (Writes-next a b c x x y h.front (chars rest) front second)
 
 -- the bytes of a normal form
 pub record IsWrittenForm (v : VersionData) (form : Form) (text bytes : List ℕ) : Type 0 where

@@ -5,12 +5,57 @@ ghost use Rattle.np_forms.specs.inside.Classes.{codes_of, with_class as spec_wit
 
 use np_code_points::Memory;
 use np_tables::NormTable;
+use std::marker::Model;
 
-/// A code point beside its combining class.
+/// What a class is multiplied with, so that any code point is less.
+const CLASS: u32 = 0x20_0000;
+
+/// A code point beside its combining class, in 32 bits: long runs are held and sorted so.
 #[derive(Clone, Copy)]
 pub(crate) struct Classed {
-    pub code: char,
-    pub class: u8,
+    bits: u32,
+}
+
+impl Model for Classed {
+    ghost use Rattle.std.specs.Prelude.{ℕ, ◌+◌, ◌*◌, ◌/◌, ◌%◌, ◌<◌};
+    ghost use Rattle.std.specs.Char.{IsScalar};
+    ghost use Rattle.np_forms.specs.inside.Classes.{CodeAndClass};
+
+    ghost Value = { CodeAndClass };
+
+    ghost view = { λ a. record { code = a.bits % 2097152; class = a.bits / 2097152 } };
+
+    ghost invariant = { λ a. IsScalar (a.bits % 2097152) × (a.bits / 2097152 < 256) };
+
+    ghost inverse = { λ d. record { bits = d.class * 2097152 + d.code } };
+}
+
+impl Classed {
+    /// A code point beside a class.
+    #[inline(always)]
+    pub(crate) fn new(code: char, class: u8) -> Classed
+        ensures { result ≡ record { code = code; class = class } }
+    {
+        Classed {
+            bits: u32::from(class) * CLASS + u32::from(code),
+        }
+    }
+
+    /// The code point.
+    #[inline(always)]
+    pub(crate) fn code(self) -> char
+        ensures { result ≡ self.code }
+    {
+        unsafe { char::from_u32_unchecked(self.bits % CLASS) }
+    }
+
+    /// Its class.
+    #[inline(always)]
+    pub(crate) fn class(self) -> u8
+        ensures { result ≡ self.class }
+    {
+        (self.bits / CLASS) as u8
+    }
 }
 
 /// A code point beside its class.
@@ -18,10 +63,7 @@ pub(crate) struct Classed {
 pub(crate) fn with_class<T: NormTable>(table: &T, code: char) -> Classed
     ensures { result ≡ spec_with_class (T.model table.now) code }
 {
-    Classed {
-        code,
-        class: table.class(code),
-    }
+    Classed::new(code, table.class(code))
 }
 
 /// Appends code points, each beside its class.
@@ -44,7 +86,7 @@ pub(crate) fn push_codes(list: &[Classed], codes: &mut Vec<char>) -> Result<(), 
     ensures front { (more : List ℕ) × (codes.new.items ≡ codes.old.items ++ more) }
 {
     for c in list {
-        codes.push(c.code)?;
+        codes.push(c.code())?;
     }
     Ok(())
 }

@@ -1,5 +1,5 @@
 //! Segments that compose to one code point, which is found as they are decomposed, without a list: an accented
-//! letter and what it is spelled with. Any other goes through a list that is sorted.
+//! letter and what it is spelled with. Any other is copied where it stays, or goes through a list that is sorted.
 ghost use Rattle.std.specs.Prelude.{◌≡◌, ◌<◌, ◌++◌, ◌∷◌, [], List, ℕ, None, true, length, IfOk, IfSome};
 ghost use Rattle.np_code_points.specs.Forms.{composes};
 ghost use Rattle.np_forms.specs.inside.Copies.{GoesOn};

@@ -44,7 +44,7 @@ pub(crate) fn pair_with_last<T: NormTable>(
 {
     let q = starter?;
     if last == 0 || last < class {
-        let p = table.pair(list[q].code, c)?;
+        let p = table.pair(list[q].code(), c)?;
         Some((q, p))
     } else {
         None
@@ -60,21 +60,22 @@ fn take_in<T: NormTable>(composer: &mut Composer, table: &T, at: usize)
     ensures length { vec_len composer.new.list ≡ vec_len composer.old.list }
 {
     let c = composer.list[at];
+    let class = c.class();
     let done = &composer.list[..composer.kept];
     let found = pair_with_last(
         table,
         done,
         composer.starter,
         composer.last,
-        c.code,
-        c.class,
+        c.code(),
+        class,
     );
     if let Some((q, p)) = found {
-        composer.list[q] = Classed { code: p, class: 0 };
+        composer.list[q] = Classed::new(p, 0);
         return;
     }
     let place = composer.kept;
-    let starter = if c.class == 0 {
+    let starter = if class == 0 {
         Some(place)
     } else {
         composer.starter
@@ -82,7 +83,7 @@ fn take_in<T: NormTable>(composer: &mut Composer, table: &T, at: usize)
     composer.list[place] = c;
     composer.kept = place + 1;
     composer.starter = starter;
-    composer.last = c.class;
+    composer.last = class;
 }
 
 /// The composition of a list in canonical order, in the list's own memory, beside classes that are of no

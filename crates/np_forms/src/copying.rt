@@ -2,13 +2,13 @@
 //! through decomposition, ordering and composition (UAX #15, section 9.1).
 ghost use Rattle.std.specs.Prelude.{◌≡◌, ◌<◌, ◌⊎◌, ◌++◌, [], false, length, chars, encode_utf8_all, IsTrue, IsUtf8, IfOk, OnOk};
 ghost use Rattle.np_forms.specs.Assigned.{IsAssigned};
-ghost use Rattle.np_forms.specs.inside.Copies.{BeginsAtBoundary, GoesOn, IsCopied, IsEndOf, IsParted};
+ghost use Rattle.np_forms.specs.inside.Copies.{BeginsAtBoundary, GoesOn, IsCopied, IsEndOf};
 ghost use Rattle.np_forms.specs.inside.NormalForms.{normal_form};
 ghost use Rattle.np_forms.specs.inside.Readings.{IsReadAssigned};
 
 use crate::assigned::first_lacking;
 use crate::classes::Classed;
-use crate::decomposing::{decompose_first, decompose_into};
+use crate::decomposing::decompose_first;
 use crate::fronts::write_front;
 use crate::held::settle;
 use crate::out_texts::OutText;
@@ -77,26 +77,6 @@ pub(crate) fn split_head<'a, T: NormTable>(
     }
 }
 
-/// Cuts before the first code point behind the first one at which the form is known to part.
-#[inline(always)]
-pub(crate) fn split_segment<'a, T: NormTable>(
-    table: &T,
-    form: Form,
-    text: &'a str,
-) -> (&'a str, &'a str)
-    ensures parted { IsParted (T.model table.now) form text.now result.0.now result.1.now }
-    ensures some { 0 < length text.now → 0 < length result.0.now }
-{
-    table.meets_conditions();
-    let mut iter = text.chars();
-    // a segment has at least one code point
-    let Some(_first) = iter.next() else {
-        return (text, text);
-    };
-    let (_front, later) = split_head(table, form, iter.as_str());
-    (&text[..text.len() - later.len()], later)
-}
-
 /// Cuts a text before the last code point at which the form is known to part; nothing is before it
 /// where there is none.
 #[inline(always)]
@@ -121,22 +101,6 @@ pub(crate) fn split_tail<'a, T: NormTable>(
             return text.split_at(iter.as_str().len());
         }
     }
-}
-
-/// Appends the form of a segment. The list is room that is used again.
-pub(crate) fn write_segment<T: NormTable>(
-    alloc: Global,
-    table: &T,
-    form: Form,
-    segment: &str,
-    list: &mut Vec<Classed>,
-    out: &mut OutText,
-) -> Result<(), Memory>
-    ensures { OnOk result (out.new ≡ out.old ++ encode_utf8_all (normal_form (T.model table.now) form (chars segment.now))) }
-{
-    decompose_into(table, form.compat(), segment, list)?;
-    settle(alloc, table, form.composes(), list)?;
-    out.append_codes(list)
 }
 
 /// Appends the form of the first segment of a text, and answers what follows it. The list is room

@@ -6,7 +6,7 @@ ghost use Rattle.np_forms.specs.inside.Copies.{IsBehind};
 ghost use Rattle.np_forms.specs.inside.NormalForms.{decomposed as decomposed_list, normal_form};
 
 use crate::classes::Classed;
-use crate::copying::{split_segment, split_standing, write_form, write_segment};
+use crate::copying::{split_standing, write_form, write_next};
 use crate::decomposing::decompose_into;
 use crate::ordering::order;
 use crate::out_texts::OutText;
@@ -57,24 +57,6 @@ fn behind<'a>(bytes: &'a [u8], front: &[u8]) -> Option<&'a [u8]>
     bytes.strip_prefix(front)
 }
 
-/// What follows the form of a segment, where the bytes begin with it. The list and the text are room
-/// that is used again.
-fn behind_segment<'a, T: NormTable>(
-    alloc: Global,
-    table: &T,
-    form: Form,
-    segment: &str,
-    bytes: &'a [u8],
-    list: &mut Vec<Classed>,
-    made: &mut OutText,
-) -> Result<Option<&'a [u8]>, Memory>
-    ensures { IfOk result (IsBehind bytes.now (encode_utf8_all (normal_form (T.model table.now) form (chars segment.now)))) }
-{
-    made.clear();
-    write_segment(alloc, table, form, segment, list, made)?;
-    Ok(behind(bytes, made.as_bytes()))
-}
-
 /// Whether a text is its own normal form. The form is made segment by segment, and no further than
 /// to the first byte that differs.
 ///
@@ -96,12 +78,12 @@ pub fn is_form<T: NormTable>(
     let mut rest = text;
     'segments: while !rest.is_empty() {
         let (stays, after, _stood) = split_standing(table, wanted, false, rest);
-        let (segment, later) = split_segment(table, wanted, after);
         let Some(past) = behind(left, stays.as_bytes()) else {
             return Ok(false);
         };
-        let past = behind_segment(alloc, table, wanted, segment, past, &mut list, &mut made)?;
-        let Some(past) = past else {
+        made.clear();
+        let later = write_next(alloc, table, wanted, after, &mut list, &mut made)?;
+        let Some(past) = behind(past, made.as_bytes()) else {
             return Ok(false);
         };
         left = past;

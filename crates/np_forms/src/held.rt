@@ -1,15 +1,16 @@
 //! What a stream holds back, and what became ready.
-ghost use Rattle.std.specs.Prelude.{◌≡◌, ◌++◌, ◌∷◌, [], ℕ, List, true, None, Some, IfNone, IfSome, OnOk};
+ghost use Rattle.std.specs.Prelude.{◌≡◌, ◌++◌, ◌∷◌, [], ℕ, List, true, None, Some, IfNone, IfSome, IfOk, OnOk};
 ghost use Rattle.np_forms.specs.inside.CanonicalOrder.{canonical_order};
-ghost use Rattle.np_forms.specs.inside.Classes.{codes_of, with_classes};
-ghost use Rattle.np_forms.specs.inside.Held.{Advances};
+ghost use Rattle.np_forms.specs.inside.Classes.{AreClassed, codes_of, with_class as spec_with_class, with_classes};
+ghost use Rattle.np_forms.specs.inside.Held.{Advances, IsFrontHeld};
 ghost use Rattle.np_forms.specs.inside.NormalForms.{ended};
 ghost use Rattle.np_tables.specs.Conditions.{IsSound};
 ghost use Rattle.np_tables.specs.Versions.{class_of};
 ghost use Rattle.np_tables.specs.inside.CompositeSearch.{composite};
 
-use crate::classes::{Classed, push_classed, push_codes};
+use crate::classes::{Classed, push_codes, with_class};
 use crate::composing::compose;
+use crate::decomposing::is_own;
 use crate::ordering::order;
 use np_code_points::Memory;
 use np_tables::NormTable;
@@ -21,9 +22,33 @@ use std::mem::replace;
 #[derive(Drop)]
 pub(crate) struct Held {
     pub(crate) ready: Vec<char>,
-    pub(crate) pending: Vec<char>,
-    /// Room that is used again.
-    pub(crate) room: Vec<Classed>,
+    pub(crate) pending: Vec<Classed>,
+}
+
+/// Holds back the non-starters at the front of a text that are their own full decompositions, as most of a
+/// long run are, and answers what follows them.
+pub(crate) fn hold_front<'a, T: NormTable>(
+    table: &T,
+    compat: bool,
+    text: &'a str,
+    pending: &mut Vec<Classed>,
+) -> Result<&'a str, Memory>
+    requires { IsSound (T.model table.now) }
+    ensures front { IfOk result (λ rest. IsFrontHeld (T.model table.now) compat text.now rest.now pending.old.items pending.new.items) }
+    ensures held { (front : List ℕ) × (pending.new.items ≡ pending.old.items ++ with_classes (T.model table.now) front) }
+{
+    let mut iter = text.chars();
+    'scan: loop {
+        let here = iter.as_str();
+        let Some(c) = iter.next() else {
+            return Ok(here);
+        };
+        let class = table.class(c);
+        if class == 0 || !is_own(table, compat, c) {
+            return Ok(here);
+        }
+        pending.push(Classed::new(c, class))?;
+    }
 }
 
 /// Puts a list in canonical order, and composes it where `composes`. After that its classes are of no
@@ -45,33 +70,18 @@ pub(crate) fn settle<T: NormTable>(
     Ok(())
 }
 
-/// The same of code points without their classes, which are looked up once, in room that is used again.
-fn settle_codes<T: NormTable>(
-    alloc: Global,
-    table: &T,
-    composes: bool,
-    codes: &mut Vec<char>,
-    room: &mut Vec<Classed>,
-) -> Result<(), Memory>
-    ensures { OnOk result (codes.new.items ≡ ended (T.model table.now) composes (canonical_order (class_of (T.model table.now)) codes.old.items)) }
-{
-    room.clear();
-    room.reserve(codes.len())?;
-    push_classed(table, codes, room)?;
-    settle(alloc, table, composes, room)?;
-    codes.clear();
-    push_codes(room, codes)
-}
-
 /// The composite of the one code point of a settled list and a starter behind it.
-fn joined<T: NormTable>(table: &T, composes: bool, settled: &[char], d: char) -> Option<char>
-    ensures some { IfSome result (λ p. (composes ≡ true) × ((head : ℕ) × (settled.now ≡ head ∷ []) × (composite (T.model table.now) head d ≡ Some p))) }
-    ensures none { IfNone result ((head : ℕ) → composes ≡ true → settled.now ≡ head ∷ [] → composite (T.model table.now) head d ≡ None) }
+fn joined<T: NormTable>(table: &T, composes: bool, settled: &[Classed], d: char) -> Option<char>
+    ensures some { IfSome result (λ p. (composes ≡ true) × ((head : ℕ) × (codes_of settled.now ≡ head ∷ []) × (composite (T.model table.now) head d ≡ Some p))) }
+    ensures none { IfNone result ((head : ℕ) → composes ≡ true → codes_of settled.now ≡ head ∷ [] → composite (T.model table.now) head d ≡ None) }
 {
-    if !composes || settled.len() != 1 {
+    if !composes {
         return None;
     }
-    table.pair(settled[0], d)
+    match settled {
+        [head] => table.pair(head.code(), d),
+        [..] => None,
+    }
 }
 
 /// Takes in a code point of the full decomposition. Where memory ran out, what was ready before
@@ -81,22 +91,26 @@ fn push<T: NormTable>(
     table: &T,
     composes: bool,
     held: &mut Held,
-    d: char,
+    d: Classed,
 ) -> Result<(), Memory>
-    requires { IsSound (T.model table.now) }
-    ensures ok { OnOk result (Advances (T.model table.now) composes (d ∷ []) held.old.ready.items held.old.pending.items held.new.ready.items held.new.pending.items) }
+    requires sound { IsSound (T.model table.now) }
+    requires class { d ≡ spec_with_class (T.model table.now) d.code }
+    requires classed { AreClassed (T.model table.now) held.old.pending.items }
+    ensures ok { OnOk result (Advances (T.model table.now) composes (d.code ∷ []) held.old.ready.items (codes_of held.old.pending.items) held.new.ready.items (codes_of held.new.pending.items)) }
+    ensures classed { OnOk result (AreClassed (T.model table.now) held.new.pending.items) }
     ensures ready { (more : List ℕ) × (held.new.ready.items ≡ held.old.ready.items ++ more) }
 {
-    if table.class(d) != 0 {
+    if d.class() != 0 {
         held.pending.push(d)?;
         return Ok(());
     }
-    settle_codes(alloc, table, composes, &mut held.pending, &mut held.room)?;
-    if let Some(p) = joined(table, composes, &held.pending, d) {
-        held.pending[0] = p;
+    settle(alloc, table, composes, &mut held.pending)?;
+    if let Some(p) = joined(table, composes, &held.pending, d.code()) {
+        held.pending.clear();
+        held.pending.push(with_class(table, p))?;
         return Ok(());
     }
-    held.ready.extend_from_slice(&held.pending)?;
+    push_codes(&held.pending, &mut held.ready)?;
     held.pending.clear();
     held.pending.push(d)?;
     Ok(())
@@ -110,12 +124,15 @@ pub(crate) fn push_all<T: NormTable>(
     held: &mut Held,
     parts: &[Classed],
 ) -> Result<(), Memory>
-    requires { IsSound (T.model table.now) }
-    ensures ok { OnOk result (Advances (T.model table.now) composes (codes_of parts.now) held.old.ready.items held.old.pending.items held.new.ready.items held.new.pending.items) }
+    requires sound { IsSound (T.model table.now) }
+    requires parts { AreClassed (T.model table.now) parts.now }
+    requires classed { AreClassed (T.model table.now) held.old.pending.items }
+    ensures ok { OnOk result (Advances (T.model table.now) composes (codes_of parts.now) held.old.ready.items (codes_of held.old.pending.items) held.new.ready.items (codes_of held.new.pending.items)) }
+    ensures classed { OnOk result (AreClassed (T.model table.now) held.new.pending.items) }
     ensures ready { (more : List ℕ) × (held.new.ready.items ≡ held.old.ready.items ++ more) }
 {
     for d in parts {
-        push(alloc, table, composes, held, d.code)?;
+        push(alloc, table, composes, held, *d)?;
     }
     Ok(())
 }
@@ -127,12 +144,14 @@ pub(crate) fn finish<T: NormTable>(
     composes: bool,
     held: &mut Held,
 ) -> Result<(), Memory>
-    ensures ok { OnOk result (held.new.ready.items ≡ held.old.ready.items ++ ended (T.model table.now) composes (canonical_order (class_of (T.model table.now)) held.old.pending.items)) }
+    requires { AreClassed (T.model table.now) held.old.pending.items }
+    ensures ok { OnOk result (held.new.ready.items ≡ held.old.ready.items ++ ended (T.model table.now) composes (canonical_order (class_of (T.model table.now)) (codes_of held.old.pending.items))) }
     ensures nothing { OnOk result (held.new.pending.items ≡ []) }
     ensures ready { (more : List ℕ) × (held.new.ready.items ≡ held.old.ready.items ++ more) }
 {
-    settle_codes(alloc, table, composes, &mut held.pending, &mut held.room)?;
-    held.ready.extend_from_slice(held.pending.as_slice())?;
+    settle(alloc, table, composes, &mut held.pending)?;
+    let rest = held.pending.as_slice();
+    push_codes(rest, &mut held.ready)?;
     held.pending.clear();
     Ok(())
 }

@@ -28,7 +28,7 @@ fn non_starters_at_front(list: &[Classed]) -> (usize, bool)
     let mut last = 0;
     let mut ordered = true;
     for (i, c) in list.iter().enumerate() {
-        let class = c.class;
+        let class = c.class();
         if class == 0 {
             return (i, ordered);
         }
@@ -53,7 +53,7 @@ fn sort_non_starters(alloc: Global, non_starters: &mut [Classed]) -> Result<(), 
     ensures ok { OnOk result ((v : VersionData) (cs : List ℕ) → list_all (is_non_starter v) cs ≡ true → non_starters.old ≡ with_classes v cs → non_starters.new ≡ with_classes v (canonical_order (class_of v) cs)) }
     ensures err { OnErr result (non_starters.new ≡ non_starters.old) }
 {
-    non_starters.sort_by_key(alloc, |c| c.class)
+    non_starters.sort_by_key(alloc, |c| c.class())
 }
 
 /// Puts the run of non-starters that begins at `at` in canonical order, and answers the place
@@ -77,10 +77,11 @@ fn is_in_order(list: &[Classed]) -> bool
 {
     let mut last = 0;
     for c in list {
-        if !may_follow(last, c.class) {
+        let class = c.class();
+        if !may_follow(last, class) {
             return false;
         }
-        last = c.class;
+        last = class;
     }
     true
 }

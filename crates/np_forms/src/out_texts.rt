@@ -20,6 +20,9 @@ const FILLED: usize = 65_536;
 /// The most bytes that a character has.
 const MOST: usize = 4;
 
+/// How many code points a list has at most for which room is made at once.
+const MANY: usize = 4_096;
+
 /// A text in the front of its room. What stands behind it there is of no text.
 #[derive(Drop)]
 pub(crate) struct OutText {
@@ -160,7 +163,7 @@ fn put_codes(room: &mut [u8], at: usize, list: &[Classed]) -> usize
 {
     let mut end = at;
     for c in list {
-        end = put_char(room, end, c.code);
+        end = put_char(room, end, c.code());
     }
     end
 }
@@ -283,14 +286,25 @@ impl OutText {
         Ok(())
     }
 
-    /// Appends the code points of a list. Room for any is made once.
+    /// Appends the code points of a list, with room for each by itself: those of a long list have far fewer
+    /// bytes than any could have.
+    fn append_each(&mut self, list: &[Classed]) -> Result<(), Memory>
+        ensures { OnOk result (self.new ≡ self.old ++ encode_utf8_all (codes_of list.now)) }
+    {
+        for c in list {
+            self.append_char(c.code())?;
+        }
+        Ok(())
+    }
+
+    /// Appends the code points of a list. Where it is short, room for any is made once.
     pub(crate) fn append_codes(&mut self, list: &[Classed]) -> Result<(), Memory>
         ensures { OnOk result (self.new ≡ self.old ++ encode_utf8_all (codes_of list.now)) }
     {
-        let Some(most) = list.len().checked_mul(MOST) else {
-            return Err(Memory);
-        };
-        make_room(&mut self.room, self.len, most)?;
+        if list.len() > MANY {
+            return self.append_each(list);
+        }
+        make_room(&mut self.room, self.len, list.len() * MOST)?;
         self.len = write_codes(&mut self.room, self.len, list);
         Ok(())
     }

@@ -5,7 +5,7 @@ ghost use Rattle.np_forms.specs.inside.Pieces.{form_bytes, front_of, left_of};
 ghost use Rattle.np_tables.specs.Versions.{VersionData};
 
 use crate::classes::Classed;
-use crate::copying::{split_segment, split_standing, write_segment};
+use crate::copying::{split_standing, write_next};
 use crate::out_texts::OutText;
 use np_code_points::{Form, Memory};
 use np_tables::NormTable;
@@ -75,10 +75,9 @@ impl<'a> Pieces<'a> {
         ensures shorter { OnOk result (0 < length self.old.rest.now → length self.new.rest.now < length self.old.rest.now) }
     {
         let (stays, after, _stood) = split_standing(table, form, false, self.rest);
-        let (segment, later) = split_segment(table, form, after);
         self.taken = 0;
         self.made.clear();
-        write_segment(alloc, table, form, segment, &mut self.list, &mut self.made)?;
+        let later = write_next(alloc, table, form, after, &mut self.list, &mut self.made)?;
         self.stays = stays.as_bytes();
         self.rest = later;
         Ok(())

@@ -20,7 +20,7 @@ fn has_long_run(list: &[Classed]) -> bool
 {
     let mut run = 0;
     for c in list {
-        if c.class == 0 {
+        if c.class() == 0 {
             run = 0;
         } else if run == LONGEST {
             return true;

@@ -1,16 +1,14 @@
 //! Text that comes code point by code point, and its normal form as it becomes ready (The Unicode
 //! Standard, D118 to D121).
-ghost use Rattle.std.specs.Prelude.{◌≡◌, ◌++◌, ◌∷◌, [], true, length, IsTrue, OnErr, OnOk};
-ghost use Rattle.np_forms.specs.Starters.{is_non_starter};
+ghost use Rattle.std.specs.Prelude.{◌≡◌, [], length, IfOk, OnErr, OnOk};
 ghost use Rattle.np_forms.specs.Streams.{IsStreaming, StreamState, TakesIn, Finishes};
-ghost use Rattle.np_forms.specs.inside.Classes.{codes_of};
-ghost use Rattle.np_tables.specs.Conditions.{IsSound};
-ghost use Rattle.np_tables.specs.inside.FullDecompositions.{full_of};
+ghost use Rattle.np_forms.specs.inside.Written.{Breaks, HoldsFront};
 
-use crate::classes::{Classed, push_codes};
+use crate::classes::Classed;
 use crate::decomposing::{append, is_own};
-use crate::held::{Held, finish, push_all};
+use crate::held::{Held, finish, hold_front, push_all, settle};
 use crate::ordering::are_non_starters;
+use crate::out_texts::OutText;
 use np_code_points::{Form, Memory};
 use np_tables::NormTable;
 use std::alloc::Global;
@@ -19,40 +17,12 @@ use std::marker::Model;
 use std::mem::swap;
 
 /// Makes a list the copy of another.
-fn copy_to(list: &mut Vec<char>, from: &[char]) -> Result<(), Memory>
+fn copy_to(list: &mut Vec<Classed>, from: &[Classed]) -> Result<(), Memory>
     ensures { OnOk result (list.new.items ≡ from.now) }
 {
     list.clear();
     list.extend_from_slice(from)?;
     Ok(())
-}
-
-/// Appends the code points of a list, all of them or none.
-fn hold_back(pending: &mut Vec<char>, parts: &[Classed]) -> Result<(), Memory>
-    ensures ok { OnOk result (pending.new.items ≡ pending.old.items ++ codes_of parts.now) }
-    ensures err { OnErr result (pending.new.items ≡ pending.old.items) }
-{
-    let count = pending.len();
-    match push_codes(parts, pending) {
-        Ok(()) => Ok(()),
-        Err(fault) => {
-            pending.truncate(count);
-            Err(fault)
-        }
-    }
-}
-
-/// Whether a code point is a non-starter and its own full decomposition: as most are of a long run.
-#[inline(always)]
-fn is_kept_non_starter<T: NormTable>(table: &T, compat: bool, c: char) -> bool
-    requires { IsSound (T.model table.now) }
-    ensures full { IsTrue result → full_of (T.model table.now) compat c ≡ c ∷ [] }
-    ensures non_starter { IsTrue result → is_non_starter (T.model table.now) c ≡ true }
-{
-    if table.class(c) == 0 {
-        return false;
-    }
-    is_own(table, compat, c)
 }
 
 /// The normal form of a text that comes code point by code point. What is ready is the form of the
@@ -68,15 +38,18 @@ pub struct Stream<'t, T: NormTable> {
     alloc: Global,
     held: Held,
     parts: Vec<Classed>,
-    kept: Vec<char>,
+    kept: Vec<Classed>,
 }
 
 impl<'t, T: NormTable> Model for Stream<'t, T> {
     ghost use Rattle.np_forms.specs.Streams.{StreamState};
+    ghost use Rattle.np_forms.specs.inside.Classes.{AreClassed, codes_of};
 
     ghost Value = { StreamState };
 
-    ghost view = { λ a. record { version = T.model a.table.now; form = a.form; ready = a.held.ready.items; pending = a.held.pending.items } };
+    ghost view = { λ a. record { version = T.model a.table.now; form = a.form; ready = a.held.ready.items; pending = codes_of a.held.pending.items } };
+
+    ghost invariant = { λ a. AreClassed (T.model a.table.now) a.held.pending.items };
 }
 
 /// Shows how many code points are ready and pending, and none of them: the text may be a person's.
@@ -106,7 +79,6 @@ impl<'t, T: NormTable> Stream<'t, T> {
             held: Held {
                 ready: Vec::new(alloc),
                 pending: Vec::new(alloc),
-                room: Vec::new(alloc),
             },
             parts: Vec::new(alloc),
             kept: Vec::new(alloc),
@@ -132,15 +104,18 @@ impl<'t, T: NormTable> Stream<'t, T> {
     {
         self.table.meets_conditions();
         let compat = self.form.compat();
-        if is_kept_non_starter(self.table, compat, c) {
-            self.held.pending.push(c)?;
+        let class = self.table.class(c);
+        if class != 0 && is_own(self.table, compat, c) {
+            // as most are of a long run
+            self.held.pending.push(Classed::new(c, class))?;
             return Ok(());
         }
         let hangul = self.table.hangul();
         self.parts.clear();
         append(&mut self.parts, self.table, hangul, compat, c)?;
         if are_non_starters(&self.parts) {
-            return hold_back(&mut self.held.pending, &self.parts);
+            self.held.pending.extend_from_slice(&self.parts)?;
+            return Ok(());
         }
         copy_to(&mut self.kept, &self.held.pending)?;
         let ready = self.held.ready.len();
@@ -203,5 +178,37 @@ impl<'t, T: NormTable> Stream<'t, T> {
                 Err(fault)
             }
         }
+    }
+
+    /// Takes in the non-starters at the front of a text that are their own full decompositions, and answers
+    /// what follows them.
+    pub(crate) fn take_front<'a>(&mut self, text: &'a str) -> Result<&'a str, Memory>
+        ensures { IfOk result (λ rest. HoldsFront self.old self.new text.now rest.now) }
+    {
+        self.table.meets_conditions();
+        let kind = self.form.compat();
+        let rest = hold_front(self.table, kind, text, &mut self.held.pending)?;
+        Ok(rest)
+    }
+
+    /// Ends the text, and appends the rest of its form to a text, where all that was ready is taken. What
+    /// is fed later is a new text. Nothing is pending, where memory ran out too.
+    pub(crate) fn finish_into(&mut self, out: &mut OutText) -> Result<(), Memory>
+        requires { self.old.ready ≡ [] }
+        ensures { OnOk result (Breaks self.old self.new out.old out.new) }
+    {
+        self.table.meets_conditions();
+        let settled = settle(
+            self.alloc,
+            self.table,
+            self.form.composes(),
+            &mut self.held.pending,
+        );
+        let written = match settled {
+            Ok(()) => out.append_codes(&self.held.pending),
+            Err(fault) => Err(fault),
+        };
+        self.held.pending.clear();
+        written
     }
 }

@@ -1,6 +1,6 @@
 //! Texts written as a stream gives them.
 ghost use Rattle.std.specs.Prelude.{◌≡◌, ◌++◌, ◌∷◌, [], chars as chars_in, encode_utf8_all, OnOk};
-ghost use Rattle.np_forms.specs.inside.Written.{Breaks, Writes, WritesEnd};
+ghost use Rattle.np_forms.specs.inside.Written.{Writes};
 
 use crate::copying::{split_head, split_tail, write_form};
 use crate::out_texts::OutText;
@@ -32,7 +32,7 @@ fn write_char<T: NormTable>(
     Ok(())
 }
 
-/// Feeds a text code point by code point, and writes what became ready.
+/// Feeds a text, of which what is no long run goes code point by code point, and writes what became ready.
 fn write_chars<T: NormTable>(
     stream: &mut Stream<'_, T>,
     out: &mut OutText,
@@ -41,33 +41,14 @@ fn write_chars<T: NormTable>(
     requires { stream.old.ready ≡ [] }
     ensures { OnOk result (Writes stream.old stream.new out.old out.new (chars_in text.now)) }
 {
-    for c in text.chars() {
+    let mut iter = text.chars();
+    'chars: loop {
+        iter = stream.take_front(iter.as_str())?.chars();
+        let Some(c) = iter.next() else {
+            return Ok(());
+        };
         write_char(stream, out, c)?;
     }
-    Ok(())
-}
-
-/// Ends the text, and writes the rest of its normal form.
-pub(crate) fn write_end<T: NormTable>(
-    stream: &mut Stream<'_, T>,
-    out: &mut OutText,
-) -> Result<(), Memory>
-    requires { stream.old.ready ≡ [] }
-    ensures { OnOk result (WritesEnd stream.old out.old out.new) }
-{
-    stream.finish()?;
-    take_ready(stream, out)?;
-    Ok(())
-}
-
-/// Ends the text, writes the rest of its normal form, and begins a new text.
-fn write_break<T: NormTable>(stream: &mut Stream<'_, T>, out: &mut OutText) -> Result<(), Memory>
-    requires { stream.old.ready ≡ [] }
-    ensures { OnOk result (Breaks stream.old stream.new out.old out.new) }
-{
-    stream.finish()?;
-    take_ready(stream, out)?;
-    Ok(())
 }
 
 /// Takes a text in, and writes what became ready. The stream takes what stands before the first
@@ -80,15 +61,16 @@ pub(crate) fn write_text<T: NormTable>(
     requires { stream.old.ready ≡ [] }
     ensures { OnOk result (Writes stream.old stream.new out.old out.new (chars_in text.now)) }
 {
+    let rest = stream.take_front(text)?;
     let (alloc, table, form) = stream.rules();
     table.meets_conditions();
-    let (head, body) = split_head(table, form, text);
+    let (head, body) = split_head(table, form, rest);
     write_chars(stream, out, head)?;
     if body.is_empty() {
         return Ok(());
     }
     let (middle, tail) = split_tail(table, form, body);
-    write_break(stream, out)?;
+    stream.finish_into(out)?;
     write_form(alloc, table, form, middle, out)?;
     write_chars(stream, out, tail)
 }

@@ -159,6 +159,14 @@ composite-some v a b c h =
     let halves = and_parts (is_primary v c) (is_pair a b (decomposition_mapping v c)) (least_below-some _ 0x110000 c h) in
     record { primary = primary-from v c halves.0; mapping = is_pair-true a b (decomposition_mapping v c) halves.1 }
 
+-- no pair with this second part has a composite
+pub composite-never : (v : VersionData) (s : ℕ) → ((a p : ℕ) → ¬ (IsCompositeOf v a s p)) → (a : ℕ) → composite v a s ≡ None
+composite-never v s never a =
+    elim (cases_Option (composite v a s)) [
+      | inr some ↦ absurd (never a some.0 (composite-some v a s some.0 some.1))
+      | inl none_there ↦ none_there
+    ]
+
 module _ (v : VersionData) (sound : IsSound v) where
   pub composite-none : (a b c : ℕ) → composite v a b ≡ None → ¬ IsCompositeOf v a b c
   unfolding composite

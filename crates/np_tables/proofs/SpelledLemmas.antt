@@ -1,9 +1,10 @@
 -- What a table keeps of single code points under each form, and what it answers of it.
-use Rattle.std.proofs.Common.{◌≡◌, ℕ, ◌<◌, true, false, List, [], ◌∷◌, length, take, get_or, encode_utf8_all, sym, ap, subst, arith, inl, inr, length-take-le}
+use Rattle.std.proofs.Common.{◌≡◌, ℕ, ◌<◌, Bool, true, false, List, [], ◌∷◌, length, take, get_or, encode_utf8_all, MatchBool, sym, ap, subst, arith, inl, inr, length-take-le}
 use Rattle.np_code_points.specs.declared.forms.Form.{Form}
 use Rattle.np_code_points.specs.declared.forms.Form.TheVariants.{Nfd, Nfc, Nfkd, Nfkc}
-use Rattle.np_code_points.specs.Forms.{is_compat}
-use Rattle.np_tables.specs.Versions.{VersionData}
+use Rattle.np_code_points.specs.Forms.{composes, is_compat}
+use Rattle.np_tables.specs.Boundaries.{NeverFalls}
+use Rattle.np_tables.specs.Versions.{VersionData, class_of}
 use Rattle.np_tables.specs.declared.page_words.Word.{Word}
 use Rattle.np_tables.specs.declared.spelled.Spelled.{Spelled}
 use Rattle.np_tables.specs.inside.FullLists.{FullLists, of_kind}
@@ -11,7 +12,7 @@ use Rattle.np_tables.specs.inside.FullDecompositions.{table_full}
 use Rattle.np_tables.specs.inside.PageWords.{IsWord, no_word}
 use Rattle.np_tables.specs.inside.Pages.{word_place}
 use Rattle.np_tables.specs.inside.Spelled.{AreSpelled, IsSpelled, kept_of}
-use Rattle.np_tables.specs.inside.Spellings.{AreSpellings, IsFront, IsSpelling}
+use Rattle.np_tables.specs.inside.Spellings.{AreSpellings, Composes, IsFront, IsSpelling}
 use Rattle.np_tables.specs.inside.Tables.{ArePageTables}
 
 pub each_form : (v : VersionData) (lists : FullLists) (s : Spelled) → AreSpellings v Nfd (of_kind false lists) s.nfd → AreSpellings v Nfc (of_kind false lists) s.nfc → AreSpellings v Nfkd (of_kind true lists) s.nfkd → AreSpellings v Nfkc (of_kind true lists) s.nfkc → AreSpelled v lists s
@@ -20,9 +21,11 @@ each_form v lists s nfd nfc nfkd nfkc Nfc = nfc
 each_form v lists s nfd nfc nfkd nfkc Nfkd = nfkd
 each_form v lists s nfd nfc nfkd nfkc Nfkc = nfkc
 
-some_encoded : (lent : List ℕ) → 0 < length (encode_utf8_all lent) → 0 < length lent
-some_encoded [] some = absurd (omega arith)
-some_encoded (x ∷ xs) some = omega arith
+-- what has a form has a code point
+settles_some : (v : VersionData) (b : Bool) (lent list : List ℕ) → MatchBool b (Composes v lent list) (NeverFalls (class_of v) lent × (list ≡ lent)) → 0 < length (encode_utf8_all list) → 0 < length lent
+settles_some v true [] list none some = absurd none
+settles_some v false [] list (rises, same) some = absurd (omega (arith, ap (λ l. length (encode_utf8_all l)) same))
+settles_some v b (x ∷ xs) list settles some = omega arith
 
 pub spelled-read : (v u : VersionData) → u ≡ v → (lists : FullLists) (blocks : List ℕ) (words : List Word) (spelled : Spelled) → ArePageTables u lists blocks words spelled → (form : Form) (c : ℕ) → c < 0x110000 →
     (w : Word) → w ≡ get_or words (word_place blocks c) no_word → (bytes : List ℕ) (count : ℕ) → IsFront (get_or (kept_of form spelled) w.fulls []) bytes count → IsSpelled v form c bytes count
@@ -37,10 +40,11 @@ spelled-read v u same lists blocks words spelled are form c lt w at bytes count 
       | inl none ↦ absurd (omega (arith, ap length none, long, front.some))
       | inr known ↦
           record {
-            settled = known.1;
-            some = some_encoded (table_full u (is_compat form) c) (omega (arith, ap length known.0, long, front.some));
+            list = known.0;
+            settles = known.2;
+            some = settles_some u (composes form) (table_full u (is_compat form) c) known.0 known.2 (omega (arith, ap length known.1, long, front.some));
             fits = front.fits;
             utf8 = spelling.utf8;
-            is = known.0;
+            is = known.1;
           }
     ])

@@ -1,14 +1,16 @@
--- Spellings, slot by slot, in one flat list.
-use Rattle.std.proofs.Common.{◌≡◌, ℕ, ◌+◌, List, [], ◌∷◌, ◌++◌, length, map, get_or, IsUtf8, refl, sym, ap, subst, ◌∙◌, arith, inl, inr}
+-- What code points compose to, written as UTF-8, and spellings, slot by slot, in one flat list.
+use Rattle.std.proofs.Common.{◌≡◌, ℕ, ◌+◌, ◌-◌, ◌<◌, ◌≤◌, List, [], ◌∷◌, ◌++◌, None, length, map, get_or, encode_utf8, encode_utf8_all, IsUtf8, refl, sym, ap, subst, ◌∙◌, arith, inl, inr, append_assoc, append-nil, take_all}
+use Rattle.std.specs.List.{slice_range}
 use Rattle.std.proofs.lemmas.Bool.{cases_lt}
 use Rattle.std.proofs.lemmas.List.{get_or_append_left, get_or_past, length-append, length-map, map_push}
 use Rattle.std.proofs.lemmas.List.Elements.{All-head, All-tail, All-push, All-weaker}
 use Rattle.std.proofs.lemmas.Str.{IsUtf8-nil}
 use Rattle.std.proofs.Math.Seq.{get_or-append_seam}
 use Rattle.np_code_points.specs.declared.forms.Form.{Form}
-use Rattle.np_tables.specs.Versions.{VersionData}
+use Rattle.np_tables.specs.Versions.{VersionData, class_of}
 use Rattle.np_tables.specs.declared.spellings.Span.{Span}
-use Rattle.np_tables.specs.inside.Spellings.{AreSpans, AreSpellings, AreSpellingsSoFar, IsSpan, IsSpelling, span_of}
+use Rattle.np_tables.specs.inside.CompositeSearch.{composite}
+use Rattle.np_tables.specs.inside.Spellings.{AreSpans, AreSpellings, AreSpellingsSoFar, ComposesOn, IsSpan, IsSpelling, Settles, Writes, span_of}
 use Rattle.np_tables.proofs.FullListLemmas.{part_of-grown}
 
 span_of-grown : (old more : List ℕ) (s : Span) → IsSpan (length old) s → span_of (old ++ more) s ≡ span_of old s
@@ -24,7 +26,40 @@ spans-grown old more (s ∷ ss) all =
 AreSpans-grown : (old more : List ℕ) (ss : List Span) → AreSpans old ss → AreSpans (old ++ more) ss
 AreSpans-grown old more ss all = All-weaker (IsSpan (length old)) (IsSpan (length (old ++ more))) (λ s is. (is.0, omega (arith, length-append old more))) ss all
 
+-- ---- what code points compose to
+
+module _ (v : VersionData) where
+  -- nothing stands behind what is held
+  pub composes-end : (held last : ℕ) (rest old new : List ℕ) → length rest < 1 → new ≡ old ++ encode_utf8 held → Writes (ComposesOn v held last rest) old new
+  composes-end held last [] old new none grown = record { list = held ∷ []; grown = grown ∙ ap (λ l. old ++ l) (sym (append-nil (encode_utf8 held))); is = refl }
+  composes-end held last (d ∷ ds) old new none grown = absurd (omega arith)
+
+  -- what was held is written, and the next one held in its place
+  pub composes-starts : (held last next : ℕ) (rest old now new : List ℕ) → 1 ≤ length rest → next ≡ get_or rest 0 next → class_of v next ≡ 0 → composite v held next ≡ None → now ≡ old ++ encode_utf8 held →
+      Writes (ComposesOn v next 0 (slice_range rest 1 (length rest))) now new → Writes (ComposesOn v held last rest) old new
+  composes-starts held last next [] old now new some here starter none grown later = absurd (omega arith)
+  composes-starts held last next (d ∷ ds) old now new some here starter none grown later =
+      let behind : slice_range (d ∷ ds) 1 (length (d ∷ ds)) ≡ ds = take_all (length (d ∷ ds) - 1) ds (omega arith) in
+      record {
+        list = held ∷ later.list;
+        grown = later.grown ∙ ap (λ l. l ++ encode_utf8_all later.list) grown ∙ append_assoc old (encode_utf8 held) (encode_utf8_all later.list);
+        is = inr (
+          later.list,
+          ap (class_of v) (sym here) ∙ starter,
+          ap (composite v held) (sym here) ∙ none,
+          refl,
+          subst (λ l. ComposesOn v d 0 l later.list) behind (subst (λ k. ComposesOn v k 0 (slice_range (d ∷ ds) 1 (length (d ∷ ds))) later.list) here later.is),
+        );
+      }
+
+-- ---- slot by slot
+
 module _ (v : VersionData) (form : Form) where
+  -- what was written into a text that was empty
+  pub spelling-written : (lent old bytes : List ℕ) → old ≡ [] → IsUtf8 bytes → Writes (Settles v form lent) old bytes → IsSpelling v form lent bytes
+  spelling-written lent old bytes none utf8 written =
+      record { utf8 = utf8; is = inr (written.list, written.grown ∙ ap (λ l. l ++ encode_utf8_all written.list) none, written.is) }
+
   -- nothing is kept
   pub spelling-none : (lent bytes : List ℕ) → bytes ≡ [] → IsSpelling v form lent bytes
   spelling-none lent bytes none = record { utf8 = subst IsUtf8 (sym none) IsUtf8-nil; is = inl none }

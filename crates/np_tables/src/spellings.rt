@@ -1,11 +1,14 @@
 //! The forms of single code points, kept as UTF-8: full decompositions in which nothing moves and, where
-//! the form composes, nothing composes.
-ghost use Rattle.std.specs.Prelude.{◌≡◌, ◌≤◌, ◌<◌, ◌++◌, [], ℕ, length, take, string_bytes, slice_index_or, IsTrue, IfOk, IfSome, All};
+//! the form composes, what the code points of one compose to, each with the starter right before it.
+ghost use Rattle.std.specs.Prelude.{◌≡◌, ◌≤◌, ◌<◌, ◌++◌, [], ℕ, length, take, string_bytes, encode_utf8_all, slice_index_or, IsTrue, IfOk, IfSome};
 ghost use Rattle.np_code_points.specs.declared.forms.Form.{Form};
 ghost use Rattle.np_code_points.specs.Forms.{is_compat};
+ghost use Rattle.np_tables.specs.Boundaries.{NeverFalls};
+ghost use Rattle.np_tables.specs.Versions.{class_of};
+ghost use Rattle.np_tables.specs.inside.CompositeSearch.{composite};
 ghost use Rattle.np_tables.specs.inside.FullLists.{of_kind};
 ghost use Rattle.np_tables.specs.inside.PageWords.{AreSeconds};
-ghost use Rattle.np_tables.specs.inside.Spellings.{AreSpellings, IsApartStarter, IsFront, IsSettled, IsSpan, IsSpelling, span_of};
+ghost use Rattle.np_tables.specs.inside.Spellings.{AreSpellings, Composes, ComposesOn, IsFront, IsSpan, IsSpelling, Settles, Writes, span_of};
 
 use crate::fulls::Fulls;
 use crate::page_hints::{is_apart, never_falls};
@@ -42,29 +45,111 @@ impl Model for Spellings {
     ghost invariant = { λ a. AreSpans a.bytes.items a.spans.items };
 }
 
-/// Whether all code points of a list are starters and second parts of no primary composite.
-fn are_apart(version: &Version, seconds: &[bool], list: &[char]) -> bool
+/// The primary composite of a pair.
+fn composite_of(version: &Version, seconds: &[bool], first: char, second: char) -> Option<char>
     requires { AreSeconds version.now seconds.now }
-    ensures { IsTrue result → All (IsApartStarter version.now) list.now }
+    ensures { result ≡ composite version.now first second }
 {
-    for c in list {
-        let code = u32::from(*c);
-        if version.class_of(code) != 0 || !is_apart(version, seconds, code) {
-            return false;
-        }
+    // A search takes longer than a look at what is no second part: so most pairs are not searched for.
+    if is_apart(version, seconds, u32::from(second)) {
+        return None;
     }
-    true
+    version.composite_of(first, second)
 }
 
-/// Whether a full decomposition is known to be a form as it is.
-fn is_settled(version: &Version, seconds: &[bool], form: Form, lent: &[char]) -> bool
+/// Appends what a starter that is held and the code points behind it compose to, where each of them
+/// goes into what is held or is a starter that is held in its place. `last` is the class of what went
+/// in last, 0 where nothing did. False where they do not compose so: then what was appended is no form.
+fn write_composed(
+    version: &Version,
+    seconds: &[bool],
+    held: char,
+    last: u8,
+    rest: &[char],
+    text: &mut String,
+) -> Result<bool, Memory>
     requires { AreSeconds version.now seconds.now }
-    ensures { IsTrue result → IsSettled version.now form lent.now }
+    ensures { IfOk result (λ known. IsTrue known → Writes (ComposesOn version.now held last rest.now) (string_bytes text.old) (string_bytes text.new)) }
+{
+    match rest {
+        [next, later @ ..] => {
+            let class = version.class_of(u32::from(*next));
+            match composite_of(version, seconds, held, *next) {
+                Some(composite) => {
+                    // Classes that fall are put in order before anything composes.
+                    if class != 0 && class < last {
+                        return Ok(false);
+                    }
+                    write_composed(version, seconds, composite, class, later, text)
+                }
+                None => {
+                    // What stays behind a starter may keep the next ones from it.
+                    if class != 0 {
+                        return Ok(false);
+                    }
+                    text.push(held)?;
+                    write_composed(version, seconds, *next, 0, later, text)
+                }
+            }
+        }
+        [] => {
+            text.push(held)?;
+            Ok(true)
+        }
+    }
+}
+
+/// Appends what a full decomposition composes to, where it begins with a starter and its code points
+/// compose one after the other. False where they do not.
+fn write_composition(
+    version: &Version,
+    seconds: &[bool],
+    lent: &[char],
+    text: &mut String,
+) -> Result<bool, Memory>
+    requires { AreSeconds version.now seconds.now }
+    ensures { IfOk result (λ known. IsTrue known → Writes (Composes version.now lent.now) (string_bytes text.old) (string_bytes text.new)) }
+{
+    match lent {
+        [first, rest @ ..] => {
+            if version.class_of(u32::from(*first)) != 0 {
+                return Ok(false);
+            }
+            write_composed(version, seconds, *first, 0, rest, text)
+        }
+        [] => Ok(false),
+    }
+}
+
+/// Appends a full decomposition as it is, where nothing moves in it. False where something does.
+fn write_decomposition(version: &Version, lent: &[char], text: &mut String) -> Result<bool, Memory>
+    ensures { IfOk result (λ known. IsTrue known → NeverFalls (class_of version.now) lent.now × (string_bytes text.new ≡ string_bytes text.old ++ encode_utf8_all lent.now)) }
+{
+    if !never_falls(version, lent) {
+        return Ok(false);
+    }
+    for c in lent {
+        text.push(*c)?;
+    }
+    Ok(true)
+}
+
+/// Appends the form of a full decomposition by itself. False where it is not known: then what was
+/// appended is no form.
+fn write_form(
+    version: &Version,
+    seconds: &[bool],
+    form: Form,
+    lent: &[char],
+    text: &mut String,
+) -> Result<bool, Memory>
+    requires { AreSeconds version.now seconds.now }
+    ensures { IfOk result (λ known. IsTrue known → Writes (Settles version.now form lent.now) (string_bytes text.old) (string_bytes text.new)) }
 {
     if form.composes() {
-        are_apart(version, seconds, lent)
+        write_composition(version, seconds, lent, text)
     } else {
-        never_falls(version, lent)
+        write_decomposition(version, lent, text)
     }
 }
 
@@ -80,10 +165,8 @@ fn spell(
     ensures { IfOk result (λ _. IsSpelling version.now form lent.now (string_bytes text.new)) }
 {
     text.clear();
-    if is_settled(version, seconds, form, lent) {
-        for c in lent {
-            text.push(*c)?;
-        }
+    if !write_form(version, seconds, form, lent, text)? {
+        text.clear();
     }
     Ok(())
 }

@@ -65,8 +65,8 @@ pub trait NormTable {
         ensures lent { IsLent (model self.now) compat c result.now }
         ensures value { result.now ≡ table_full (model self.now) compat c };
 
-    /// The form of a code point by itself, where that is its full decomposition and the table keeps it as
-    /// UTF-8: bytes, and how many of them at the front it has. A table may answer none.
+    /// The form of a code point by itself, where the table keeps it as UTF-8: bytes, and how many of them at
+    /// the front it has. A table may answer none.
     fn spelled(&self, form: Form, c: char) -> Option<(&[u8], usize)>
         ensures { IfSome result (λ cut. IsSpelled (model self.now) form c cut.0.now cut.1) }
     {

@@ -17,12 +17,6 @@ pub record IsCopied (v : VersionData) (form : Form) (text front back : List ℕ)
   pub utf8 : IsUtf8 back
   pub copied : encode_utf8_all (normal_form v form (chars text)) ≡ front ++ encode_utf8_all (normal_form v form (chars back))
 
--- a text is cut in two, whose forms are each for itself
-pub record IsParted (v : VersionData) (form : Form) (text front back : List ℕ) : Type 0 where
-  pub parts : text ≡ front ++ back
-  pub utf8 : IsUtf8 back
-  pub parted : normal_form v form (chars text) ≡ normal_form v form (chars front) ++ normal_form v form (chars back)
-
 -- `rest` is the end of a text
 pub record IsEndOf (text rest : List ℕ) : Type 0 where
   pub front : List ℕ

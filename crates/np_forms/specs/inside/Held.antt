@@ -1,10 +1,13 @@
 -- The state of a stream between two code points of the full decomposition.
-use Rattle.std.specs.Prelude.{◌≡◌, ℕ, ◌≤◌, Bool, true, List, [], ◌∷◌, ◌++◌}
+use Rattle.std.specs.Prelude.{◌≡◌, ℕ, ◌≤◌, Bool, true, List, [], ◌∷◌, ◌++◌, flat_map}
 use Rattle.std.specs.List.{list_all}
 use Rattle.np_tables.specs.Versions.{VersionData, class_of}
 use Rattle.np_forms.specs.Starters.{is_non_starter}
 use Rattle.np_forms.specs.inside.CanonicalOrder.{canonical_order}
+use Rattle.np_forms.specs.inside.Classes.{CodeAndClass, with_classes}
 use Rattle.np_forms.specs.inside.NormalForms.{ended}
+use Rattle.np_forms.specs.inside.Readings.{IsRead}
+use Rattle.np_tables.specs.inside.FullDecompositions.{full_of}
 
 -- what is held back: non-starters alone where no starter came yet, else a starter and non-starters
 pub data Shape (v : VersionData) : List ℕ → List ℕ → List ℕ → Type 0 where
@@ -25,3 +28,11 @@ pub record Advances (v : VersionData) (e : Bool) (parts ready pending ready_afte
   pub more : List ℕ
   pub ready_is : ready_after ≡ ready ++ more
   pub carries : (ds out : List ℕ) → IsHeld v e ds out pending → IsHeld v e (ds ++ parts) (out ++ more) pending_after
+
+-- the non-starters `front` were read of a text, each its own full decomposition, and are held back beside their classes
+pub record IsFrontHeld (v : VersionData) (compat : Bool) (text rest : List ℕ) (old new : List CodeAndClass) : Type 0 where
+  pub front : List ℕ
+  pub reads : IsRead text rest front
+  pub own : flat_map (full_of v compat) front ≡ front
+  pub all : list_all (is_non_starter v) front ≡ true
+  pub held : new ≡ old ++ with_classes v front

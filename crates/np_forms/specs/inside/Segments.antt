@@ -2,11 +2,10 @@
 use Rattle.std.specs.Prelude.{◌≡◌, ℕ, ◌<◌, ◌≤◌, ◌⊎◌, ⊤, true, List, [], ◌∷◌, ◌++◌, Option, Some, length, slice_index, take, chars, flat_map, encode_utf8_all, IsUtf8}
 use Rattle.np_code_points.specs.Forms.{is_compat}
 use Rattle.np_code_points.specs.declared.forms.Form.{Form}
-use Rattle.np_forms.specs.declared.classes.Classed.{Classed}
 use Rattle.np_forms.specs.declared.composed_texts.Folded.{Folded}
 use Rattle.np_forms.specs.declared.plain_texts.Plain.{Plain}
 use Rattle.np_forms.specs.Order.{is_ordered}
-use Rattle.np_forms.specs.inside.Classes.{with_classes}
+use Rattle.np_forms.specs.inside.Classes.{CodeAndClass, with_classes}
 use Rattle.np_forms.specs.inside.Composers.{IsComposing}
 use Rattle.np_forms.specs.inside.Copies.{IsEndOf}
 use Rattle.np_forms.specs.inside.NormalForms.{normal_form}
@@ -36,7 +35,7 @@ pub record IsReadUpTo (v : VersionData) (form : Form) (text rest list : List ℕ
   pub composed : IsComposedOf v (flat_map (full_of v (is_compat form)) front) list starter kept read
 
 -- a front of a text was read, and `list` is its full decomposition, each code point beside its class
-pub record IsDecomposedUpTo (v : VersionData) (form : Form) (text rest : List ℕ) (list : List Classed) : Type 0 where
+pub record IsDecomposedUpTo (v : VersionData) (form : Form) (text rest : List ℕ) (list : List CodeAndClass) : Type 0 where
   pub front : List ℕ
   pub reads : IsRead text rest front
   pub is : list ≡ with_classes v (flat_map (full_of v (is_compat form)) front)

@@ -2,6 +2,7 @@
 use Rattle.std.specs.Prelude.{◌≡◌, ℕ, List, [], ◌++◌, encode_utf8_all}
 use Rattle.np_forms.specs.Forms.{IsNormalForm}
 use Rattle.np_forms.specs.Streams.{IsStreaming, StreamState}
+use Rattle.np_forms.specs.inside.Readings.{IsRead}
 
 -- the code points of `text` came, and what became ready was written: before and after are the bytes of what was written
 pub record Writes (old new : StreamState) (before after text : List ℕ) : Type 0 where
@@ -11,6 +12,15 @@ pub record Writes (old new : StreamState) (before after text : List ℕ) : Type 
   pub form : new.form ≡ old.form
   pub moved : new.ready ≡ []
   pub carries : (fed out : List ℕ) → IsStreaming old.version old.form fed out old.pending → IsStreaming old.version old.form (fed ++ text) (out ++ more) new.pending
+
+-- the front of a text came, and is held back; `rest` is left
+pub record HoldsFront (old new : StreamState) (text rest : List ℕ) : Type 0 where
+  pub front : List ℕ
+  pub reads : IsRead text rest front
+  pub version : new.version ≡ old.version
+  pub form : new.form ≡ old.form
+  pub ready : new.ready ≡ old.ready
+  pub carries : (fed out : List ℕ) → IsStreaming old.version old.form fed out old.pending → IsStreaming old.version old.form (fed ++ front) out new.pending
 
 -- the text ended, and the rest of its normal form was written
 pub record WritesEnd (old : StreamState) (before after : List ℕ) : Type 0 where

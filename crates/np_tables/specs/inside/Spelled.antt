@@ -7,7 +7,7 @@ use Rattle.np_tables.specs.Versions.{VersionData}
 use Rattle.np_tables.specs.declared.spelled.Spelled.{Spelled}
 use Rattle.np_tables.specs.inside.FullDecompositions.{table_full}
 use Rattle.np_tables.specs.inside.FullLists.{FullLists, of_kind}
-use Rattle.np_tables.specs.inside.Spellings.{AreSpellings, IsSettled}
+use Rattle.np_tables.specs.inside.Spellings.{AreSpellings, Settles}
 
 -- ---- each form
 
@@ -22,10 +22,11 @@ AreSpelled v lists s = (form : Form) → AreSpellings v form (of_kind (is_compat
 
 -- ---- what a table answers
 
--- the first `count` bytes are the form of c by itself, which is its full decomposition
+-- the first `count` bytes are the form of c by itself, made of its full decomposition
 pub record IsSpelled (v : VersionData) (form : Form) (c : ℕ) (bytes : List ℕ) (count : ℕ) : Type 0 where
-  pub settled : IsSettled v form (table_full v (is_compat form) c)
+  pub list : List ℕ
+  pub settles : Settles v form (table_full v (is_compat form) c) list
   pub some : 0 < length (table_full v (is_compat form) c)
   pub fits : count ≤ length bytes
   pub utf8 : IsUtf8 (take count bytes)
-  pub is : take count bytes ≡ encode_utf8_all (table_full v (is_compat form) c)
+  pub is : take count bytes ≡ encode_utf8_all list

@@ -1,25 +1,40 @@
 -- Forms of single code points, kept as UTF-8.
-use Rattle.std.specs.Prelude.{◌≡◌, ℕ, ◌<◌, ◌≤◌, ◌⊎◌, List, [], length, take, map, encode_utf8_all, All, IsUtf8, MatchBool, slice_index_or}
+use Rattle.std.specs.Prelude.{◌≡◌, ℕ, ◌<◌, ◌≤◌, ◌⊎◌, List, [], ◌∷◌, ◌++◌, Some, None, length, take, map, encode_utf8_all, All, IsUtf8, MatchBool, slice_index_or}
 use Rattle.std.specs.List.{slice_range}
 use Rattle.np_code_points.specs.declared.forms.Form.{Form}
 use Rattle.np_code_points.specs.Forms.{composes}
 use Rattle.np_tables.specs.Boundaries.{NeverFalls}
 use Rattle.np_tables.specs.Versions.{VersionData, class_of}
 use Rattle.np_tables.specs.declared.spellings.Span.{Span}
-use Rattle.np_tables.specs.inside.PageHints.{IsApart}
+use Rattle.np_tables.specs.inside.CompositeSearch.{composite}
 
--- a starter that is the second part of no primary composite
-abbrev pub IsApartStarter : VersionData → ℕ → Type 0
-IsApartStarter v d = (class_of v d ≡ 0) × IsApart v d
+-- behind `held`, a starter into which a code point of the class `last` went last (0 where none did), the code points compose in their order: each goes into
+-- what is held, or is a starter that does not and is held in its place; `list` is what comes of it
+abbrev pub ComposesOn : VersionData → ℕ → ℕ → List ℕ → List ℕ → Type 0
+ComposesOn v held last [] list = list ≡ held ∷ []
+ComposesOn v held last (d ∷ ds) list =
+    ((p : ℕ) × (composite v held d ≡ Some p) × ((class_of v d ≡ 0) ⊎ (last ≤ class_of v d)) × ComposesOn v p (class_of v d) ds list)
+    ⊎ ((later : List ℕ) × (class_of v d ≡ 0) × (composite v held d ≡ None) × (list ≡ held ∷ later) × ComposesOn v d 0 ds later)
 
--- a full decomposition is a form as it is: nothing moves in it, and where the form composes nothing composes
-abbrev pub IsSettled : VersionData → Form → List ℕ → Type 0
-IsSettled v form lent = MatchBool (composes form) (All (IsApartStarter v) lent) (NeverFalls (class_of v) lent)
+-- `list` is what a full decomposition that begins with a starter composes to
+abbrev pub Composes : VersionData → List ℕ → List ℕ → Type 0
+Composes v [] list = ⊥
+Composes v (c ∷ cs) list = (class_of v c ≡ 0) × ComposesOn v c 0 cs list
 
--- what is kept for a slot is nothing, or what is lent there, which is settled
+-- `list` is the form of a full decomposition by itself: composed where the form composes, else the decomposition as it is, in which nothing moves
+abbrev pub Settles : VersionData → Form → List ℕ → List ℕ → Type 0
+Settles v form lent list = MatchBool (composes form) (Composes v lent list) (NeverFalls (class_of v) lent × (list ≡ lent))
+
+-- `new` is `old` and behind it the UTF-8 of a list of the kind
+pub record Writes (Kind : List ℕ → Type 0) (old new : List ℕ) : Type 0 where
+  pub list : List ℕ
+  pub grown : new ≡ old ++ encode_utf8_all list
+  pub is : Kind list
+
+-- what is kept for a slot is nothing, or the form of what is lent there
 pub record IsSpelling (v : VersionData) (form : Form) (lent bytes : List ℕ) : Type 0 where
   pub utf8 : IsUtf8 bytes
-  pub is : (bytes ≡ []) ⊎ ((bytes ≡ encode_utf8_all lent) × IsSettled v form lent)
+  pub is : (bytes ≡ []) ⊎ ((list : List ℕ) × (bytes ≡ encode_utf8_all list) × Settles v form lent list)
 
 -- the same of each slot
 abbrev pub AreSpellings : VersionData → Form → List (List ℕ) → List (List ℕ) → Type 0

@@ -1,10 +1,12 @@
-use Rattle.std.proofs.Common.{◌<◌, take, refl, sym, ap, ◌∙◌, arith, length, inl, inr}
+use Rattle.std.proofs.Common.{◌<◌, ◌+◌, take, set, subst, sym, ap, ◌∙◌, arith, length, inl, inr}
 use Rattle.std.proofs.lemmas.List.{length-take-le}
-use Rattle.np_forms.specs.inside.Classes.{codes_of}
+use Rattle.np_forms.specs.inside.Classes.{CodeAndClass, codes_of}
+use Rattle.np_forms.specs.inside.InPlace.{IsInPlace}
+use Rattle.np_tables.specs.Versions.{class_of}
 use Rattle.np_forms.specs.inside.Composers.{pair_with_last}
 use Rattle.np_forms.proofs.InPlaceLemmas.{in_place_joins, in_place_stays}
 use Rattle.np_forms.proofs.composing.take_in.Goals as goal
-use Rattle.np_forms.proofs.composing.take_in.Goals.{then-c-eq0, else-c-eq0}
+use Rattle.np_forms.proofs.composing.take_in.Goals.{then-class-eq0, else-class-eq0}
 
 pub returns-in-Some-clause-composing : goal.returns-in-Some-clause-composing
 returns-in-Some-clause-composing g c = λ whole a.
@@ -13,14 +15,25 @@ returns-in-Some-clause-composing g c = λ whole a.
     let x = c.index-c.result.now in
     let list = c.deref.result.now in
     let low : c.in-Some.q < old.kept = omega (arith, c.in-Some.ensures.in_range, length-take-le old.kept list (omega (arith, ap length c.deref.ensures.value, c.requires.kept, c.requires.place))) in
-    in_place_joins v whole old.list.items old.kept c.args.at x old.starter old.last c.requires.kept (omega (arith, c.requires.place)) c.index-c.ensures a c.in-Some.q c.in-Some.p _ refl low
-    (λ class. ap (λ l. pair_with_last v (codes_of (take old.kept l)) old.starter old.last x.code) (sym c.deref.ensures.value) ∙ sym (c.pair_with_last-found.ensures.pair class) ∙ c.in-Some.is)
+    in_place_joins v whole old.list.items old.kept c.args.at x old.starter old.last c.requires.kept (omega (arith, c.requires.place)) c.index-c.ensures a c.in-Some.q c.in-Some.p _ (ap (λ (y : CodeAndClass). y.code) c.new.ensures) low
+    (λ class.
+    ap (λ l. pair_with_last v (codes_of (take old.kept l)) old.starter old.last x.code) (sym c.deref.ensures.value)
+    ∙ ap (pair_with_last v (codes_of (take old.kept list)) old.starter old.last) (sym c.code.ensures)
+    ∙ sym (c.pair_with_last-found.ensures.pair (c.class-class.ensures ∙ class ∙ ap (class_of v) (sym c.code.ensures))) ∙ c.in-Some.is)
 
 pub returns-clause-composing : goal.returns-clause-composing
 returns-clause-composing g c = λ whole a.
     let v = g.T.NormTable.model c.args.table.now in
     let old = c.args.composer.now in
     let x = c.index-c.result.now in
-    in_place_stays v whole old.list.items old.kept c.args.at x old.starter old.last c.requires.kept (omega (arith, c.requires.place)) c.index-c.ensures a c.if-c-eq0.starter
-    (elim c.if-c-eq0.branch [ then-c-eq0 w ↦ inl (w.if-c-eq0.true, w.starter-is) | else-c-eq0 w ↦ inr (omega (arith, w.if-c-eq0.false), w.starter-is) ])
-    (λ class. ap (λ l. pair_with_last v (codes_of (take old.kept l)) old.starter old.last x.code) (sym c.deref.ensures.value) ∙ sym (c.pair_with_last-found.ensures.pair class) ∙ c.in_default.is)
+    let list = c.deref.result.now in
+    subst (IsInPlace v whole (c.args.at + 1) (set old.list.items old.kept x) (old.kept + 1) c.if-class-eq0.starter) (sym c.class-class.ensures)
+    (in_place_stays v whole old.list.items old.kept c.args.at x old.starter old.last c.requires.kept (omega (arith, c.requires.place)) c.index-c.ensures a c.if-class-eq0.starter
+    (elim c.if-class-eq0.branch [
+      | then-class-eq0 w ↦ inl (sym c.class-class.ensures ∙ w.if-class-eq0.true, w.starter-is)
+      | else-class-eq0 w ↦ inr (omega (arith, w.if-class-eq0.false, c.class-class.ensures), w.starter-is)
+    ])
+    (λ class.
+    ap (λ l. pair_with_last v (codes_of (take old.kept l)) old.starter old.last x.code) (sym c.deref.ensures.value)
+    ∙ ap (pair_with_last v (codes_of (take old.kept list)) old.starter old.last) (sym c.code.ensures)
+    ∙ sym (c.pair_with_last-found.ensures.pair (c.class-class.ensures ∙ class ∙ ap (class_of v) (sym c.code.ensures))) ∙ c.in_default.is))

@@ -1,8 +1,7 @@
 use Rattle.std.proofs.Common.{List, ℕ, ◌++◌, sym, ap, subst, ◌∙◌}
 use Rattle.std.specs.Str.Iter.{chars_rest}
 use Rattle.np_tables.specs.inside.FullDecompositions.{full_of}
-use Rattle.np_forms.specs.declared.classes.Classed.{Classed}
-use Rattle.np_forms.specs.inside.Classes.{with_classes}
+use Rattle.np_forms.specs.inside.Classes.{CodeAndClass, with_classes}
 use Rattle.np_forms.specs.inside.Segments.{IsDecomposedUpTo}
 use Rattle.np_forms.proofs.SegmentLemmas.{decomposed-start, decomposed-more}
 use Rattle.np_forms.proofs.decomposing.decompose_first.Goals as goal
@@ -13,7 +12,7 @@ scan-init g c =
     let form = c.args.form in
     let text = c.args.text.now in
     subst (λ (r : List ℕ). IsDecomposedUpTo v form text r c.clear.new.self.items) (sym c.chars-iter.ensures.rest)
-    (subst (λ (l : List Classed). IsDecomposedUpTo v form text text l) (sym c.clear.ensures.items) (decomposed-start v c.meets_conditions.ensures form text c.utf8.text))
+    (subst (λ (l : List CodeAndClass). IsDecomposedUpTo v form text text l) (sym c.clear.ensures.items) (decomposed-start v c.meets_conditions.ensures form text c.utf8.text))
 
 pub scan-preserved : goal.scan-preserved
 scan-preserved g c =

@@ -1,12 +1,12 @@
 use Rattle.std.proofs.Common.{◌≡◌, ◌<◌, ◌≤◌, ◌++◌, ◌∷◌, [], true, get_or, take, ◌+◌, sym, ap, subst, ◌∙◌, arith}
 use Rattle.std.proofs.lemmas.Bool.{both_ways}
 use Rattle.std.proofs.lemmas.List.{take_more}
-use Rattle.np_forms.specs.declared.classes.Classed.{Classed}
 use Rattle.np_tables.specs.Versions.{class_of}
 use Rattle.np_forms.proofs.ClassLemmas.{at_place, same_length}
 use Rattle.np_forms.proofs.RunLemmas.{IsRunTo, IsRunTo-start, IsRunTo-next}
 use Rattle.np_forms.proofs.ordering.non_starters_at_front.Goals as goal
 use Rattle.np_forms.proofs.ordering.non_starters_at_front.Goals.{then-class-last, else-class-last}
+use Rattle.np_forms.specs.inside.Classes.{CodeAndClass}
 
 pub loop-i-init : goal.loop-i-init
 loop-i-init c = λ v cs is. IsRunTo-start v
@@ -16,10 +16,9 @@ loop-i-preserved c = λ v cs is.
     let i = c.loop-i.i in
     let list = c.args.list.now in
     let d = get_or cs i 0 in
-    let x = get_or list i (record { code = 0; class = 0 }) in
     let run = take i cs in
     let new = c.if-class-last.ordered in
-    let class : x.class ≡ class_of v d = ap (λ (y : Classed). y.class) (at_place v list cs is i _ c.loop-i-test.true) in
+    let class : c.class-class.result ≡ class_of v d = c.class-class.ensures ∙ ap (λ (y : CodeAndClass). y.class) c.index-list-i.is ∙ ap (λ (y : CodeAndClass). y.class) (at_place v list cs is i c.index-list-i.result c.loop-i-test.true) in
     let non_starter : 0 < class_of v d = omega (arith, class, c.if-class-eq0.false) in
     let longer : take (i + 1) cs ≡ run ++ d ∷ [] = take_more cs i 0 (omega (arith, c.loop-i-test.true, same_length v list cs is)) in
     let stays : new ≡ true → (c.loop-i.ordered ≡ true) × (c.loop-i.last ≤ class_of v d) =

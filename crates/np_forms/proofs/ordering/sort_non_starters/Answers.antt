@@ -4,13 +4,13 @@ use Rattle.std.proofs.lemmas.List.Sorted.{IsNonDecreasingBy-from_sort}
 use Rattle.std.proofs.lemmas.Result.{on_ok_weaker}
 use Rattle.std.specs.List.Sorted.{IsStableByKey}
 use Rattle.std.specs.Ordering.{nat_cmp}
-use Rattle.np_forms.specs.declared.classes.Classed.{Classed}
 use Rattle.np_forms.proofs.SortLemmas.{canonical_order-from_sort}
 use Rattle.np_forms.proofs.ordering.sort_non_starters.Goals as goal
+use Rattle.np_forms.specs.inside.Classes.{CodeAndClass}
 
 pub returns-clause-ok : goal.returns-clause-ok
 returns-clause-ok c =
-    let class = λ (x : Classed). x.class in
+    let class = λ (x : CodeAndClass). x.class in
     let keys = always_returns_same _ _ _ (λ a r next called. search rules) in
     let stable = c.sort_by_key.ensures.stable class keys in
     on_ok_weaker c.sort_by_key.result

@@ -1,18 +1,43 @@
-use Rattle.std.proofs.Common.{◌∷◌, [], sym, subst, ◌∙◌}
-use Rattle.std.proofs.lemmas.Iterator.{YieldsList-from_chars}
-use Rattle.std.proofs.lemmas.Iterator.Consumers.{YieldsList-end}
-use Rattle.std.proofs.lemmas.List.{map-id}
+use Rattle.std.proofs.Common.{◌≡◌, ◌++◌, ◌∷◌, [], chars, sym, ap, subst, ◌∙◌, append-nil}
+use Rattle.std.proofs.lemmas.List.{nil_from_length}
+use Rattle.std.proofs.lemmas.Str.{chars-nil}
+use Rattle.std.specs.Str.Iter.{chars_rest}
+use Rattle.np_forms.specs.inside.Readings.{IsRead}
 use Rattle.np_forms.specs.inside.Written.{Writes}
-use Rattle.np_forms.proofs.WrittenLemmas.{Writes-start, Writes-next}
+use Rattle.np_forms.proofs.TextLemmas.{IsRead-start, IsRead-next, IsRead-both}
+use Rattle.np_forms.proofs.WrittenLemmas.{Writes-start, Writes-next, Writes-held}
 use Rattle.np_forms.proofs.written.write_chars.Goals as goal
 
-pub loop-c-init : goal.loop-c-init
-loop-c-init g c = Writes-start c.args.stream.now c.args.out.now c.requires
+pub chars-init : goal.chars-init
+chars-init g c =
+    record {
+      front = [];
+      reads = subst (λ r. IsRead c.args.text.now r []) (sym c.chars-iter.ensures.rest) (IsRead-start c.args.text.now c.utf8.text);
+      writes = Writes-start c.args.stream.now c.args.out.now c.requires;
+    }
 
-pub loop-c-preserved : goal.loop-c-preserved
-loop-c-preserved g c = Writes-next _ _ _ _ _ _ c.loop-c.yielded (c.in-Some.c ∷ []) c.loop-c.invariant c.in_ok-write_char.ensures
+pub chars-preserved : goal.chars-preserved
+chars-preserved g c =
+    let a = c.chars.invariant in
+    let h = c.in_ok-take_front.ensures in
+    let rest = c.in_ok-take_front.field-0.now in
+    let front = a.front ++ h.front in
+    let reads : IsRead c.args.text.now rest front =
+    IsRead-both c.args.text.now (chars_rest c.chars.iter) rest a.front h.front a.reads (subst (λ t. IsRead t rest h.front) c.as_str.ensures h.reads) in
+    record {
+      front = front ++ c.in-Some.c ∷ [];
+      reads = IsRead-next c.args.text.now rest c.in-Some.c (chars_rest c.next.new.self) front (sym c.chars-iter-in-chars.ensures.rest ∙ c.in-Some.ensures.steps.0) reads;
+      writes = Writes-next _ _ _ _ _ _ front (c.in-Some.c ∷ []) (Writes-held _ _ _ _ _ a.front _ _ a.writes h) c.in_ok-write_char.ensures;
+    }
 
-pub returns : goal.returns
-returns g c =
-    let all = YieldsList-end (YieldsList-from_chars c.args.text.now c.utf8.text cc) c.loop-c.yielded _ c.loop-c.yielded_by _ _ c.in-None.is c.next.ensures.steps in
-    subst (Writes c.args.stream.now c.loop-c.stream c.args.out.now c.loop-c.out) (sym (map-id c.loop-c.yielded) ∙ all.0) c.loop-c.invariant
+pub returns-in_default : goal.returns-in_default
+returns-in_default g c =
+    let a = c.chars.invariant in
+    let h = c.in_ok-take_front.ensures in
+    let rest = c.in_ok-take_front.field-0.now in
+    let front = a.front ++ h.front in
+    let reads : IsRead c.args.text.now rest front =
+    IsRead-both c.args.text.now (chars_rest c.chars.iter) rest a.front h.front a.reads (subst (λ t. IsRead t rest h.front) c.as_str.ensures h.reads) in
+    let nothing : rest ≡ [] = sym c.chars-iter-in-chars.ensures.rest ∙ nil_from_length _ c.in_default.ensures.steps.0.0 in
+    let whole : chars c.args.text.now ≡ front = reads.split ∙ ap (λ l. front ++ l) (ap chars nothing ∙ chars-nil) ∙ append-nil front in
+    subst (Writes c.args.stream.now c.take_front.new.self c.args.out.now c.chars.out) (sym whole) (Writes-held _ _ _ _ _ a.front _ _ a.writes h)

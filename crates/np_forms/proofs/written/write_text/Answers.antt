@@ -1,16 +1,18 @@
 use Rattle.std.proofs.Common.{rules}
 use Rattle.std.proofs.lemmas.Result.{on_ok_weaker}
 use Rattle.np_forms.proofs.ChunkLemmas.{Writes-text}
+use Rattle.np_forms.proofs.WrittenLemmas.{Writes-behind}
 use Rattle.np_forms.proofs.written.write_text.Goals as goal
 
 pub returns : goal.returns
 returns g c =
     on_ok_weaker c.write_chars-2.result
     (λ last.
-    Writes-text c.args.stream.now c.write_chars.new.stream c.write_break.new.stream c.write_chars-2.new.stream
-    c.args.out.now c.write_chars.new.out c.write_break.new.out c.write_form.new.out c.write_chars-2.new.out
-    (g.T.NormTable.model c.rules-form.result.1.now) c.rules-form.result.2 c.args.text.now c.split_head.result.0.now c.split_head.result.1.now c.split_tail.result.0.now c.split_tail.result.1.now
+    Writes-behind c.args.stream.now c.take_front.new.self c.write_chars-2.new.stream c.args.out.now c.write_chars-2.new.out c.args.text.now c.in_ok-rest.rest.now c.requires c.in_ok-rest.ensures
+    (Writes-text c.take_front.new.self c.write_chars.new.stream c.finish_into.new.self c.write_chars-2.new.stream
+    c.args.out.now c.write_chars.new.out c.finish_into.new.out c.write_form.new.out c.write_chars-2.new.out
+    (g.T.NormTable.model c.rules-form.result.1.now) c.rules-form.result.2 c.in_ok-rest.rest.now c.split_head.result.0.now c.split_head.result.1.now c.split_tail.result.0.now c.split_tail.result.1.now
     c.meets_conditions.ensures c.rules-form.ensures.version c.rules-form.ensures.form c.split_head.ensures.parts c.split_tail.ensures.parts
     c.split_head.ensures.front c.split_tail.ensures.front c.split_tail.ensures.back (c.split_tail.ensures.some (search rules)) c.split_head.ensures.at (c.split_tail.ensures.at c.split_head.ensures.at)
-    c.in_ok-write_chars.ensures c.in_ok-write_break.ensures c.in_ok-write_form.ensures last)
+    c.in_ok-write_chars.ensures c.in_ok-finish_into.ensures c.in_ok-write_form.ensures last))
     c.write_chars-2.ensures

@@ -6,8 +6,10 @@ use Rattle.np_forms.proofs.pieces.Pieces.take_next.Goals as goal
 pub returns-clause-same : goal.returns-clause-same
 returns-clause-same g c =
     let v = g.T.NormTable.model c.args.table.now in
+    let form = c.args.form in
     let p = c.args.self.now in
-    ap (λ l. l ++ (c.write_segment.new.out ++ form_bytes v c.args.form c.split_segment.result.1.now)) c.as_bytes-self.ensures.value
-    ∙ left_next v c.args.form p.rest.now _ _ _ _ c.write_segment.new.out c.split_standing-stood.ensures.copied c.split_segment.ensures.parted
-    (c.in_ok-write_segment.ensures ∙ ap (λ l. l ++ form_bytes v c.args.form c.split_segment.result.0.now) c.clear.ensures)
-    ∙ sym (left_rest v c.args.form p.stays.now _ p.rest.now c.requires)
+    let after = c.split_standing-stood.result.1.now in
+    let later = c.in_ok-later.later.now in
+    ap (λ l. l ++ (c.write_next.new.out ++ form_bytes v form later)) c.as_bytes-self.ensures.value
+    ∙ left_next v form p.rest.now _ after later c.write_next.new.out c.split_standing-stood.ensures.copied (c.in_ok-later.ensures.goes.written ∙ ap (λ l. l ++ form_bytes v form after) c.clear.ensures)
+    ∙ sym (left_rest v form p.stays.now _ p.rest.now c.requires)
