@@ -273,8 +273,8 @@ fn points_stand_in_their_canonical_order(rt: HostRuntime) -> Result<(), Fail> {
     tells_what_stands(&table, &HEBREW_STANDING)
 }
 
-// The form of a code point by itself, where that is its full decomposition: none is told where it
-// has no mapping of the kind, or something in it may compose.
+// The form of a code point by itself: none is told where it has no mapping of the kind, or where its full
+// decomposition begins with no starter and the form composes.
 const SPELLED: [(Form, char, &str); 12] = [
     (Form::Nfd, '\u{E2}', "a\u{302}"),
     (Form::Nfd, '\u{1EAD}', "a\u{323}\u{302}"),
@@ -285,8 +285,8 @@ const SPELLED: [(Form, char, &str); 12] = [
     (Form::Nfc, '\u{FB01}', ""),
     (Form::Nfd, 'A', ""),
     (Form::Nfd, '\u{AC00}', ""),
-    (Form::Nfc, '\u{E2}', ""),
-    (Form::Nfc, '\u{212B}', ""),
+    (Form::Nfc, '\u{E2}', "\u{E2}"),
+    (Form::Nfc, '\u{212B}', "\u{C5}"),
     (Form::Nfkc, '\u{344}', ""),
 ];
 
