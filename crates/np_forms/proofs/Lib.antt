@@ -32,5 +32,4 @@ pub mod StreamSafeLemmas
 pub mod SyllableLemmas
 pub mod SyllableTextLemmas
 pub mod TextLemmas
-pub mod Utf8Lemmas
 pub mod WrittenLemmas

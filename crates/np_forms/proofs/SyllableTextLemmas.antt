@@ -15,13 +15,13 @@ use Rattle.np_forms.specs.inside.Copies.{BeginsAtBoundary, GoesOn}
 use Rattle.np_forms.specs.inside.NormalForms.{ended, normal_form}
 use Rattle.np_forms.specs.inside.Readings.{IsReadAssigned}
 use Rattle.np_forms.specs.inside.Segments.{IsFirstMade}
-use Rattle.np_forms.specs.inside.Syllables.{syllable_parts}
+use Rattle.np_forms.specs.inside.Syllables.{BeginsWithJamo, syllable_parts}
 use Rattle.np_forms.proofs.BoundaryLemmas.{ended-folds, is_ordered-never_falls}
 use Rattle.np_forms.proofs.CopyLemmas.{parts-at}
 use Rattle.np_forms.proofs.DecomposedLemmas.{IsClosed, closed-nil, closed-starter, form-closed, goes-made}
 use Rattle.np_forms.proofs.KeptLemmas.{decomposed-final}
 use Rattle.np_forms.proofs.StandingLemmas.{rises_from}
-use Rattle.np_forms.proofs.Utf8Lemmas.{encode_three}
+use Rattle.np_tables.proofs.Utf8Lemmas.{encode_three}
 use Rattle.np_forms.proofs.SyllableLemmas.{full_of-syllable, syllable_parts-two, syllable_parts-three}
 use Rattle.np_tables.proofs.HangulLemmas.{IsJamo, by_arithmetic, leading_jamo, lv_shape, lvt_shape, syllable_hangul}
 use Rattle.np_tables.proofs.MappingLemmas.{IsFullDecomposition-full_of}
@@ -161,17 +161,10 @@ module _ (bytes : List ℕ) (lead vowel trailing s : ℕ) (are : AreFirstJamo by
       take-nine bytes are.long ∙ sym (ap encode_utf8_all parts ∙ begun ((0x11A7 + trailing) ∷ [])
       ∙ ap (λ l. get_or bytes 0 0 ∷ get_or bytes 1 0 ∷ get_or bytes 2 0 ∷ get_or bytes 3 0 ∷ get_or bytes 4 0 ∷ get_or bytes 5 0 ∷ (l ++ [])) third)
 
--- a text that begins with the bytes of its jamo
-pub record BeginsWithJamo (text : List ℕ) (s n : ℕ) : Type 0 where
-  pub syllable : is_syllable s ≡ true
-  pub utf8 : IsUtf8 text
-  pub within : n ≤ length text
-  pub front : take n text ≡ encode_utf8_all (syllable_parts s)
-
 -- the text as bytes
-pub begins_with_jamo : (text bytes : List ℕ) (s n : ℕ) → bytes ≡ text → IsUtf8 text → is_syllable s ≡ true → n ≤ length bytes → take n bytes ≡ encode_utf8_all (syllable_parts s) → BeginsWithJamo text s n
-begins_with_jamo text bytes s n same utf8 syllable within front =
-    record { syllable = syllable; utf8 = utf8; within = subst (λ l. n ≤ length l) same within; front = subst (λ l. take n l ≡ encode_utf8_all (syllable_parts s)) same front }
+pub begins_with_jamo : (text bytes : List ℕ) (s n : ℕ) → bytes ≡ text → IsUtf8 text → is_syllable s ≡ true → 0 < n → n ≤ length bytes → take n bytes ≡ encode_utf8_all (syllable_parts s) → BeginsWithJamo text s n
+begins_with_jamo text bytes s n same utf8 syllable some within front =
+    record { syllable = syllable; utf8 = utf8; some = some; within = subst (λ l. n ≤ length l) same within; front = subst (λ l. take n l ≡ encode_utf8_all (syllable_parts s)) same front }
 
 module _ (text : List ℕ) (s n : ℕ) (begins : BeginsWithJamo text s n) where
   pub jamo-boundary : IsCharBoundary text n
@@ -185,6 +178,14 @@ module _ (text : List ℕ) (s n : ℕ) (begins : BeginsWithJamo text s n) where
       let parts = syllable_parts s in
       let scalar_parts = parts-scalars s begins.syllable in
       ap chars jamo-bytes ∙ chars-append (encode_utf8_all parts) (drop n text) (parts, (scalar_parts, refl)) ∙ ap (λ l. l ++ chars (drop n text)) (chars-encodes parts scalar_parts)
+
+-- the jamo begin with the leading consonant
+pub parts-lead : (s : ℕ) (rest : List ℕ) → is_syllable s ≡ true → (later : List ℕ) × (syllable_parts s ++ rest ≡ (0x1100 + (s - 0xAC00) / 28 / 21) ∷ later)
+parts-lead s rest h =
+    elim (cases_eq ((s - 0xAC00) % 28) 0) [
+      | inl even ↦ (_, ap (λ l. l ++ rest) (parts-lv s h even))
+      | inr odd ↦ (_, ap (λ l. l ++ rest) (parts-lvt s h odd))
+    ]
 
 -- ---- nothing moves into a syllable's jamo
 

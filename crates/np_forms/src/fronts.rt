@@ -9,13 +9,14 @@ use crate::classes::Classed;
 use crate::composed_texts::write_first;
 use crate::copying::{begins_at_boundary, split_standing, write_next};
 use crate::out_texts::OutText;
-use crate::syllable_texts::{join_syllables, write_syllables};
+use crate::syllable_texts::{begins_as_jamo, join_syllables, write_syllables};
 use np_code_points::{Form, Memory};
 use np_tables::NormTable;
 use std::alloc::Global;
 
 /// The form of the first code point of a text, as bytes and how many of them it has, and what follows the
-/// code point: none where the table doesn't spell it, or no boundary follows.
+/// code point: none where the table doesn't spell it, or no boundary follows. Where the form composes, it
+/// isn't asked of what begins as jamo do.
 #[inline(always)]
 fn split_spelled<'t, 'a, T: NormTable>(
     table: &'t T,
@@ -27,6 +28,9 @@ fn split_spelled<'t, 'a, T: NormTable>(
     ensures shorter { IfSome result (λ cut. length cut.2.now < length text.now) }
 {
     table.meets_conditions();
+    if form.composes() && begins_as_jamo(text) {
+        return None;
+    }
     let mut iter = text.chars();
     let c = iter.next()?;
     let (bytes, count) = table.spelled(form, c)?;

@@ -17,10 +17,10 @@ fn leading_index(a: u8, b: u8, c: u8) -> Option<u32>
     ensures among { IfSome result (λ n. n < 19) }
     ensures spelled { IfSome result (λ n. encode_utf8 (0x1100 + n) ≡ a ∷ b ∷ c ∷ []) }
 {
-    if a != 0xE1 || b != 0x84 || c < 0x80 {
+    if a != 0xE1 || b != 0x84 {
         return None;
     }
-    let index = u32::from(c - 0x80);
+    let index = u32::from(c).wrapping_sub(0x80);
     if index < L_COUNT { Some(index) } else { None }
 }
 
@@ -30,10 +30,10 @@ fn vowel_index(a: u8, b: u8, c: u8) -> Option<u32>
     ensures among { IfSome result (λ n. n < 21) }
     ensures spelled { IfSome result (λ n. encode_utf8 (0x1161 + n) ≡ a ∷ b ∷ c ∷ []) }
 {
-    if a != 0xE1 || b != 0x85 || c < 0xA1 {
+    if a != 0xE1 || b != 0x85 {
         return None;
     }
-    let index = u32::from(c - 0xA1);
+    let index = u32::from(c).wrapping_sub(0xA1);
     if index < V_COUNT { Some(index) } else { None }
 }
 

@@ -36,4 +36,5 @@ pub mod StepLemmas
 pub mod SyllableLemmas
 pub mod TableLemmas
 pub mod UniqueLemmas
+pub mod Utf8Lemmas
 pub mod WalkLemmas

@@ -18,7 +18,7 @@ use Rattle.np_tables.specs.declared.page_words.Word.{Word}
 use Rattle.np_tables.specs.inside.FullDecompositions.{full_of, table_full}
 use Rattle.np_tables.specs.inside.FullLists.{FullLists, of_kind}
 use Rattle.np_tables.specs.inside.Pages.{word_place}
-use Rattle.np_tables.specs.inside.PageWords.{AreFollowing, ArePages, Follows, IsAsciiStaying, IsPast, no_word}
+use Rattle.np_tables.specs.inside.PageWords.{AreFollowing, ArePages, Follows, IsAsciiStaying, IsPast, IsWalkedTo, no_word}
 use Rattle.np_tables.specs.inside.PageHints.{decomposing, has_bit, stays_place}
 use Rattle.np_tables.specs.inside.Steps.{all_steps, step_in, step_of, steps_of}
 use Rattle.np_tables.proofs.HangulLemmas.{by_arithmetic, syllable_hangul}
@@ -45,13 +45,6 @@ module _ (text : List ℕ) (n : ℕ) (utf8 : IsUtf8 text) (le : n ≤ length tex
       }
 
 -- ---- what was read of a text is a walk, and `rest` is left
-
-pub record IsWalkedTo (Step : ℕ → ℕ → ℕ → Type 0) (s rest : List ℕ) (last : ℕ) : Type 0 where
-  pub before : List ℕ
-  pub bytes : s ≡ encode_utf8_all before ++ rest
-  pub text : chars s ≡ before ++ chars rest
-  pub walk : Walks Step 0 before last
-  pub utf8 : IsUtf8 rest
 
 module _ (Step : ℕ → ℕ → ℕ → Type 0) where
   pub IsWalkedTo-start : (s rest : List ℕ) → rest ≡ s → IsUtf8 s → IsWalkedTo Step s rest 0

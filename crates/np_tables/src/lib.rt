@@ -38,6 +38,7 @@ mod standing_runs;
 mod steps;
 mod syllables;
 mod tables;
+mod utf8_fronts;
 mod version;
 mod word_bits;
 

@@ -1,19 +1,90 @@
 //! Runs of code points that may stand in a normal form one behind the other as they are: those that
 //! stay, and behind them non-starters in canonical order that compose with nothing.
-ghost use Rattle.std.specs.Prelude.{◌≡◌, ◌<◌, ◌≤◌, length, true};
-ghost use Rattle.np_tables.specs.inside.PageWords.{AreFollowing, IsAsciiStaying, IsPast};
+ghost use Rattle.std.specs.Prelude.{◌≡◌, ◌<◌, ◌≤◌, ℕ, length, true, IfSome};
+ghost use Rattle.np_tables.specs.inside.PageWords.{AreFollowing, Follows, IsAsciiStaying, IsPast, WalksOn};
 ghost use Rattle.np_tables.specs.inside.Pages.{AreWithin};
 
 use crate::ascii_runs::ascii_front;
 use crate::steps::{low_behind, step_at, step_place};
+use crate::utf8_fronts::{split_three, split_two};
 use np_code_points::Form;
+
+/// Whether a text begins with ASCII. On this no answer depends.
+#[inline(always)]
+fn begins_with_ascii(text: &str) -> bool {
+    match text.as_bytes().first() {
+        Some(byte) => byte.is_ascii(),
+        None => false,
+    }
+}
 
 /// What follows the ASCII at the front of a text.
 #[inline(always)]
 fn behind_ascii(text: &str) -> &str
     ensures { IsPast (λ c. c < 128) text.now result.now }
 {
+    // mostly a single character stands between two words
+    if !begins_with_ascii(text) {
+        return text;
+    }
     &text[ascii_front(text.as_bytes())..]
+}
+
+/// The least step that may follow a code point, where it may follow a step of `low`: none where it may not.
+#[inline(always)]
+fn low_past(blocks: &[u16], steps: &[u32], least: u8, low: u8, form: Form, c: char) -> Option<u8>
+    requires within { AreWithin 4352 blocks.now (length steps.now) }
+    requires some { 1 ≤ least }
+    requires low { least ≤ low }
+    ensures least { IfSome result (λ next. least ≤ next) }
+    ensures follows { IfSome result (λ next. (last : ℕ) → last ≤ low → (n : ℕ) × ((n ≤ next) × Follows least blocks.now steps.now form last c n)) }
+{
+    let step = step_at(blocks, steps, step_place(form), c);
+    if step < low {
+        return None;
+    }
+    Some(low_behind(least, step))
+}
+
+/// The least step that may follow the first code point of a text, or the ASCII that it begins with, and
+/// what stands behind that: none where it may not follow a step of `low`, and at the end of the text.
+#[inline(always)]
+fn pass_next<'a>(
+    blocks: &[u16],
+    steps: &[u32],
+    ascii: bool,
+    least: u8,
+    low: u8,
+    form: Form,
+    text: &'a str,
+) -> Option<(u8, &'a str)>
+    requires within { AreWithin 4352 blocks.now (length steps.now) }
+    requires ascii { ascii ≡ true → IsAsciiStaying blocks.now steps.now }
+    requires some { 1 ≤ least }
+    requires low { least ≤ low }
+    ensures least { IfSome result (λ cut. least ≤ cut.0) }
+    ensures walks { IfSome result (λ cut. WalksOn (Follows least blocks.now steps.now form) text.now cut.1.now low cut.0) }
+    ensures shorter { IfSome result (λ cut. length cut.1.now < length text.now) }
+{
+    if let Some((c, later)) = split_three(text) {
+        let next = low_past(blocks, steps, least, low, form, c)?;
+        return Some((next, later));
+    }
+    if ascii && begins_with_ascii(text) {
+        let mut iter = text.chars();
+        let c = iter.next()?;
+        if c.is_ascii() {
+            return Some((least, behind_ascii(iter.as_str())));
+        }
+    }
+    if let Some((c, later)) = split_two(text) {
+        let next = low_past(blocks, steps, least, low, form, c)?;
+        return Some((next, later));
+    }
+    let mut iter = text.chars();
+    let c = iter.next()?;
+    let next = low_past(blocks, steps, least, low, form, c)?;
+    Some((next, iter.as_str()))
 }
 
 /// How many bytes at the front of a text are code points that may follow one another as they are, each
@@ -32,24 +103,14 @@ pub(crate) fn standing_front(
     requires some { 1 ≤ least }
     ensures { AreFollowing least blocks.now steps.now form text.now result }
 {
-    let place = step_place(form);
-    let mut iter = text.chars();
+    let mut rest = text;
     // the least step that may follow
     let mut low = least;
     'scan: loop {
-        let here = iter.as_str();
-        let Some(c) = iter.next() else {
-            return text.len();
+        let Some((next, later)) = pass_next(blocks, steps, ascii, least, low, form, rest) else {
+            return text.len() - rest.len();
         };
-        if ascii && c.is_ascii() {
-            low = least;
-            iter = behind_ascii(iter.as_str()).chars();
-        } else {
-            let step = step_at(blocks, steps, place, c);
-            if step < low {
-                return text.len() - here.len();
-            }
-            low = low_behind(least, step);
-        }
+        low = next;
+        rest = later;
     }
 }

@@ -1,10 +1,10 @@
 -- Texts cut where their forms part.
-use Rattle.std.specs.Prelude.{◌≡◌, ◌≢◌, ℕ, ⊤, List, [], ◌∷◌, ◌++◌, Option, MatchOption, chars, encode_utf8_all, IsUtf8}
+use Rattle.std.specs.Prelude.{◌≡◌, ◌≢◌, ℕ, ⊤, true, List, [], ◌∷◌, ◌++◌, Option, MatchOption, chars, encode_utf8, encode_utf8_all, IsUtf8}
 use denote.Ref.{Bor}
 use Rattle.np_code_points.specs.declared.forms.Form.{Form}
 use Rattle.np_forms.specs.inside.NormalForms.{normal_form}
 use Rattle.np_tables.specs.Boundaries.{IsBoundary}
-use Rattle.np_tables.specs.Versions.{VersionData}
+use Rattle.np_tables.specs.Versions.{VersionData, is_assigned}
 
 -- the form parts before the list: it is empty, or begins with a boundary
 abbrev pub BeginsAtBoundary : VersionData → Form → List ℕ → Type 0
@@ -16,6 +16,12 @@ pub record IsCopied (v : VersionData) (form : Form) (text front back : List ℕ)
   pub parts : text ≡ front ++ back
   pub utf8 : IsUtf8 back
   pub copied : encode_utf8_all (normal_form v form (chars text)) ≡ front ++ encode_utf8_all (normal_form v form (chars back))
+
+-- an assigned code point before which the form parts, and which stands in it as it is wherever it parts behind it too
+pub record StandsAlone (v : VersionData) (form : Form) (c : ℕ) : Type 0 where
+  pub assigned : is_assigned v c ≡ true
+  pub boundary : IsBoundary v form c
+  pub stands : (back : List ℕ) → IsUtf8 back → BeginsAtBoundary v form (chars back) → IsCopied v form (encode_utf8 c ++ back) (encode_utf8 c) back
 
 -- `rest` is the end of a text
 pub record IsEndOf (text rest : List ℕ) : Type 0 where

@@ -1,5 +1,5 @@
 -- The full decomposition of a Hangul syllable (The Unicode Standard, section 3.12).
-use Rattle.std.specs.Prelude.{ℕ, List, [], ◌∷◌, flat_map, if◌then◌else◌}
+use Rattle.std.specs.Prelude.{◌≡◌, ◌<◌, ◌≤◌, ℕ, true, List, [], ◌∷◌, length, take, flat_map, encode_utf8_all, IsUtf8, if◌then◌else◌}
 use Rattle.np_code_points.specs.Hangul.{is_syllable, syllable_pair}
 
 -- the pair of a syllable, and anything else itself
@@ -9,3 +9,11 @@ pair_or_self c = if is_syllable c then syllable_pair c else c ∷ []
 -- LV gives L and V, LVT the two of LV, and T
 unfoldable pub syllable_parts : ℕ → List ℕ
 syllable_parts s = flat_map pair_or_self (syllable_pair s)
+
+-- a text that begins with the n bytes of a syllable's jamo
+pub record BeginsWithJamo (text : List ℕ) (s n : ℕ) : Type 0 where
+  pub syllable : is_syllable s ≡ true
+  pub utf8 : IsUtf8 text
+  pub some : 0 < n
+  pub within : n ≤ length text
+  pub front : take n text ≡ encode_utf8_all (syllable_parts s)

@@ -12,7 +12,7 @@ use Rattle.np_tables.specs.inside.FullDecompositions.{table_full}
 use Rattle.np_tables.specs.inside.FullLists.{FullLists, of_kind}
 use Rattle.np_tables.specs.inside.FullParts.{AreParts, part_of}
 use Rattle.np_code_points.specs.declared.forms.Form.{Form}
-use Rattle.np_tables.specs.Standing.{AreWalked}
+use Rattle.np_tables.specs.Standing.{AreWalked, Walks}
 use Rattle.np_tables.specs.inside.PageHints.{AreBits}
 use Rattle.np_tables.specs.inside.Pages.{AreWithin, word_place}
 use Rattle.np_tables.specs.inside.Steps.{step_in}
@@ -125,6 +125,18 @@ pub record IsPast (P : ℕ → Type 0) (text rest : List ℕ) : Type 0 where
   pub text_is : chars text ≡ front ++ chars rest
   pub utf8 : IsUtf8 rest
   pub passed : All P front
+
+-- what was read of a text is a walk from 0 to `last`, and `rest` is left
+pub record IsWalkedTo (Step : ℕ → ℕ → ℕ → Type 0) (s rest : List ℕ) (last : ℕ) : Type 0 where
+  pub before : List ℕ
+  pub bytes : s ≡ encode_utf8_all before ++ rest
+  pub text : chars s ≡ before ++ chars rest
+  pub walk : Walks Step 0 before last
+  pub utf8 : IsUtf8 rest
+
+-- each walk to a text that leads to no more than `low` goes on to `rest`, and leads to no more than `next`
+abbrev pub WalksOn : (ℕ → ℕ → ℕ → Type 0) → List ℕ → List ℕ → ℕ → ℕ → Type 0
+WalksOn Step text rest low next = (s : List ℕ) (last : ℕ) → last ≤ low → IsWalkedTo Step s text last → (n : ℕ) × ((n ≤ next) × IsWalkedTo Step s rest n)
 
 -- by its step a code point may stand behind code points of classes up to `last`, and then the classes are up to n: one that
 -- stays, of which nothing but itself is known where its full decomposition is another, or what stands below all else

@@ -27,8 +27,9 @@ scan-preserved g c =
     let same = c.as_str.ensures in
     let read : IsReadAssigned v text behind = IsReadAssigned-next v text here c.in-Some.c behind c.scan.invariant.1 c.in-Some.ensures.steps.0 (syllable-assigned v on c.in-Some.c syllable) in (
       subst (λ l. GoesOn v form text l old c.write_space.new.out) (sym c.chars-iter-in-scan.ensures.rest)
-          (goes-both v form text c.as_str.result.now c.in_ok-write_space.field-0.now old between c.write_space.new.out
-          (subst (λ l. GoesOn v form text l old between) (sym same) made) c.in_ok-write_space.ensures.goes),
+          (goes-both v form text c.as_str.result.now c.in_ok-rest.rest.now old between c.write_space.new.out
+          (subst (λ l. GoesOn v form text l old between) (sym same) made) c.in_ok-rest.ensures.goes),
       subst (λ l. IsReadAssigned v text l) (sym c.chars-iter-in-scan.ensures.rest)
-          (IsReadAssigned-both v text c.as_str.result.now c.in_ok-write_space.field-0.now (subst (λ l. IsReadAssigned v text l) (sym same) read) c.in_ok-write_space.ensures.read),
+          (IsReadAssigned-both v text c.as_str.result.now c.in_ok-rest.rest.now (subst (λ l. IsReadAssigned v text l) (sym same) read) c.in_ok-rest.ensures.read),
+      c.in_ok-rest.ensures.known,
     )

@@ -1,5 +1,5 @@
 use Rattle.std.proofs.Common.{◌∷◌, [], sym, ap, ◌∙◌, ◌+◌, ◌/◌, ◌%◌}
-use Rattle.np_forms.proofs.Utf8Lemmas.{encode_four}
+use Rattle.np_tables.proofs.Utf8Lemmas.{encode_four}
 use Rattle.np_forms.proofs.utf8_bytes.four_bytes.Goals as goal
 
 pub returns : goal.returns
