@@ -15,20 +15,22 @@ use np_tables::NormTable;
 use std::alloc::Global;
 
 /// The form of the first code point of a text, as bytes and how many of them it has, and what follows the
-/// code point: none where the table doesn't spell it, or no boundary follows. Where the form composes, it
-/// isn't asked of what begins as jamo do.
+/// code point: none where the table doesn't spell it, or no boundary follows. It isn't asked where some first
+/// bytes, so many, stand as they are, since no boundary follows their first code point, nor, where the form
+/// composes, of what begins as jamo do.
 #[inline(always)]
 fn split_spelled<'t, 'a, T: NormTable>(
     table: &'t T,
     form: Form,
     text: &'a str,
+    stood: usize,
 ) -> Option<(&'t [u8], usize, &'a str)>
     ensures made { IfSome result (λ cut. IsFirstSpelled (T.model table.now) form text.now cut.2.now cut.0.now cut.1) }
     ensures read { IfSome result (λ cut. IsReadAssigned (T.model table.now) text.now cut.2.now) }
     ensures shorter { IfSome result (λ cut. length cut.2.now < length text.now) }
 {
     table.meets_conditions();
-    if form.composes() && begins_as_jamo(text) {
+    if stood > 0 || (form.composes() && begins_as_jamo(text)) {
         return None;
     }
     let mut iter = text.chars();
@@ -95,7 +97,7 @@ pub(crate) fn write_front<'a, T: NormTable>(
     ensures shorter { IfOk result (λ cut. length cut.1.now < length text.now) }
 {
     let (stays, behind, stood) = split_standing(table, form, assigned, text);
-    let spelled = split_spelled(table, form, behind);
+    let spelled = split_spelled(table, form, behind, stood);
     out.append_front(text, stays)?;
     if let Some((bytes, count, later)) = spelled {
         out.append_first(bytes, count)?;
