@@ -1,5 +1,5 @@
 -- What stays is copied, and segments are made each for itself.
-use Rattle.std.proofs.Common.{◌≤◌, ◌≡◌, ◌≢◌, ℕ, ◌-◌, ◌<◌, ◌⊎◌, List, [], ◌∷◌, ◌++◌, length, chars, IsUtf8, encode_utf8, encode_utf8_all, refl, sym, ap, subst, ◌∙◌, arith, inl, inr, append_assoc, append-nil, length-append, take_at, drop_at, Bool, true, false, take, drop, slice_range, IsCharBoundary, flat_map}
+use Rattle.std.proofs.Common.{◌≤◌, ◌≡◌, ◌≢◌, ℕ, ◌-◌, ◌<◌, ◌⊎◌, List, [], ◌∷◌, ◌++◌, None, length, chars, IsUtf8, encode_utf8, encode_utf8_all, refl, sym, ap, subst, ◌∙◌, arith, inl, inr, append_assoc, append-nil, length-append, take_at, drop_at, Bool, true, false, take, drop, slice_range, IsCharBoundary, flat_map}
 use Rattle.std.proofs.lemmas.List.{append_cancel_right, nil_from_length}
 use Rattle.std.proofs.lemmas.Bool.{cases_lt}
 use Rattle.std.proofs.lemmas.Str.{chars-nil, chars-append, chars_past_char, encodes-append, encodes-chars, IsCharBoundary-at_seam, IsCharBoundary-from_take, IsUtf8-drop, IsUtf8-take}
@@ -40,11 +40,11 @@ module _ (v : VersionData) (sound : IsSound v) (form : Form) where
   parts-at xs (c ∷ cs) at = normal_form-parts v sound form xs c cs at
 
   -- a walk stands there as it is
-  copies : (cs : List ℕ) (end : ℕ) (rest : List ℕ) → Walks (MayFollow v form) 0 cs end → BeginsAtBoundary v form rest → normal_form v form (cs ++ rest) ≡ cs ++ normal_form v form rest
+  copies : (cs : List ℕ) (end : ℕ) (rest : List ℕ) → Walks (MayFollow v form) None 0 cs end → BeginsAtBoundary v form rest → normal_form v form (cs ++ rest) ≡ cs ++ normal_form v form rest
   copies cs end rest walk at = parts-at cs rest at ∙ ap (λ l. l ++ normal_form v form rest) (standing_form v sound form cs end walk)
 
   -- a text whose front stands as it is, cut behind it
-  pub IsCopied-at : (text front back : List ℕ) (cs : List ℕ) (end : ℕ) → text ≡ front ++ back → IsUtf8 back → front ≡ encode_utf8_all cs → chars text ≡ cs ++ chars back → Walks (MayFollow v form) 0 cs end → BeginsAtBoundary v form (chars back) → IsCopied v form text front back
+  pub IsCopied-at : (text front back : List ℕ) (cs : List ℕ) (end : ℕ) → text ≡ front ++ back → IsUtf8 back → front ≡ encode_utf8_all cs → chars text ≡ cs ++ chars back → Walks (MayFollow v form) None 0 cs end → BeginsAtBoundary v form (chars back) → IsCopied v form text front back
   IsCopied-at text front back cs end parts utf8 spelled text_is walk at =
       record {
         parts = parts;
@@ -155,7 +155,7 @@ module _ (v : VersionData) (form : Form) (text : List ℕ) (n : ℕ) (h : AreSta
       let same : h.front ≡ chars own ++ chars part =
       append_cancel_right h.front (chars own ++ chars part) (chars h.back)
       (sym h.text ∙ text_is ∙ ap (λ l. chars own ++ l) next ∙ sym (append_assoc (chars own) (chars part) (chars h.back))) in
-      let walk = Walks-front (MayFollow v form) 0 h.end (chars own) (chars part) (subst (λ l. Walks (MayFollow v form) 0 l h.end) same h.walk) in
+      let walk = Walks-front (MayFollow v form) None 0 h.end (chars own) (chars part) (subst (λ l. Walks (MayFollow v form) None 0 l h.end) same h.walk) in
       IsCopied-at v sound form text own rest (chars own) walk.0 own-text of_rest (sym (encodes-chars own of_own)) text_is walk.1
       (subst (BeginsAtBoundary v form) (sym next) (begins_with v form (chars part) (chars h.back) (some_chars part of_part some) at))
 

@@ -1,6 +1,7 @@
 pub mod AccessLemmas
 pub mod AmbiguityLemmas
 pub mod AnswerLemmas
+pub mod ApartLemmas
 pub mod AsciiLemmas
 pub mod CompositeLemmas
 pub mod CountLemmas

@@ -1,5 +1,5 @@
 -- Runs of code points that may follow one another as they are.
-use Rattle.std.proofs.Common.{◌≡◌, ℕ, ◌-◌, ◌<◌, ◌≤◌, Bool, true, false, ◌&&◌, suc, List, [], ◌∷◌, ◌++◌, length, get_or, take, drop, take_at, chars, IsUtf8, encode_utf8, encode_utf8_all, All, sym, ap, subst, ◌∙◌, arith, append_assoc, append-nil, length-append, refl, inl, inr}
+use Rattle.std.proofs.Common.{◌≡◌, ℕ, ◌-◌, ◌<◌, ◌≤◌, Bool, true, false, ◌&&◌, suc, List, [], ◌∷◌, ◌++◌, Option, Some, None, length, get_or, take, drop, take_at, slice_range, chars, IsUtf8, encode_utf8, encode_utf8_all, All, sym, ap, subst, ◌∙◌, arith, append_assoc, append-nil, length-append, refl, inl, inr}
 use Rattle.std.specs.List.{list_all}
 use Rattle.std.specs.Str.{IsAscii, IsCharBoundary}
 use Rattle.std.proofs.lemmas.Bool.{and_from, and_parts, cases_Bool, cond-false, or_from}
@@ -18,7 +18,7 @@ use Rattle.np_tables.specs.declared.page_words.Word.{Word}
 use Rattle.np_tables.specs.inside.FullDecompositions.{full_of, table_full}
 use Rattle.np_tables.specs.inside.FullLists.{FullLists, of_kind}
 use Rattle.np_tables.specs.inside.Pages.{word_place}
-use Rattle.np_tables.specs.inside.PageWords.{AreFollowing, ArePages, Follows, IsAsciiStaying, IsPast, IsWalkedTo, no_word}
+use Rattle.np_tables.specs.inside.PageWords.{AreFollowing, ArePages, Follows, FollowsApart, FollowsByStep, IsAsciiStaying, IsPast, IsWalkedTo, PassesApart, WalksOn, last_behind, no_word}
 use Rattle.np_tables.specs.inside.PageHints.{decomposing, has_bit, stays_place}
 use Rattle.np_tables.specs.inside.Steps.{all_steps, step_in, step_of, steps_of}
 use Rattle.np_tables.proofs.HangulLemmas.{by_arithmetic, syllable_hangul}
@@ -46,46 +46,55 @@ module _ (text : List ℕ) (n : ℕ) (utf8 : IsUtf8 text) (le : n ≤ length tex
 
 -- ---- what was read of a text is a walk, and `rest` is left
 
-module _ (Step : ℕ → ℕ → ℕ → Type 0) where
+module _ (Step : Option ℕ → ℕ → ℕ → ℕ → Type 0) where
   pub IsWalkedTo-start : (s rest : List ℕ) → rest ≡ s → IsUtf8 s → IsWalkedTo Step s rest 0
   IsWalkedTo-start s rest e utf8 = record { before = []; bytes = sym e; text = ap chars (sym e); walk = refl; utf8 = subst IsUtf8 (sym e) utf8 }
 
   -- one code point more
-  pub IsWalkedTo-next : (s rest : List ℕ) (last c : ℕ) (later : List ℕ) (n : ℕ) → IsWalkedTo Step s rest last → rest ≡ encode_utf8 c ++ later → Step last c n → IsWalkedTo Step s later n
+  pub IsWalkedTo-next : (s rest : List ℕ) (last c : ℕ) (later : List ℕ) (n : ℕ) (r : IsWalkedTo Step s rest last) → rest ≡ encode_utf8 c ++ later → Step (last_behind None r.before) last c n → IsWalkedTo Step s later n
   IsWalkedTo-next s rest last c later n r e step =
       record {
         before = r.before ++ c ∷ [];
         bytes = r.bytes ∙ ap (λ l. encode_utf8_all r.before ++ l) e ∙ sym (append_assoc (encode_utf8_all r.before) (encode_utf8 c) later)
             ∙ ap (λ l. l ++ later) (ap (λ l. encode_utf8_all r.before ++ l) (sym (append-nil (encode_utf8 c))) ∙ sym (encodes-append r.before (c ∷ [])));
         text = r.text ∙ ap (λ l. r.before ++ l) (chars_past_char rest later c r.utf8 e) ∙ sym (append_assoc r.before (c ∷ []) (chars later));
-        walk = Walks-append Step 0 last n r.before (c ∷ []) r.walk (n, step, refl);
+        walk = Walks-append Step None 0 last n r.before (c ∷ []) r.walk (n, step, refl);
         utf8 = IsUtf8-past_char rest later c r.utf8 e;
       }
 
-  walk_past : (P : ℕ → Type 0) → ((c : ℕ) → P c → Step 0 c 0) → (xs : List ℕ) → All P xs → Walks Step 0 xs 0
-  walk_past P each [] all = refl
-  walk_past P each (x ∷ xs) all = (0, each x (all 0 x (omega arith)), walk_past P each xs (λ k d lt. all (suc k) d (omega arith)))
+  walk_past : (P : ℕ → Type 0) → ((before : Option ℕ) (c : ℕ) → P c → Step before 0 c 0) → (before : Option ℕ) (xs : List ℕ) → All P xs → Walks Step before 0 xs 0
+  walk_past P each before [] all = refl
+  walk_past P each before (x ∷ xs) all = (0, each before x (all 0 x (omega arith)), walk_past P each (Some x) xs (λ k d lt. all (suc k) d (omega arith)))
 
   -- some more at once, each of which leads from 0 to 0
-  pub IsWalkedTo-past : (P : ℕ → Type 0) → ((c : ℕ) → P c → Step 0 c 0) → (s rest later : List ℕ) → IsWalkedTo Step s rest 0 → IsPast P rest later → IsWalkedTo Step s later 0
+  pub IsWalkedTo-past : (P : ℕ → Type 0) → ((before : Option ℕ) (c : ℕ) → P c → Step before 0 c 0) → (s rest later : List ℕ) → IsWalkedTo Step s rest 0 → IsPast P rest later → IsWalkedTo Step s later 0
   IsWalkedTo-past P each s rest later r past =
       record {
         before = r.before ++ past.front;
         bytes = r.bytes ∙ ap (λ l. encode_utf8_all r.before ++ l) past.split ∙ sym (append_assoc (encode_utf8_all r.before) (encode_utf8_all past.front) later)
             ∙ ap (λ l. l ++ later) (sym (encodes-append r.before past.front));
         text = r.text ∙ ap (λ l. r.before ++ l) past.text_is ∙ sym (append_assoc r.before past.front (chars later));
-        walk = Walks-append Step 0 0 0 r.before past.front r.walk (walk_past P each past.front past.passed);
+        walk = Walks-append Step None 0 0 0 r.before past.front r.walk (walk_past P each (last_behind None r.before) past.front past.passed);
         utf8 = past.utf8;
       }
 
+  -- what goes on from there goes on from here
+  pub WalksOn-both : (text here rest : List ℕ) (low middle next : ℕ) → WalksOn Step text here low middle → WalksOn Step here rest middle next → WalksOn Step text rest low next
+  WalksOn-both text here rest low middle next first then s last behind walked =
+      let one = first s last behind walked in
+      then s one.0 one.1.0 one.1.1
+
+  pub WalksOn-start : (text : List ℕ) (low : ℕ) → WalksOn Step text text low low
+  WalksOn-start text low s last behind walked = (last, (behind, walked))
+
 -- ASCII that stays leads from any class to 0
-pub ascii_follows : (least : ℕ) (blocks steps : List ℕ) (form : Form) → least ≤ 255 → IsAsciiStaying blocks steps → (last c : ℕ) → c < 128 → Follows least blocks steps form last c 0
+pub ascii_follows : (least : ℕ) (blocks steps : List ℕ) (form : Form) → least ≤ 255 → IsAsciiStaying blocks steps → (last c : ℕ) → c < 128 → FollowsByStep least blocks steps form last c 0
 ascii_follows least blocks steps form le ascii last c lt =
     let whole : step_in form (get_or steps (word_place blocks c) 0) ≡ 255 = ap (step_in form) (ascii c lt) ∙ own_under form in
     (omega arith, omega (arith, whole, le), inl (omega (arith, whole), inr whole))
 
-pub following-stop : (least : ℕ) (blocks steps : List ℕ) (form : Form) (s rest : List ℕ) (last n : ℕ) → IsWalkedTo (Follows least blocks steps form) s rest last → n ≡ length s - length rest → AreFollowing least blocks steps form s n
-following-stop least blocks steps form s rest last n r is =
+pub following-stop : (v : VersionData) (least : ℕ) (blocks steps : List ℕ) (form : Form) (s rest : List ℕ) (last n : ℕ) → IsWalkedTo (Follows v least blocks steps form) s rest last → n ≡ length s - length rest → AreFollowing v least blocks steps form s n
+following-stop v least blocks steps form s rest last n r is =
     record {
       front = r.before;
       back = rest;
@@ -97,6 +106,33 @@ following-stop least blocks steps form s rest last n r is =
       place = omega (arith, is, ap length r.bytes, length-append (encode_utf8_all r.before) rest);
     }
 
+-- ---- behind what was walked over
+
+module _ (Step : Option ℕ → ℕ → ℕ → ℕ → Type 0) (s rest : List ℕ) (last : ℕ) (r : IsWalkedTo Step s rest last) where
+  pub walked-shorter : length rest ≤ length s
+  walked-shorter = omega (arith, ap length r.bytes, length-append (encode_utf8_all r.before) rest)
+
+  walked-place : length (encode_utf8_all r.before) ≡ length s - length rest
+  walked-place = omega (arith, ap length r.bytes, length-append (encode_utf8_all r.before) rest)
+
+  pub walked-seam : IsCharBoundary s (length s - length rest)
+  walked-seam = subst (IsCharBoundary s) walked-place (IsCharBoundary-at_seam s (encode_utf8_all r.before) rest r.bytes r.utf8)
+
+  -- the text before is what was walked over
+  pub walked-front : (front : List ℕ) → IsUtf8 s → front ≡ slice_range s 0 (length s - length rest) → chars front ≡ r.before
+  walked-front front utf8 is =
+      let n = length s - length rest in
+      let spelled : encode_utf8_all r.before ≡ take n s = sym (ap (take n) r.bytes ∙ take_at (encode_utf8_all r.before) rest n walked-place) in
+      let whole : n - 0 ≡ n = omega arith in
+      ap chars (is ∙ ap (λ k. take k s) whole) ∙ sym (chars_from_encodes r.before (take n s) (IsUtf8-take s n utf8 walked-seam) spelled)
+
+-- one code point more, which goes into nothing
+pub walked-apart : (v : VersionData) (least : ℕ) (blocks steps : List ℕ) (form : Form) (s here later front : List ℕ) (last low next : ℕ) → last ≤ low → (r : IsWalkedTo (Follows v least blocks steps form) s here last) → front ≡ r.before
+    → PassesApart v form front here later low next → (n : ℕ) × ((n ≤ next) × IsWalkedTo (Follows v least blocks steps form) s later n)
+walked-apart v least blocks steps form s here later front last low next behind r same passes =
+    let on = passes.follows last behind in
+    (on.0, (on.1, IsWalkedTo-next (Follows v least blocks steps form) s here last passes.first later on.0 r passes.parts (inr (subst (λ l. FollowsApart v form (last_behind None l) last passes.first on.0) same on.2))))
+
 -- ---- a non-starter for which nothing is lent has no mapping
 
 plain_non_starter : (v : VersionData) (c : ℕ) → 0 < class_of v c → (has_hangul v && is_syllable c) ≡ false
@@ -106,7 +142,7 @@ plain_non_starter v c non_starter =
       | inr off ↦ off
     ]
 
-final-lent : (v : VersionData) (compat : Bool) (c : ℕ) → table_full v compat c ≡ [] → (has_hangul v && is_syllable c) ≡ false → is_final v compat c ≡ true
+pub final-lent : (v : VersionData) (compat : Bool) (c : ℕ) → table_full v compat c ≡ [] → (has_hangul v && is_syllable c) ≡ false → is_final v compat c ≡ true
 unfolding table_full
 final-lent v compat c none plain =
     elim (cases_Bool (is_final v compat c)) [
@@ -148,8 +184,8 @@ module _ (v u : VersionData) (same : u ≡ v) (lists : FullLists) (blocks : List
       ap (λ l. step_in form (get_or l (word_place blocks c) 0)) are_steps
       ∙ ap (step_in form) (get_or-map steps_of words (word_place blocks c) no_word 0 (place-within blocks (length words) pages.within c lt)) ∙ step_at form _
 
-  step_follows : (least last c n : ℕ) → Follows least blocks steps form last c n → MayFollow u form last c n
-  step_follows least last c n h =
+  step_follows : (least : ℕ) (before : Option ℕ) (last c n : ℕ) → FollowsByStep least blocks steps form last c n → MayFollow u form before last c n
+  step_follows least before last c n h =
       let w = get_or words (word_place blocks c) no_word in
       let word = pages.each c h.0 in
       let read = step_read c h.0 in
@@ -170,7 +206,7 @@ module _ (v u : VersionData) (same : u ≡ v) (lists : FullLists) (blocks : List
               | inr inert ↦
                   let non_starter : 0 < class_of u c = omega (arith, word.class, inert.0, read, goes.0) in
                   let none = sym (word.slot.lent compat) ∙ ap (λ k. get_or (of_kind compat lists) k []) inert.1 ∙ pages.none compat in
-                  inr (
+                  inr (inl (
                     record {
                       non_starter = non_starter;
                       unmapped = final-lent u compat c none (plain_non_starter u c non_starter);
@@ -178,27 +214,37 @@ module _ (v u : VersionData) (same : u ≡ v) (lists : FullLists) (blocks : List
                     },
                     goes.2 ∙ read ∙ sym inert.0 ∙ word.class,
                     goes.3,
-                  )
+                  ))
             ]
       ]
 
-  -- above the least step of what is not assigned each is
-  walk-assigned : (least last end : ℕ) (cs : List ℕ) → 2 ≤ least → Walks (Follows least blocks steps form) last cs end → list_all (is_assigned u) cs ≡ true
-  walk-assigned least last end [] two walk = refl
-  walk-assigned least last end (c ∷ cs) two walk =
-      let h = walk.1 in
-      let w = get_or words (word_place blocks c) no_word in
-      and_from (is_assigned u c) (list_all (is_assigned u) cs) (sym (pages.each c h.0).assigned ∙ step_assigned form w (omega (arith, two, h.1, step_read c h.0))) (walk-assigned least walk.0 end cs two walk.2)
+  follows_is : (least : ℕ) (before : Option ℕ) (last c n : ℕ) → Follows u least blocks steps form before last c n → MayFollow u form before last c n
+  follows_is least before last c n h = elim h [ inl by_step ↦ step_follows least before last c n by_step | inr apart ↦ inr (inr (apart.0, apart.1, apart.2)) ]
 
-  pub following-assigned : (least : ℕ) (text : List ℕ) (n : ℕ) → 2 ≤ least → IsUtf8 text → AreFollowing least blocks steps form text n → list_all (is_assigned v) (chars (take n text)) ≡ true
+  follows-assigned : (least : ℕ) (before : Option ℕ) (last c n : ℕ) → 2 ≤ least → Follows u least blocks steps form before last c n → is_assigned u c ≡ true
+  follows-assigned least before last c n two h =
+      elim h [
+        | inl by_step ↦
+            let w = get_or words (word_place blocks c) no_word in
+            sym (pages.each c by_step.0).assigned ∙ step_assigned form w (omega (arith, two, by_step.1, step_read c by_step.0))
+        | inr apart ↦ apart.3
+      ]
+
+  -- above the least step of what is not assigned each is
+  walk-assigned : (least : ℕ) (before : Option ℕ) (last end : ℕ) (cs : List ℕ) → 2 ≤ least → Walks (Follows u least blocks steps form) before last cs end → list_all (is_assigned u) cs ≡ true
+  walk-assigned least before last end [] two walk = refl
+  walk-assigned least before last end (c ∷ cs) two walk =
+      and_from (is_assigned u c) (list_all (is_assigned u) cs) (follows-assigned least before last c walk.0 two walk.1) (walk-assigned least (Some c) walk.0 end cs two walk.2)
+
+  pub following-assigned : (least : ℕ) (text : List ℕ) (n : ℕ) → 2 ≤ least → IsUtf8 text → AreFollowing u least blocks steps form text n → list_all (is_assigned v) (chars (take n text)) ≡ true
   following-assigned least text n two utf8 are =
       let front = encode_utf8_all are.front in
       let at : IsCharBoundary text n = subst (IsCharBoundary text) (sym are.place) (IsCharBoundary-at_seam text front are.back are.split are.utf8) in
       let spelled : front ≡ take n text = sym (ap (take n) are.split ∙ take_at front are.back n (sym are.place)) in
       let its : are.front ≡ chars (take n text) = chars_from_encodes are.front (take n text) (IsUtf8-take text n utf8 at) spelled in
-      subst (λ x. list_all (is_assigned x) (chars (take n text)) ≡ true) same (ap (list_all (is_assigned u)) (sym its) ∙ walk-assigned least 0 are.end are.front two are.walk)
+      subst (λ x. list_all (is_assigned x) (chars (take n text)) ≡ true) same (ap (list_all (is_assigned u)) (sym its) ∙ walk-assigned least None 0 are.end are.front two are.walk)
 
-  pub following-standing : (least : ℕ) (text : List ℕ) (n : ℕ) → AreFollowing least blocks steps form text n → AreStanding v form text n
+  pub following-standing : (least : ℕ) (text : List ℕ) (n : ℕ) → AreFollowing u least blocks steps form text n → AreStanding v form text n
   following-standing least text n are =
       record {
         front = are.front;
@@ -207,6 +253,6 @@ module _ (v u : VersionData) (same : u ≡ v) (lists : FullLists) (blocks : List
         split = are.split;
         text = are.text;
         utf8 = are.utf8;
-        walk = subst (λ x. Walks (MayFollow x form) 0 are.front are.end) same (Walks-weaker (Follows least blocks steps form) (MayFollow u form) (step_follows least) 0 are.end are.front are.walk);
+        walk = subst (λ x. Walks (MayFollow x form) None 0 are.front are.end) same (Walks-weaker (Follows u least blocks steps form) (MayFollow u form) (follows_is least) None 0 are.end are.front are.walk);
         place = are.place;
       }

@@ -34,6 +34,7 @@ mod row_places;
 mod row_table;
 mod spelled;
 mod spellings;
+mod standing_apart;
 mod standing_runs;
 mod steps;
 mod syllables;

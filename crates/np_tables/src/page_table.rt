@@ -150,7 +150,9 @@ impl NormTable for PageTable {
 
     fn standing(&self, form: Form, assigned: bool, text: &str) -> usize {
         standing_front(
+            &self.version,
             &self.index,
+            &self.words,
             &self.steps,
             self.ascii,
             least_step(assigned),

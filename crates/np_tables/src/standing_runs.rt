@@ -1,12 +1,18 @@
 //! Runs of code points that may stand in a normal form one behind the other as they are: those that
-//! stay, and behind them non-starters in canonical order that compose with nothing.
-ghost use Rattle.std.specs.Prelude.{◌≡◌, ◌<◌, ◌≤◌, ℕ, length, true, IfSome};
-ghost use Rattle.np_tables.specs.inside.PageWords.{AreFollowing, Follows, IsAsciiStaying, IsPast, WalksOn};
+//! stay, and behind them non-starters in canonical order that compose with nothing, or go into nothing
+//! where they stand.
+ghost use Rattle.std.specs.Prelude.{◌≡◌, ◌<◌, ◌≤◌, ℕ, length, true, IfSome, IsUtf8};
+ghost use Rattle.np_tables.specs.Versions.{VersionData};
+ghost use Rattle.np_tables.specs.inside.FullLists.{FullLists};
+ghost use Rattle.np_tables.specs.inside.PageWords.{AreFollowing, ArePages, Follows, FollowsByStep, IsAsciiStaying, IsPast, WalksOn};
 ghost use Rattle.np_tables.specs.inside.Pages.{AreWithin};
 
 use crate::ascii_runs::ascii_front;
+use crate::page_words::Word;
+use crate::standing_apart::pass_apart;
 use crate::steps::{low_behind, step_at, step_place};
 use crate::utf8_fronts::{split_three, split_two};
+use crate::version::Version;
 use np_code_points::Form;
 
 /// Whether a text begins with ASCII. On this no answer depends.
@@ -37,7 +43,7 @@ fn low_past(blocks: &[u16], steps: &[u32], least: u8, low: u8, form: Form, c: ch
     requires some { 1 ≤ least }
     requires low { least ≤ low }
     ensures least { IfSome result (λ next. least ≤ next) }
-    ensures follows { IfSome result (λ next. (last : ℕ) → last ≤ low → (n : ℕ) × ((n ≤ next) × Follows least blocks.now steps.now form last c n)) }
+    ensures follows { IfSome result (λ next. (last : ℕ) → last ≤ low → (n : ℕ) × ((n ≤ next) × FollowsByStep least blocks.now steps.now form last c n)) }
 {
     let step = step_at(blocks, steps, step_place(form), c);
     if step < low {
@@ -63,8 +69,9 @@ fn pass_next<'a>(
     requires some { 1 ≤ least }
     requires low { least ≤ low }
     ensures least { IfSome result (λ cut. least ≤ cut.0) }
-    ensures walks { IfSome result (λ cut. WalksOn (Follows least blocks.now steps.now form) text.now cut.1.now low cut.0) }
+    ensures walks { IfSome result (λ cut. (v : VersionData) → WalksOn (Follows v least blocks.now steps.now form) text.now cut.1.now low cut.0) }
     ensures shorter { IfSome result (λ cut. length cut.1.now < length text.now) }
+    ensures utf8 { IfSome result (λ cut. IsUtf8 cut.1.now) }
 {
     if let Some((c, later)) = split_three(text) {
         let next = low_past(blocks, steps, least, low, form, c)?;
@@ -87,30 +94,68 @@ fn pass_next<'a>(
     Some((next, iter.as_str()))
 }
 
-/// How many bytes at the front of a text are code points that may follow one another as they are, each
-/// of them of a step that is no less than `least`. `ascii` tells that all ASCII stays, which is then passed
-/// in steps.
-pub(crate) fn standing_front(
+/// Passes the code points at the front of a text that by their steps may follow one another as they are, the
+/// first of them behind a step of `low`. Answers the least step that may follow, and what stands behind them.
+/// `ascii` tells that all ASCII stays, which is then passed in steps.
+#[inline(always)]
+fn pass_by_steps<'a>(
     blocks: &[u16],
+    steps: &[u32],
+    ascii: bool,
+    least: u8,
+    low: u8,
+    form: Form,
+    text: &'a str,
+) -> (u8, &'a str)
+    requires within { AreWithin 4352 blocks.now (length steps.now) }
+    requires ascii { ascii ≡ true → IsAsciiStaying blocks.now steps.now }
+    requires some { 1 ≤ least }
+    requires low { least ≤ low }
+    ensures least { least ≤ result.0 }
+    ensures walks { (v : VersionData) → WalksOn (Follows v least blocks.now steps.now form) text.now result.1.now low result.0 }
+    ensures front { length result.1.now ≤ length text.now }
+{
+    let mut rest = text;
+    let mut now = low;
+    'scan: loop {
+        let Some((next, later)) = pass_next(blocks, steps, ascii, least, now, form, rest) else {
+            return (now, rest);
+        };
+        now = next;
+        rest = later;
+    }
+}
+
+/// How many bytes at the front of a text are code points that may follow one another as they are, each
+/// of them of a step that is no less than `least`, or one that goes into nothing behind the one before.
+pub(crate) fn standing_front(
+    version: &Version,
+    blocks: &[u16],
+    words: &[Word],
     steps: &[u32],
     ascii: bool,
     least: u8,
     form: Form,
     text: &str,
 ) -> usize
+    requires pages { (lists : FullLists) × ArePages version.now lists blocks.now words.now }
     requires within { AreWithin 4352 blocks.now (length steps.now) }
     requires ascii { ascii ≡ true → IsAsciiStaying blocks.now steps.now }
     requires some { 1 ≤ least }
-    ensures { AreFollowing least blocks.now steps.now form text.now result }
+    ensures { AreFollowing version.now least blocks.now steps.now form text.now result }
 {
     let mut rest = text;
     // the least step that may follow
     let mut low = least;
     'scan: loop {
-        let Some((next, later)) = pass_next(blocks, steps, ascii, least, low, form, rest) else {
-            return text.len() - rest.len();
+        let (next, here) = pass_by_steps(blocks, steps, ascii, least, low, form, rest);
+        let front = &text[..text.len() - here.len()];
+        let Some((behind, later)) =
+            pass_apart(version, blocks, words, least, next, form, front, here)
+        else {
+            return front.len();
         };
-        low = next;
+        low = behind;
         rest = later;
     }
 }

@@ -1,5 +1,5 @@
 -- What a table of pages keeps for a code point.
-use Rattle.std.specs.Prelude.{◌≡◌, ℕ, ◌+◌, ◌<◌, ◌≤◌, ◌⊎◌, ◌&&◌, nat_le, not, Bool, true, false, List, [], ◌∷◌, ◌++◌, length, map, slice_get, slice_index, slice_index_or, chars, encode_utf8_all, All, IsUtf8, Some}
+use Rattle.std.specs.Prelude.{◌≡◌, ℕ, ◌+◌, ◌<◌, ◌≤◌, ◌⊎◌, ◌&&◌, nat_le, not, Bool, true, false, List, [], ◌∷◌, ◌++◌, Option, None, length, map, slice_get, slice_index, slice_index_or, chars, encode_utf8, encode_utf8_all, All, IsUtf8, Some}
 use Rattle.np_ucd.specs.Entries.{Entry}
 use Rattle.np_code_points.specs.Hangul.{is_syllable}
 use Rattle.np_tables.specs.Versions.{VersionData, class_of, entry_at, has_hangul, is_assigned}
@@ -12,7 +12,7 @@ use Rattle.np_tables.specs.inside.FullDecompositions.{table_full}
 use Rattle.np_tables.specs.inside.FullLists.{FullLists, of_kind}
 use Rattle.np_tables.specs.inside.FullParts.{AreParts, part_of}
 use Rattle.np_code_points.specs.declared.forms.Form.{Form}
-use Rattle.np_tables.specs.Standing.{AreWalked, Walks}
+use Rattle.np_tables.specs.Standing.{AreWalked, StandsApart, Walks}
 use Rattle.np_tables.specs.inside.PageHints.{AreBits}
 use Rattle.np_tables.specs.inside.Pages.{AreWithin, word_place}
 use Rattle.np_tables.specs.inside.Steps.{step_in}
@@ -126,16 +126,21 @@ pub record IsPast (P : ℕ → Type 0) (text rest : List ℕ) : Type 0 where
   pub utf8 : IsUtf8 rest
   pub passed : All P front
 
+-- the last code point of a list, or else the one before it
+abbrev pub last_behind : Option ℕ → List ℕ → Option ℕ
+last_behind before [] = before
+last_behind before (c ∷ cs) = last_behind (Some c) cs
+
 -- what was read of a text is a walk from 0 to `last`, and `rest` is left
-pub record IsWalkedTo (Step : ℕ → ℕ → ℕ → Type 0) (s rest : List ℕ) (last : ℕ) : Type 0 where
+pub record IsWalkedTo (Step : Option ℕ → ℕ → ℕ → ℕ → Type 0) (s rest : List ℕ) (last : ℕ) : Type 0 where
   pub before : List ℕ
   pub bytes : s ≡ encode_utf8_all before ++ rest
   pub text : chars s ≡ before ++ chars rest
-  pub walk : Walks Step 0 before last
+  pub walk : Walks Step None 0 before last
   pub utf8 : IsUtf8 rest
 
 -- each walk to a text that leads to no more than `low` goes on to `rest`, and leads to no more than `next`
-abbrev pub WalksOn : (ℕ → ℕ → ℕ → Type 0) → List ℕ → List ℕ → ℕ → ℕ → Type 0
+abbrev pub WalksOn : (Option ℕ → ℕ → ℕ → ℕ → Type 0) → List ℕ → List ℕ → ℕ → ℕ → Type 0
 WalksOn Step text rest low next = (s : List ℕ) (last : ℕ) → last ≤ low → IsWalkedTo Step s text last → (n : ℕ) × ((n ≤ next) × IsWalkedTo Step s rest n)
 
 -- by its step a code point may stand behind code points of classes up to `last`, and then the classes are up to n: one that
@@ -144,13 +149,27 @@ abbrev pub StepFollows : ℕ → ℕ → ℕ → Type 0
 StepFollows step last n = ((254 ≤ step) × ((n ≡ 254) ⊎ (step ≡ 255))) ⊎ ((0 < step) × (step < 254) × (n ≡ step) × (last ≤ n))
 
 -- the step is no less than the least one
-abbrev pub Follows : ℕ → List ℕ → List ℕ → Form → ℕ → ℕ → ℕ → Type 0
-Follows least blocks steps form last c n =
+abbrev pub FollowsByStep : ℕ → List ℕ → List ℕ → Form → ℕ → ℕ → ℕ → Type 0
+FollowsByStep least blocks steps form last c n =
     (c < 0x110000) × (least ≤ step_in form (slice_index_or steps (word_place blocks c) 0)) × StepFollows (step_in form (slice_index_or steps (word_place blocks c) 0)) last n
 
--- by their steps the code points in the first n bytes of a text may follow one another as they are
-abbrev pub AreFollowing : ℕ → List ℕ → List ℕ → Form → List ℕ → ℕ → Type 0
-AreFollowing least blocks steps form = AreWalked (Follows least blocks steps form)
+-- an assigned code point goes into nothing right behind the one before
+abbrev pub FollowsApart : VersionData → Form → Option ℕ → ℕ → ℕ → ℕ → Type 0
+FollowsApart v form before last c n = StandsApart v form before c × (n ≡ class_of v c) × ((n ≡ 0) ⊎ (last ≤ n)) × (is_assigned v c ≡ true)
+
+-- the first code point of a text is one that does behind the code points `front`: from no more than `low` it leads to no more than `next`
+pub record PassesApart (v : VersionData) (form : Form) (front text rest : List ℕ) (low next : ℕ) : Type 0 where
+  pub first : ℕ
+  pub parts : text ≡ encode_utf8 first ++ rest
+  pub follows : (last : ℕ) → last ≤ low → (n : ℕ) × (n ≤ next) × FollowsApart v form (last_behind None front) last first n
+
+-- either of the two
+abbrev pub Follows : VersionData → ℕ → List ℕ → List ℕ → Form → Option ℕ → ℕ → ℕ → ℕ → Type 0
+Follows v least blocks steps form before last c n = FollowsByStep least blocks steps form last c n ⊎ FollowsApart v form before last c n
+
+-- the first n bytes of a text are code points that may follow one another as they are
+abbrev pub AreFollowing : VersionData → ℕ → List ℕ → List ℕ → Form → List ℕ → ℕ → Type 0
+AreFollowing v least blocks steps form = AreWalked (Follows v least blocks steps form)
 
 -- all ASCII stays under every form, and is its own full decomposition
 abbrev pub IsAsciiStaying : List ℕ → List ℕ → Type 0

@@ -1,24 +1,34 @@
-use Rattle.std.proofs.Common.{◌≡◌, subst, ◌∙◌, arith}
+use Rattle.std.proofs.Common.{◌≡◌, sym, subst, ◌∙◌, arith}
 use Rattle.std.proofs.lemmas.Bool.{cond-true}
-use Rattle.np_tables.specs.inside.PageWords.{AreFollowing}
+use Rattle.np_tables.specs.inside.PageWords.{AreFollowing, ArePages}
 use Rattle.np_tables.proofs.StandingLemmas.{following-assigned, following-standing}
 use Rattle.np_tables.proofs.page_table.PageTableNormTable.standing.Goals as goal
+
+pub standing_front-requires-clause-pages : goal.standing_front-requires-clause-pages
+standing_front-requires-clause-pages c =
+    let fields = c.self.inside in (
+      fields.fulls,
+      subst (λ i. ArePages fields.version fields.fulls i c.deref-2.result.now) (sym c.deref.ensures.value)
+          (subst (λ w. ArePages fields.version fields.fulls fields.index.items w) (sym c.deref-2.ensures.value) c.self.invariant.pages),
+    )
 
 pub returns-clause-standing : goal.returns-clause-standing
 returns-clause-standing c =
     let fields = c.self.inside in
+    let u = fields.version in
     let text = c.args.text.now in
     let n = c.standing_front.result in
-    following-standing c.args.self.now fields.version c.self.view_is fields.fulls fields.index.items fields.words.items c.self.invariant.pages fields.steps.items fields.are_steps c.args.form c.least_step.result text n
-    (subst (λ i. AreFollowing c.least_step.result i fields.steps.items c.args.form text n) c.deref.ensures.value
-    (subst (λ w. AreFollowing c.least_step.result c.deref.result.now w c.args.form text n) c.deref-2.ensures.value c.standing_front.ensures))
+    following-standing c.args.self.now u c.self.view_is fields.fulls fields.index.items fields.words.items c.self.invariant.pages fields.steps.items fields.are_steps c.args.form c.least_step.result text n
+    (subst (λ i. AreFollowing u c.least_step.result i fields.steps.items c.args.form text n) c.deref.ensures.value
+    (subst (λ w. AreFollowing u c.least_step.result c.deref.result.now w c.args.form text n) c.deref-3.ensures.value c.standing_front.ensures))
 
 pub returns-clause-assigned : goal.returns-clause-assigned
 returns-clause-assigned c = λ on.
     let fields = c.self.inside in
+    let u = fields.version in
     let text = c.args.text.now in
     let n = c.standing_front.result in
     let two : c.least_step.result ≡ 2 = c.least_step.ensures ∙ cond-true _ _ _ on in
-    following-assigned c.args.self.now fields.version c.self.view_is fields.fulls fields.index.items fields.words.items c.self.invariant.pages fields.steps.items fields.are_steps c.args.form c.least_step.result text n (omega (arith, two)) c.utf8.text
-    (subst (λ i. AreFollowing c.least_step.result i fields.steps.items c.args.form text n) c.deref.ensures.value
-    (subst (λ w. AreFollowing c.least_step.result c.deref.result.now w c.args.form text n) c.deref-2.ensures.value c.standing_front.ensures))
+    following-assigned c.args.self.now u c.self.view_is fields.fulls fields.index.items fields.words.items c.self.invariant.pages fields.steps.items fields.are_steps c.args.form c.least_step.result text n (omega (arith, two)) c.utf8.text
+    (subst (λ i. AreFollowing u c.least_step.result i fields.steps.items c.args.form text n) c.deref.ensures.value
+    (subst (λ w. AreFollowing u c.least_step.result c.deref.result.now w c.args.form text n) c.deref-3.ensures.value c.standing_front.ensures))

@@ -1,0 +1,10 @@
+use Rattle.std.proofs.Common.{ℕ, ◌≤◌, length, IsUtf8}
+use Rattle.np_tables.specs.Versions.{VersionData}
+use Rattle.np_tables.specs.inside.PageWords.{Follows, WalksOn}
+use Rattle.np_tables.proofs.standing_runs.pass_by_steps.Given as goal
+
+abbrev pub invariant-scan : goal.invariant-scan
+invariant-scan l = (l.fn.least ≤ l.now) × ((v : VersionData) → WalksOn (Follows v l.fn.least l.blocks l.steps l.fn.form) l.text l.rest l.fn.low l.now) × (length l.rest ≤ length l.text) × IsUtf8 l.rest
+
+abbrev pub decreases-scan : goal.decreases-scan
+decreases-scan l = length l.rest

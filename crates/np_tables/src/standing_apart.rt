@@ -1,0 +1,95 @@
+//! Code points that compose with some others, and stand in a normal form as they are behind those with which
+//! they don't: an accent behind a letter that has no composite with it.
+ghost use Rattle.std.specs.Prelude.{◌≡◌, ◌<◌, ◌≤◌, ◌⊎◌, ℕ, None, Some, chars, length, IfSome, IsTrue};
+ghost use Rattle.np_tables.specs.Composites.{IsCompositeOf};
+ghost use Rattle.np_tables.specs.Versions.{class_of};
+ghost use Rattle.np_tables.specs.inside.FullLists.{FullLists};
+ghost use Rattle.np_tables.specs.inside.PageWords.{ArePages, PassesApart, last_behind};
+
+use crate::page_words::{Word, word_of};
+use crate::version::Version;
+use np_code_points::Form;
+use np_code_points::hangul::is_syllable;
+
+/// The last code point of a text, but of ASCII, with which most that compose at all have a composite.
+#[inline(always)]
+fn last_beyond_ascii(front: &str) -> Option<char>
+    ensures last { IfSome result (λ c. last_behind None (chars front.now) ≡ Some c) }
+    ensures scalar { IfSome result (λ c. c < 0x110000) }
+{
+    let mut iter = front.chars();
+    let last = iter.next_back()?;
+    // what is before it is a text, which the proof asks for
+    let _earlier = iter.as_str();
+    if last.is_ascii() { None } else { Some(last) }
+}
+
+/// The least step that may follow a code point of this class that goes into nothing, where it may follow a step
+/// of `low`: none where it is out of order.
+#[inline(always)]
+fn low_behind_class(least: u8, low: u8, class: u8) -> Option<u8>
+    requires { least ≤ low }
+    ensures least { IfSome result (λ next. least ≤ next) }
+    ensures order { IfSome result (λ next. (class ≡ 0) ⊎ (low ≤ class)) }
+    ensures class { IfSome result (λ next. class ≤ next) }
+{
+    if class == 0 {
+        return Some(least);
+    }
+    if class < low { None } else { Some(class) }
+}
+
+/// Whether a code point of this class goes into nothing right behind `kept`, which has the class `last`: that
+/// is a non-starter which blocks it, or a starter with which it has no composite.
+#[inline(always)]
+fn is_kept_apart(version: &Version, kept: char, last: u8, c: char, class: u8) -> bool
+    ensures { IsTrue result → last ≡ class_of version.now kept → class ≡ class_of version.now c →
+        ((0 < class_of version.now kept) × (class_of version.now c ≤ class_of version.now kept)) ⊎ ((class_of version.now kept ≡ 0) × ((p : ℕ) → ¬ (IsCompositeOf version.now kept c p))) }
+{
+    if last > 0 {
+        return class <= last;
+    }
+    match version.composite_of(kept, c) {
+        Some(_composite) => false,
+        None => true,
+    }
+}
+
+/// The least step that may follow the first code point of a text, and what stands behind that, where it may be
+/// a second part of composites, but goes into nothing behind the text `front`: none where that is not found.
+/// A step of `low` may follow that text.
+#[inline(never)]
+pub(crate) fn pass_apart<'a>(
+    version: &Version,
+    blocks: &[u16],
+    words: &[Word],
+    least: u8,
+    low: u8,
+    form: Form,
+    front: &str,
+    text: &'a str,
+) -> Option<(u8, &'a str)>
+    requires pages { (lists : FullLists) × ArePages version.now lists blocks.now words.now }
+    requires low { least ≤ low }
+    ensures least { IfSome result (λ cut. least ≤ cut.0) }
+    ensures apart { IfSome result (λ cut. PassesApart version.now form (chars front.now) text.now cut.1.now low cut.0) }
+    ensures shorter { IfSome result (λ cut. length cut.1.now < length text.now) }
+{
+    if !form.composes() {
+        return None;
+    }
+    let kept = last_beyond_ascii(front)?;
+    let mut iter = text.chars();
+    let c = iter.next()?;
+    let word = word_of(blocks, words, c);
+    // else the steps have told all
+    if word.apart || word.fulls != 0 || !word.assigned || is_syllable(c as u32) {
+        return None;
+    }
+    let next = low_behind_class(least, low, word.class)?;
+    let last = word_of(blocks, words, kept).class;
+    if !is_kept_apart(version, kept, last, c, word.class) {
+        return None;
+    }
+    Some((next, iter.as_str()))
+}
