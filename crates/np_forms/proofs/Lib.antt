@@ -6,6 +6,7 @@ pub mod ComposeLemmas
 pub mod ComposerLemmas
 pub mod CopyLemmas
 pub mod DecomposedLemmas
+pub mod ExchangedLemmas
 pub mod FormLemmas
 pub mod FrontLemmas
 pub mod HeldLemmas

@@ -127,21 +127,22 @@ fn fold_segment<'a, T: NormTable>(table: &T, form: Form, text: &'a str) -> Optio
 
 /// Whether the first code point of a text has no fewer bytes than these. On this no answer depends.
 #[inline(always)]
-fn is_first_all_of(text: &str, stood: usize) -> bool {
+pub(crate) fn is_first_all_of(text: &str, stood: usize) -> bool {
     match text.chars().next() {
         Some(c) => stood <= c.len_utf8(),
         None => false,
     }
 }
 
-/// Appends the form of the first segment of a text, of which so many bytes stand as they are if a boundary
-/// follows them, and answers what follows the segment. The list is room that is used again.
+/// Appends the form of the first segment of a text, and answers what follows it. Where `single` is not told,
+/// what stands behind its first code point composes with nothing, and it is made in the list at once. The list
+/// is room that is used again.
 pub(crate) fn write_first<'a, T: NormTable>(
     alloc: Global,
     table: &T,
     form: Form,
     text: &'a str,
-    stood: usize,
+    single: bool,
     list: &mut Vec<Classed>,
     out: &mut OutText,
 ) -> Result<&'a str, Memory>
@@ -149,8 +150,7 @@ pub(crate) fn write_first<'a, T: NormTable>(
     ensures goes { IfOk result (λ rest. GoesOn (T.model table.now) form text.now rest.now out.old out.new) }
     ensures shorter { IfOk result (λ rest. 0 < length text.now → length rest.now < length text.now) }
 {
-    // what stands behind the first code point composes with nothing
-    if is_first_all_of(text, stood) {
+    if single {
         if let Some((code, rest)) = fold_segment(table, form, text) {
             out.append_char(code)?;
             return Ok(rest);

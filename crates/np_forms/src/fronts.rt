@@ -6,8 +6,9 @@ ghost use Rattle.np_forms.specs.inside.Readings.{IsReadAssigned};
 ghost use Rattle.np_forms.specs.inside.Segments.{IsFirstSpelled};
 
 use crate::classes::Classed;
-use crate::composed_texts::write_first;
+use crate::composed_texts::{is_first_all_of, write_first};
 use crate::copying::{begins_at_boundary, split_standing, write_next};
+use crate::exchanged_texts::write_exchanged;
 use crate::out_texts::OutText;
 use crate::syllable_texts::{begins_as_jamo, join_syllables, write_syllables};
 use np_code_points::{Form, Memory};
@@ -69,8 +70,15 @@ fn write_changed<'a, T: NormTable>(
     if after.len() < text.len() {
         return Ok((after, after));
     }
+    let single = is_first_all_of(after, stood);
+    if !single {
+        // a second one stands, and mostly the third is out of order
+        if let Some(later) = write_exchanged(table, form, after, out)? {
+            return Ok((after, later));
+        }
+    }
     let later = if form.composes() {
-        write_first(alloc, table, form, after, stood, list, out)?
+        write_first(alloc, table, form, after, single, list, out)?
     } else {
         write_next(alloc, table, form, after, list, out)?
     };

@@ -20,6 +20,7 @@ mod composing;
 mod copying;
 mod decomposing;
 mod equivalence;
+mod exchanged_texts;
 mod forms;
 mod fronts;
 mod held;
