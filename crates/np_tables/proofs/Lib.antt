@@ -3,6 +3,7 @@ pub mod AmbiguityLemmas
 pub mod AnswerLemmas
 pub mod ApartLemmas
 pub mod AsciiLemmas
+pub mod AsciiStandingLemmas
 pub mod CompositeLemmas
 pub mod CountLemmas
 pub mod DepthLemmas

@@ -166,7 +166,7 @@ module _ (v : VersionData) (sound : IsSound v) where
   decomposed_self Nfkc c stays = sym (named Nfkd c stays.boundary) ∙ stays.returns
 
   -- behind what is its own full decomposition any class may follow
-  up_to-own : (form : Form) (c n : ℕ) → Stays v (decomposing (is_compat form)) c → (stays : Stays v form c) → StaysUpTo v form c n
+  pub up_to-own : (form : Form) (c n : ℕ) → Stays v (decomposing (is_compat form)) c → (stays : Stays v form c) → StaysUpTo v form c n
   up_to-own form c n own stays =
       let whole = named form c stays.boundary ∙ decomposed_self form c own in
       let short : length stays.boundary.rest ≡ 0 = omega (arith, ap length whole) in
@@ -179,7 +179,7 @@ module _ (v : VersionData) (sound : IsSound v) where
 -- ---- what the steps say is so
 
 module _ (v u : VersionData) (same : u ≡ v) (lists : FullLists) (blocks : List ℕ) (words : List Word) (pages : ArePages u lists blocks words) (steps : List ℕ) (are_steps : steps ≡ all_steps words) (form : Form) where
-  step_read : (c : ℕ) → c < 0x110000 → step_in form (get_or steps (word_place blocks c) 0) ≡ step_of form (get_or words (word_place blocks c) no_word)
+  pub step_read : (c : ℕ) → c < 0x110000 → step_in form (get_or steps (word_place blocks c) 0) ≡ step_of form (get_or words (word_place blocks c) no_word)
   step_read c lt =
       ap (λ l. step_in form (get_or l (word_place blocks c) 0)) are_steps
       ∙ ap (step_in form) (get_or-map steps_of words (word_place blocks c) no_word 0 (place-within blocks (length words) pages.within c lt)) ∙ step_at form _

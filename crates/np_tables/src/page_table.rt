@@ -1,11 +1,13 @@
 //! The table of pages: one word for each code point in blocks of 256, one flat list of full
 //! decompositions, and one sorted list of pairs.
 ghost use Rattle.std.specs.Prelude.{◌≡◌, true, IfOk};
+ghost use Rattle.np_tables.specs.inside.Leads.{AreLeadsParting};
 ghost use Rattle.np_tables.specs.inside.PageWords.{ArePages, IsAsciiStaying};
 ghost use Rattle.np_tables.specs.inside.Spelled.{AreSpelled};
 ghost use Rattle.np_tables.specs.inside.Steps.{all_steps as spec_all_steps};
 
 use crate::fulls::Fulls;
+use crate::leads::are_leads_parting;
 use crate::page_hints::parts_place;
 use crate::page_slots::slots_of;
 use crate::page_words::{Word, page_words, row_words, second_rows, word_of};
@@ -42,8 +44,11 @@ pub struct PageTable {
     spelled: Spelled,
     /// Whether all ASCII stays under every form.
     ascii: bool,
+    /// Whether every form parts before each leading consonant of syllables.
+    leads: bool,
     ghost are_steps: { steps.items ≡ spec_all_steps words.items },
     ghost ascii_stays: { ascii ≡ true → IsAsciiStaying index.items steps.items },
+    ghost leads_part: { leads ≡ true → AreLeadsParting index.items words.items },
 }
 
 impl Model for PageTable {
@@ -89,6 +94,7 @@ impl PageTable {
         let (index, words, fulls, spelled) = pages_of(alloc, &version)?;
         let steps = all_steps(alloc, &words)?;
         let ascii = is_ascii_staying(&index, &steps);
+        let leads = are_leads_parting(&index, &words);
         Ok(PageTable {
             version,
             index,
@@ -97,6 +103,7 @@ impl PageTable {
             fulls,
             spelled,
             ascii,
+            leads,
         })
     }
 }
@@ -146,6 +153,14 @@ impl NormTable for PageTable {
             word_of(&self.index, &self.words, c).hints,
             parts_place(form),
         )
+    }
+
+    fn parts_before_leads(&self, _form: Form) -> bool {
+        self.leads
+    }
+
+    fn ascii_stands(&self, _form: Form) -> bool {
+        self.ascii
     }
 
     fn standing(&self, form: Form, assigned: bool, text: &str) -> usize {

@@ -1,19 +1,22 @@
 //! What normalization asks of a version.
 ghost use Rattle.std.specs.List.{list_all};
-ghost use Rattle.std.specs.Prelude.{◌≡◌, ℕ, true, take, chars, IfSome, IfNone, IsTrue};
+ghost use Rattle.std.specs.Prelude.{◌≡◌, ◌<◌, ◌≤◌, ℕ, true, take, chars, IfSome, IfNone, IsTrue};
 ghost use Rattle.np_code_points.specs.declared.forms.Form.{Form};
 ghost use Rattle.np_tables.specs.Boundaries.{IsBoundary};
 ghost use Rattle.np_tables.specs.Composites.{IsCompositeOf};
 ghost use Rattle.np_tables.specs.inside.CompositeSearch.{composite};
 ghost use Rattle.np_tables.specs.Conditions.{IsSound};
 ghost use Rattle.np_tables.specs.Mappings.{IsLent};
-ghost use Rattle.np_tables.specs.Standing.{AreStanding};
+ghost use Rattle.np_tables.specs.Standing.{AreStanding, StaysUpTo};
 ghost use Rattle.np_tables.specs.inside.FullDecompositions.{table_full};
 ghost use Rattle.np_tables.specs.inside.Spelled.{IsSpelled};
 ghost use Rattle.np_tables.specs.Versions.{VersionData, class_of, has_hangul, is_assigned};
 
 use crate::version::Version;
 use np_code_points::Form;
+
+/// What a table answers that knows nothing of a property.
+const UNKNOWN: bool = false;
 
 /// No byte at the front of a text: nothing stands there, whatever the version and the form are.
 fn claim_nothing(text: &str) -> usize
@@ -82,7 +85,28 @@ pub trait NormTable {
     {
         // the same
         let _unused = (form, c);
-        false
+        UNKNOWN
+    }
+
+    /// Whether a normal form is known to part before each leading consonant of Hangul syllables, as
+    /// `is_boundary` tells of one code point. A table may answer `false` where it does.
+    fn parts_before_leads(&self, form: Form) -> bool
+        ensures { IsTrue result → (c : ℕ) → 0x1100 ≤ c → c ≤ 0x1112 → IsBoundary (model self.now) form c }
+    {
+        // the same
+        let _unused = form;
+        UNKNOWN
+    }
+
+    /// Whether each ASCII character is known to be assigned and to stay in the form as it is, whatever it
+    /// stands between. A table may answer `false` where they do.
+    fn ascii_stands(&self, form: Form) -> bool
+        ensures assigned { IsTrue result → (c : ℕ) → c < 128 → is_assigned (model self.now) c ≡ true }
+        ensures stays { IsTrue result → (c : ℕ) → c < 128 → StaysUpTo (model self.now) form c 0 }
+    {
+        // the same
+        let _unused = form;
+        UNKNOWN
     }
 
     /// How many bytes at the front of a text are known to stand in the form as they are, if a
@@ -133,6 +157,14 @@ impl<T: NormTable> NormTable for &T {
 
     fn is_boundary(&self, form: Form, c: char) -> bool {
         (**self).is_boundary(form, c)
+    }
+
+    fn parts_before_leads(&self, form: Form) -> bool {
+        (**self).parts_before_leads(form)
+    }
+
+    fn ascii_stands(&self, form: Form) -> bool {
+        (**self).ascii_stands(form)
     }
 
     fn standing(&self, form: Form, assigned: bool, text: &str) -> usize {

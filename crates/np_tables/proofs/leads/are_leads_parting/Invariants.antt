@@ -1,0 +1,9 @@
+use Rattle.std.proofs.Common.{◌≡◌, ℕ, ◌+◌, ◌<◌, true, slice_index_or}
+use Rattle.np_code_points.specs.declared.forms.Form.{Form}
+use Rattle.np_tables.specs.inside.PageHints.{has_bit, parts_place}
+use Rattle.np_tables.specs.inside.PageWords.{no_word}
+use Rattle.np_tables.specs.inside.Pages.{word_place}
+use Rattle.np_tables.proofs.leads.are_leads_parting.Given as goal
+
+abbrev pub invariant-loop-lead : goal.invariant-loop-lead
+invariant-loop-lead l = (i : ℕ) → i < l.lead → (form : Form) → has_bit (slice_index_or l.words (word_place l.blocks (0x1100 + i)) no_word).hints (parts_place form) ≡ true
