@@ -30,6 +30,7 @@ pub mod SpelledLemmas
 pub mod StandingLemmas
 pub mod StreamLemmas
 pub mod StreamSafeLemmas
+pub mod SyllableFrontLemmas
 pub mod SyllableLemmas
 pub mod SyllableTextLemmas
 pub mod TextLemmas

@@ -59,7 +59,7 @@ module _ (v : VersionData) (compat : Bool) where
         ]
 
     module _ (on : has_hangul v ≡ true) where
-      full_of-jamo : (c : ℕ) → IsJamo c → full_of v compat c ≡ c ∷ []
+      pub full_of-jamo : (c : ℕ) → IsJamo c → full_of v compat c ≡ c ∷ []
       full_of-jamo c jamo =
           full_of-final v compat sound.shallow c (parts-cases v compat (λ l. is_empty l ≡ true) refl c (ap is_empty (jamo_bare v c on jamo)))
 

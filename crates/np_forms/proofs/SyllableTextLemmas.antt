@@ -1,36 +1,20 @@
 -- Syllables written as the bytes of their jamo.
-use Rattle.std.proofs.Common.{◌≡◌, ℕ, ◌+◌, ◌-◌, ◌*◌, ◌/◌, ◌%◌, ◌<◌, ◌≤◌, ◌≢◌, true, false, MatchBool, List, [], ◌∷◌, ◌++◌, length, get_or, chars, IsCharBoundary, IsUtf8, encode_utf8_all, drop, encode_utf8, inl, inr, refl, suc, sym, take, ap, subst, ◌∙◌, arith, append-nil}
+use Rattle.std.proofs.Common.{◌≡◌, ℕ, ◌+◌, ◌-◌, ◌*◌, ◌/◌, ◌%◌, ◌<◌, ◌≤◌, ◌≢◌, true, List, [], ◌∷◌, ◌++◌, length, get_or, chars, IsCharBoundary, IsUtf8, encode_utf8_all, drop, encode_utf8, inl, inr, refl, suc, sym, take, ap, subst, ◌∙◌, arith}
 use Rattle.std.proofs.lemmas.Bool.{and_from, cases_eq, le-leb, lt-ltb}
 use Rattle.std.proofs.Math.Seq.{take-suc}
 use Rattle.std.proofs.lemmas.List.{take-append-drop}
-use Rattle.std.proofs.lemmas.Str.{chars-append, chars-encodes, chars_past_char, IsCharBoundary-from_take, IsUtf8-drop, IsUtf8-past_char}
+use Rattle.std.proofs.lemmas.Str.{chars-append, chars-encodes, IsCharBoundary-from_take}
 use Rattle.std.specs.List.{list_all}
 use lib.Utf8.{low_scalar, scalar, scalars}
-use Rattle.np_code_points.specs.Forms.{is_compat, composes}
 use Rattle.np_code_points.specs.Hangul.{is_syllable}
-use Rattle.np_code_points.specs.declared.forms.Form.{Form}
 use Rattle.np_code_points.proofs.HangulLemmas.{among_bounds, pair_of_lv, pair_of_lvt}
 use Rattle.np_forms.specs.Assigned.{IsAssigned}
-use Rattle.np_forms.specs.inside.Copies.{BeginsAtBoundary, GoesOn}
-use Rattle.np_forms.specs.inside.NormalForms.{ended, normal_form}
-use Rattle.np_forms.specs.inside.Readings.{IsReadAssigned}
-use Rattle.np_forms.specs.inside.Segments.{IsFirstMade}
 use Rattle.np_forms.specs.inside.Syllables.{BeginsWithJamo, syllable_parts}
-use Rattle.np_forms.proofs.BoundaryLemmas.{ended-folds, is_ordered-never_falls}
-use Rattle.np_forms.proofs.CopyLemmas.{parts-at}
-use Rattle.np_forms.proofs.DecomposedLemmas.{IsClosed, closed-nil, closed-starter, form-closed, goes-made}
-use Rattle.np_forms.proofs.KeptLemmas.{decomposed-final}
-use Rattle.np_forms.proofs.StandingLemmas.{rises_from}
+use Rattle.np_forms.proofs.DecomposedLemmas.{IsClosed, closed-nil, closed-starter}
 use Rattle.np_tables.proofs.Utf8Lemmas.{encode_three}
-use Rattle.np_forms.proofs.SyllableLemmas.{full_of-syllable, syllable_parts-two, syllable_parts-three}
-use Rattle.np_tables.proofs.HangulLemmas.{IsJamo, by_arithmetic, leading_jamo, lv_shape, lvt_shape, syllable_hangul}
-use Rattle.np_tables.proofs.MappingLemmas.{IsFullDecomposition-full_of}
-use Rattle.np_tables.proofs.PageHintLemmas.{unfolds}
-use Rattle.np_tables.specs.Boundaries.{FoldsTo}
-use Rattle.np_tables.specs.Conditions.{IsSound}
-use Rattle.np_tables.specs.Mappings.{is_final}
+use Rattle.np_forms.proofs.SyllableLemmas.{syllable_parts-two, syllable_parts-three}
+use Rattle.np_tables.proofs.HangulLemmas.{IsJamo, by_arithmetic, lv_shape, lvt_shape, syllable_hangul}
 use Rattle.np_tables.specs.Versions.{VersionData, class_of, has_hangul, is_assigned}
-use Rattle.np_tables.specs.inside.FullDecompositions.{full_of}
 
 -- ---- characters of three bytes
 
@@ -179,18 +163,10 @@ module _ (text : List ℕ) (s n : ℕ) (begins : BeginsWithJamo text s n) where
       let scalar_parts = parts-scalars s begins.syllable in
       ap chars jamo-bytes ∙ chars-append (encode_utf8_all parts) (drop n text) (parts, (scalar_parts, refl)) ∙ ap (λ l. l ++ chars (drop n text)) (chars-encodes parts scalar_parts)
 
--- the jamo begin with the leading consonant
-pub parts-lead : (s : ℕ) (rest : List ℕ) → is_syllable s ≡ true → (later : List ℕ) × (syllable_parts s ++ rest ≡ (0x1100 + (s - 0xAC00) / 28 / 21) ∷ later)
-parts-lead s rest h =
-    elim (cases_eq ((s - 0xAC00) % 28) 0) [
-      | inl even ↦ (_, ap (λ l. l ++ rest) (parts-lv s h even))
-      | inr odd ↦ (_, ap (λ l. l ++ rest) (parts-lvt s h odd))
-    ]
-
 -- ---- nothing moves into a syllable's jamo
 
 module _ (v : VersionData) (on : has_hangul v ≡ true) where
-  jamo-starter : (c : ℕ) → IsJamo c → class_of v c ≡ 0
+  pub jamo-starter : (c : ℕ) → IsJamo c → class_of v c ≡ 0
   jamo-starter c jamo = (by_arithmetic v on c jamo.hangul).class
 
   jamo-assigned : (c : ℕ) → IsJamo c → is_assigned v c ≡ true
@@ -199,7 +175,7 @@ module _ (v : VersionData) (on : has_hangul v ≡ true) where
   pub syllable-assigned : (s : ℕ) → is_syllable s ≡ true → is_assigned v s ≡ true
   syllable-assigned s h = (by_arithmetic v on s (syllable_hangul s h)).assigned
 
-  parts-assigned : (s : ℕ) → is_syllable s ≡ true → IsAssigned v (syllable_parts s)
+  pub parts-assigned : (s : ℕ) → is_syllable s ≡ true → IsAssigned v (syllable_parts s)
   parts-assigned s h =
       let has = is_assigned v in
       elim (cases_eq ((s - 0xAC00) % 28) 0) [
@@ -215,18 +191,7 @@ module _ (v : VersionData) (on : has_hangul v ≡ true) where
             (and_from (has lv.vowel) (list_all has (shape.last ∷ [])) (jamo-assigned lv.vowel lv.second) (and_from (has shape.last) true (jamo-assigned shape.last shape.back) refl))
       ]
 
-  -- the jamo of a syllable are read
-  pub jamo-read : (text later : List ℕ) (s n : ℕ) → BeginsWithJamo text s n → later ≡ drop n text → IsReadAssigned v text later
-  jamo-read text later s n begins back =
-      record {
-        before = syllable_parts s;
-        bytes = jamo-bytes text s n begins ∙ ap (λ l. encode_utf8_all (syllable_parts s) ++ l) (sym back);
-        text = jamo-chars text s n begins ∙ ap (λ l. syllable_parts s ++ chars l) (sym back);
-        assigned = parts-assigned s begins.syllable;
-        utf8 = subst IsUtf8 (sym back) (IsUtf8-drop text n begins.utf8 (jamo-boundary text s n begins));
-      }
-
-  closed-parts : (s : ℕ) → is_syllable s ≡ true → IsClosed (class_of v) (syllable_parts s)
+  pub closed-parts : (s : ℕ) → is_syllable s ≡ true → IsClosed (class_of v) (syllable_parts s)
   closed-parts s h =
       let ccc = class_of v in
       elim (cases_eq ((s - 0xAC00) % 28) 0) [
@@ -241,40 +206,3 @@ module _ (v : VersionData) (on : has_hangul v ≡ true) where
             (closed-starter ccc lv.leading (lv.vowel ∷ shape.last ∷ []) (jamo-starter lv.leading lv.first)
             (closed-starter ccc lv.vowel (shape.last ∷ []) (jamo-starter lv.vowel lv.second) (closed-starter ccc shape.last [] (jamo-starter shape.last shape.back) (closed-nil ccc))))
       ]
-
-  pub goes-syllable : (form : Form) → IsSound v → composes form ≡ false → (text later : List ℕ) (s : ℕ) (old new : List ℕ) → IsUtf8 text → text ≡ encode_utf8 s ++ later → is_syllable s ≡ true → new ≡ old ++ encode_utf8_all (syllable_parts s) → GoesOn v form text later old new
-  goes-syllable form sound plain text later s old new utf8 begins h push =
-      goes-made v form text later (syllable_parts s) old new
-      (record {
-        end = record { front = encode_utf8 s; parts = begins; utf8 = IsUtf8-past_char text later s utf8 begins };
-        made = ap (normal_form v form) (chars_past_char text later s utf8 begins)
-            ∙ form-closed v sound form plain (s ∷ []) (syllable_parts s) (chars later) (append-nil (full_of v (is_compat form) s) ∙ full_of-syllable v (is_compat form) sound on s h) (closed-parts s h);
-      })
-      push
-
--- ---- jamo compose to the syllable that they spell
-
-module _ (v : VersionData) (sound : IsSound v) (on : has_hangul v ≡ true) (form : Form) (composing : composes form ≡ true) where
-  joins : (s : ℕ) → is_syllable s ≡ true → normal_form v form (syllable_parts s) ≡ s ∷ []
-  unfolding normal_form
-  joins s h =
-      let compat = is_compat form in
-      let is = unfolds v sound on compat s h in
-      let parts : syllable_parts s ≡ is.first ∷ is.rest = sym (full_of-syllable v compat sound on s h) ∙ is.full in
-      let starter : class_of v is.first ≡ 0 = jamo-starter v on is.first (leading_jamo is.first is.lead) in
-      let final : list_all (is_final v compat) (is.first ∷ is.rest) ≡ true = subst (λ l. list_all (is_final v compat) l ≡ true) is.full (IsFullDecomposition-full_of v compat sound.shallow s).final in
-      let ordered = is_ordered-never_falls (class_of v) (is.first ∷ is.rest) (rises_from v sound form is.first is.rest starter is.rises) in
-      ap (normal_form v form) parts ∙ ap (ended v (composes form)) (decomposed-final v sound compat (is.first ∷ is.rest) final ordered)
-      ∙ ended-folds v sound (composes form) is.first is.rest s starter (subst (λ b. MatchBool b (FoldsTo v is.first is.rest s) (is.first ∷ is.rest ≡ s ∷ [])) (sym composing) is.folds)
-
-  spelled-made : (text front later : List ℕ) (s : ℕ) → is_syllable s ≡ true → IsUtf8 later → text ≡ front ++ later → chars text ≡ syllable_parts s ++ chars later → BeginsAtBoundary v form (chars later) → IsFirstMade v form text later (s ∷ [])
-  spelled-made text front later s h utf8 parts is at =
-      record {
-        end = record { front = front; parts = parts; utf8 = utf8 };
-        made = ap (normal_form v form) is ∙ parts-at v sound form (syllable_parts s) (chars later) at ∙ ap (λ l. l ++ normal_form v form (chars later)) (joins s h);
-      }
-
-  pub front-made : (text later : List ℕ) (s n : ℕ) → BeginsWithJamo text s n → later ≡ drop n text → BeginsAtBoundary v form (chars later) → IsFirstMade v form text later (s ∷ [])
-  front-made text later s n begins back at =
-      spelled-made text (take n text) later s begins.syllable (subst IsUtf8 (sym back) (IsUtf8-drop text n begins.utf8 (jamo-boundary text s n begins)))
-      (sym (take-append-drop n text) ∙ ap (λ l. take n text ++ l) (sym back)) (jamo-chars text s n begins ∙ ap (λ l. syllable_parts s ++ chars l) (sym back)) at

@@ -55,7 +55,7 @@ fn trailing_index(a: u8, b: u8, c: u8) -> u32
 /// The syllable whose jamo some bytes begin with, and how many bytes they have. A trailing consonant
 /// that joins it is taken.
 #[inline(always)]
-pub(crate) fn jamo_front(bytes: &[u8]) -> Option<(char, usize)>
+pub(crate) fn jamo_front(bytes: &[u8]) -> Option<(u32, usize)>
     requires { 9 ≤ length bytes.now }
     ensures syllable { IfSome result (λ cut. in_block cut.0 ≡ true) }
     ensures some { IfSome result (λ cut. 0 < cut.1) }
@@ -65,7 +65,7 @@ pub(crate) fn jamo_front(bytes: &[u8]) -> Option<(char, usize)>
     let lead = leading_index(bytes[0], bytes[1], bytes[2])?;
     let vowel = vowel_index(bytes[3], bytes[4], bytes[5])?;
     let trailing = trailing_index(bytes[6], bytes[7], bytes[8]);
-    let syllable = char::from_u32(S_BASE + (lead * V_COUNT + vowel) * T_COUNT + trailing)?;
+    let syllable = S_BASE + (lead * V_COUNT + vowel) * T_COUNT + trailing;
     if trailing == 0 {
         return Some((syllable, TWO_JAMO));
     }

@@ -1,14 +1,13 @@
 //! Hangul syllables by arithmetic, decomposed straight into UTF-8 and made of the jamo that spell them
 //! (The Unicode Standard, section 3.12).
-ghost use Rattle.std.specs.Prelude.{◌≡◌, ◌+◌, ◌-◌, ◌/◌, ◌%◌, ◌<◌, ◌≤◌, ◌++◌, ◌∷◌, [], ℕ, List, true, false, length, chars, encode_utf8, encode_utf8_all, IfOk, IfSome, IsTrue, OnOk, Some};
+ghost use Rattle.std.specs.Prelude.{◌≡◌, ◌+◌, ◌/◌, ◌%◌, ◌<◌, ◌≤◌, ◌++◌, ◌∷◌, [], true, false, chars, encode_utf8, encode_utf8_all, IfOk, IfSome, IsTrue, OnOk};
 ghost use Rattle.np_code_points.specs.Forms.{composes};
 ghost use Rattle.np_code_points.specs.Hangul.{is_syllable as in_block};
-ghost use Rattle.np_forms.specs.inside.Copies.{BeginsAtBoundary, GoesOn, IsCopied, StandsAlone};
+ghost use Rattle.np_forms.specs.inside.Copies.{AsciiStandsAlone, BeginsAtBoundary, GoesOn, PartsBeforeLeads};
 ghost use Rattle.np_forms.specs.inside.Readings.{IsReadAssigned};
-ghost use Rattle.np_forms.specs.inside.Syllables.{BeginsWithJamo, syllable_parts};
+ghost use Rattle.np_forms.specs.inside.Syllables.{BeginsWithSyllable, syllable_parts};
 ghost use Rattle.np_tables.specs.Versions.{has_hangul};
 
-use crate::copying::begins_at_boundary;
 use crate::jamo_bytes::{THREE_JAMO, jamo_front};
 use crate::out_texts::OutText;
 use crate::utf8_bytes::{last_byte, lead_byte, middle_byte, three_bytes};
@@ -16,19 +15,13 @@ use np_code_points::hangul::{L_BASE, S_BASE, T_BASE, T_COUNT, V_BASE, V_COUNT, i
 use np_code_points::{Form, Memory};
 use np_tables::NormTable;
 
-/// The bytes that the UTF-8 of a leading consonant begins with, from the first to the last.
-const JAMO_LEADS: (u8, u8) = (0xE1, 0xE1);
-
-/// The same of a syllable.
-const SYLLABLE_LEADS: (u8, u8) = (0xEA, 0xED);
-
 /// Appends a syllable.
 #[inline(always)]
-fn push_joined(out: &mut OutText, c: char) -> Result<(), Memory>
-    requires { in_block c ≡ true }
-    ensures { OnOk result (out.new ≡ out.old ++ encode_utf8 c) }
+fn push_joined(out: &mut OutText, syllable: u32) -> Result<(), Memory>
+    requires { in_block syllable ≡ true }
+    ensures { OnOk result (out.new ≡ out.old ++ encode_utf8 syllable) }
 {
-    out.append_bytes(&three_bytes(c as u32))
+    out.append_bytes(&three_bytes(syllable))
 }
 
 /// Appends two characters of three bytes each.
@@ -73,11 +66,11 @@ fn push_three(out: &mut OutText, a: u32, b: u32, c: u32) -> Result<(), Memory>
 
 /// Appends the full decomposition of a syllable.
 #[inline(always)]
-fn push_syllable(out: &mut OutText, c: char) -> Result<(), Memory>
-    requires { in_block c ≡ true }
-    ensures { OnOk result (out.new ≡ out.old ++ encode_utf8_all (syllable_parts c)) }
+fn push_syllable(out: &mut OutText, syllable: u32) -> Result<(), Memory>
+    requires { in_block syllable ≡ true }
+    ensures { OnOk result (out.new ≡ out.old ++ encode_utf8_all (syllable_parts syllable)) }
 {
-    let index = c as u32 - S_BASE;
+    let index = syllable - S_BASE;
     let block = index / T_COUNT;
     let trailing = index % T_COUNT;
     let lead = L_BASE + block / V_COUNT;
@@ -86,24 +79,6 @@ fn push_syllable(out: &mut OutText, c: char) -> Result<(), Memory>
         push_two(out, lead, vowel)
     } else {
         push_three(out, lead, vowel, T_BASE + trailing)
-    }
-}
-
-/// Whether a text begins with ASCII. On this no answer depends.
-#[inline(always)]
-fn begins_with_ascii(text: &str) -> bool {
-    match text.as_bytes().first() {
-        Some(byte) => byte.is_ascii(),
-        None => false,
-    }
-}
-
-/// Whether a text begins with one of the bytes from the first to the last. On this no answer depends.
-#[inline(always)]
-fn begins_within(text: &str, (first, last): (u8, u8)) -> bool {
-    match text.as_bytes().first() {
-        Some(byte) => first <= *byte && *byte <= last,
-        None => false,
     }
 }
 
@@ -116,95 +91,113 @@ pub(crate) fn begins_as_jamo(text: &str) -> bool {
     }
 }
 
-/// Whether a code point is the one that is known.
+/// Whether a text begins as precomposed syllables do. On this no answer depends.
 #[inline(always)]
-fn is_known(known: Option<char>, c: char) -> bool
-    ensures { IsTrue result → known ≡ Some c }
-{
-    match known {
-        Some(it) => it == c,
+fn begins_as_syllable(text: &str) -> bool {
+    match text.as_bytes().first() {
+        Some(byte) => 0xEA <= *byte && *byte <= 0xED,
         None => false,
     }
 }
 
-/// Whether a character is assigned, the form parts before it, and it stands in the form as it is if that
-/// parts behind it too.
-fn stands_alone<T: NormTable>(table: &T, form: Form, text: &str, c: char) -> bool
-    requires { text.now ≡ encode_utf8 c }
-    ensures { IsTrue result → StandsAlone (T.model table.now) form c }
-{
-    table.meets_conditions();
-    if !table.is_boundary(form, c) || table.standing(form, true, text) < text.len() {
-        return false;
-    }
-    true
-}
-
-/// The same, but that nothing is looked up for the character that is known to.
+/// The precomposed syllable that a text begins with, and what follows it.
 #[inline(always)]
-fn is_alone<T: NormTable>(table: &T, form: Form, text: &str, c: char, known: Option<char>) -> bool
-    requires text { text.now ≡ encode_utf8 c }
-    requires known { IfSome known (λ c. StandsAlone (T.model table.now) form c) }
-    ensures { IsTrue result → StandsAlone (T.model table.now) form c }
+fn precomposed_front(text: &str) -> Option<(u32, &str)>
+    ensures { IfSome result (λ cut. BeginsWithSyllable text.now cut.1.now cut.0) }
 {
-    if is_known(known, c) {
-        return true;
-    }
-    stands_alone(table, form, text, c)
-}
-
-/// The ASCII character that a text begins with, and what follows it, where it stands alone and the form
-/// parts behind it. None where what follows begins with none of the bytes from the first to the last: only
-/// words of these go on. `known` is a character that was found to stand alone.
-#[inline(always)]
-fn split_space<'a, T: NormTable>(
-    table: &T,
-    form: Form,
-    text: &'a str,
-    leads: (u8, u8),
-    known: Option<char>,
-) -> Option<(char, &'a str)>
-    requires known { IfSome known (λ c. StandsAlone (T.model table.now) form c) }
-    ensures copied { IfSome result (λ cut. IsCopied (T.model table.now) form text.now (encode_utf8 cut.0) cut.1.now) }
-    ensures alone { IfSome result (λ cut. StandsAlone (T.model table.now) form cut.0) }
-{
-    if !begins_with_ascii(text) {
+    if !begins_as_syllable(text) {
         return None;
     }
     let mut iter = text.chars();
     let c = iter.next()?;
-    let later = iter.as_str();
-    if !begins_within(later, leads) {
+    if !is_syllable(c as u32) {
         return None;
     }
-    let space = &text[..text.len() - later.len()];
-    if !is_alone(table, form, space, c, known) || !begins_at_boundary(table, form, later) {
-        return None;
-    }
-    Some((c, later))
+    Some((c as u32, iter.as_str()))
 }
 
-/// Appends the ASCII character at the front of a text, where words go on behind it with one of some bytes.
-/// Answers what follows it, and what is known to stand alone then.
+/// The syllable whose jamo a text begins with, and what follows them. Where the text has fewer bytes than
+/// three jamo, none is told.
+#[inline(always)]
+fn spelled_front(text: &str) -> Option<(u32, &str)>
+    ensures { IfSome result (λ cut. BeginsWithSyllable text.now cut.1.now cut.0) }
+{
+    let bytes = text.as_bytes();
+    if bytes.len() < THREE_JAMO {
+        return None;
+    }
+    let (syllable, count) = jamo_front(bytes)?;
+    Some((syllable, &text[count..]))
+}
+
+/// The syllable that a text begins with, precomposed or, where `joins` asks for that, by its jamo, and what
+/// follows it.
+#[inline(always)]
+fn syllable_front(joins: bool, text: &str) -> Option<(u32, &str)>
+    ensures { IfSome result (λ cut. BeginsWithSyllable text.now cut.1.now cut.0) }
+{
+    if joins {
+        if let Some((syllable, later)) = spelled_front(text) {
+            return Some((syllable, later));
+        }
+    }
+    precomposed_front(text)
+}
+
+/// The ASCII character that a text begins with, and what follows it.
+#[inline(always)]
+fn ascii_first(text: &str) -> Option<(char, &str)>
+    ensures ascii { IfSome result (λ cut. cut.0 < 128) }
+    ensures parts { IfSome result (λ cut. text.now ≡ encode_utf8 cut.0 ++ cut.1.now) }
+{
+    let mut iter = text.chars();
+    let c = iter.next()?;
+    if c.is_ascii() {
+        Some((c, iter.as_str()))
+    } else {
+        None
+    }
+}
+
+/// Whether each ASCII character is known to stand alone, which is asked once for a text.
+#[inline(always)]
+fn is_ascii_alone<T: NormTable>(table: &T, form: Form) -> bool
+    ensures { IsTrue result → AsciiStandsAlone (T.model table.now) form }
+{
+    table.meets_conditions();
+    table.ascii_stands(form)
+}
+
+/// Appends the ASCII character at the front of a text, where they stand alone and syllables go on behind it.
+/// Answers what follows it, and the syllable that this begins with, beside what follows that.
 #[inline(always)]
 fn write_space<'a, T: NormTable>(
     table: &T,
     form: Form,
+    joins: bool,
+    ascii: bool,
     text: &'a str,
-    leads: (u8, u8),
-    known: Option<char>,
     out: &mut OutText,
-) -> Result<(&'a str, Option<char>), Memory>
-    requires known { IfSome known (λ c. StandsAlone (T.model table.now) form c) }
+) -> Result<(&'a str, Option<(u32, &'a str)>), Memory>
+    requires on { has_hangul (T.model table.now) ≡ true }
+    requires leads { composes form ≡ true → PartsBeforeLeads (T.model table.now) form }
+    requires ascii { ascii ≡ true → AsciiStandsAlone (T.model table.now) form }
     ensures goes { IfOk result (λ cut. GoesOn (T.model table.now) form text.now cut.0.now out.old out.new) }
     ensures read { IfOk result (λ cut. IsReadAssigned (T.model table.now) text.now cut.0.now) }
-    ensures known { IfOk result (λ cut. IfSome cut.1 (λ c. StandsAlone (T.model table.now) form c)) }
+    ensures begins { IfOk result (λ cut. IfSome cut.1 (λ next. BeginsWithSyllable cut.0.now next.1.now next.0)) }
 {
-    let Some((c, later)) = split_space(table, form, text, leads, known) else {
-        return Ok((text, known));
+    table.meets_conditions();
+    if !ascii {
+        return Ok((text, None));
+    }
+    let Some((c, later)) = ascii_first(text) else {
+        return Ok((text, None));
+    };
+    let Some((syllable, behind)) = syllable_front(joins, later) else {
+        return Ok((text, None));
     };
     out.append_char(c)?;
-    Ok((later, Some(c)))
+    Ok((later, Some((syllable, behind))))
 }
 
 /// Appends the full decompositions of the syllables at the front of a text, of which single ASCII
@@ -223,97 +216,65 @@ pub(crate) fn write_syllables<'a, T: NormTable>(
     if !table.hangul() {
         return Ok(text);
     }
-    let mut iter = text.chars();
-    let mut known = None;
+    let ascii = is_ascii_alone(table, form);
+    let mut rest = text;
+    let mut next = syllable_front(false, text);
     'scan: loop {
-        let here = iter.as_str();
-        let Some(c) = iter.next() else {
-            return Ok(here);
+        let Some((syllable, later)) = next else {
+            return Ok(rest);
         };
-        if !is_syllable(c as u32) {
-            return Ok(here);
+        push_syllable(out, syllable)?;
+        rest = later;
+        next = syllable_front(false, later);
+        if next.is_none() {
+            let (behind, begun) = write_space(table, form, false, ascii, later, out)?;
+            rest = behind;
+            next = begun;
         }
-        push_syllable(out, c)?;
-        let (rest, alone) = write_space(table, form, iter.as_str(), SYLLABLE_LEADS, known, out)?;
-        iter = rest.chars();
-        known = alone;
     }
 }
 
-/// The syllable whose jamo a text begins with, and how many bytes they have. Where the text has fewer
-/// bytes than three jamo, none is told.
+/// Whether the form is known to part before a text: it is empty, or begins with a boundary. `ascii` tells
+/// that each ASCII character is one.
 #[inline(always)]
-fn syllable_at(text: &str) -> Option<(char, usize)>
-    ensures { IfSome result (λ cut. BeginsWithJamo text.now cut.0 cut.1) }
-{
-    let bytes = text.as_bytes();
-    if bytes.len() < THREE_JAMO {
-        return None;
-    }
-    let (syllable, count) = jamo_front(bytes)?;
-    Some((syllable, count))
-}
-
-/// The leading consonant of a syllable.
-#[inline(always)]
-fn lead_of(syllable: char) -> Option<char>
-    requires { in_block syllable ≡ true }
-    ensures { IfSome result (λ c. c ≡ L_BASE + (syllable - S_BASE) / 28 / 21) }
-{
-    char::from_u32(L_BASE + (syllable as u32 - S_BASE) / T_COUNT / V_COUNT)
-}
-
-/// Whether the form is known to part before the jamo of a syllable.
-#[inline(always)]
-fn parts_before_jamo<T: NormTable>(table: &T, form: Form, syllable: char) -> bool
-    requires { in_block syllable ≡ true }
-    ensures { IsTrue result → (rest : List ℕ) → BeginsAtBoundary (T.model table.now) form (syllable_parts syllable ++ rest) }
-{
-    match lead_of(syllable) {
-        Some(lead) => table.is_boundary(form, lead),
-        None => false,
-    }
-}
-
-/// Whether the form is known to part before a text: it is empty, or begins with a boundary. `known` is a
-/// character that was found to stand alone.
-#[inline(always)]
-fn parts_before_other<T: NormTable>(table: &T, form: Form, text: &str, known: Option<char>) -> bool
-    requires { IfSome known (λ c. StandsAlone (T.model table.now) form c) }
+fn parts_before_other<T: NormTable>(table: &T, form: Form, ascii: bool, text: &str) -> bool
+    requires { ascii ≡ true → AsciiStandsAlone (T.model table.now) form }
     ensures { IsTrue result → BeginsAtBoundary (T.model table.now) form (chars text.now) }
 {
     let Some(c) = text.chars().next() else {
         return true;
     };
-    if is_known(known, c) {
+    if ascii && c.is_ascii() {
         return true;
     }
     table.is_boundary(form, c)
 }
 
-/// Whether the form is known to part before a text, of which it is told whether it begins with the jamo of
-/// a syllable.
+/// The same of a text, of which it is told whether it begins with a syllable: before that it parts.
 #[inline(always)]
 fn parts_before<T: NormTable>(
     table: &T,
     form: Form,
+    ascii: bool,
     text: &str,
-    jamo: Option<(char, usize)>,
-    known: Option<char>,
+    next: Option<(u32, &str)>,
 ) -> bool
-    requires jamo { IfSome jamo (λ cut. BeginsWithJamo text.now cut.0 cut.1) }
-    requires known { IfSome known (λ c. StandsAlone (T.model table.now) form c) }
+    requires on { has_hangul (T.model table.now) ≡ true }
+    requires leads { composes form ≡ true → PartsBeforeLeads (T.model table.now) form }
+    requires ascii { ascii ≡ true → AsciiStandsAlone (T.model table.now) form }
+    requires next { IfSome next (λ cut. BeginsWithSyllable text.now cut.1.now cut.0) }
     ensures { IsTrue result → BeginsAtBoundary (T.model table.now) form (chars text.now) }
 {
-    match jamo {
-        Some((syllable, _count)) => parts_before_jamo(table, form, syllable),
-        None => parts_before_other(table, form, text, known),
+    table.meets_conditions();
+    match next {
+        Some((_syllable, _later)) => true,
+        None => parts_before_other(table, form, ascii, text),
     }
 }
 
-/// Appends the syllables whose jamo stand at the front of a text, of which single ASCII characters may
-/// stand between two, and answers what follows them. Each is read once: what follows one tells whether the
-/// form parts there.
+/// Appends the syllables at the front of a text, by their jamo or precomposed, of which single ASCII
+/// characters may stand between two, and answers what follows them. Each is read once: what follows one tells
+/// whether the form parts there.
 fn write_joined<'a, T: NormTable>(
     table: &T,
     form: Form,
@@ -322,37 +283,36 @@ fn write_joined<'a, T: NormTable>(
 ) -> Result<&'a str, Memory>
     requires on { has_hangul (T.model table.now) ≡ true }
     requires form { composes form ≡ true }
+    requires leads { PartsBeforeLeads (T.model table.now) form }
     ensures goes { IfOk result (λ rest. GoesOn (T.model table.now) form text.now rest.now out.old out.new) }
     ensures read { IfOk result (λ rest. IsReadAssigned (T.model table.now) text.now rest.now) }
 {
     table.meets_conditions();
+    let ascii = is_ascii_alone(table, form);
     let mut rest = text;
-    let mut jamo = syllable_at(text);
-    let mut known = None;
+    let mut next = syllable_front(true, text);
     'scan: loop {
-        let Some((syllable, count)) = jamo else {
+        let Some((syllable, later)) = next else {
             return Ok(rest);
         };
-        let (_jamo, later) = rest.split_at(count);
-        let following = syllable_at(later);
-        if !parts_before(table, form, later, following, known) {
+        let following = syllable_front(true, later);
+        if !parts_before(table, form, ascii, later, following) {
             return Ok(rest);
         }
         push_joined(out, syllable)?;
         rest = later;
-        jamo = following;
-        if jamo.is_none() {
-            let (behind, alone) = write_space(table, form, later, JAMO_LEADS, known, out)?;
+        next = following;
+        if next.is_none() {
+            let (behind, begun) = write_space(table, form, true, ascii, later, out)?;
             rest = behind;
-            jamo = syllable_at(behind);
-            known = alone;
+            next = begun;
         }
     }
 }
 
-/// Appends the syllables whose jamo stand at the front of a text, where the arithmetic is on, and
-/// answers what follows them. It is made part of what calls it, so that any other text costs one
-/// comparison.
+/// Appends the syllables whose jamo stand at the front of a text, where the arithmetic is on and the form
+/// parts before leading consonants, and answers what follows them. It is made part of what calls it, so that
+/// any other text costs one comparison.
 #[inline(always)]
 pub(crate) fn join_syllables<'a, T: NormTable>(
     table: &T,
@@ -364,7 +324,7 @@ pub(crate) fn join_syllables<'a, T: NormTable>(
     ensures goes { IfOk result (λ rest. GoesOn (T.model table.now) form text.now rest.now out.old out.new) }
     ensures read { IfOk result (λ rest. IsReadAssigned (T.model table.now) text.now rest.now) }
 {
-    if begins_as_jamo(text) && table.hangul() {
+    if begins_as_jamo(text) && table.hangul() && table.parts_before_leads(form) {
         return write_joined(table, form, text, out);
     }
     Ok(text)

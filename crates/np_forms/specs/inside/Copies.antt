@@ -1,5 +1,5 @@
 -- Texts cut where their forms part.
-use Rattle.std.specs.Prelude.{◌≡◌, ◌≢◌, ℕ, ⊤, true, List, [], ◌∷◌, ◌++◌, Option, MatchOption, chars, encode_utf8, encode_utf8_all, IsUtf8}
+use Rattle.std.specs.Prelude.{◌≡◌, ◌≢◌, ◌<◌, ◌≤◌, ℕ, ⊤, true, List, [], ◌∷◌, ◌++◌, Option, MatchOption, chars, encode_utf8, encode_utf8_all, IsUtf8}
 use denote.Ref.{Bor}
 use Rattle.np_code_points.specs.declared.forms.Form.{Form}
 use Rattle.np_forms.specs.inside.NormalForms.{normal_form}
@@ -22,6 +22,14 @@ pub record StandsAlone (v : VersionData) (form : Form) (c : ℕ) : Type 0 where
   pub assigned : is_assigned v c ≡ true
   pub boundary : IsBoundary v form c
   pub stands : (back : List ℕ) → IsUtf8 back → BeginsAtBoundary v form (chars back) → IsCopied v form (encode_utf8 c ++ back) (encode_utf8 c) back
+
+-- each ASCII character does
+abbrev pub AsciiStandsAlone : VersionData → Form → Type 0
+AsciiStandsAlone v form = (c : ℕ) → c < 128 → StandsAlone v form c
+
+-- the form parts before each leading consonant of syllables
+abbrev pub PartsBeforeLeads : VersionData → Form → Type 0
+PartsBeforeLeads v form = (c : ℕ) → 0x1100 ≤ c → c ≤ 0x1112 → IsBoundary v form c
 
 -- `rest` is the end of a text
 pub record IsEndOf (text rest : List ℕ) : Type 0 where

@@ -1,5 +1,5 @@
 -- The full decomposition of a Hangul syllable (The Unicode Standard, section 3.12).
-use Rattle.std.specs.Prelude.{◌≡◌, ◌<◌, ◌≤◌, ℕ, true, List, [], ◌∷◌, length, take, flat_map, encode_utf8_all, IsUtf8, if◌then◌else◌}
+use Rattle.std.specs.Prelude.{◌≡◌, ◌<◌, ◌≤◌, ◌⊎◌, ◌++◌, ℕ, true, List, [], ◌∷◌, length, take, chars, flat_map, encode_utf8_all, IsUtf8, if◌then◌else◌}
 use Rattle.np_code_points.specs.Hangul.{is_syllable, syllable_pair}
 
 -- the pair of a syllable, and anything else itself
@@ -17,3 +17,13 @@ pub record BeginsWithJamo (text : List ℕ) (s n : ℕ) : Type 0 where
   pub some : 0 < n
   pub within : n ≤ length text
   pub front : take n text ≡ encode_utf8_all (syllable_parts s)
+
+-- a text that begins with a syllable, by its jamo or precomposed, and what follows it
+pub record BeginsWithSyllable (text later : List ℕ) (s : ℕ) : Type 0 where
+  pub syllable : is_syllable s ≡ true
+  pub front : List ℕ
+  pub spells : (front ≡ syllable_parts s) ⊎ (front ≡ s ∷ [])
+  pub bytes : text ≡ encode_utf8_all front ++ later
+  pub text_is : chars text ≡ front ++ chars later
+  pub utf8 : IsUtf8 later
+  pub shorter : length later < length text

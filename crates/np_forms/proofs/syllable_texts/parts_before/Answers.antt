@@ -1,14 +1,9 @@
-use Rattle.std.proofs.Common.{sym, subst, IfSome}
-use Rattle.np_forms.specs.inside.Copies.{BeginsAtBoundary}
-use Rattle.np_forms.specs.inside.Syllables.{BeginsWithJamo}
-use Rattle.np_forms.proofs.SyllableTextLemmas.{jamo-chars}
+use Rattle.std.proofs.Common.{subst, IfSome}
+use Rattle.np_forms.specs.inside.Syllables.{BeginsWithSyllable}
+use Rattle.np_forms.proofs.SyllableFrontLemmas.{syllable-begins}
 use Rattle.np_forms.proofs.syllable_texts.parts_before.Goals as goal
 
-pub parts_before_jamo-requires : goal.parts_before_jamo-requires
-parts_before_jamo-requires g c =
-    (subst (λ j. IfSome j (λ cut. BeginsWithJamo c.args.text.now cut.0 cut.1)) c.in-Some.is c.requires.jamo).syllable
-
 pub returns-in-Some : goal.returns-in-Some
-returns-in-Some g c = λ holds.
-    let begins = subst (λ j. IfSome j (λ cut. BeginsWithJamo c.args.text.now cut.0 cut.1)) c.in-Some.is c.requires.jamo in
-    subst (BeginsAtBoundary (g.T.NormTable.model c.args.table.now) c.args.form) (sym (jamo-chars c.args.text.now c.in-Some.syllable c.in-Some._count begins)) (c.parts_before_jamo.ensures holds _)
+returns-in-Some g c = λ _.
+    syllable-begins (g.T.NormTable.model c.args.table.now) c.meets_conditions.ensures c.requires.on c.args.form c.requires.leads c.args.text.now c.in-Some._later.now c.in-Some._syllable
+    (subst (λ j. IfSome j (λ cut. BeginsWithSyllable c.args.text.now cut.1.now cut.0)) c.in-Some.is c.requires.next)

@@ -1,13 +1,13 @@
 use Rattle.std.proofs.Common.{length, IfSome}
-use Rattle.std.specs.Str.Iter.{chars_rest}
-use Rattle.np_forms.specs.inside.Copies.{GoesOn, StandsAlone}
+use Rattle.np_forms.specs.inside.Copies.{GoesOn}
 use Rattle.np_forms.specs.inside.Readings.{IsReadAssigned}
+use Rattle.np_forms.specs.inside.Syllables.{BeginsWithSyllable}
 use Rattle.np_forms.proofs.syllable_texts.write_syllables.Given as goal
 
 abbrev pub invariant-scan : goal.invariant-scan
 invariant-scan g l =
     let v = g.T.NormTable.model l.table in
-    GoesOn v l.fn.form l.text (chars_rest l.iter) l.fn.out l.out × IsReadAssigned v l.text (chars_rest l.iter) × IfSome l.known (StandsAlone v l.fn.form)
+    GoesOn v l.fn.form l.text l.rest l.fn.out l.out × IsReadAssigned v l.text l.rest × IfSome l.next (λ cut. BeginsWithSyllable l.rest cut.1.now cut.0)
 
 abbrev pub decreases-scan : goal.decreases-scan
-decreases-scan g l = length (chars_rest l.iter)
+decreases-scan g l = length l.rest
