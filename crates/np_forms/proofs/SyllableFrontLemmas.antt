@@ -116,13 +116,17 @@ module _ (v : VersionData) (sound : IsSound v) (on : has_hangul v ≡ true) (for
       ap (λ l. ended v (composes form) (canonical_order (class_of v) l)) (full ∙ parts) ∙ ap (ended v (composes form)) (canonical_order-ordered (class_of v) (is.first ∷ is.rest) ordered)
       ∙ ended-folds v sound (composes form) is.first is.rest s starter (subst (λ b. MatchBool b (FoldsTo v is.first is.rest s) (is.first ∷ is.rest ≡ s ∷ [])) (sym composing) is.folds)
 
-  pub front-made : composes form ≡ true → (text later : List ℕ) (s : ℕ) → BeginsWithSyllable text later s → BeginsAtBoundary v form (chars later) → IsFirstMade v form text later (s ∷ [])
+  front-made : composes form ≡ true → (text later : List ℕ) (s : ℕ) → BeginsWithSyllable text later s → BeginsAtBoundary v form (chars later) → IsFirstMade v form text later (s ∷ [])
   front-made composing text later s begins at =
       record {
         end = record { front = encode_utf8_all begins.front; parts = begins.bytes; utf8 = begins.utf8 };
         made = ap (normal_form v form) begins.text_is ∙ parts-at v sound form begins.front (chars later) at
             ∙ ap (λ l. l ++ normal_form v form (chars later)) (joins composing s begins.syllable begins.front (front-full s text later begins));
       }
+
+  pub goes-joined : composes form ≡ true → (text later : List ℕ) (s : ℕ) (old new : List ℕ) → BeginsWithSyllable text later s → BeginsAtBoundary v form (chars later) → new ≡ old ++ encode_utf8 s → GoesOn v form text later old new
+  goes-joined composing text later s old new begins at push =
+      goes-made v form text later (s ∷ []) old new (front-made composing text later s begins at) (push ∙ ap (λ l. old ++ l) (sym (append-nil (encode_utf8 s))))
 
   -- ---- the form parts before a syllable
 

@@ -1,5 +1,5 @@
 //! Hangul syllables read from the UTF-8 of the jamo that spell them (The Unicode Standard, section 3.12).
-ghost use Rattle.std.specs.Prelude.{◌≡◌, ◌+◌, ◌<◌, ◌≤◌, ◌∷◌, [], ℕ, true, length, take, encode_utf8, encode_utf8_all, IfSome};
+ghost use Rattle.std.specs.Prelude.{◌≡◌, ◌+◌, ◌*◌, ◌<◌, ◌≤◌, ◌∷◌, [], ℕ, true, length, take, encode_utf8, encode_utf8_all, IfSome};
 ghost use Rattle.np_code_points.specs.Hangul.{is_syllable as in_block};
 ghost use Rattle.np_forms.specs.inside.Syllables.{syllable_parts};
 
@@ -11,16 +11,21 @@ pub(crate) const THREE_JAMO: usize = 9;
 /// How many bytes two jamo have.
 const TWO_JAMO: usize = 6;
 
+/// Three bytes as one number, the first of them highest, so that one comparison tells all.
+#[inline(always)]
+fn three_as_one(a: u8, b: u8, c: u8) -> u32
+    ensures { result ≡ a * 65536 + b * 256 + c }
+{
+    u32::from(a) * 0x1_0000 + u32::from(b) * 0x100 + u32::from(c)
+}
+
 /// The number of the leading consonant that three bytes spell, from 0.
 #[inline(always)]
 fn leading_index(a: u8, b: u8, c: u8) -> Option<u32>
     ensures among { IfSome result (λ n. n < 19) }
     ensures spelled { IfSome result (λ n. encode_utf8 (0x1100 + n) ≡ a ∷ b ∷ c ∷ []) }
 {
-    if a != 0xE1 || b != 0x84 {
-        return None;
-    }
-    let index = u32::from(c).wrapping_sub(0x80);
+    let index = three_as_one(a, b, c).wrapping_sub(0xE1_84_80);
     if index < L_COUNT { Some(index) } else { None }
 }
 
@@ -30,10 +35,7 @@ fn vowel_index(a: u8, b: u8, c: u8) -> Option<u32>
     ensures among { IfSome result (λ n. n < 21) }
     ensures spelled { IfSome result (λ n. encode_utf8 (0x1161 + n) ≡ a ∷ b ∷ c ∷ []) }
 {
-    if a != 0xE1 || b != 0x85 {
-        return None;
-    }
-    let index = u32::from(c).wrapping_sub(0xA1);
+    let index = three_as_one(a, b, c).wrapping_sub(0xE1_85_A1);
     if index < V_COUNT { Some(index) } else { None }
 }
 

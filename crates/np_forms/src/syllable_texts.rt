@@ -1,6 +1,6 @@
 //! Hangul syllables by arithmetic, decomposed straight into UTF-8 and made of the jamo that spell them
 //! (The Unicode Standard, section 3.12).
-ghost use Rattle.std.specs.Prelude.{◌≡◌, ◌+◌, ◌/◌, ◌%◌, ◌<◌, ◌≤◌, ◌++◌, ◌∷◌, [], true, false, chars, encode_utf8, encode_utf8_all, IfOk, IfSome, IsTrue, OnOk};
+ghost use Rattle.std.specs.Prelude.{◌≡◌, ◌+◌, ◌/◌, ◌%◌, ◌<◌, ◌≤◌, ◌++◌, ◌∷◌, [], true, false, chars, encode_utf8, encode_utf8_all, IfNone, IfOk, IfSome, IsTrue, OnOk};
 ghost use Rattle.np_code_points.specs.Forms.{composes};
 ghost use Rattle.np_code_points.specs.Hangul.{is_syllable as in_block};
 ghost use Rattle.np_forms.specs.inside.Copies.{AsciiStandsAlone, BeginsAtBoundary, GoesOn, PartsBeforeLeads};
@@ -168,8 +168,8 @@ fn is_ascii_alone<T: NormTable>(table: &T, form: Form) -> bool
     table.ascii_stands(form)
 }
 
-/// Appends the ASCII character at the front of a text, where they stand alone and syllables go on behind it.
-/// Answers what follows it, and the syllable that this begins with, beside what follows that.
+/// Appends the ASCII character at the front of a text, where they stand alone and a syllable follows it.
+/// Answers what follows the character, the syllable that this begins with, and what follows that.
 #[inline(always)]
 fn write_space<'a, T: NormTable>(
     table: &T,
@@ -178,26 +178,27 @@ fn write_space<'a, T: NormTable>(
     ascii: bool,
     text: &'a str,
     out: &mut OutText,
-) -> Result<(&'a str, Option<(u32, &'a str)>), Memory>
+) -> Result<Option<(&'a str, u32, &'a str)>, Memory>
     requires on { has_hangul (T.model table.now) ≡ true }
     requires leads { composes form ≡ true → PartsBeforeLeads (T.model table.now) form }
     requires ascii { ascii ≡ true → AsciiStandsAlone (T.model table.now) form }
-    ensures goes { IfOk result (λ cut. GoesOn (T.model table.now) form text.now cut.0.now out.old out.new) }
-    ensures read { IfOk result (λ cut. IsReadAssigned (T.model table.now) text.now cut.0.now) }
-    ensures begins { IfOk result (λ cut. IfSome cut.1 (λ next. BeginsWithSyllable cut.0.now next.1.now next.0)) }
+    ensures goes { IfOk result (λ cut. IfSome cut (λ next. GoesOn (T.model table.now) form text.now next.0.now out.old out.new)) }
+    ensures read { IfOk result (λ cut. IfSome cut (λ next. IsReadAssigned (T.model table.now) text.now next.0.now)) }
+    ensures begins { IfOk result (λ cut. IfSome cut (λ next. BeginsWithSyllable next.0.now next.2.now next.1)) }
+    ensures none { IfOk result (λ cut. IfNone cut (out.new ≡ out.old)) }
 {
     table.meets_conditions();
     if !ascii {
-        return Ok((text, None));
+        return Ok(None);
     }
     let Some((c, later)) = ascii_first(text) else {
-        return Ok((text, None));
+        return Ok(None);
     };
     let Some((syllable, behind)) = syllable_front(joins, later) else {
-        return Ok((text, None));
+        return Ok(None);
     };
     out.append_char(c)?;
-    Ok((later, Some((syllable, behind))))
+    Ok(Some((later, syllable, behind)))
 }
 
 /// Appends the full decompositions of the syllables at the front of a text, of which single ASCII
@@ -216,28 +217,30 @@ pub(crate) fn write_syllables<'a, T: NormTable>(
     if !table.hangul() {
         return Ok(text);
     }
+    let Some((mut syllable, mut later)) = syllable_front(false, text) else {
+        return Ok(text);
+    };
     let ascii = is_ascii_alone(table, form);
-    let mut rest = text;
-    let mut next = syllable_front(false, text);
     'scan: loop {
-        let Some((syllable, later)) = next else {
-            return Ok(rest);
-        };
         push_syllable(out, syllable)?;
-        rest = later;
-        next = syllable_front(false, later);
-        if next.is_none() {
-            let (behind, begun) = write_space(table, form, false, ascii, later, out)?;
-            rest = behind;
-            next = begun;
+        if let Some((next, behind)) = syllable_front(false, later) {
+            syllable = next;
+            later = behind;
+            continue;
         }
+        let Some((_begun, next, behind)) = write_space(table, form, false, ascii, later, out)?
+        else {
+            return Ok(later);
+        };
+        syllable = next;
+        later = behind;
     }
 }
 
 /// Whether the form is known to part before a text: it is empty, or begins with a boundary. `ascii` tells
 /// that each ASCII character is one.
 #[inline(always)]
-fn parts_before_other<T: NormTable>(table: &T, form: Form, ascii: bool, text: &str) -> bool
+fn parts_before<T: NormTable>(table: &T, form: Form, ascii: bool, text: &str) -> bool
     requires { ascii ≡ true → AsciiStandsAlone (T.model table.now) form }
     ensures { IsTrue result → BeginsAtBoundary (T.model table.now) form (chars text.now) }
 {
@@ -250,31 +253,10 @@ fn parts_before_other<T: NormTable>(table: &T, form: Form, ascii: bool, text: &s
     table.is_boundary(form, c)
 }
 
-/// The same of a text, of which it is told whether it begins with a syllable: before that it parts.
-#[inline(always)]
-fn parts_before<T: NormTable>(
-    table: &T,
-    form: Form,
-    ascii: bool,
-    text: &str,
-    next: Option<(u32, &str)>,
-) -> bool
-    requires on { has_hangul (T.model table.now) ≡ true }
-    requires leads { composes form ≡ true → PartsBeforeLeads (T.model table.now) form }
-    requires ascii { ascii ≡ true → AsciiStandsAlone (T.model table.now) form }
-    requires next { IfSome next (λ cut. BeginsWithSyllable text.now cut.1.now cut.0) }
-    ensures { IsTrue result → BeginsAtBoundary (T.model table.now) form (chars text.now) }
-{
-    table.meets_conditions();
-    match next {
-        Some((_syllable, _later)) => true,
-        None => parts_before_other(table, form, ascii, text),
-    }
-}
-
 /// Appends the syllables at the front of a text, by their jamo or precomposed, of which single ASCII
 /// characters may stand between two, and answers what follows them. Each is read once: what follows one tells
-/// whether the form parts there.
+/// whether the form parts there. It is called, so that the loop has the registers for itself.
+#[inline(never)]
 fn write_joined<'a, T: NormTable>(
     table: &T,
     form: Form,
@@ -288,25 +270,30 @@ fn write_joined<'a, T: NormTable>(
     ensures read { IfOk result (λ rest. IsReadAssigned (T.model table.now) text.now rest.now) }
 {
     table.meets_conditions();
+    let Some((mut syllable, mut later)) = syllable_front(true, text) else {
+        return Ok(text);
+    };
     let ascii = is_ascii_alone(table, form);
+    // it begins with the syllable, and `later` is what follows that
     let mut rest = text;
-    let mut next = syllable_front(true, text);
     'scan: loop {
-        let Some((syllable, later)) = next else {
-            return Ok(rest);
-        };
-        let following = syllable_front(true, later);
-        if !parts_before(table, form, ascii, later, following) {
+        if let Some((next, behind)) = syllable_front(true, later) {
+            push_joined(out, syllable)?;
+            rest = later;
+            syllable = next;
+            later = behind;
+            continue;
+        }
+        if !parts_before(table, form, ascii, later) {
             return Ok(rest);
         }
         push_joined(out, syllable)?;
-        rest = later;
-        next = following;
-        if next.is_none() {
-            let (behind, begun) = write_space(table, form, true, ascii, later, out)?;
-            rest = behind;
-            next = begun;
-        }
+        let Some((begun, next, behind)) = write_space(table, form, true, ascii, later, out)? else {
+            return Ok(later);
+        };
+        rest = begun;
+        syllable = next;
+        later = behind;
     }
 }
 

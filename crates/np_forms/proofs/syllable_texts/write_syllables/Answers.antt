@@ -1,48 +1,71 @@
-use Rattle.std.proofs.Common.{◌≡◌, true, sym, subst, ◌∙◌, IfSome}
+use Rattle.std.proofs.Common.{◌≡◌, ◌∙◌, true, sym, subst, IfNone, IfSome}
+use Rattle.np_forms.specs.inside.Copies.{GoesOn}
+use Rattle.np_forms.specs.inside.Readings.{IsReadAssigned}
 use Rattle.np_forms.specs.inside.Syllables.{BeginsWithSyllable}
-use Rattle.np_forms.proofs.DecomposedLemmas.{goes-both}
+use Rattle.np_forms.proofs.DecomposedLemmas.{goes-both, goes-start}
 use Rattle.np_forms.proofs.SyllableFrontLemmas.{goes-syllable, syllable-read}
-use Rattle.np_forms.proofs.TextLemmas.{IsReadAssigned-both}
+use Rattle.np_forms.proofs.TextLemmas.{IsReadAssigned-both, IsReadAssigned-start}
 use Rattle.np_tables.specs.Versions.{has_hangul}
 use Rattle.np_forms.proofs.syllable_texts.write_syllables.Goals as goal
 
-pub push_syllable-requires : goal.push_syllable-requires
-push_syllable-requires g c =
-    (subst (λ j. IfSome j (λ cut. BeginsWithSyllable c.scan.rest.now cut.1.now cut.0)) c.in-Some.is c.scan.invariant.2).syllable
+pub scan-init : goal.scan-init
+scan-init g c =
+    let v = g.T.NormTable.model c.args.table.now in
+    let text = c.args.text.now in
+    (text, goes-start v c.args.form text c.args.out.now c.utf8.text, IsReadAssigned-start v text c.utf8.text, c.in-Some.ensures)
 
-pub scan-preserved-then-is_none : goal.scan-preserved-then-is_none
-scan-preserved-then-is_none g c =
+pub scan-preserved-in-Some-syllable_front : goal.scan-preserved-in-Some-syllable_front
+scan-preserved-in-Some-syllable_front g c =
     let v = g.T.NormTable.model c.args.table.now in
     let form = c.args.form in
     let text = c.args.text.now in
-    let rest = c.scan.rest.now in
-    let later = c.in-Some.later.now in
-    let old = c.args.out.now in
-    let before = c.scan.out in
-    let between = c.push_syllable.new.out in
-    let s = c.in-Some.syllable in
+    let rest = c.scan.invariant.0 in
+    let later = c.scan.later.now in
     let on : has_hangul v ≡ true = sym c.hangul.ensures ∙ c.if-not-hangul.false in
-    let begins = subst (λ j. IfSome j (λ cut. BeginsWithSyllable rest cut.1.now cut.0)) c.in-Some.is c.scan.invariant.2 in
-    let made = goes-both v form text rest later old before between c.scan.invariant.0 (goes-syllable v c.meets_conditions.ensures on form c.requires rest later s before between begins c.in_ok-push_syllable.ensures) in
-    let read = IsReadAssigned-both v text rest later c.scan.invariant.1 (syllable-read v on rest later s begins) in (
-      goes-both v form text later c.in_ok-behind.behind.now old between c.write_space.new.out made c.in_ok-behind.ensures.goes,
-      IsReadAssigned-both v text later c.in_ok-behind.behind.now read c.in_ok-behind.ensures.read,
-      c.in_ok-behind.ensures.begins,
+    let begins = c.scan.invariant.3 in (
+      later,
+      goes-both v form text rest later c.args.out.now c.scan.out c.push_syllable.new.out c.scan.invariant.1
+          (goes-syllable v c.meets_conditions.ensures on form c.requires rest later c.scan.syllable c.scan.out c.push_syllable.new.out begins c.in_ok-push_syllable.ensures),
+      IsReadAssigned-both v text rest later c.scan.invariant.2 (syllable-read v on rest later c.scan.syllable begins),
+      c.in-Some-syllable_front.ensures,
     )
+
+pub returns-in_default-2-clause-goes : goal.returns-in_default-2-clause-goes
+returns-in_default-2-clause-goes g c =
+    let v = g.T.NormTable.model c.args.table.now in
+    let form = c.args.form in
+    let rest = c.scan.invariant.0 in
+    let later = c.scan.later.now in
+    let on : has_hangul v ≡ true = sym c.hangul.ensures ∙ c.if-not-hangul.false in
+    let same : c.write_space.new.out ≡ c.push_syllable.new.out = subst (λ j. IfNone j (c.write_space.new.out ≡ c.push_syllable.new.out)) c.in_default-2.is c.in_ok-_begun.ensures.none in
+    goes-both v form c.args.text.now rest later c.args.out.now c.scan.out c.write_space.new.out c.scan.invariant.1
+    (goes-syllable v c.meets_conditions.ensures on form c.requires rest later c.scan.syllable c.scan.out c.write_space.new.out c.scan.invariant.3 (same ∙ c.in_ok-push_syllable.ensures))
+
+pub returns-in_default-2-clause-read : goal.returns-in_default-2-clause-read
+returns-in_default-2-clause-read g c =
+    let v = g.T.NormTable.model c.args.table.now in
+    let on : has_hangul v ≡ true = sym c.hangul.ensures ∙ c.if-not-hangul.false in
+    IsReadAssigned-both v c.args.text.now c.scan.invariant.0 c.scan.later.now c.scan.invariant.2 (syllable-read v on c.scan.invariant.0 c.scan.later.now c.scan.syllable c.scan.invariant.3)
 
 pub scan-preserved : goal.scan-preserved
 scan-preserved g c =
     let v = g.T.NormTable.model c.args.table.now in
     let form = c.args.form in
     let text = c.args.text.now in
-    let rest = c.scan.rest.now in
-    let later = c.in-Some.later.now in
-    let before = c.scan.out in
+    let rest = c.scan.invariant.0 in
+    let later = c.scan.later.now in
+    let begun = c.in-Some-2._begun.now in
     let between = c.push_syllable.new.out in
-    let s = c.in-Some.syllable in
     let on : has_hangul v ≡ true = sym c.hangul.ensures ∙ c.if-not-hangul.false in
-    let begins = subst (λ j. IfSome j (λ cut. BeginsWithSyllable rest cut.1.now cut.0)) c.in-Some.is c.scan.invariant.2 in (
-      goes-both v form text rest later c.args.out.now before between c.scan.invariant.0 (goes-syllable v c.meets_conditions.ensures on form c.requires rest later s before between begins c.in_ok-push_syllable.ensures),
-      IsReadAssigned-both v text rest later c.scan.invariant.1 (syllable-read v on rest later s begins),
-      c.syllable_front-next-in-scan.ensures,
+    let begins = c.scan.invariant.3 in
+    let made = goes-both v form text rest later c.args.out.now c.scan.out between c.scan.invariant.1
+    (goes-syllable v c.meets_conditions.ensures on form c.requires rest later c.scan.syllable c.scan.out between begins c.in_ok-push_syllable.ensures) in
+    let read = IsReadAssigned-both v text rest later c.scan.invariant.2 (syllable-read v on rest later c.scan.syllable begins) in (
+      begun,
+      goes-both v form text later begun c.args.out.now between c.write_space.new.out made (subst (λ j. IfSome j (λ next. GoesOn v form later next.0.now between c.write_space.new.out)) c.in-Some-2.is c.in_ok-_begun.ensures.goes),
+      IsReadAssigned-both v text later begun read (subst (λ j. IfSome j (λ next. IsReadAssigned v later next.0.now)) c.in-Some-2.is c.in_ok-_begun.ensures.read),
+      subst (λ j. IfSome j (λ next. BeginsWithSyllable next.0.now next.2.now next.1)) c.in-Some-2.is c.in_ok-_begun.ensures.begins,
     )
+
+pub push_syllable-requires : goal.push_syllable-requires
+push_syllable-requires g c = c.scan.invariant.3.syllable
