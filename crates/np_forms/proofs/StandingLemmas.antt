@@ -81,9 +81,11 @@ module _ (v : VersionData) (sound : IsSound v) where
                 (whole, λ a low. is_ordered-cons (class_of v) a c ys (not_reorderable_rising (class_of v) a c (omega (arith, goes.1, goes.2))) whole)
             | inr goes ↦
                 let whole = later.1 c (omega (arith, goes.1)) in
-                subst (λ l. (is_ordered (class_of v) (l ++ ys) ≡ true) × MayLead last (l ++ ys)) (sym (apart_full before c goes.0))
-                (whole, λ a low. is_ordered-cons (class_of v) a c ys
-                (elim goes.2 [ inl zero ↦ not_reorderable_starter (class_of v) a c (omega (arith, goes.1, zero)) | inr above ↦ not_reorderable_rising (class_of v) a c (omega (arith, goes.1, above, low)) ]) whole)
+                subst (λ l. (is_ordered (class_of v) (l ++ ys) ≡ true) × MayLead last (l ++ ys)) (sym (apart_full before c goes.0)) (
+                  whole,
+                  λ a low. is_ordered-cons (class_of v) a c ys
+                      (elim goes.2 [ inl zero ↦ not_reorderable_starter (class_of v) a c (omega (arith, goes.1, zero)) | inr above ↦ not_reorderable_rising (class_of v) a c (omega (arith, goes.1, above, low)) ]) whole,
+                )
           ]
         ]
 

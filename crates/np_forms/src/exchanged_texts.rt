@@ -37,20 +37,31 @@ fn goes_into<T: NormTable>(table: &T, form: Form, starter: char, c: char) -> boo
     }
 }
 
-/// Whether the form of a starter and two non-starters has the two in the other order.
+/// Whether the form of a starter and two others that are a reorderable pair has the two in the other order.
 #[inline(always)]
-fn are_exchanged<T: NormTable>(table: &T, form: Form, starter: char, late: char, early: char) -> bool
+fn are_exchanged<T: NormTable>(
+    table: &T,
+    form: Form,
+    starter: char,
+    late: char,
+    early: char,
+) -> bool
+    requires some { 0 < class_of (T.model table.now) early }
+    requires falls { class_of (T.model table.now) early < class_of (T.model table.now) late }
     ensures { IsTrue result → normal_form (T.model table.now) form (starter ∷ late ∷ early ∷ []) ≡ starter ∷ early ∷ late ∷ [] }
 {
     table.meets_conditions();
-    if !are_reorderable(table, late, early) || table.class(starter) != 0 {
+    if table.class(starter) != 0
+        || goes_into(table, form, starter, early)
+        || goes_into(table, form, starter, late)
+    {
         return false;
     }
     let compat = form.compat();
-    if !is_own(table, compat, starter) || !is_own(table, compat, late) || !is_own(table, compat, early) {
+    if !is_own(table, compat, starter) || !is_own(table, compat, late) {
         return false;
     }
-    !goes_into(table, form, starter, early) && !goes_into(table, form, starter, late)
+    is_own(table, compat, early)
 }
 
 /// The form of the first segment of a text, where that is a starter and two non-starters that are exchanged, and
@@ -70,7 +81,10 @@ fn split_exchanged<'a, T: NormTable>(
     let late = iter.next()?;
     let early = iter.next()?;
     let rest = iter.as_str();
-    if !are_exchanged(table, form, starter, late, early) || !begins_at_boundary(table, form, rest) {
+    if !are_reorderable(table, late, early) || !begins_at_boundary(table, form, rest) {
+        return None;
+    }
+    if !are_exchanged(table, form, starter, late, early) {
         return None;
     }
     Some((starter, early, late, rest))
@@ -87,9 +101,11 @@ pub(crate) fn write_exchanged<'a, T: NormTable>(
     ensures none { IfOk result (λ found. IfNone found (out.new ≡ out.old)) }
     ensures shorter { IfOk result (λ found. IfSome found (λ rest. length rest.now < length text.now)) }
 {
-    let Some((starter, early, late, rest)) = split_exchanged(table, form, text) else {
+    let Some((first, second, third, rest)) = split_exchanged(table, form, text) else {
         return Ok(None);
     };
-    out.append_chars(&[starter, early, late])?;
+    out.append_char(first)?;
+    out.append_char(second)?;
+    out.append_char(third)?;
     Ok(Some(rest))
 }

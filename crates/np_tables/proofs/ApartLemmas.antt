@@ -51,13 +51,13 @@ module _ (v : VersionData) (lists : FullLists) (blocks : List ℕ) (words : List
         first = c;
         parts = parts;
         follows = λ last low_behind. (
-            class_of v c,
-            omega (arith, word.class, le),
-            (
-              record { unmapped = final-lent v compat c none (and_right (has_hangul v) (is_syllable c) plain); kept = kept; behind = behind; apart = apart },
-              refl,
-              (elim order [ inl starter ↦ inl (sym word.class ∙ starter) | inr above ↦ inr (omega (arith, word.class, above, low_behind)) ]),
-              sym word.assigned ∙ not_off w.assigned assigned,
-            ),
+          class_of v c,
+          omega (arith, word.class, le),
+          (
+            record { unmapped = final-lent v compat c none (and_right (has_hangul v) (is_syllable c) plain); kept = kept; behind = behind; apart = apart },
+            refl,
+            (elim order [ inl starter ↦ inl (sym word.class ∙ starter) | inr above ↦ inr (omega (arith, word.class, above, low_behind)) ]),
+            sym word.assigned ∙ not_off w.assigned assigned,
+          ),
         );
       }

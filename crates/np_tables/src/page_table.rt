@@ -115,10 +115,12 @@ impl NormTable for PageTable {
         &self.version
     }
 
+    #[inline(always)]
     fn assigned(&self, c: char) -> bool {
         word_of(&self.index, &self.words, c).assigned
     }
 
+    #[inline(always)]
     fn class(&self, c: char) -> u8 {
         word_of(&self.index, &self.words, c).class
     }
@@ -127,6 +129,7 @@ impl NormTable for PageTable {
         self.version.has_hangul()
     }
 
+    #[inline(always)]
     fn pair(&self, a: char, b: char) -> Option<char> {
         if word_of(&self.index, &self.words, b).apart {
             return None;
@@ -134,6 +137,7 @@ impl NormTable for PageTable {
         self.version.composite_of(a, b)
     }
 
+    #[inline(always)]
     fn full(&self, c: char, compat: bool) -> &[char] {
         let slot = word_of(&self.index, &self.words, c).fulls;
         // nothing is lent by this slot, which needs not be read for that
@@ -143,11 +147,13 @@ impl NormTable for PageTable {
         self.fulls.lent(slot as usize, compat)
     }
 
+    #[inline(always)]
     fn spelled(&self, form: Form, c: char) -> Option<(&[u8], usize)> {
         let slot = word_of(&self.index, &self.words, c).fulls;
         self.spelled.at(form, slot as usize)
     }
 
+    #[inline(always)]
     fn is_boundary(&self, form: Form, c: char) -> bool {
         has_bit(
             word_of(&self.index, &self.words, c).hints,

@@ -58,7 +58,7 @@ fn is_kept_apart(version: &Version, kept: char, last: u8, c: char, class: u8) ->
 /// The least step that may follow the first code point of a text, and what stands behind that, where it may be
 /// a second part of composites, but goes into nothing behind the text `front`: none where that is not found.
 /// A step of `low` may follow that text.
-#[inline(never)]
+#[inline(always)]
 pub(crate) fn pass_apart<'a>(
     version: &Version,
     blocks: &[u16],

@@ -150,9 +150,9 @@ pub(crate) fn standing_front(
     'scan: loop {
         let (next, here) = pass_by_steps(blocks, steps, ascii, least, low, form, rest);
         let front = &text[..text.len() - here.len()];
-        let Some((behind, later)) =
-            pass_apart(version, blocks, words, least, next, form, front, here)
-        else {
+        let Some((behind, later)) = pass_apart(
+            version, blocks, words, least, next, form, front, here,
+        ) else {
             return front.len();
         };
         low = behind;
