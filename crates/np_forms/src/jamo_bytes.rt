@@ -1,5 +1,5 @@
 //! Hangul syllables read from the UTF-8 of the jamo that spell them (The Unicode Standard, section 3.12).
-ghost use Rattle.std.specs.Prelude.{◌≡◌, ◌+◌, ◌*◌, ◌<◌, ◌≤◌, ◌∷◌, [], ℕ, true, length, take, encode_utf8, encode_utf8_all, IfSome};
+ghost use Rattle.std.specs.Prelude.{◌≡◌, ◌+◌, ◌*◌, ◌<◌, ◌≤◌, ◌∷◌, [], ℕ, true, length, slice_index, take, encode_utf8, encode_utf8_all, IfSome};
 ghost use Rattle.np_code_points.specs.Hangul.{is_syllable as in_block};
 ghost use Rattle.np_forms.specs.inside.Syllables.{syllable_parts};
 
@@ -11,31 +11,40 @@ pub(crate) const THREE_JAMO: usize = 9;
 /// How many bytes two jamo have.
 const TWO_JAMO: usize = 6;
 
-/// Three bytes as one number, the first of them highest, so that one comparison tells all.
+/// Two bytes as one number, so that one comparison tells both.
 #[inline(always)]
-fn three_as_one(a: u8, b: u8, c: u8) -> u32
-    ensures { result ≡ a * 65536 + b * 256 + c }
+fn two_as_one(a: u8, b: u8) -> u32
+    ensures { result ≡ a + b * 256 }
 {
-    u32::from(a) * 0x1_0000 + u32::from(b) * 0x100 + u32::from(c)
+    u32::from(a) + u32::from(b) * 0x100
 }
 
-/// The number of the leading consonant that three bytes spell, from 0.
+/// The number of the leading consonant that the first three bytes spell, from 0. The third isn't read where
+/// the first two are of none.
 #[inline(always)]
-fn leading_index(a: u8, b: u8, c: u8) -> Option<u32>
+fn leading_index(bytes: &[u8]) -> Option<u32>
+    requires { 3 ≤ length bytes.now }
     ensures among { IfSome result (λ n. n < 19) }
-    ensures spelled { IfSome result (λ n. encode_utf8 (0x1100 + n) ≡ a ∷ b ∷ c ∷ []) }
+    ensures spelled { IfSome result (λ n. encode_utf8 (0x1100 + n) ≡ slice_index bytes.now 0 ∷ slice_index bytes.now 1 ∷ slice_index bytes.now 2 ∷ []) }
 {
-    let index = three_as_one(a, b, c).wrapping_sub(0xE1_84_80);
+    if two_as_one(bytes[0], bytes[1]) != 0x84E1 {
+        return None;
+    }
+    let index = u32::from(bytes[2]).wrapping_sub(0x80);
     if index < L_COUNT { Some(index) } else { None }
 }
 
-/// The number of the vowel that three bytes spell, from 0.
+/// The number of the vowel that the three bytes behind these spell, from 0.
 #[inline(always)]
-fn vowel_index(a: u8, b: u8, c: u8) -> Option<u32>
+fn vowel_index(bytes: &[u8]) -> Option<u32>
+    requires { 6 ≤ length bytes.now }
     ensures among { IfSome result (λ n. n < 21) }
-    ensures spelled { IfSome result (λ n. encode_utf8 (0x1161 + n) ≡ a ∷ b ∷ c ∷ []) }
+    ensures spelled { IfSome result (λ n. encode_utf8 (0x1161 + n) ≡ slice_index bytes.now 3 ∷ slice_index bytes.now 4 ∷ slice_index bytes.now 5 ∷ []) }
 {
-    let index = three_as_one(a, b, c).wrapping_sub(0xE1_85_A1);
+    if two_as_one(bytes[3], bytes[4]) != 0x85E1 {
+        return None;
+    }
+    let index = u32::from(bytes[5]).wrapping_sub(0xA1);
     if index < V_COUNT { Some(index) } else { None }
 }
 
@@ -64,8 +73,8 @@ pub(crate) fn jamo_front(bytes: &[u8]) -> Option<(u32, usize)>
     ensures within { IfSome result (λ cut. cut.1 ≤ length bytes.now) }
     ensures spelled { IfSome result (λ cut. take cut.1 bytes.now ≡ encode_utf8_all (syllable_parts cut.0)) }
 {
-    let lead = leading_index(bytes[0], bytes[1], bytes[2])?;
-    let vowel = vowel_index(bytes[3], bytes[4], bytes[5])?;
+    let lead = leading_index(bytes)?;
+    let vowel = vowel_index(bytes)?;
     let trailing = trailing_index(bytes[6], bytes[7], bytes[8]);
     let syllable = S_BASE + (lead * V_COUNT + vowel) * T_COUNT + trailing;
     if trailing == 0 {
