@@ -5,7 +5,6 @@ use Rattle.std.proofs.lemmas.Str.{chars-append, encodes-chars}
 use Rattle.std.specs.List.{list_all}
 use Rattle.np_code_points.specs.Forms.{is_compat, composes}
 use Rattle.np_code_points.specs.declared.forms.Form.{Form}
-use Rattle.np_tables.specs.Boundaries.{IsBoundary}
 use Rattle.np_tables.specs.Conditions.{IsSound}
 use Rattle.np_tables.specs.Versions.{VersionData, class_of}
 use Rattle.np_tables.specs.inside.CompositeSearch.{composite}
@@ -16,7 +15,7 @@ use Rattle.np_forms.specs.Starters.{is_non_starter}
 use Rattle.np_forms.specs.Streams.{IsStreaming, StreamState}
 use Rattle.np_forms.specs.inside.CanonicalOrder.{canonical_order}
 use Rattle.np_forms.specs.inside.Composing.{compose_after}
-use Rattle.np_forms.specs.inside.Copies.{BeginsAtBoundary}
+use Rattle.np_tables.specs.Boundaries.{BeginsAtBoundary, IsBoundary}
 use Rattle.np_forms.specs.inside.Held.{Shape, no_starter, starter, IsHeld}
 use Rattle.np_forms.specs.inside.NormalForms.{decomposed, ended, normal_form}
 use Rattle.np_forms.specs.inside.Written.{Writes, Breaks}

@@ -7,13 +7,13 @@ use Rattle.np_code_points.specs.declared.forms.Form.{Form}
 use Rattle.np_forms.specs.Assigned.{IsAssigned}
 use Rattle.np_forms.specs.inside.CanonicalOrder.{canonical_order}
 use Rattle.np_forms.specs.inside.Composing.{compose_of}
-use Rattle.np_forms.specs.inside.Copies.{BeginsAtBoundary, IsCopied}
+use Rattle.np_forms.specs.inside.Copies.{IsCopied}
 use Rattle.np_forms.specs.inside.NormalForms.{decomposed, ended, normal_form}
 use Rattle.np_forms.specs.inside.Readings.{IsReadAssigned}
 use Rattle.np_forms.proofs.BoundaryLemmas.{normal_form-parts}
 use Rattle.np_forms.proofs.StandingLemmas.{standing_form}
 use Rattle.np_forms.proofs.TextLemmas.{IsReadAssigned-front}
-use Rattle.np_tables.specs.Boundaries.{IsBoundary}
+use Rattle.np_tables.specs.Boundaries.{BeginsAtBoundary, IsBoundary}
 use Rattle.np_tables.specs.Conditions.{IsSound}
 use Rattle.np_tables.specs.Versions.{VersionData, class_of}
 use Rattle.np_tables.specs.inside.FullDecompositions.{full_of}

@@ -4,7 +4,7 @@ use Rattle.np_code_points.specs.Forms.{is_compat, composes}
 use Rattle.np_code_points.specs.declared.forms.Form.{Form}
 use Rattle.np_forms.specs.inside.CanonicalOrder.{canonical_order}
 use Rattle.np_forms.specs.inside.Composing.{compose_of}
-use Rattle.np_forms.specs.inside.Copies.{BeginsAtBoundary}
+use Rattle.np_tables.specs.Boundaries.{BeginsAtBoundary}
 use Rattle.np_forms.specs.inside.NormalForms.{decomposed, ended, normal_form}
 use Rattle.np_forms.specs.inside.Segments.{IsFirstMade}
 use Rattle.np_forms.proofs.ComposeLemmas.{compose-starter, compose_after-kept, compose_after-nil, joined-none}

@@ -9,7 +9,7 @@ use Rattle.np_code_points.specs.declared.forms.Form.{Form}
 use Rattle.np_forms.specs.Order.{is_ordered}
 use Rattle.np_forms.specs.inside.Composers.{IsComposing, and_place, pair_with_last}
 use Rattle.np_forms.specs.inside.Composing.{compose_of}
-use Rattle.np_forms.specs.inside.Copies.{BeginsAtBoundary, IsCopied}
+use Rattle.np_forms.specs.inside.Copies.{IsCopied}
 use Rattle.np_forms.specs.declared.plain_texts.Plain.{Plain}
 use Rattle.np_forms.specs.inside.CanonicalOrder.{canonical_order}
 use Rattle.np_forms.specs.inside.Classes.{CodeAndClass, with_class, with_classes}
@@ -20,7 +20,7 @@ use Rattle.np_forms.proofs.ComposerLemmas.{push_joins, push_starts, push_keeps, 
 use Rattle.np_forms.proofs.CopyLemmas.{parts-at, settled-is_form}
 use Rattle.np_forms.proofs.DecomposedLemmas.{is_ordered-rises}
 use Rattle.np_forms.proofs.OrderLemmas.{canonical_order-ordered}
-use Rattle.np_tables.specs.Boundaries.{IsBoundary}
+use Rattle.np_tables.specs.Boundaries.{BeginsAtBoundary, IsBoundary}
 use Rattle.np_tables.specs.Conditions.{IsSound}
 use Rattle.np_tables.specs.Versions.{VersionData, class_of}
 use Rattle.np_tables.specs.inside.CompositeSearch.{composite}

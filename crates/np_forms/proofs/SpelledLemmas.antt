@@ -6,7 +6,6 @@ use Rattle.std.proofs.lemmas.Str.{chars_past_char, IsUtf8-past_char}
 use Rattle.np_code_points.specs.Forms.{is_compat, composes}
 use Rattle.np_code_points.specs.declared.forms.Form.{Form}
 use Rattle.np_forms.specs.inside.Composers.{and_place, pair_with_last}
-use Rattle.np_forms.specs.inside.Copies.{BeginsAtBoundary}
 use Rattle.np_forms.specs.inside.NormalForms.{normal_form}
 use Rattle.np_forms.specs.inside.Segments.{IsComposedOf, IsFirstMade, IsFirstSpelled}
 use Rattle.np_forms.proofs.BoundaryLemmas.{is_ordered-never_falls}
@@ -14,7 +13,7 @@ use Rattle.np_forms.proofs.CopyLemmas.{parts-at, settled-is_form}
 use Rattle.np_forms.proofs.OrderLemmas.{canonical_order-ordered}
 use Rattle.np_forms.proofs.SegmentLemmas.{composed-joins, composed-start, composed-starts, folded-starts, made-form, pair-apart}
 use Rattle.np_forms.proofs.SyllableLemmas.{lent_some}
-use Rattle.np_tables.specs.Boundaries.{NeverFalls}
+use Rattle.np_tables.specs.Boundaries.{BeginsAtBoundary, NeverFalls}
 use Rattle.np_tables.specs.Conditions.{IsSound}
 use Rattle.np_tables.proofs.TableLemmas.{full-none}
 use Rattle.np_tables.specs.Versions.{VersionData, class_of, entry_at, is_assigned}

@@ -9,7 +9,7 @@ use Rattle.np_code_points.specs.Hangul.{is_among, is_syllable}
 use Rattle.np_code_points.specs.declared.forms.Form.{Form}
 use Rattle.np_code_points.proofs.HangulLemmas.{among_bounds}
 use Rattle.np_forms.specs.Assigned.{IsAssigned}
-use Rattle.np_forms.specs.inside.Copies.{AsciiStandsAlone, BeginsAtBoundary, GoesOn, IsCopied, PartsBeforeLeads, StandsAlone}
+use Rattle.np_forms.specs.inside.Copies.{AsciiStandsAlone, GoesOn, IsCopied, PartsBeforeLeads, StandsAlone}
 use Rattle.np_forms.specs.inside.CanonicalOrder.{canonical_order}
 use Rattle.np_forms.specs.inside.NormalForms.{decomposed, ended, normal_form}
 use Rattle.np_forms.specs.inside.Readings.{IsReadAssigned}
@@ -25,7 +25,7 @@ use Rattle.np_forms.proofs.SyllableTextLemmas.{closed-parts, jamo-boundary, jamo
 use Rattle.np_tables.proofs.HangulLemmas.{leading_jamo}
 use Rattle.np_tables.proofs.MappingLemmas.{IsFullDecomposition-full_of, flat_map-final, full_of-only}
 use Rattle.np_tables.proofs.PageHintLemmas.{unfolds}
-use Rattle.np_tables.specs.Boundaries.{FoldsTo, IsBoundary}
+use Rattle.np_tables.specs.Boundaries.{BeginsAtBoundary, FoldsTo, IsBoundary}
 use Rattle.np_tables.specs.Composites.{IsCompositeOf}
 use Rattle.np_tables.specs.Conditions.{IsSound}
 use Rattle.np_tables.specs.Mappings.{IsFullDecomposition, is_final}

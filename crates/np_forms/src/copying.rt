@@ -2,7 +2,8 @@
 //! through decomposition, ordering and composition (UAX #15, section 9.1).
 ghost use Rattle.std.specs.Prelude.{◌≡◌, ◌<◌, ◌⊎◌, ◌++◌, [], false, length, chars, encode_utf8_all, IsTrue, IsUtf8, IfOk, OnOk};
 ghost use Rattle.np_forms.specs.Assigned.{IsAssigned};
-ghost use Rattle.np_forms.specs.inside.Copies.{BeginsAtBoundary, GoesOn, IsCopied, IsEndOf};
+ghost use Rattle.np_forms.specs.inside.Copies.{GoesOn, IsCopied, IsEndOf};
+ghost use Rattle.np_tables.specs.Boundaries.{BeginsAtBoundary};
 ghost use Rattle.np_forms.specs.inside.NormalForms.{normal_form};
 ghost use Rattle.np_forms.specs.inside.Readings.{IsReadAssigned};
 
@@ -42,8 +43,9 @@ pub(crate) fn split_standing<'a, T: NormTable>(
     ensures assigned { IsTrue assigned → IsAssigned (T.model table.now) (chars result.0.now) }
 {
     table.meets_conditions();
-    let (front, back) = text.split_at(table.standing(form, assigned, text));
-    if begins_at_boundary(table, form, back) {
+    let (count, parts) = table.standing(form, assigned, text);
+    let (front, back) = text.split_at(count);
+    if parts {
         return (front, back, 0);
     }
     // what may change begins at the last boundary

@@ -2,7 +2,7 @@
 ghost use Rattle.std.specs.Prelude.{◌≡◌, ◌<◌, ◌++◌, ◌∷◌, [], length, true, chars, flat_map, IfOk, OnOk};
 ghost use Rattle.np_code_points.specs.Hangul.{is_syllable as in_block};
 ghost use Rattle.np_forms.specs.inside.Classes.{with_classes};
-ghost use Rattle.np_forms.specs.inside.Copies.{BeginsAtBoundary};
+ghost use Rattle.np_tables.specs.Boundaries.{BeginsAtBoundary};
 ghost use Rattle.np_forms.specs.inside.Segments.{IsDecomposedUpTo};
 ghost use Rattle.np_forms.specs.inside.Syllables.{syllable_parts};
 ghost use Rattle.np_tables.specs.Conditions.{IsSound};

@@ -78,6 +78,10 @@ fn split_exchanged<'a, T: NormTable>(
     table.meets_conditions();
     let mut iter = text.chars();
     let starter = iter.next()?;
+    // with a letter of ASCII most compose
+    if starter.is_ascii() {
+        return None;
+    }
     let late = iter.next()?;
     let early = iter.next()?;
     let rest = iter.as_str();

@@ -3,7 +3,8 @@
 ghost use Rattle.std.specs.Prelude.{◌≡◌, ◌+◌, ◌/◌, ◌%◌, ◌<◌, ◌≤◌, ◌++◌, ◌∷◌, [], true, false, chars, encode_utf8, encode_utf8_all, IfNone, IfOk, IfSome, IsTrue, OnOk};
 ghost use Rattle.np_code_points.specs.Forms.{composes};
 ghost use Rattle.np_code_points.specs.Hangul.{is_syllable as in_block};
-ghost use Rattle.np_forms.specs.inside.Copies.{AsciiStandsAlone, BeginsAtBoundary, GoesOn, PartsBeforeLeads};
+ghost use Rattle.np_forms.specs.inside.Copies.{AsciiStandsAlone, GoesOn, PartsBeforeLeads};
+ghost use Rattle.np_tables.specs.Boundaries.{BeginsAtBoundary};
 ghost use Rattle.np_forms.specs.inside.Readings.{IsReadAssigned};
 ghost use Rattle.np_forms.specs.inside.Syllables.{BeginsWithSyllable, syllable_parts};
 ghost use Rattle.np_tables.specs.Versions.{has_hangul};

@@ -1,6 +1,6 @@
 -- Code points that go into nothing behind the one before.
 use Rattle.std.proofs.Common.{◌≡◌, ℕ, ◌<◌, ◌≤◌, ◌⊎◌, ◌&&◌, not, Bool, true, false, List, [], ◌∷◌, ◌++◌, Option, Some, None, length, get_or, take, drop, take_at, drop_at, chars, IsUtf8, encode_utf8, refl, sym, ap, subst, ◌∙◌, arith, inl, inr, append-nil, length-append}
-use Rattle.std.proofs.lemmas.Bool.{and_right}
+use Rattle.std.proofs.lemmas.Bool.{and_right, not-false}
 use Rattle.std.proofs.lemmas.Str.{chars-append, chars-nil, chars_past_char, IsCharBoundary-from_take, IsUtf8-drop}
 use Rattle.np_code_points.specs.Forms.{is_compat}
 use Rattle.np_code_points.specs.Hangul.{is_syllable}
@@ -29,10 +29,6 @@ last_behind-text s earlier c e utf8 of_earlier =
     let one : chars back ≡ c ∷ [] = chars_past_char back [] c tail (sym (append-nil back)) ∙ ap (λ l. c ∷ l) chars-nil in
     ap (last_behind None) (ap chars e ∙ chars-append earlier back of_earlier ∙ ap (λ l. chars earlier ++ l) one) ∙ last_behind-more None (chars earlier) c
 
-not_off : (b : Bool) → not b ≡ false → b ≡ true
-not_off true h = refl
-not_off false h = cc
-
 -- what keeps a code point apart from the one before
 abbrev pub AreApart : VersionData → ℕ → ℕ → Type 0
 AreApart v kept c = ((0 < class_of v kept) × (class_of v c ≤ class_of v kept)) ⊎ ((class_of v kept ≡ 0) × ((p : ℕ) → ¬ (IsCompositeOf v kept c p)))
@@ -41,23 +37,18 @@ module _ (v : VersionData) (lists : FullLists) (blocks : List ℕ) (words : List
   pub class-read : (c : ℕ) → c < 0x110000 → (w : Word) → w ≡ get_or words (word_place blocks c) no_word → w.class ≡ class_of v c
   class-read c lt w is = (subst (IsWord v lists c) (sym is) (pages.each c lt)).class
 
-  pub passes_apart : (form : Form) (front text rest : List ℕ) (kept c low next : ℕ) → c < 0x110000 → (w : Word) → w ≡ get_or words (word_place blocks c) no_word → w.fulls ≡ 0 → not w.assigned ≡ false → is_syllable c ≡ false
-      → last_behind None front ≡ Some kept → AreApart v kept c → (w.class ≡ 0) ⊎ (low ≤ w.class) → w.class ≤ next → text ≡ encode_utf8 c ++ rest → PassesApart v form front text rest low next
-  passes_apart form front text rest kept c low next lt w is fulls assigned plain behind apart order le parts =
+  pub passes_apart : (form : Form) (front : List ℕ) (kept c low next : ℕ) → c < 0x110000 → (w : Word) → w ≡ get_or words (word_place blocks c) no_word → w.fulls ≡ 0 → not w.assigned ≡ false → is_syllable c ≡ false
+      → last_behind None front ≡ Some kept → AreApart v kept c → (w.class ≡ 0) ⊎ (low ≤ w.class) → w.class ≤ next → PassesApart v form front c low next
+  passes_apart form front kept c low next lt w is fulls assigned plain behind apart order le last up_to =
       let word = subst (IsWord v lists c) (sym is) (pages.each c lt) in
       let compat = is_compat form in
-      let none : table_full v compat c ≡ [] = sym (word.slot.lent compat) ∙ ap (λ k. get_or (of_kind compat lists) k []) fulls ∙ pages.none compat in
-      record {
-        first = c;
-        parts = parts;
-        follows = λ last low_behind. (
-          class_of v c,
-          omega (arith, word.class, le),
-          (
-            record { unmapped = final-lent v compat c none (and_right (has_hangul v) (is_syllable c) plain); kept = kept; behind = behind; apart = apart },
-            refl,
-            (elim order [ inl starter ↦ inl (sym word.class ∙ starter) | inr above ↦ inr (omega (arith, word.class, above, low_behind)) ]),
-            sym word.assigned ∙ not_off w.assigned assigned,
-          ),
-        );
-      }
+      let none : table_full v compat c ≡ [] = sym (word.slot.lent compat) ∙ ap (λ k. get_or (of_kind compat lists) k []) fulls ∙ pages.none compat in (
+        class_of v c,
+        omega (arith, word.class, le),
+        (
+          record { unmapped = final-lent v compat c none (and_right (has_hangul v) (is_syllable c) plain); kept = kept; behind = behind; apart = apart },
+          refl,
+          (elim order [ inl starter ↦ inl (sym word.class ∙ starter) | inr above ↦ inr (omega (arith, word.class, above, up_to)) ]),
+          sym word.assigned ∙ not-false w.assigned assigned,
+        ),
+      )

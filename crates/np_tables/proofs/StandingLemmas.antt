@@ -1,15 +1,15 @@
 -- Runs of code points that may follow one another as they are.
-use Rattle.std.proofs.Common.{◌≡◌, ℕ, ◌-◌, ◌<◌, ◌≤◌, Bool, true, false, ◌&&◌, suc, List, [], ◌∷◌, ◌++◌, Option, Some, None, length, get_or, take, drop, take_at, slice_range, chars, IsUtf8, encode_utf8, encode_utf8_all, All, sym, ap, subst, ◌∙◌, arith, append_assoc, append-nil, length-append, refl, inl, inr}
+use Rattle.std.proofs.Common.{◌≡◌, ℕ, ◌-◌, ◌<◌, ◌≤◌, Bool, true, false, ◌&&◌, suc, List, [], ◌∷◌, ◌++◌, Option, Some, None, length, get_or, take, drop, drop_at, take_at, slice_range, chars, IsUtf8, encode_utf8, encode_utf8_all, All, sym, ap, subst, ◌∙◌, arith, append_assoc, append-nil, length-append, refl, inl, inr}
 use Rattle.std.specs.List.{list_all}
 use Rattle.std.specs.Str.{IsAscii, IsCharBoundary}
 use Rattle.std.proofs.lemmas.Bool.{and_from, and_parts, cases_Bool, cond-false, or_from}
-use Rattle.std.proofs.lemmas.List.{get_or_default, get_or-map, take-append-drop}
-use Rattle.std.proofs.lemmas.Str.{chars-append, chars_from_encodes, chars-IsAscii, chars_past_char, encodes-append, encodes-IsAscii, IsCharBoundary-at_seam, IsCharBoundary-from_take, IsUtf8-drop, IsUtf8-take, IsUtf8-from_ascii, IsUtf8-past_char}
+use Rattle.std.proofs.lemmas.List.{get_or_default, get_or-map, nil_from_length, take-append-drop}
+use Rattle.std.proofs.lemmas.Str.{chars-append, chars-nil, chars_from_encodes, chars-IsAscii, chars_past_char, encodes-append, encodes-IsAscii, IsCharBoundary-at_seam, IsCharBoundary-from_take, IsUtf8-drop, IsUtf8-take, IsUtf8-from_ascii, IsUtf8-past_char}
 use Rattle.np_code_points.specs.Hangul.{is_syllable}
 use Rattle.np_code_points.specs.declared.forms.Form.{Form}
 use Rattle.np_code_points.specs.declared.forms.Form.TheVariants.{Nfd, Nfc, Nfkd, Nfkc}
 use Rattle.np_code_points.specs.Forms.{is_compat}
-use Rattle.np_tables.specs.Boundaries.{IsBoundary, Stays}
+use Rattle.np_tables.specs.Boundaries.{BeginsAtBoundary, IsBoundary, Stays}
 use Rattle.np_tables.specs.Conditions.{IsSound}
 use Rattle.np_tables.specs.Mappings.{is_final}
 use Rattle.np_tables.specs.Standing.{AreStanding, MayFollow, StaysUpTo, Walks}
@@ -126,12 +126,23 @@ module _ (Step : Option ℕ → ℕ → ℕ → ℕ → Type 0) (s rest : List �
       let whole : n - 0 ≡ n = omega arith in
       ap chars (is ∙ ap (λ k. take k s) whole) ∙ sym (chars_from_encodes r.before (take n s) (IsUtf8-take s n utf8 walked-seam) spelled)
 
+  -- what is left is what stands behind it
+  pub walked-rest : (n : ℕ) → n ≡ length s - length rest → drop n s ≡ rest
+  walked-rest n is = ap (drop n) r.bytes ∙ drop_at (encode_utf8_all r.before) rest n (walked-place ∙ sym is)
+
 -- one code point more, which goes into nothing
-pub walked-apart : (v : VersionData) (least : ℕ) (blocks steps : List ℕ) (form : Form) (s here later front : List ℕ) (last low next : ℕ) → last ≤ low → (r : IsWalkedTo (Follows v least blocks steps form) s here last) → front ≡ r.before
-    → PassesApart v form front here later low next → (n : ℕ) × ((n ≤ next) × IsWalkedTo (Follows v least blocks steps form) s later n)
-walked-apart v least blocks steps form s here later front last low next behind r same passes =
-    let on = passes.follows last behind in
-    (on.0, (on.1, IsWalkedTo-next (Follows v least blocks steps form) s here last passes.first later on.0 r passes.parts (inr (subst (λ l. FollowsApart v form (last_behind None l) last passes.first on.0) same on.2))))
+pub walked-apart : (v : VersionData) (least : ℕ) (blocks steps : List ℕ) (form : Form) (s here later front : List ℕ) (c last low next : ℕ) → last ≤ low → (r : IsWalkedTo (Follows v least blocks steps form) s here last) → front ≡ r.before
+    → here ≡ encode_utf8 c ++ later → PassesApart v form front c low next → (n : ℕ) × ((n ≤ next) × IsWalkedTo (Follows v least blocks steps form) s later n)
+walked-apart v least blocks steps form s here later front c last low next behind r same parts passes =
+    let on = passes last behind in
+    (on.0, (on.1, IsWalkedTo-next (Follows v least blocks steps form) s here last c later on.0 r parts (inr (subst (λ l. FollowsApart v form (last_behind None l) last c on.0) same on.2))))
+
+-- what is left begins with a boundary, or nothing is left
+pub begins-first : (v : VersionData) (form : Form) (rest here later : List ℕ) (c : ℕ) → rest ≡ here → IsUtf8 here → here ≡ encode_utf8 c ++ later → IsBoundary v form c → BeginsAtBoundary v form (chars rest)
+begins-first v form rest here later c same utf8 parts at = subst (BeginsAtBoundary v form) (sym (ap chars same ∙ chars_past_char here later c utf8 parts)) at
+
+pub begins-end : (v : VersionData) (form : Form) (rest here : List ℕ) → rest ≡ here → length here ≡ 0 → BeginsAtBoundary v form (chars rest)
+begins-end v form rest here same none = subst (BeginsAtBoundary v form) (sym (ap chars (same ∙ nil_from_length here none) ∙ chars-nil)) tt
 
 -- ---- a non-starter for which nothing is lent has no mapping
 

@@ -14,6 +14,11 @@ pub record IsBoundary (v : VersionData) (form : Form) (c : ℕ) : Type 0 where
   pub starter : class_of v first ≡ 0
   pub apart : composes form ≡ true → (a p : ℕ) → ¬ (IsCompositeOf v a first p)
 
+-- the form parts before the list: it is empty, or begins with a boundary
+abbrev pub BeginsAtBoundary : VersionData → Form → List ℕ → Type 0
+BeginsAtBoundary v form [] = ⊤
+BeginsAtBoundary v form (c ∷ cs) = IsBoundary v form c
+
 -- no combining class is less than the one before
 abbrev pub NeverFalls : (ℕ → ℕ) → List ℕ → Type 0
 NeverFalls ccc [] = ⊤

@@ -169,7 +169,7 @@ impl NormTable for PageTable {
         self.ascii
     }
 
-    fn standing(&self, form: Form, assigned: bool, text: &str) -> usize {
+    fn standing(&self, form: Form, assigned: bool, text: &str) -> (usize, bool) {
         standing_front(
             &self.version,
             &self.index,

@@ -1,10 +1,11 @@
 //! Code points that compose with some others, and stand in a normal form as they are behind those with which
 //! they don't: an accent behind a letter that has no composite with it.
-ghost use Rattle.std.specs.Prelude.{◌≡◌, ◌<◌, ◌≤◌, ◌⊎◌, ℕ, None, Some, chars, length, IfSome, IsTrue};
+ghost use Rattle.std.specs.Prelude.{◌≡◌, ◌<◌, ◌≤◌, ◌⊎◌, ℕ, None, Some, chars, slice_index_or, IfSome, IsTrue};
 ghost use Rattle.np_tables.specs.Composites.{IsCompositeOf};
 ghost use Rattle.np_tables.specs.Versions.{class_of};
 ghost use Rattle.np_tables.specs.inside.FullLists.{FullLists};
-ghost use Rattle.np_tables.specs.inside.PageWords.{ArePages, PassesApart, last_behind};
+ghost use Rattle.np_tables.specs.inside.PageWords.{ArePages, PassesApart, last_behind, no_word};
+ghost use Rattle.np_tables.specs.inside.Pages.{word_place};
 
 use crate::page_words::{Word, word_of};
 use crate::version::Version;
@@ -55,11 +56,10 @@ fn is_kept_apart(version: &Version, kept: char, last: u8, c: char, class: u8) ->
     }
 }
 
-/// The least step that may follow the first code point of a text, and what stands behind that, where it may be
-/// a second part of composites, but goes into nothing behind the text `front`: none where that is not found.
-/// A step of `low` may follow that text.
+/// The least step that may follow a code point, where it may be a second part of composites, but goes into
+/// nothing behind the text `front`: none where that is not found. A step of `low` may follow that text.
 #[inline(always)]
-pub(crate) fn pass_apart<'a>(
+pub(crate) fn pass_apart(
     version: &Version,
     blocks: &[u16],
     words: &[Word],
@@ -67,29 +67,28 @@ pub(crate) fn pass_apart<'a>(
     low: u8,
     form: Form,
     front: &str,
-    text: &'a str,
-) -> Option<(u8, &'a str)>
+    c: char,
+    word: Word,
+) -> Option<u8>
     requires pages { (lists : FullLists) × ArePages version.now lists blocks.now words.now }
+    requires word { word ≡ slice_index_or words.now (word_place blocks.now c) no_word }
     requires low { least ≤ low }
-    ensures least { IfSome result (λ cut. least ≤ cut.0) }
-    ensures apart { IfSome result (λ cut. PassesApart version.now form (chars front.now) text.now cut.1.now low cut.0) }
-    ensures shorter { IfSome result (λ cut. length cut.1.now < length text.now) }
+    ensures least { IfSome result (λ next. least ≤ next) }
+    ensures apart { IfSome result (λ next. PassesApart version.now form (chars front.now) c low next) }
 {
-    if !form.composes() {
+    // else the steps have told all
+    if word.apart || word.fulls != 0 || !form.composes() {
         return None;
     }
     let kept = last_beyond_ascii(front)?;
-    let mut iter = text.chars();
-    let c = iter.next()?;
-    let word = word_of(blocks, words, c);
-    // else the steps have told all
-    if word.apart || word.fulls != 0 || !word.assigned || is_syllable(c as u32) {
+    if !word.assigned || is_syllable(c as u32) {
         return None;
     }
     let next = low_behind_class(least, low, word.class)?;
     let last = word_of(blocks, words, kept).class;
-    if !is_kept_apart(version, kept, last, c, word.class) {
-        return None;
+    if is_kept_apart(version, kept, last, c, word.class) {
+        Some(next)
+    } else {
+        None
     }
-    Some((next, iter.as_str()))
 }

@@ -1,18 +1,21 @@
 //! Runs of code points that may stand in a normal form one behind the other as they are: those that
 //! stay, and behind them non-starters in canonical order that compose with nothing, or go into nothing
 //! where they stand.
-ghost use Rattle.std.specs.Prelude.{◌≡◌, ◌<◌, ◌≤◌, ℕ, length, true, IfSome, IsUtf8};
+ghost use Rattle.std.specs.Prelude.{◌≡◌, ◌<◌, ◌≤◌, ℕ, chars, drop, length, slice_index_or, true, IfSome, IsTrue, IsUtf8};
+ghost use Rattle.np_tables.specs.Boundaries.{BeginsAtBoundary};
 ghost use Rattle.np_tables.specs.Versions.{VersionData};
 ghost use Rattle.np_tables.specs.inside.FullLists.{FullLists};
-ghost use Rattle.np_tables.specs.inside.PageWords.{AreFollowing, ArePages, Follows, FollowsByStep, IsAsciiStaying, IsPast, WalksOn};
-ghost use Rattle.np_tables.specs.inside.Pages.{AreWithin};
+ghost use Rattle.np_tables.specs.inside.PageWords.{AreFollowing, ArePages, Follows, FollowsByStep, IsAsciiStaying, IsPast, WalksOn, no_word};
+ghost use Rattle.np_tables.specs.inside.Pages.{AreWithin, word_place};
 
 use crate::ascii_runs::ascii_front;
-use crate::page_words::Word;
+use crate::page_hints::parts_place;
+use crate::page_words::{Word, word_of};
 use crate::standing_apart::pass_apart;
 use crate::steps::{low_behind, step_at, step_place};
 use crate::utf8_fronts::{split_three, split_two};
 use crate::version::Version;
+use crate::word_bits::has_bit;
 use np_code_points::Form;
 
 /// Whether a text begins with ASCII. On this no answer depends.
@@ -126,8 +129,19 @@ fn pass_by_steps<'a>(
     }
 }
 
+/// The word of the code point at which a run ends.
+#[inline(always)]
+fn word_behind(blocks: &[u16], words: &[Word], c: char) -> Word
+    requires { AreWithin 4352 blocks.now (length words.now) }
+    ensures word { result ≡ slice_index_or words.now (word_place blocks.now c) no_word }
+    ensures scalar { c < 0x110000 }
+{
+    word_of(blocks, words, c)
+}
+
 /// How many bytes at the front of a text are code points that may follow one another as they are, each
-/// of them of a step that is no less than `least`, or one that goes into nothing behind the one before.
+/// of them of a step that is no less than `least`, or one that goes into nothing behind the one before; and
+/// whether the form is known to part before what follows them.
 pub(crate) fn standing_front(
     version: &Version,
     blocks: &[u16],
@@ -137,12 +151,13 @@ pub(crate) fn standing_front(
     least: u8,
     form: Form,
     text: &str,
-) -> usize
+) -> (usize, bool)
     requires pages { (lists : FullLists) × ArePages version.now lists blocks.now words.now }
     requires within { AreWithin 4352 blocks.now (length steps.now) }
     requires ascii { ascii ≡ true → IsAsciiStaying blocks.now steps.now }
     requires some { 1 ≤ least }
-    ensures { AreFollowing version.now least blocks.now steps.now form text.now result }
+    ensures following { AreFollowing version.now least blocks.now steps.now form text.now result.0 }
+    ensures parts { IsTrue result.1 → BeginsAtBoundary version.now form (chars (drop result.0 text.now)) }
 {
     let mut rest = text;
     // the least step that may follow
@@ -150,12 +165,19 @@ pub(crate) fn standing_front(
     'scan: loop {
         let (next, here) = pass_by_steps(blocks, steps, ascii, least, low, form, rest);
         let front = &text[..text.len() - here.len()];
-        let Some((behind, later)) = pass_apart(
-            version, blocks, words, least, next, form, front, here,
-        ) else {
-            return front.len();
+        let mut iter = here.chars();
+        let Some(c) = iter.next() else {
+            return (front.len(), true);
+        };
+        let word = word_behind(blocks, words, c);
+        if has_bit(word.hints, parts_place(form)) {
+            return (front.len(), true);
+        }
+        let Some(behind) = pass_apart(version, blocks, words, least, next, form, front, c, word)
+        else {
+            return (front.len(), false);
         };
         low = behind;
-        rest = later;
+        rest = iter.as_str();
     }
 }

@@ -1,8 +1,8 @@
 //! What normalization asks of a version.
 ghost use Rattle.std.specs.List.{list_all};
-ghost use Rattle.std.specs.Prelude.{◌≡◌, ◌<◌, ◌≤◌, ℕ, true, take, chars, IfSome, IfNone, IsTrue};
+ghost use Rattle.std.specs.Prelude.{◌≡◌, ◌<◌, ◌≤◌, ℕ, true, false, take, drop, chars, IfSome, IfNone, IsTrue};
 ghost use Rattle.np_code_points.specs.declared.forms.Form.{Form};
-ghost use Rattle.np_tables.specs.Boundaries.{IsBoundary};
+ghost use Rattle.np_tables.specs.Boundaries.{BeginsAtBoundary, IsBoundary};
 ghost use Rattle.np_tables.specs.Composites.{IsCompositeOf};
 ghost use Rattle.np_tables.specs.inside.CompositeSearch.{composite};
 ghost use Rattle.np_tables.specs.Conditions.{IsSound};
@@ -18,13 +18,15 @@ use np_code_points::Form;
 /// What a table answers that knows nothing of a property.
 const UNKNOWN: bool = false;
 
-/// No byte at the front of a text: nothing stands there, whatever the version and the form are.
-fn claim_nothing(text: &str) -> usize
-    ensures standing { (v : VersionData) (form : Form) → AreStanding v form text.now result }
-    ensures assigned { (v : VersionData) → list_all (is_assigned v) (chars (take result text.now)) ≡ true }
+/// No byte at the front of a text: nothing stands there, whatever the version and the form are, and nothing is
+/// known of what follows.
+fn claim_nothing(text: &str) -> (usize, bool)
+    ensures standing { (v : VersionData) (form : Form) → AreStanding v form text.now result.0 }
+    ensures assigned { (v : VersionData) → list_all (is_assigned v) (chars (take result.0 text.now)) ≡ true }
+    ensures parts { result.1 ≡ false }
 {
     let _unused = text;
-    0
+    (0, UNKNOWN)
 }
 
 /// A table of a version: each answer is a function of the version.
@@ -111,11 +113,13 @@ pub trait NormTable {
 
     /// How many bytes at the front of a text are known to stand in the form as they are, if a
     /// boundary or nothing follows: code points that stay, and behind them non-starters in canonical
-    /// order that compose with nothing; where `assigned` is asked for, each of them is. A table may answer
-    /// less, down to 0.
-    fn standing(&self, form: Form, assigned: bool, text: &str) -> usize
-        ensures standing { AreStanding (model self.now) form text.now result }
-        ensures assigned { IsTrue assigned → list_all (is_assigned (model self.now)) (chars (take result text.now)) ≡ true }
+    /// order that compose with nothing, or go into nothing where they stand; where `assigned` is asked for, each
+    /// of them is. Behind that it tells whether the form is known to part before what follows them. A table may
+    /// answer less, down to 0 and `false`.
+    fn standing(&self, form: Form, assigned: bool, text: &str) -> (usize, bool)
+        ensures standing { AreStanding (model self.now) form text.now result.0 }
+        ensures assigned { IsTrue assigned → list_all (is_assigned (model self.now)) (chars (take result.0 text.now)) ≡ true }
+        ensures parts { IsTrue result.1 → BeginsAtBoundary (model self.now) form (chars (drop result.0 text.now)) }
     {
         // the same
         let _unused = (form, assigned);
@@ -167,7 +171,7 @@ impl<T: NormTable> NormTable for &T {
         (**self).ascii_stands(form)
     }
 
-    fn standing(&self, form: Form, assigned: bool, text: &str) -> usize {
+    fn standing(&self, form: Form, assigned: bool, text: &str) -> (usize, bool) {
         (**self).standing(form, assigned, text)
     }
 }

@@ -3,13 +3,8 @@ use Rattle.std.specs.Prelude.{◌≡◌, ◌≢◌, ◌<◌, ◌≤◌, ℕ, ⊤
 use denote.Ref.{Bor}
 use Rattle.np_code_points.specs.declared.forms.Form.{Form}
 use Rattle.np_forms.specs.inside.NormalForms.{normal_form}
-use Rattle.np_tables.specs.Boundaries.{IsBoundary}
+use Rattle.np_tables.specs.Boundaries.{BeginsAtBoundary, IsBoundary}
 use Rattle.np_tables.specs.Versions.{VersionData, is_assigned}
-
--- the form parts before the list: it is empty, or begins with a boundary
-abbrev pub BeginsAtBoundary : VersionData → Form → List ℕ → Type 0
-BeginsAtBoundary v form [] = ⊤
-BeginsAtBoundary v form (c ∷ cs) = IsBoundary v form c
 
 -- a text is cut in two, of which the front stands in the form as it is
 pub record IsCopied (v : VersionData) (form : Form) (text front back : List ℕ) : Type 0 where

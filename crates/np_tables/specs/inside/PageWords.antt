@@ -1,5 +1,5 @@
 -- What a table of pages keeps for a code point.
-use Rattle.std.specs.Prelude.{◌≡◌, ℕ, ◌+◌, ◌<◌, ◌≤◌, ◌⊎◌, ◌&&◌, nat_le, not, Bool, true, false, List, [], ◌∷◌, ◌++◌, Option, None, length, map, slice_get, slice_index, slice_index_or, chars, encode_utf8, encode_utf8_all, All, IsUtf8, Some}
+use Rattle.std.specs.Prelude.{◌≡◌, ℕ, ◌+◌, ◌<◌, ◌≤◌, ◌⊎◌, ◌&&◌, nat_le, not, Bool, true, false, List, [], ◌∷◌, ◌++◌, Option, None, length, map, slice_get, slice_index, slice_index_or, chars, encode_utf8_all, All, IsUtf8, Some}
 use Rattle.np_ucd.specs.Entries.{Entry}
 use Rattle.np_code_points.specs.Hangul.{is_syllable}
 use Rattle.np_tables.specs.Versions.{VersionData, class_of, entry_at, has_hangul, is_assigned}
@@ -157,11 +157,9 @@ FollowsByStep least blocks steps form last c n =
 abbrev pub FollowsApart : VersionData → Form → Option ℕ → ℕ → ℕ → ℕ → Type 0
 FollowsApart v form before last c n = StandsApart v form before c × (n ≡ class_of v c) × ((n ≡ 0) ⊎ (last ≤ n)) × (is_assigned v c ≡ true)
 
--- the first code point of a text is one that does behind the code points `front`: from no more than `low` it leads to no more than `next`
-pub record PassesApart (v : VersionData) (form : Form) (front text rest : List ℕ) (low next : ℕ) : Type 0 where
-  pub first : ℕ
-  pub parts : text ≡ encode_utf8 first ++ rest
-  pub follows : (last : ℕ) → last ≤ low → (n : ℕ) × (n ≤ next) × FollowsApart v form (last_behind None front) last first n
+-- behind the code points `front` c is one that does: from no more than `low` it leads to no more than `next`
+abbrev pub PassesApart : VersionData → Form → List ℕ → ℕ → ℕ → ℕ → Type 0
+PassesApart v form front c low next = (last : ℕ) → last ≤ low → (n : ℕ) × (n ≤ next) × FollowsApart v form (last_behind None front) last c n
 
 -- either of the two
 abbrev pub Follows : VersionData → ℕ → List ℕ → List ℕ → Form → Option ℕ → ℕ → ℕ → ℕ → Type 0

@@ -1,31 +1,33 @@
 use Rattle.std.proofs.Common.{chars, sym, subst, ◌∙◌}
 use Rattle.np_forms.specs.Assigned.{IsAssigned}
 use Rattle.np_forms.proofs.CopyLemmas.{cut_boundary, own-boundary, own-front, IsCopied-cut, IsCopied-last}
+use Rattle.np_tables.specs.Boundaries.{BeginsAtBoundary}
 use Rattle.np_forms.proofs.TextLemmas.{assigned-front}
 use Rattle.np_forms.proofs.copying.split_standing.Goals as goal
 
 pub split_at-requires : goal.split_at-requires
-split_at-requires g c = cut_boundary (g.T.NormTable.model c.args.table.now) c.args.form c.args.text.now c.standing.result c.standing.ensures.standing
+split_at-requires g c = cut_boundary (g.T.NormTable.model c.args.table.now) c.args.form c.args.text.now c.standing-count.result.0 c.standing-count.ensures.standing
 
 pub split_at-requires-2 : goal.split_at-requires-2
 split_at-requires-2 g c =
-    own-boundary (g.T.NormTable.model c.args.table.now) c.args.form c.args.text.now c.standing.result c.standing.ensures.standing
+    own-boundary (g.T.NormTable.model c.args.table.now) c.args.form c.args.text.now c.standing-count.result.0 c.standing-count.ensures.standing
     c.split_at.result.0.now c.split_tail.result.0.now c.split_tail.result.1.now c.split_at.ensures.front c.utf8.text c.split_tail.ensures.front c.split_tail.ensures.back c.split_tail.ensures.parts
 
-pub returns-then-begins_at_boundary-clause-copied : goal.returns-then-begins_at_boundary-clause-copied
-returns-then-begins_at_boundary-clause-copied g c =
-    IsCopied-cut (g.T.NormTable.model c.args.table.now) c.meets_conditions.ensures c.args.form c.args.text.now c.standing.result c.standing.ensures.standing
-    c.split_at.result.0.now c.split_at.result.1.now c.split_at.ensures.front c.split_at.ensures.back (c.begins_at_boundary.ensures c.if-begins_at_boundary.true)
+pub returns-then-parts-clause-copied : goal.returns-then-parts-clause-copied
+returns-then-parts-clause-copied g c =
+    IsCopied-cut (g.T.NormTable.model c.args.table.now) c.meets_conditions.ensures c.args.form c.args.text.now c.standing-count.result.0 c.standing-count.ensures.standing
+    c.split_at.result.0.now c.split_at.result.1.now c.split_at.ensures.front c.split_at.ensures.back
+    (subst (λ l. BeginsAtBoundary (g.T.NormTable.model c.args.table.now) c.args.form (chars l)) (sym c.split_at.ensures.back) (c.standing-count.ensures.parts c.if-parts.true))
 
 pub returns-clause-copied : goal.returns-clause-copied
 returns-clause-copied g c =
-    IsCopied-last (g.T.NormTable.model c.args.table.now) c.args.form c.args.text.now c.standing.result c.standing.ensures.standing
+    IsCopied-last (g.T.NormTable.model c.args.table.now) c.args.form c.args.text.now c.standing-count.result.0 c.standing-count.ensures.standing
     c.split_at.result.0.now c.split_tail.result.0.now c.split_tail.result.1.now c.split_at.ensures.front c.utf8.text c.split_tail.ensures.front c.split_tail.ensures.back c.split_tail.ensures.parts
     c.meets_conditions.ensures c.split_at-2.result.0.now c.split_at-2.result.1.now c.split_tail.ensures.cut c.split_tail.ensures.some c.split_at-2.ensures.front c.split_at-2.ensures.back
 
-pub returns-then-begins_at_boundary-clause-assigned : goal.returns-then-begins_at_boundary-clause-assigned
-returns-then-begins_at_boundary-clause-assigned g c = λ on.
-    subst (λ l. IsAssigned (g.T.NormTable.model c.args.table.now) (chars l)) (sym c.split_at.ensures.front) (c.standing.ensures.assigned on)
+pub returns-then-parts-clause-assigned : goal.returns-then-parts-clause-assigned
+returns-then-parts-clause-assigned g c = λ on.
+    subst (λ l. IsAssigned (g.T.NormTable.model c.args.table.now) (chars l)) (sym c.split_at.ensures.front) (c.standing-count.ensures.assigned on)
 
 pub returns-clause-assigned : goal.returns-clause-assigned
 returns-clause-assigned g c = λ on.
@@ -34,6 +36,6 @@ returns-clause-assigned g c = λ on.
     let own = c.split_tail.result.0.now in
     let part = c.split_tail.result.1.now in
     let is = c.split_at-2.ensures.front
-    ∙ own-front v c.args.form c.args.text.now c.standing.result c.standing.ensures.standing front own part c.split_at.ensures.front c.utf8.text c.split_tail.ensures.front c.split_tail.ensures.back c.split_tail.ensures.parts in
+    ∙ own-front v c.args.form c.args.text.now c.standing-count.result.0 c.standing-count.ensures.standing front own part c.split_at.ensures.front c.utf8.text c.split_tail.ensures.front c.split_tail.ensures.back c.split_tail.ensures.parts in
     subst (λ l. IsAssigned v (chars l)) (sym is)
-    (assigned-front v front own part c.split_tail.ensures.front c.split_tail.ensures.parts (subst (λ l. IsAssigned v (chars l)) (sym c.split_at.ensures.front) (c.standing.ensures.assigned on)))
+    (assigned-front v front own part c.split_tail.ensures.front c.split_tail.ensures.parts (subst (λ l. IsAssigned v (chars l)) (sym c.split_at.ensures.front) (c.standing-count.ensures.assigned on)))

@@ -1,5 +1,6 @@
-use Rattle.std.proofs.Common.{◌≡◌, sym, subst, ◌∙◌, arith}
+use Rattle.std.proofs.Common.{◌≡◌, chars, drop, sym, subst, ◌∙◌, arith}
 use Rattle.std.proofs.lemmas.Bool.{cond-true}
+use Rattle.np_tables.specs.Boundaries.{BeginsAtBoundary}
 use Rattle.np_tables.specs.inside.PageWords.{AreFollowing, ArePages}
 use Rattle.np_tables.proofs.StandingLemmas.{following-assigned, following-standing}
 use Rattle.np_tables.proofs.page_table.PageTableNormTable.standing.Goals as goal
@@ -17,18 +18,24 @@ returns-clause-standing c =
     let fields = c.self.inside in
     let u = fields.version in
     let text = c.args.text.now in
-    let n = c.standing_front.result in
+    let n = c.standing_front.result.0 in
     following-standing c.args.self.now u c.self.view_is fields.fulls fields.index.items fields.words.items c.self.invariant.pages fields.steps.items fields.are_steps c.args.form c.least_step.result text n
     (subst (λ i. AreFollowing u c.least_step.result i fields.steps.items c.args.form text n) c.deref.ensures.value
-    (subst (λ w. AreFollowing u c.least_step.result c.deref.result.now w c.args.form text n) c.deref-3.ensures.value c.standing_front.ensures))
+    (subst (λ w. AreFollowing u c.least_step.result c.deref.result.now w c.args.form text n) c.deref-3.ensures.value c.standing_front.ensures.following))
 
 pub returns-clause-assigned : goal.returns-clause-assigned
 returns-clause-assigned c = λ on.
     let fields = c.self.inside in
     let u = fields.version in
     let text = c.args.text.now in
-    let n = c.standing_front.result in
+    let n = c.standing_front.result.0 in
     let two : c.least_step.result ≡ 2 = c.least_step.ensures ∙ cond-true _ _ _ on in
     following-assigned c.args.self.now u c.self.view_is fields.fulls fields.index.items fields.words.items c.self.invariant.pages fields.steps.items fields.are_steps c.args.form c.least_step.result text n (omega (arith, two)) c.utf8.text
     (subst (λ i. AreFollowing u c.least_step.result i fields.steps.items c.args.form text n) c.deref.ensures.value
-    (subst (λ w. AreFollowing u c.least_step.result c.deref.result.now w c.args.form text n) c.deref-3.ensures.value c.standing_front.ensures))
+    (subst (λ w. AreFollowing u c.least_step.result c.deref.result.now w c.args.form text n) c.deref-3.ensures.value c.standing_front.ensures.following))
+
+pub returns-clause-parts : goal.returns-clause-parts
+returns-clause-parts c = λ on.
+    let text = c.args.text.now in
+    let n = c.standing_front.result.0 in
+    subst (λ x. BeginsAtBoundary x c.args.form (chars (drop n text))) c.self.view_is (c.standing_front.ensures.parts on)
