@@ -177,3 +177,7 @@ ascii-alone v sound form assigned stays c lt =
 -- the text that it begins is copied, where a syllable follows
 pub space-copied : (v : VersionData) (form : Form) (text later : List ℕ) (c : ℕ) → StandsAlone v form c → IsUtf8 text → text ≡ encode_utf8 c ++ later → BeginsAtBoundary v form (chars later) → IsCopied v form text (encode_utf8 c) later
 space-copied v form text later c alone utf8 parts at = subst (λ l. IsCopied v form l (encode_utf8 c) later) (sym parts) (alone.stands later (IsUtf8-past_char text later c utf8 parts) at)
+
+-- the form parts before it
+pub space-begins : (v : VersionData) (form : Form) (text later : List ℕ) (c : ℕ) → StandsAlone v form c → IsUtf8 text → text ≡ encode_utf8 c ++ later → BeginsAtBoundary v form (chars text)
+space-begins v form text later c alone utf8 parts = subst (BeginsAtBoundary v form) (sym (chars_past_char text later c utf8 parts)) alone.boundary

@@ -3,12 +3,13 @@
 ghost use Rattle.std.specs.Prelude.{◌≡◌, ◌+◌, ◌/◌, ◌%◌, ◌<◌, ◌≤◌, ◌++◌, ◌∷◌, [], true, false, chars, encode_utf8, encode_utf8_all, IfNone, IfOk, IfSome, IsTrue, OnOk};
 ghost use Rattle.np_code_points.specs.Forms.{composes};
 ghost use Rattle.np_code_points.specs.Hangul.{is_syllable as in_block};
-ghost use Rattle.np_forms.specs.inside.Copies.{AsciiStandsAlone, GoesOn, PartsBeforeLeads};
+ghost use Rattle.np_forms.specs.inside.Copies.{AsciiStandsAlone, GoesOn, PartsBeforeLeads, StandsAlone};
 ghost use Rattle.np_tables.specs.Boundaries.{BeginsAtBoundary};
 ghost use Rattle.np_forms.specs.inside.Readings.{IsReadAssigned};
 ghost use Rattle.np_forms.specs.inside.Syllables.{BeginsWithSyllable, syllable_parts};
 ghost use Rattle.np_tables.specs.Versions.{has_hangul};
 
+use crate::copying::begins_at_boundary;
 use crate::jamo_bytes::{THREE_JAMO, jamo_front};
 use crate::out_texts::OutText;
 use crate::utf8_bytes::{last_byte, lead_byte, middle_byte, three_bytes};
@@ -169,30 +170,50 @@ fn is_ascii_alone<T: NormTable>(table: &T, form: Form) -> bool
     table.ascii_stands(form)
 }
 
-/// Appends the ASCII character at the front of a text, where they stand alone and a syllable follows it.
-/// Answers what follows the character, the syllable that this begins with, and what follows that.
+/// The ASCII character that a text begins with, where each is known to stand alone, and what follows it.
+#[inline(always)]
+fn space_front<'a, T: NormTable>(
+    table: &T,
+    form: Form,
+    ascii: bool,
+    text: &'a str,
+) -> Option<(char, &'a str)>
+    requires { ascii ≡ true → AsciiStandsAlone (T.model table.now) form }
+    ensures alone { IfSome result (λ cut. StandsAlone (T.model table.now) form cut.0) }
+    ensures parts { IfSome result (λ cut. text.now ≡ encode_utf8 cut.0 ++ cut.1.now) }
+{
+    table.meets_conditions();
+    // of the form the clauses alone speak
+    let _unused = form;
+    if !ascii {
+        return None;
+    }
+    let (c, later) = ascii_first(text)?;
+    Some((c, later))
+}
+
+/// Appends the ASCII character that a text begins with, where it is told beside what follows it, and a
+/// syllable does. Answers what follows the character, that syllable, and what follows it.
 #[inline(always)]
 fn write_space<'a, T: NormTable>(
     table: &T,
     form: Form,
     joins: bool,
-    ascii: bool,
     text: &'a str,
+    space: Option<(char, &'a str)>,
     out: &mut OutText,
 ) -> Result<Option<(&'a str, u32, &'a str)>, Memory>
     requires on { has_hangul (T.model table.now) ≡ true }
     requires leads { composes form ≡ true → PartsBeforeLeads (T.model table.now) form }
-    requires ascii { ascii ≡ true → AsciiStandsAlone (T.model table.now) form }
+    requires alone { IfSome space (λ cut. StandsAlone (T.model table.now) form cut.0) }
+    requires parts { IfSome space (λ cut. text.now ≡ encode_utf8 cut.0 ++ cut.1.now) }
     ensures goes { IfOk result (λ cut. IfSome cut (λ next. GoesOn (T.model table.now) form text.now next.0.now out.old out.new)) }
     ensures read { IfOk result (λ cut. IfSome cut (λ next. IsReadAssigned (T.model table.now) text.now next.0.now)) }
     ensures begins { IfOk result (λ cut. IfSome cut (λ next. BeginsWithSyllable next.0.now next.2.now next.1)) }
     ensures none { IfOk result (λ cut. IfNone cut (out.new ≡ out.old)) }
 {
     table.meets_conditions();
-    if !ascii {
-        return Ok(None);
-    }
-    let Some((c, later)) = ascii_first(text) else {
+    let Some((c, later)) = space else {
         return Ok(None);
     };
     let Some((syllable, behind)) = syllable_front(joins, later) else {
@@ -229,7 +250,8 @@ pub(crate) fn write_syllables<'a, T: NormTable>(
             later = behind;
             continue;
         }
-        let Some((_begun, next, behind)) = write_space(table, form, false, ascii, later, out)?
+        let space = space_front(table, form, ascii, later);
+        let Some((_begun, next, behind)) = write_space(table, form, false, later, space, out)?
         else {
             return Ok(later);
         };
@@ -238,20 +260,23 @@ pub(crate) fn write_syllables<'a, T: NormTable>(
     }
 }
 
-/// Whether the form is known to part before a text: it is empty, or begins with a boundary. `ascii` tells
-/// that each ASCII character is one.
+/// Whether the form is known to part before a text, of which it is told where it begins with an ASCII
+/// character that stands alone.
 #[inline(always)]
-fn parts_before<T: NormTable>(table: &T, form: Form, ascii: bool, text: &str) -> bool
-    requires { ascii ≡ true → AsciiStandsAlone (T.model table.now) form }
+fn parts_before<T: NormTable>(
+    table: &T,
+    form: Form,
+    text: &str,
+    space: Option<(char, &str)>,
+) -> bool
+    requires alone { IfSome space (λ cut. StandsAlone (T.model table.now) form cut.0) }
+    requires parts { IfSome space (λ cut. text.now ≡ encode_utf8 cut.0 ++ cut.1.now) }
     ensures { IsTrue result → BeginsAtBoundary (T.model table.now) form (chars text.now) }
 {
-    let Some(c) = text.chars().next() else {
-        return true;
-    };
-    if ascii && c.is_ascii() {
-        return true;
+    match space {
+        Some((_c, _later)) => true,
+        None => begins_at_boundary(table, form, text),
     }
-    table.is_boundary(form, c)
 }
 
 /// Appends the syllables at the front of a text, by their jamo or precomposed, of which single ASCII
@@ -285,11 +310,12 @@ fn write_joined<'a, T: NormTable>(
             later = behind;
             continue;
         }
-        if !parts_before(table, form, ascii, later) {
+        let space = space_front(table, form, ascii, later);
+        if !parts_before(table, form, later, space) {
             return Ok(rest);
         }
         push_joined(out, syllable)?;
-        let Some((begun, next, behind)) = write_space(table, form, true, ascii, later, out)? else {
+        let Some((begun, next, behind)) = write_space(table, form, true, later, space, out)? else {
             return Ok(later);
         };
         rest = begun;

@@ -1,7 +1,8 @@
+use Rattle.std.proofs.Common.{◌≡◌, ◌++◌, encode_utf8, subst, IfSome}
+use Rattle.np_forms.specs.inside.Copies.{StandsAlone}
 use Rattle.np_forms.proofs.DecomposedLemmas.{goes-copied}
 use Rattle.np_forms.proofs.SyllableFrontLemmas.{space-copied, syllable-begins}
 use Rattle.np_forms.proofs.TextLemmas.{IsReadAssigned-next, IsReadAssigned-start}
-use Rattle.std.proofs.Common.{encode_utf8}
 use Rattle.np_forms.proofs.syllable_texts.write_space.Goals as goal
 
 pub returns-clause-goes : goal.returns-clause-goes
@@ -12,11 +13,14 @@ returns-clause-goes g c =
     let later = c.in-Some.later.now in
     let begins = c.in-Some-syllable_front.ensures in
     let at = syllable-begins v c.meets_conditions.ensures c.requires.on form c.requires.leads later c.in-Some-syllable_front.behind.now c.in-Some-syllable_front.syllable begins in
-    goes-copied v form text (encode_utf8 c.in-Some.c) later c.args.out.now c.append_char.new.self
-    (space-copied v form text later c.in-Some.c (c.requires.ascii c.if-not-ascii.false c.in-Some.c c.in-Some.ensures.ascii) c.utf8.text c.in-Some.ensures.parts at) c.in_ok-append_char.ensures
+    let alone = subst (λ j. IfSome j (λ cut. StandsAlone v form cut.0)) c.in-Some.is c.requires.alone in
+    let parts = subst (λ j. IfSome j (λ cut. text ≡ encode_utf8 cut.0 ++ cut.1.now)) c.in-Some.is c.requires.parts in
+    goes-copied v form text (encode_utf8 c.in-Some.c) later c.args.out.now c.append_char.new.self (space-copied v form text later c.in-Some.c alone c.utf8.text parts at) c.in_ok-append_char.ensures
 
 pub returns-clause-read : goal.returns-clause-read
 returns-clause-read g c =
     let v = g.T.NormTable.model c.args.table.now in
     let text = c.args.text.now in
-    IsReadAssigned-next v text text c.in-Some.c c.in-Some.later.now (IsReadAssigned-start v text c.utf8.text) c.in-Some.ensures.parts (c.requires.ascii c.if-not-ascii.false c.in-Some.c c.in-Some.ensures.ascii).assigned
+    let alone = subst (λ j. IfSome j (λ cut. StandsAlone v c.args.form cut.0)) c.in-Some.is c.requires.alone in
+    let parts = subst (λ j. IfSome j (λ cut. text ≡ encode_utf8 cut.0 ++ cut.1.now)) c.in-Some.is c.requires.parts in
+    IsReadAssigned-next v text text c.in-Some.c c.in-Some.later.now (IsReadAssigned-start v text c.utf8.text) parts alone.assigned
