@@ -149,9 +149,15 @@ fn no_syllable_goes_by_arithmetic_where_the_jamo_lack(rt: HostRuntime) -> Result
 // How many bytes at the front of a text stand in a form as they are: composites and syllables come
 // back, singletons and excluded ones don't, nor what has a mapping that counts. Non-starters follow
 // where no class is less than the one before and, where the form composes, they are no second parts;
-// behind a composite none is taken to follow, nor what is not assigned. A leading consonant is not taken
-// to stand where the form composes.
-const STANDING: [(Form, &str, usize); 24] = [
+// behind a composite none is taken to follow, nor what is not assigned. A second part follows a code point
+// that blocks it, or with which it has no composite. A leading consonant is not taken to stand where the
+// form composes.
+const STANDING: [(Form, &str, usize); 29] = [
+    (Form::Nfc, "\u{915}\u{302}", 5),
+    (Form::Nfkc, "\u{915}\u{302}\u{30A}\u{1161}", 10),
+    (Form::Nfc, "\u{915}\u{323}\u{302}", 5),
+    (Form::Nfc, "\u{915}\u{302}\u{323}", 5),
+    (Form::Nfc, "\u{AC01}\u{11A8}", 6),
     (Form::Nfc, "A\u{E2}\u{1EAD}\u{AC01}\u{D7A3}", 12),
     (Form::Nfkc, "A\u{E2}\u{1EAD}\u{AC01}\u{D7A3}", 12),
     (Form::Nfd, "A\u{E2}", 1),
@@ -229,7 +235,24 @@ const PARTING: [(Form, char, bool); 8] = [
 
 fn tells_what_stands<T: NormTable>(table: &T, rows: &[(Form, &str, usize)]) -> Result<(), Fail> {
     for (form, text, count) in rows {
-        want(table.standing(*form, false, text) == *count, text)?;
+        let (stands, _parts) = table.standing(*form, false, text);
+        want(stands == *count, text)?;
+    }
+    Ok(())
+}
+
+// Whether a form is told to part behind what stands at the front of a text.
+const ENDING: [(Form, &str, bool); 4] = [
+    (Form::Nfd, "A\u{E2}", true),
+    (Form::Nfc, "A\u{302}", false),
+    (Form::Nfkc, "A\u{1100}\u{1161}", true),
+    (Form::Nfc, "A", true),
+];
+
+fn tells_where_runs_end<T: NormTable>(table: &T, rows: &[(Form, &str, bool)]) -> Result<(), Fail> {
+    for (form, text, parts) in rows {
+        let (_stands, ended) = table.standing(*form, false, text);
+        want(ended == *parts, text)?;
     }
     Ok(())
 }
@@ -239,8 +262,10 @@ fn tells_what_stands_assigned<T: NormTable>(
     rows: &[(Form, &str, usize, usize)],
 ) -> Result<(), Fail> {
     for (form, text, any, assigned) in rows {
-        want(table.standing(*form, false, text) == *any, text)?;
-        want(table.standing(*form, true, text) == *assigned, text)?;
+        let (stands, _parts) = table.standing(*form, false, text);
+        want(stands == *any, text)?;
+        let (stands, _parts) = table.standing(*form, true, text);
+        want(stands == *assigned, text)?;
     }
     Ok(())
 }
@@ -258,6 +283,7 @@ fn tells_where_forms_part<T: NormTable>(
 fn tells_what_forms_leave(table: &PageTable) -> Result<(), Fail> {
     tells_what_stands(table, &STANDING)?;
     tells_what_stands_assigned(table, &LACKING)?;
+    tells_where_runs_end(table, &ENDING)?;
     tells_where_forms_part(table, &PARTING)
 }
 
@@ -310,4 +336,47 @@ fn forms_of_single_code_points_are_spelled(rt: HostRuntime) -> Result<(), Fail> 
         )?;
     }
     Ok(())
+}
+
+// All of ASCII, as one range.
+const ASCII: Files = (
+    "\
+0000;<ASCII, First>;Lu;0;L;;;;;N;;;;;
+007F;<ASCII, Last>;Lu;0;L;;;;;N;;;;;
+",
+    "",
+);
+
+const FORMS: [Form; 4] = [Form::Nfd, Form::Nfc, Form::Nfkd, Form::Nfkc];
+
+/// Whether a table tells of each form that it parts before leading consonants, and that ASCII stands, as
+/// it is wanted.
+fn tells_once<T: NormTable>(table: &T, leads: bool, ascii: bool) -> bool {
+    for form in &FORMS {
+        if table.parts_before_leads(*form) != leads || table.ascii_stands(*form) != ascii {
+            return false;
+        }
+    }
+    true
+}
+
+#[test]
+fn where_leading_consonants_part_is_told_once(rt: HostRuntime) -> Result<(), Fail> {
+    let table: PageTable = table_of(rt.alloc(), V1)?;
+    want(tells_once(&&table, true, false), "leading consonants part")
+}
+
+#[test]
+fn that_ascii_stands_is_told_once(rt: HostRuntime) -> Result<(), Fail> {
+    let table: PageTable = table_of(rt.alloc(), ASCII)?;
+    want(tells_once(&table, true, true), "ASCII stands")
+}
+
+#[test]
+fn a_plain_table_tells_neither(rt: HostRuntime) -> Result<(), Fail> {
+    let table: RowTable = table_of(rt.alloc(), ASCII)?;
+    want(
+        tells_once(&table, false, false),
+        "a plain table tells neither",
+    )
 }
