@@ -1,5 +1,5 @@
 -- A starter and two non-starters that are exchanged.
-use Rattle.std.proofs.Common.{◌≡◌, ℕ, ◌<◌, Bool, true, false, List, [], ◌∷◌, ◌++◌, None, chars, encode_utf8, IsUtf8, IsTrue, flat_map, refl, sym, ap, ◌∙◌, arith}
+use Rattle.std.proofs.Common.{◌≡◌, ℕ, ◌<◌, Bool, true, false, List, [], ◌∷◌, ◌++◌, None, chars, encode_utf8, IsUtf8, flat_map, refl, ap, ◌∙◌, arith}
 use Rattle.np_code_points.specs.Forms.{is_compat, composes}
 use Rattle.np_code_points.specs.declared.forms.Form.{Form}
 use Rattle.np_forms.specs.inside.CanonicalOrder.{canonical_order}

@@ -1,12 +1,11 @@
 -- Code points that go into nothing behind the one before.
-use Rattle.std.proofs.Common.{◌≡◌, ℕ, ◌<◌, ◌≤◌, ◌⊎◌, ◌&&◌, not, Bool, true, false, List, [], ◌∷◌, ◌++◌, Option, Some, None, length, get_or, take, drop, take_at, drop_at, chars, IsUtf8, encode_utf8, refl, sym, ap, subst, ◌∙◌, arith, inl, inr, append-nil, length-append}
+use Rattle.std.proofs.Common.{◌≡◌, ℕ, ◌<◌, ◌≤◌, ◌⊎◌, not, false, List, [], ◌∷◌, ◌++◌, Option, Some, None, length, get_or, take, drop, take_at, drop_at, chars, IsUtf8, encode_utf8, refl, sym, ap, subst, ◌∙◌, arith, inl, inr, append-nil, length-append}
 use Rattle.std.proofs.lemmas.Bool.{and_right, not-false}
 use Rattle.std.proofs.lemmas.Str.{chars-append, chars-nil, chars_past_char, IsCharBoundary-from_take, IsUtf8-drop}
 use Rattle.np_code_points.specs.Forms.{is_compat}
 use Rattle.np_code_points.specs.Hangul.{is_syllable}
 use Rattle.np_code_points.specs.declared.forms.Form.{Form}
 use Rattle.np_tables.specs.Composites.{IsCompositeOf}
-use Rattle.np_tables.specs.Standing.{StandsApart}
 use Rattle.np_tables.specs.Versions.{VersionData, class_of, has_hangul}
 use Rattle.np_tables.specs.declared.page_words.Word.{Word}
 use Rattle.np_tables.specs.inside.FullDecompositions.{table_full}

@@ -1,4 +1,4 @@
-use Rattle.std.proofs.Common.{ℕ, ◌≤◌, length, IsUtf8}
+use Rattle.std.proofs.Common.{◌≤◌, length, IsUtf8}
 use Rattle.np_tables.specs.Versions.{VersionData}
 use Rattle.np_tables.specs.inside.PageWords.{Follows, WalksOn}
 use Rattle.np_tables.proofs.standing_runs.pass_by_steps.Given as goal

@@ -1,9 +1,9 @@
-use Rattle.std.proofs.Common.{◌≤◌, ◌∙◌, ◌++◌, length, encode_utf8, refl, sym, ap, arith}
+use Rattle.std.proofs.Common.{◌∙◌, ◌++◌, length, encode_utf8, refl, sym, ap, arith}
 use Rattle.std.specs.Str.Iter.{chars_rest}
 use Rattle.np_tables.specs.inside.PageHints.{has_bit}
 use Rattle.np_tables.specs.inside.PageWords.{Follows}
 use Rattle.np_tables.proofs.PageWordLemmas.{boundary-read}
-use Rattle.np_tables.proofs.StandingLemmas.{begins-first, following-stop, walked-apart, walked-front, walked-rest, walked-seam, walked-shorter}
+use Rattle.np_tables.proofs.StandingLemmas.{begins-first, following-stop, walked-apart, walked-front, walked-rest, walked-seam}
 use Rattle.np_tables.proofs.standing_runs.standing_front.Goals as goal
 
 pub range-front-requires-clause-end_boundary : goal.range-front-requires-clause-end_boundary
