@@ -6,7 +6,6 @@ pub mod Examples
 pub mod Faults
 pub mod Laws
 pub mod Mappings
-pub mod Standing
 pub mod TableFaults
 pub mod Versions
 pub mod inside
