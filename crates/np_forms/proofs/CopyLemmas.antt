@@ -17,7 +17,7 @@ use Rattle.np_tables.specs.Boundaries.{BeginsAtBoundary, IsBoundary}
 use Rattle.np_tables.specs.Conditions.{IsSound}
 use Rattle.np_tables.specs.Versions.{VersionData, class_of}
 use Rattle.np_tables.specs.inside.FullDecompositions.{full_of}
-use Rattle.np_tables.specs.inside.Standing.{AreStanding, MayFollow, Walks}
+use Rattle.np_tables.specs.Standing.{AreStanding, MayFollow, Walks}
 use Rattle.np_tables.proofs.WalkLemmas.{Walks-front}
 use Rattle.np_code_points.specs.Forms.{is_compat, composes}
 use Rattle.np_forms.proofs.ComposeLemmas.{compose-nil}

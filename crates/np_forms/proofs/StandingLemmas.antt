@@ -19,7 +19,7 @@ use Rattle.np_tables.specs.Conditions.{IsSound}
 use Rattle.np_tables.specs.Versions.{VersionData, class_of}
 use Rattle.np_tables.specs.inside.CompositeSearch.{composite}
 use Rattle.np_tables.specs.inside.FullDecompositions.{full_of}
-use Rattle.np_tables.specs.inside.Standing.{IsInert, MayFollow, StandsApart, Walks}
+use Rattle.np_tables.specs.Standing.{IsInert, MayFollow, StandsApart, Walks}
 
 module _ (v : VersionData) (sound : IsSound v) where
   -- composites go in one after the other, whatever follows

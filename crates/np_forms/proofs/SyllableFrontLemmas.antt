@@ -29,7 +29,7 @@ use Rattle.np_tables.specs.Boundaries.{BeginsAtBoundary, FoldsTo, IsBoundary}
 use Rattle.np_tables.specs.Composites.{IsCompositeOf}
 use Rattle.np_tables.specs.Conditions.{IsSound}
 use Rattle.np_tables.specs.Mappings.{IsFullDecomposition, is_final}
-use Rattle.np_tables.specs.inside.Standing.{StaysUpTo}
+use Rattle.np_tables.specs.Standing.{StaysUpTo}
 use Rattle.np_tables.specs.Versions.{VersionData, class_of, has_hangul, is_assigned}
 use Rattle.np_tables.specs.inside.FullDecompositions.{full_of}
 

@@ -2,7 +2,7 @@
 use Rattle.std.proofs.Common.{◌≡◌, ℕ, ◌<◌, true, List, get_or, sym, ap, subst, ◌∙◌, arith}
 use Rattle.np_code_points.specs.declared.forms.Form.{Form}
 use Rattle.np_code_points.specs.Forms.{is_compat}
-use Rattle.np_tables.specs.inside.Standing.{StaysUpTo}
+use Rattle.np_tables.specs.Standing.{StaysUpTo}
 use Rattle.np_tables.specs.Versions.{VersionData, is_assigned}
 use Rattle.np_tables.specs.declared.page_words.Word.{Word}
 use Rattle.np_tables.specs.inside.FullLists.{FullLists}

@@ -12,7 +12,7 @@ use Rattle.np_code_points.specs.Forms.{is_compat}
 use Rattle.np_tables.specs.Boundaries.{BeginsAtBoundary, IsBoundary, Stays}
 use Rattle.np_tables.specs.Conditions.{IsSound}
 use Rattle.np_tables.specs.Mappings.{is_final}
-use Rattle.np_tables.specs.inside.Standing.{AreStanding, MayFollow, StaysUpTo, Walks}
+use Rattle.np_tables.specs.Standing.{AreStanding, MayFollow, StaysUpTo, Walks}
 use Rattle.np_tables.specs.Versions.{VersionData, class_of, has_hangul, is_assigned}
 use Rattle.np_tables.specs.declared.page_words.Word.{Word}
 use Rattle.np_tables.specs.inside.FullDecompositions.{full_of, table_full}

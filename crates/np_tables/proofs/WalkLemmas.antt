@@ -1,6 +1,6 @@
 -- Walks over lists.
 use Rattle.std.proofs.Common.{ℕ, List, [], ◌∷◌, ◌++◌, Option, Some, refl, sym, subst}
-use Rattle.np_tables.specs.inside.Standing.{Walks}
+use Rattle.np_tables.specs.Standing.{Walks}
 use Rattle.np_tables.specs.inside.PageWords.{last_behind}
 
 module _ (Step : Option ℕ → ℕ → ℕ → ℕ → Type 0) where

@@ -17,7 +17,6 @@ pub mod RowPages
 pub mod RowPlaces
 pub mod Spelled
 pub mod Spellings
-pub mod Standing
 pub mod Steps
 pub mod Suspects
 pub mod Tables

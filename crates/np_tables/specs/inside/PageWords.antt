@@ -12,7 +12,7 @@ use Rattle.np_tables.specs.inside.FullDecompositions.{table_full}
 use Rattle.np_tables.specs.inside.FullLists.{FullLists, of_kind}
 use Rattle.np_tables.specs.inside.FullParts.{AreParts, part_of}
 use Rattle.np_code_points.specs.declared.forms.Form.{Form}
-use Rattle.np_tables.specs.inside.Standing.{AreWalked, StandsApart, Walks}
+use Rattle.np_tables.specs.Standing.{AreWalked, StandsApart, Walks}
 use Rattle.np_tables.specs.inside.PageHints.{AreBits}
 use Rattle.np_tables.specs.inside.Pages.{AreWithin, word_place}
 use Rattle.np_tables.specs.inside.Steps.{step_in}
