@@ -9,7 +9,7 @@ use lib.Lanes.{chunk, mask_l, top, zip2}
 use mir.Syntax.{w8}
 use Rattle.np_tables.specs.inside.AsciiBytes.{is_ascii_byte}
 
-zip2-splat : (t : ℕ → ℕ → Bool) (n y : ℕ) (xs : List ℕ) → length xs ≡ n → zip2 t (replicate n y) xs ≡ map (λ x. t y x) xs
+pub zip2-splat : (t : ℕ → ℕ → Bool) (n y : ℕ) (xs : List ℕ) → length xs ≡ n → zip2 t (replicate n y) xs ≡ map (λ x. t y x) xs
 zip2-splat t zero y [] long = refl
 zip2-splat t zero y (x ∷ xs) long = absurd (omega arith)
 zip2-splat t (suc n) y [] long = absurd (omega arith)

@@ -18,6 +18,8 @@ pub mod FullLemmas
 pub mod FullListLemmas
 pub mod HangulLemmas
 pub mod HangulPlaces
+pub mod LeadByteLemmas
+pub mod LeadRunLemmas
 pub mod MappedLemmas
 pub mod MappingLemmas
 pub mod MarkCutLemmas

@@ -7,7 +7,7 @@ use Rattle.std.specs.Char.{encode_utf8, IsScalar}
 use Rattle.std.specs.Str.{IsCharBoundary}
 use lib.Utf8.{scalars}
 
-encode_one : (c : ℕ) → c < 0x80 → encode_utf8 c ≡ c ∷ []
+pub encode_one : (c : ℕ) → c < 0x80 → encode_utf8 c ≡ c ∷ []
 unfolding encode_utf8
 encode_one c low = cond-true _ _ _ (lt-ltb c 128 low)
 

@@ -7,6 +7,7 @@ pub mod FullDecompositions
 pub mod FullLists
 pub mod FullParts
 pub mod HangulRows
+pub mod LeadBytes
 pub mod Leads
 pub mod PageHints
 pub mod PageWords

@@ -21,6 +21,7 @@ mod fulls;
 mod hangul_faults;
 mod hangul_rows;
 pub mod laws;
+mod lead_runs;
 mod leads;
 mod mapped_faults;
 mod page_bits;

@@ -9,6 +9,7 @@ ghost use Rattle.np_tables.specs.inside.PageWords.{AreFollowing, ArePages, Follo
 ghost use Rattle.np_tables.specs.inside.Pages.{AreWithin, word_place};
 
 use crate::ascii_runs::ascii_front;
+use crate::lead_runs::pass_leads;
 use crate::page_hints::parts_place;
 use crate::page_words::{Word, word_of};
 use crate::standing_apart::pass_apart;
@@ -41,7 +42,7 @@ fn behind_ascii(text: &str) -> &str
 
 /// The least step that may follow a code point, where it may follow a step of `low`: none where it may not.
 #[inline(always)]
-fn low_past(blocks: &[u16], steps: &[u32], least: u8, low: u8, form: Form, c: char) -> Option<u8>
+pub(crate) fn low_past(blocks: &[u16], steps: &[u32], least: u8, low: u8, form: Form, c: char) -> Option<u8>
     requires within { AreWithin 4352 blocks.now (length steps.now) }
     requires some { 1 ≤ least }
     requires low { least ≤ low }
@@ -124,8 +125,9 @@ fn pass_by_steps<'a>(
         let Some((next, later)) = pass_next(blocks, steps, ascii, least, now, form, rest) else {
             return (now, rest);
         };
-        now = next;
-        rest = later;
+        let (onward, behind) = pass_leads(blocks, steps, ascii, least, next, form, later);
+        now = onward;
+        rest = behind;
     }
 }
 

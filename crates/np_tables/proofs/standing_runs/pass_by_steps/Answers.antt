@@ -8,8 +8,11 @@ scan-init c = (c.requires.low, λ v. WalksOn-start (Follows v c.args.least c.arg
 
 pub scan-preserved : goal.scan-preserved
 scan-preserved c = (
-  c.in-Some.ensures.least,
-  λ v. WalksOn-both (Follows v c.args.least c.args.blocks.now c.args.steps.now c.args.form) c.args.text.now c.scan.rest.now c.in-Some.later.now c.args.low c.scan.now c.in-Some.next (c.scan.invariant.1 v) (c.in-Some.ensures.walks v),
-  omega (arith, c.in-Some.ensures.shorter, c.scan.invariant.2),
-  c.in-Some.ensures.utf8,
+  c.pass_leads-onward.ensures.least,
+  λ v.
+      let step = Follows v c.args.least c.args.blocks.now c.args.steps.now c.args.form in
+      let one = WalksOn-both step c.args.text.now c.scan.rest.now c.in-Some.later.now c.args.low c.scan.now c.in-Some.next (c.scan.invariant.1 v) (c.in-Some.ensures.walks v) in
+      WalksOn-both step c.args.text.now c.in-Some.later.now c.pass_leads-onward.result.1.now c.args.low c.in-Some.next c.pass_leads-onward.result.0 one (c.pass_leads-onward.ensures.walks v),
+  omega (arith, c.pass_leads-onward.ensures.front, c.in-Some.ensures.shorter, c.scan.invariant.2),
+  c.pass_leads-onward.ensures.utf8,
 )

@@ -1,0 +1,15 @@
+use Rattle.std.proofs.Common.{subst, sym}
+use Rattle.np_tables.specs.inside.LeadBytes.{BeginsWithChar}
+use Rattle.np_tables.proofs.LeadByteLemmas.{begins_read}
+use Rattle.np_tables.proofs.lead_runs.first_of_few.Goals as goal
+
+pub from_u32_unchecked-requires : goal.from_u32_unchecked-requires
+from_u32_unchecked-requires c =
+    (begins_read c.args.text.now c.as_bytes-bytes.result.now c.from-lead.result c.from-second.result c.from-third.result c.code_of_few-code.result.0 c.code_of_few-code.result.1
+    c.as_bytes-bytes.ensures.value c.utf8.text c.requires.lead c.requires.few c.from-lead.ensures c.from-second.ensures c.from-third.ensures c.code_of_few-code.ensures.two c.code_of_few-code.ensures.three).0
+
+pub returns : goal.returns
+returns c =
+    subst (λ k. BeginsWithChar c.args.text.now k c.code_of_few-code.result.1) (sym c.from_u32_unchecked.ensures)
+    (begins_read c.args.text.now c.as_bytes-bytes.result.now c.from-lead.result c.from-second.result c.from-third.result c.code_of_few-code.result.0 c.code_of_few-code.result.1
+    c.as_bytes-bytes.ensures.value c.utf8.text c.requires.lead c.requires.few c.from-lead.ensures c.from-second.ensures c.from-third.ensures c.code_of_few-code.ensures.two c.code_of_few-code.ensures.three).1

@@ -1,0 +1,10 @@
+use Rattle.std.proofs.Common.{◌≤◌, length, IsUtf8}
+use Rattle.np_tables.specs.Versions.{VersionData}
+use Rattle.np_tables.specs.inside.PageWords.{Follows, WalksOn}
+use Rattle.np_tables.proofs.lead_runs.pass_leads.Given as goal
+
+abbrev pub invariant-steps : goal.invariant-steps
+invariant-steps l = (l.fn.least ≤ l.now) × ((v : VersionData) → WalksOn (Follows v l.fn.least l.blocks l.steps l.fn.form) l.text l.rest l.fn.low l.now) × (length l.rest ≤ length l.text) × IsUtf8 l.rest
+
+abbrev pub decreases-steps : goal.decreases-steps
+decreases-steps l = length l.rest

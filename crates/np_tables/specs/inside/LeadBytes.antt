@@ -1,0 +1,14 @@
+-- Characters of several bytes, found by the bytes that begin them (The Unicode Standard, table 3-6).
+use Rattle.std.specs.Prelude.{◌≡◌, ◌<◌, ◌≤◌, ◌+◌, ◌++◌, ℕ, Bool, nat_le, List, drop, encode_utf8, length}
+
+-- whether a byte begins a character of several bytes
+abbrev pub is_lead : ℕ → Bool
+is_lead b = nat_le 192 b
+
+-- a text begins with a character of so many bytes
+pub record BeginsWithChar (text : List ℕ) (c count : ℕ) : Type 0 where
+  pub parts : text ≡ encode_utf8 c ++ drop count text
+  pub some : 1 < count
+  pub few : count ≤ 4
+  pub long : count ≤ length text
+  pub scalar : c < 0x110000
