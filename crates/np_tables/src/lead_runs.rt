@@ -17,6 +17,10 @@ const STEP: usize = 64;
 /// How many bytes a text has at least where each character that begins in a step is whole.
 const WHOLE: usize = STEP + 3;
 
+/// How many characters of several bytes may begin in a step for it to be worth while: where more do, they are read
+/// one after the other as quickly.
+const MANY: u32 = 16;
+
 /// Which of the first `STEP` bytes begin a character of several bytes, a bit for each, the lowest for the first.
 #[inline(always)]
 fn leads_in_step(bytes: &[u8]) -> u64
@@ -101,7 +105,8 @@ fn low_at(least: u8, now: u8, end: usize, at: usize) -> u8
 }
 
 /// Passes the characters that begin in the first `STEP` bytes of a text, the first of them behind a step of `low`.
-/// Answers the least step that may follow, what stands behind them, and whether all of them were passed.
+/// Answers the least step that may follow, what stands behind them, and whether all of them were passed: none is
+/// where there are many.
 #[inline(always)]
 fn pass_step<'a>(
     blocks: &[u16],
@@ -123,6 +128,9 @@ fn pass_step<'a>(
     ensures utf8 { IsUtf8 result.1.now }
 {
     let mut left = leads_in_step(text.as_bytes());
+    if left.count_ones() > MANY {
+        return (low, text, false);
+    }
     let mut from = 0;
     let mut end = 0;
     let mut now = low;

@@ -1,7 +1,7 @@
 //! Runs of code points that may stand in a normal form one behind the other as they are: those that
 //! stay, and behind them non-starters in canonical order that compose with nothing, or go into nothing
 //! where they stand.
-ghost use Rattle.std.specs.Prelude.{◌≡◌, ◌<◌, ◌≤◌, ℕ, chars, drop, length, slice_index_or, true, IfSome, IsTrue, IsUtf8};
+ghost use Rattle.std.specs.Prelude.{◌≡◌, ◌<◌, ◌≤◌, ℕ, chars, drop, length, slice_index_or, true, false, IfSome, IsTrue, IsUtf8};
 ghost use Rattle.np_tables.specs.Boundaries.{BeginsAtBoundary};
 ghost use Rattle.np_tables.specs.Versions.{VersionData};
 ghost use Rattle.np_tables.specs.inside.FullLists.{FullLists};
@@ -98,9 +98,48 @@ fn pass_next<'a>(
     Some((next, iter.as_str()))
 }
 
+/// How many code points, or runs of ASCII, are passed one by one before several are at once: where a form changes
+/// much, what stands between is shorter.
+const FEW: usize = 128;
+
+/// Passes the first `FEW` code points and runs of ASCII of a text that by their steps may follow one another as they
+/// are, the first of them behind a step of `low`. Answers the least step that may follow, what stands behind them,
+/// and whether it ends there.
+#[inline(always)]
+fn pass_few<'a>(
+    blocks: &[u16],
+    steps: &[u32],
+    ascii: bool,
+    least: u8,
+    low: u8,
+    form: Form,
+    text: &'a str,
+) -> (u8, &'a str, bool)
+    requires within { AreWithin 4352 blocks.now (length steps.now) }
+    requires ascii { ascii ≡ true → IsAsciiStaying blocks.now steps.now }
+    requires some { 1 ≤ least }
+    requires low { least ≤ low }
+    ensures least { least ≤ result.0 }
+    ensures walks { (v : VersionData) → WalksOn (Follows v least blocks.now steps.now form) text.now result.1.now low result.0 }
+    ensures front { length result.1.now ≤ length text.now }
+    ensures shorter { result.2 ≡ false → length result.1.now < length text.now }
+    ensures utf8 { IsUtf8 result.1.now }
+{
+    let mut rest = text;
+    let mut now = low;
+    for _ in 0..FEW {
+        let Some((next, later)) = pass_next(blocks, steps, ascii, least, now, form, rest) else {
+            return (now, rest, true);
+        };
+        now = next;
+        rest = later;
+    }
+    (now, rest, rest.len() == text.len())
+}
+
 /// Passes the code points at the front of a text that by their steps may follow one another as they are, the
 /// first of them behind a step of `low`. Answers the least step that may follow, and what stands behind them.
-/// `ascii` tells that all ASCII stays, which is then passed in steps.
+/// `ascii` tells that all ASCII stays, which is then passed in steps, and what stands between as well.
 #[inline(always)]
 fn pass_by_steps<'a>(
     blocks: &[u16],
@@ -122,9 +161,10 @@ fn pass_by_steps<'a>(
     let mut rest = text;
     let mut now = low;
     'scan: loop {
-        let Some((next, later)) = pass_next(blocks, steps, ascii, least, now, form, rest) else {
-            return (now, rest);
-        };
+        let (next, later, ended) = pass_few(blocks, steps, ascii, least, now, form, rest);
+        if ended {
+            return (next, later);
+        }
         let (onward, behind) = pass_leads(blocks, steps, ascii, least, next, form, later);
         now = onward;
         rest = behind;
