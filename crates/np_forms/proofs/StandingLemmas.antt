@@ -16,6 +16,7 @@ use Rattle.np_tables.proofs.CompositeLemmas.{composite-never}
 use Rattle.np_tables.proofs.TableLemmas.{pair-value}
 use Rattle.np_tables.proofs.MappingLemmas.{full_of-final}
 use Rattle.np_tables.specs.Boundaries.{FoldsTo, IsBoundary, NeverFalls, Stays}
+use Rattle.np_tables.specs.Composites.{IsCompositeOf}
 use Rattle.np_tables.specs.Conditions.{IsSound}
 use Rattle.np_tables.specs.Mappings.{is_final}
 use Rattle.np_tables.specs.Versions.{VersionData, class_of}
