@@ -47,7 +47,7 @@ fn is_kept_apart(version: &Version, kept: char, before: Word, c: char, class: u8
     if before.class > 0 {
         return class <= before.class;
     }
-    // it may go into a part of a full decomposition, into which it slides
+    // c slides into what `kept` decomposes to, and may go into a part of that
     if before.fulls != 0 || is_syllable(kept as u32) {
         return false;
     }

@@ -1,6 +1,7 @@
 //! What a scan asks of a code point under each form, in one byte: a word is told by several branches that
 //! can't be foretold in texts with non-starters, a byte by one.
 ghost use Rattle.std.specs.Prelude.{◌≡◌, ◌/◌, ◌%◌, ◌^◌, ◌<◌, ℕ, length, slice_index_or, IfOk, IsTrue};
+ghost use Rattle.np_tables.specs.inside.PageHints.{has_bit as spec_has_bit, stays_place as spec_stays_place};
 ghost use Rattle.np_tables.specs.inside.PageWords.{IsAsciiStaying};
 ghost use Rattle.np_tables.specs.inside.Pages.{AreWithin, word_place};
 ghost use Rattle.np_tables.specs.inside.Steps.{all_steps as spec_all_steps, assigned_step as spec_assigned_step, least_step as spec_least_step, low_behind as spec_low_behind, step_of as spec_step_of, step_place as spec_step_place, steps_of as spec_steps_of};
@@ -21,13 +22,20 @@ const UNASSIGNED: u8 = 1;
 /// Of what stays under every form.
 const ALL_STAY: u32 = 0xFFFF_FFFF;
 
+/// Whether a form leaves the code point of a word as it is.
+fn stays(form: Form, word: Word) -> bool
+    ensures { result ≡ spec_has_bit word.hints (spec_stays_place form) }
+{
+    has_bit(word.hints, stays_place(form))
+}
+
 /// The step of an assigned code point's word under a form: `STAYS`, the class of a non-starter that may
 /// stand as it is, or 0.
 #[tactic(auto, unfolding(crate::specs::inside::Steps::assigned_step))]
 fn assigned_step(form: Form, word: Word) -> u8
     ensures { result ≡ spec_assigned_step form word }
 {
-    if has_bit(word.hints, stays_place(form)) {
+    if stays(form, word) {
         return STAYS;
     }
     let inert = word.class < STAYS && word.fulls == 0 && (word.apart || !form.composes());
@@ -42,11 +50,7 @@ fn step_of(form: Form, word: Word) -> u8
     if word.assigned {
         return assigned_step(form, word);
     }
-    if has_bit(word.hints, stays_place(form)) {
-        UNASSIGNED
-    } else {
-        0
-    }
+    if stays(form, word) { UNASSIGNED } else { 0 }
 }
 
 /// The steps of a word under all forms.
