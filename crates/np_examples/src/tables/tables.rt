@@ -194,7 +194,7 @@ const LACKING: [(Form, &str, usize, usize); 6] = [
     (Form::Nfkd, "\u{10FFFF}", 4, 0),
     (Form::Nfd, "\u{16D67}\u{302}", 6, 0),
     (Form::Nfc, "A\u{E2}\u{AC01}", 6, 6),
-    (Form::Nfc, "\u{D788} A", 3, 3),
+    (Form::Nfc, "\u{D788} A", 5, 3),
 ];
 
 // Pointed Hebrew: a letter, three points, and three presentation forms, which are excluded.
