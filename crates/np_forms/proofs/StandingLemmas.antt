@@ -1,5 +1,5 @@
 -- Code points that may follow one another as they are are their own form.
-use Rattle.std.proofs.Common.{◌≡◌, ℕ, ◌<◌, ◌≤◌, ◌⊎◌, Bool, true, false, List, [], ◌∷◌, ◌++◌, Option, Some, None, length, flat_map, MatchBool, refl, sym, ap, subst, ◌∙◌, arith, inl, inr, append_assoc, append-nil}
+use Rattle.std.proofs.Common.{◌≡◌, ℕ, ◌<◌, ◌≤◌, ◌⊎◌, Bool, true, false, List, [], ◌∷◌, ◌++◌, Option, Some, None, length, flat_map, unwrap_or, MatchBool, refl, sym, ap, subst, ◌∙◌, arith, inl, inr, append_assoc, append-nil}
 use Rattle.np_code_points.specs.Forms.{is_compat, composes}
 use Rattle.np_code_points.specs.declared.forms.Form.{Form}
 use Rattle.std.proofs.lemmas.Bool.{and_left, and_right, cases_Bool, cases_lt}
@@ -89,8 +89,19 @@ module _ (v : VersionData) (sound : IsSound v) where
       last_fails p [] a fails = and_left (p a) true fails
       last_fails p (x ∷ xs) a fails = and_right (p x) (list_all p (xs ++ a ∷ [])) (last_fails p xs a fails)
 
+      -- what may follow a, but doesn't stay, goes into nothing
+      abbrev GoesBehind : ℕ → ℕ → Type 0
+      GoesBehind a c = IsInert v form c ⊎ StandsApart v form a c
+
+      goes_behind : (a c : ℕ) → IsInert v form c ⊎ ((kept : ℕ) × (Some a ≡ Some kept) × StandsApart v form kept c) → GoesBehind a c
+      goes_behind a c goes =
+          elim goes [
+            | inl inert ↦ inl inert
+            | inr stands ↦ inr (subst (λ x. StandsApart v form x c) (sym (ap (λ o. unwrap_or o 0) stands.1)) stands.2)
+          ]
+
       -- what stands apart from a is blocked where a was kept
-      apart_blocked : (t : ℕ) (bs fs : List ℕ) (a c : ℕ) → bs ≡ fs ++ a ∷ [] → StandsApart v form (Some a) c → joined ccc (composite v) t bs c ≡ None
+      apart_blocked : (t : ℕ) (bs fs : List ℕ) (a c : ℕ) → bs ≡ fs ++ a ∷ [] → StandsApart v form a c → joined ccc (composite v) t bs c ≡ None
       apart_blocked t bs fs a c same stands =
           let fails : is_reorderable ccc c a ≡ false =
           elim stands [ inl blocks ↦ not_reorderable_rising ccc c a blocks.1 | inr pair ↦ not_reorderable_starter ccc c a (omega (arith, pair.0)) ] in
@@ -100,8 +111,8 @@ module _ (v : VersionData) (sound : IsSound v) where
       abbrev EndsWith : ℕ → List ℕ → ℕ → Type 0
       EndsWith s bs a = ((bs ≡ []) × (a ≡ s)) ⊎ ((fs : List ℕ) × (bs ≡ fs ++ a ∷ []))
 
-      -- what may follow a, but doesn't stay, goes into nothing
-      none_follows : (s : ℕ) (bs : List ℕ) (a c : ℕ) → ccc s ≡ 0 → EndsWith s bs a → IsInert v form c ⊎ StandsApart v form (Some a) c → joined ccc (composite v) s bs c ≡ None
+      -- it goes into no s
+      none_follows : (s : ℕ) (bs : List ℕ) (a c : ℕ) → ccc s ≡ 0 → EndsWith s bs a → GoesBehind a c → joined ccc (composite v) s bs c ≡ None
       none_follows s bs a c starter ends goes =
           elim goes [
             | inl inert ↦ joined-none ccc (composite v) s bs c (composite-never v c (inert on) s)
@@ -120,8 +131,8 @@ module _ (v : VersionData) (sound : IsSound v) where
       abbrev EndsBehind : List ℕ → ℕ → Type 0
       EndsBehind bs a = ((ccc a ≡ 0) × (is_final v (is_compat form) a ≡ false)) ⊎ ((fs : List ℕ) × (bs ≡ fs ++ a ∷ []))
 
-      -- what may follow a, but doesn't stay, goes into no starter
-      never_follows : (t : ℕ) (bs : List ℕ) (a c : ℕ) → EndsBehind bs a → IsInert v form c ⊎ StandsApart v form (Some a) c → joined ccc (composite v) t bs c ≡ None
+      -- it goes into no starter
+      never_follows : (t : ℕ) (bs : List ℕ) (a c : ℕ) → EndsBehind bs a → GoesBehind a c → joined ccc (composite v) t bs c ≡ None
       never_follows t bs a c ends goes =
           elim goes [
             | inl inert ↦ joined-none ccc (composite v) t bs c (composite-never v c (inert on) t)
@@ -142,7 +153,7 @@ module _ (v : VersionData) (sound : IsSound v) where
             | inl stays ↦ subst (KeptBelow ccc (composite v) k bs) (sym (order-stays c cs stays.boundary)) (λ some below. absurd (omega (arith, some, stays.boundary.starter)))
             | inr goes ↦
                 subst (KeptBelow ccc (composite v) k bs) (sym (order-front c walk.0 cs end goes.0 goes.1 walk.2))
-                (λ some below. (λ t. never_follows t bs a c ends goes.3, walk_kept c (bs ++ c ∷ []) k walk.0 cs end (inr (bs, refl)) walk.2))
+                (λ some below. (λ t. never_follows t bs a c ends (goes_behind a c goes.3), walk_kept c (bs ++ c ∷ []) k walk.0 cs end (inr (bs, refl)) walk.2))
           ]
 
       -- what has two code points in its full decomposition has a mapping
@@ -183,7 +194,7 @@ module _ (v : VersionData) (sound : IsSound v) where
                 ∙ compose_after-starter ccc (composite v) s bs at.first (canonical_order ccc (at.rest ++ flat_map full cs)) (joined-none ccc (composite v) s bs at.first (composite-never v at.first (at.apart on) s)) (omega (arith, at.starter))
                 ∙ ap (λ l. s ∷ (bs ++ l)) (returns c walk.0 cs end stays walk.2 ∙ walk_composed_after c c [] walk.0 cs end (stays_starter c stays) (inl (refl, refl)) walk.2)
             | inr goes ↦
-                let none = none_follows s bs a c starter ends goes.3 in
+                let none = none_follows s bs a c starter ends (goes_behind a c goes.3) in
                 ap (compose_after ccc (composite v) s bs) (order-front c walk.0 cs end goes.0 goes.1 walk.2)
                 ∙ elim (cases_lt 0 (ccc c)) [
                   | inl non_starter ↦

@@ -38,7 +38,7 @@ module _ (v : VersionData) (lists : FullLists) (blocks : List ℕ) (words : List
       final-lent v compat c (sym (word.slot.lent compat) ∙ ap (λ k. get_or (of_kind compat lists) k []) fulls ∙ pages.none compat) (and_right (has_hangul v) (is_syllable c) plain)
 
   -- what the word of the code point before tells is so
-  stands-read : (form : Form) (kept c : ℕ) (before w : Word) → IsWord v lists kept before → IsWord v lists c w → IsKeptApart v kept before c w.class → StandsApart v form (Some kept) c
+  stands-read : (form : Form) (kept c : ℕ) (before w : Word) → IsWord v lists kept before → IsWord v lists c w → IsKeptApart v kept before c w.class → StandsApart v form kept c
   stands-read form kept c before w of_before of_c apart =
       elim apart [
         | inl blocks ↦ inl (omega (arith, of_before.class, blocks.0), omega (arith, of_before.class, of_c.class, blocks.1))
@@ -56,7 +56,7 @@ module _ (v : VersionData) (lists : FullLists) (blocks : List ℕ) (words : List
           final-read (is_compat form) c w word fulls plain,
           refl,
           (elim order [ inl starter ↦ inl (sym word.class ∙ starter) | inr above ↦ inr (omega (arith, word.class, above, up_to)) ]),
-          subst (λ b. StandsApart v form b c) (sym behind) stands,
+          (kept, behind, stands),
           sym word.assigned ∙ not-false w.assigned assigned,
         ),
       )

@@ -11,16 +11,15 @@ use Rattle.np_tables.specs.Versions.{VersionData, class_of}
 abbrev pub IsInert : VersionData → Form → ℕ → Type 0
 IsInert v form c = composes form ≡ true → (a p : ℕ) → ¬ (IsCompositeOf v a c p)
 
--- right behind a code point that was kept, c goes into nothing: the one before is a non-starter that blocks it, or a starter
--- with which it is the pair of no primary composite, and which has no mapping of the form's kind, with a part of which it might be one
-abbrev pub StandsApart : VersionData → Form → Option ℕ → ℕ → Type 0
-StandsApart v form None c = ⊥
-StandsApart v form (Some kept) c = ((0 < class_of v kept) × (class_of v c ≤ class_of v kept)) ⊎ ((class_of v kept ≡ 0) × (is_final v (is_compat form) kept ≡ true) × ((p : ℕ) → ¬ (IsCompositeOf v kept c p)))
+-- right behind the code point `kept` c goes into nothing: that is a non-starter which blocks it, or a starter with which it is the
+-- pair of no primary composite, and which has no mapping of the form's kind, since with a part of that it might be one
+abbrev pub StandsApart : VersionData → Form → ℕ → ℕ → Type 0
+StandsApart v form kept c = ((0 < class_of v kept) × (class_of v c ≤ class_of v kept)) ⊎ ((class_of v kept ≡ 0) × (is_final v (is_compat form) kept ≡ true) × ((p : ℕ) → ¬ (IsCompositeOf v kept c p)))
 
--- behind the code point `before` c may stand in the form as it is, and then no class but 0 may follow that is below n: c stays,
--- and n may be any number; or it has no mapping of the form's kind, its class is not below `last` but for 0, and it goes into nothing
+-- behind the code point `before`, where no class but 0 may follow that is below `last`, c may stand in the form as it is, and behind
+-- it n is such a bound: c stays, whatever n is; or it has no mapping of the form's kind, its class may follow, and it goes into nothing
 abbrev pub MayFollow : VersionData → Form → Option ℕ → ℕ → ℕ → ℕ → Type 0
-MayFollow v form before last c n = Stays v form c ⊎ ((is_final v (is_compat form) c ≡ true) × (n ≡ class_of v c) × ((n ≡ 0) ⊎ (last ≤ n)) × (IsInert v form c ⊎ StandsApart v form before c))
+MayFollow v form before last c n = Stays v form c ⊎ ((is_final v (is_compat form) c ≡ true) × (n ≡ class_of v c) × ((n ≡ 0) ⊎ (last ≤ n)) × (IsInert v form c ⊎ ((kept : ℕ) × (before ≡ Some kept) × StandsApart v form kept c)))
 
 -- a walk over a list, which begins behind a code point, or none, with one number and ends with another: each step leads from
 -- the code point before and a number over a code point to a number

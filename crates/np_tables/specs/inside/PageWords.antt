@@ -161,7 +161,7 @@ IsKeptApart v kept before c class = ((0 < before.class) × (class ≤ before.cla
 
 -- an assigned code point goes into nothing right behind the one before
 abbrev pub FollowsApart : VersionData → Form → Option ℕ → ℕ → ℕ → ℕ → Type 0
-FollowsApart v form before last c n = (is_final v (is_compat form) c ≡ true) × (n ≡ class_of v c) × ((n ≡ 0) ⊎ (last ≤ n)) × StandsApart v form before c × (is_assigned v c ≡ true)
+FollowsApart v form before last c n = (is_final v (is_compat form) c ≡ true) × (n ≡ class_of v c) × ((n ≡ 0) ⊎ (last ≤ n)) × ((kept : ℕ) × (before ≡ Some kept) × StandsApart v form kept c) × (is_assigned v c ≡ true)
 
 -- behind the code points `front` c is one that does: from no more than `low` it leads to no more than `next`
 abbrev pub PassesApart : VersionData → Form → List ℕ → ℕ → ℕ → ℕ → Type 0
