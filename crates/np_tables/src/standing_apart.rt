@@ -39,7 +39,7 @@ fn low_behind_class(least: u8, low: u8, class: u8) -> Option<u8>
 }
 
 /// Whether a code point of this class goes into nothing right behind `kept`, which has the word `before`: that
-/// is a non-starter which blocks it, or a starter with which it has no composite.
+/// is a non-starter which blocks it, or a starter without a mapping with which it has no composite.
 #[inline(always)]
 fn is_kept_apart(version: &Version, kept: char, before: Word, c: char, class: u8) -> bool
     ensures { IsTrue result → IsKeptApart version.now kept before c class }

@@ -145,8 +145,8 @@ pub record IsWalkedTo (Step : Option ℕ → ℕ → ℕ → ℕ → Type 0) (s 
 abbrev pub WalksOn : (Option ℕ → ℕ → ℕ → ℕ → Type 0) → List ℕ → List ℕ → ℕ → ℕ → Type 0
 WalksOn Step text rest low next = (s : List ℕ) (last : ℕ) → last ≤ low → IsWalkedTo Step s text last → (n : ℕ) × ((n ≤ next) × IsWalkedTo Step s rest n)
 
--- by its step a code point may stand where no class below `last` may, and then none below n may follow: one that stays, behind
--- which any may, or one whose step is no less
+-- by its step a code point may stand where no class but 0 may that is below `last`, and behind it n is such a bound: it stays,
+-- whatever n is, or its step is no less
 abbrev pub StepFollows : ℕ → ℕ → ℕ → Type 0
 StepFollows step last n = (step ≡ 255) ⊎ ((0 < step) × (step < 255) × (n ≡ step) × (last ≤ n))
 
