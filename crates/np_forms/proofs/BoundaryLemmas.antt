@@ -73,6 +73,11 @@ parting v form xs c ys before after sound at of_before of_after =
 
 -- ---- what stays is its own form
 
+-- classes that never fall don't behind a starter either
+pub rises_from : (ccc : ℕ → ℕ) (a : ℕ) (rest : List ℕ) → ccc a ≡ 0 → NeverFalls ccc rest → NeverFalls ccc (a ∷ rest)
+rises_from ccc a [] starter rises = tt
+rises_from ccc a (b ∷ bs) starter rises = (omega arith, rises)
+
 -- classes that never fall hold no reorderable pair
 pub is_ordered-never_falls : (ccc : ℕ → ℕ) (cs : List ℕ) → NeverFalls ccc cs → is_ordered ccc cs ≡ true
 is_ordered-never_falls ccc [] h = is_ordered-nil ccc

@@ -25,6 +25,7 @@ pub mod RunLemmas
 pub mod RunTextLemmas
 pub mod RunningLemmas
 pub mod SegmentLemmas
+pub mod SlideLemmas
 pub mod SortLemmas
 pub mod SpelledLemmas
 pub mod StandingLemmas

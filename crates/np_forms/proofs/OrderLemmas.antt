@@ -108,8 +108,18 @@ module _ (ccc : ℕ → ℕ) where
 
   -- ---- sliding
 
+  -- nothing follows
+  pub slide-nil : (c : ℕ) → slide ccc c [] ≡ c ∷ []
+  unfolding slide
+  slide-nil c = refl
+
+  -- c slides over a code point with which it is a reorderable pair
+  pub slide-over : (c d : ℕ) (ds : List ℕ) → is_reorderable ccc c d ≡ true → slide ccc c (d ∷ ds) ≡ d ∷ slide ccc c ds
+  unfolding slide
+  slide-over c d ds h = rw h
+
   -- c stays before a code point with which it is no reorderable pair
-  slide-stays : (c d : ℕ) (ds : List ℕ) → is_reorderable ccc c d ≡ false → slide ccc c (d ∷ ds) ≡ c ∷ d ∷ ds
+  pub slide-stays : (c d : ℕ) (ds : List ℕ) → is_reorderable ccc c d ≡ false → slide ccc c (d ∷ ds) ≡ c ∷ d ∷ ds
   unfolding slide
   slide-stays c d ds h = rw h
 
@@ -120,7 +130,7 @@ module _ (ccc : ℕ → ℕ) where
   slide-ordered c (d ∷ ds) h = slide-stays c d ds (is_ordered-parts c d ds h).0
 
   -- a starter stays
-  slide-starter : (s : ℕ) (ds : List ℕ) → ccc s ≤ 0 → slide ccc s ds ≡ s ∷ ds
+  pub slide-starter : (s : ℕ) (ds : List ℕ) → ccc s ≤ 0 → slide ccc s ds ≡ s ∷ ds
   unfolding slide
   slide-starter s [] low = refl
   slide-starter s (d ∷ ds) low = slide-stays s d ds (not_reorderable_rising s d (omega arith))

@@ -1,93 +1,83 @@
 -- Code points that may follow one another as they are are their own form.
-use Rattle.std.proofs.Common.{◌≡◌, ℕ, ◌≤◌, ◌⊎◌, Bool, true, false, suc, List, [], ◌∷◌, ◌++◌, Option, Some, None, All, flat_map, unwrap_or, MatchBool, refl, sym, ap, subst, ◌∙◌, arith, inl, inr, append_assoc, append-nil}
+use Rattle.std.proofs.Common.{◌≡◌, ℕ, ◌<◌, ◌≤◌, ◌⊎◌, Bool, true, false, List, [], ◌∷◌, ◌++◌, Option, Some, None, length, flat_map, unwrap_or, MatchBool, refl, sym, ap, subst, ◌∙◌, arith, inl, inr, append_assoc, append-nil}
 use Rattle.np_code_points.specs.Forms.{is_compat, composes}
 use Rattle.np_code_points.specs.declared.forms.Form.{Form}
-use Rattle.std.proofs.lemmas.Bool.{and_left, and_right, cases_lt}
+use Rattle.std.proofs.lemmas.Bool.{and_left, and_right, cases_Bool, cases_lt}
 use Rattle.std.specs.List.{list_all}
-use Rattle.np_forms.specs.Order.{is_ordered, is_reorderable}
+use Rattle.np_forms.specs.Order.{is_reorderable}
+use Rattle.np_forms.specs.inside.CanonicalOrder.{canonical_order, slide}
 use Rattle.np_forms.specs.inside.Composing.{compose, compose_after, compose_of, is_free, joined}
 use Rattle.np_forms.specs.inside.NormalForms.{decomposed, ended, normal_form}
 use Rattle.np_forms.proofs.BoundaryLemmas.{full_of-boundary}
-use Rattle.np_forms.proofs.ComposeLemmas.{compose-nil, compose-non_starter, compose-starter, compose_after-joined, compose_after-kept, compose_after-nil, compose_after-starter, joined-blocked, joined-free, joined-none}
-use Rattle.np_forms.proofs.OrderLemmas.{canonical_order-ordered, is_ordered-cons, is_ordered-nil, is_ordered-one, not_reorderable_rising, not_reorderable_starter}
-use Rattle.np_tables.proofs.CompositeLemmas.{composite-never, composite_from}
+use Rattle.np_forms.proofs.ComposeLemmas.{compose-nil, compose-non_starter, compose-starter, compose_after-kept, compose_after-nil, compose_after-starter, joined-blocked, joined-none}
+use Rattle.np_forms.proofs.OrderLemmas.{canonical_order-nil, not_reorderable_rising, not_reorderable_starter, slide-nil, slide-starter, slide-stays}
+use Rattle.np_forms.proofs.SlideLemmas.{KeptBelow, folds_over}
+use Rattle.np_tables.proofs.CompositeLemmas.{composite-never}
 use Rattle.np_tables.proofs.TableLemmas.{pair-value}
 use Rattle.np_tables.proofs.MappingLemmas.{full_of-final}
-use Rattle.np_tables.specs.Boundaries.{FoldsTo, NeverFalls, Stays}
+use Rattle.np_tables.specs.Boundaries.{FoldsTo, IsBoundary, NeverFalls, Stays}
 use Rattle.np_tables.specs.Composites.{IsCompositeOf}
 use Rattle.np_tables.specs.Conditions.{IsSound}
+use Rattle.np_tables.specs.Mappings.{is_final}
 use Rattle.np_tables.specs.Versions.{VersionData, class_of}
 use Rattle.np_tables.specs.inside.CompositeSearch.{composite}
 use Rattle.np_tables.specs.inside.FullDecompositions.{full_of}
 use Rattle.np_tables.specs.Standing.{IsInert, MayFollow, StandsApart, Walks}
 
 module _ (v : VersionData) (sound : IsSound v) where
-  -- composites go in one after the other, whatever follows
-  folds_on : (s : ℕ) (bs : List ℕ) (c : ℕ) (ys : List ℕ) → FoldsTo v s bs c → compose_after (class_of v) (composite v) s [] (bs ++ ys) ≡ compose_after (class_of v) (composite v) c [] ys
-  folds_on s [] c ys same = ap (λ x. compose_after (class_of v) (composite v) x [] ys) same
-  folds_on s (b ∷ bs) c ys h =
-      compose_after-joined (class_of v) (composite v) s [] b h.0 (bs ++ ys) (joined-free (class_of v) (composite v) s [] b refl ∙ composite_from v sound s b h.0 h.1)
-      ∙ folds_on h.0 bs c ys h.2
+  abbrev ccc : ℕ → ℕ
+  ccc = class_of v
 
   -- what a starter and others compose to is a starter
-  folds_starter : (s : ℕ) (bs : List ℕ) (c : ℕ) → class_of v s ≡ 0 → FoldsTo v s bs c → class_of v c ≡ 0
-  folds_starter s [] c starter same = subst (λ x. class_of v x ≡ 0) same starter
+  folds_starter : (s : ℕ) (bs : List ℕ) (c : ℕ) → ccc s ≡ 0 → FoldsTo v s bs c → ccc c ≡ 0
+  folds_starter s [] c starter same = subst (λ x. ccc x ≡ 0) same starter
   folds_starter s (b ∷ bs) c starter h = folds_starter h.0 bs c h.1.primary.starter h.2
 
   module _ (form : Form) where
     abbrev full : ℕ → List ℕ
     full = full_of v (is_compat form)
 
+    -- the full decomposition in canonical order
+    abbrev order : List ℕ → List ℕ
+    order cs = canonical_order ccc (flat_map full cs)
+
     abbrev May : Option ℕ → ℕ → ℕ → ℕ → Type 0
     May = MayFollow v form
 
-    inert_full : (c : ℕ) → IsInert v form c → full c ≡ c ∷ []
-    inert_full c inert = full_of-final v (is_compat form) sound.shallow c inert.unmapped
+    order-nil : order [] ≡ []
+    order-nil = canonical_order-nil ccc
 
-    apart_full : (before : Option ℕ) (c : ℕ) → StandsApart v form before c → full c ≡ c ∷ []
-    apart_full before c stands = full_of-final v (is_compat form) sound.shallow c stands.unmapped
+    -- what stays begins with a starter, over which nothing slides
+    order-stays : (c : ℕ) (cs : List ℕ) (at : IsBoundary v form c) → order (c ∷ cs) ≡ at.first ∷ canonical_order ccc (at.rest ++ flat_map full cs)
+    unfolding canonical_order
+    order-stays c cs at =
+        ap (λ l. canonical_order ccc (l ++ flat_map full cs)) (full_of-boundary v form c sound at)
+        ∙ slide-starter ccc at.first (canonical_order ccc (at.rest ++ flat_map full cs)) (omega (arith, at.starter))
 
-    -- ---- the full decomposition is in canonical order
+    -- what has no mapping slides into what follows
+    order-final : (c : ℕ) (cs : List ℕ) → is_final v (is_compat form) c ≡ true → order (c ∷ cs) ≡ slide ccc c (order cs)
+    unfolding canonical_order
+    order-final c cs final = ap (λ l. canonical_order ccc (l ++ flat_map full cs)) (full_of-final v (is_compat form) sound.shallow c final)
 
-    -- code points of classes up to n may stand before the list
-    abbrev MayLead : ℕ → List ℕ → Type 0
-    MayLead n ys = (a : ℕ) → class_of v a ≤ n → is_ordered (class_of v) (a ∷ ys) ≡ true
-
-    run_on : (a : ℕ) (rest : List ℕ) (n : ℕ) (ys : List ℕ) → class_of v a ≤ n → NeverFalls (class_of v) (a ∷ rest) → All (λ d. class_of v d ≤ n) rest → MayLead n ys → is_ordered (class_of v) (a ∷ (rest ++ ys)) ≡ true
-    run_on a [] n ys low rises all lead = lead a low
-    run_on a (b ∷ bs) n ys low rises all lead =
-        is_ordered-cons (class_of v) a b (bs ++ ys) (not_reorderable_rising (class_of v) a b rises.0)
-        (run_on b bs n ys (all 0 b (omega arith)) rises.1 (λ k d lt. all (suc k) d (omega arith)) lead)
-
-    pub rises_from : (a : ℕ) (rest : List ℕ) → class_of v a ≡ 0 → NeverFalls (class_of v) rest → NeverFalls (class_of v) (a ∷ rest)
-    rises_from a [] starter rises = tt
-    rises_from a (b ∷ bs) starter rises = (omega arith, rises)
-
-    walk_ordered : (before : Option ℕ) (last : ℕ) (cs : List ℕ) (end : ℕ) → Walks May before last cs end → (is_ordered (class_of v) (flat_map full cs) ≡ true) × MayLead last (flat_map full cs)
-    walk_ordered before last [] end walk = (is_ordered-nil (class_of v), λ a low. is_ordered-one (class_of v) a)
-    walk_ordered before last (c ∷ cs) end walk =
-        let ys = flat_map full cs in
-        let later = walk_ordered (Some c) walk.0 cs end walk.2 in
+    -- no less a class follows, or a starter
+    walk_leads : (before : Option ℕ) (last : ℕ) (cs : List ℕ) (end : ℕ) → Walks May before last cs end → (a : ℕ) → ccc a ≤ last → slide ccc a (order cs) ≡ a ∷ order cs
+    walk_leads before last [] end walk a low = ap (slide ccc a) order-nil ∙ slide-nil ccc a ∙ ap (λ l. a ∷ l) (sym order-nil)
+    walk_leads before last (c ∷ cs) end walk a low =
         elim walk.1 [
-          | inl up ↦
-              let at = up.stays.boundary in
-              let whole = run_on at.first at.rest walk.0 ys (omega (arith, at.starter)) (rises_from at.first at.rest at.starter up.stays.rises) up.up_to later.1 in
-              subst (λ l. (is_ordered (class_of v) (l ++ ys) ≡ true) × MayLead last (l ++ ys)) (sym (full_of-boundary v form c sound at))
-              (whole, λ a low. is_ordered-cons (class_of v) a at.first (at.rest ++ ys) (not_reorderable_starter (class_of v) a at.first (omega (arith, at.starter))) whole)
-          | inr moves ↦ elim moves [
-            | inl goes ↦
-                let whole = later.1 c (omega (arith, goes.1)) in
-                subst (λ l. (is_ordered (class_of v) (l ++ ys) ≡ true) × MayLead last (l ++ ys)) (sym (inert_full c goes.0))
-                (whole, λ a low. is_ordered-cons (class_of v) a c ys (not_reorderable_rising (class_of v) a c (omega (arith, goes.1, goes.2))) whole)
-            | inr goes ↦
-                let whole = later.1 c (omega (arith, goes.1)) in
-                subst (λ l. (is_ordered (class_of v) (l ++ ys) ≡ true) × MayLead last (l ++ ys)) (sym (apart_full before c goes.0)) (
-                  whole,
-                  λ a low. is_ordered-cons (class_of v) a c ys
-                      (elim goes.2 [ inl zero ↦ not_reorderable_starter (class_of v) a c (omega (arith, goes.1, zero)) | inr above ↦ not_reorderable_rising (class_of v) a c (omega (arith, goes.1, above, low)) ]) whole,
-                )
-          ]
+          | inl stays ↦
+              let at = stays.boundary in
+              let parts = order-stays c cs at in
+              ap (slide ccc a) parts ∙ slide-stays ccc a at.first (canonical_order ccc (at.rest ++ flat_map full cs)) (not_reorderable_starter ccc a at.first (omega (arith, at.starter)))
+              ∙ ap (λ l. a ∷ l) (sym parts)
+          | inr goes ↦
+              let parts = order-final c cs goes.0 ∙ walk_leads (Some c) walk.0 cs end walk.2 c (omega (arith, goes.1)) in
+              let apart : is_reorderable ccc a c ≡ false = elim goes.2 [ inl zero ↦ not_reorderable_starter ccc a c (omega (arith, goes.1, zero)) | inr above ↦ not_reorderable_rising ccc a c (omega (arith, goes.1, above, low)) ] in
+              ap (slide ccc a) parts ∙ slide-stays ccc a c (order cs) apart ∙ ap (λ l. a ∷ l) (sym parts)
         ]
+
+    -- so it stays in front
+    order-front : (c n : ℕ) (cs : List ℕ) (end : ℕ) → is_final v (is_compat form) c ≡ true → n ≡ ccc c → Walks May (Some c) n cs end → order (c ∷ cs) ≡ c ∷ order cs
+    order-front c n cs end final same walk = order-final c cs final ∙ walk_leads (Some c) n cs end walk c (omega (arith, same))
 
     -- ---- it composes to what it came from
 
@@ -95,111 +85,168 @@ module _ (v : VersionData) (sound : IsSound v) where
       comes_back : (c : ℕ) (stays : Stays v form c) → FoldsTo v stays.boundary.first stays.boundary.rest c
       comes_back c stays = subst (λ b. MatchBool b (FoldsTo v stays.boundary.first stays.boundary.rest c) (stays.boundary.first ∷ stays.boundary.rest ≡ c ∷ [])) on stays.returns
 
-      -- what stands behind the last starter s, and bs, which were kept, ends with a
-      abbrev EndsWith : ℕ → List ℕ → ℕ → Type 0
-      EndsWith s bs a = ((bs ≡ []) × (a ≡ s)) ⊎ ((fs : List ℕ) × (bs ≡ fs ++ a ∷ []))
-
       last_fails : (p : ℕ → Bool) (fs : List ℕ) (a : ℕ) → p a ≡ false → list_all p (fs ++ a ∷ []) ≡ false
       last_fails p [] a fails = and_left (p a) true fails
       last_fails p (x ∷ xs) a fails = and_right (p x) (list_all p (xs ++ a ∷ [])) (last_fails p xs a fails)
 
-      -- what stands apart from a goes into nothing
-      apart_none : (s : ℕ) (bs : List ℕ) (a c : ℕ) → class_of v s ≡ 0 → EndsWith s bs a → StandsApart v form (Some a) c → joined (class_of v) (composite v) s bs c ≡ None
-      apart_none s bs a c starter ends stands =
-          let same : a ≡ stands.kept = ap (λ o. unwrap_or o 0) stands.behind in
-          elim ends [
-            | inl own ↦ elim stands.apart [
-              | inl blocks ↦ absurd (omega (arith, blocks.0, ap (class_of v) same, ap (class_of v) own.1, starter))
-              | inr pair ↦
-                  let none = sym (pair-value v sound s c None tt (subst (λ x. (p : ℕ) → ¬ (IsCompositeOf v x c p)) (sym same ∙ own.1) pair.1)) in
-                  joined-none (class_of v) (composite v) s bs c none
-            ]
-            | inr more ↦
-                let fails : is_reorderable (class_of v) c a ≡ false =
-                elim stands.apart [
-                  | inl blocks ↦ not_reorderable_rising (class_of v) c a (omega (arith, blocks.1, ap (class_of v) same))
-                  | inr pair ↦ not_reorderable_starter (class_of v) c a (omega (arith, pair.0, ap (class_of v) same))
-                ] in
-                joined-blocked (class_of v) (composite v) s bs c (ap (λ l. is_free (class_of v) l c) more.1 ∙ last_fails (is_reorderable (class_of v) c) more.0 a fails)
+      -- what may follow a, but doesn't stay, goes into nothing
+      abbrev GoesBehind : ℕ → ℕ → Type 0
+      GoesBehind a c = IsInert v form c ⊎ StandsApart v form a c
+
+      goes_behind : (a c : ℕ) → IsInert v form c ⊎ ((kept : ℕ) × (Some a ≡ Some kept) × StandsApart v form kept c) → GoesBehind a c
+      goes_behind a c goes =
+          elim goes [
+            | inl inert ↦ inl inert
+            | inr stands ↦ inr (subst (λ x. StandsApart v form x c) (sym (ap (λ o. unwrap_or o 0) stands.1)) stands.2)
           ]
 
-      walk_composed_after : (a s : ℕ) (bs : List ℕ) (last : ℕ) (cs : List ℕ) (end : ℕ) → class_of v s ≡ 0 → EndsWith s bs a → Walks May (Some a) last cs end → compose_after (class_of v) (composite v) s bs (flat_map full cs) ≡ s ∷ (bs ++ cs)
-      walk_composed_after a s bs last [] end starter ends walk = compose_after-nil (class_of v) (composite v) s bs ∙ ap (λ l. s ∷ l) (sym (append-nil bs))
+      -- what stands apart from a is blocked where a was kept
+      apart_blocked : (t : ℕ) (bs fs : List ℕ) (a c : ℕ) → bs ≡ fs ++ a ∷ [] → StandsApart v form a c → joined ccc (composite v) t bs c ≡ None
+      apart_blocked t bs fs a c same stands =
+          let fails : is_reorderable ccc c a ≡ false =
+          elim stands [ inl blocks ↦ not_reorderable_rising ccc c a blocks.1 | inr pair ↦ not_reorderable_starter ccc c a (omega (arith, pair.0)) ] in
+          joined-blocked ccc (composite v) t bs c (ap (λ l. is_free ccc l c) same ∙ last_fails (is_reorderable ccc c) fs a fails)
+
+      -- what stands behind the last starter s, and bs, which were kept, ends with a
+      abbrev EndsWith : ℕ → List ℕ → ℕ → Type 0
+      EndsWith s bs a = ((bs ≡ []) × (a ≡ s)) ⊎ ((fs : List ℕ) × (bs ≡ fs ++ a ∷ []))
+
+      -- it goes into no s
+      none_follows : (s : ℕ) (bs : List ℕ) (a c : ℕ) → ccc s ≡ 0 → EndsWith s bs a → GoesBehind a c → joined ccc (composite v) s bs c ≡ None
+      none_follows s bs a c starter ends goes =
+          elim goes [
+            | inl inert ↦ joined-none ccc (composite v) s bs c (composite-never v c (inert on) s)
+            | inr stands ↦ elim ends [
+              | inl own ↦ elim stands [
+                | inl blocks ↦ absurd (omega (arith, blocks.0, ap ccc own.1, starter))
+                | inr pair ↦ joined-none ccc (composite v) s bs c (sym (pair-value v sound s c None tt (subst (λ x. (p : ℕ) → ¬ (IsCompositeOf v x c p)) own.1 pair.2)))
+              ]
+              | inr more ↦ apart_blocked s bs more.0 a c more.1 stands
+            ]
+          ]
+
+      -- ---- behind a composite
+
+      -- bs were kept behind a composite, and end with a: or a is it
+      abbrev EndsBehind : List ℕ → ℕ → Type 0
+      EndsBehind bs a = ((ccc a ≡ 0) × (is_final v (is_compat form) a ≡ false)) ⊎ ((fs : List ℕ) × (bs ≡ fs ++ a ∷ []))
+
+      -- it goes into no starter
+      never_follows : (t : ℕ) (bs : List ℕ) (a c : ℕ) → EndsBehind bs a → GoesBehind a c → joined ccc (composite v) t bs c ≡ None
+      never_follows t bs a c ends goes =
+          elim goes [
+            | inl inert ↦ joined-none ccc (composite v) t bs c (composite-never v c (inert on) t)
+            | inr stands ↦ elim ends [
+              | inl own ↦ elim stands [
+                | inl blocks ↦ absurd (omega (arith, blocks.0, own.0))
+                | inr pair ↦ (let clash = sym pair.1 ∙ own.1 in cc)
+              ]
+              | inr more ↦ apart_blocked t bs more.0 a c more.1 stands
+            ]
+          ]
+
+      -- so the non-starters behind a composite go into no part of it
+      walk_kept : (a : ℕ) (bs : List ℕ) (k last : ℕ) (cs : List ℕ) (end : ℕ) → EndsBehind bs a → Walks May (Some a) last cs end → KeptBelow ccc (composite v) k bs (order cs)
+      walk_kept a bs k last [] end ends walk = subst (KeptBelow ccc (composite v) k bs) (sym order-nil) tt
+      walk_kept a bs k last (c ∷ cs) end ends walk =
+          elim walk.1 [
+            | inl stays ↦ subst (KeptBelow ccc (composite v) k bs) (sym (order-stays c cs stays.boundary)) (λ some below. absurd (omega (arith, some, stays.boundary.starter)))
+            | inr goes ↦
+                subst (KeptBelow ccc (composite v) k bs) (sym (order-front c walk.0 cs end goes.0 goes.1 walk.2))
+                (λ some below. (λ t. never_follows t bs a c ends (goes_behind a c goes.3), walk_kept c (bs ++ c ∷ []) k walk.0 cs end (inr (bs, refl)) walk.2))
+          ]
+
+      -- what has two code points in its full decomposition has a mapping
+      mapped : (c first m : ℕ) (ms : List ℕ) → full c ≡ first ∷ m ∷ ms → is_final v (is_compat form) c ≡ false
+      mapped c first m ms whole =
+          elim (cases_Bool (is_final v (is_compat form) c)) [
+            | inl final ↦ absurd (omega (arith, ap length (sym (full_of-final v (is_compat form) sound.shallow c final) ∙ whole)))
+            | inr off ↦ off
+          ]
+
+      -- what stays comes back, whatever follows it
+      returns_before : (c first : ℕ) (rest : List ℕ) (n : ℕ) (cs : List ℕ) (end : ℕ) → full c ≡ first ∷ rest → ccc c ≡ 0 → NeverFalls ccc rest → FoldsTo v first rest c → Walks May (Some c) n cs end
+          → compose_after ccc (composite v) first [] (canonical_order ccc (rest ++ flat_map full cs)) ≡ compose_after ccc (composite v) c [] (order cs)
+      returns_before c first [] n cs end whole starter rises folds walk = ap (λ x. compose_after ccc (composite v) x [] (order cs)) folds
+      returns_before c first (m ∷ ms) n cs end whole starter rises folds walk =
+          folds_over v sound first (m ∷ ms) c (flat_map full cs) folds rises (λ k. walk_kept c [] k n cs end (inl (starter, mapped c first m ms whole)) walk)
+
+      returns : (c n : ℕ) (cs : List ℕ) (end : ℕ) (stays : Stays v form c) → Walks May (Some c) n cs end
+          → compose_after ccc (composite v) stays.boundary.first [] (canonical_order ccc (stays.boundary.rest ++ flat_map full cs)) ≡ compose_after ccc (composite v) c [] (order cs)
+      returns c n cs end stays walk =
+          let at = stays.boundary in
+          let back = comes_back c stays in
+          returns_before c at.first at.rest n cs end (full_of-boundary v form c sound at) (folds_starter at.first at.rest c at.starter back) stays.rises back walk
+
+      -- it is a starter
+      stays_starter : (c : ℕ) → Stays v form c → ccc c ≡ 0
+      stays_starter c stays = folds_starter stays.boundary.first stays.boundary.rest c stays.boundary.starter (comes_back c stays)
+
+      -- ---- the walk
+
+      walk_composed_after : (a s : ℕ) (bs : List ℕ) (last : ℕ) (cs : List ℕ) (end : ℕ) → ccc s ≡ 0 → EndsWith s bs a → Walks May (Some a) last cs end → compose_after ccc (composite v) s bs (order cs) ≡ s ∷ (bs ++ cs)
+      walk_composed_after a s bs last [] end starter ends walk = ap (compose_after ccc (composite v) s bs) order-nil ∙ compose_after-nil ccc (composite v) s bs ∙ ap (λ l. s ∷ l) (sym (append-nil bs))
       walk_composed_after a s bs last (c ∷ cs) end starter ends walk =
-          let ys = flat_map full cs in
           elim walk.1 [
-            | inl up ↦
-                let at = up.stays.boundary in
-                let back = comes_back c up.stays in
-                ap (λ l. compose_after (class_of v) (composite v) s bs (l ++ ys)) (full_of-boundary v form c sound at)
-                ∙ compose_after-starter (class_of v) (composite v) s bs at.first (at.rest ++ ys) (joined-none (class_of v) (composite v) s bs at.first (composite-never v at.first (at.apart on) s)) (omega (arith, at.starter))
-                ∙ ap (λ l. s ∷ (bs ++ l)) (folds_on at.first at.rest c ys back ∙ walk_composed_after c c [] walk.0 cs end (folds_starter at.first at.rest c at.starter back) (inl (refl, refl)) walk.2)
-            | inr moves ↦ elim moves [
-              | inl goes ↦
-                  ap (λ l. compose_after (class_of v) (composite v) s bs (l ++ ys)) (inert_full c goes.0)
-                  ∙ compose_after-kept (class_of v) (composite v) s bs c ys (joined-none (class_of v) (composite v) s bs c (composite-never v c (goes.0.apart on) s)) goes.0.non_starter
-                  ∙ walk_composed_after c s (bs ++ c ∷ []) walk.0 cs end starter (inr (bs, refl)) walk.2 ∙ ap (λ l. s ∷ l) (append_assoc bs (c ∷ []) cs)
-              | inr goes ↦
-                  let none = apart_none s bs a c starter ends goes.0 in
-                  ap (λ l. compose_after (class_of v) (composite v) s bs (l ++ ys)) (apart_full (Some a) c goes.0)
-                  ∙ elim (cases_lt 0 (class_of v c)) [
-                    | inl non_starter ↦
-                        compose_after-kept (class_of v) (composite v) s bs c ys none non_starter
-                        ∙ walk_composed_after c s (bs ++ c ∷ []) walk.0 cs end starter (inr (bs, refl)) walk.2 ∙ ap (λ l. s ∷ l) (append_assoc bs (c ∷ []) cs)
-                    | inr low ↦
-                        compose_after-starter (class_of v) (composite v) s bs c ys none low
-                        ∙ ap (λ l. s ∷ (bs ++ l)) (walk_composed_after c c [] walk.0 cs end (omega (arith, low)) (inl (refl, refl)) walk.2)
-                  ]
-            ]
+            | inl stays ↦
+                let at = stays.boundary in
+                ap (compose_after ccc (composite v) s bs) (order-stays c cs at)
+                ∙ compose_after-starter ccc (composite v) s bs at.first (canonical_order ccc (at.rest ++ flat_map full cs)) (joined-none ccc (composite v) s bs at.first (composite-never v at.first (at.apart on) s)) (omega (arith, at.starter))
+                ∙ ap (λ l. s ∷ (bs ++ l)) (returns c walk.0 cs end stays walk.2 ∙ walk_composed_after c c [] walk.0 cs end (stays_starter c stays) (inl (refl, refl)) walk.2)
+            | inr goes ↦
+                let none = none_follows s bs a c starter ends (goes_behind a c goes.3) in
+                ap (compose_after ccc (composite v) s bs) (order-front c walk.0 cs end goes.0 goes.1 walk.2)
+                ∙ elim (cases_lt 0 (ccc c)) [
+                  | inl non_starter ↦
+                      compose_after-kept ccc (composite v) s bs c (order cs) none non_starter
+                      ∙ walk_composed_after c s (bs ++ c ∷ []) walk.0 cs end starter (inr (bs, refl)) walk.2 ∙ ap (λ l. s ∷ l) (append_assoc bs (c ∷ []) cs)
+                  | inr low ↦
+                      compose_after-starter ccc (composite v) s bs c (order cs) none low
+                      ∙ ap (λ l. s ∷ (bs ++ l)) (walk_composed_after c c [] walk.0 cs end (omega (arith, low)) (inl (refl, refl)) walk.2)
+                ]
           ]
 
-      walk_composed : (before : Option ℕ) (last : ℕ) (cs : List ℕ) (end : ℕ) → Walks May before last cs end → compose (class_of v) (composite v) (flat_map full cs) ≡ cs
-      walk_composed before last [] end walk = compose-nil (class_of v) (composite v)
+      walk_composed : (before : Option ℕ) (last : ℕ) (cs : List ℕ) (end : ℕ) → Walks May before last cs end → compose ccc (composite v) (order cs) ≡ cs
+      walk_composed before last [] end walk = ap (compose ccc (composite v)) order-nil ∙ compose-nil ccc (composite v)
       walk_composed before last (c ∷ cs) end walk =
-          let ys = flat_map full cs in
           elim walk.1 [
-            | inl up ↦
-                let at = up.stays.boundary in
-                let back = comes_back c up.stays in
-                ap (λ l. compose (class_of v) (composite v) (l ++ ys)) (full_of-boundary v form c sound at)
-                ∙ compose-starter (class_of v) (composite v) at.first (at.rest ++ ys) (omega (arith, at.starter))
-                ∙ folds_on at.first at.rest c ys back ∙ walk_composed_after c c [] walk.0 cs end (folds_starter at.first at.rest c at.starter back) (inl (refl, refl)) walk.2
-            | inr moves ↦ elim moves [
-              | inl goes ↦
-                  ap (λ l. compose (class_of v) (composite v) (l ++ ys)) (inert_full c goes.0) ∙ compose-non_starter (class_of v) (composite v) c ys goes.0.non_starter
-                  ∙ ap (λ l. c ∷ l) (walk_composed (Some c) walk.0 cs end walk.2)
-              | inr goes ↦
-                  ap (λ l. compose (class_of v) (composite v) (l ++ ys)) (apart_full before c goes.0)
-                  ∙ elim (cases_lt 0 (class_of v c)) [
-                    | inl non_starter ↦ compose-non_starter (class_of v) (composite v) c ys non_starter ∙ ap (λ l. c ∷ l) (walk_composed (Some c) walk.0 cs end walk.2)
-                    | inr low ↦ compose-starter (class_of v) (composite v) c ys low ∙ walk_composed_after c c [] walk.0 cs end (omega (arith, low)) (inl (refl, refl)) walk.2
-                  ]
-            ]
+            | inl stays ↦
+                let at = stays.boundary in
+                ap (compose ccc (composite v)) (order-stays c cs at)
+                ∙ compose-starter ccc (composite v) at.first (canonical_order ccc (at.rest ++ flat_map full cs)) (omega (arith, at.starter))
+                ∙ returns c walk.0 cs end stays walk.2 ∙ walk_composed_after c c [] walk.0 cs end (stays_starter c stays) (inl (refl, refl)) walk.2
+            | inr goes ↦
+                ap (compose ccc (composite v)) (order-front c walk.0 cs end goes.0 goes.1 walk.2)
+                ∙ elim (cases_lt 0 (ccc c)) [
+                  | inl non_starter ↦ compose-non_starter ccc (composite v) c (order cs) non_starter ∙ ap (λ l. c ∷ l) (walk_composed (Some c) walk.0 cs end walk.2)
+                  | inr low ↦ compose-starter ccc (composite v) c (order cs) low ∙ walk_composed_after c c [] walk.0 cs end (omega (arith, low)) (inl (refl, refl)) walk.2
+                ]
           ]
 
-    -- where the form only decomposes, nothing changes
-    walk_plain : composes form ≡ false → (before : Option ℕ) (last : ℕ) (cs : List ℕ) (end : ℕ) → Walks May before last cs end → flat_map full cs ≡ cs
-    walk_plain off before last [] end walk = refl
+    -- the first code point, and behind it the others before ys in canonical order
+    abbrev whole : List ℕ → List ℕ → List ℕ
+    whole [] ys = []
+    whole (x ∷ xs) ys = x ∷ canonical_order ccc (xs ++ ys)
+
+    -- where the form only decomposes, what stays is its own full decomposition
+    stays_front : composes form ≡ false → (c : ℕ) (cs : List ℕ) (stays : Stays v form c) → order (c ∷ cs) ≡ c ∷ order cs
+    stays_front off c cs stays =
+        let at = stays.boundary in
+        let same : at.first ∷ at.rest ≡ c ∷ [] = subst (λ b. MatchBool b (FoldsTo v at.first at.rest c) (at.first ∷ at.rest ≡ c ∷ [])) off stays.returns in
+        order-stays c cs at ∙ ap (λ l. whole l (flat_map full cs)) same
+
+    -- so nothing changes
+    walk_plain : composes form ≡ false → (before : Option ℕ) (last : ℕ) (cs : List ℕ) (end : ℕ) → Walks May before last cs end → order cs ≡ cs
+    walk_plain off before last [] end walk = order-nil
     walk_plain off before last (c ∷ cs) end walk =
-        let rest = walk_plain off (Some c) walk.0 cs end walk.2 in
-        elim walk.1 [
-          | inl up ↦
-              let at = up.stays.boundary in
-              let same : at.first ∷ at.rest ≡ c ∷ [] = subst (λ b. MatchBool b (FoldsTo v at.first at.rest c) (at.first ∷ at.rest ≡ c ∷ [])) off up.stays.returns in
-              ap (λ l. l ++ flat_map full cs) (full_of-boundary v form c sound at ∙ same) ∙ ap (λ l. c ∷ l) rest
-          | inr moves ↦ elim moves [
-            | inl goes ↦ ap (λ l. l ++ flat_map full cs) (inert_full c goes.0) ∙ ap (λ l. c ∷ l) rest
-            | inr goes ↦ ap (λ l. l ++ flat_map full cs) (apart_full before c goes.0) ∙ ap (λ l. c ∷ l) rest
-          ]
-        ]
+        let front : order (c ∷ cs) ≡ c ∷ order cs = elim walk.1 [ inl stays ↦ stays_front off c cs stays | inr goes ↦ order-front c walk.0 cs end goes.0 goes.1 walk.2 ] in
+        front ∙ ap (λ l. c ∷ l) (walk_plain off (Some c) walk.0 cs end walk.2)
 
-    walk_ended : (b : Bool) → composes form ≡ b → (before : Option ℕ) (last : ℕ) (cs : List ℕ) (end : ℕ) → Walks May before last cs end → ended v b (flat_map full cs) ≡ cs
+    walk_ended : (b : Bool) → composes form ≡ b → (before : Option ℕ) (last : ℕ) (cs : List ℕ) (end : ℕ) → Walks May before last cs end → ended v b (order cs) ≡ cs
     unfolding compose_of
     walk_ended true on before last cs end walk = walk_composed on before last cs end walk
     walk_ended false off before last cs end walk = walk_plain off before last cs end walk
 
 pub standing_form : (v : VersionData) (sound : IsSound v) (form : Form) (cs : List ℕ) (end : ℕ) → Walks (MayFollow v form) None 0 cs end → normal_form v form cs ≡ cs
 unfolding normal_form decomposed
-standing_form v sound form cs end walk =
-    ap (ended v (composes form)) (canonical_order-ordered (class_of v) (flat_map (full_of v (is_compat form)) cs) (walk_ordered v sound form None 0 cs end walk).0)
-    ∙ walk_ended v sound form (composes form) refl None 0 cs end walk
+standing_form v sound form cs end walk = walk_ended v sound form (composes form) refl None 0 cs end walk

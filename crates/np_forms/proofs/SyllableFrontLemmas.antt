@@ -15,21 +15,19 @@ use Rattle.np_forms.specs.inside.NormalForms.{decomposed, ended, normal_form}
 use Rattle.np_forms.specs.inside.Readings.{IsReadAssigned}
 use Rattle.np_forms.specs.inside.Segments.{IsFirstMade}
 use Rattle.np_forms.specs.inside.Syllables.{BeginsWithJamo, BeginsWithSyllable, syllable_parts}
-use Rattle.np_forms.proofs.BoundaryLemmas.{ended-folds, is_ordered-never_falls}
+use Rattle.np_forms.proofs.BoundaryLemmas.{ended-folds, is_ordered-never_falls, rises_from}
 use Rattle.np_forms.proofs.CopyLemmas.{IsCopied-at, parts-at}
 use Rattle.np_forms.proofs.DecomposedLemmas.{form-closed, goes-made}
 use Rattle.np_forms.proofs.OrderLemmas.{canonical_order-ordered}
-use Rattle.np_forms.proofs.StandingLemmas.{rises_from}
 use Rattle.np_forms.proofs.SyllableLemmas.{full_of-jamo, full_of-syllable}
 use Rattle.np_forms.proofs.SyllableTextLemmas.{closed-parts, jamo-boundary, jamo-bytes, jamo-chars, jamo-starter, parts-assigned, syllable-assigned}
 use Rattle.np_tables.proofs.HangulLemmas.{leading_jamo}
 use Rattle.np_tables.proofs.MappingLemmas.{IsFullDecomposition-full_of, flat_map-final, full_of-only}
 use Rattle.np_tables.proofs.PageHintLemmas.{unfolds}
-use Rattle.np_tables.specs.Boundaries.{BeginsAtBoundary, FoldsTo, IsBoundary}
+use Rattle.np_tables.specs.Boundaries.{BeginsAtBoundary, FoldsTo, IsBoundary, Stays}
 use Rattle.np_tables.specs.Composites.{IsCompositeOf}
 use Rattle.np_tables.specs.Conditions.{IsSound}
 use Rattle.np_tables.specs.Mappings.{IsFullDecomposition, is_final}
-use Rattle.np_tables.specs.Standing.{StaysUpTo}
 use Rattle.np_tables.specs.Versions.{VersionData, class_of, has_hangul, is_assigned}
 use Rattle.np_tables.specs.inside.FullDecompositions.{full_of}
 
@@ -112,7 +110,7 @@ module _ (v : VersionData) (sound : IsSound v) (on : has_hangul v ≡ true) (for
       let is = unfolds v sound on compat s h in
       let parts : syllable_parts s ≡ is.first ∷ is.rest = sym (full_of-syllable v compat sound on s h) ∙ is.full in
       let starter : class_of v is.first ≡ 0 = jamo-starter v on is.first (leading_jamo is.first is.lead) in
-      let ordered = is_ordered-never_falls (class_of v) (is.first ∷ is.rest) (rises_from v sound form is.first is.rest starter is.rises) in
+      let ordered = is_ordered-never_falls (class_of v) (is.first ∷ is.rest) (rises_from (class_of v) is.first is.rest starter is.rises) in
       ap (λ l. ended v (composes form) (canonical_order (class_of v) l)) (full ∙ parts) ∙ ap (ended v (composes form)) (canonical_order-ordered (class_of v) (is.first ∷ is.rest) ordered)
       ∙ ended-folds v sound (composes form) is.first is.rest s starter (subst (λ b. MatchBool b (FoldsTo v is.first is.rest s) (is.first ∷ is.rest ≡ s ∷ [])) (sym composing) is.folds)
 
@@ -162,16 +160,15 @@ module _ (v : VersionData) (sound : IsSound v) (on : has_hangul v ≡ true) (for
 
 -- ---- ASCII that stands alone
 
-pub ascii-alone : (v : VersionData) (sound : IsSound v) (form : Form) → ((c : ℕ) → c < 128 → is_assigned v c ≡ true) → ((c : ℕ) → c < 128 → StaysUpTo v form c 0) → AsciiStandsAlone v form
+pub ascii-alone : (v : VersionData) (sound : IsSound v) (form : Form) → ((c : ℕ) → c < 128 → is_assigned v c ≡ true) → ((c : ℕ) → c < 128 → Stays v form c) → AsciiStandsAlone v form
 ascii-alone v sound form assigned stays c lt =
-    let up = stays c lt in
     record {
       assigned = assigned c lt;
-      boundary = up.stays.boundary;
+      boundary = (stays c lt).boundary;
       stands = λ back utf8 at.
           IsCopied-at v sound form (encode_utf8 c ++ back) (encode_utf8 c) back (c ∷ []) 0 refl utf8 (sym (append-nil (encode_utf8 c)))
           (chars-append (encode_utf8 c) back (c ∷ [], (and_from _ _ (low_scalar c (omega (arith, lt))) refl, append-nil (encode_utf8 c))) ∙ ap (λ l. l ++ chars back) (ap chars (sym (append-nil (encode_utf8 c))) ∙ chars-encodes (c ∷ []) (and_from _ _ (low_scalar c (omega (arith, lt))) refl)))
-          (0, inl up, refl) at;
+          (0, inl (stays c lt), refl) at;
     }
 
 -- the text that it begins is copied, where a syllable follows

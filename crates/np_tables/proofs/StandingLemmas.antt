@@ -7,23 +7,20 @@ use Rattle.std.proofs.lemmas.List.{get_or_default, get_or-map, nil_from_length, 
 use Rattle.std.proofs.lemmas.Str.{chars-append, chars-nil, chars_from_encodes, chars-IsAscii, chars_past_char, encodes-append, encodes-IsAscii, IsCharBoundary-at_seam, IsCharBoundary-from_take, IsUtf8-drop, IsUtf8-take, IsUtf8-from_ascii, IsUtf8-past_char}
 use Rattle.np_code_points.specs.Hangul.{is_syllable}
 use Rattle.np_code_points.specs.declared.forms.Form.{Form}
-use Rattle.np_code_points.specs.declared.forms.Form.TheVariants.{Nfd, Nfc, Nfkd, Nfkc}
 use Rattle.np_code_points.specs.Forms.{is_compat}
-use Rattle.np_tables.specs.Boundaries.{BeginsAtBoundary, IsBoundary, Stays}
-use Rattle.np_tables.specs.Conditions.{IsSound}
+use Rattle.np_tables.specs.Boundaries.{BeginsAtBoundary, IsBoundary}
 use Rattle.np_tables.specs.Mappings.{is_final}
-use Rattle.np_tables.specs.Standing.{AreStanding, MayFollow, StaysUpTo, Walks}
+use Rattle.np_tables.specs.Standing.{AreStanding, MayFollow, Walks}
 use Rattle.np_tables.specs.Versions.{VersionData, class_of, has_hangul, is_assigned}
 use Rattle.np_tables.specs.declared.page_words.Word.{Word}
 use Rattle.np_tables.specs.inside.FullDecompositions.{full_of, table_full}
 use Rattle.np_tables.specs.inside.FullLists.{FullLists, of_kind}
 use Rattle.np_tables.specs.inside.Pages.{word_place}
 use Rattle.np_tables.specs.inside.PageWords.{AreFollowing, ArePages, Follows, FollowsApart, FollowsByStep, IsAsciiStaying, IsPast, IsWalkedTo, PassesApart, WalksOn, last_behind, no_word}
-use Rattle.np_tables.specs.inside.PageHints.{decomposing, has_bit, stays_place}
 use Rattle.np_tables.specs.inside.Steps.{all_steps, step_in, step_of, steps_of}
 use Rattle.np_tables.proofs.HangulLemmas.{by_arithmetic, syllable_hangul}
-use Rattle.np_tables.proofs.MappingLemmas.{full_of-only, full_of-some}
-use Rattle.np_tables.proofs.StepLemmas.{own_under, place-within, step_assigned, step_at, step_low, step_own, step_stays}
+use Rattle.np_tables.proofs.MappingLemmas.{full_of-some}
+use Rattle.np_tables.proofs.StepLemmas.{place-within, staying_step, step_assigned, step_at, step_low, step_stays}
 use Rattle.np_tables.proofs.WalkLemmas.{Walks-append, Walks-weaker}
 
 -- ---- ASCII stands for itself
@@ -90,8 +87,7 @@ module _ (Step : Option ℕ → ℕ → ℕ → ℕ → Type 0) where
 -- ASCII that stays leads from any class to 0
 pub ascii_follows : (least : ℕ) (blocks steps : List ℕ) (form : Form) → least ≤ 255 → IsAsciiStaying blocks steps → (last c : ℕ) → c < 128 → FollowsByStep least blocks steps form last c 0
 ascii_follows least blocks steps form le ascii last c lt =
-    let whole : step_in form (get_or steps (word_place blocks c) 0) ≡ 255 = ap (step_in form) (ascii c lt) ∙ own_under form in
-    (omega arith, omega (arith, whole, le), inl (omega (arith, whole), inr whole))
+    let whole : step_in form (get_or steps (word_place blocks c) 0) ≡ 255 = ap (step_in form) (ascii c lt) ∙ staying_step form in (omega arith, omega (arith, whole, le), inl whole)
 
 pub following-stop : (v : VersionData) (least : ℕ) (blocks steps : List ℕ) (form : Form) (s rest : List ℕ) (last n : ℕ) → IsWalkedTo (Follows v least blocks steps form) s rest last → n ≡ length s - length rest → AreFollowing v least blocks steps form s n
 following-stop v least blocks steps form s rest last n r is =
@@ -163,30 +159,6 @@ final-lent v compat c none plain =
           absurd (omega (arith, ap length (sym whole ∙ none), full_of-some v compat c))
     ]
 
--- ---- what the words say is so
-
-module _ (v : VersionData) (sound : IsSound v) where
-  -- the full decomposition that a boundary names is the only one
-  named : (form : Form) (c : ℕ) → (at : IsBoundary v form c) → at.first ∷ at.rest ≡ full_of v (is_compat form) c
-  named form c at = full_of-only v (is_compat form) sound.shallow c (at.first ∷ at.rest) at.decomposes
-
-  decomposed_self : (form : Form) (c : ℕ) → Stays v (decomposing (is_compat form)) c → full_of v (is_compat form) c ≡ c ∷ []
-  decomposed_self Nfd c stays = sym (named Nfd c stays.boundary) ∙ stays.returns
-  decomposed_self Nfc c stays = sym (named Nfd c stays.boundary) ∙ stays.returns
-  decomposed_self Nfkd c stays = sym (named Nfkd c stays.boundary) ∙ stays.returns
-  decomposed_self Nfkc c stays = sym (named Nfkd c stays.boundary) ∙ stays.returns
-
-  -- behind what is its own full decomposition any class may follow
-  pub up_to-own : (form : Form) (c n : ℕ) → Stays v (decomposing (is_compat form)) c → (stays : Stays v form c) → StaysUpTo v form c n
-  up_to-own form c n own stays =
-      let whole = named form c stays.boundary ∙ decomposed_self form c own in
-      let short : length stays.boundary.rest ≡ 0 = omega (arith, ap length whole) in
-      record { stays = stays; up_to = λ k d lt. absurd (omega (arith, short, lt)) }
-
-  -- no class is above the greatest
-  up_to-any : (form : Form) (c n : ℕ) → n ≡ 254 → (stays : Stays v form c) → StaysUpTo v form c n
-  up_to-any form c n top stays = record { stays = stays; up_to = λ k d lt. (let low = sound.classes (get_or stays.boundary.rest k d) in omega arith) }
-
 -- ---- what the steps say is so
 
 module _ (v u : VersionData) (same : u ≡ v) (lists : FullLists) (blocks : List ℕ) (words : List Word) (pages : ArePages u lists blocks words) (steps : List ℕ) (are_steps : steps ≡ all_steps words) (form : Form) where
@@ -201,36 +173,20 @@ module _ (v u : VersionData) (same : u ≡ v) (lists : FullLists) (blocks : List
       let word = pages.each c h.0 in
       let read = step_read c h.0 in
       elim h.2 [
-        | inl stays ↦
-            let bit = step_stays form w (omega (arith, read, stays.0)) in
-            let itself = word.hints.stays form bit in
-            elim stays.1 [
-              | inl top ↦ inl (up_to-any u pages.sound form c n top itself)
-              | inr own ↦ inl (up_to-own u pages.sound form c n (word.hints.stays (decomposing (is_compat form)) (step_own form w (sym read ∙ own))) itself)
-            ]
+        | inl stays ↦ inl (word.hints.stays form (step_stays form w (sym read ∙ stays)))
         | inr goes ↦
             let compat = is_compat form in
             elim (step_low form w (omega (arith, read, goes.0)) (omega (arith, read, goes.1))) [
-              | inl own ↦
-                  let bits = and_parts (has_bit w.hints (stays_place form)) (has_bit w.hints (stays_place (decomposing compat))) own in
-                  inl (up_to-own u pages.sound form c n (word.hints.stays (decomposing compat) bits.1) (word.hints.stays form bits.0))
+              | inl bit ↦ inl (word.hints.stays form bit)
               | inr inert ↦
                   let non_starter : 0 < class_of u c = omega (arith, word.class, inert.0, read, goes.0) in
                   let none = sym (word.slot.lent compat) ∙ ap (λ k. get_or (of_kind compat lists) k []) inert.1 ∙ pages.none compat in
-                  inr (inl (
-                    record {
-                      non_starter = non_starter;
-                      unmapped = final-lent u compat c none (plain_non_starter u c non_starter);
-                      apart = λ on. word.apart (inert.2 on);
-                    },
-                    goes.2 ∙ read ∙ sym inert.0 ∙ word.class,
-                    goes.3,
-                  ))
+                  inr (final-lent u compat c none (plain_non_starter u c non_starter), goes.2 ∙ read ∙ sym inert.0 ∙ word.class, inr goes.3, inl (λ on. word.apart (inert.2 on)))
             ]
       ]
 
   follows_is : (least : ℕ) (before : Option ℕ) (last c n : ℕ) → Follows u least blocks steps form before last c n → MayFollow u form before last c n
-  follows_is least before last c n h = elim h [ inl by_step ↦ step_follows least before last c n by_step | inr apart ↦ inr (inr (apart.0, apart.1, apart.2)) ]
+  follows_is least before last c n h = elim h [ inl by_step ↦ step_follows least before last c n by_step | inr apart ↦ inr (apart.0, apart.1, apart.2, inr apart.3) ]
 
   follows-assigned : (least : ℕ) (before : Option ℕ) (last c n : ℕ) → 2 ≤ least → Follows u least blocks steps form before last c n → is_assigned u c ≡ true
   follows-assigned least before last c n two h =
@@ -238,7 +194,7 @@ module _ (v u : VersionData) (same : u ≡ v) (lists : FullLists) (blocks : List
         | inl by_step ↦
             let w = get_or words (word_place blocks c) no_word in
             sym (pages.each c by_step.0).assigned ∙ step_assigned form w (omega (arith, two, by_step.1, step_read c by_step.0))
-        | inr apart ↦ apart.3
+        | inr apart ↦ apart.4
       ]
 
   -- above the least step of what is not assigned each is

@@ -1,5 +1,5 @@
--- What stands in a normal form as it is: code points that stay (UAX #15, section 9.1), and non-starters in canonical order that compose with nothing.
-use Rattle.std.specs.Prelude.{◌≡◌, ℕ, ◌<◌, ◌≤◌, ◌⊎◌, true, List, [], ◌∷◌, ◌++◌, Option, Some, None, length, chars, encode_utf8_all, All, IsUtf8}
+-- What stands in a normal form as it is: code points that stay (UAX #15, section 9.1), and in canonical order those without a mapping that go into nothing.
+use Rattle.std.specs.Prelude.{◌≡◌, ℕ, ◌<◌, ◌≤◌, ◌⊎◌, true, List, [], ◌∷◌, ◌++◌, Option, Some, None, length, chars, encode_utf8_all, IsUtf8}
 use Rattle.np_code_points.specs.declared.forms.Form.{Form}
 use Rattle.np_code_points.specs.Forms.{is_compat, composes}
 use Rattle.np_tables.specs.Boundaries.{Stays}
@@ -7,29 +7,19 @@ use Rattle.np_tables.specs.Composites.{IsCompositeOf}
 use Rattle.np_tables.specs.Mappings.{is_final}
 use Rattle.np_tables.specs.Versions.{VersionData, class_of}
 
--- a non-starter without a mapping of the form's kind that, where the form composes, is the second part of no primary composite
-pub record IsInert (v : VersionData) (form : Form) (c : ℕ) : Type 0 where
-  pub non_starter : 0 < class_of v c
-  pub unmapped : is_final v (is_compat form) c ≡ true
-  pub apart : composes form ≡ true → (a p : ℕ) → ¬ (IsCompositeOf v a c p)
+-- where the form composes, c is the second part of no primary composite
+abbrev pub IsInert : VersionData → Form → ℕ → Type 0
+IsInert v form c = composes form ≡ true → (a p : ℕ) → ¬ (IsCompositeOf v a c p)
 
--- c stays, and no class in its full decomposition is above n
-pub record StaysUpTo (v : VersionData) (form : Form) (c n : ℕ) : Type 0 where
-  pub stays : Stays v form c
-  pub up_to : All (λ d. class_of v d ≤ n) stays.boundary.rest
+-- right behind the code point `kept` c goes into nothing: that is a non-starter which blocks it, or a starter with which it is the
+-- pair of no primary composite, and which has no mapping of the form's kind, since with a part of that it might be one
+abbrev pub StandsApart : VersionData → Form → ℕ → ℕ → Type 0
+StandsApart v form kept c = ((0 < class_of v kept) × (class_of v c ≤ class_of v kept)) ⊎ ((class_of v kept ≡ 0) × (is_final v (is_compat form) kept ≡ true) × ((p : ℕ) → ¬ (IsCompositeOf v kept c p)))
 
--- right behind a code point that was kept, c has no mapping of the form's kind and goes into nothing: the one before is a
--- non-starter that blocks it, or a starter with which it is the pair of no primary composite
-pub record StandsApart (v : VersionData) (form : Form) (before : Option ℕ) (c : ℕ) : Type 0 where
-  pub unmapped : is_final v (is_compat form) c ≡ true
-  pub kept : ℕ
-  pub behind : before ≡ Some kept
-  pub apart : ((0 < class_of v kept) × (class_of v c ≤ class_of v kept)) ⊎ ((class_of v kept ≡ 0) × ((p : ℕ) → ¬ (IsCompositeOf v kept c p)))
-
--- behind the code point `before` and classes up to `last`, c may stand in the form as it is, and then the classes are up to n
+-- behind the code point `before`, where no class but 0 may follow that is below `last`, c may stand in the form as it is, and behind
+-- it n is such a bound: c stays, whatever n is; or it has no mapping of the form's kind, its class may follow, and it goes into nothing
 abbrev pub MayFollow : VersionData → Form → Option ℕ → ℕ → ℕ → ℕ → Type 0
-MayFollow v form before last c n =
-    StaysUpTo v form c n ⊎ ((IsInert v form c × (n ≡ class_of v c) × (last ≤ n)) ⊎ (StandsApart v form before c × (n ≡ class_of v c) × ((n ≡ 0) ⊎ (last ≤ n))))
+MayFollow v form before last c n = Stays v form c ⊎ ((is_final v (is_compat form) c ≡ true) × (n ≡ class_of v c) × ((n ≡ 0) ⊎ (last ≤ n)) × (IsInert v form c ⊎ ((kept : ℕ) × (before ≡ Some kept) × StandsApart v form kept c)))
 
 -- a walk over a list, which begins behind a code point, or none, with one number and ends with another: each step leads from
 -- the code point before and a number over a code point to a number

@@ -5,7 +5,7 @@ ghost use Rattle.np_code_points.specs.declared.forms.Form.{Form};
 ghost use Rattle.np_tables.specs.Boundaries.{FoldsTo, NeverFalls};
 ghost use Rattle.np_tables.specs.Mappings.{IsFullDecomposition};
 ghost use Rattle.np_tables.specs.Versions.{VersionData, class_of};
-ghost use Rattle.np_tables.specs.inside.PageHints.{AreHints, AreLeadsApart, FoldsBy, IsApart, bit as spec_bit, decomposing, eight_bits as spec_eight_bits, four_bits as spec_four_bits, is_late_jamo as spec_is_late_jamo, own_hints as spec_own_hints, parts_place as spec_parts_place, stays_place as spec_stays_place};
+ghost use Rattle.np_tables.specs.inside.PageHints.{AreHints, AreLeadsApart, FoldsBy, IsApart, bit as spec_bit, eight_bits as spec_eight_bits, four_bits as spec_four_bits, is_late_jamo as spec_is_late_jamo, own_hints as spec_own_hints, parts_place as spec_parts_place, stays_place as spec_stays_place};
 ghost use Rattle.np_tables.specs.inside.PageWords.{AreSeconds};
 
 use crate::pairs::Pairs;
@@ -238,12 +238,4 @@ pub(crate) fn stays_place(form: Form) -> u32
         Form::Nfkd => 6,
         Form::Nfkc => 7,
     }
-}
-
-/// Which bit tells whether the form that only decomposes leaves a code point as it is.
-pub(crate) fn own_place(compat: bool) -> u32
-    ensures place { result ≡ spec_stays_place (decomposing compat) }
-    ensures bound { result < 8 }
-{
-    stays_place(if compat { Form::Nfkd } else { Form::Nfd })
 }

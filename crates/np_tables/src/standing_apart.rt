@@ -1,10 +1,8 @@
 //! Code points that compose with some others, and stand in a normal form as they are behind those with which
 //! they don't: an accent behind a letter that has no composite with it.
-ghost use Rattle.std.specs.Prelude.{◌≡◌, ◌<◌, ◌≤◌, ◌⊎◌, ℕ, None, Some, chars, slice_index_or, IfSome, IsTrue};
-ghost use Rattle.np_tables.specs.Composites.{IsCompositeOf};
-ghost use Rattle.np_tables.specs.Versions.{class_of};
+ghost use Rattle.std.specs.Prelude.{◌≡◌, ◌<◌, ◌≤◌, ◌⊎◌, None, Some, chars, slice_index_or, IfSome, IsTrue};
 ghost use Rattle.np_tables.specs.inside.FullLists.{FullLists};
-ghost use Rattle.np_tables.specs.inside.PageWords.{ArePages, PassesApart, last_behind, no_word};
+ghost use Rattle.np_tables.specs.inside.PageWords.{ArePages, IsKeptApart, PassesApart, last_behind, no_word};
 ghost use Rattle.np_tables.specs.inside.Pages.{word_place};
 
 use crate::page_words::{Word, word_of};
@@ -40,15 +38,18 @@ fn low_behind_class(least: u8, low: u8, class: u8) -> Option<u8>
     if class < low { None } else { Some(class) }
 }
 
-/// Whether a code point of this class goes into nothing right behind `kept`, which has the class `last`: that
-/// is a non-starter which blocks it, or a starter with which it has no composite.
+/// Whether a code point of this class goes into nothing right behind `kept`, which has the word `before`: that
+/// is a non-starter which blocks it, or a starter without a mapping with which it has no composite.
 #[inline(always)]
-fn is_kept_apart(version: &Version, kept: char, last: u8, c: char, class: u8) -> bool
-    ensures { IsTrue result → last ≡ class_of version.now kept → class ≡ class_of version.now c →
-        ((0 < class_of version.now kept) × (class_of version.now c ≤ class_of version.now kept)) ⊎ ((class_of version.now kept ≡ 0) × ((p : ℕ) → ¬ (IsCompositeOf version.now kept c p))) }
+fn is_kept_apart(version: &Version, kept: char, before: Word, c: char, class: u8) -> bool
+    ensures { IsTrue result → IsKeptApart version.now kept before c class }
 {
-    if last > 0 {
-        return class <= last;
+    if before.class > 0 {
+        return class <= before.class;
+    }
+    // c slides into what `kept` decomposes to, and may go into a part of that
+    if before.fulls != 0 || is_syllable(kept as u32) {
+        return false;
     }
     match version.composite_of(kept, c) {
         Some(_composite) => false,
@@ -85,8 +86,8 @@ pub(crate) fn pass_apart(
         return None;
     }
     let next = low_behind_class(least, low, word.class)?;
-    let last = word_of(blocks, words, kept).class;
-    if is_kept_apart(version, kept, last, c, word.class) {
+    let before = word_of(blocks, words, kept);
+    if is_kept_apart(version, kept, before, c, word.class) {
         Some(next)
     } else {
         None

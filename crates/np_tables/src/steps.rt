@@ -1,42 +1,42 @@
 //! What a scan asks of a code point under each form, in one byte: a word is told by several branches that
 //! can't be foretold in texts with non-starters, a byte by one.
 ghost use Rattle.std.specs.Prelude.{◌≡◌, ◌/◌, ◌%◌, ◌^◌, ◌<◌, ℕ, length, slice_index_or, IfOk, IsTrue};
+ghost use Rattle.np_tables.specs.inside.PageHints.{has_bit as spec_has_bit, stays_place as spec_stays_place};
 ghost use Rattle.np_tables.specs.inside.PageWords.{IsAsciiStaying};
 ghost use Rattle.np_tables.specs.inside.Pages.{AreWithin, word_place};
 ghost use Rattle.np_tables.specs.inside.Steps.{all_steps as spec_all_steps, assigned_step as spec_assigned_step, least_step as spec_least_step, low_behind as spec_low_behind, step_of as spec_step_of, step_place as spec_step_place, steps_of as spec_steps_of};
 
-use crate::page_hints::{own_place, stays_place};
+use crate::page_hints::stays_place;
 use crate::page_words::{Word, place_in};
 use crate::word_bits::has_bit;
 use np_code_points::{Form, Memory};
 use std::alloc::Global;
 
-/// The step of what stays and is its own full decomposition: anything may follow.
-const OWN: u8 = 255;
-
-/// The step of what stays and has another one, of whose classes nothing is looked up. No class is
-/// greater.
-const STAYS: u8 = 254;
+/// The step of what stays: anything may follow. All classes are less.
+const STAYS: u8 = 255;
 
 /// The step of what is not assigned, which stands as it is, below all else; the non-starters of class 1
 /// have it too.
 const UNASSIGNED: u8 = 1;
 
-/// Of what stays under every form and is its own full decomposition.
-const ALL_OWN: u32 = 0xFFFF_FFFF;
+/// Of what stays under every form.
+const ALL_STAY: u32 = 0xFFFF_FFFF;
 
-/// The step of an assigned code point's word under a form: `OWN`, `STAYS`, the class of a non-starter
-/// that may stand as it is, or 0.
+/// Whether a form leaves the code point of a word as it is.
+fn stays(form: Form, word: Word) -> bool
+    ensures { result ≡ spec_has_bit word.hints (spec_stays_place form) }
+{
+    has_bit(word.hints, stays_place(form))
+}
+
+/// The step of an assigned code point's word under a form: `STAYS`, the class of a non-starter that may
+/// stand as it is, or 0.
 #[tactic(auto, unfolding(crate::specs::inside::Steps::assigned_step))]
 fn assigned_step(form: Form, word: Word) -> u8
     ensures { result ≡ spec_assigned_step form word }
 {
-    if has_bit(word.hints, stays_place(form)) {
-        return if has_bit(word.hints, own_place(form.compat())) {
-            OWN
-        } else {
-            STAYS
-        };
+    if stays(form, word) {
+        return STAYS;
     }
     let inert = word.class < STAYS && word.fulls == 0 && (word.apart || !form.composes());
     if inert { word.class } else { 0 }
@@ -50,9 +50,7 @@ fn step_of(form: Form, word: Word) -> u8
     if word.assigned {
         return assigned_step(form, word);
     }
-    let own = has_bit(word.hints, stays_place(form))
-        && has_bit(word.hints, own_place(form.compat()));
-    if own { UNASSIGNED } else { 0 }
+    if stays(form, word) { UNASSIGNED } else { 0 }
 }
 
 /// The steps of a word under all forms.
@@ -62,7 +60,7 @@ fn steps_of(word: Word) -> u32
 {
     // most code points stay under all
     if word.assigned && word.hints == 255 {
-        return ALL_OWN;
+        return ALL_STAY;
     }
     u32::from(step_of(Form::Nfd, word))
         + u32::from(step_of(Form::Nfc, word)) * 0x100
@@ -127,16 +125,16 @@ pub(crate) fn least_step(assigned: bool) -> u8
 pub(crate) fn low_behind(least: u8, step: u8) -> u8
     ensures { result ≡ spec_low_behind least step }
 {
-    if step == OWN { least } else { step }
+    if step == STAYS { least } else { step }
 }
 
-/// Whether all ASCII stays under every form, and is its own full decomposition.
+/// Whether all ASCII stays under every form.
 pub(crate) fn is_ascii_staying(blocks: &[u16], steps: &[u32]) -> bool
     requires { AreWithin 4352 blocks.now (length steps.now) }
     ensures { IsTrue result → IsAsciiStaying blocks.now steps.now }
 {
     for code in 0..128u8 {
-        if steps_at(blocks, steps, char::from(code)) != ALL_OWN {
+        if steps_at(blocks, steps, char::from(code)) != ALL_STAY {
             return false;
         }
     }

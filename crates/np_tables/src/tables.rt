@@ -2,12 +2,12 @@
 ghost use Rattle.std.specs.List.{list_all};
 ghost use Rattle.std.specs.Prelude.{◌≡◌, ◌<◌, ◌≤◌, ℕ, true, false, take, drop, chars, IfSome, IfNone, IsTrue};
 ghost use Rattle.np_code_points.specs.declared.forms.Form.{Form};
-ghost use Rattle.np_tables.specs.Boundaries.{BeginsAtBoundary, IsBoundary};
+ghost use Rattle.np_tables.specs.Boundaries.{BeginsAtBoundary, IsBoundary, Stays};
 ghost use Rattle.np_tables.specs.Composites.{IsCompositeOf};
 ghost use Rattle.np_tables.specs.inside.CompositeSearch.{composite};
 ghost use Rattle.np_tables.specs.Conditions.{IsSound};
 ghost use Rattle.np_tables.specs.Mappings.{IsLent};
-ghost use Rattle.np_tables.specs.Standing.{AreStanding, StaysUpTo};
+ghost use Rattle.np_tables.specs.Standing.{AreStanding};
 ghost use Rattle.np_tables.specs.inside.FullDecompositions.{table_full};
 ghost use Rattle.np_tables.specs.inside.Spelled.{IsSpelled};
 ghost use Rattle.np_tables.specs.Versions.{VersionData, class_of, has_hangul, is_assigned};
@@ -104,7 +104,7 @@ pub trait NormTable {
     /// stands between. A table may answer `false` where they do.
     fn ascii_stands(&self, form: Form) -> bool
         ensures assigned { IsTrue result → (c : ℕ) → c < 128 → is_assigned (model self.now) c ≡ true }
-        ensures stays { IsTrue result → (c : ℕ) → c < 128 → StaysUpTo (model self.now) form c 0 }
+        ensures stays { IsTrue result → (c : ℕ) → c < 128 → Stays (model self.now) form c }
     {
         // the same
         let _unused = form;

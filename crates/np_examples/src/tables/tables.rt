@@ -148,16 +148,15 @@ fn no_syllable_goes_by_arithmetic_where_the_jamo_lack(rt: HostRuntime) -> Result
 
 // How many bytes at the front of a text stand in a form as they are: composites and syllables come
 // back, singletons and excluded ones don't, nor what has a mapping that counts. Non-starters follow
-// where no class is less than the one before and, where the form composes, they are no second parts;
-// behind a composite none is taken to follow, nor what is not assigned. A second part follows a code point
-// that blocks it, or with which it has no composite. A leading consonant is not taken to stand where the
-// form composes.
+// where no class is less than the one before and, where the form composes, they are no second parts. A
+// second part follows a code point that blocks it, or one without a mapping with which it has no composite.
+// A leading consonant is not taken to stand where the form composes.
 const STANDING: [(Form, &str, usize); 29] = [
     (Form::Nfc, "\u{915}\u{302}", 5),
     (Form::Nfkc, "\u{915}\u{302}\u{30A}\u{1161}", 10),
     (Form::Nfc, "\u{915}\u{323}\u{302}", 5),
     (Form::Nfc, "\u{915}\u{302}\u{323}", 5),
-    (Form::Nfc, "\u{AC01}\u{11A8}", 6),
+    (Form::Nfc, "\u{AC01}\u{11A8}", 3),
     (Form::Nfc, "A\u{E2}\u{1EAD}\u{AC01}\u{D7A3}", 12),
     (Form::Nfkc, "A\u{E2}\u{1EAD}\u{AC01}\u{D7A3}", 12),
     (Form::Nfd, "A\u{E2}", 1),
@@ -175,7 +174,7 @@ const STANDING: [(Form, &str, usize); 29] = [
     (Form::Nfd, "f\u{302}\u{FB01}", 6),
     (Form::Nfkd, "f\u{302}\u{FB01}", 3),
     (Form::Nfc, "A\u{327}\u{323}", 3),
-    (Form::Nfc, "\u{E2}\u{327}", 2),
+    (Form::Nfc, "\u{E2}\u{327}", 4),
     (Form::Nfd, "\u{1112}\u{1175}\u{11C2} \u{1100}\u{1161}", 16),
     (Form::Nfc, "\u{D788}A\u{AC00}\u{AC01}\u{1100}\u{1161}", 10),
     (Form::Nfkc, "\u{D788}A\u{1112}\u{1175}", 4),
@@ -195,7 +194,7 @@ const LACKING: [(Form, &str, usize, usize); 6] = [
     (Form::Nfkd, "\u{10FFFF}", 4, 0),
     (Form::Nfd, "\u{16D67}\u{302}", 6, 0),
     (Form::Nfc, "A\u{E2}\u{AC01}", 6, 6),
-    (Form::Nfc, "\u{D788} A", 3, 3),
+    (Form::Nfc, "\u{D788} A", 5, 3),
 ];
 
 // Pointed Hebrew: a letter, three points, and three presentation forms, which are excluded.
@@ -219,6 +218,38 @@ const HEBREW_STANDING: [(Form, &str, usize); 5] = [
     (Form::Nfc, "\u{5E9}\u{5BC}\u{5B7}", 4),
     (Form::Nfd, "\u{5E9}\u{5C1}\u{5BC}", 4),
     (Form::Nfc, "\u{5E9}\u{FB2C}", 2),
+];
+
+// Two composites of a letter, and non-starters: 0300 and 0323 are their second parts, and 05AE has a class
+// between those of the two.
+const ACCENTS: Files = (
+    "\
+0061;X;Ll;0;L;;;;;N;;;;;
+00E0;X;Ll;0;L;0061 0300;;;;N;;;;;
+0300;X;Mn;230;NSM;;;;;N;;;;;
+0301;X;Mn;230;NSM;;;;;N;;;;;
+0315;X;Mn;232;NSM;;;;;N;;;;;
+0323;X;Mn;220;NSM;;;;;N;;;;;
+05AE;X;Mn;228;NSM;;;;;N;;;;;
+1EA1;X;Ll;0;L;0061 0323;;;;N;;;;;
+",
+    "",
+);
+
+// The same behind a composite: what goes into nothing follows, be its class below that of a part or not. What
+// goes into a part doesn't, though it has no composite with the whole.
+const ACCENTS_STANDING: [(Form, &str, usize); 11] = [
+    (Form::Nfc, "\u{E0}\u{5AE}", 4),
+    (Form::Nfkc, "\u{E0}\u{5AE}", 4),
+    (Form::Nfd, "\u{E0}\u{5AE}", 0),
+    (Form::Nfc, "\u{E0}\u{5AE}\u{315}", 6),
+    (Form::Nfc, "\u{E0}\u{5AE}\u{301}\u{300}a", 9),
+    (Form::Nfc, "\u{E0}\u{315}\u{5AE}", 4),
+    (Form::Nfc, "\u{E0}\u{315}\u{1EA1}\u{5AE}", 9),
+    (Form::Nfc, "\u{E0}\u{323}", 2),
+    (Form::Nfc, "\u{E0}\u{300}", 2),
+    (Form::Nfc, "\u{E0}\u{5AE}\u{323}", 4),
+    (Form::Nfc, "\u{E0}\u{5AE}\u{300}", 4),
 ];
 
 // Whether a form parts before a code point.
@@ -297,6 +328,12 @@ fn forms_leave_what_stands_and_part_before_starters(rt: HostRuntime) -> Result<(
 fn points_stand_in_their_canonical_order(rt: HostRuntime) -> Result<(), Fail> {
     let table: PageTable = table_of(rt.alloc(), HEBREW)?;
     tells_what_stands(&table, &HEBREW_STANDING)
+}
+
+#[test]
+fn accents_stand_behind_composites(rt: HostRuntime) -> Result<(), Fail> {
+    let table: PageTable = table_of(rt.alloc(), ACCENTS)?;
+    tells_what_stands(&table, &ACCENTS_STANDING)
 }
 
 // The form of a code point by itself: none is told where it has no mapping of the kind, or where its full

@@ -89,11 +89,6 @@ stays_place Nfc = 3
 stays_place Nfkd = 6
 stays_place Nfkc = 7
 
--- the form of a kind that only decomposes
-abbrev pub decomposing : Bool → Form
-decomposing false = Nfd
-decomposing true = Nfkd
-
 abbrev pub has_bit : ℕ → ℕ → Bool
 has_bit bits place = bits / 2 ^ place % 2 == 1
 

@@ -1,10 +1,12 @@
 -- What a table of pages keeps for a code point.
 use Rattle.std.specs.Prelude.{◌≡◌, ℕ, ◌+◌, ◌<◌, ◌≤◌, ◌⊎◌, ◌&&◌, nat_le, not, Bool, true, false, List, [], ◌∷◌, ◌++◌, Option, None, length, map, slice_get, slice_index, slice_index_or, chars, encode_utf8_all, All, IsUtf8, Some}
 use Rattle.np_ucd.specs.Entries.{Entry}
+use Rattle.np_code_points.specs.Forms.{is_compat}
 use Rattle.np_code_points.specs.Hangul.{is_syllable}
 use Rattle.np_tables.specs.Versions.{VersionData, class_of, entry_at, has_hangul, is_assigned}
 use Rattle.np_tables.specs.Composites.{IsCompositeOf}
 use Rattle.np_tables.specs.Conditions.{IsSound}
+use Rattle.np_tables.specs.Mappings.{is_final}
 use Rattle.np_tables.specs.declared.fulls.Part.{Part}
 use Rattle.np_tables.specs.declared.page_words.Word.{Word}
 use Rattle.np_tables.specs.declared.pairs.Composite.{Composite}
@@ -143,19 +145,23 @@ pub record IsWalkedTo (Step : Option ℕ → ℕ → ℕ → ℕ → Type 0) (s 
 abbrev pub WalksOn : (Option ℕ → ℕ → ℕ → ℕ → Type 0) → List ℕ → List ℕ → ℕ → ℕ → Type 0
 WalksOn Step text rest low next = (s : List ℕ) (last : ℕ) → last ≤ low → IsWalkedTo Step s text last → (n : ℕ) × ((n ≤ next) × IsWalkedTo Step s rest n)
 
--- by its step a code point may stand behind code points of classes up to `last`, and then the classes are up to n: one that
--- stays, of which nothing but itself is known where its full decomposition is another, or what stands below all else
+-- by its step a code point may stand where no class but 0 may that is below `last`, and behind it n is such a bound: it stays,
+-- whatever n is, or its step is no less
 abbrev pub StepFollows : ℕ → ℕ → ℕ → Type 0
-StepFollows step last n = ((254 ≤ step) × ((n ≡ 254) ⊎ (step ≡ 255))) ⊎ ((0 < step) × (step < 254) × (n ≡ step) × (last ≤ n))
+StepFollows step last n = (step ≡ 255) ⊎ ((0 < step) × (step < 255) × (n ≡ step) × (last ≤ n))
 
 -- the step is no less than the least one
 abbrev pub FollowsByStep : ℕ → List ℕ → List ℕ → Form → ℕ → ℕ → ℕ → Type 0
 FollowsByStep least blocks steps form last c n =
     (c < 0x110000) × (least ≤ step_in form (slice_index_or steps (word_place blocks c) 0)) × StepFollows (step_in form (slice_index_or steps (word_place blocks c) 0)) last n
 
+-- by the word of the code point before, one of a class goes into nothing right behind it
+abbrev pub IsKeptApart : VersionData → ℕ → Word → ℕ → ℕ → Type 0
+IsKeptApart v kept before c class = ((0 < before.class) × (class ≤ before.class)) ⊎ ((before.class ≡ 0) × (before.fulls ≡ 0) × (is_syllable kept ≡ false) × ((p : ℕ) → ¬ (IsCompositeOf v kept c p)))
+
 -- an assigned code point goes into nothing right behind the one before
 abbrev pub FollowsApart : VersionData → Form → Option ℕ → ℕ → ℕ → ℕ → Type 0
-FollowsApart v form before last c n = StandsApart v form before c × (n ≡ class_of v c) × ((n ≡ 0) ⊎ (last ≤ n)) × (is_assigned v c ≡ true)
+FollowsApart v form before last c n = (is_final v (is_compat form) c ≡ true) × (n ≡ class_of v c) × ((n ≡ 0) ⊎ (last ≤ n)) × ((kept : ℕ) × (before ≡ Some kept) × StandsApart v form kept c) × (is_assigned v c ≡ true)
 
 -- behind the code points `front` c is one that does: from no more than `low` it leads to no more than `next`
 abbrev pub PassesApart : VersionData → Form → List ℕ → ℕ → ℕ → ℕ → Type 0
@@ -169,6 +175,6 @@ Follows v least blocks steps form before last c n = FollowsByStep least blocks s
 abbrev pub AreFollowing : VersionData → ℕ → List ℕ → List ℕ → Form → List ℕ → ℕ → Type 0
 AreFollowing v least blocks steps form = AreWalked (Follows v least blocks steps form)
 
--- all ASCII stays under every form, and is its own full decomposition
+-- all ASCII stays under every form
 abbrev pub IsAsciiStaying : List ℕ → List ℕ → Type 0
 IsAsciiStaying blocks steps = (c : ℕ) → c < 128 → slice_index_or steps (word_place blocks c) 0 ≡ 0xFFFFFFFF

@@ -2,25 +2,21 @@
 use Rattle.std.specs.Prelude.{ℕ, Bool, ◌+◌, ◌*◌, ◌/◌, ◌%◌, ◌^◌, ◌==◌, ◌&&◌, ◌||◌, not, nat_lt, map, List, if◌then◌else◌}
 use Rattle.np_code_points.specs.declared.forms.Form.{Form}
 use Rattle.np_code_points.specs.declared.forms.Form.TheVariants.{Nfd, Nfc, Nfkd, Nfkc}
-use Rattle.np_code_points.specs.Forms.{composes, is_compat}
+use Rattle.np_code_points.specs.Forms.{composes}
 use Rattle.np_tables.specs.declared.page_words.Word.{Word}
-use Rattle.np_tables.specs.inside.PageHints.{decomposing, has_bit, stays_place}
+use Rattle.np_tables.specs.inside.PageHints.{has_bit, stays_place}
 
--- whether a form leaves it as it is, and it is its own full decomposition
-abbrev pub is_own : Form → Word → Bool
-is_own form w = has_bit w.hints (stays_place form) && has_bit w.hints (stays_place (decomposing (is_compat form)))
-
--- of what is assigned: 255 and 254 of what stays, of which 255 is its own full decomposition; from 1 to 253 the class of a
--- non-starter without a mapping that, where the form composes, is no second part; 0 of what is not known to stand
+-- of what is assigned: 255 of what stays; from 1 to 254 the class of a non-starter without a mapping that, where the form
+-- composes, is no second part; 0 of what is not known to stand
 unfoldable pub assigned_step : Form → Word → ℕ
 assigned_step form w =
     if has_bit w.hints (stays_place form)
-    then (if has_bit w.hints (stays_place (decomposing (is_compat form))) then 255 else 254)
-    else (if nat_lt w.class 254 && (w.fulls == 0 && (w.apart || not (composes form))) then w.class else 0)
+    then 255
+    else (if nat_lt w.class 255 && (w.fulls == 0 && (w.apart || not (composes form))) then w.class else 0)
 
 -- by its word: what is not assigned stands too, but below all else
 unfoldable pub step_of : Form → Word → ℕ
-step_of form w = if w.assigned then assigned_step form w else (if is_own form w then 1 else 0)
+step_of form w = if w.assigned then assigned_step form w else (if has_bit w.hints (stays_place form) then 1 else 0)
 
 -- under each form
 unfoldable pub steps_of : Word → ℕ
