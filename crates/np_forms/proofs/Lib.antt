@@ -29,6 +29,7 @@ pub mod SlideLemmas
 pub mod SortLemmas
 pub mod SpelledLemmas
 pub mod StandingLemmas
+pub mod StayingLemmas
 pub mod StreamLemmas
 pub mod StreamSafeLemmas
 pub mod SyllableFrontLemmas

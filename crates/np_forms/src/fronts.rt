@@ -10,6 +10,7 @@ use crate::composed_texts::{is_first_all_of, write_first};
 use crate::copying::{begins_at_boundary, split_standing, write_next};
 use crate::exchanged_texts::write_exchanged;
 use crate::out_texts::OutText;
+use crate::spelled_texts::write_spelled;
 use crate::syllable_texts::{begins_as_jamo, join_syllables, write_syllables};
 use np_code_points::{Form, Memory};
 use np_tables::NormTable;
@@ -20,7 +21,7 @@ use std::alloc::Global;
 /// bytes, so many, stand as they are, since no boundary follows their first code point, nor, where the form
 /// composes, of what begins as jamo do.
 #[inline(always)]
-fn split_spelled<'t, 'a, T: NormTable>(
+pub(crate) fn split_spelled<'t, 'a, T: NormTable>(
     table: &'t T,
     form: Form,
     text: &'a str,
@@ -109,7 +110,8 @@ pub(crate) fn write_front<'a, T: NormTable>(
     out.append_front(text, stays)?;
     if let Some((bytes, count, later)) = spelled {
         out.append_first(bytes, count)?;
-        return Ok((later, later));
+        let rest = write_spelled(table, form, later, out)?;
+        return Ok((rest, rest));
     }
     if behind.is_empty() {
         return Ok((behind, behind));

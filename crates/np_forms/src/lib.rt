@@ -31,6 +31,7 @@ mod out_texts;
 mod pieces;
 mod plain_texts;
 mod runs;
+mod spelled_texts;
 mod stabilized;
 mod stream_safety;
 mod streams;

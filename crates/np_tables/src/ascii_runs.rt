@@ -26,10 +26,10 @@ fn ascii_in_step(bytes: &[u8], from: usize) -> usize
     }
 }
 
-/// How many bytes at the front are ASCII. At the end of the bytes fewer than a step are not looked
+/// How many bytes at the front are ASCII. At the end of the bytes fewer than sixteen are not looked
 /// at, and not counted.
 #[inline(always)]
-pub(crate) fn ascii_front(bytes: &[u8]) -> usize
+pub fn ascii_front(bytes: &[u8]) -> usize
     ensures fits { result ≤ length bytes.now }
     ensures ascii { IsAscii (take result bytes.now) }
 {

@@ -45,6 +45,7 @@ mod utf8_fronts;
 mod version;
 mod word_bits;
 
+pub use ascii_runs::ascii_front;
 pub use faults::TableFault;
 pub use page_table::PageTable;
 pub use row_table::RowTable;

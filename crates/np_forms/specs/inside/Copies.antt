@@ -3,7 +3,8 @@ use Rattle.std.specs.Prelude.{◌≡◌, ◌≢◌, ◌<◌, ◌≤◌, ℕ, tru
 use denote.Ref.{Bor}
 use Rattle.np_code_points.specs.declared.forms.Form.{Form}
 use Rattle.np_forms.specs.inside.NormalForms.{normal_form}
-use Rattle.np_tables.specs.Boundaries.{BeginsAtBoundary, IsBoundary}
+use Rattle.np_tables.specs.Boundaries.{BeginsAtBoundary, IsBoundary, Stays}
+use Rattle.np_tables.specs.inside.PageWords.{IsPast}
 use Rattle.np_tables.specs.Versions.{VersionData, is_assigned}
 
 -- a text is cut in two, of which the front stands in the form as it is
@@ -21,6 +22,18 @@ pub record StandsAlone (v : VersionData) (form : Form) (c : ℕ) : Type 0 where
 -- each ASCII character does
 abbrev pub AsciiStandsAlone : VersionData → Form → Type 0
 AsciiStandsAlone v form = (c : ℕ) → c < 128 → StandsAlone v form c
+
+-- an assigned code point stays
+abbrev pub IsStaying : VersionData → Form → ℕ → Type 0
+IsStaying v form c = Stays v form c × (is_assigned v c ≡ true)
+
+-- each ASCII character does
+abbrev pub AsciiStays : VersionData → Form → Type 0
+AsciiStays v form = (c : ℕ) → c < 128 → IsStaying v form c
+
+-- a text behind some first code points that do
+abbrev pub AreStaying : VersionData → Form → List ℕ → List ℕ → Type 0
+AreStaying v form = IsPast (IsStaying v form)
 
 -- the form parts before each leading consonant of syllables
 abbrev pub PartsBeforeLeads : VersionData → Form → Type 0
