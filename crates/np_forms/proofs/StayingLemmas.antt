@@ -1,12 +1,10 @@
 -- Code points that stay, one behind the other.
-use Rattle.std.proofs.Common.{◌≡◌, ℕ, ◌<◌, ◌≤◌, suc, true, List, [], ◌∷◌, ◌++◌, Option, Some, None, All, length, length-append, get_or, take, take_at, ◌-◌, chars, IsUtf8, encode_utf8, encode_utf8_all, refl, sym, ap, subst, ◌∙◌, arith, inl, append_assoc, append-nil}
+use Rattle.std.proofs.Common.{◌≡◌, ℕ, ◌<◌, ◌≤◌, suc, Bool, true, List, [], ◌∷◌, ◌++◌, Option, Some, None, All, length, length-append, get_or, take, take_at, ◌-◌, chars, IsUtf8, encode_utf8, encode_utf8_all, refl, sym, ap, subst, ◌∙◌, arith, inl, append_assoc, append-nil}
 use Rattle.std.proofs.lemmas.Bool.{and_from}
-use Rattle.std.proofs.lemmas.List.Elements.{All-append, All-cons, All-nil}
-use Rattle.std.proofs.lemmas.Str.{IsUtf8-past_char, chars_past_char, encodes-append}
 use Rattle.std.specs.List.{list_all}
 use Rattle.np_code_points.specs.declared.forms.Form.{Form}
 use Rattle.np_forms.specs.Assigned.{IsAssigned}
-use Rattle.np_forms.specs.inside.Copies.{AreStaying, IsCopied, IsStaying}
+use Rattle.np_forms.specs.inside.Copies.{AreStaying, AsciiStays, IsCopied, IsStaying}
 use Rattle.np_forms.specs.inside.Readings.{IsReadAssigned}
 use Rattle.np_forms.proofs.CopyLemmas.{IsCopied-at}
 use Rattle.np_tables.specs.Boundaries.{BeginsAtBoundary}
@@ -14,38 +12,6 @@ use Rattle.np_tables.specs.Conditions.{IsSound}
 use Rattle.np_tables.specs.Standing.{MayFollow, Walks}
 use Rattle.np_tables.specs.Versions.{VersionData, is_assigned}
 use Rattle.np_tables.specs.inside.PageWords.{IsPast}
-
--- ---- texts behind code points that pass
-
-module _ (P : ℕ → Type 0) where
-  pub IsPast-start : (text : List ℕ) → IsUtf8 text → IsPast P text text
-  IsPast-start text utf8 = record { front = []; split = refl; text_is = refl; utf8 = utf8; passed = λ k d lt. absurd (omega (arith, lt)) }
-
-  pub IsPast-one : (text later : List ℕ) (c : ℕ) → IsUtf8 text → text ≡ encode_utf8 c ++ later → P c → IsPast P text later
-  IsPast-one text later c utf8 begins passes =
-      record {
-        front = c ∷ [];
-        split = begins ∙ ap (λ l. l ++ later) (sym (append-nil (encode_utf8 c)));
-        text_is = chars_past_char text later c utf8 begins;
-        utf8 = IsUtf8-past_char text later c utf8 begins;
-        passed = All-cons P c [] passes (All-nil P);
-      }
-
-  pub IsPast-both : (text middle rest : List ℕ) → IsPast P text middle → IsPast P middle rest → IsPast P text rest
-  IsPast-both text middle rest one two =
-      record {
-        front = one.front ++ two.front;
-        split = one.split ∙ ap (λ l. encode_utf8_all one.front ++ l) two.split ∙ sym (append_assoc (encode_utf8_all one.front) (encode_utf8_all two.front) rest)
-            ∙ ap (λ l. l ++ rest) (sym (encodes-append one.front two.front));
-        text_is = one.text_is ∙ ap (λ l. one.front ++ l) two.text_is ∙ sym (append_assoc one.front two.front (chars rest));
-        utf8 = two.utf8;
-        passed = All-append P one.front two.front one.passed two.passed;
-      }
-
-pub IsPast-weaker : (P Q : ℕ → Type 0) (text rest : List ℕ) → ((c : ℕ) → P c → Q c) → IsPast P text rest → IsPast Q text rest
-IsPast-weaker P Q text rest weaker past = record { front = past.front; split = past.split; text_is = past.text_is; utf8 = past.utf8; passed = λ k d lt. weaker (get_or past.front k d) (past.passed k d lt) }
-
--- ---- where those stay
 
 module _ (v : VersionData) (form : Form) where
   stays_walk : (before : Option ℕ) (cs : List ℕ) → All (IsStaying v form) cs → Walks (MayFollow v form) before 0 cs 0
@@ -55,6 +21,17 @@ module _ (v : VersionData) (form : Form) where
   all_assigned : (cs : List ℕ) → All (IsStaying v form) cs → IsAssigned v cs
   all_assigned [] all = refl
   all_assigned (c ∷ cs) all = and_from _ _ (all 0 c (omega arith)).1 (all_assigned cs (λ k d lt. all (suc k) d (omega arith)))
+
+  -- ASCII does, where that is asked for
+  pub staying_ascii : (ascii : Bool) → (ascii ≡ true → AsciiStays v form) → (text rest : List ℕ) → IsPast (λ c. (ascii ≡ true) × (c < 128)) text rest → AreStaying v form text rest
+  staying_ascii ascii stays text rest past =
+      record {
+        front = past.front;
+        split = past.split;
+        text_is = past.text_is;
+        utf8 = past.utf8;
+        passed = λ k d lt. (let both = past.passed k d lt in stays both.0 (get_or past.front k d) both.1);
+      }
 
   module _ (text rest : List ℕ) (past : AreStaying v form text rest) where
     pub staying_read : IsReadAssigned v text rest

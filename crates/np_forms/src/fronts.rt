@@ -10,7 +10,7 @@ use crate::composed_texts::{is_first_all_of, write_first};
 use crate::copying::{begins_at_boundary, split_standing, write_next};
 use crate::exchanged_texts::write_exchanged;
 use crate::out_texts::OutText;
-use crate::spelled_texts::write_spelled;
+use crate::spelled_texts::{goes_on_as_word, write_spelled};
 use crate::syllable_texts::{begins_as_jamo, join_syllables, write_syllables};
 use np_code_points::{Form, Memory};
 use np_tables::NormTable;
@@ -21,7 +21,7 @@ use std::alloc::Global;
 /// bytes, so many, stand as they are, since no boundary follows their first code point, nor, where the form
 /// composes, of what begins as jamo do.
 #[inline(always)]
-pub(crate) fn split_spelled<'t, 'a, T: NormTable>(
+fn split_spelled<'t, 'a, T: NormTable>(
     table: &'t T,
     form: Form,
     text: &'a str,
@@ -86,6 +86,23 @@ fn write_changed<'a, T: NormTable>(
     Ok((after, later))
 }
 
+/// Appends what follows a spelled code point in its word, and answers what is left.
+#[inline(always)]
+fn write_word<'a, T: NormTable>(
+    table: &T,
+    form: Form,
+    text: &'a str,
+    out: &mut OutText,
+) -> Result<&'a str, Memory>
+    ensures goes { IfOk result (λ rest. GoesOn (T.model table.now) form text.now rest.now out.old out.new) }
+    ensures read { IfOk result (λ rest. IsReadAssigned (T.model table.now) text.now rest.now) }
+{
+    if goes_on_as_word(text) {
+        return write_spelled(table, form, text, out);
+    }
+    Ok(text)
+}
+
 /// Appends the form of some front of a text that isn't empty. Answers what follows the code points that
 /// are known to be assigned, where `assigned` asks for them, and what follows the front. What is asked
 /// of the code point behind what stands is asked before anything is written, and so once.
@@ -110,7 +127,7 @@ pub(crate) fn write_front<'a, T: NormTable>(
     out.append_front(text, stays)?;
     if let Some((bytes, count, later)) = spelled {
         out.append_first(bytes, count)?;
-        let rest = write_spelled(table, form, later, out)?;
+        let rest = write_word(table, form, later, out)?;
         return Ok((rest, rest));
     }
     if behind.is_empty() {

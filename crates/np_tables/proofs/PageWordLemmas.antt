@@ -10,7 +10,7 @@ use Rattle.std.proofs.lemmas.Option.{none-some, same_Some, slice_get_within}
 use Rattle.np_code_points.specs.Hangul.{is_syllable}
 use Rattle.np_code_points.specs.declared.forms.Form.{Form}
 use Rattle.np_ucd.specs.Entries.{Entry, AreRows}
-use Rattle.np_tables.specs.Boundaries.{IsBoundary, Stays}
+use Rattle.np_tables.specs.Boundaries.{IsBoundary}
 use Rattle.np_tables.specs.Versions.{VersionData, class_of, class_in, entry_at, file_mapping, mapping_in, has_hangul, is_assigned, is_empty}
 use Rattle.np_tables.specs.Conditions.{IsSound}
 use Rattle.np_tables.specs.Composites.{IsCompositeOf}
@@ -19,7 +19,7 @@ use Rattle.np_tables.specs.declared.page_words.Word.{Word}
 use Rattle.np_tables.specs.declared.pairs.Composite.{Composite}
 use Rattle.np_tables.specs.inside.FullDecompositions.{table_full}
 use Rattle.np_tables.specs.inside.FullLists.{FullLists, of_kind}
-use Rattle.np_tables.specs.inside.PageHints.{has_bit, parts_place, stays_place}
+use Rattle.np_tables.specs.inside.PageHints.{has_bit, parts_place}
 use Rattle.np_tables.specs.inside.Pages.{word_place}
 use Rattle.np_tables.specs.inside.RowPages.{AreRowPages, IsRowNumber}
 use Rattle.np_tables.specs.inside.PageWords.{AreRowWords, AreSecondRows, AreSeconds, AreSlots, IsRowWord, IsWord, ArePages, no_word, row_word, paged_words}
@@ -222,8 +222,3 @@ pub boundary-read : (v u : VersionData) → u ≡ v → (lists : FullLists) (blo
     has_bit w.hints (parts_place form) ≡ true → IsBoundary v form c
 boundary-read v u same lists blocks words pages form c lt w is has =
     subst (λ x. IsBoundary x form c) same ((subst (IsWord u lists c) (sym is) (pages.each c lt)).hints.parts form has)
-
-pub stays-read : (v u : VersionData) → u ≡ v → (lists : FullLists) (blocks : List ℕ) (words : List Word) → ArePages u lists blocks words → (form : Form) (c : ℕ) → c < 0x110000 → (w : Word) → w ≡ get_or words (word_place blocks c) no_word →
-    has_bit w.hints (stays_place form) ≡ true → Stays v form c
-stays-read v u same lists blocks words pages form c lt w is has =
-    subst (λ x. Stays x form c) same ((subst (IsWord u lists c) (sym is) (pages.each c lt)).hints.stays form has)

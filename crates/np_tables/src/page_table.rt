@@ -8,7 +8,7 @@ ghost use Rattle.np_tables.specs.inside.Steps.{all_steps as spec_all_steps};
 
 use crate::fulls::Fulls;
 use crate::leads::are_leads_parting;
-use crate::page_hints::{parts_place, stays_place};
+use crate::page_hints::parts_place;
 use crate::page_slots::slots_of;
 use crate::page_words::{Word, page_words, row_words, second_rows, word_of};
 use crate::spelled::Spelled;
@@ -159,12 +159,6 @@ impl NormTable for PageTable {
             word_of(&self.index, &self.words, c).hints,
             parts_place(form),
         )
-    }
-
-    #[inline(always)]
-    fn stays(&self, form: Form, c: char) -> bool {
-        let word = word_of(&self.index, &self.words, c);
-        word.assigned && has_bit(word.hints, stays_place(form))
     }
 
     fn parts_before_leads(&self, _form: Form) -> bool {

@@ -90,17 +90,6 @@ pub trait NormTable {
         UNKNOWN
     }
 
-    /// Whether a code point is known to be assigned, and to stay in a normal form as it is wherever the form parts
-    /// before it and behind it (UAX #15, section 9.1). A table may answer `false` of one that does.
-    fn stays(&self, form: Form, c: char) -> bool
-        ensures assigned { IsTrue result → is_assigned (model self.now) c ≡ true }
-        ensures stays { IsTrue result → Stays (model self.now) form c }
-    {
-        // the same
-        let _unused = (form, c);
-        UNKNOWN
-    }
-
     /// Whether a normal form is known to part before each leading consonant of Hangul syllables, as
     /// `is_boundary` tells of one code point. A table may answer `false` where it does.
     fn parts_before_leads(&self, form: Form) -> bool
@@ -172,10 +161,6 @@ impl<T: NormTable> NormTable for &T {
 
     fn is_boundary(&self, form: Form, c: char) -> bool {
         (**self).is_boundary(form, c)
-    }
-
-    fn stays(&self, form: Form, c: char) -> bool {
-        (**self).stays(form, c)
     }
 
     fn parts_before_leads(&self, form: Form) -> bool {

@@ -1,5 +1,5 @@
 -- Texts cut where their forms part.
-use Rattle.std.specs.Prelude.{◌≡◌, ◌≢◌, ◌<◌, ◌≤◌, ℕ, true, List, ◌++◌, Option, MatchOption, chars, encode_utf8, encode_utf8_all, IsUtf8}
+use Rattle.std.specs.Prelude.{◌≡◌, ◌≢◌, ◌<◌, ◌≤◌, ℕ, true, List, ◌∷◌, ◌++◌, Option, MatchOption, chars, encode_utf8, encode_utf8_all, IsUtf8}
 use denote.Ref.{Bor}
 use Rattle.np_code_points.specs.declared.forms.Form.{Form}
 use Rattle.np_forms.specs.inside.NormalForms.{normal_form}
@@ -34,6 +34,13 @@ AsciiStays v form = (c : ℕ) → c < 128 → IsStaying v form c
 -- a text behind some first code points that do
 abbrev pub AreStaying : VersionData → Form → List ℕ → List ℕ → Type 0
 AreStaying v form = IsPast (IsStaying v form)
+
+-- a text begins with an ASCII character
+pub record BeginsWithAscii (text : List ℕ) : Type 0 where
+  pub code : ℕ
+  pub rest : List ℕ
+  pub low : code < 128
+  pub text_is : chars text ≡ code ∷ rest
 
 -- the form parts before each leading consonant of syllables
 abbrev pub PartsBeforeLeads : VersionData → Form → Type 0

@@ -13,7 +13,7 @@ returns-in-Some-clause-goes g c =
     let later = c.in-Some.later.now in
     let between = c.append_front.new.self in
     let spelled = c.in-Some.ensures.made in
-    goes-both v form text later c.in_ok-rest.rest.now c.args.out.now c.append_first.new.self c.write_spelled.new.out
+    goes-both v form text later c.in_ok-rest.rest.now c.args.out.now c.append_first.new.self c.write_word.new.out
     (goes-both v form text behind later c.args.out.now between c.append_first.new.self (goes-copied v form text c.split_standing-stood.result.0.now behind c.args.out.now between c.split_standing-stood.ensures.copied c.in_ok-append_front.ensures)
     (goes-made v form behind later spelled.list between c.append_first.new.self spelled.made (c.in_ok-append_first.ensures ∙ ap (λ l. between ++ l) spelled.is)))
     c.in_ok-rest.ensures.goes

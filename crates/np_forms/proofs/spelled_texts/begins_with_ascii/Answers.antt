@@ -1,0 +1,15 @@
+use Rattle.std.proofs.Common.{◌∙◌, sym, chars}
+use Rattle.std.proofs.lemmas.Bool.{ltb-true}
+use Rattle.std.proofs.lemmas.Str.{chars_past_char}
+use Rattle.std.specs.Str.Iter.{chars_rest}
+use Rattle.np_forms.proofs.spelled_texts.begins_with_ascii.Goals as goal
+
+pub returns-in-Some : goal.returns-in-Some
+returns-in-Some c = λ is.
+    let rest = chars_rest c.next.new.self in
+    record {
+      code = c.in-Some.c;
+      rest = chars rest;
+      low = ltb-true c.in-Some.c 128 (sym c.is_ascii.ensures ∙ is);
+      text_is = chars_past_char c.args.text.now rest c.in-Some.c c.utf8.text (sym c.chars.ensures.rest ∙ c.in-Some.ensures.steps.0);
+    }
