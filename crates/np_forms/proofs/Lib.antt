@@ -35,4 +35,5 @@ pub mod SyllableFrontLemmas
 pub mod SyllableLemmas
 pub mod SyllableTextLemmas
 pub mod TextLemmas
+pub mod Utf8WordLemmas
 pub mod WrittenLemmas
