@@ -14,6 +14,7 @@ pub mod InPlaceLemmas
 pub mod KeptLemmas
 pub mod LengthLemmas
 pub mod MachineLemmas
+pub mod MarkedLemmas
 pub mod MatchLemmas
 pub mod OrderLaws
 pub mod OrderLemmas
