@@ -36,5 +36,6 @@ pub mod SyllableFrontLemmas
 pub mod SyllableLemmas
 pub mod SyllableTextLemmas
 pub mod TextLemmas
+pub mod Utf8ReadLemmas
 pub mod Utf8WordLemmas
 pub mod WrittenLemmas

@@ -15,6 +15,7 @@ use crate::decomposing::is_own;
 use crate::held::compose_list;
 use crate::ordering::sort_non_starters;
 use crate::out_texts::OutText;
+use crate::utf8_bytes::split_first;
 use np_code_points::{Form, Memory};
 use np_tables::NormTable;
 use std::alloc::{AllocError, Global};
@@ -43,15 +44,15 @@ fn gather<'a, T: NormTable>(
     let Ok(()) = list.push(Classed::new(first, 0)) else {
         return None;
     };
+    let mut rest = iter.as_str();
     let mut last = 0;
     let mut ordered = true;
     'scan: loop {
-        let here = iter.as_str();
-        let Some(c) = iter.next() else {
-            return Some((here, ordered));
+        let Some((c, later)) = split_first(rest) else {
+            return Some((rest, ordered));
         };
         if table.is_boundary(form, c) {
-            return Some((here, ordered));
+            return Some((rest, ordered));
         }
         let class = table.class(c);
         if class == 0 || !is_own(table, compat, c) {
@@ -62,6 +63,7 @@ fn gather<'a, T: NormTable>(
         };
         ordered = ordered & (last <= class);
         last = class;
+        rest = later;
     }
 }
 

@@ -1,5 +1,4 @@
 use Rattle.std.proofs.Common.{◌<◌, length}
-use Rattle.std.specs.Str.Iter.{chars_rest}
 use Rattle.np_forms.specs.inside.Segments.{IsDecomposedUpTo}
 use Rattle.np_forms.proofs.MarkedLemmas.{IsMarkedTo}
 use Rattle.np_forms.proofs.marked_texts.gather.Given as goal
@@ -8,10 +7,10 @@ abbrev pub invariant-scan : goal.invariant-scan
 invariant-scan g l =
     let v = g.T.NormTable.model l.table in
     record {
-      decomposed : IsDecomposedUpTo v l.form l.text (chars_rest l.iter) l.list.items;
+      decomposed : IsDecomposedUpTo v l.form l.text l.rest l.list.items;
       marked : IsMarkedTo v l.list.items l.last l.ordered;
-      shorter : length (chars_rest l.iter) < length l.text;
+      shorter : length l.rest < length l.text;
     }
 
 abbrev pub decreases-scan : goal.decreases-scan
-decreases-scan g l = length (chars_rest l.iter)
+decreases-scan g l = length l.rest
