@@ -14,6 +14,7 @@ pub mod InPlaceLemmas
 pub mod KeptLemmas
 pub mod LengthLemmas
 pub mod MachineLemmas
+pub mod MarkedLemmas
 pub mod MatchLemmas
 pub mod OrderLaws
 pub mod OrderLemmas
@@ -36,4 +37,6 @@ pub mod SyllableFrontLemmas
 pub mod SyllableLemmas
 pub mod SyllableTextLemmas
 pub mod TextLemmas
+pub mod Utf8ReadLemmas
+pub mod Utf8WordLemmas
 pub mod WrittenLemmas

@@ -5,6 +5,7 @@ pub mod Composing
 pub mod Copies
 pub mod Held
 pub mod InPlace
+pub mod Marked
 pub mod NormalForms
 pub mod Pieces
 pub mod Readings

@@ -12,6 +12,7 @@ use crate::classes::Classed;
 use crate::decomposing::decompose_first;
 use crate::fronts::write_front;
 use crate::held::settle;
+use crate::marked_texts::write_marked;
 use crate::out_texts::OutText;
 use np_code_points::{Form, Memory};
 use np_tables::NormTable;
@@ -105,10 +106,9 @@ pub(crate) fn split_tail<'a, T: NormTable>(
     }
 }
 
-/// Appends the form of the first segment of a text, and answers what follows it. The list is room
-/// that is used again. It is made part of what calls it, as the cut is.
-#[inline(always)]
-pub(crate) fn write_next<'a, T: NormTable>(
+/// Appends the form of the first segment of a text, whatever that is, and answers what follows it. The list
+/// is room that is used again.
+fn write_listed<'a, T: NormTable>(
     alloc: Global,
     table: &T,
     form: Form,
@@ -124,6 +124,25 @@ pub(crate) fn write_next<'a, T: NormTable>(
     settle(alloc, table, form.composes(), list)?;
     out.append_codes(list)?;
     Ok(later)
+}
+
+/// The same, where most segments have a way of their own. It is made part of what calls it, as the cut is.
+#[inline(always)]
+pub(crate) fn write_next<'a, T: NormTable>(
+    alloc: Global,
+    table: &T,
+    form: Form,
+    text: &'a str,
+    list: &mut Vec<Classed>,
+    out: &mut OutText,
+) -> Result<&'a str, Memory>
+    ensures goes { IfOk result (λ rest. GoesOn (T.model table.now) form text.now rest.now out.old out.new) }
+    ensures shorter { IfOk result (λ rest. 0 < length text.now → length rest.now < length text.now) }
+{
+    if let Some(rest) = write_marked(alloc, table, form, text, list, out)? {
+        return Ok(rest);
+    }
+    write_listed(alloc, table, form, text, list, out)
 }
 
 /// Whether the form may go on behind a front. Where assigned code points are asked for, those of the front

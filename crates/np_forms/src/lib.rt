@@ -26,6 +26,7 @@ mod fronts;
 mod held;
 mod jamo_bytes;
 pub mod laws;
+mod marked_texts;
 mod ordering;
 mod out_texts;
 mod pieces;

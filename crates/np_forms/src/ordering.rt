@@ -49,7 +49,10 @@ pub(crate) fn are_non_starters(list: &[Classed]) -> bool
 }
 
 /// Puts a run of non-starters in canonical order, by a stable sort.
-fn sort_non_starters(alloc: Global, non_starters: &mut [Classed]) -> Result<(), AllocError>
+pub(crate) fn sort_non_starters(
+    alloc: Global,
+    non_starters: &mut [Classed],
+) -> Result<(), AllocError>
     ensures ok { OnOk result ((v : VersionData) (cs : List ℕ) → list_all (is_non_starter v) cs ≡ true → non_starters.old ≡ with_classes v cs → non_starters.new ≡ with_classes v (canonical_order (class_of v) cs)) }
     ensures err { OnErr result (non_starters.new ≡ non_starters.old) }
 {

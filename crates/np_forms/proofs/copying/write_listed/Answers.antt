@@ -2,7 +2,7 @@ use Rattle.std.proofs.Common.{◌++◌, encode_utf8_all, ap, ◌∙◌}
 use Rattle.np_forms.specs.inside.Classes.{codes_of}
 use Rattle.np_forms.proofs.DecomposedLemmas.{goes-made}
 use Rattle.np_forms.proofs.SegmentLemmas.{decomposed-made}
-use Rattle.np_forms.proofs.copying.write_next.Goals as goal
+use Rattle.np_forms.proofs.copying.write_listed.Goals as goal
 
 pub returns-clause-goes : goal.returns-clause-goes
 returns-clause-goes g c =

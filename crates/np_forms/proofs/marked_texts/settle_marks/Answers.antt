@@ -1,0 +1,19 @@
+use Rattle.std.proofs.Common.{◌≡◌, length, sym, ap, subst, ◌∙◌, arith}
+use Rattle.std.proofs.lemmas.List.{take_at, length-map}
+use Rattle.np_tables.specs.Versions.{class_of}
+use Rattle.np_forms.specs.inside.CanonicalOrder.{canonical_order}
+use Rattle.np_forms.specs.inside.Classes.{with_class, with_classes}
+use Rattle.np_forms.specs.inside.Marked.{IsMarked}
+use Rattle.np_forms.proofs.ClassLemmas.{same_length}
+use Rattle.np_forms.proofs.OrderLemmas.{is_ordered-canonical_order, length-canonical_order}
+use Rattle.np_forms.proofs.marked_texts.settle_marks.Goals as goal
+
+pub returns : goal.returns
+returns g c = λ cs is.
+    let v = g.T.NormTable.model c.args.table.now in
+    let ccc = class_of v in
+    let old = c.args.list.now in
+    let sorted = c.order_marks.new.list in
+    let order : sorted ≡ with_classes v (canonical_order ccc cs) = c.in_ok-order_marks.ensures v (subst (λ l. IsMarked v l c.args.ordered) (sym c.deref_mut.ensures.value) c.requires.marked) cs (c.deref_mut.ensures.value ∙ is) in
+    let long : length sorted ≡ old.len = omega (arith, ap length order, length-map (canonical_order ccc cs) (with_class v), length-canonical_order ccc cs, same_length v old.items cs is, old.ok.0) in
+    c.compose_list.ensures (canonical_order ccc cs) (take_at sorted _ old.len long ∙ order) (is_ordered-canonical_order ccc cs)
