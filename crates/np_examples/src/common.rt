@@ -48,7 +48,7 @@ pub(crate) const V2: Files = (V2_DATA, V2_EXCLUSIONS);
 /// The fixture whose composite spans a non-starter.
 pub(crate) const S: Files = (S_DATA, S_EXCLUSIONS);
 
-/// All of ASCII, a composite of a letter and an accent, two non-starters more, and characters of three and four
+/// All of ASCII, a composite of a letter and an accent, three non-starters more, and characters of three and four
 /// bytes: ASCII stays, so that what stands in a long text is looked for many bytes at a time.
 pub(crate) const LETTERS: Files = (
     "\
@@ -58,6 +58,7 @@ pub(crate) const LETTERS: Files = (
 0301;X;Mn;230;NSM;;;;;N;;;;;
 0315;X;Mn;232;NSM;;;;;N;;;;;
 0316;X;Mn;220;NSM;;;;;N;;;;;
+1DCE;X;Mn;214;NSM;;;;;N;;;;;
 4E00;X;Lo;0;L;;;;;N;;;;;
 20000;X;Lo;0;L;;;;;N;;;;;
 ",

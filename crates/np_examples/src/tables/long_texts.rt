@@ -14,7 +14,7 @@ const MANY: &str = "a\u{E9}";
 
 // A form, a piece that stands before and behind something a hundred times, that something, and how many bytes at
 // the front stand in the form as they are: of any code points, and of assigned ones.
-const AMID: [(Form, &str, &str, usize, usize); 20] = [
+const AMID: [(Form, &str, &str, usize, usize); 22] = [
     // an accent that goes into the letter before it, where the form composes
     (Form::Nfc, TWO, "e\u{301}", 401, 401),
     (Form::Nfkc, TWO, "e\u{301}", 401, 401),
@@ -23,7 +23,9 @@ const AMID: [(Form, &str, &str, usize, usize); 20] = [
     // non-starters whose classes fall, rise, or stand behind starters of their own
     (Form::Nfc, THREE, "\u{315}\u{316}", 502, 502),
     (Form::Nfkd, THREE, "\u{315}\u{316}", 502, 502),
+    (Form::Nfc, THREE, "\u{315}\u{1DCE}", 502, 502),
     (Form::Nfd, THREE, "\u{316}\u{315}", 1004, 1004),
+    (Form::Nfd, THREE, "\u{1DCE}\u{315}", 1005, 1005),
     (Form::Nfc, THREE, "\u{315}a\u{316}", 1005, 1005),
     (Form::Nfd, THREE, "\u{315}\u{4E00}\u{316}", 1007, 1007),
     // four bytes
