@@ -48,6 +48,43 @@ pub(crate) const V2: Files = (V2_DATA, V2_EXCLUSIONS);
 /// The fixture whose composite spans a non-starter.
 pub(crate) const S: Files = (S_DATA, S_EXCLUSIONS);
 
+/// All of ASCII, a composite of a letter and an accent, three non-starters more, and characters of three and four
+/// bytes: ASCII stays, so that what stands in a long text is looked for many bytes at a time.
+pub(crate) const LETTERS: Files = (
+    "\
+0000;<ASCII, First>;Ll;0;L;;;;;N;;;;;
+007F;<ASCII, Last>;Ll;0;L;;;;;N;;;;;
+00E9;X;Ll;0;L;0065 0301;;;;N;;;;;
+0301;X;Mn;230;NSM;;;;;N;;;;;
+0315;X;Mn;232;NSM;;;;;N;;;;;
+0316;X;Mn;220;NSM;;;;;N;;;;;
+1DCE;X;Mn;214;NSM;;;;;N;;;;;
+4E00;X;Lo;0;L;;;;;N;;;;;
+20000;X;Lo;0;L;;;;;N;;;;;
+",
+    "",
+);
+
+/// How often a piece stands before and behind what a long text is about: more than the code points that are
+/// looked at one by one, and a few steps of many bytes.
+const TIMES: u32 = 100;
+
+fn push_often(text: &mut String, piece: &str) -> Result<(), Memory> {
+    for _ in 0..TIMES {
+        text.push_str(piece)?;
+    }
+    Ok(())
+}
+
+/// `turn` in the midst of a long text of `piece` again and again.
+pub(crate) fn amid(alloc: Global, piece: &str, turn: &str) -> Result<String, Memory> {
+    let mut text = String::new(alloc);
+    push_often(&mut text, piece)?;
+    text.push_str(turn)?;
+    push_often(&mut text, piece)?;
+    Ok(text)
+}
+
 /// The version that two files give.
 pub(crate) fn version_of(alloc: Global, files: Files<'_>) -> Result<Version, Fail> {
     let (data, exclusions) = files;

@@ -1,5 +1,5 @@
 -- Characters of several bytes, found by the bytes that begin them.
-use Rattle.std.proofs.Common.{◌≡◌, ◌≢◌, zero, suc, ℕ, ◌+◌, ◌-◌, ◌*◌, ◌/◌, ◌<◌, ◌≤◌, ◌⊎◌, ◌^◌, ◌%◌, Bool, true, false, not, cond, leb, List, [], ◌∷◌, ◌++◌, length, map, replicate, take, drop, get_or, encode_utf8, refl, sym, ap, subst, ◌∙◌, arith, inl, inr, IsUtf8}
+use Rattle.std.proofs.Common.{◌≡◌, ◌≢◌, zero, suc, ℕ, ◌+◌, ◌-◌, ◌*◌, ◌/◌, ◌<◌, ◌≤◌, ◌^◌, ◌%◌, Bool, true, false, not, cond, leb, List, [], ◌∷◌, ◌++◌, length, map, replicate, take, drop, get_or, encode_utf8, refl, sym, ap, subst, ◌∙◌, arith, inl, inr, IsUtf8}
 use Rattle.std.specs.Char.{IsScalar}
 use Rattle.std.specs.List.{prefix_len}
 use Rattle.std.proofs.Math.Nat.{div-div-eq-div-mul, div-one, zero-div}

@@ -1,5 +1,5 @@
 -- What stands between two characters of several bytes, and behind the bytes that begin them.
-use Rattle.std.proofs.Common.{◌≡◌, ◌≢◌, zero, suc, ℕ, ◌+◌, ◌-◌, ◌*◌, ◌/◌, ◌<◌, ◌≤◌, ◌⊎◌, ◌^◌, ◌%◌, Bool, true, false, not, cond, leb, List, [], ◌∷◌, ◌++◌, Option, All, append_assoc, chars, length, length-append, map, take, drop, get_or, encode_utf8, encode_utf8_all, refl, sym, ap, subst, ◌∙◌, arith, inl, inr, IsUtf8}
+use Rattle.std.proofs.Common.{◌≡◌, zero, suc, ℕ, ◌+◌, ◌-◌, ◌<◌, ◌≤◌, List, [], ◌∷◌, ◌++◌, Option, All, append_assoc, chars, length, length-append, take, drop, get_or, encode_utf8, encode_utf8_all, refl, sym, ap, subst, ◌∙◌, arith, inl, inr, IsUtf8}
 use Rattle.std.proofs.lemmas.Bool.{cases_lt}
 use Rattle.std.proofs.lemmas.List.{drop-drop, get_or-drop, length-drop}
 use Rattle.std.proofs.lemmas.Str.{IsCharBoundary-from_rest, chars_past_char}
@@ -8,7 +8,7 @@ use Rattle.np_tables.specs.Versions.{VersionData}
 use Rattle.np_tables.specs.inside.PageWords.{Follows, FollowsByStep, IsAsciiStaying, IsPast, IsWalkedTo, WalksOn}
 use Rattle.np_tables.proofs.StandingLemmas.{IsPast-ascii, past_boundary, IsWalkedTo-next, IsWalkedTo-past, ascii_follows}
 use Rattle.std.specs.Str.{IsAscii, IsCharBoundary}
-use Rattle.np_tables.specs.inside.LeadBytes.{BeginsWithChar, is_lead}
+use Rattle.np_tables.specs.inside.LeadBytes.{BeginsWithChar}
 use Rattle.np_tables.proofs.AsciiLemmas.{low_take}
 use Rattle.np_tables.proofs.Utf8Lemmas.{encode_four, encode_one, encode_three, encode_two}
 
@@ -68,11 +68,13 @@ inside_low text c count begins k some less =
     two x y rest low zero some less = absurd (omega (arith, some))
     two x y rest low (suc zero) some less = low
     two x y rest low (suc (suc k)) some less = absurd (omega (arith, less))
+
     three : (x y z : ℕ) (rest : List ℕ) → y < 192 → z < 192 → (k : ℕ) → 1 ≤ k → k < 3 → get_or (x ∷ y ∷ z ∷ rest) k 0 < 192
     three x y z rest low next zero some less = absurd (omega (arith, some))
     three x y z rest low next (suc zero) some less = low
     three x y z rest low next (suc (suc zero)) some less = next
     three x y z rest low next (suc (suc (suc k))) some less = absurd (omega (arith, less))
+
     four : (x y z w : ℕ) (rest : List ℕ) → y < 192 → z < 192 → w < 192 → (k : ℕ) → 1 ≤ k → k < 4 → get_or (x ∷ y ∷ z ∷ w ∷ rest) k 0 < 192
     four x y z w rest low next last zero some less = absurd (omega (arith, some))
     four x y z w rest low next last (suc zero) some less = low
@@ -102,6 +104,7 @@ module _ (least : ℕ) (blocks steps : List ℕ) (form : Form) (le : least ≤ 2
     where
       follows : (last c : ℕ) → c < 128 → FollowsByStep least blocks steps form last c 0
       follows last c lt = ascii_follows least blocks steps form le ascii last c lt
+
       of : (front : List ℕ) → rest ≡ encode_utf8_all front ++ later → chars rest ≡ front ++ chars later → All (λ c. c < 128) front → IsWalkedTo Step s later 0
       of [] e read all = absurd (omega (arith, less, ap length e))
       of (c ∷ cs) e read all =

@@ -1,5 +1,5 @@
 //! The faults of two data files, of which one is told.
-ghost use Rattle.std.specs.Prelude.{◌≡◌, IfOk, MatchOption};
+ghost use Rattle.std.specs.Prelude.{IfOk, MatchOption};
 ghost use Rattle.np_tables.specs.TableFaults.{IsFaultless, IsLeastFault};
 ghost use Rattle.np_tables.specs.inside.FirstFaults.{AreFirsts};
 ghost use Rattle.np_tables.specs.inside.Pairs.{AreOfFile};

@@ -1,6 +1,6 @@
 //! Whether every form parts before the leading consonants of Hangul syllables, which is asked of a table
 //! once for a text, and not for each syllable.
-ghost use Rattle.std.specs.Prelude.{◌≡◌, ◌+◌, ◌<◌, ℕ, length, true, slice_index_or, IsTrue};
+ghost use Rattle.std.specs.Prelude.{◌≡◌, ◌+◌, ◌<◌, length, true, slice_index_or, IsTrue};
 ghost use Rattle.np_code_points.specs.declared.forms.Form.{Form};
 ghost use Rattle.np_tables.specs.inside.Leads.{AreLeadsParting};
 ghost use Rattle.np_tables.specs.inside.PageHints.{has_bit as spec_has_bit, parts_place as spec_parts_place};

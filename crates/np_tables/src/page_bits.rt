@@ -1,8 +1,8 @@
 //! The hints of the code points of each row, in eight bits.
-ghost use Rattle.std.specs.Prelude.{◌≡◌, ◌≢◌, ◌<◌, [], ℕ, Bool, length, slice_get, slice_index_or, true, false, IsTrue, Some};
+ghost use Rattle.std.specs.Prelude.{◌≡◌, ◌≢◌, ◌<◌, [], ℕ, Bool, length, slice_get, true, false, IsTrue, Some};
 ghost use Rattle.np_tables.specs.Mappings.{is_final};
 ghost use Rattle.np_tables.specs.Versions.{entry_at, has_hangul};
-ghost use Rattle.np_tables.specs.inside.PageHints.{AreHints, AreLeadsApart, AreRowHints};
+ghost use Rattle.np_tables.specs.inside.PageHints.{AreHints, AreLeadsApart};
 ghost use Rattle.np_tables.specs.inside.PageWords.{AreRowBits, AreSeconds, IsSlot, is_row_apart as spec_is_row_apart, touches as spec_touches};
 ghost use Rattle.np_ucd.specs.Entries.{Entry, IsRow};
 ghost use Rattle.np_ucd.specs.RowValues.{entry_of};

@@ -1,6 +1,6 @@
 //! What a table of pages keeps of each form for a code point: whether the form parts before it, and
 //! whether it leaves it as it is (UAX #15, section 9.1).
-ghost use Rattle.std.specs.Prelude.{◌≡◌, ◌∷◌, ◌<◌, ◌≤◌, [], ℕ, Bool, true, false, length, IsTrue};
+ghost use Rattle.std.specs.Prelude.{◌≡◌, ◌∷◌, ◌<◌, [], ℕ, Bool, true, false, IsTrue};
 ghost use Rattle.np_code_points.specs.declared.forms.Form.{Form};
 ghost use Rattle.np_tables.specs.Boundaries.{FoldsTo, NeverFalls};
 ghost use Rattle.np_tables.specs.Mappings.{IsFullDecomposition};

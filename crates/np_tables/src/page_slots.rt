@@ -1,10 +1,8 @@
 //! The full decompositions of the code points that have a mapping, in one flat list.
-ghost use Rattle.std.specs.Prelude.{◌≡◌, ◌++◌, ◌∷◌, [], ◌≢◌, length, map, IfOk, IsTrue, Some};
-ghost use Rattle.std.specs.List.{slice_range};
+ghost use Rattle.std.specs.Prelude.{◌≡◌, length, IfOk, IsTrue, Some};
 ghost use Rattle.np_ucd.specs.Entries.{IsRow};
 ghost use Rattle.np_ucd.specs.RowValues.{entry_of};
 ghost use Rattle.np_tables.specs.Versions.{entry_at};
-ghost use Rattle.np_tables.specs.inside.FullDecompositions.{table_full};
 ghost use Rattle.np_tables.specs.inside.FullParts.{AreParts, IsPart, part_of};
 ghost use Rattle.np_tables.specs.inside.PageWords.{AreSlots, IsSlotPushed};
 

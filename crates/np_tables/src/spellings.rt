@@ -1,6 +1,6 @@
 //! The forms of single code points, kept as UTF-8: full decompositions in which nothing moves and, where
 //! the form composes, what the code points of one compose to, each with the starter right before it.
-ghost use Rattle.std.specs.Prelude.{◌≡◌, ◌≤◌, ◌<◌, ◌++◌, [], ℕ, length, take, string_bytes, encode_utf8_all, slice_index_or, IsTrue, IfOk, IfSome};
+ghost use Rattle.std.specs.Prelude.{◌≡◌, ◌<◌, ◌++◌, [], ℕ, length, string_bytes, encode_utf8_all, slice_index_or, IsTrue, IfOk, IfSome};
 ghost use Rattle.np_code_points.specs.declared.forms.Form.{Form};
 ghost use Rattle.np_code_points.specs.Forms.{is_compat};
 ghost use Rattle.np_tables.specs.Boundaries.{NeverFalls};

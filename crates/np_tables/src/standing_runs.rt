@@ -42,7 +42,14 @@ fn behind_ascii(text: &str) -> &str
 
 /// The least step that may follow a code point, where it may follow a step of `low`: none where it may not.
 #[inline(always)]
-pub(crate) fn low_past(blocks: &[u16], steps: &[u32], least: u8, low: u8, form: Form, c: char) -> Option<u8>
+pub(crate) fn low_past(
+    blocks: &[u16],
+    steps: &[u32],
+    least: u8,
+    low: u8,
+    form: Form,
+    c: char,
+) -> Option<u8>
     requires within { AreWithin 4352 blocks.now (length steps.now) }
     requires some { 1 ≤ least }
     requires low { least ≤ low }

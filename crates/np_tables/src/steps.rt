@@ -1,6 +1,6 @@
 //! What a scan asks of a code point under each form, in one byte: a word is told by several branches that
 //! can't be foretold in texts with non-starters, a byte by one.
-ghost use Rattle.std.specs.Prelude.{◌≡◌, ◌/◌, ◌%◌, ◌^◌, ◌<◌, ℕ, length, slice_index_or, IfOk, IsTrue};
+ghost use Rattle.std.specs.Prelude.{◌≡◌, ◌/◌, ◌%◌, ◌^◌, ◌<◌, length, slice_index_or, IfOk, IsTrue};
 ghost use Rattle.np_tables.specs.inside.PageHints.{has_bit as spec_has_bit, stays_place as spec_stays_place};
 ghost use Rattle.np_tables.specs.inside.PageWords.{IsAsciiStaying};
 ghost use Rattle.np_tables.specs.inside.Pages.{AreWithin, word_place};

@@ -1,6 +1,6 @@
 //! What each call answers on worked examples.
 use super::wants_form;
-use crate::common::{Example, Made, S, V1, V2, holds_over_each, want};
+use crate::common::{Example, LETTERS, Made, S, V1, V2, amid, holds_over_each, want};
 use np_code_points::told::want_told;
 use np_code_points::{Form, Memory};
 use np_forms::{NpssFault, equivalent, first_unassigned, into_npss, is_form, is_stream_safe, npss};
@@ -328,6 +328,35 @@ fn passed_non_starters<T: NormTable>(alloc: Global, table: &T) -> Result<(), Fai
     wants_refusal(alloc, table, Form::Nfd, "\u{AC00}", fault)
 }
 
+// (form, a piece that stands before and behind something many times and has itself as form, that something, its form)
+const AMID: [(Form, &str, &str, &str); 6] = [
+    (Form::Nfc, "ab\u{E9}", "e\u{301}", "\u{E9}"),
+    (Form::Nfkc, "a\u{E9}", "e\u{316}\u{301}", "\u{E9}\u{316}"),
+    (Form::Nfd, "ab\u{4E00}", "\u{E9}", "e\u{301}"),
+    (Form::Nfkd, "ab\u{4E00}", "\u{315}\u{316}", "\u{316}\u{315}"),
+    (
+        Form::Nfc,
+        "ab\u{4E00}",
+        "\u{315}a\u{316}",
+        "\u{315}a\u{316}",
+    ),
+    (
+        Form::Nfc,
+        "ab\u{E9}",
+        "\u{20000}\u{20001}",
+        "\u{20000}\u{20001}",
+    ),
+];
+
+fn amid_long_texts<T: NormTable>(alloc: Global, table: &T) -> Result<(), Fail> {
+    for (wanted, piece, turn, made) in &AMID {
+        let text = amid(alloc, piece, turn)?;
+        let normal = amid(alloc, piece, made)?;
+        wants_form(alloc, table, *wanted, text.as_str(), normal.as_str())?;
+    }
+    Ok(())
+}
+
 /// What forms show.
 #[derive(Clone, Copy)]
 enum Shown {
@@ -340,6 +369,7 @@ enum Shown {
     Growth,
     Starters,
     PassedNonStarters,
+    AmidLongTexts,
 }
 
 impl Example for Shown {
@@ -354,6 +384,7 @@ impl Example for Shown {
             Shown::Growth => grows(alloc, table),
             Shown::Starters => starters(alloc, table),
             Shown::PassedNonStarters => passed_non_starters(alloc, table),
+            Shown::AmidLongTexts => amid_long_texts(alloc, table),
         }
     }
 }
@@ -401,4 +432,9 @@ fn starters_compose_from_the_left(rt: HostRuntime) -> Result<(), Fail> {
 #[test]
 fn passed_non_starters_are_not_visited_again(rt: HostRuntime) -> Result<(), Fail> {
     holds_over_each(rt.alloc(), S, &Shown::PassedNonStarters)
+}
+
+#[test]
+fn what_stands_amid_long_texts_has_its_form(rt: HostRuntime) -> Result<(), Fail> {
+    holds_over_each(rt.alloc(), LETTERS, &Shown::AmidLongTexts)
 }

@@ -1,5 +1,5 @@
 -- Characters of several bytes, found by the bytes that begin them (The Unicode Standard, table 3-6).
-use Rattle.std.specs.Prelude.{◌≡◌, ◌<◌, ◌≤◌, ◌+◌, ◌++◌, ℕ, Bool, nat_le, List, drop, encode_utf8, length}
+use Rattle.std.specs.Prelude.{◌≡◌, ◌<◌, ◌≤◌, ◌++◌, ℕ, Bool, nat_le, List, drop, encode_utf8, length}
 
 -- whether a byte begins a character of several bytes
 abbrev pub is_lead : ℕ → Bool

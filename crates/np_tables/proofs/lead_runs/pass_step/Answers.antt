@@ -1,4 +1,4 @@
-use Rattle.std.proofs.Common.{◌≡◌, ◌<◌, ◌≤◌, ◌+◌, ◌-◌, ℕ, ◌++◌, encode_utf8, drop, length, get_or, refl, sym, ap, subst, ◌∙◌, arith, IsUtf8}
+use Rattle.std.proofs.Common.{◌≡◌, ◌≤◌, ◌+◌, ◌-◌, drop, length, get_or, refl, ap, subst, ◌∙◌, arith, IsUtf8}
 use Rattle.std.proofs.lemmas.List.{drop-drop, get_or-drop}
 use Rattle.std.proofs.lemmas.Str.{IsUtf8-past_char}
 use lib.Count.{count_trailing_zeros}
@@ -70,8 +70,8 @@ leads-preserved c =
       subst IsUtf8 past (IsUtf8-past_char here (drop count here) begins.0 c.range_from-here.utf8 begins.1.parts),
       λ v. WalksOn-both (Follows v c.args.least c.args.blocks.now c.args.steps.now c.args.form) text here (drop (at + count) text) c.args.low c.low_at-behind.result c.in-Some.next
           (WalksOn-at c.args.least c.args.blocks.now c.args.steps.now c.args.form (omega arith) c.requires.ascii v text here c.leads.end at c.args.low c.leads.now c.low_at-behind.result
-              (found_behind text from left skip long inv.0 inv.7 c.leads-test.true refl c.leads.end inv.6) (omega (arith, c.requires.long, within)) inv.4 c.range_from-here.ensures.value
-              (λ k ge lt. found_first text from left skip long inv.0 inv.7 c.leads-test.true refl k (omega (arith, ge, inv.1)) lt) c.low_at-behind.ensures.ascii c.low_at-behind.ensures.same (inv.5 v))
+          (found_behind text from left skip long inv.0 inv.7 c.leads-test.true refl c.leads.end inv.6) (omega (arith, c.requires.long, within)) inv.4 c.range_from-here.ensures.value
+          (λ k ge lt. found_first text from left skip long inv.0 inv.7 c.leads-test.true refl k (omega (arith, ge, inv.1)) lt) c.low_at-behind.ensures.ascii c.low_at-behind.ensures.same (inv.5 v))
           (subst (λ l. WalksOn (Follows v c.args.least c.args.blocks.now c.args.steps.now c.args.form) here l c.low_at-behind.result c.in-Some.next) past (c.in-Some.ensures.walks v)),
       λ k ge lt.
           let inside = inside_low here begins.0 count begins.1 (k - at) (omega (arith, ge)) (omega (arith, ge, lt)) in

@@ -1,0 +1,64 @@
+//! What stands in long texts, where the table of pages looks at many bytes at a time.
+use crate::common::{LETTERS, amid, table_of, want};
+use np_code_points::Form;
+use np_tables::{NormTable, PageTable};
+use std::alloc::Global;
+use std::test::Fail;
+
+// Pieces of two letters and a character of two or three bytes, and one in which many characters have two.
+const TWO: &str = "ab\u{E9}";
+
+const THREE: &str = "ab\u{4E00}";
+
+const MANY: &str = "a\u{E9}";
+
+// A form, a piece that stands before and behind something a hundred times, that something, and how many bytes at
+// the front stand in the form as they are: of any code points, and of assigned ones.
+const AMID: [(Form, &str, &str, usize, usize); 22] = [
+    // an accent that goes into the letter before it, where the form composes
+    (Form::Nfc, TWO, "e\u{301}", 401, 401),
+    (Form::Nfkc, TWO, "e\u{301}", 401, 401),
+    (Form::Nfc, MANY, "e\u{301}", 301, 301),
+    (Form::Nfd, THREE, "e\u{301}", 1003, 1003),
+    // non-starters whose classes fall, rise, or stand behind starters of their own
+    (Form::Nfc, THREE, "\u{315}\u{316}", 502, 502),
+    (Form::Nfkd, THREE, "\u{315}\u{316}", 502, 502),
+    (Form::Nfc, THREE, "\u{315}\u{1DCE}", 502, 502),
+    (Form::Nfd, THREE, "\u{316}\u{315}", 1004, 1004),
+    (Form::Nfd, THREE, "\u{1DCE}\u{315}", 1005, 1005),
+    (Form::Nfc, THREE, "\u{315}a\u{316}", 1005, 1005),
+    (Form::Nfd, THREE, "\u{315}\u{4E00}\u{316}", 1007, 1007),
+    // four bytes
+    (Form::Nfc, TWO, "\u{20000}", 804, 804),
+    (Form::Nfd, THREE, "\u{315}\u{20000}\u{316}", 1008, 1008),
+    // what is not assigned
+    (Form::Nfc, TWO, "\u{20001}", 804, 400),
+    (Form::Nfd, THREE, "\u{4E01}", 1003, 500),
+    // a character of three bytes that the end of 64 bytes cuts, by one or two of its bytes or not at all
+    (Form::Nfc, THREE, "", 1000, 1000),
+    (Form::Nfc, THREE, "c", 1001, 1001),
+    (Form::Nfc, THREE, "cc", 1002, 1002),
+    // classes that fall behind such an end, which cuts the first non-starter or stands between the two, and
+    // non-starters with a letter between them there
+    (Form::Nfd, THREE, "ccccccccccccc\u{315}\u{316}", 515, 515),
+    (Form::Nfd, THREE, "cccccccccccc\u{315}\u{316}", 514, 514),
+    (Form::Nfd, THREE, "ccccccccccccc\u{315}c\u{316}", 1018, 1018),
+    (Form::Nfd, THREE, "ccccccccccc\u{315}c\u{316}", 1016, 1016),
+];
+
+fn tells_what_stands_amid<T: NormTable>(alloc: Global, table: &T) -> Result<(), Fail> {
+    for (form, piece, turn, any, assigned) in &AMID {
+        let text = amid(alloc, piece, turn)?;
+        let (stands, _parts) = table.standing(*form, false, text.as_str());
+        want(stands == *any, turn)?;
+        let (stands, _parts) = table.standing(*form, true, text.as_str());
+        want(stands == *assigned, turn)?;
+    }
+    Ok(())
+}
+
+#[test]
+fn long_texts_stand_up_to_what_tells(rt: HostRuntime) -> Result<(), Fail> {
+    let table: PageTable = table_of(rt.alloc(), LETTERS)?;
+    tells_what_stands_amid(rt.alloc(), &table)
+}
