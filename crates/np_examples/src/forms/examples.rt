@@ -329,7 +329,7 @@ fn passed_non_starters<T: NormTable>(alloc: Global, table: &T) -> Result<(), Fai
 }
 
 // (form, a piece that stands before and behind something many times and has itself as form, that something, its form)
-const AMID: [(Form, &str, &str, &str); 6] = [
+const AMID: [(Form, &str, &str, &str); 8] = [
     (Form::Nfc, "ab\u{E9}", "e\u{301}", "\u{E9}"),
     (Form::Nfkc, "a\u{E9}", "e\u{316}\u{301}", "\u{E9}\u{316}"),
     (Form::Nfd, "ab\u{4E00}", "\u{E9}", "e\u{301}"),
@@ -345,6 +345,18 @@ const AMID: [(Form, &str, &str, &str); 6] = [
         "ab\u{E9}",
         "\u{20000}\u{20001}",
         "\u{20000}\u{20001}",
+    ),
+    (
+        Form::Nfd,
+        "ab\u{4E00}",
+        "\u{E9}t\u{E9}\u{E9}x\u{301}\u{E9}",
+        "e\u{301}te\u{301}e\u{301}x\u{301}e\u{301}",
+    ),
+    (
+        Form::Nfkd,
+        "ab\u{4E00}",
+        "\u{E9}a word of many letters\u{E9}z\u{20001}",
+        "e\u{301}a word of many letterse\u{301}z\u{20001}",
     ),
 ];
 
