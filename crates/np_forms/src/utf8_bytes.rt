@@ -105,23 +105,21 @@ pub(crate) fn bytes_and_size(code: u32) -> ([u8; 4], usize)
     (bytes, size_of_code(code))
 }
 
-/// How many bytes a character has of which this is the first, told without a jump.
+/// How many bytes a character of several has of which this is the first, told without a jump.
 #[inline(always)]
 fn size_of_lead(lead: u8) -> usize
-    ensures one { lead < 192 → result ≡ 1 }
-    ensures two { 192 ≤ lead → lead < 224 → result ≡ 2 }
+    ensures two { lead < 224 → result ≡ 2 }
     ensures three { 224 ≤ lead → lead < 240 → result ≡ 3 }
     ensures four { 240 ≤ lead → result ≡ 4 }
 {
-    1 + (lead >= 192) as usize + (lead >= 224) as usize + (lead >= 240) as usize
+    2 + (lead >= 224) as usize + (lead >= 240) as usize
 }
 
-/// The character that begins these four bytes: what they spell is made for each size, and that of its own
-/// is taken without a jump.
+/// The character of several bytes that begins these four: what they spell is made for each size, and that of
+/// its own is taken without a jump.
 #[inline(always)]
 fn code_of_four(lead: u8, second: u8, third: u8, fourth: u8) -> u32
-    ensures one { lead < 192 → result ≡ lead }
-    ensures two { 192 ≤ lead → lead < 224 → result ≡ lead % 32 * 64 + second % 64 }
+    ensures two { lead < 224 → result ≡ lead % 32 * 64 + second % 64 }
     ensures three { 224 ≤ lead → lead < 240 → result ≡ lead % 16 * 4096 + second % 64 * 64 + third % 64 }
     ensures four { 240 ≤ lead → result ≡ lead % 8 * 262144 + second % 64 * 4096 + third % 64 * 64 + fourth % 64 }
 {
@@ -131,13 +129,12 @@ fn code_of_four(lead: u8, second: u8, third: u8, fourth: u8) -> u32
     let two = first % 32 * 64 + middle;
     let three = first % 16 * 4096 + middle * 64 + last;
     let four = first % 8 * 262_144 + middle * 4096 + last * 64 + u32::from(fourth % 64);
-    let narrow = if lead < 192 { first } else { two };
     let wide = if lead < 240 { three } else { four };
-    if lead < 224 { narrow } else { wide }
+    if lead < 224 { two } else { wide }
 }
 
-/// The first code point of a text and what follows it. Where the text goes on it is read without a jump by
-/// how many bytes it has, which among code points of any size would be guessed wrongly.
+/// The first code point of a text and what follows it. Where the text goes on, one of several bytes is read
+/// without a jump by how many, which among code points of any size would be guessed wrongly.
 #[inline(always)]
 pub(crate) fn split_first(text: &str) -> Option<(char, &str)>
     ensures parts { IfSome result (λ cut. text.now ≡ encode_utf8 cut.0 ++ cut.1.now) }
@@ -145,7 +142,7 @@ pub(crate) fn split_first(text: &str) -> Option<(char, &str)>
     ensures none { IfNone result (text.now ≡ []) }
 {
     let bytes = text.as_bytes();
-    if bytes.len() < 4 {
+    if bytes.len() < 4 || bytes[0] < 128 {
         let mut iter = text.chars();
         let c = iter.next()?;
         return Some((c, iter.as_str()));
