@@ -80,15 +80,11 @@ fn word_of_code(code: u32) -> u32
     ensures three { 0x800 ≤ code → code < 0x1_0000 → result ≡ 8421600 + code / 4096 + code / 64 % 64 * 256 + code % 64 * 65536 }
     ensures four { 0x1_0000 ≤ code → result ≡ 2155905264 + code / 262144 + code / 4096 % 64 * 256 + code / 64 % 64 * 65536 + code % 64 * 16777216 }
 {
-    let last = code % 64;
-    let middle = code / 64 % 64;
-    let two = 0x80C0 + code / 64 + last * 0x100;
-    let three = 0x80_80E0 + code / 0x1000 + middle * 0x100 + last * 0x1_0000;
-    let four = 0x8080_80F0
-        + code / 0x4_0000
-        + code / 0x1000 % 64 * 0x100
-        + middle * 0x1_0000
-        + last * 0x100_0000;
+    // six bits each, of which smaller characters have no use for the first
+    let parts = code / 0x1000 % 64 + code / 64 % 64 * 0x100 + code % 64 * 0x1_0000;
+    let two = 0x80C0 + parts / 0x100;
+    let three = 0x80_80E0 + parts;
+    let four = 0x8080_80F0 + code / 0x4_0000 + parts * 0x100;
     let narrow = if code < 0x80 { code } else { two };
     let wide = if code < 0x1_0000 { three } else { four };
     if code < 0x800 { narrow } else { wide }
