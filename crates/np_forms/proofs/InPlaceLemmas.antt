@@ -1,12 +1,13 @@
 -- The steps of a composition in its own list: what was composed stands in front, what is still to be read from a later place on.
-use Rattle.std.proofs.Common.{◌≡◌, ℕ, suc, ◌+◌, ◌<◌, ◌≤◌, List, ◌∷◌, ◌++◌, [], length, get_or, set, take, drop, Option, Some, None, ◌⊎◌, inl, inr, refl, sym, subst, ap, ◌∙◌, arith}
+use Rattle.std.proofs.Common.{◌≡◌, ℕ, true, suc, ◌+◌, ◌<◌, ◌≤◌, List, ◌∷◌, ◌++◌, [], length, get_or, set, take, drop, Option, Some, None, ◌⊎◌, inl, inr, refl, sym, subst, ap, ◌∙◌, arith}
 use Rattle.std.proofs.Math.Seq.{drop-cons, take-set-lt}
 use Rattle.std.proofs.lemmas.List.{take_more_set, drop-set-lt, length-take-le, length-map, map-set, map_push}
 use Rattle.np_tables.specs.Versions.{VersionData, class_of}
 use Rattle.np_forms.specs.inside.Classes.{CodeAndClass, codes_of, with_class, with_classes}
 use Rattle.np_forms.specs.inside.Composers.{IsAfterStarter, IsComposing, pair_with_last}
 use Rattle.np_forms.specs.inside.InPlace.{IsInPlace}
-use Rattle.np_forms.proofs.ComposerLemmas.{push_joins, push_starts, push_keeps}
+use Rattle.np_forms.specs.Order.{is_ordered}
+use Rattle.np_forms.proofs.ComposerLemmas.{IsComposing-start, push_joins, push_starts, push_keeps}
 
 -- the first of what is left
 record Next (v : VersionData) (rest : List ℕ) (x : CodeAndClass) (tail : List CodeAndClass) : Type 0 where
@@ -77,3 +78,11 @@ module _ (v : VersionData) (whole : List ℕ) (list : List CodeAndClass) (kept a
   -- the code point is kept, and is the last starter where it is one
   pub in_place_stays : (place : Option ℕ) → (x.class ≡ 0 × place ≡ Some kept) ⊎ (0 < x.class × place ≡ starter) → (x.class ≡ class_of v x.code → pair_with_last v done starter last x.code ≡ None) → IsInPlace v whole (at + 1) (set list kept x) (kept + 1) place x.class
   in_place_stays place stands none = record { rest = next.ds; left = left kept x behind; composing = in_place_composes place stands (none class_is) }
+
+-- a list in canonical order that begins with a starter, of which that was read
+pub in_place_begins : (v : VersionData) (s : ℕ) (ms : List ℕ) (list : List CodeAndClass) → class_of v s ≡ 0 → list ≡ with_classes v (s ∷ ms) → is_ordered (class_of v) (s ∷ ms) ≡ true → IsInPlace v (s ∷ ms) 1 list 1 (Some 0) 0
+unfolding pair_with_last
+in_place_begins v s ms list zero is ordered =
+    let begun = push_starts v (s ∷ ms) [] None 0 s ms refl zero (IsComposing-start v (s ∷ ms) ordered) in
+    let shown : codes_of (take 1 list) ≡ s ∷ [] = ap (λ l. codes_of (take 1 l)) is in
+    record { rest = ms; left = ap (drop 1) is; composing = subst (λ l. IsComposing v (s ∷ ms) l (Some 0) 0 ms) (sym shown) begun }

@@ -50,17 +50,17 @@ module _ (v : VersionData) where
     same : a.starter ∷ a.marks ≡ cs
     same = sym (codes-with_classes v (a.starter ∷ a.marks)) ∙ ap codes_of (sym a.is ∙ is) ∙ codes-with_classes v cs
 
-    order : a.starter ∷ canonical_order ccc a.marks ≡ canonical_order ccc cs
-    order = sym (order_behind a.starter a.marks a.zero) ∙ ap (canonical_order ccc) same
+    pub marked-order : a.starter ∷ canonical_order ccc a.marks ≡ canonical_order ccc cs
+    marked-order = sym (order_behind a.starter a.marks a.zero) ∙ ap (canonical_order ccc) same
 
     -- where they are in order
     pub marked-ordered : ordered ≡ true → list ≡ with_classes v (canonical_order ccc cs)
-    marked-ordered on = a.is ∙ ap (with_classes v) (ap (λ l. a.starter ∷ l) (sym (canonical_order-ordered ccc a.marks (a.order on))) ∙ order)
+    marked-ordered on = a.is ∙ ap (with_classes v) (ap (λ l. a.starter ∷ l) (sym (canonical_order-ordered ccc a.marks (a.order on))) ∙ marked-order)
 
     -- where the non-starters are put in order
     pub marked-sorted : (sorted back : List CodeAndClass) → sorted ≡ with_classes v (canonical_order ccc a.marks) → back ≡ [] → take 1 list ++ (sorted ++ back) ≡ with_classes v (canonical_order ccc cs)
     marked-sorted sorted back done none =
-        ap₂ (λ f b. f ++ (sorted ++ b)) (front_part v list (a.starter ∷ a.marks) a.is 1) none ∙ ap (λ l. with_class v a.starter ∷ l) (append-nil sorted ∙ done) ∙ ap (with_classes v) order
+        ap₂ (λ f b. f ++ (sorted ++ b)) (front_part v list (a.starter ∷ a.marks) a.is 1) none ∙ ap (λ l. with_class v a.starter ∷ l) (append-nil sorted ∙ done) ∙ ap (with_classes v) marked-order
 
   pub marked-behind : (list : List CodeAndClass) (ordered : Bool) (a : IsMarked v list ordered) → drop 1 list ≡ with_classes v a.marks
   marked-behind list ordered a = back_part v list (a.starter ∷ a.marks) a.is 1

@@ -39,20 +39,20 @@ module _ (text : List ℕ) (size code : ℕ) (utf8 : IsUtf8 text) (some : 0 < le
   abbrev byte : ℕ → ℕ
   byte i = get_or text i 0
 
-  pub begins_any : (byte 0 < 192 → size ≡ 1) → (192 ≤ byte 0 → byte 0 < 224 → size ≡ 2) → (224 ≤ byte 0 → byte 0 < 240 → size ≡ 3) → (240 ≤ byte 0 → size ≡ 4)
-      → (byte 0 < 192 → code ≡ byte 0) → (192 ≤ byte 0 → byte 0 < 224 → code ≡ byte 0 % 32 * 64 + byte 1 % 64)
+  -- one of several bytes
+  pub begins_any : 128 ≤ byte 0 → (byte 0 < 224 → size ≡ 2) → (224 ≤ byte 0 → byte 0 < 240 → size ≡ 3) → (240 ≤ byte 0 → size ≡ 4)
+      → (byte 0 < 224 → code ≡ byte 0 % 32 * 64 + byte 1 % 64)
       → (224 ≤ byte 0 → byte 0 < 240 → code ≡ byte 0 % 16 * 4096 + byte 1 % 64 * 64 + byte 2 % 64)
       → (240 ≤ byte 0 → code ≡ byte 0 % 8 * 262144 + byte 1 % 64 * 4096 + byte 2 % 64 * 64 + byte 3 % 64)
       → BeginsWith text size code
-  begins_any s1 s2 s3 s4 c1 c2 c3 c4 =
+  begins_any several s2 s3 s4 c2 c3 c4 =
       let a = first_of text utf8 some in
       let k = a.k in
       elim (cases_lt k 0x80) [
         | inl low ↦
             let e : text ≡ k ∷ a.rest = a.parts ∙ ap (λ l. l ++ a.rest) (encode_one k low) in
             let b0 : byte 0 ≡ k = ap (λ l. get_or l 0 0) e in
-            let below : byte 0 < 192 = omega arith in
-            begins_from text a 1 size code (ap length (encode_one k low)) (sym (s1 below)) (omega (arith, c1 below))
+            absurd (omega arith)
         | inr more ↦ elim (cases_lt k 0x800) [
           | inl few ↦
               let e : text ≡ (192 + k / 64) ∷ (128 + k % 64) ∷ a.rest = a.parts ∙ ap (λ l. l ++ a.rest) (encode_two k more few) in
@@ -60,7 +60,7 @@ module _ (text : List ℕ) (size code : ℕ) (utf8 : IsUtf8 text) (some : 0 < le
               let b1 : byte 1 ≡ 128 + k % 64 = ap (λ l. get_or l 1 0) e in
               let over : 192 ≤ byte 0 = omega arith in
               let below : byte 0 < 224 = omega arith in
-              begins_from text a 2 size code (ap length (encode_two k more few)) (sym (s2 over below)) (omega (arith, c2 over below))
+              begins_from text a 2 size code (ap length (encode_two k more few)) (sym (s2 below)) (omega (arith, c2 below))
           | inr wide ↦ elim (cases_lt k 0x10000) [
             | inl few ↦
                 let e : text ≡ (224 + k / 4096) ∷ (128 + k / 64 % 64) ∷ (128 + k % 64) ∷ a.rest = a.parts ∙ ap (λ l. l ++ a.rest) (encode_three k wide few) in

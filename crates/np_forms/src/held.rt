@@ -1,6 +1,5 @@
 //! What a stream holds back, and what became ready.
 ghost use Rattle.std.specs.Prelude.{◌≡◌, ◌++◌, ◌∷◌, [], ℕ, List, true, None, Some, IfNone, IfSome, IfOk, OnOk};
-ghost use Rattle.np_forms.specs.Order.{is_ordered};
 ghost use Rattle.np_forms.specs.inside.CanonicalOrder.{canonical_order};
 ghost use Rattle.np_forms.specs.inside.Classes.{AreClassed, codes_of, with_class as spec_with_class, with_classes};
 ghost use Rattle.np_forms.specs.inside.Held.{Advances, IsFrontHeld};
@@ -52,23 +51,6 @@ pub(crate) fn hold_front<'a, T: NormTable>(
     }
 }
 
-/// Composes a list in canonical order where `composes`. After that its classes are of no account.
-#[inline(always)]
-pub(crate) fn compose_list<T: NormTable>(
-    alloc: Global,
-    table: &T,
-    composes: bool,
-    list: &mut Vec<Classed>,
-)
-    ensures { (cs : List ℕ) → list.old.items ≡ with_classes (T.model table.now) cs → is_ordered (class_of (T.model table.now)) cs ≡ true →
-        codes_of list.new.items ≡ ended (T.model table.now) composes cs }
-{
-    if composes {
-        let ordered = replace(list, Vec::new(alloc));
-        *list = compose(table, ordered);
-    }
-}
-
 /// Puts a list in canonical order, and composes it where `composes`. After that its classes are of no
 /// account.
 pub(crate) fn settle<T: NormTable>(
@@ -81,7 +63,10 @@ pub(crate) fn settle<T: NormTable>(
         codes_of list.new.items ≡ ended (T.model table.now) composes (canonical_order (class_of (T.model table.now)) cs)) }
 {
     order(alloc, list)?;
-    compose_list(alloc, table, composes, list);
+    if composes {
+        let ordered = replace(list, Vec::new(alloc));
+        *list = compose(table, ordered);
+    }
     Ok(())
 }
 

@@ -1,6 +1,6 @@
 //! Segments of one starter and non-starters behind it, each its own full decomposition, as most are that go
 //! through a list: that they are in order is told as they are read, and where they are not, one run is sorted.
-ghost use Rattle.std.specs.Prelude.{◌≡◌, ◌<◌, ℕ, List, length, chars, vec_len, IfOk, IfNone, IfSome, OnOk};
+ghost use Rattle.std.specs.Prelude.{◌≡◌, ◌<◌, ◌≤◌, ℕ, List, length, take, chars, IfOk, IfNone, IfSome, OnOk};
 ghost use Rattle.np_forms.specs.inside.CanonicalOrder.{canonical_order};
 ghost use Rattle.np_forms.specs.inside.Classes.{codes_of, with_classes};
 ghost use Rattle.np_forms.specs.inside.Copies.{GoesOn};
@@ -11,8 +11,8 @@ ghost use Rattle.np_tables.specs.Boundaries.{BeginsAtBoundary};
 ghost use Rattle.np_tables.specs.Versions.{VersionData, class_of};
 
 use crate::classes::Classed;
+use crate::composing::compose_behind;
 use crate::decomposing::is_own;
-use crate::held::compose_list;
 use crate::ordering::sort_non_starters;
 use crate::out_texts::OutText;
 use crate::utf8_bytes::split_first;
@@ -79,23 +79,27 @@ fn order_marks(alloc: Global, ordered: bool, list: &mut [Classed]) -> Result<(),
     sort_non_starters(alloc, &mut list[1..])
 }
 
-/// Puts such a list in canonical order, and composes it where `composes`. After that its classes are of no
-/// account.
+/// Puts such a list in canonical order, and composes it where `composes`: answers how many code points that
+/// has. Their classes are of no account then.
+#[inline(always)]
 fn settle_marks<T: NormTable>(
     alloc: Global,
     table: &T,
     composes: bool,
     ordered: bool,
-    list: &mut Vec<Classed>,
-) -> Result<(), Memory>
-    requires some { 0 < vec_len list.old }
-    requires marked { IsMarked (T.model table.now) list.old.items ordered }
-    ensures { OnOk result ((cs : List ℕ) → list.old.items ≡ with_classes (T.model table.now) cs →
-        codes_of list.new.items ≡ ended (T.model table.now) composes (canonical_order (class_of (T.model table.now)) cs)) }
+    list: &mut [Classed],
+) -> Result<usize, AllocError>
+    requires some { 0 < length list.old }
+    requires marked { IsMarked (T.model table.now) list.old ordered }
+    ensures settled { IfOk result (λ kept. (cs : List ℕ) → list.old ≡ with_classes (T.model table.now) cs →
+        codes_of (take kept list.new) ≡ ended (T.model table.now) composes (canonical_order (class_of (T.model table.now)) cs)) }
+    ensures bound { IfOk result (λ kept. kept ≤ length list.old) }
 {
     order_marks(alloc, ordered, list)?;
-    compose_list(alloc, table, composes, list);
-    Ok(())
+    if !composes {
+        return Ok(list.len());
+    }
+    Ok(compose_behind(table, list))
 }
 
 /// Appends the form of the first segment of a text, where that is such a one, and answers what follows it.
@@ -115,7 +119,7 @@ pub(crate) fn write_marked<'a, T: NormTable>(
     let Some((rest, ordered)) = gather(table, form, text, list) else {
         return Ok(None);
     };
-    settle_marks(alloc, table, form.composes(), ordered, list)?;
-    out.append_codes(list)?;
+    let kept = settle_marks(alloc, table, form.composes(), ordered, list)?;
+    out.append_codes(&list[..kept])?;
     Ok(Some(rest))
 }

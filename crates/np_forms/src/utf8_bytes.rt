@@ -80,15 +80,11 @@ fn word_of_code(code: u32) -> u32
     ensures three { 0x800 ≤ code → code < 0x1_0000 → result ≡ 8421600 + code / 4096 + code / 64 % 64 * 256 + code % 64 * 65536 }
     ensures four { 0x1_0000 ≤ code → result ≡ 2155905264 + code / 262144 + code / 4096 % 64 * 256 + code / 64 % 64 * 65536 + code % 64 * 16777216 }
 {
-    let last = code % 64;
-    let middle = code / 64 % 64;
-    let two = 0x80C0 + code / 64 + last * 0x100;
-    let three = 0x80_80E0 + code / 0x1000 + middle * 0x100 + last * 0x1_0000;
-    let four = 0x8080_80F0
-        + code / 0x4_0000
-        + code / 0x1000 % 64 * 0x100
-        + middle * 0x1_0000
-        + last * 0x100_0000;
+    // six bits each, of which smaller characters have no use for the first
+    let parts = code / 0x1000 % 64 + code / 64 % 64 * 0x100 + code % 64 * 0x1_0000;
+    let two = 0x80C0 + parts / 0x100;
+    let three = 0x80_80E0 + parts;
+    let four = 0x8080_80F0 + code / 0x4_0000 + parts * 0x100;
     let narrow = if code < 0x80 { code } else { two };
     let wide = if code < 0x1_0000 { three } else { four };
     if code < 0x800 { narrow } else { wide }
@@ -105,23 +101,21 @@ pub(crate) fn bytes_and_size(code: u32) -> ([u8; 4], usize)
     (bytes, size_of_code(code))
 }
 
-/// How many bytes a character has of which this is the first, told without a jump.
+/// How many bytes a character of several has of which this is the first, told without a jump.
 #[inline(always)]
 fn size_of_lead(lead: u8) -> usize
-    ensures one { lead < 192 → result ≡ 1 }
-    ensures two { 192 ≤ lead → lead < 224 → result ≡ 2 }
+    ensures two { lead < 224 → result ≡ 2 }
     ensures three { 224 ≤ lead → lead < 240 → result ≡ 3 }
     ensures four { 240 ≤ lead → result ≡ 4 }
 {
-    1 + (lead >= 192) as usize + (lead >= 224) as usize + (lead >= 240) as usize
+    2 + (lead >= 224) as usize + (lead >= 240) as usize
 }
 
-/// The character that begins these four bytes: what they spell is made for each size, and that of its own
-/// is taken without a jump.
+/// The character of several bytes that begins these four: what they spell is made for each size, and that of
+/// its own is taken without a jump.
 #[inline(always)]
 fn code_of_four(lead: u8, second: u8, third: u8, fourth: u8) -> u32
-    ensures one { lead < 192 → result ≡ lead }
-    ensures two { 192 ≤ lead → lead < 224 → result ≡ lead % 32 * 64 + second % 64 }
+    ensures two { lead < 224 → result ≡ lead % 32 * 64 + second % 64 }
     ensures three { 224 ≤ lead → lead < 240 → result ≡ lead % 16 * 4096 + second % 64 * 64 + third % 64 }
     ensures four { 240 ≤ lead → result ≡ lead % 8 * 262144 + second % 64 * 4096 + third % 64 * 64 + fourth % 64 }
 {
@@ -131,13 +125,12 @@ fn code_of_four(lead: u8, second: u8, third: u8, fourth: u8) -> u32
     let two = first % 32 * 64 + middle;
     let three = first % 16 * 4096 + middle * 64 + last;
     let four = first % 8 * 262_144 + middle * 4096 + last * 64 + u32::from(fourth % 64);
-    let narrow = if lead < 192 { first } else { two };
     let wide = if lead < 240 { three } else { four };
-    if lead < 224 { narrow } else { wide }
+    if lead < 224 { two } else { wide }
 }
 
-/// The first code point of a text and what follows it. Where the text goes on it is read without a jump by
-/// how many bytes it has, which among code points of any size would be guessed wrongly.
+/// The first code point of a text and what follows it. Where the text goes on, one of several bytes is read
+/// without a jump by how many, which among code points of any size would be guessed wrongly.
 #[inline(always)]
 pub(crate) fn split_first(text: &str) -> Option<(char, &str)>
     ensures parts { IfSome result (λ cut. text.now ≡ encode_utf8 cut.0 ++ cut.1.now) }
@@ -145,7 +138,7 @@ pub(crate) fn split_first(text: &str) -> Option<(char, &str)>
     ensures none { IfNone result (text.now ≡ []) }
 {
     let bytes = text.as_bytes();
-    if bytes.len() < 4 {
+    if bytes.len() < 4 || bytes[0] < 128 {
         let mut iter = text.chars();
         let c = iter.next()?;
         return Some((c, iter.as_str()));
