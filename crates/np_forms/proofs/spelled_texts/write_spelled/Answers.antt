@@ -78,7 +78,7 @@ words-preserved g c =
     let has = spelled-assigned v c.meets_conditions.ensures form c.in-Some.c _ _ c.in-Some-spelled.ensures in (
       goes-both v form text rest later c.args.out.now c.words.out new c.words.invariant.0
           (goes-both v form rest here later c.words.out between new c.in_ok-append_staying-2.ensures
-              (goes-made v form here later spelled.list between new spelled.made (c.in_ok-append_first.ensures ∙ ap (λ l. between ++ l) spelled.is))),
+          (goes-made v form here later spelled.list between new spelled.made (c.in_ok-append_first.ensures ∙ ap (λ l. between ++ l) spelled.is))),
       IsReadAssigned-both v text rest later c.words.invariant.1
           (IsReadAssigned-next v rest here c.in-Some.c later (staying_read v form rest here (staying_ascii v form c.ascii_stands-ascii.result (λ is d lt. (c.ascii_stands-ascii.ensures.stays is d lt, c.ascii_stands-ascii.ensures.assigned is d lt)) c.words.rest.now here c.behind_ascii-here.ensures)) begins has),
     )
