@@ -40,12 +40,12 @@ module _ (text : List ℕ) (size code : ℕ) (utf8 : IsUtf8 text) (some : 0 < le
   byte i = get_or text i 0
 
   -- one of several bytes
-  pub begins_any : 128 ≤ byte 0 → (byte 0 < 224 → size ≡ 2) → (224 ≤ byte 0 → byte 0 < 240 → size ≡ 3) → (240 ≤ byte 0 → size ≡ 4)
+  pub begins_with_several : 128 ≤ byte 0 → (byte 0 < 224 → size ≡ 2) → (224 ≤ byte 0 → byte 0 < 240 → size ≡ 3) → (240 ≤ byte 0 → size ≡ 4)
       → (byte 0 < 224 → code ≡ byte 0 % 32 * 64 + byte 1 % 64)
       → (224 ≤ byte 0 → byte 0 < 240 → code ≡ byte 0 % 16 * 4096 + byte 1 % 64 * 64 + byte 2 % 64)
       → (240 ≤ byte 0 → code ≡ byte 0 % 8 * 262144 + byte 1 % 64 * 4096 + byte 2 % 64 * 64 + byte 3 % 64)
       → BeginsWith text size code
-  begins_any several s2 s3 s4 c2 c3 c4 =
+  begins_with_several several s2 s3 s4 c2 c3 c4 =
       let a = first_of text utf8 some in
       let k = a.k in
       elim (cases_lt k 0x80) [
