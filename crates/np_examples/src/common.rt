@@ -65,8 +65,8 @@ pub(crate) const LETTERS: Files = (
     "",
 );
 
-/// How often a piece stands before and behind what a long text is about: more than the code points that are
-/// looked at one by one, and a few steps of many bytes.
+/// How often a piece stands before and behind what a long text is about: more than the bytes of which the code points
+/// are looked at one by one, and a few steps of many bytes.
 const TIMES: u32 = 100;
 
 fn push_often(text: &mut String, piece: &str) -> Result<(), Memory> {

@@ -105,13 +105,13 @@ fn pass_next<'a>(
     Some((next, iter.as_str()))
 }
 
-/// How many code points, or runs of ASCII, are passed one by one before several are at once: where a form changes
-/// much, what stands between is shorter.
-const FEW: usize = 128;
+/// How many bytes are passed one code point, or run of ASCII, after the other before several are at once: where a
+/// form changes much, what stands between is shorter.
+const FEW: usize = 256;
 
-/// Passes the first `FEW` code points and runs of ASCII of a text that by their steps may follow one another as they
-/// are, the first of them behind a step of `low`. Answers the least step that may follow, what stands behind them,
-/// and whether it ends there.
+/// Passes code points and runs of ASCII at the front of a text, as far as `FEW` bytes go, that by their steps may
+/// follow one another as they are, the first of them behind a step of `low`. Answers the least step that may follow,
+/// what stands behind them, and whether it ends there.
 #[inline(always)]
 fn pass_few<'a>(
     blocks: &[u16],
@@ -132,16 +132,18 @@ fn pass_few<'a>(
     ensures shorter { result.2 ≡ false → length result.1.now < length text.now }
     ensures utf8 { IsUtf8 result.1.now }
 {
+    // it is some end of the text, so that one comparison tells that there is a next one too
+    let stop = text.len().saturating_sub(FEW);
     let mut rest = text;
     let mut now = low;
-    for _ in 0..FEW {
+    'few: while rest.len() > stop {
         let Some((next, later)) = pass_next(blocks, steps, ascii, least, now, form, rest) else {
             return (now, rest, true);
         };
         now = next;
         rest = later;
     }
-    (now, rest, rest.len() == text.len())
+    (now, rest, rest.is_empty())
 }
 
 /// Passes the code points at the front of a text that by their steps may follow one another as they are, the
