@@ -29,6 +29,8 @@ def drawn_event(source, sent):
         return f"deliver {node} {source.randrange(sent + 2)}"
     if chance < 0.92:
         return f"ask {node} {source.choice(LETTERS)} / {source.choice(LETTERS)}"
+    if chance < 0.9202:
+        return f"forget {node} {drawn_string(source)}"
     return f"upgrade {node}" if chance < 0.9999 else f"{source.choice(('save', 'restart'))} {node}"
 
 

@@ -1,12 +1,14 @@
 #!/usr/bin/env python3
-"""Runs the program over the published Unicode Character Database: tests/conformance.py [FOLDER].
+"""Runs the program over the published Unicode Character Database: tests/conformance.py [FOLDER [EARLIER..]].
 
-Takes the files of the folder, or of Debian's package unicode-data. Worked examples of each command;
-all of NormalizationTest.txt; random texts against two implementations that no one here wrote; the
-count of records and of assigned code points; a break of each kind; versions of several ages against
-each other; texts cut at random places (cuttings.py); and long histories of nodes over these versions
-against a model (histories.py). What can't be done here is skipped, with the reason. Ends in a line
-'N passed, M failed'.
+Takes the files of the folder, or of Debian's package unicode-data, and those of earlier published
+versions, one folder each, or those that ./published fetched. Worked examples of each command; all of
+each version's NormalizationTest.txt; random texts against two implementations that no one here wrote;
+the count of records and of assigned code points; a break of each kind; versions of several ages
+against each other; published versions against each other, and keys that go back to earlier ones
+(neighbours.py); texts cut at random places (cuttings.py); and long histories of nodes over these
+versions against a model (histories.py). What can't be done here is skipped, with the reason. Ends in a
+line 'N passed, M failed'.
 
 Strings go through the program joined by LF, a starter that composes with nothing, so one run serves
 a form. Nothing here is drawn by chance: the seed is fixed.
@@ -26,8 +28,9 @@ sys.dont_write_bytecode = True
 
 import ucd
 from cuttings import check_cuttings
-from harness import FORMS, Tally, built_program, run
+from harness import FORMS, ROOT, Tally, built_program, run
 from histories import check_histories
+from neighbours import (Version, check_audits, check_forms, check_lagging, cut_versions, earlier_versions)
 
 # The column, from 0, that the form of each of the five columns is.
 WANTED = {
@@ -109,14 +112,14 @@ def forms_of(program, form, versions, strings, command="normalize"):
     return pieces, None
 
 
-def check_lines(tally, program, form, versions, lines):
+def check_lines(tally, program, form, versions, lines, name):
     """Each column of each line of NormalizationTest.txt against the column that its form is."""
     got, fault = forms_of(program, form, versions, [c for _, columns, _ in lines for c in columns])
     if not tally.check(f"{form} of the test's columns", fault is None, fault):
         return
     wrong = [number for at, (number, columns, _) in enumerate(lines)
              if any(got[5 * at + k] != columns[WANTED[form][k]] for k in range(5))]
-    print(f"{form}: {len(lines) - len(wrong)} of {len(lines)} lines of NormalizationTest.txt passed")
+    print(f"{form}: {len(lines) - len(wrong)} of {len(lines)} lines of {name}'s NormalizationTest.txt passed")
     tally.check(f"{form}: lines of NormalizationTest.txt", not wrong, f"lines {wrong[:20]}")
 
 
@@ -132,16 +135,36 @@ def check_unlisted(tally, program, form, versions, lines):
         tally.check(f"{form}: unlisted code points", not wrong, f"changed {wrong[:20]}")
 
 
-def check_normalization_test(tally, program, published):
-    text = ucd.text_of(published.files, "NormalizationTest.txt")
+def check_normalization_test(tally, program, files, versions, name):
+    """All of a version's own test file."""
+    text = ucd.text_of(files, "NormalizationTest.txt")
     if text is None:
-        print("skipped: lines of NormalizationTest.txt: the file is not there")
+        print(f"skipped: lines of NormalizationTest.txt of {name}: the file is not there")
         return
     lines = ucd.test_strings(text)
     tally.check("NormalizationTest.txt has a part 1", any(single for _, _, single in lines), "it has none")
     for form in FORMS:
-        check_lines(tally, program, form, published.versions, lines)
-        check_unlisted(tally, program, form, published.versions, lines)
+        check_lines(tally, program, form, versions, lines, name)
+        check_unlisted(tally, program, form, versions, lines)
+
+
+def check_neighbours(tally, program, published, earlier, folder):
+    """Published versions beside one another, and keys of the newest one under all earlier ones, cut where
+    there is no published one."""
+    newest = Version("the published version", published.versions, published.assigned)
+    for version, files in earlier:
+        check_normalization_test(tally, program, files, version.files, version.name)
+    versions = [version for version, _ in earlier]
+    check_audits(tally, program, [*versions, newest])
+    strings = ucd.each_test_string(published.files)
+    if strings is not None:
+        check_forms(tally, program, [*versions, newest], [text for text in strings if "\n" not in text])
+    if "DerivedAge.txt" not in published.files:
+        print("skipped: keys under versions of all ages: DerivedAge.txt is not there")
+        return
+    names = {version.name: version for version in versions}
+    cut = [names.get(version.name, version) for version in cut_versions(published, folder)]
+    check_lagging(tally, program, cut, newest, published.rows)
 
 
 def python_forms(form, strings):
@@ -336,8 +359,11 @@ def check_breaks(tally, program, published, folder):
 def main():
     if len(sys.argv) > 1:
         files, why = ucd.folder_files(Path(sys.argv[1]))
+        folders = list(map(Path, sys.argv[2:]))
     else:
         files, why = ucd.package_files()
+        fetched = ROOT / "out" / "published"
+        folders = list(fetched.iterdir()) if fetched.is_dir() else []
     tally = Tally()
     if files is None and len(sys.argv) > 1:
         tally.check("the folder of published files", False, why)
@@ -349,16 +375,20 @@ def main():
     if not tally.check("the program is built", program is not None, "the launcher could not build it"):
         tally.finish()
     published = Published(files)
+    earlier = list(earlier_versions(folders))
+    if not earlier:
+        print("skipped: published versions beside one another: ./published fetches earlier ones")
     with tempfile.TemporaryDirectory() as folder:
         check_examples(tally, program, published)
         check_counts(tally, program, published, Path(folder))
-        check_normalization_test(tally, program, published)
+        check_normalization_test(tally, program, published.files, published.versions, "the published version")
         check_random_texts(tally, program, published)
         check_compared_pairs(tally, program, published)
         check_cuttings(tally, program, published.versions, ucd.each_test_string(published.files))
         check_breaks(tally, program, published, Path(folder))
         check_ages(tally, program, published, Path(folder))
-        check_histories(tally, program, published, AGES, Path(folder))
+        check_neighbours(tally, program, published, earlier, Path(folder))
+        check_histories(tally, program, published, AGES, [version for version, _ in earlier], Path(folder))
     tally.finish()
 
 

@@ -1,14 +1,17 @@
 #!/usr/bin/env python3
-"""Checks the reading list of docs/DEFINITIONS.md and each path that the documents name.
+"""Checks the reading list of docs/DEFINITIONS.md, each path that the documents name, and the pages' lengths.
 
-docs/DEFINITIONS.md has a table: a promise, the files that a reader must believe for it in reading order,
-how many lines of statements they have, which are neither blank nor comment nor import, and how many lines
-in all. Each file has to exist, what it imports has to stand before it in its row, each file of definitions
-that a contract may cite has to be there, none of them may import one of `inside`, and the numbers have to
-be right; the table's last row has those of all files, each counted once. `--write` puts all of this right
-but for the imports of `inside`: it adds to a row what its files import, and at the end a row for the files
-of a crate that no row has. In the table 'Where is' of docs/ARCHITECTURE.md each name has to stand in the
-file before it. Prints the sums, and ends in a line 'N passed, M failed'.
+    tests/definitions.py              checks
+    tests/definitions.py --write      puts the two tables of docs/DEFINITIONS.md right
+    tests/definitions.py --for NAME   prints what to read for the contract of that name, in reading order
+
+The first table has each file that a reader must believe once: what it defines, by its own first comment,
+what it needs, and how many lines of statements it has, which are neither blank nor comment nor import.
+The second has for each promise the public contracts that carry it, the files that these cite
+(contracts.py finds them), and the statements of these with all that they need. Each file of definitions
+outside `inside` has to be reached by a promise; none may import one of `inside`; a public contract that
+cites one of `inside` has to be named below the tables. In the table 'Where is' of docs/ARCHITECTURE.md
+each name has to stand in the file before it. Prints the sums, and ends in a line 'N passed, M failed'.
 """
 
 import re
@@ -18,6 +21,8 @@ from pathlib import Path
 # Nothing is written into the tree but what `--write` puts right.
 sys.dont_write_bytecode = True
 
+import pages
+from contracts import CRATES, public_contracts
 from harness import ROOT, Tally
 
 DEFINITIONS = ROOT / "docs" / "DEFINITIONS.md"
@@ -25,14 +30,14 @@ ARCHITECTURE = ROOT / "docs" / "ARCHITECTURE.md"
 CODE = re.compile(r"`([^`\n]+)`")
 INSIDE = re.compile(r"^\s*(?:pub )?use Rattle\.\w+\.specs\.inside\b", re.MULTILINE)
 IMPORT = re.compile(r"^\s*(?:pub )?use Rattle\.(\w+)\.specs\.(\w+)\b", re.MULTILINE)
+# Crates whose definitions are the toolchain's own, as std's are.
+OF_THE_LANGUAGE = ("std", "std_collections", "std_io", "std_alloc")
 # What a path in a document may stand for a part of.
 ROOTS = ("", "crates")
 ENDINGS = ("", ".antt", ".rt")
 # The folders that each crate may have, of which documents speak in general.
 OF_A_CRATE = ("src", "specs", "proofs", "must-fail", "out")
-# A row of the table: a promise, its files, and how much is to be read; and the last one, for all files.
-ROW = re.compile(r"^\| (?P<promise>[^|]+) \| (?P<files>[^|]*`[^|]*) \| (?P<said>[\d,]+) \| (?P<lines>[\d,]+) \|$")
-WHOLE = re.compile(r"^\| all of it \| each file once \| (?P<said>[\d,]+) \| (?P<lines>[\d,]+) \|$")
+FILES, PROMISES = "## The files, in reading order", "## What a promise rests on"
 
 
 def documents():
@@ -72,43 +77,29 @@ def believed():
 def imported(path):
     """The files of definitions of this repository that a file of definitions imports."""
     for crate, module in IMPORT.findall(path.read_text(encoding="utf-8")):
-        here = ROOT / "crates" / crate / "specs" / f"{module}.antt"
+        here = CRATES / crate / "specs" / f"{module}.antt"
         if here.exists() and here != path:
             yield here
 
 
-def lines_of(path):
-    return len(path.read_text(encoding="utf-8").splitlines())
+def ported():
+    """The definitions of ported crates that files to be believed import, by crate."""
+    own = {path.name for path in CRATES.iterdir()}
+    return {(crate, module) for path in believed() for crate, module in IMPORT.findall(path.read_text(encoding="utf-8"))
+            if crate not in own and crate not in OF_THE_LANGUAGE}
 
 
-def said_in(path):
-    """How many lines are statements: neither blank nor a comment nor an import."""
+def statements(paths):
+    """How many lines of these files are statements: neither blank nor a comment nor an import."""
+    return sum(1 for path in paths for line in path.read_text(encoding="utf-8").splitlines()
+               if line.strip() and not re.match(r"\s*--|(pub )?use ", line))
+
+
+def head_of(path):
+    """What a file defines, by the comment that it begins with."""
     lines = path.read_text(encoding="utf-8").splitlines()
-    return sum(1 for line in lines if line.strip() and not re.match(r"\s*--|(pub )?use ", line))
-
-
-def sums(paths):
-    """The lines of statements of these files, and their lines."""
-    return sum(map(said_in, paths)), sum(map(lines_of, paths))
-
-
-def numbers(match):
-    """The two numbers of a row, as written."""
-    return tuple(int(match[name].replace(",", "")) for name in ("said", "lines"))
-
-
-def reading_list(text):
-    """The rows of the table: promise, files as written, the two numbers as written."""
-    for line in text.splitlines():
-        match = ROW.match(line)
-        if match:
-            yield match["promise"], CODE.findall(match["files"]), numbers(match)
-
-
-def whole(text):
-    """The two numbers of the last row, as written, or None."""
-    matches = list(filter(None, map(WHOLE.match, text.splitlines())))
-    return numbers(matches[0]) if len(matches) == 1 else None
+    head = [line.removeprefix("--").strip() for line in lines[:next(at for at, line in enumerate(lines) if not line.startswith("--"))]]
+    return " ".join(head).rstrip(".").replace("|", "\\|")
 
 
 def in_order(paths, before=()):
@@ -121,65 +112,118 @@ def in_order(paths, before=()):
     return ordered
 
 
-def row_of(promise, paths):
-    """The row of a promise, for which these files are to be believed."""
-    ordered = in_order(paths)
-    names = ", ".join(f"`{path.relative_to(ROOT / 'crates').with_suffix('')}`" for path in ordered)
-    said, lines = sums(ordered)
-    return f"| {promise} | {names} | {said:,} | {lines:,} |"
+def name_of(path):
+    return str(path.relative_to(CRATES).with_suffix(""))
+
+
+def reading_order():
+    """All files to be believed, each behind what it needs, the lowest crate's first."""
+    crates = re.findall(r"^(\w+)(?: \w+)*:", (ROOT / "crates.txt").read_text(encoding="utf-8"), re.MULTILINE)
+    return in_order(sorted(believed(), key=lambda path: (crates.index(path.parts[-3]), path.name)))
+
+
+def contracts_by_name():
+    """The public contracts by file and name."""
+    named = {}
+    for contract in public_contracts():
+        for name in (contract.name, contract.name.removesuffix(" (model)")):
+            named.setdefault((str(contract.file.relative_to(CRATES)), name), []).append(contract)
+    return named
+
+
+def cited_files(contracts):
+    """The files to be believed that these contracts cite."""
+    return sorted({module.file for contract in contracts for module in contract.cites
+                   if module.file and not module.is_inside})
+
+
+def contracts_of(cell, named):
+    """The contracts that a cell names: a file and the names in it, and those of which there is none."""
+    file, contracts, missing = None, [], []
+    for token in CODE.findall(cell):
+        if "/" in token:
+            file = token
+        elif (file, token) in named:
+            contracts += named[file, token]
+        else:
+            missing.append(f"{file} {token}")
+    return contracts, missing
+
+
+def promises(text):
+    """The rows of the second table: promise, contracts, files, statements as written."""
+    table = text.partition(f"\n{PROMISES}\n")[2].partition("\n## ")[0]
+    for line in table.splitlines():
+        cells = [cell.strip() for cell in line.strip()[1:-1].split("|")]
+        if line.startswith("|") and len(cells) == 4 and "`" in cells[1]:
+            yield cells
+
+
+def row_of(promise, cell, named):
+    """The row of a promise, with its files and statements put right."""
+    files = cited_files(contracts_of(cell, named)[0])
+    names = ", ".join(f"`{name_of(path)}`" for path in files)
+    return f"| {promise} | {cell} | {names} | {statements(in_order(files)):,} |"
+
+
+def table_of_files():
+    """The first table."""
+    lines = ["| File | What it defines | Needs | Statements |", "|---|---|---|---|"]
+    for path in reading_order():
+        needs = ", ".join(f"`{name_of(here)}`" for here in sorted(set(imported(path)), key=name_of)) or "-"
+        lines.append(f"| `{name_of(path)}` | {head_of(path)} | {needs} | {statements([path]):,} |")
+    return [*lines, f"| all of it | | | {statements(believed()):,} |"]
 
 
 def put_right(text):
-    """The text with all files and the right number of lines in each row, and a row for files that none has."""
-    lines, listed, last = [], set(), 0
-    for line in text.splitlines():
-        match = ROW.match(line)
-        if match:
-            paths = [path for path in map(found, CODE.findall(match["files"])) if path]
-            listed.update(in_order(paths))
-            line, last = row_of(match["promise"], paths), len(lines) + 1
-        if WHOLE.match(line):
-            continue
-        lines.append(line)
-    others = sorted(believed() - listed)
-    for crate in sorted({path.parts[-3] for path in others}):
-        rest = [path for path in others if path.parts[-3] == crate]
-        lines.insert(last, row_of(f"what else the contracts of {crate} say", rest))
-        last += 1
-    said, all_lines = sums(believed())
-    lines.insert(last, f"| all of it | each file once | {said:,} | {all_lines:,} |")
-    return "".join(line + "\n" for line in lines)
-
-
-def check_sums(tally, what, files, written):
-    """The numbers of a row are those of its files. Prints them."""
-    said, lines = sums(files)
-    tally.check(f"{what}: sums", (said, lines) == written,
-                f"{said} and {lines}, and not {written}: run tests/definitions.py --write")
-    print(f"{what}: {len(files)} files, {said} lines of statements, {lines} lines in all")
+    """The text with both tables put right."""
+    named = contracts_by_name()
+    before, _, rest = text.partition(f"\n{FILES}\n")
+    _, _, behind = rest.partition("\n## ")
+    text = "\n".join([before, FILES, "", *table_of_files(), "", f"## {behind}"])
+    for promise, cell, *_ in list(promises(text)):
+        line = next(line for line in text.splitlines() if line.startswith(f"| {promise} | {cell} |"))
+        text = text.replace(f"{line}\n", f"{row_of(promise, cell, named)}\n")
+    return text
 
 
 def check_reading_list(tally):
-    """Each file is there, none imports what is inside, all are listed, and the lines are right."""
-    listed, text = set(), DEFINITIONS.read_text(encoding="utf-8")
-    for promise, names, written in reading_list(text):
-        files = [found(name) for name in names]
-        for name, path in zip(names, files):
-            tally.check(f"{promise}: {name}", path is not None and path.is_file(), "no such file")
-        files = [path for path in files if path]
-        listed.update(files)
-        for at, path in enumerate(files):
-            missing = [here.relative_to(ROOT) for here in imported(path) if here not in files[:at]]
-            tally.check(f"{promise}: what {path.relative_to(ROOT)} imports stands before it", not missing,
-                        f"not so: {', '.join(map(str, missing))}")
-        check_sums(tally, promise, files, written)
+    """Both tables are right, and each file is reached by a promise."""
+    text, named, reached = DEFINITIONS.read_text(encoding="utf-8"), contracts_by_name(), set()
+    tally.check("docs/DEFINITIONS.md: both tables are right", put_right(text) == text, "run tests/definitions.py --write")
+    for promise, cell, *_ in promises(text):
+        contracts, missing = contracts_of(cell, named)
+        tally.check(f"{promise}: its contracts", contracts and not missing, f"there is none of {', '.join(missing) or 'them'}")
+        files = in_order(cited_files(contracts))
+        reached.update(files)
+        print(f"{promise}: {len(files)} files, {statements(files):,} lines of statements")
     for path in sorted(believed()):
-        name = path.relative_to(ROOT)
-        tally.check(f"{name} is in docs/DEFINITIONS.md", path in listed, "it is not")
-        tally.check(f"{name} imports nothing of inside", not INSIDE.search(path.read_text(encoding="utf-8")),
+        tally.check(f"{name_of(path)} is reached by a promise", path in reached, "it is not")
+        tally.check(f"{name_of(path)} imports nothing of inside", not INSIDE.search(path.read_text(encoding="utf-8")),
                     "it does")
-    tally.check("there is a reading list", listed, "the table has no row")
-    check_sums(tally, "all of it, each file once", listed, whole(text))
+    for crate, module in sorted(ported()):
+        tally.check(f"the definitions of {crate} are spoken of", f"`{crate}`" in text, f"{module} is imported")
+    print(f"all of it: {len(believed())} files, {statements(believed()):,} lines of statements")
+
+
+def check_inside(tally):
+    """The public contracts that cite what serves proofs are those that the page names."""
+    text = DEFINITIONS.read_text(encoding="utf-8").partition("\n## What is inside")[2]
+    named = set(CODE.findall(text))
+    citing = {contract.where.split()[1] for contract in public_contracts() if not contract.name.endswith("(model)")
+              and any(module.is_inside for module in contract.cites) and is_exported(contract)}
+    for name in sorted(citing - named):
+        tally.check(f"docs/DEFINITIONS.md names {name}, which cites what is inside", False, "it doesn't")
+    tally.check("contracts that cite what is inside are named", citing <= named, "")
+
+
+def is_exported(contract):
+    """Whether the crate passes the item on: its file's module is public, or a `pub use` names the file."""
+    crate = CRATES / contract.file.relative_to(CRATES).parts[0]
+    roots = [path for path in (crate / "src" / "lib.rt", crate / "src" / "main.rt") if path.exists()]
+    text = "\n".join(path.read_text(encoding="utf-8") for path in roots)
+    name = contract.file.stem
+    return name in ("lib", "main") or bool(re.search(rf"^pub (mod {name};|use ([\w:]+::)?{name}\b)", text, re.MULTILINE))
 
 
 def check_paths(tally):
@@ -206,13 +250,29 @@ def check_where(tally):
     tally.check("there is a table 'Where is'", len(rows) >= 20, f"{len(rows)} rows")
 
 
+def show_for(name):
+    """Prints what to read for a contract, in reading order."""
+    contracts = [contract for contract in public_contracts() if contract.name.removesuffix(" (model)") == name]
+    files = in_order(cited_files(contracts))
+    for contract in contracts:
+        print(f"# {contract.where}")
+    for path in files:
+        print(f"{statements([path]):5}  {name_of(path)}: {head_of(path)}")
+    print(f"{statements(files):5}  in all")
+    return 0 if contracts else 1
+
+
 def main():
+    if sys.argv[1:2] == ["--for"] and len(sys.argv) == 3:
+        sys.exit(show_for(sys.argv[2]))
     if sys.argv[1:] == ["--write"]:
         DEFINITIONS.write_text(put_right(DEFINITIONS.read_text(encoding="utf-8")), encoding="utf-8")
     tally = Tally()
     check_reading_list(tally)
+    check_inside(tally)
     check_paths(tally)
     check_where(tally)
+    pages.check_pages(tally)
     tally.finish()
 
 

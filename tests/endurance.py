@@ -137,8 +137,10 @@ def schedule(count):
             lines.append(f"deliver {node} {chance.randrange(1000)}")
         elif draw < 0.999:
             lines.append(f"ask {node} {chance.choice(names)} / {chance.choice(names)}")
+        elif draw < 0.9995:
+            lines.append(f"forget {node} {chance.choice(names)}")
         else:
-            lines.append(f"{chance.choice(('save', 'restart', 'upgrade'))} {node}")
+            lines.append(chance.choice(("save {}", "restart {}", "restart {} 0", "upgrade {}")).format(node))
     return "\n".join(lines) + "\n"
 
 

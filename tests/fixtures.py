@@ -7,7 +7,7 @@ v1/CompositionExclusions.txt, EXCHANGE_SCHEDULE and EXCHANGE_REPORT with scripts
 and scripts/exchange.report. Each has to have the other. The reports of the scripts are compared with those
 of history_model.py, the usage text of docs/FORMATS.md with that of the stored run, the forged images of a unit
 test and their answers with those of forged_images.py, and the Rust example of the README and of two crates with the
-unit test that runs it. Ends in a line 'N passed, M failed'.
+unit test that runs it. The manual page is compared with docs/FORMATS.md. Ends in a line 'N passed, M failed'.
 """
 
 import re
@@ -90,8 +90,31 @@ def check_example(tally):
                               (CRATES / "np_tables/src/lib.rt", "//! ```\n", "//! ")):
         block = page.read_text(encoding="utf-8").split(fence)[1].split("```")[0]
         lines = [line.removeprefix(sign).strip() for line in block.splitlines() if line.strip("/! ")]
-        tally.check(f"{page.relative_to(ROOT)} has the tested example",
-                    lines and all(f"    {line}\n" in tested for line in lines), f"{lines} in example.rt")
+        missing = [line for line in lines if not re.search(rf"^ *{re.escape(line)}$", tested, re.MULTILINE)]
+        tally.check(f"{page.relative_to(ROOT)} has the tested example", lines and not missing, f"{missing} in example.rt")
+
+
+def plain(roff):
+    """The text of a manual page without its marks."""
+    text = re.sub(r"^\.(TP|PP|RS|RE|nf|fi)$", "", roff, flags=re.MULTILINE)
+    text = re.sub(r"^\.(?:B|I|BR|BI|SH|TH) ?", "", text, flags=re.MULTILINE)
+    return re.sub(r"\\f[A-Z]", "", text).replace("\\-", "-").replace('"', "")
+
+
+def check_manual(tally, usage):
+    """The manual page has each line of the usage text, each status and each limit of docs/FORMATS.md."""
+    manual = plain((ROOT / "docs" / "npss.1").read_text(encoding="utf-8"))
+    formats = (ROOT / "docs" / "FORMATS.md").read_text(encoding="utf-8")
+    for line in usage.splitlines():
+        words = line.removeprefix("usage:").strip()
+        tally.check(f"docs/npss.1 has: {words}", f"\n{words}\n" in manual, "it has not")
+    statuses = formats.partition("| Status | Meaning |")[2].partition("\n\n")[0]
+    for number, meaning in re.findall(r"^\| (\d) \| ([^|]+) \|$", statuses, re.MULTILINE):
+        told = manual.partition("EXIT STATUS")[2].partition(f"\n{number}\n")[2].partition(f"\n{int(number) + 1}\n")[0].lower()
+        missing = [word for word in re.findall(r"[a-z]{4,}", meaning.lower()) if word not in told]
+        tally.check(f"docs/npss.1: status {number}", told and not missing, f"it lacks {missing}")
+    for limit in ("16,777,216", "4,294,967,295", "65,536", "1,000,000"):
+        tally.check(f"docs/npss.1: {limit}", limit in manual and (limit in formats or limit == "4,294,967,295"), "it is not there")
 
 
 def main():
@@ -105,6 +128,7 @@ def main():
     tally.check("docs/FORMATS.md has the usage text",
                 f"\n```\n{usage}```\n" in (ROOT / "docs" / "FORMATS.md").read_text(encoding="utf-8"))
     tally.check("there are fixtures", got, "fixtures/ has no file")
+    check_manual(tally, usage)
     forged_images.check(tally)
     check_example(tally)
     tally.finish()

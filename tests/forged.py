@@ -108,7 +108,7 @@ def check_messages(tally, program, folder):
     version = Version()
     entries = [(string.encode(), key.encode()) for string, key in ENTRIES]
     messages = [one for entry in entries for one in forged(*entry)]
-    messages += [b"C" + field(b"A" * 4096) + field(b"A" * 4096), b"C" + field(b"A" * 4097) + field(b"A" * 4097)]
+    messages += [b"C" + field(b"A" * size) + field(b"A" * size) for size in (65_536, 65_537)]
     for room in (0, 1, 4096):
         lines = [f"room {room}", "nodes 0", *(f"forge 0 {one.hex()}".strip() for one in messages + messages)]
         schedule = "\n".join(lines) + "\n"
@@ -142,9 +142,11 @@ def stands(number, words, nodes, versions):
     if len(words) < 2 or not NUMBER.fullmatch(words[1]) or int(words[1]) >= nodes:
         return False
     name, rest = words[0], words[2:]
-    if name in ("upgrade", "save", "restart"):
+    if name in ("upgrade", "save"):
         return not rest
-    if name == "accept":
+    if name == "restart":
+        return not rest or len(rest) == 1 and bool(NUMBER.fullmatch(rest[0])) and int(rest[0]) < versions
+    if name in ("accept", "forget"):
         return are_codes(rest)
     if name == "deliver":
         return len(rest) == 1 and bool(NUMBER.fullmatch(rest[0]))
@@ -153,8 +155,8 @@ def stands(number, words, nodes, versions):
     return name == "forge" and len(rest) <= 1 and all(re.fullmatch(r"([0-9A-Fa-f]{2})*", word) for word in rest)
 
 
-LINES = ["room 4", "nodes 0 0", "accept 0 0061 0302", "deliver 1 0", "save 1", "restart 1", "upgrade 0",
-         "ask 1 0061 0302 / 0061", "forge 1 430000000141", "forge 0"]
+LINES = ["room 4", "nodes 0 0", "accept 0 0061 0302", "deliver 1 0", "save 1", "restart 1", "restart 1 0", "upgrade 0",
+         "forget 0 0061 0302", "ask 1 0061 0302 / 0061", "forge 1 430000000141", "forge 0"]
 WORDS = ["0", "9", "000000001", "999999999", "1234567890", "/", "-1", "+1", "D800", "DFFF", "10FFFF", "110000", "061", "0000061",
          "ab", "abc", "save", "#"]
 NUMBERS = ["999999999", "1234567890"]

@@ -61,13 +61,18 @@ class Names:
             words[0] += "".join(source.choice(self.non_starters) for _ in range(source.randint(1, 5)))
         elif chance < 0.36:
             words.append(source.choice(self.nowhere))
-        elif chance < 0.362:
-            words.append(source.choice(self.fixed) * 1_400)
         return self.respelled(" ".join(words))
 
+    def long(self):
+        """A word as often as a string has room for, or once more."""
+        word = self.source.choice(self.fixed)
+        return word * (history_model.MOST_BYTES // len(word.encode()) + self.source.randrange(2))
+
     def drawn(self):
-        """A fresh name, an old one, or an old one in another spelling."""
+        """A fresh name, an old one, or an old one in another spelling; now and then a long one."""
         chance = self.source.random()
+        if chance < 0.0001:
+            return self.long()
         if chance < 0.4:
             self.made.append(self.fresh())
             return self.made[-1]
@@ -103,8 +108,10 @@ def forged(source, names, world):
         bad = string.encode() + source.choice((b"\xff", b"\xcc", b"\xed\xa0\x80", b"\xe1\xba"))
         data = message(form, bad, key.encode())
     elif kind == 25:
-        long = ((string + "a").encode() * 4_097)[:source.choice((4_096, 4_097))]
-        data = message(form, long, key.encode())
+        if source.random() < 0.1:
+            most = history_model.MOST_BYTES
+            long = ((string + "a").encode() * (most + 1))[:source.choice((most, most + 1))]
+            data = message(form, long, key.encode())
     return data
 
 
@@ -116,6 +123,9 @@ def drawn_event(source, names, world):
         return f"accept {number} {words_of(names.drawn())}"
     if chance < 0.75:
         return f"deliver {number} {source.randrange(len(world.sent) * 21 // 20 + 2)}"
+    if chance < 0.78:
+        kept = source.choice(tuple(node.strings) or ("",))
+        return f"forget {number} {words_of(kept if source.random() < 0.8 else names.drawn())}"
     if chance < 0.90:
         kept = source.choice(tuple(node.strings) or ("",))
         other = source.choice((names.respelled(kept), world.key(kept), source.choice(tuple(node.strings) or ("",))))
@@ -123,8 +133,10 @@ def drawn_event(source, names, world):
         return f"ask {number} {' / '.join(map(words_of, sides))}"
     if chance < 0.985:
         return f"forge {number} {forged(source, names, world).hex()}"
-    if chance < 0.993:
+    if chance < 0.992:
         return f"save {number}"
+    if chance < 0.996:
+        return f"restart {number} {source.randrange(len(world.versions))}"
     return f"restart {number}" if chance < 0.999 else f"upgrade {number}"
 
 
@@ -153,14 +165,18 @@ def draw_history(published, known, versions, form):
     return "".join(schedule), [*report, *world.lines()]
 
 
-def write_chain(published, ages, folder):
-    """A version of each age and the published one, each as two files, and what each assigns."""
+def write_chain(published, ages, earlier, folder):
+    """A version of each age and the published one, each as two files, and what each assigns; those that
+    were published themselves in place of those cut to their age."""
     files, versions = [], []
+    own = {version.name: version for version in earlier}
     for age in ages:
         names, kept = ucd.write_cut(published.files, age, folder)
-        if published.assigned & kept != published.assigned:
-            files += names
-            versions.append(published.assigned & kept)
+        version = own.get(".".join(map(str, age)))
+        assigned = version.assigned if version else published.assigned & kept
+        if assigned != published.assigned:
+            files += version.files if version else names
+            versions.append(assigned)
     return [*files, *published.versions], [*versions, published.assigned]
 
 
@@ -174,12 +190,12 @@ def check_report(tally, form, got, want):
     tally.check(f"replay under {form}: each line is the model's", wrong is None, f"the first other one: {wrong}")
 
 
-def check_histories(tally, program, published, ages, folder):
+def check_histories(tally, program, published, ages, earlier, folder):
     """A history under each form."""
     if "DerivedAge.txt" not in published.files:
         print("skipped: histories over versions of several ages: DerivedAge.txt is not there")
         return
-    files, versions = write_chain(published, ages, folder)
+    files, versions = write_chain(published, ages, earlier, folder)
     tally.check("the chain of the histories has five versions", len(versions) >= 5, f"it has {len(versions)}")
     known = {code for code in published.assigned
              if unicodedata.category(chr(code)) not in ("Cn", "Cs") and code != 0x0A}

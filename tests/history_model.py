@@ -6,7 +6,7 @@ the function that was handed in is asked for it.
 """
 
 FORM_BYTES = {"nfd": b"D", "nfc": b"C", "nfkd": b"d", "nfkc": b"c"}
-MOST_BYTES = 4096
+MOST_BYTES = 65_536
 
 
 def string_of(codes):
@@ -40,12 +40,14 @@ def message_in(data):
 
 
 class Node:
-    """The place of its version, the strings in their order, and those that were saved last."""
+    """The place of its version, the strings in their order, those that were saved last, and the place of
+    the version under which they were."""
 
     def __init__(self, index):
         self.index = index
         self.strings = {}
         self.saved = ()
+        self.saved_at = None
 
 
 class World:
@@ -117,12 +119,26 @@ class World:
         return f"version {node.index}"
 
     def save(self, node):
-        node.saved = tuple(node.strings)
+        node.saved, node.saved_at = tuple(node.strings), node.index
         return "saved"
 
-    def restart(self, node):
+    def restart(self, node, place=None):
+        """Under the node's own version, or under that of the place."""
+        if place is not None:
+            need = 0 if node.saved_at is None else len(self.versions[node.saved_at])
+            have = len(self.versions[int(place)])
+            if have < need:
+                return f"older tables {need} {have}"
+            node.index = int(place)
         node.strings = dict.fromkeys(node.saved)
         return "restarted"
+
+    def forget(self, node, *codes):
+        string = string_of(codes)
+        if string not in node.strings:
+            return "not kept"
+        del node.strings[string]
+        return "forgotten"
 
     def ask(self, node, *words):
         middle = words.index("/")

@@ -92,6 +92,9 @@ def check_building(tally, launcher, scratch):
     asked = (kit / "rt.asked").read_text(encoding="utf-8")
     tally.check("the launcher proves the libraries first", asked == "lib low\nrun npss\n", f"got {asked!r}")
     check("doesn't build again", call(str(kit)), 0, b"a b\n", None)
+    library.write_text("one more\n", encoding="utf-8")
+    check("tells each crate when it begins it", call(str(kit)), 0, b"a b\n",
+          b"\nnpss: crate low (1 of 2); 0 min 0")
     check("needs no toolchain once it is built", call(), 0, b"a b\n", None)
     source.write_text("two\n", encoding="utf-8")
     check("builds what changed", call(str(kit)), 0, b"a b\n", BUILDS)

@@ -4,14 +4,16 @@ from cases import BAD_TEXT, DEVICE, DIFFERENT, USAGE, WRONG_WORDS, Case, refused
 from harness import ROOT
 from versions import LIMIT, V1, V2, filled
 
-# The most events of a schedule, and the most nodes.
-EVENTS, NODES = 1_000_000, 64
+# The most events of a schedule, the most nodes, and the most bytes of a string.
+EVENTS, NODES, MOST_BYTES = 1_000_000, 64, 65_536
 
 # The scripts under fixtures/scripts: name, versions and form.
 SCRIPTS = [
     ("exchange", (*V1, *V2), "nfc"),
     ("restart", (*V1, *V2), "nfc"),
     ("forged", V1, "nfc"),
+    ("older", (*V1, *V2), "nfc"),
+    ("forgetting", V1, "nfc"),
 ]
 
 HEAD = "room 4\nnodes 0\n"
@@ -42,8 +44,25 @@ GOOD = [
     ("most-nodes", f"room 1\nnodes{' 0' * NODES}\nsave 63\n",
      "0 saved\n" + "".join(f"node {node} version 0 entries 0\n" for node in range(NODES))),
     ("greatest-room", "room 65536\nnodes 0\n", "node 0 version 0 entries 0\n"),
-    ("longest-string", HEAD + f"accept 0{' 0061' * 4096}\naccept 0{' 0061' * 4097}\n",
-     f"0 kept 0\n1 too long\nnode 0 version 0 entries 1\nentry {' '.join(['0061'] * 4096)} / {' '.join(['0061'] * 4096)}\n"),
+    ("longest-string", HEAD + f"accept 0{' 0061' * MOST_BYTES}\naccept 0{' 0061' * (MOST_BYTES + 1)}\n",
+     f"0 kept 0\n1 too long\nnode 0 version 0 entries 1\nentry {' '.join(['0061'] * MOST_BYTES)} / {' '.join(['0061'] * MOST_BYTES)}\n"),
+    # A code point of three bytes at the end decides by its last byte.
+    ("longest-by-bytes", HEAD + f"accept 0{' 0061' * (MOST_BYTES - 3)} AC00\naccept 0{' 0061' * (MOST_BYTES - 2)} AC00\n"
+     f"forget 0{' 0061' * (MOST_BYTES - 2)} AC00\n",
+     f"0 kept 0\n1 too long\n2 not kept\nnode 0 version 0 entries 1\n"
+     f"entry {' '.join(['0061'] * (MOST_BYTES - 3))} AC00 / {' '.join(['0061'] * (MOST_BYTES - 3))} AC00\n"),
+    ("forget-what-is-not-kept", HEAD + "forget 0\nforget 0 0061\nforget 0 0378\naccept 0\nforget 0\nforget 0\n",
+     "0 not kept\n1 not kept\n2 not kept\n3 kept 0\n4 forgotten\n5 not kept\nnode 0 version 0 entries 0\n"),
+    ("forget-keeps-the-order", HEAD + "accept 0 0061\naccept 0 0041\naccept 0 0066\nforget 0 0061\naccept 0 0061\ndeliver 0 0\n",
+     "0 kept 0\n1 kept 1\n2 kept 2\n3 forgotten\n4 kept 3\n5 known\nnode 0 version 0 entries 3\n"
+     "entry 0041 / 0041\nentry 0066 / 0066\nentry 0061 / 0061\n"),
+    ("forget-a-spelling", HEAD + "accept 0 00E2\naccept 0 0061 0302\nforget 0 00E2\nask 0 00E2 / 0061 0302\n",
+     "0 kept 0\n1 kept 1\n2 forgotten\n3 not kept\nnode 0 version 0 entries 1\nentry 0061 0302 / 00E2\n"),
+    ("forget-and-accept-in-turn", HEAD + "accept 0 0066\n" + "accept 0 0061\nforget 0 0061\n" * 1000 + "accept 0 0061\n",
+     "0 kept 0\n" + "".join(f"{2 * turn + 1} kept {turn + 1}\n{2 * turn + 2} forgotten\n" for turn in range(1000))
+     + "2001 kept 1001\nnode 0 version 0 entries 2\nentry 0066 / 0066\nentry 0061 / 0061\n"),
+    ("restart-before-any-save", HEAD + "accept 0 0041\nrestart 0 0\naccept 0 0041\n",
+     "0 kept 0\n1 restarted\n2 kept 1\nnode 0 version 0 entries 1\nentry 0041 / 0041\n"),
     ("forged", HEAD + "forge 0 430000000361cc8200000002c3a2\nforge 0 430000000361CC820000000361CC82\n"
      "forge 0 43ffffffff\nforge 0 000000000000000000\nforge 0 430000000361cc8200000002c3a200\n",
      "0 kept\n1 key differs\n2 malformed at 5\n3 malformed at 0\n4 malformed at 14\n"
@@ -71,6 +90,13 @@ BAD = [
     ("ten-digits", HEAD + "deliver 0 1234567890\n", 3),
     ("no-such-node", HEAD + "save 1\n", 3),
     ("one-word-more", HEAD + "save 0 0\n", 3),
+    ("restart-under-no-version", HEAD + "restart 0 1\n", 3),
+    ("restart-under-two", HEAD + "restart 0 0 0\n", 3),
+    ("restart-under-a-word", HEAD + "restart 0 x\n", 3),
+    ("upgrade-to-one", HEAD + "upgrade 0 0\n", 3),
+    ("forget-no-code", HEAD + "forget 0 61\n", 3),
+    ("forget-a-surrogate", HEAD + "forget 0 D800\n", 3),
+    ("forget-alone", HEAD + "forget\n", 3),
     ("no-such-event", HEAD + "send 0\n", 3),
     ("capital-event", HEAD + "Save 0\n", 3),
     ("second-room", HEAD + "room 4\n", 3),

@@ -1,6 +1,7 @@
 // replay FORM SCHEDULE: the report on a schedule over one version, by std::unordered_map and by ICU's
 // normalizeUTF8 and its own tables. It trusts the schedule. Messages and images are made and read as
 // npss has them, and keys that come in are compared with keys made anew.
+#include <cstddef>
 #include <cstdio>
 #include <cstdlib>
 #include <cstring>
@@ -19,7 +20,7 @@
 using std::string;
 using std::string_view;
 
-static const size_t MOST_BYTES = 4096;
+static const size_t MOST_BYTES = 65536;
 
 static const icu::Normalizer2 *normalizer;
 static char form_byte;
@@ -35,9 +36,13 @@ static string key_of(string_view text) {
     return key;
 }
 
-static void add_field(string &out, string_view field) {
+static void add_number(string &out, size_t number) {
     for (int shift = 24; shift >= 0; shift -= 8)
-        out += (char)(field.size() >> shift);
+        out += (char)(number >> shift);
+}
+
+static void add_field(string &out, string_view field) {
+    add_number(out, field.size());
     out += field;
 }
 
@@ -99,14 +104,17 @@ struct Node {
         entries.push_back({text, key});
     }
 
+    // As npss has it, but for the count of code points, which is 0.
     void save() {
-        image = "NPS1";
+        image = "NPS2";
         image += form_byte;
-        for (int shift = 24; shift >= 0; shift -= 8)
-            image += (char)(entries.size() >> shift);
+        add_number(image, 0);
+        add_number(image, entries.size());
         for (const Entry &entry : entries) {
             add_field(image, entry.text);
-            add_field(image, entry.key);
+            image += (char)(entry.key != entry.text);
+            if (entry.key != entry.text)
+                add_field(image, entry.key);
         }
     }
 
@@ -115,13 +123,29 @@ struct Node {
         places.clear();
         string_view rest = image;
         if (!rest.empty())
-            rest.remove_prefix(9);
+            rest.remove_prefix(13);
         while (!rest.empty()) {
-            string text(take_field(rest)), key(take_field(rest));
+            string text(take_field(rest)), key = text;
+            bool has_key = rest.at(0) != 0;
+            rest.remove_prefix(1);
+            if (has_key)
+                key = take_field(rest);
             if (!refusal(text).empty() || key_of(text) != key)
                 throw std::runtime_error("image");
             keep(text, key);
         }
+    }
+
+    string forget(const string &text) {
+        auto found = places.find(text);
+        if (found == places.end())
+            return "not kept";
+        size_t at = found->second;
+        places.erase(found);
+        entries.erase(entries.begin() + (std::ptrdiff_t)at);
+        for (; at < entries.size(); at++)
+            places[entries[at].text] = at;
+        return "forgotten";
     }
 };
 
@@ -201,6 +225,8 @@ static string happen(World &world, const char *line) {
         return world.accept(node, read_string(at));
     case 'd':
         return world.deliver(node, read_number(at));
+    case 'f':
+        return node.forget(read_string(at));
     case 'u':
         return "last version";
     case 's':

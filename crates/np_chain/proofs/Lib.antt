@@ -1,6 +1,9 @@
+pub mod AsManyLemmas
 pub mod AuditLemmas
+pub mod BackwardLemmas
 pub mod BreakLemmas
 pub mod ChainLemmas
+pub mod CodePointLemmas
 pub mod ExampleLemmas
 pub mod KindLemmas
 pub mod StabilityLemmas

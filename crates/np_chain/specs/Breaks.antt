@@ -38,7 +38,7 @@ pub record ComposesOld (old new : VersionData) (c : ℕ) : Type 0 where
   pub primary : IsPrimary new c
   pub parts : list_all (is_assigned old) (decomposition_mapping new c) ≡ true
 
--- the code point has a break of this kind
+-- the code point c, of at most 10FFFF (`Laws.AreOfCodePoints`), has a break of this kind
 abbrev pub HasBreak : VersionData → VersionData → ℕ → BreakKind → Type 0
 HasBreak old new c Lost = (is_assigned old c ≡ true) × (is_assigned new c ≡ false)
 HasBreak old new c ClassChanged = IsInBoth old new c × (class_of new c ≢ class_of old c)

@@ -11,7 +11,7 @@ pub record Keeps (a b : VersionData) (c : ℕ) : Type 0 where
   pub kind : decomposition_kind b c ≡ decomposition_kind a c
   pub mapping : decomposition_mapping b c ≡ decomposition_mapping a c
 
--- b extends a
+-- b extends a; each c that a premise admits is a code point, of at most 10FFFF (`Laws.AreOfCodePoints`)
 pub record Extends (a b : VersionData) : Type 0 where
   pub keeps : (c : ℕ) → is_assigned a c ≡ true → Keeps a b c
   pub old_composites : (c : ℕ) → IsPrimary a c → IsPrimary b c

@@ -5,6 +5,7 @@ pub mod ClassLemmas
 pub mod ComposeLemmas
 pub mod ComposerLemmas
 pub mod CopyLemmas
+pub mod CutLemmas
 pub mod DecomposedLemmas
 pub mod ExchangedLemmas
 pub mod FormLemmas

@@ -34,12 +34,12 @@ module _ (v : VersionData) (sound : IsSound v) (form : Form) where
   pub small_key : (string key : List ℕ) → length string ≤ most_bytes → IsUtf8 string → IsKey v form string key → length key < 2 ^ 32
   small_key string key short utf8 is =
       let most = length-key v form string key sound utf8 is.utf8 is.normal in
-      let within : length key ≤ 1048576 = omega (arith, most, short) in
+      let within : length key ≤ 16777216 = omega (arith, most, short) in
       omega (arith, within)
 
   pub fits-entry : (e : Entry) → IsEntry v form e → FitsFields e
   fits-entry e is =
-      let short : length e.string ≤ 4096 = is.keepable.short in
+      let short : length e.string ≤ 65536 = is.keepable.short in
       record { string = omega (arith, short); key = small_key e.string e.key is.keepable.short is.keepable.utf8 is.key }
 
 module _ (stability : Stability) (a b : VersionData) (sound_a : IsSound a) (sound_b : IsSound b) (ext : Extends a b) (form : Form) where

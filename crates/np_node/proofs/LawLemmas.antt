@@ -4,9 +4,10 @@ use Rattle.std.proofs.lemmas.Bool.{and_parts, cases_lt}
 use Rattle.std.proofs.lemmas.List.{take_all}
 use Rattle.std.proofs.lemmas.List.Elements.{All-weaker}
 use Rattle.std.specs.List.{list_all}
+use Rattle.np_chain.proofs.AsManyLemmas.{as_many_law}
 use Rattle.np_chain.proofs.ChainLemmas.{StandsAt-from}
 use Rattle.np_chain.proofs.StabilityLemmas.{stability}
-use Rattle.np_chain.specs.Chain.{Extends}
+use Rattle.np_chain.specs.Chain.{Extends, StandsAt}
 use Rattle.np_code_points.specs.Text.{IsLongestValidPrefix}
 use Rattle.np_code_points.specs.declared.forms.Form.{Form}
 use Rattle.np_forms.proofs.FormLemmas.{one_form, normal_form_is}
@@ -18,7 +19,7 @@ use Rattle.np_node.proofs.MessageLemmas.{one_message, one_message_fault}
 use Rattle.np_node.proofs.NodeLemmas.{IsNode-later, All-at, unlike-take}
 use Rattle.np_node.specs.Fields.{FitsFields}
 use Rattle.np_node.specs.Images.{Image, image_bytes, IsImage}
-use Rattle.np_node.specs.Laws.{Exchange, IsFairAnswer, FairExchange, Saved}
+use Rattle.np_node.specs.Laws.{Exchange, IsFairAnswer, FairExchange, NeverFewer, Saved}
 use Rattle.np_node.specs.Messages.{Message, message_bytes, IsMessage}
 use Rattle.np_node.specs.Nodes.{State, IsKept, IsNode}
 use Rattle.np_node.specs.Restoring.{Holds, IsWrong, IsFirstWrong, IsRestoreFault}
@@ -121,6 +122,12 @@ nothing-wrong v form count before e OtherForm is absent h = h
 nothing-wrong v form count before e Full is absent h = h
 nothing-wrong v form count before e Memory is absent h = h
 
+pub never_fewer : NeverFewer
+never_fewer vs i j v w in_v in_w le =
+    let v_stands = StandsAt-from vs i v in_v.chain in_v.here in
+    let w_stands = StandsAt-from vs j w in_w.chain in_w.here in
+    (as_many_law v w w_stands.sound (v_stands.later j w le in_w.here)).0
+
 pub saved : Saved
 saved vs i j w node in_v in_w le is =
     record { holds = later; spelled = spelled; taken = by }
@@ -128,8 +135,15 @@ saved vs i j w node in_v in_w le is =
     w_sound : IsSound w
     w_sound = (StandsAt-from vs j w in_w.chain in_w.here).sound
 
+    v_stands : StandsAt vs i node.version
+    v_stands = StandsAt-from vs i node.version in_v.chain in_v.here
+
     ext : Extends node.version w
-    ext = (StandsAt-from vs i node.version in_v.chain in_v.here).later j w le in_w.here
+    ext =
+        elim (cases_lt j i) [
+          | inl before ↦ (as_many_law w node.version v_stands.sound (v_stands.earlier j w (omega (arith, before)) in_w.here)).1 le
+          | inr behind ↦ v_stands.later j w behind in_w.here
+        ]
 
     later : IsNode (record node { version = w })
     later = IsNode-later stability node w w_sound ext is

@@ -7,4 +7,5 @@ pub mod NodeLemmas
 pub mod ReadingLemmas
 pub mod EntryLemmas
 pub mod FillLemmas
+pub mod ForgetLemmas
 pub mod LawLemmas

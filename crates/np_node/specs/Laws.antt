@@ -12,6 +12,7 @@ use Rattle.np_node.specs.Taking.{AnswersTake}
 use Rattle.np_node.specs.declared.faults.NodeFault.{NodeFault}
 use Rattle.np_node.specs.declared.faults.NodeFault.TheVariants.{Malformed, OtherForm, TooLong, NotUtf8, Unassigned, KeyDiffers, Full, Memory}
 use Rattle.np_node.specs.declared.taking.Taken.{Taken}
+use Rattle.np_tables.specs.Counts.{assigned_count}
 use Rattle.np_tables.specs.Versions.{VersionData}
 use Rattle.std.specs.Prelude.{chars}
 
@@ -62,5 +63,9 @@ pub record IsSavedAs (node : State) (w : VersionData) : Type 0 where
       → IsRestoreFault w node.form node.room (image_bytes (record { form = node.form; entries = node.entries })) entry fault → fault ≡ Memory
 
 abbrev pub Saved : Type 0
-Saved = (vs : List VersionData) (i j : ℕ) (w : VersionData) (node : State) → IsIn vs i node.version → IsIn vs j w → i ≤ j
-    → IsNode node → IsSavedAs node w
+Saved = (vs : List VersionData) (i j : ℕ) (w : VersionData) (node : State) → IsIn vs i node.version → IsIn vs j w
+    → assigned_count node.version ≤ assigned_count w → IsNode node → IsSavedAs node w
+
+-- a later version of a chain has no fewer assigned code points
+abbrev pub NeverFewer : Type 0
+NeverFewer = (vs : List VersionData) (i j : ℕ) (v w : VersionData) → IsIn vs i v → IsIn vs j w → i ≤ j → assigned_count v ≤ assigned_count w

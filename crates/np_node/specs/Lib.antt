@@ -1,6 +1,7 @@
 pub mod Accepting
 pub mod Comparing
 pub mod Fields
+pub mod Forgetting
 pub mod Images
 pub mod Laws
 pub mod Messages

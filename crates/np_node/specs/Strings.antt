@@ -15,7 +15,7 @@ pub record Entry : Type 0 where
 
 -- the most bytes of a string
 abbrev pub most_bytes : ℕ
-most_bytes = 4096
+most_bytes = 65536
 
 -- the bytes are a text that a node may keep under a version
 pub record IsKeepable (v : VersionData) (string : List ℕ) : Type 0 where

@@ -1,4 +1,5 @@
 pub mod Reading
+pub mod Removed
 pub mod Shown
 pub mod Shapes
 pub mod Told

@@ -43,7 +43,7 @@ impl<'t, T: NormTable> Node<'t, T> {
     ///
     /// # Errors
     ///
-    /// In this order, `Known` and `Kept` coming in their places: `TooLong` for more than 4,096
+    /// In this order, `Known` and `Kept` coming in their places: `TooLong` for more than 65,536
     /// bytes; `NotUtf8`; `Unassigned` where the table's version lacks a code point; (`Known`;)
     /// `Full` where there are as many strings as the room. `Memory` stands in place of `Kept`
     /// alone. After an error, and after `Known`, the node is as it was.

@@ -2,6 +2,7 @@
 ghost use Rattle.std.specs.Prelude.{◌≡◌, ◌++◌, ◌∷◌, [], length, slice_get, string_bytes, Contains, IfSome, IfNone, OnOk, OnErr};
 ghost use Rattle.std.specs.Option.{option_map};
 ghost use Rattle.np_node.specs.Nodes.{IsKept};
+ghost use Rattle.np_node.specs.inside.Removed.{IsRemoved};
 
 use indexmap::IndexMap;
 use np_code_points::Memory;
@@ -74,5 +75,13 @@ impl Entries {
         let string = String::from_str(self.allocator(), string)?;
         self.map.insert(string, key)?;
         Ok(())
+    }
+
+    /// Takes out a string and its key, and answers whether it was there. The others keep their
+    /// order.
+    pub(crate) fn remove(&mut self, string: &str) -> bool
+        ensures { IsRemoved self.old self.new string.now result }
+    {
+        self.map.shift_remove(string).is_some()
     }
 }

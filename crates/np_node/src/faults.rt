@@ -17,7 +17,7 @@ pub enum NodeFault {
     /// The message or image is of another form than the node.
     #[error("another form")]
     OtherForm,
-    /// The string has more than 4,096 bytes.
+    /// The string has more than 65,536 bytes.
     #[error("too long")]
     TooLong,
     /// The string is not UTF-8: its longest prefix that is has `at` bytes.

@@ -1,6 +1,6 @@
 //! The laws of nodes, over the definitions alone.
 ghost use Rattle.np_node.specs.Images.{IsImage, IsImageFault};
-ghost use Rattle.np_node.specs.Laws.{Exchange, FairExchange, HasOneFault, Saved, SpellsOne};
+ghost use Rattle.np_node.specs.Laws.{Exchange, FairExchange, HasOneFault, NeverFewer, Saved, SpellsOne};
 ghost use Rattle.np_node.specs.Messages.{IsMessage, IsMessageFault};
 
 /// Bytes spell one message at most, no spelling is a proper prefix of another, and bytes that are
@@ -27,5 +27,6 @@ pub fn exchange()
 /// What a node keeps under a version of a chain may be kept under each later one, and its image is
 /// never refused there, but for want of memory.
 pub fn saved()
-    ensures { Saved }
+    ensures saved { Saved }
+    ensures fewer { NeverFewer }
 {}

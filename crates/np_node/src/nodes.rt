@@ -4,6 +4,7 @@ ghost use Rattle.std.specs.Option.{option_map};
 ghost use Rattle.np_chain.specs.Breaks.{IsFirstBreak};
 ghost use Rattle.np_chain.specs.Chain.{Extends};
 ghost use Rattle.np_node.specs.Comparing.{AnswersSame};
+ghost use Rattle.np_node.specs.Forgetting.{Forgets};
 ghost use Rattle.np_node.specs.Nodes.{state_of, with_entry, HasPlace, IsKept, IsNode};
 ghost use Rattle.np_node.specs.Strings.{IsKey};
 ghost use Rattle.std.specs.Prelude.{string_bytes};
@@ -160,6 +161,14 @@ impl<'t, T: NormTable> Node<'t, T> {
         np_chain::extends(self.table.version(), table.version())?;
         self.table = table;
         Ok(())
+    }
+
+    /// Forgets a string, and answers whether it was kept. The others keep their order, so the time is
+    /// linear in how many there are; no memory is taken.
+    pub fn forget(&mut self, string: &str) -> bool
+        ensures { Forgets self.old self.new string.now result }
+    {
+        self.kept.remove(string)
     }
 
     /// Whether there are as many strings as the room.

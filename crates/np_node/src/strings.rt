@@ -11,7 +11,7 @@ use np_tables::NormTable;
 use std::alloc::Global;
 
 /// The most bytes of a string.
-pub(crate) const LIMIT: usize = 4096;
+pub(crate) const LIMIT: usize = 65_536;
 
 /// The bytes as a text that is not too long.
 pub(crate) fn short_text(string: &[u8]) -> Result<&str, NodeFault>

@@ -1,5 +1,5 @@
 -- The assigned code points are counted by the sizes of the rows.
-use Rattle.std.proofs.Common.{◌≡◌, ℕ, zero, suc, ◌+◌, ◌-◌, ◌<◌, ◌≤◌, ◌⊎◌, Bool, true, false, nat_le, List, [], ◌∷◌, length, drop, Some, None, is_some, refl, sym, ap, ◌∙◌, arith, inl, inr, le-leb, if◌then◌else◌}
+use Rattle.std.proofs.Common.{◌≡◌, ℕ, zero, suc, ◌+◌, ◌-◌, ◌<◌, ◌≤◌, ◌⊎◌, Bool, true, false, nat_le, List, [], ◌∷◌, length, drop, Some, None, is_some, refl, sym, ap, ◌∙◌, subst, arith, inl, inr, le-leb, if◌then◌else◌}
 use Rattle.std.specs.List.{slice_get}
 use Rattle.std.proofs.lemmas.Bool.{cases_Bool, cases_lt, and_parts, leb-true, and_from}
 use Rattle.std.proofs.lemmas.List.{drop_all}
@@ -21,7 +21,7 @@ sizes (e ∷ es) = (e.last - e.first + 1) + sizes es
 listed : List Entry → ℕ → Bool
 listed es c = is_some (entry_at es c)
 
-count-le : (p : ℕ → Bool) (n : ℕ) → count_below p n ≤ n
+pub count-le : (p : ℕ → Bool) (n : ℕ) → count_below p n ≤ n
 unfolding count_below
 count-le p zero = omega arith
 count-le p (suc n) =
@@ -30,6 +30,44 @@ count-le p (suc n) =
       | inl on ↦ (let one : one_if (p n) ≡ 1 = ap one_if on in omega arith)
       | inr off ↦ (let none : one_if (p n) ≡ 0 = ap one_if off in omega arith)
     ]
+
+-- what passes one test passes the other
+module _ (p q : ℕ → Bool) (passes : (c : ℕ) → p c ≡ true → q c ≡ true) where
+  pub count-most : (n : ℕ) → count_below p n ≤ count_below q n
+  unfolding count_below
+  count-most zero = omega arith
+  count-most (suc n) =
+      let rest = count-most n in
+      elim (cases_Bool (p n)) [
+        | inl on ↦
+            (let one : one_if (p n) ≡ 1 = ap one_if on in
+            let other : one_if (q n) ≡ 1 = ap one_if (passes n on) in omega arith)
+        | inr off ↦ (let none : one_if (p n) ≡ 0 = ap one_if off in omega arith)
+      ]
+
+  -- where no more pass the other, the same ones do
+  pub count-same : (n c : ℕ) → count_below q n ≤ count_below p n → c < n → q c ≡ true → p c ≡ true
+  unfolding count_below
+  count-same zero c le lt has = absurd (omega (arith, lt))
+  count-same (suc n) c le lt has =
+      let rest = count-most n in
+      elim (cases_Bool (p n)) [
+        | inl on ↦
+            (let one : one_if (p n) ≡ 1 = ap one_if on in
+            let other : one_if (q n) ≡ 1 = ap one_if (passes n on) in
+            elim (cases_lt c n) [
+              | inl below ↦ count-same n c (omega arith) below has
+              | inr here ↦ (let same : n ≡ c = omega (arith, lt, here) in subst (λ x. p x ≡ true) same on)
+            ])
+        | inr off ↦
+            (let none : one_if (p n) ≡ 0 = ap one_if off in
+            elim (cases_lt c n) [
+              | inl below ↦ count-same n c (omega arith) below has
+              | inr here ↦
+                  (let same : c ≡ n = omega (arith, lt, here) in
+                  let other : one_if (q n) ≡ 1 = ap one_if (subst (λ x. q x ≡ true) same has) in absurd (omega arith))
+            ])
+      ]
 
 count-none : (p : ℕ → Bool) (n : ℕ) → ((c : ℕ) → p c ≡ false) → count_below p n ≡ 0
 unfolding count_below

@@ -26,7 +26,7 @@ module _ {T : Type 0} (model : T → VersionData) (rules : Rules T) (old new : M
   abbrev pub deed_accept : Deed
   deed_accept version last = Accepts (setting_of model rules) version (chars bytes)
 
-  short_text : IsUtf8 bytes → length bytes ≤ 4096 → ¬ (4096 < length (encode_utf8_all (chars bytes)))
+  short_text : IsUtf8 bytes → length bytes ≤ 65536 → ¬ (65536 < length (encode_utf8_all (chars bytes)))
   short_text utf8 short long = omega (arith, short, long, byte_length-chars bytes utf8)
 
   -- a string that may be kept

@@ -12,7 +12,7 @@ use Rattle.np_code_points.specs.inside.WordValues.{scalars_of, scalar_value}
 use Rattle.np_code_points.proofs.CodeLemmas.{code_value-short}
 use Rattle.np_code_points.proofs.ValueGrammar.{scalar_from, from_scalar, zip_from, from_zip}
 use Rattle.np_code_points.proofs.WordGrammar.{are_words, only_words}
-use Rattle.np_world.specs.Events.{Event, Accept, Deliver, Upgrade, Save, Restart, Ask, Forge}
+use Rattle.np_world.specs.Events.{Event, Accept, Deliver, Upgrade, Save, Restart, Ask, Forge, Forget}
 use Rattle.np_world.specs.ScheduleLines.{IsNumber, IsNumberBelow, AreHexPairs, AreHexWords, SaysOf, IsEventLine}
 use Rattle.np_world.specs.declared.reading.verbs.Verb.{Verb}
 use Rattle.np_world.specs.declared.reading.verbs.Verb.TheVariants as verb
@@ -28,6 +28,7 @@ name_of verb.Save = codes "save"
 name_of verb.Restart = codes "restart"
 name_of verb.Ask = codes "ask"
 name_of verb.Forge = codes "forge"
+name_of verb.Forget = codes "forget"
 
 name_step : (name : List ℕ) (v w : Verb) (rest : Option Verb) (t : Bool) → bytes_eq name (name_of v) ≡ t → (rest ≡ Some w → name ≡ name_of w) → cond t (Some v) rest ≡ Some w → name ≡ name_of w
 name_step name v w rest true e more h = let same : v ≡ w = cc in same_bytes name (name_of v) e ∙ ap name_of same
@@ -46,7 +47,8 @@ named name w =
     (name_step name verb.Restart w _ (bytes_eq name (codes "restart")) refl
     (name_step name verb.Ask w _ (bytes_eq name (codes "ask")) refl
     (name_step name verb.Forge w _ (bytes_eq name (codes "forge")) refl
-    (none_named name w)))))))
+    (name_step name verb.Forget w _ (bytes_eq name (codes "forget")) refl
+    (none_named name w))))))))
 
 -- The strings on both sides of '/'.
 behind_step : (t : Bool) (word : List ℕ) (words up second : List (List ℕ)) (behind : Option (List (List ℕ))) → is_slash word ≡ t → (behind ≡ Some second → words ≡ up ++ codes "/" ∷ second) → cond t (Some words) behind ≡ Some second → word ∷ words ≡ cond t [] (word ∷ up) ++ codes "/" ∷ second
@@ -197,6 +199,9 @@ said verb.Ask nodes node at words event below h =
 said verb.Forge nodes node at words event below h =
     let m = maps (Forge node) (hex_words words) event h in
     subst (SaysOf nodes (codes "forge" ∷ at ∷ words)) m.gives (at, words, refl, below, hex_said words m.from m.was)
+said verb.Forget nodes node at words event below h =
+    let m = maps (Forget node) (scalars_of words) event h in
+    subst (SaysOf nodes (codes "forget" ∷ at ∷ words)) m.gives (at, words, refl, below, scalars_said words m.from m.was)
 
 event_words : (nodes : ℕ) (words : List (List ℕ)) (event : Event) → event_value nodes words ≡ Some event → SaysOf nodes words event
 unfolding event_value
@@ -221,6 +226,7 @@ verb_words nodes node at verb.Save words below = ap (option_and_then (λ node. s
 verb_words nodes node at verb.Restart words below = ap (option_and_then (λ node. said_value verb.Restart node words)) (said_below nodes at node below)
 verb_words nodes node at verb.Ask words below = ap (option_and_then (λ node. said_value verb.Ask node words)) (said_below nodes at node below)
 verb_words nodes node at verb.Forge words below = ap (option_and_then (λ node. said_value verb.Forge node words)) (said_below nodes at node below)
+verb_words nodes node at verb.Forget words below = ap (option_and_then (λ node. said_value verb.Forget node words)) (said_below nodes at node below)
 
 delivered : (node : ℕ) (word : List ℕ) (message : ℕ) → IsNumber word message → deliver_value node (word ∷ []) ≡ Some (Deliver node message)
 unfolding deliver_value
@@ -246,6 +252,8 @@ words_event nodes words (Ask node left right) h =
     ∙ ap (option_map (λ (halves : List ℕ × List ℕ). Ask node halves.0 halves.1)) (said_halves h.1 h.2 left right h.5 h.6)
 words_event nodes words (Forge node bytes) h =
     ap (event_value nodes) h.2 ∙ verb_words nodes node h.0 verb.Forge h.1 h.3 ∙ ap (option_map (Forge node)) (said_hex h.1 bytes h.4)
+words_event nodes words (Forget node string) h =
+    ap (event_value nodes) h.2 ∙ verb_words nodes node h.0 verb.Forget h.1 h.3 ∙ ap (option_map (Forget node)) (said_scalars h.1 string h.4)
 
 pub said_event : (nodes : ℕ) (text : List ℕ) (event : Event) → IsEventLine nodes text event → event_value nodes (words_of Blanks text) ≡ Some event
 said_event nodes text event h = ap (event_value nodes) (sym (only_words Blanks text h.words h.are)) ∙ words_event nodes h.words event h.says

@@ -29,7 +29,7 @@ use Rattle.np_world.proofs.TurnLemmas.{Deed, scene, finds-known, finds-full, fin
 pub one_entry : SpellsOne IsMessage → (bytes : List ℕ) (m n : Message) → IsMessage bytes m → IsMessage bytes n → m ≡ n
 one_entry one bytes m n first second = (one bytes [] m n first (subst (λ l. IsMessage l n) (sym (append-nil bytes)) second)).0
 
-not_long : (n : ℕ) → n ≤ 4096 → ¬ (4096 < n)
+not_long : (n : ℕ) → n ≤ 65536 → ¬ (65536 < n)
 not_long n short long = omega (arith, short, long)
 
 -- the reply to each answer
@@ -149,7 +149,7 @@ one_place bytes reply other first second =
 module _ (setting : Setting) (v : VersionData) (before : Scene) (reply other : Reply) (after next : Scene) where
   one_reaching : (string key : List ℕ) → Reaches setting v string key before reply after → Reaches setting v string key before other next → Same reply other after next
   one_reaching string key first second =
-      one_if (4096 < length string) _ _ _ _ (Same reply other after next) (same_as reply other TooLong after next before)
+      one_if (65536 < length string) _ _ _ _ (Same reply other after next) (same_as reply other TooLong after next before)
       (λ a b. one_if (¬ (IsUtf8 string)) _ _ _ _ (Same reply other after next) (λ c d. (one_place string reply other c.0 d.0, both after next before c.1 d.1))
       (λ c d. one_if (¬ (IsAssigned v (chars string))) _ _ _ _ (Same reply other after next) (λ e f. (one_name v (chars string) reply other e.0 f.0, both after next before e.1 f.1))
       (λ e f. one_if (¬ (IsKey v setting.form string key)) _ _ _ _ (Same reply other after next) (same_as reply other KeyDiffers after next before)

@@ -4,6 +4,7 @@ pub mod CaseLemmas
 pub mod DeliverLemmas
 pub mod EventGrammar
 pub mod ForgeLemmas
+pub mod ForgettingLemmas
 pub mod ImageLemmas
 pub mod LineGrammar
 pub mod LineLemmas

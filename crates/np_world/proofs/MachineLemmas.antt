@@ -5,12 +5,13 @@ use Rattle.np_forms.specs.Forms.{IsEquivalent}
 use Rattle.np_node.specs.Laws.{HasOneFault, SpellsOne}
 use Rattle.np_node.specs.Messages.{IsMessage, IsMessageFault}
 use Rattle.np_tables.specs.Versions.{VersionData}
-use Rattle.np_world.specs.Events.{Event, Accept, Deliver, Upgrade, Save, Restart, Ask, Forge, node_of}
+use Rattle.np_world.specs.Events.{Event, Accept, Deliver, Upgrade, Save, Restart, Ask, Forge, Forget, node_of}
 use Rattle.np_world.specs.Laws.{OneRun}
 use Rattle.np_world.specs.World.{Setting, MachineNode, World, Scene, Accepts, Delivers, Upgrades, Asks, Does, IsStep, IsRun}
 use Rattle.np_world.specs.declared.replies.Reply.{Reply}
 use Rattle.np_world.proofs.CaseLemmas.{both, one_coming, one_if, one_match, same_as, Same}
 use Rattle.np_world.proofs.ForgeLemmas.{forges_once}
+use Rattle.np_world.proofs.ForgettingLemmas.{one_forgetting}
 
 -- ---- one event
 
@@ -44,6 +45,7 @@ module _ (setting : Setting) (v : VersionData) (before : Scene) (reply other : R
   one_deed message fault last (Restart node) one two = same_as reply other _ after next _ one two
   one_deed message fault last (Ask node left right) one two = one_asking last left right one two
   one_deed message fault last (Forge node bytes) one two = forges_once setting v before reply other after next message fault bytes one two
+  one_deed message fault last (Forget node s) one two = one_forgetting before reply other after next s one two
 
 -- ---- steps and runs
 

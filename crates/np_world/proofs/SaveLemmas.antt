@@ -8,7 +8,7 @@ use Rattle.std.specs.declared.alloc.Global.{Global}
 use Rattle.np_chain.specs.Chain.{Extends, StandsAt}
 use Rattle.np_code_points.specs.declared.forms.Form.{Form}
 use Rattle.np_node.specs.Images.{Image, image_bytes, IsImage}
-use Rattle.np_node.specs.Laws.{IsSavedAs, Saved, SpellsOne}
+use Rattle.np_node.specs.Laws.{IsIn, IsSavedAs, NeverFewer, Saved, SpellsOne}
 use Rattle.np_node.specs.Nodes.{NodeState, State, state_of, IsNode}
 use Rattle.np_node.specs.Restoring.{IsRestored, IsRestoreFault}
 use Rattle.np_node.specs.Strings.{Entry}
@@ -36,10 +36,11 @@ same_node node table form room t f r =
 module _ {T : Type 0} (model : T → VersionData) (rules : Rules T) (old : Member T) (twin : MachineNode) (m : Mirrors model rules old twin) where
   -- ---- going on to the next version
 
-  pub next_saved : AreRules model rules → Saved → (w : VersionData) → slice_get (map model rules.tables) (old.index + 1) ≡ Some w → (node : State) → node.version ≡ model old.node.table → IsNode node → IsNode (record node { version = w })
-  next_saved are saved w next node version is =
-      (saved (map model rules.tables) old.index (old.index + 1) w node
-      (record { chain = are.chain; here = (table_here model rules old twin m) ∙ ap Some (sym version) }) (record { chain = are.chain; here = next }) (omega arith) is).holds
+  pub next_saved : AreRules model rules → Saved → NeverFewer → (w : VersionData) → slice_get (map model rules.tables) (old.index + 1) ≡ Some w → (node : State) → node.version ≡ model old.node.table → IsNode node → IsNode (record node { version = w })
+  next_saved are saved fewer w next node version is =
+      let in_v : IsIn (map model rules.tables) old.index node.version = record { chain = are.chain; here = (table_here model rules old twin m) ∙ ap Some (sym version) } in
+      let in_w : IsIn (map model rules.tables) (old.index + 1) w = record { chain = are.chain; here = next } in
+      (saved (map model rules.tables) old.index (old.index + 1) w node in_v in_w (fewer (map model rules.tables) old.index (old.index + 1) node.version w in_v in_w (omega arith)) is).holds
 
   lifted : (w : VersionData) → ((node : State) → node.version ≡ model old.node.table → IsNode node → IsNode (record node { version = w })) → (image : Option (Vec ℕ Global)) (saved : List (List ℕ))
       → HasSaved (setting_of model rules) (model old.node.table) image saved → HasSaved (setting_of model rules) w image saved
@@ -47,11 +48,11 @@ module _ {T : Type 0} (model : T → VersionData) (rules : Rules T) (old : Membe
   lifted w lift (Some bytes) saved has =
       record { entries = has.entries; spelling = has.spelling; node = lift (saved_state (setting_of model rules) (model old.node.table) has.entries) refl has.node; strings = has.strings }
 
-  pub upgrades : (strings : List (List ℕ)) (last : VersionData) (t : T) (new : Member T) (told : List (Vec ℕ Global)) → AreRules model rules → Saved → old.index + 1 < length rules.tables → slice_get rules.tables (old.index + 1) ≡ Some t
+  pub upgrades : (strings : List (List ℕ)) (last : VersionData) (t : T) (new : Member T) (told : List (Vec ℕ Global)) → AreRules model rules → Saved → NeverFewer → old.index + 1 < length rules.tables → slice_get rules.tables (old.index + 1) ≡ Some t
       → new.index ≡ old.index + 1 → new.image ≡ old.image → new.node ≡ record old.node { table = t } → AreMessages (setting_of model rules) told strings
       → IsTurn model rules (λ v end. Upgrades (setting_of model rules)) twin strings (model old.node.table) last (Version (old.index + 1)) new told
-  upgrades strings last t new told are saved some next index image node messages =
-      let lift = next_saved are saved (model t) (slice_get-map model rules.tables (old.index + 1) ∙ ap (option_map model) next) in
+  upgrades strings last t new told are saved fewer some next index image node messages =
+      let lift = next_saved are saved fewer (model t) (slice_get-map model rules.tables (old.index + 1) ∙ ap (option_map model) next) in
       let moved : Member T = record { index = old.index + 1; node = record old.node { table = t }; image = old.image } in
       let place : old.index + 1 ≡ twin.index + 1 = ap (λ k. k + 1) m.index in
       turns_to model rules (λ v end. Upgrades (setting_of model rules)) twin (record twin { index = twin.index + 1 }) strings (model old.node.table) last (Version (old.index + 1)) new moved told (same_member new moved index node image)

@@ -7,7 +7,7 @@ use Rattle.std.proofs.lemmas.Slice.Zip.{AllZip-long, all_zipped_more}
 use Rattle.np_code_points.specs.Lines.{Numbered, Walk, AreDataLines, AreLines}
 use Rattle.np_code_points.specs.Laws.{HasOneCut}
 use Rattle.np_code_points.proofs.LineLemmas.{filled}
-use Rattle.np_world.specs.Events.{Event, ScheduleData, Accept, Deliver, Upgrade, Save, Restart, Ask, Forge, node_of}
+use Rattle.np_world.specs.Events.{Event, ScheduleData, Accept, Deliver, Upgrade, Save, Restart, Ask, Forge, Forget, node_of}
 use Rattle.np_world.specs.ScheduleFiles.{AreEventLines, SaysSchedule, MayStand, EndsEarly, NamesLine}
 use Rattle.np_world.specs.ScheduleLines.{SaysOf, IsEventLine, IsNodesLine, IsRoomLine}
 use Rattle.np_world.specs.Schedules.{IsStandable}
@@ -197,6 +197,7 @@ names_node nodes words (Save node) h = h.2.1
 names_node nodes words (Restart node) h = h.2.1
 names_node nodes words (Ask node left right) h = h.4.1
 names_node nodes words (Forge node bytes) h = h.3.1
+names_node nodes words (Forget node string) h = h.3.1
 
 -- what was read can stand
 pub is_standable : (start walk rest : Walk) (schedule : ScheduleData) → NextSays IsRoomLine start schedule.room walk → NextSays (IsNodesLine schedule.versions) walk schedule.starts rest → AreEventLines (length schedule.starts) rest.left schedule.events → IsStandable schedule

@@ -20,7 +20,7 @@ use Rattle.np_world.specs.inside.Mirrors.{texts_of}
 pub byte_length-chars : (bytes : List ℕ) → IsUtf8 bytes → length (encode_utf8_all (chars bytes)) ≡ length bytes
 byte_length-chars bytes utf8 = ap length (encodes-chars bytes utf8)
 
-same_bytes : (a b : List ℕ) → IsUtf8 a → IsUtf8 b → chars a ≡ chars b → a ≡ b
+pub same_bytes : (a b : List ℕ) → IsUtf8 a → IsUtf8 b → chars a ≡ chars b → a ≡ b
 same_bytes a b first second h = sym (encodes-chars a first) ∙ ap encode_utf8_all h ∙ encodes-chars b second
 
 -- bytes whose longest valid prefix isn't all of them are no text

@@ -9,6 +9,7 @@ pub data Event : Type 0 where
   Restart : (node : ℕ) → Event
   Ask : (node : ℕ) (left right : List ℕ) → Event
   Forge : (node : ℕ) (bytes : List ℕ) → Event
+  Forget : (node : ℕ) (string : List ℕ) → Event
 
 -- the node that an event names
 abbrev pub node_of : Event → ℕ
@@ -19,6 +20,7 @@ node_of (Save node) = node
 node_of (Restart node) = node
 node_of (Ask node left right) = node
 node_of (Forge node bytes) = node
+node_of (Forget node string) = node
 
 -- the number of versions, the room of each node, the place of each node's first version, and the events
 pub record ScheduleData : Type 0 where

@@ -6,7 +6,7 @@ use Rattle.np_code_points.specs.Codes.{code_digits}
 use Rattle.np_node.specs.Strings.{Entry}
 use Rattle.np_world.specs.Reports.{NodeReport, nodes_of, replies_of}
 use Rattle.np_world.specs.declared.replies.Reply.{Reply}
-use Rattle.np_world.specs.declared.replies.Reply.TheVariants.{Sent, Kept, Known, Full, TooLong, Unassigned, NoMessage, Version, LastVersion, Saved, Restarted, NotKept, Equal, Different, Malformed, OtherForm, NotUtf8, KeyDiffers}
+use Rattle.np_world.specs.declared.replies.Reply.TheVariants.{Sent, Kept, Known, Full, TooLong, Unassigned, NoMessage, Version, LastVersion, Saved, Restarted, Forgotten, NotKept, Equal, Different, Malformed, OtherForm, NotUtf8, KeyDiffers}
 use Rattle.np_world.specs.declared.report.Report.{Report}
 
 -- ---- words
@@ -23,6 +23,7 @@ reply_text (Version index) = codes "version " ++ decimal index
 reply_text LastVersion = codes "last version"
 reply_text Saved = codes "saved"
 reply_text Restarted = codes "restarted"
+reply_text Forgotten = codes "forgotten"
 reply_text NotKept = codes "not kept"
 reply_text Equal = codes "equal"
 reply_text Different = codes "different"

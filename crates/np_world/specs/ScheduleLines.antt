@@ -6,7 +6,7 @@ use Rattle.std.specs.Str.Parse.{digits_value}
 use Rattle.np_code_points.specs.Codes.{IsScalarOf, is_hex_digit}
 use Rattle.np_code_points.specs.Words.{AreWords}
 use Rattle.np_code_points.specs.declared.words.Dividers.TheVariants.{Blanks}
-use Rattle.np_world.specs.Events.{Event, Accept, Deliver, Upgrade, Save, Restart, Ask, Forge}
+use Rattle.np_world.specs.Events.{Event, Accept, Deliver, Upgrade, Save, Restart, Ask, Forge, Forget}
 
 -- a number: 1 to 9 decimal digits
 pub record IsNumber (word : List ℕ) (number : ℕ) : Type 0 where
@@ -47,6 +47,8 @@ SaysOf nodes words (Ask node left right) =
     × IsNumberBelow nodes at node × AllZip IsScalarOf first left × AllZip IsScalarOf second right
 SaysOf nodes words (Forge node bytes) =
     (at : List ℕ) × (rest : List (List ℕ)) × (words ≡ codes "forge" ∷ at ∷ rest) × IsNumberBelow nodes at node × AreHexWords rest bytes
+SaysOf nodes words (Forget node string) =
+    (at : List ℕ) × (rest : List (List ℕ)) × (words ≡ codes "forget" ∷ at ∷ rest) × IsNumberBelow nodes at node × AllZip IsScalarOf rest string
 
 -- a line is an event, where there are so many nodes
 pub record IsEventLine (nodes : ℕ) (text : List ℕ) (event : Event) : Type 0 where

@@ -8,11 +8,11 @@ use Rattle.np_code_points.specs.Text.{IsLongestValidPrefix}
 use Rattle.np_forms.specs.Assigned.{IsAssigned, IsFirstUnassigned}
 use Rattle.np_forms.specs.Forms.{IsEquivalent}
 use Rattle.np_node.specs.Messages.{Message, IsMessage, IsMessageFault}
-use Rattle.np_node.specs.Strings.{IsKey}
+use Rattle.np_node.specs.Strings.{most_bytes, IsKey}
 use Rattle.np_tables.specs.Versions.{VersionData}
-use Rattle.np_world.specs.Events.{Event, Accept, Deliver, Upgrade, Save, Restart, Ask, Forge, node_of}
+use Rattle.np_world.specs.Events.{Event, Accept, Deliver, Upgrade, Save, Restart, Ask, Forge, Forget, node_of}
 use Rattle.np_world.specs.declared.replies.Reply.{Reply}
-use Rattle.np_world.specs.declared.replies.Reply.TheVariants.{Sent, Kept, Known, Full, TooLong, Unassigned, NoMessage, Version, LastVersion, Saved, Restarted, NotKept, Equal, Different, Malformed, OtherForm, NotUtf8, KeyDiffers}
+use Rattle.np_world.specs.declared.replies.Reply.TheVariants.{Sent, Kept, Known, Full, TooLong, Unassigned, NoMessage, Version, LastVersion, Saved, Restarted, Forgotten, NotKept, Equal, Different, Malformed, OtherForm, NotUtf8, KeyDiffers}
 
 -- ---- what there is
 
@@ -74,7 +74,7 @@ Keeps string before reply after = (reply ≡ Kept) × (after ≡ record before {
 -- a node is given a string: it keeps and sends it
 abbrev pub Accepts : Setting → VersionData → List ℕ → Scene → Reply → Scene → Type 0
 Accepts setting version string before reply after =
-    If (4096 < length (encode_utf8_all string)) ((reply ≡ TooLong) × (after ≡ before))
+    If (most_bytes < length (encode_utf8_all string)) ((reply ≡ TooLong) × (after ≡ before))
     (Comes setting version string before reply after
     ((reply ≡ Sent (length before.sent)) × (after ≡ record { node = with_string before.node string; sent = before.sent ++ string ∷ [] })))
 
@@ -92,7 +92,7 @@ NamesNotUtf8 bytes reply = (at : ℕ) × IsLongestValidPrefix bytes at × (reply
 -- isn't that of the string under its version
 abbrev pub Reaches : Setting → VersionData → List ℕ → List ℕ → Scene → Reply → Scene → Type 0
 Reaches setting version string key before reply after =
-    If (4096 < length string) ((reply ≡ TooLong) × (after ≡ before))
+    If (most_bytes < length string) ((reply ≡ TooLong) × (after ≡ before))
     (If (¬ (IsUtf8 string)) (NamesNotUtf8 string reply × (after ≡ before))
     (If (¬ (IsAssigned version (chars string))) (NamesUnassigned version (chars string) reply × (after ≡ before))
     (If (¬ (IsKey version setting.form string key)) ((reply ≡ KeyDiffers) × (after ≡ before))
@@ -122,6 +122,21 @@ Saves before reply after = (reply ≡ Saved) × (after ≡ record before { node 
 abbrev pub Restarts : Scene → Reply → Scene → Type 0
 Restarts before reply after = (reply ≡ Restarted) × (after ≡ record before { node = record before.node { strings = before.node.saved } })
 
+-- the same strings in the same order, but for the first that is this one
+pub record IsWithout (old new : List (List ℕ)) (string : List ℕ) : Type 0 where
+  pub front : List (List ℕ)
+  pub behind : List (List ℕ)
+  pub were : old ≡ front ++ string ∷ behind
+  pub first : ¬ (Contains front string)
+  pub are : new ≡ front ++ behind
+
+-- a node forgets a string; what it saved and what was sent stay
+abbrev pub Forgets : List ℕ → Scene → Reply → Scene → Type 0
+Forgets string before reply after =
+    If (Contains before.node.strings string)
+    ((reply ≡ Forgotten) × ((strings : List (List ℕ)) × IsWithout before.node.strings strings string × (after ≡ record before { node = record before.node { strings = strings } })))
+    ((reply ≡ NotKept) × (after ≡ before))
+
 -- a node is asked about two strings: are they equivalent under the last version?
 abbrev pub Asks : Setting → VersionData → List ℕ → List ℕ → Scene → Reply → Scene → Type 0
 Asks setting last left right before reply after =
@@ -138,6 +153,7 @@ Does setting version last (Save node) before reply after = Saves before reply af
 Does setting version last (Restart node) before reply after = Restarts before reply after
 Does setting version last (Ask node left right) before reply after = Asks setting last left right before reply after
 Does setting version last (Forge node bytes) before reply after = Forges setting version bytes before reply after
+Does setting version last (Forget node string) before reply after = Forgets string before reply after
 
 -- ---- one event after another
 

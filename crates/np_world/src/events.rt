@@ -36,4 +36,9 @@ pub(crate) enum EventLine {
         node: usize,
         bytes: Vec<u8>,
     },
+    /// The node forgets a string.
+    Forget {
+        node: usize,
+        string: String,
+    },
 }

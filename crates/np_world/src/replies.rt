@@ -11,7 +11,7 @@ pub enum Reply {
     Known,
     /// As many strings are kept as there is room for.
     Full,
-    /// The string has more than 4,096 bytes.
+    /// The string has more than 65,536 bytes.
     TooLong,
     /// The node's version doesn't assign `code`, whose byte place is `at`, from 0; the first such.
     Unassigned { at: usize, code: char },
@@ -25,7 +25,9 @@ pub enum Reply {
     Saved,
     /// The node keeps what it had saved, or nothing where it never did.
     Restarted,
-    /// The node doesn't keep both strings.
+    /// The string was kept, and isn't any more.
+    Forgotten,
+    /// The node doesn't keep the string, or one of two.
     NotKept,
     /// The two kept strings have one key: they are equivalent.
     Equal,

@@ -85,6 +85,7 @@ fn write_reply(out: &mut String, reply: &Reply) -> Result<(), Memory>
         Reply::LastVersion => write_words(out, "last version"),
         Reply::Saved => write_words(out, "saved"),
         Reply::Restarted => write_words(out, "restarted"),
+        Reply::Forgotten => write_words(out, "forgotten"),
         Reply::NotKept => write_words(out, "not kept"),
         Reply::Equal => write_words(out, "equal"),
         Reply::Different => write_words(out, "different"),

@@ -8,7 +8,7 @@ ghost use Rattle.np_world.specs.inside.Worlds.{IsShown, LeavesImages, Steps};
 use crate::events::EventLine;
 use crate::members::{Common, Member};
 use crate::replies::Reply;
-use crate::turns::{accept, ask, deliver, forge, restart, save, upgrade};
+use crate::turns::{accept, ask, deliver, forge, forget, restart, save, upgrade};
 use np_code_points::Memory;
 use np_tables::NormTable;
 
@@ -40,6 +40,9 @@ pub(crate) fn step<'t, T: NormTable>(
             left.as_str(),
             right.as_str(),
         )),
+        EventLine::Forget { node, string } => {
+            Ok(forget(common, &mut members[*node], string.as_str()))
+        }
         EventLine::Forge { node, bytes } => forge(common, &mut members[*node], bytes.as_slice()),
     }
 }

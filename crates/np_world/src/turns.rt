@@ -1,6 +1,6 @@
 //! What each event does to a node of a replay.
 ghost use Rattle.std.specs.Prelude.{◌≡◌, ◌≤◌, chars, IfOk, IsSome};
-ghost use Rattle.np_world.specs.World.{Accepts, Asks, Delivers, Forges, Restarts, Saves, Upgrades};
+ghost use Rattle.np_world.specs.World.{Accepts, Asks, Delivers, Forges, Forgets, Restarts, Saves, Upgrades};
 ghost use Rattle.np_world.specs.inside.Mirrors.{rules_of, setting_of, IsReady, Turns};
 ghost use Rattle.np_world.specs.inside.Told.{refusal_of};
 
@@ -193,5 +193,23 @@ pub(crate) fn ask<T: NormTable>(
         None => Reply::NotKept,
         Some(true) => Reply::Equal,
         Some(false) => Reply::Different,
+    }
+}
+
+/// The node forgets a string, if it keeps it.
+pub(crate) fn forget<T: NormTable>(
+    common: &Common<'_, '_, T>,
+    member: &mut Member<'_, T>,
+    string: &str,
+) -> Reply
+    ensures turn { (messages : _) → Turns T.model (rules_of common.now)
+        (λ version last. Forgets (chars string.now))
+        member.old messages result member.new messages }
+    ensures image { member.new.image ≡ member.old.image }
+{
+    if member.node.forget(string) {
+        Reply::Forgotten
+    } else {
+        Reply::NotKept
     }
 }

@@ -75,3 +75,39 @@ fn each_failed_write_and_flush_is_told(rt: HostRuntime) -> Result<(), Fail> {
     }
     Ok(())
 }
+
+/// A job that ends well calls an output that takes a byte a write once for each byte, and flushes it once.
+fn wants_calls(alloc: Global, job: &Job<'_>, whole: &[u8]) -> Result<(), Fail> {
+    let room = whole.len().max(1);
+    let mut output = Watched::new(Room::new(alloc, room, 1)?);
+    let mut error = Watched::new(Room::new(alloc, 64, 64)?);
+    let status = job_into(alloc, job, &mut output, &mut error);
+    let (output, error) = (output.into_inner(), error.into_inner());
+    want(status == 0, "the status")?;
+    want(output.bytes() == whole, "the output")?;
+    want(
+        output.calls() == (whole.len() as u64).saturating_add(1),
+        "a call for each byte, and a flush",
+    )?;
+    want(error.calls() == 0, "nothing is told")
+}
+
+#[test]
+fn an_output_is_flushed_once(rt: HostRuntime) -> Result<(), Fail> {
+    for (job, whole) in &JOBS {
+        wants_calls(rt.alloc(), job, whole)?;
+    }
+    Ok(())
+}
+
+#[test]
+fn an_empty_and_a_long_output_are_flushed_once(rt: HostRuntime) -> Result<(), Fail> {
+    let long = vec![in rt.alloc(); b'a'; 70_000]?;
+    for command in [Command::Normalize, Command::Key] {
+        for text in [b"".as_slice(), long.as_slice()] {
+            let job = Job::Text(command, Form::Nfc, V1_DATA, text);
+            wants_calls(rt.alloc(), &job, text)?;
+        }
+    }
+    Ok(())
+}

@@ -5,7 +5,7 @@ use Rattle.std.specs.Str.{bytes_eq, all_ascii_digits}
 use Rattle.std.specs.Str.Parse.{digits_value}
 use Rattle.np_code_points.specs.Codes.{is_hex_digit}
 use Rattle.np_code_points.specs.inside.WordValues.{values_of, scalars_of, if_short}
-use Rattle.np_world.specs.Events.{Event, Accept, Deliver, Upgrade, Save, Restart, Ask, Forge}
+use Rattle.np_world.specs.Events.{Event, Accept, Deliver, Upgrade, Save, Restart, Ask, Forge, Forget}
 use Rattle.np_world.specs.declared.reading.verbs.Verb.{Verb}
 use Rattle.np_world.specs.declared.reading.verbs.Verb.TheVariants as verb
 
@@ -70,7 +70,8 @@ verb_named name =
     else (if bytes_eq name (codes "save") then Some verb.Save
     else (if bytes_eq name (codes "restart") then Some verb.Restart
     else (if bytes_eq name (codes "ask") then Some verb.Ask
-    else (if bytes_eq name (codes "forge") then Some verb.Forge else None))))))
+    else (if bytes_eq name (codes "forge") then Some verb.Forge
+    else (if bytes_eq name (codes "forget") then Some verb.Forget else None)))))))
 
 unfoldable pub deliver_value : ℕ → List (List ℕ) → Option Event
 deliver_value node [] = None
@@ -90,6 +91,7 @@ said_value verb.Save node words = alone_value (Save node) words
 said_value verb.Restart node words = alone_value (Restart node) words
 said_value verb.Ask node words = option_map (λ (halves : List ℕ × List ℕ). Ask node halves.0 halves.1) (halves_value words)
 said_value verb.Forge node words = option_map (Forge node) (hex_words words)
+said_value verb.Forget node words = option_map (Forget node) (scalars_of words)
 
 abbrev pub at_node : ℕ → List ℕ → Verb → List (List ℕ) → Option Event
 at_node nodes at verb words = option_and_then (λ node. said_value verb node words) (below_value nodes at)

@@ -65,5 +65,9 @@ pub(crate) fn event_at(
             let bytes = bytes_in(alloc, words)?;
             Ok(EventLine::Forge { node, bytes })
         }
+        Verb::Forget => {
+            let string = string_in(alloc, most, words)?;
+            Ok(EventLine::Forget { node, string })
+        }
     }
 }

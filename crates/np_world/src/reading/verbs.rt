@@ -10,6 +10,7 @@ pub(crate) enum Verb {
     Restart,
     Ask,
     Forge,
+    Forget,
 }
 
 impl Verb {
@@ -36,6 +37,8 @@ impl Verb {
             Some(Verb::Ask)
         } else if name == b"forge".as_slice() {
             Some(Verb::Forge)
+        } else if name == b"forget".as_slice() {
+            Some(Verb::Forget)
         } else {
             None
         }

@@ -1,7 +1,7 @@
 use Rattle.std.proofs.Common.{ap, sym, ◌∙◌, arith}
 use Rattle.std.proofs.lemmas.Result.{IfOk-weaker}
 use Rattle.std.specs.Prelude.{chars, string_bytes}
-use Rattle.np_world.specs.Events.{Accept, Ask, Forge, node_of}
+use Rattle.np_world.specs.Events.{Accept, Ask, Forge, Forget, node_of}
 use Rattle.np_world.specs.inside.Mirrors.{rules_of}
 use Rattle.np_world.specs.inside.Rust.{event_of}
 use Rattle.np_world.proofs.ImageLemmas.{images_kept, images_saved, images_stay, ok_any, saves}
@@ -83,3 +83,13 @@ returns-in-Save-clause-images g c =
 
 pub returns-in-Ask-clause-images : goal.returns-in-Ask-clause-images
 returns-in-Ask-clause-images g c = images_stay (event_of c.args.event.now) c.args.members.now (ap saves (ap event_of c.in-Ask.is))
+
+pub returns-in-Forget-clause-step : goal.returns-in-Forget-clause-step
+returns-in-Forget-clause-step g c =
+    stepped g.T.NormTable.model (rules_of c.args.common.now) c.args.members.now c.args.sent.now.items c.args.sent.now.items _ _
+    (ap event_of c.in-Forget.is ∙ ap (λ b. Forget c.in-Forget.node (chars b)) (sym c.as_str-in-Forget.ensures.value)) c.requires.named
+    c.index-members-node-in-Forget.result c.forget.result c.forget.new.member (c.forget.ensures.turn c.args.sent.now.items)
+
+pub returns-in-Forget-clause-images : goal.returns-in-Forget-clause-images
+returns-in-Forget-clause-images g c =
+    images_kept (event_of c.args.event.now) c.args.members.now c.in-Forget.node c.index-members-node-in-Forget.result c.forget.new.member (ap saves (ap event_of c.in-Forget.is)) c.forget.ensures.image

@@ -23,7 +23,7 @@ want_of_memory-requires g c =
     let refused = subst (λ r. AnswersRestore model c.table-table.result.now rules.form rules.room c.as_slice.result.now r) c.in-Err.is c.restore.ensures in
     let here = subst (λ t. IsRestoreFault (model t) rules.form rules.room c.as_slice.result.now c.in-Err.refused.entry c.in-Err.refused.fault) c.table-table.ensures refused in
     let bytes = subst (λ l. IsRestoreFault (model old.node.table) rules.form rules.room l c.in-Err.refused.entry c.in-Err.refused.fault) c.as_slice.ensures.value here in
-    refused_for_memory model rules old c.requires.twin c.requires.mirrors c.in-Some.image c.in-Err.refused.entry c.in-Err.refused.fault c.requires.rules_hold c.saved.ensures c.in-Some.is bytes
+    refused_for_memory model rules old c.requires.twin c.requires.mirrors c.in-Some.image c.in-Err.refused.entry c.in-Err.refused.fault c.requires.rules_hold c.saved.ensures.saved c.in-Some.is bytes
 
 pub returns-in-Ok-clause-turn : goal.returns-in-Ok-clause-turn
 returns-in-Ok-clause-turn g c = λ messages.
@@ -34,4 +34,4 @@ returns-in-Ok-clause-turn g c = λ messages.
     let there = subst (λ t. IsRestored model t rules.form rules.room c.as_slice.result.now c.in-Ok.node) c.table-table.ensures restored in
     let bytes = subst (λ l. IsRestored model old.node.table rules.form rules.room l c.in-Ok.node) c.as_slice.ensures.value there in
     turned model rules _ old _ messages messages Restarted
-    (λ node strings last are m sent end. restarts-saved model rules old node m strings last c.in-Some.image _ messages are c.saved.ensures c.images.ensures.one c.in-Some.is refl refl bytes sent)
+    (λ node strings last are m sent end. restarts-saved model rules old node m strings last c.in-Some.image _ messages are c.saved.ensures.saved c.images.ensures.one c.in-Some.is refl refl bytes sent)

@@ -28,4 +28,4 @@ returns-clause-turn g c = λ messages.
     let old = c.args.member.now in
     let moved = subst (λ (r : Result (Unit {0}) Break). OnOk r (c.upgrade.new.self ≡ record old.node { table = c.at.result.now })) c.unwrap.ensures c.upgrade.ensures.ok in
     turned model rules _ old _ messages messages (Version (old.index + 1))
-    (λ node strings last are m sent end. upgrades model rules old node m strings last c.at.result.now _ messages are c.saved.ensures (omega (arith, c.len.ensures.count)) c.at.ensures.table refl refl moved sent)
+    (λ node strings last are m sent end. upgrades model rules old node m strings last c.at.result.now _ messages are c.saved.ensures.saved c.saved.ensures.fewer (omega (arith, c.len.ensures.count)) c.at.ensures.table refl refl moved sent)

@@ -1,0 +1,13 @@
+use Rattle.std.proofs.Common.{refl}
+use Rattle.np_world.specs.inside.Mirrors.{rules_of}
+use Rattle.np_world.proofs.ForgettingLemmas.{forgets-gone, forgets-none}
+use Rattle.np_world.proofs.turns.forget.Goals as goal
+
+pub returns-then-forget-clause-turn : goal.returns-then-forget-clause-turn
+returns-then-forget-clause-turn g c = λ messages.
+    forgets-gone g.T.NormTable.model (rules_of c.args.common.now) c.args.member.now _ c.args.string.now c.utf8.string messages c.if-forget.ensures.0 c.if-forget.ensures.1 refl refl
+    c.if-forget.ensures.2
+
+pub returns-else-forget-clause-turn : goal.returns-else-forget-clause-turn
+returns-else-forget-clause-turn g c = λ messages.
+    forgets-none g.T.NormTable.model (rules_of c.args.common.now) c.args.member.now _ c.args.string.now c.utf8.string messages c.if-forget.ensures.0 refl refl c.if-forget.ensures.1

@@ -1,0 +1,52 @@
+"""The lengths of the pages and of their sentences."""
+
+import re
+
+from harness import ROOT
+
+# The most words of a sentence, of sentences on average, and the pages that keep to it by now, each with the
+# most lines and words that it may have (None: not bounded).
+LONGEST, MEAN = 40, 25
+PAGES = {
+    "README.md": (120, 1000),
+    "CONTRIBUTING.md": (110, None),
+    "CHANGELOG.md": (None, None),
+    "SECURITY.md": (None, None),
+    "bench/README.md": (90, None),
+    "bench/GATE.md": (None, None),
+    "docs/ARCHITECTURE.md": (None, None),
+    "docs/DECISIONS.md": (None, None),
+    "docs/PROMISES.md": (None, None),
+    "docs/NODES.md": (None, None),
+    "docs/STANDARD.md": (None, None),
+    "docs/FORMATS.md": (None, None),
+    "docs/DEFINITIONS.md": (None, None),
+}
+# The headline's sentence stands as it is.
+KEPT = "from one chain"
+
+
+def sentences(text):
+    """The sentences of a page: without code blocks, tables and heads."""
+    text = re.sub(r"```.*?```", "", text, flags=re.DOTALL)
+    lines = [line for line in text.split("\n") if not line.lstrip().startswith(("|", "#"))]
+    text = re.sub(r"\n\s*(?:[-*]|\d+\.) ", ". ", "\n".join(lines)).replace("\n\n", ". ")
+    for sentence in re.split(r"(?<=[.?!:;])\s+", text):
+        words = [word for word in sentence.split() if re.search(r"\w", word)]
+        if words and KEPT not in sentence:
+            yield words
+
+
+def check_pages(tally):
+    """No sentence is too long, nor are they on average, nor is a page."""
+    for name, (most_lines, most_words) in PAGES.items():
+        text = (ROOT / name).read_text(encoding="utf-8")
+        counts = [len(words) for words in sentences(text)]
+        long = [" ".join(words[:9]) for words in sentences(text) if len(words) > LONGEST]
+        tally.check(f"{name}: sentences of at most {LONGEST} words", not long, f"longer: {long[:5]}")
+        mean = sum(counts) / max(len(counts), 1)
+        tally.check(f"{name}: sentences of {MEAN} words on average", mean <= MEAN, f"{mean:.1f}")
+        lines, words = len(text.splitlines()), len(text.split())
+        tally.check(f"{name}: its length", lines <= (most_lines or lines) and words <= (most_words or words),
+                    f"{lines} lines, {words} words")
+        print(f"{name}: {lines} lines, {words} words, {mean:.1f} words a sentence, {max(counts, default=0)} in the longest")
