@@ -101,3 +101,74 @@ pub const FORGED_REPORT: &str = "\
 node 0 version 0 entries 1
 entry 0061 0302 / 00E2
 ";
+
+/// A node that restarts under versions that the schedule names, at last under tables older than those
+/// it saved under; over both versions.
+pub const OLDER_SCHEDULE: &str = "\
+room 4
+nodes 1
+accept 0 0061 0302
+restart 0 0
+accept 0 16D68
+deliver 0 0
+save 0
+restart 0 1
+accept 0 16D68
+restart 0 0
+upgrade 0
+save 0
+restart 0 0
+restart 0
+";
+
+/// What comes of it.
+pub const OLDER_REPORT: &str = "\
+0 kept 0
+1 restarted
+2 unassigned 16D68 at byte 0
+3 kept
+4 saved
+5 restarted
+6 kept 1
+7 restarted
+8 version 1
+9 saved
+10 older tables 17666 17660
+11 restarted
+node 0 version 1 entries 1
+entry 0061 0302 / 00E2
+";
+
+/// A node that forgets strings, and what brings them back; over the first version alone.
+pub const FORGETTING_SCHEDULE: &str = "\
+room 1
+nodes 0
+accept 0 212B
+save 0
+forget 0 212B
+forget 0 212B
+accept 0 0061
+deliver 0 0
+forget 0 0061
+deliver 0 0
+accept 0 212B
+forget 0 212B
+restart 0
+";
+
+/// What comes of it.
+pub const FORGETTING_REPORT: &str = "\
+0 kept 0
+1 saved
+2 forgotten
+3 not kept
+4 kept 1
+5 full
+6 forgotten
+7 kept
+8 known
+9 forgotten
+10 restarted
+node 0 version 0 entries 1
+entry 212B / 00C5
+";
