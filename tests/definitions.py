@@ -273,6 +273,7 @@ def main():
     check_paths(tally)
     check_where(tally)
     pages.check_pages(tally)
+    pages.check_comments(tally)
     tally.finish()
 
 

@@ -50,3 +50,31 @@ def check_pages(tally):
         tally.check(f"{name}: its length", lines <= (most_lines or lines) and words <= (most_words or words),
                     f"{lines} lines, {words} words")
         print(f"{name}: {lines} lines, {words} words, {mean:.1f} words a sentence, {max(counts, default=0)} in the longest")
+
+
+def doc_comments():
+    """The doc comments of the sources: a file, the line where one begins, its text."""
+    for path in sorted((ROOT / "crates").glob("*/src/**/*.rt")):
+        block, start = [], 0
+        for place, line in enumerate(path.read_text(encoding="utf-8").split("\n") + [""], 1):
+            found = re.match(r"\s*//[/!] ?(.*)$", line)
+            if found:
+                start = start if block else place
+                block.append(found.group(1))
+            elif block:
+                yield path.relative_to(ROOT), start, "\n".join(block)
+                block = []
+
+
+def check_comments(tally):
+    """No sentence of a doc comment is too long, nor are they on average."""
+    counts, long = [], []
+    for path, line, text in doc_comments():
+        for words in sentences(text):
+            counts.append(len(words))
+            if len(words) > LONGEST:
+                long.append(f"{path}:{line}")
+    tally.check(f"doc comments: sentences of at most {LONGEST} words", not long, f"longer: {long[:5]}")
+    mean = sum(counts) / max(len(counts), 1)
+    tally.check(f"doc comments: sentences of {MEAN} words on average", mean <= MEAN, f"{mean:.1f}")
+    print(f"doc comments: {mean:.1f} words a sentence, {max(counts, default=0)} in the longest")

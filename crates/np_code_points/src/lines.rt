@@ -101,8 +101,8 @@ pub fn cut(bytes: &[u8], byte: u8) -> (&[u8], Option<&[u8]>)
     cut_at(bytes, before(bytes, byte))
 }
 
-/// The same. It looks at one byte after the other, which is quicker than steps of many where few
-/// stand before the first such byte.
+/// What stands before the first such byte, and what stands behind it where there is one. It looks at one
+/// byte after the other, which is quicker than steps of many where few stand before the first such byte.
 pub fn cut_short(bytes: &[u8], byte: u8) -> (&[u8], Option<&[u8]>)
     ensures before { result.0.now ≡ before_byte byte bytes.now }
     ensures after { option_map (λ rest. rest.now) result.1 ≡ after_byte byte bytes.now }

@@ -14,7 +14,7 @@ use Rattle.np_forms.proofs.FormLemmas.{IsNormalForm-normal_form, normal_form_is}
 use Rattle.np_forms.proofs.OrderLemmas.{canonical_order-nil, canonical_order-at_starter, canonical_order-ordered, is_ordered-cons, is_ordered-nil, is_ordered-one, not_reorderable_rising}
 use Rattle.np_tables.proofs.CompositeLemmas.{composite-never, composite_from}
 use Rattle.np_tables.proofs.MappingLemmas.{full_decomposition-flat_map}
-use Rattle.np_tables.specs.Boundaries.{IsBoundary, NeverFalls, FoldsTo, Stays}
+use Rattle.np_tables.specs.Boundaries.{IsBoundary, NeverFalls, FoldsTo, IsYesStarter}
 use Rattle.np_tables.specs.Conditions.{IsSound}
 use Rattle.np_tables.specs.Versions.{VersionData, class_of}
 use Rattle.np_tables.specs.inside.CompositeSearch.{composite}
@@ -103,7 +103,7 @@ module _ (v : VersionData) (sound : IsSound v) where
       ∙ ap (λ l. s ∷ canonical_order (class_of v) l) (append-nil rest)
       ∙ ap (λ l. s ∷ l) (canonical_order-ordered (class_of v) rest (is_ordered-never_falls (class_of v) rest rises))
 
-  pub normal_form-stays : (form : Form) (c : ℕ) → Stays v form c → normal_form v form (c ∷ []) ≡ c ∷ []
+  pub normal_form-stays : (form : Form) (c : ℕ) → IsYesStarter v form c → normal_form v form (c ∷ []) ≡ c ∷ []
   unfolding normal_form
   normal_form-stays form c stays =
       let at = stays.boundary in

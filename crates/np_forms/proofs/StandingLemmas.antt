@@ -15,14 +15,14 @@ use Rattle.np_forms.proofs.SlideLemmas.{KeptBelow, folds_over}
 use Rattle.np_tables.proofs.CompositeLemmas.{composite-never}
 use Rattle.np_tables.proofs.TableLemmas.{pair-value}
 use Rattle.np_tables.proofs.MappingLemmas.{full_of-final}
-use Rattle.np_tables.specs.Boundaries.{FoldsTo, IsBoundary, NeverFalls, Stays}
+use Rattle.np_tables.specs.Boundaries.{FoldsTo, IsBoundary, NeverFalls, IsYesStarter}
 use Rattle.np_tables.specs.Composites.{IsCompositeOf}
 use Rattle.np_tables.specs.Conditions.{IsSound}
 use Rattle.np_tables.specs.Mappings.{is_final}
 use Rattle.np_tables.specs.Versions.{VersionData, class_of}
 use Rattle.np_tables.specs.inside.CompositeSearch.{composite}
 use Rattle.np_tables.specs.inside.FullDecompositions.{full_of}
-use Rattle.np_tables.specs.Standing.{IsInert, MayFollow, StandsApart, Walks}
+use Rattle.np_tables.specs.Standing.{NeverComposesBackward, MayFollow, StandsApart, Walks}
 
 module _ (v : VersionData) (sound : IsSound v) where
   abbrev ccc : ℕ → ℕ
@@ -82,7 +82,7 @@ module _ (v : VersionData) (sound : IsSound v) where
     -- ---- it composes to what it came from
 
     module _ (on : composes form ≡ true) where
-      comes_back : (c : ℕ) (stays : Stays v form c) → FoldsTo v stays.boundary.first stays.boundary.rest c
+      comes_back : (c : ℕ) (stays : IsYesStarter v form c) → FoldsTo v stays.boundary.first stays.boundary.rest c
       comes_back c stays = subst (λ b. MatchBool b (FoldsTo v stays.boundary.first stays.boundary.rest c) (stays.boundary.first ∷ stays.boundary.rest ≡ c ∷ [])) on stays.returns
 
       last_fails : (p : ℕ → Bool) (fs : List ℕ) (a : ℕ) → p a ≡ false → list_all p (fs ++ a ∷ []) ≡ false
@@ -91,9 +91,9 @@ module _ (v : VersionData) (sound : IsSound v) where
 
       -- what may follow a, but doesn't stay, goes into nothing
       abbrev GoesBehind : ℕ → ℕ → Type 0
-      GoesBehind a c = IsInert v form c ⊎ StandsApart v form a c
+      GoesBehind a c = NeverComposesBackward v form c ⊎ StandsApart v form a c
 
-      goes_behind : (a c : ℕ) → IsInert v form c ⊎ ((kept : ℕ) × (Some a ≡ Some kept) × StandsApart v form kept c) → GoesBehind a c
+      goes_behind : (a c : ℕ) → NeverComposesBackward v form c ⊎ ((kept : ℕ) × (Some a ≡ Some kept) × StandsApart v form kept c) → GoesBehind a c
       goes_behind a c goes =
           elim goes [
             | inl inert ↦ inl inert
@@ -171,7 +171,7 @@ module _ (v : VersionData) (sound : IsSound v) where
       returns_before c first (m ∷ ms) n cs end whole starter rises folds walk =
           folds_over v sound first (m ∷ ms) c (flat_map full cs) folds rises (λ k. walk_kept c [] k n cs end (inl (starter, mapped c first m ms whole)) walk)
 
-      returns : (c n : ℕ) (cs : List ℕ) (end : ℕ) (stays : Stays v form c) → Walks May (Some c) n cs end
+      returns : (c n : ℕ) (cs : List ℕ) (end : ℕ) (stays : IsYesStarter v form c) → Walks May (Some c) n cs end
           → compose_after ccc (composite v) stays.boundary.first [] (canonical_order ccc (stays.boundary.rest ++ flat_map full cs)) ≡ compose_after ccc (composite v) c [] (order cs)
       returns c n cs end stays walk =
           let at = stays.boundary in
@@ -179,7 +179,7 @@ module _ (v : VersionData) (sound : IsSound v) where
           returns_before c at.first at.rest n cs end (full_of-boundary v form c sound at) (folds_starter at.first at.rest c at.starter back) stays.rises back walk
 
       -- it is a starter
-      stays_starter : (c : ℕ) → Stays v form c → ccc c ≡ 0
+      stays_starter : (c : ℕ) → IsYesStarter v form c → ccc c ≡ 0
       stays_starter c stays = folds_starter stays.boundary.first stays.boundary.rest c stays.boundary.starter (comes_back c stays)
 
       -- ---- the walk
@@ -229,7 +229,7 @@ module _ (v : VersionData) (sound : IsSound v) where
     whole (x ∷ xs) ys = x ∷ canonical_order ccc (xs ++ ys)
 
     -- where the form only decomposes, what stays is its own full decomposition
-    stays_front : composes form ≡ false → (c : ℕ) (cs : List ℕ) (stays : Stays v form c) → order (c ∷ cs) ≡ c ∷ order cs
+    stays_front : composes form ≡ false → (c : ℕ) (cs : List ℕ) (stays : IsYesStarter v form c) → order (c ∷ cs) ≡ c ∷ order cs
     stays_front off c cs stays =
         let at = stays.boundary in
         let same : at.first ∷ at.rest ≡ c ∷ [] = subst (λ b. MatchBool b (FoldsTo v at.first at.rest c) (at.first ∷ at.rest ≡ c ∷ [])) off stays.returns in

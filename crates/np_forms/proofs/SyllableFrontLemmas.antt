@@ -24,7 +24,7 @@ use Rattle.np_forms.proofs.SyllableTextLemmas.{closed-parts, jamo-boundary, jamo
 use Rattle.np_tables.proofs.HangulLemmas.{leading_jamo}
 use Rattle.np_tables.proofs.MappingLemmas.{IsFullDecomposition-full_of, flat_map-final, full_of-only}
 use Rattle.np_tables.proofs.PageHintLemmas.{unfolds}
-use Rattle.np_tables.specs.Boundaries.{BeginsAtBoundary, FoldsTo, IsBoundary, Stays}
+use Rattle.np_tables.specs.Boundaries.{BeginsAtBoundary, FoldsTo, IsBoundary, IsYesStarter}
 use Rattle.np_tables.specs.Composites.{IsCompositeOf}
 use Rattle.np_tables.specs.Conditions.{IsSound}
 use Rattle.np_tables.specs.Mappings.{IsFullDecomposition, is_final}
@@ -160,7 +160,7 @@ module _ (v : VersionData) (sound : IsSound v) (on : has_hangul v ≡ true) (for
 
 -- ---- ASCII that stands alone
 
-pub ascii-alone : (v : VersionData) (sound : IsSound v) (form : Form) → ((c : ℕ) → c < 128 → is_assigned v c ≡ true) → ((c : ℕ) → c < 128 → Stays v form c) → AsciiStandsAlone v form
+pub ascii-alone : (v : VersionData) (sound : IsSound v) (form : Form) → ((c : ℕ) → c < 128 → is_assigned v c ≡ true) → ((c : ℕ) → c < 128 → IsYesStarter v form c) → AsciiStandsAlone v form
 ascii-alone v sound form assigned stays c lt =
     record {
       assigned = assigned c lt;

@@ -2,7 +2,7 @@
 use Rattle.std.specs.Prelude.{ℕ, List, [], ◌∷◌, ◌++◌}
 use Rattle.np_code_points.specs.declared.forms.Form.{Form}
 use Rattle.np_forms.specs.Forms.{IsNormalForm}
-use Rattle.np_tables.specs.Boundaries.{IsBoundary, Stays}
+use Rattle.np_tables.specs.Boundaries.{IsBoundary, IsYesStarter}
 use Rattle.np_tables.specs.Conditions.{IsSound}
 use Rattle.np_tables.specs.Versions.{VersionData}
 
@@ -14,4 +14,4 @@ Parting =
 
 -- a code point that stays is its own form
 abbrev pub Staying : Type 0
-Staying = (v : VersionData) (form : Form) (c : ℕ) → IsSound v → Stays v form c → IsNormalForm v form (c ∷ []) (c ∷ [])
+Staying = (v : VersionData) (form : Form) (c : ℕ) → IsSound v → IsYesStarter v form c → IsNormalForm v form (c ∷ []) (c ∷ [])

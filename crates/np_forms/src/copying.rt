@@ -1,5 +1,18 @@
 //! The form of a whole text, in which what stays is copied, and what is left goes segment by segment
-//! through decomposition, ordering and composition (UAX #15, section 9.1).
+//! through decomposition, ordering and composition (UAX #15, section 9).
+//!
+//! A segment begins at a boundary and ends before the next one. Its ways, the first that fits:
+//!
+//! 1. A table spells its one code point, and a boundary follows: those bytes are written (`fronts.rt`).
+//! 2. Syllables, precomposed or as jamo, are made by arithmetic (`syllable_texts.rt`).
+//! 3. A starter and two non-starters in the wrong order are exchanged (`exchanged_texts.rt`).
+//! 4. A segment that composes to one code point is composed as it is decomposed (`composed_texts.rt`).
+//! 5. A segment that the form leaves as it is, though its code points might compose, is copied (`plain_texts.rt`).
+//! 6. A starter and non-starters without mappings are sorted and composed in place (`marked_texts.rt`).
+//! 7. Any other is decomposed into a list, sorted and composed.
+//!
+//! What is written goes into bytes of a fixed length, made before and grown by doubling: std's `String` calls
+//! `memmove` for each run, and a function for each character beyond ASCII.
 ghost use Rattle.std.specs.Prelude.{◌≡◌, ◌<◌, ◌⊎◌, ◌++◌, [], false, length, chars, encode_utf8_all, IsTrue, IsUtf8, IfOk, OnOk};
 ghost use Rattle.np_forms.specs.Assigned.{IsAssigned};
 ghost use Rattle.np_forms.specs.inside.Copies.{GoesOn, IsCopied, IsEndOf};
@@ -126,7 +139,8 @@ fn write_listed<'a, T: NormTable>(
     Ok(later)
 }
 
-/// The same, where most segments have a way of their own. It is made part of what calls it, as the cut is.
+/// Writes the form of the first segment of a text, and answers what follows. Most segments have a way of their
+/// own. It is made part of what calls it, as the cut is.
 #[inline(always)]
 pub(crate) fn write_next<'a, T: NormTable>(
     alloc: Global,

@@ -84,7 +84,7 @@ fn put_run(room: &mut [u8], at: usize, run: &[u8]) -> usize
     end
 }
 
-/// The same at the end of what was written.
+/// Puts a run at the end of what was written.
 #[inline(always)]
 fn write_run(room: &mut Vec<u8>, at: usize, run: &[u8]) -> usize
     requires { at + length run.now ≤ vec_len room.old }
@@ -142,7 +142,7 @@ fn put_char(room: &mut [u8], at: usize, c: char) -> usize
     }
 }
 
-/// The same at the end of what was written.
+/// Puts a character at the end of what was written.
 #[inline(always)]
 fn write_char(room: &mut Vec<u8>, at: usize, c: char) -> usize
     requires { at + 4 ≤ vec_len room.old }
@@ -153,8 +153,8 @@ fn write_char(room: &mut Vec<u8>, at: usize, c: char) -> usize
     put_char(room, at, c)
 }
 
-/// The same without a jump by how many bytes the character has, which in a list of code points of any size
-/// would be guessed wrongly: four bytes are put, and the place is behind those of the character.
+/// Puts a character without a jump by how many bytes it has: in a list of code points of any size that jump
+/// would be guessed wrongly. Four bytes are put, and the place is behind those of the character.
 #[inline(always)]
 fn put_any(room: &mut [u8], at: usize, c: char) -> usize
     requires { at + 4 ≤ length room.old }
@@ -183,7 +183,7 @@ fn put_codes(room: &mut [u8], at: usize, list: &[Classed]) -> usize
     end
 }
 
-/// The same at the end of what was written.
+/// Puts a list of code points at the end of what was written.
 #[inline(always)]
 fn write_codes(room: &mut Vec<u8>, at: usize, list: &[Classed]) -> usize
     requires { at + 4 * length list.now ≤ vec_len room.old }
@@ -249,7 +249,7 @@ impl OutText {
         Ok(())
     }
 
-    /// The same, but that it is called.
+    /// Appends bytes by a call.
     #[inline(never)]
     fn append_run(&mut self, run: &[u8]) -> Result<(), Memory>
         requires { IsUtf8 run.now }

@@ -104,8 +104,8 @@ pub fn npss<T: NormTable>(
     Ok(key)
 }
 
-/// The same of a text that is given up. Where it is known to be its own stabilized form, it is answered
-/// itself, and no memory is taken.
+/// The stabilized form of a text that is given up (UAX #15, section 12). Where the text is known to be its own
+/// stabilized form, it is answered itself, and no memory is taken.
 ///
 /// # Errors
 ///

@@ -1,7 +1,7 @@
 -- ASCII that stays under every form is assigned.
 use Rattle.std.proofs.Common.{◌≡◌, ℕ, ◌<◌, true, List, get_or, sym, ap, subst, ◌∙◌, arith}
 use Rattle.np_code_points.specs.declared.forms.Form.{Form}
-use Rattle.np_tables.specs.Boundaries.{Stays}
+use Rattle.np_tables.specs.Boundaries.{IsYesStarter}
 use Rattle.np_tables.specs.Versions.{VersionData, is_assigned}
 use Rattle.np_tables.specs.declared.page_words.Word.{Word}
 use Rattle.np_tables.specs.inside.FullLists.{FullLists}
@@ -21,7 +21,7 @@ module _ (v u : VersionData) (same : u ≡ v) (lists : FullLists) (blocks : List
       let w = get_or words (word_place blocks c) no_word in
       subst (λ x. is_assigned x c ≡ true) same (sym (pages.each c (omega (arith, lt))).assigned ∙ step_assigned form w (omega (arith, ascii_step c lt)))
 
-  pub ascii-stays : (c : ℕ) → c < 128 → Stays v form c
+  pub ascii-stays : (c : ℕ) → c < 128 → IsYesStarter v form c
   ascii-stays c lt =
       let w = get_or words (word_place blocks c) no_word in
-      subst (λ x. Stays x form c) same ((pages.each c (omega (arith, lt))).hints.stays form (step_stays form w (ascii_step c lt)))
+      subst (λ x. IsYesStarter x form c) same ((pages.each c (omega (arith, lt))).hints.stays form (step_stays form w (ascii_step c lt)))

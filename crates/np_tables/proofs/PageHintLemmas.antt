@@ -6,7 +6,7 @@ use Rattle.np_code_points.specs.declared.forms.Form.{Form}
 use Rattle.np_code_points.specs.Forms.{is_compat, composes}
 use Rattle.np_code_points.specs.declared.forms.Form.TheVariants.{Nfd, Nfc, Nfkd, Nfkc}
 use Rattle.np_code_points.proofs.HangulLemmas.{among_bounds, among_from_bounds, pair_exists, pair_kinds}
-use Rattle.np_tables.specs.Boundaries.{IsBoundary, Stays, NeverFalls, FoldsTo}
+use Rattle.np_tables.specs.Boundaries.{IsBoundary, IsYesStarter, NeverFalls, FoldsTo}
 use Rattle.np_tables.specs.Composites.{IsCompositeOf}
 use Rattle.np_tables.specs.Conditions.{IsSound}
 use Rattle.np_tables.specs.Mappings.{counts, is_final, parts, IsFullDecomposition}
@@ -46,7 +46,7 @@ module _ (v : VersionData) (compat : Bool) (c first : ℕ) (rest : List ℕ) (fu
     by_parts form kind false e is = boundary-of form kind (starter is) (λ on. absurd (both_ways _ e on))
     by_parts form kind true e is = boundary-of form kind (starter (both is)) (λ on. apart is)
 
-    by_stays : (form : Form) → is_compat form ≡ compat → (b : Bool) → composes form ≡ b → stays_under b h ≡ true → Stays v form c
+    by_stays : (form : Form) → is_compat form ≡ compat → (b : Bool) → composes form ≡ b → stays_under b h ≡ true → IsYesStarter v form c
     unfolding boundary-of
     by_stays form kind false e is = absurd (both_ways _ none is)
     by_stays form kind true e is =
@@ -285,7 +285,7 @@ module _ (a b : Hints) where
     parts-both form false e is = canonical.parts form e is
     parts-both form true e is = compatible.parts form e is
 
-    stays-both : (form : Form) → (k : Bool) → is_compat form ≡ k → stays_under (composes form) (if k then b else a) ≡ true → Stays v form c
+    stays-both : (form : Form) → (k : Bool) → is_compat form ≡ k → stays_under (composes form) (if k then b else a) ≡ true → IsYesStarter v form c
     stays-both form false e is = canonical.stays form e is
     stays-both form true e is = compatible.stays form e is
 

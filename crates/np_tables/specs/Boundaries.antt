@@ -1,4 +1,4 @@
--- Code points at which a normal form parts, and those that it leaves as they are (UAX #15, section 9.1).
+-- Code points at which a normal form parts, and starters that pass the quick check (UAX #15, section 9).
 use Rattle.std.specs.Prelude.{◌≡◌, ℕ, ◌≤◌, ⊤, true, List, [], ◌∷◌, MatchBool}
 use Rattle.np_code_points.specs.declared.forms.Form.{Form}
 use Rattle.np_code_points.specs.Forms.{is_compat, composes}
@@ -30,8 +30,9 @@ abbrev pub FoldsTo : VersionData → ℕ → List ℕ → ℕ → Type 0
 FoldsTo v s [] c = s ≡ c
 FoldsTo v s (b ∷ bs) c = (p : ℕ) × IsCompositeOf v s b p × FoldsTo v p bs c
 
--- a boundary that is its own normal form: its full decomposition is c itself, or composes to c again
-pub record Stays (v : VersionData) (form : Form) (c : ℕ) : Type 0 where
+-- a boundary that is its own normal form, so a starter of which the quick check says Yes: its full decomposition is c itself, or
+-- composes to c again; what follows may still compose with it
+pub record IsYesStarter (v : VersionData) (form : Form) (c : ℕ) : Type 0 where
   pub boundary : IsBoundary v form c
   pub rises : NeverFalls (class_of v) boundary.rest
   pub returns : MatchBool (composes form) (FoldsTo v boundary.first boundary.rest c) (boundary.first ∷ boundary.rest ≡ c ∷ [])

@@ -1,15 +1,16 @@
--- What stands in a normal form as it is: code points that stay (UAX #15, section 9.1), and in canonical order those without a mapping that go into nothing.
+-- Fronts of texts that are their own normal form: starters that pass the quick check (UAX #15, section 9), and in canonical order
+-- code points without a mapping that compose with nothing before them.
 use Rattle.std.specs.Prelude.{◌≡◌, ℕ, ◌<◌, ◌≤◌, ◌⊎◌, true, List, [], ◌∷◌, ◌++◌, Option, Some, None, length, chars, encode_utf8_all, IsUtf8}
 use Rattle.np_code_points.specs.declared.forms.Form.{Form}
 use Rattle.np_code_points.specs.Forms.{is_compat, composes}
-use Rattle.np_tables.specs.Boundaries.{Stays}
+use Rattle.np_tables.specs.Boundaries.{IsYesStarter}
 use Rattle.np_tables.specs.Composites.{IsCompositeOf}
 use Rattle.np_tables.specs.Mappings.{is_final}
 use Rattle.np_tables.specs.Versions.{VersionData, class_of}
 
 -- where the form composes, c is the second part of no primary composite
-abbrev pub IsInert : VersionData → Form → ℕ → Type 0
-IsInert v form c = composes form ≡ true → (a p : ℕ) → ¬ (IsCompositeOf v a c p)
+abbrev pub NeverComposesBackward : VersionData → Form → ℕ → Type 0
+NeverComposesBackward v form c = composes form ≡ true → (a p : ℕ) → ¬ (IsCompositeOf v a c p)
 
 -- right behind the code point `kept` c goes into nothing: that is a non-starter which blocks it, or a starter with which it is the
 -- pair of no primary composite, and which has no mapping of the form's kind, since with a part of that it might be one
@@ -17,9 +18,9 @@ abbrev pub StandsApart : VersionData → Form → ℕ → ℕ → Type 0
 StandsApart v form kept c = ((0 < class_of v kept) × (class_of v c ≤ class_of v kept)) ⊎ ((class_of v kept ≡ 0) × (is_final v (is_compat form) kept ≡ true) × ((p : ℕ) → ¬ (IsCompositeOf v kept c p)))
 
 -- behind the code point `before`, where no class but 0 may follow that is below `last`, c may stand in the form as it is, and behind
--- it n is such a bound: c stays, whatever n is; or it has no mapping of the form's kind, its class may follow, and it goes into nothing
+-- it n is such a bound: c is a starter that passes the quick check, whatever n is; or it has no mapping of the form's kind, its class may follow, and it goes into nothing
 abbrev pub MayFollow : VersionData → Form → Option ℕ → ℕ → ℕ → ℕ → Type 0
-MayFollow v form before last c n = Stays v form c ⊎ ((is_final v (is_compat form) c ≡ true) × (n ≡ class_of v c) × ((n ≡ 0) ⊎ (last ≤ n)) × (IsInert v form c ⊎ ((kept : ℕ) × (before ≡ Some kept) × StandsApart v form kept c)))
+MayFollow v form before last c n = IsYesStarter v form c ⊎ ((is_final v (is_compat form) c ≡ true) × (n ≡ class_of v c) × ((n ≡ 0) ⊎ (last ≤ n)) × (NeverComposesBackward v form c ⊎ ((kept : ℕ) × (before ≡ Some kept) × StandsApart v form kept c)))
 
 -- a walk over a list, which begins behind a code point, or none, with one number and ends with another: each step leads from
 -- the code point before and a number over a code point to a number

@@ -65,8 +65,8 @@ pub(crate) fn own_hints(class: u8, apart: bool) -> Hints
     }
 }
 
-/// The same, but that a leading consonant isn't known to stay where the form composes: mostly it begins a
-/// syllable.
+/// What is known of a code point by itself. Of a leading consonant it isn't told that it stays where the form
+/// composes: mostly it begins a syllable.
 pub(crate) fn leading_hints(leading: bool, own: Hints) -> Hints
     ensures { (v : VersionData) (compat : Bool) (c : ℕ) → AreHints v compat c own → AreHints v compat c result }
 {

@@ -124,7 +124,7 @@ impl Pairs {
         Ok(pairs)
     }
 
-    /// The same composites in their order.
+    /// The composites, put in order.
     fn of_composites(alloc: Global, mut composites: Vec<Composite>) -> Result<Pairs, Memory>
         requires { All IsInRange composites.items }
         ensures { IfOk result (IsPermutation composites.items) }

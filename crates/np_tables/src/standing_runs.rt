@@ -1,6 +1,11 @@
-//! Runs of code points that may stand in a normal form one behind the other as they are: those that
-//! stay, and behind them non-starters in canonical order that compose with nothing, or go into nothing
+//! Runs of code points that may stand in a normal form one behind the other as they are: starters that pass the
+//! quick check, and behind them non-starters in canonical order that compose with nothing, or go into nothing
 //! where they stand.
+//!
+//! A non-starter that is the second part of no composite follows a composite whatever its class is: the parts
+//! that canonical ordering puts behind it still go into the starter. One that may compose backward is not taken
+//! to follow a composite or a syllable, since it may go into a part of that (00E0 0323). What is copied ends
+//! before a boundary or with the text; where neither follows, what begins at the last boundary is made anew.
 ghost use Rattle.std.specs.Prelude.{◌≡◌, ◌<◌, ◌≤◌, ℕ, chars, drop, length, slice_index_or, true, false, IfSome, IsTrue, IsUtf8};
 ghost use Rattle.np_tables.specs.Boundaries.{BeginsAtBoundary};
 ghost use Rattle.np_tables.specs.Versions.{VersionData};
@@ -190,8 +195,8 @@ fn word_behind(blocks: &[u16], words: &[Word], c: char) -> Word
     word_of(blocks, words, c)
 }
 
-/// How many bytes at the front of a text are code points that may follow one another as they are, each
-/// of them of a step that is no less than `least`, or one that goes into nothing behind the one before; and
+/// How many bytes at the front of a text are code points that may follow one another as they are. Each has a
+/// step that is no less than `least`, or goes into nothing behind the one before. The second answer tells
 /// whether the form is known to part before what follows them.
 pub(crate) fn standing_front(
     version: &Version,

@@ -2,7 +2,7 @@
 ghost use Rattle.std.specs.List.{list_all};
 ghost use Rattle.std.specs.Prelude.{◌≡◌, ◌<◌, ◌≤◌, ℕ, true, false, take, drop, chars, IfSome, IfNone, IsTrue};
 ghost use Rattle.np_code_points.specs.declared.forms.Form.{Form};
-ghost use Rattle.np_tables.specs.Boundaries.{BeginsAtBoundary, IsBoundary, Stays};
+ghost use Rattle.np_tables.specs.Boundaries.{BeginsAtBoundary, IsBoundary, IsYesStarter};
 ghost use Rattle.np_tables.specs.Composites.{IsCompositeOf};
 ghost use Rattle.np_tables.specs.inside.CompositeSearch.{composite};
 ghost use Rattle.np_tables.specs.Conditions.{IsSound};
@@ -100,22 +100,23 @@ pub trait NormTable {
         UNKNOWN
     }
 
-    /// Whether each ASCII character is known to be assigned and to stay in the form as it is, whatever it
-    /// stands between. A table may answer `false` where they do.
+    /// Whether each ASCII character is known to be assigned, its own form, and a boundary: the form parts
+    /// before it. What stands behind it may compose with it, as 0301 does with `e`. A table may answer `false`
+    /// where all of this holds.
     fn ascii_stands(&self, form: Form) -> bool
         ensures assigned { IsTrue result → (c : ℕ) → c < 128 → is_assigned (model self.now) c ≡ true }
-        ensures stays { IsTrue result → (c : ℕ) → c < 128 → Stays (model self.now) form c }
+        ensures stays { IsTrue result → (c : ℕ) → c < 128 → IsYesStarter (model self.now) form c }
     {
         // the same
         let _unused = form;
         UNKNOWN
     }
 
-    /// How many bytes at the front of a text are known to stand in the form as they are, if a
-    /// boundary or nothing follows: code points that stay, and behind them non-starters in canonical
-    /// order that compose with nothing, or go into nothing where they stand; where `assigned` is asked for, each
-    /// of them is. Behind that it tells whether the form is known to part before what follows them. A table may
-    /// answer less, down to 0 and `false`.
+    /// How many bytes at the front of a text are known to be their own form, if a boundary or nothing follows.
+    /// They are starters that pass the quick check (UAX #15, section 9). Behind these may stand other code points
+    /// without a mapping that compose with nothing before them: non-starters in canonical order, and starters
+    /// (class 0) too. Where `assigned` is asked for, each of them is. The second answer tells whether the form is
+    /// known to part before what follows. A table may answer less, down to 0 and `false`.
     fn standing(&self, form: Form, assigned: bool, text: &str) -> (usize, bool)
         ensures standing { AreStanding (model self.now) form text.now result.0 }
         ensures assigned { IsTrue assigned → list_all (is_assigned (model self.now)) (chars (take result.0 text.now)) ≡ true }

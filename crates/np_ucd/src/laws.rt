@@ -23,8 +23,8 @@ pub fn first_fault()
 {}
 
 /// The rows of UnicodeData.txt without a fault are those of its records that begin no range (UAX
-/// #44, table 9, and section 4.2.3), each with the code points, the class and the mapping that the
-/// fields say, in the order of the code points; and no other list is.
+/// #44, table 9, and section 4.2.3). Each has the code points, the class and the mapping that the
+/// fields say. They are in the order of the code points, and no other list is right.
 pub fn rows()
     ensures { HasOneListOfRows }
 {}

@@ -102,7 +102,8 @@ fn cut_twelve(text: &[u8]) -> Option<(&[u8], &[u8])>
     }
 }
 
-/// The same. Those of half of the records, letters without a mapping, need no cutting.
+/// The class and the mapping among the fields behind the name. Half of the records are letters without a
+/// mapping, whose fields need no cutting.
 fn class_and_mapping(text: &[u8]) -> Option<(&[u8], &[u8])>
     ensures { MatchOption result (length (parts text.now) ≢ 12)
         (λ p. (length (parts text.now) ≡ 12) × (p.0.now ≡ field 0 text.now) × (p.1.now ≡ field 2 text.now)) }

@@ -51,7 +51,7 @@ impl Calls {
         }
     }
 
-    /// The same calls so far; that of this number fails.
+    /// As many calls so far, of which that of this number fails.
     fn failing_at(self, call: u64, failure: Failure) -> Self
         ensures fails { result.fails ≡ Some (call, failure) }
         ensures count { result.made ≡ self.made }

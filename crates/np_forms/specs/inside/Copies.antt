@@ -3,7 +3,7 @@ use Rattle.std.specs.Prelude.{◌≡◌, ◌≢◌, ◌<◌, ◌≤◌, ℕ, tru
 use denote.Ref.{Bor}
 use Rattle.np_code_points.specs.declared.forms.Form.{Form}
 use Rattle.np_forms.specs.inside.NormalForms.{normal_form}
-use Rattle.np_tables.specs.Boundaries.{BeginsAtBoundary, IsBoundary, Stays}
+use Rattle.np_tables.specs.Boundaries.{BeginsAtBoundary, IsBoundary, IsYesStarter}
 use Rattle.np_tables.specs.inside.PageWords.{IsPast}
 use Rattle.np_tables.specs.Versions.{VersionData, is_assigned}
 
@@ -25,7 +25,7 @@ AsciiStandsAlone v form = (c : ℕ) → c < 128 → StandsAlone v form c
 
 -- an assigned code point stays
 abbrev pub IsStaying : VersionData → Form → ℕ → Type 0
-IsStaying v form c = Stays v form c × (is_assigned v c ≡ true)
+IsStaying v form c = IsYesStarter v form c × (is_assigned v c ≡ true)
 
 -- each ASCII character does
 abbrev pub AsciiStays : VersionData → Form → Type 0

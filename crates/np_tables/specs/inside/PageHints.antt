@@ -4,7 +4,7 @@ use Rattle.np_code_points.specs.declared.forms.Form.{Form}
 use Rattle.np_code_points.specs.Forms.{is_compat, composes}
 use Rattle.np_code_points.specs.declared.forms.Form.TheVariants.{Nfd, Nfc, Nfkd, Nfkc}
 use Rattle.np_ucd.specs.Entries.{Entry}
-use Rattle.np_tables.specs.Boundaries.{IsBoundary, Stays}
+use Rattle.np_tables.specs.Boundaries.{IsBoundary, IsYesStarter}
 use Rattle.np_tables.specs.Composites.{IsCompositeOf}
 use Rattle.np_tables.specs.Versions.{VersionData, entry_at}
 use Rattle.np_tables.specs.declared.page_hints.Hints.{Hints}
@@ -36,7 +36,7 @@ stays_under true h = h.stays_composing
 -- what is said of a code point under each form of a kind is so
 pub record AreHints (v : VersionData) (compat : Bool) (c : ℕ) (h : Hints) : Type 0 where
   pub parts : (form : Form) → is_compat form ≡ compat → parts_under (composes form) h ≡ true → IsBoundary v form c
-  pub stays : (form : Form) → is_compat form ≡ compat → stays_under (composes form) h ≡ true → Stays v form c
+  pub stays : (form : Form) → is_compat form ≡ compat → stays_under (composes form) h ≡ true → IsYesStarter v form c
 
 -- of a code point that has no mapping of the kind: by its class, and whether it is no second part of a composite
 abbrev pub own_hints : ℕ → Bool → Hints
@@ -95,4 +95,4 @@ has_bit bits place = bits / 2 ^ place % 2 == 1
 -- what the bits say of a code point is so
 pub record AreBits (v : VersionData) (c bits : ℕ) : Type 0 where
   pub parts : (form : Form) → has_bit bits (parts_place form) ≡ true → IsBoundary v form c
-  pub stays : (form : Form) → has_bit bits (stays_place form) ≡ true → Stays v form c
+  pub stays : (form : Form) → has_bit bits (stays_place form) ≡ true → IsYesStarter v form c
