@@ -44,7 +44,7 @@ CALLS = {
     "code_points": ("chars_of", "string_of", "write_code"),
     "ucd": ("read_rows", "read_exclusions"),
     "tables": ("build", "row_table", "page_table"),
-    "forms": ("form", "npss", "into_npss", "is_form", "is_stream_safe", "equivalent", "feed", "finish", "run"),
+    "forms": ("form", "npss", "into_npss", "is_form", "equivalent", "feed", "finish", "run"),
     "chain": ("audit",),
     "node": ("accept", "take", "image", "restore"),
     "world": ("read_schedule", "replay", "report_text"),

@@ -51,7 +51,7 @@ CALLS = [
     Call("npss", "np_forms", "stabilized.rt", "Err(NpssFault::Memory)", "a_refused_npss_"),
     Call("into_npss", "np_forms", "stabilized.rt", "Err(NpssFault::Memory)", "a_refused_into_npss_"),
     Call("is_form", "np_forms", "forms.rt", "Err(Memory)", "a_refused_is_form_"),
-    Call("is_stream_safe", "np_forms", "stream_safety.rt", "Err(Memory)", "a_refused_is_stream_safe_"),
+    Call("is_stream_safe", "np_forms", "stream_safety.rt", "Err(Memory)", "thirty_non_starters_"),
     Call("equivalent", "np_forms", "equivalence.rt", "Err(Memory)", "a_refused_equivalent_"),
     Call("feed", "np_forms", "streams.rt", "Err(Memory)", "a_refused_feed_"),
     Call("finish", "np_forms", "streams.rt", "Err(Memory)", "a_refused_finish_"),

@@ -1,5 +1,5 @@
 -- The longest run of non-starters, counted and as a relation.
-use Rattle.std.proofs.Common.{◌≡◌, ℕ, suc, ◌+◌, ◌<◌, ◌≤◌, ◌⊎◌, ◌↔◌, Bool, true, false, not, nat_lt, max, IsTrue, List, [], ◌∷◌, ◌++◌, length, refl, sym, ap, subst, ◌∙◌, arith, inl, inr, eq-eqb}
+use Rattle.std.proofs.Common.{◌≡◌, ℕ, suc, ◌+◌, ◌<◌, ◌≤◌, ◌⊎◌, ◌↔◌, Bool, true, false, not, nat_lt, max, IsTrue, List, [], ◌∷◌, ◌++◌, length, flat_map, refl, sym, ap, subst, ◌∙◌, arith, inl, inr, eq-eqb}
 use Rattle.std.proofs.lemmas.Bool.{cases_Bool, cond-true, cond-false, and_parts, and_from, not-true, ltb-true, ltb-false, lt-ltb, le-ltb}
 use Rattle.std.specs.List.{list_all}
 use Rattle.np_code_points.specs.declared.forms.Form.TheVariants.{Nfkd}
@@ -8,7 +8,11 @@ use Rattle.np_tables.specs.Versions.{VersionData, class_of}
 use Rattle.np_forms.specs.Starters.{is_starter, is_non_starter}
 use Rattle.np_forms.specs.inside.NormalForms.{decomposed, normal_form}
 use Rattle.np_forms.specs.StreamSafe.{HasRunOver, IsStreamSafe}
-use Rattle.np_forms.specs.inside.Runs.{longest_run}
+use Rattle.np_forms.specs.inside.CanonicalOrder.{canonical_order}
+use Rattle.np_forms.specs.inside.Runs.{longest_run, runs_over}
+use Rattle.np_forms.specs.Order.{is_reorderable}
+use Rattle.np_tables.specs.inside.FullDecompositions.{full_of}
+use Rattle.np_forms.proofs.OrderLemmas.{canonical_order-keeps, is_reorderable-true}
 use Rattle.np_forms.proofs.ComposeLemmas.{not_starter_from}
 use Rattle.np_forms.proofs.FormLemmas.{IsNormalForm-normal_form, normal_form_is}
 
@@ -110,31 +114,53 @@ module _ (v : VersionData) where
 
   -- ---- the steps of a count that stops past 30
 
-  pub count-starter : (n c : ℕ) (cs : List ℕ) → n ≤ 30 → class_of v c ≡ 0 → nat_lt 30 (longest_run ccc n (c ∷ cs)) ≡ nat_lt 30 (longest_run ccc 0 cs)
-  count-starter n c cs few starter =
+  pub over-past : (n c : ℕ) (cs : List ℕ) → 30 < n → runs_over ccc n cs ≡ runs_over ccc n (c ∷ cs)
+  over-past n c cs past = lt-ltb 30 _ (omega (arith, longest-least n cs)) ∙ sym (lt-ltb 30 _ (omega (arith, longest-least n (c ∷ cs))))
+
+  pub over-starter : (n c : ℕ) (cs : List ℕ) → n ≤ 30 → class_of v c ≡ 0 → runs_over ccc 0 cs ≡ runs_over ccc n (c ∷ cs)
+  over-starter n c cs few starter =
       let e = longest-starter n c cs (eq-eqb (ccc c) 0 starter) in
       elim (cases_Bool (nat_lt 30 (longest_run ccc 0 cs))) [
-        | inl long ↦ lt-ltb 30 _ (omega (arith, ltb-true 30 _ long)) ∙ sym long
-        | inr short ↦ le-ltb 30 _ (omega (arith, ltb-false 30 _ short)) ∙ sym short
+        | inl long ↦ long ∙ sym (lt-ltb 30 _ (omega (arith, ltb-true 30 _ long)))
+        | inr short ↦ short ∙ sym (le-ltb 30 _ (omega (arith, ltb-false 30 _ short)))
       ]
 
-  pub count-non_starter : (n c : ℕ) (cs : List ℕ) → 0 < class_of v c → nat_lt 30 (longest_run ccc n (c ∷ cs)) ≡ nat_lt 30 (longest_run ccc (n + 1) cs)
-  count-non_starter n c cs non_starter =
+  pub over-non_starter : (n c : ℕ) (cs : List ℕ) → 0 < class_of v c → runs_over ccc (n + 1) cs ≡ runs_over ccc n (c ∷ cs)
+  over-non_starter n c cs non_starter =
       let same : suc n ≡ n + 1 = omega arith in
-      ap (nat_lt 30) (longest-non_starter n c cs (not_starter_from ccc c non_starter) ∙ ap (λ k. longest_run ccc k cs) same)
+      ap (nat_lt 30) (sym (longest-non_starter n c cs (not_starter_from ccc c non_starter) ∙ ap (λ k. longest_run ccc k cs) same))
 
-  pub count-over : (n c : ℕ) (cs : List ℕ) → n ≡ 30 → 0 < class_of v c → nat_lt 30 (longest_run ccc n (c ∷ cs)) ≡ true
-  count-over n c cs full non_starter = count-non_starter n c cs non_starter ∙ lt-ltb 30 _ (omega (arith, longest-least (n + 1) cs))
+  pub over-end : (n : ℕ) → runs_over ccc n [] ≡ nat_lt 30 n
+  over-end n = ap (nat_lt 30) (longest-nil n)
 
-  pub count-end : (n : ℕ) → n ≤ 30 → nat_lt 30 (longest_run ccc n []) ≡ false
-  count-end n few = le-ltb 30 _ (omega (arith, longest-nil n))
+  -- canonical ordering leaves each run as long as it was
+
+  longest-exchanged : (k : ℕ) (us : List ℕ) (a b : ℕ) (vs : List ℕ) → is_reorderable ccc a b ≡ true → longest_run ccc k (us ++ a ∷ b ∷ vs) ≡ longest_run ccc k (us ++ b ∷ a ∷ vs)
+  longest-exchanged k [] a b vs pair =
+      let classes = is_reorderable-true ccc a b pair in
+      let first : is_starter ccc a ≡ false = not_starter_from ccc a (omega (arith, classes.0, classes.1)) in
+      let second : is_starter ccc b ≡ false = not_starter_from ccc b classes.0 in
+      longest-non_starter k a (b ∷ vs) first ∙ longest-non_starter (suc k) b vs second
+      ∙ sym (longest-non_starter k b (a ∷ vs) second ∙ longest-non_starter (suc k) a vs first)
+  longest-exchanged k (u ∷ us) a b vs pair =
+      elim (cases_Bool (is_starter ccc u)) [
+        | inl starter ↦ longest-starter k u (us ++ a ∷ b ∷ vs) starter ∙ ap (max k) (longest-exchanged 0 us a b vs pair) ∙ sym (longest-starter k u (us ++ b ∷ a ∷ vs) starter)
+        | inr other ↦ longest-non_starter k u (us ++ a ∷ b ∷ vs) other ∙ longest-exchanged (suc k) us a b vs pair ∙ sym (longest-non_starter k u (us ++ b ∷ a ∷ vs) other)
+      ]
+
+  longest-ordered : (cs : List ℕ) → longest_run ccc 0 (canonical_order ccc cs) ≡ longest_run ccc 0 cs
+  longest-ordered cs = canonical_order-keeps ccc (longest_run ccc 0) (longest-exchanged 0) cs
+
+  over-decomposed : (xs : List ℕ) → runs_over ccc 0 (decomposed v true xs) ≡ runs_over ccc 0 (flat_map (full_of v true) xs)
+  unfolding decomposed
+  over-decomposed xs = ap (nat_lt 30) (longest-ordered (flat_map (full_of v true) xs))
 
   nfkd_is : (xs : List ℕ) → normal_form v Nfkd xs ≡ decomposed v true xs
   unfolding normal_form
   nfkd_is xs = refl
 
   -- a text is stream-safe exactly where the count of its NFKD form stays at 30 or below
-  pub IsStreamSafe-counted : IsSound v → (xs : List ℕ) (b : Bool) → b ≡ not (nat_lt 30 (longest_run ccc 0 (decomposed v true xs))) → IsTrue b ↔ IsStreamSafe v xs
+  IsStreamSafe-counted : IsSound v → (xs : List ℕ) (b : Bool) → b ≡ not (nat_lt 30 (longest_run ccc 0 (decomposed v true xs))) → IsTrue b ↔ IsStreamSafe v xs
   IsStreamSafe-counted sound xs b is =
       let over = HasRunOver-longest 30 (normal_form v Nfkd xs) in
       let same : longest_run ccc 0 (normal_form v Nfkd xs) ≡ longest_run ccc 0 (decomposed v true xs) = ap (longest_run ccc 0) (nfkd_is xs) in (
@@ -149,3 +175,7 @@ module _ (v : VersionData) where
               | inr short ↦ is ∙ ap not short
             ],
       )
+
+  -- and so where the count of its full decomposition does
+  pub IsStreamSafe-few : IsSound v → (xs : List ℕ) (b : Bool) → b ≡ not (runs_over ccc 0 (flat_map (full_of v true) xs)) → IsTrue b ↔ IsStreamSafe v xs
+  IsStreamSafe-few sound xs b is = IsStreamSafe-counted sound xs b (is ∙ ap not (sym (over-decomposed xs)))

@@ -65,24 +65,6 @@ pub(crate) fn append<T: NormTable>(
     Ok(())
 }
 
-/// Makes a list the full decomposition of a text, in the order of the text.
-pub(crate) fn decompose_into<T: NormTable>(
-    table: &T,
-    compat: bool,
-    text: &str,
-    list: &mut Vec<Classed>,
-) -> Result<(), Memory>
-    ensures { OnOk result (list.new.items ≡ with_classes (T.model table.now) (flat_map (full_of (T.model table.now) compat) (chars text.now))) }
-{
-    table.meets_conditions();
-    let hangul = table.hangul();
-    list.clear();
-    for c in text.chars() {
-        append(list, table, hangul, compat, c)?;
-    }
-    Ok(())
-}
-
 /// Makes a list the full decomposition of the first segment of a text, which ends before the first code
 /// point behind its first one at which the form is known to part, and answers what follows it.
 pub(crate) fn decompose_first<'a, T: NormTable>(

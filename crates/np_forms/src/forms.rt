@@ -1,33 +1,14 @@
 //! The four normalization forms (The Unicode Standard, D118 to D121).
 ghost use Rattle.std.specs.Prelude.{◌≡◌, ◌↔◌, IsTrue, chars, string_bytes, encode_utf8_all, IfOk};
 ghost use Rattle.np_forms.specs.Forms.{IsNormalForm};
-ghost use Rattle.np_forms.specs.inside.Classes.{with_classes};
 ghost use Rattle.np_forms.specs.inside.Copies.{IsBehind};
-ghost use Rattle.np_forms.specs.inside.NormalForms.{decomposed as decomposed_list, normal_form};
+ghost use Rattle.np_forms.specs.inside.NormalForms.{normal_form};
 
-use crate::classes::Classed;
 use crate::copying::{split_standing, write_form, write_next};
-use crate::decomposing::decompose_into;
-use crate::ordering::order;
 use crate::out_texts::OutText;
 use np_code_points::{Form, Memory};
 use np_tables::NormTable;
 use std::alloc::Global;
-
-/// The full decomposition of a text in canonical order, each code point beside its class.
-pub(crate) fn decomposed<T: NormTable>(
-    alloc: Global,
-    table: &T,
-    compat: bool,
-    text: &str,
-) -> Result<Vec<Classed>, Memory>
-    ensures { IfOk result (λ list. list.items ≡ with_classes (T.model table.now) (decomposed_list (T.model table.now) compat (chars text.now))) }
-{
-    let mut list = Vec::with_capacity(alloc, text.len())?;
-    decompose_into(table, compat, text, &mut list)?;
-    order(alloc, &mut list)?;
-    Ok(list)
-}
 
 /// The normal form of a text, whether or not its code points are assigned.
 ///

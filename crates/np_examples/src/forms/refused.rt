@@ -6,17 +6,13 @@ use np_code_points::text::string_of;
 use np_code_points::watched::Watched;
 use np_code_points::{Form, Memory};
 use np_forms::{
-    NpssFault, RunFault, Stream, equivalent, form, into_npss, is_form, is_stream_safe, npss, run,
+    NpssFault, RunFault, Stream, equivalent, form, into_npss, is_form, npss, run,
 };
 use np_tables::NormTable;
 use std::alloc::Global;
 use std::test::Fail;
 
 const TEXT: &str = "\u{61}\u{302}\u{323}";
-
-/// Thirty-one non-starters behind a letter: one more than is stream-safe.
-const LONG: &str =
-    "\u{61}\u{302}\u{302}\u{302}\u{302}\u{302}\u{302}\u{302}\u{302}\u{302}\u{302}\u{302}\u{302}\u{302}\u{302}\u{302}\u{302}\u{302}\u{302}\u{302}\u{302}\u{302}\u{302}\u{302}\u{302}\u{302}\u{302}\u{302}\u{302}\u{302}\u{302}\u{302}";
 
 /// The calls that can want memory.
 #[derive(Clone, Copy, PartialEq, Eq)]
@@ -25,7 +21,6 @@ enum Call {
     Npss,
     IntoNpss,
     IsForm,
-    IsStreamSafe,
     Equivalent,
     Feed,
     Finish,
@@ -73,16 +68,6 @@ fn in_form<T: NormTable>(
 ) -> Result<(), Fail> {
     let answer = again(&Memory, &|| is_form(alloc, table, wanted, text))?;
     want(answer == holds, "whether it is in the form")
-}
-
-fn stream_safe<T: NormTable>(
-    alloc: Global,
-    table: &T,
-    text: &str,
-    holds: bool,
-) -> Result<(), Fail> {
-    let answer = again(&Memory, &|| is_stream_safe(alloc, table, text))?;
-    want(answer == holds, "whether it is stream-safe")
 }
 
 fn alike<T: NormTable>(alloc: Global, table: &T, compat: bool) -> Result<(), Fail> {
@@ -187,10 +172,6 @@ impl Example for Call {
                 in_form(alloc, table, Form::Nfc, "\u{1EAD}", true)?;
                 in_form(alloc, table, Form::Nfd, "\u{1EAD}", false)
             }
-            Call::IsStreamSafe => {
-                stream_safe(alloc, table, TEXT, true)?;
-                stream_safe(alloc, table, LONG, false)
-            }
             Call::Equivalent => {
                 alike(alloc, table, false)?;
                 alike(alloc, table, true)
@@ -219,11 +200,6 @@ fn a_refused_into_npss_succeeds_after_all(rt: HostRuntime) -> Result<(), Fail> {
 #[test]
 fn a_refused_is_form_succeeds_after_all(rt: HostRuntime) -> Result<(), Fail> {
     holds_over_each(rt.alloc(), V1, &Call::IsForm)
-}
-
-#[test]
-fn a_refused_is_stream_safe_succeeds_after_all(rt: HostRuntime) -> Result<(), Fail> {
-    holds_over_each(rt.alloc(), V1, &Call::IsStreamSafe)
 }
 
 #[test]

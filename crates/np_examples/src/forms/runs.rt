@@ -11,7 +11,7 @@ use std::io::Read;
 use std::test::Fail;
 
 /// The letter a with a circumflex and a dot below, which compose to 1EAD.
-const LETTER: [u8; 5] = [0x61, 0xcc, 0x82, 0xcc, 0xa3];
+const LETTER: &[u8] = &[0x61, 0xcc, 0x82, 0xcc, 0xa3];
 
 /// Fails unless a run over the source answers this, and writes these bytes.
 fn wants_run<R: Read + Drop, T: NormTable>(
@@ -29,26 +29,43 @@ fn wants_run<R: Read + Drop, T: NormTable>(
     want(room.bytes() == bytes, "the bytes")
 }
 
-/// The five bytes in the two pieces that end at `at`, each read `piece` bytes at a time.
-fn cut_letter<T: NormTable>(alloc: Global, table: &T, at: usize, piece: usize) -> Result<(), Fail> {
-    let (first, second) = LETTER.split_at(at.min(5));
-    let source = Trickle::new(first, piece).chain(Trickle::new(second, 5));
-    wants_run(
-        alloc,
-        table,
-        Form::Nfc,
-        Watched::new(source),
-        Ok(3),
-        b"\xe1\xba\xad",
-    )
+/// Whether a cutting of five bytes cuts before a place: of 1 to 4, the bit of that place tells.
+fn cuts_at(cutting: usize, place: usize) -> bool {
+    match place {
+        1 => cutting & 1 != 0,
+        2 => cutting & 2 != 0,
+        3 => cutting & 4 != 0,
+        4 => cutting & 8 != 0,
+        _ => true,
+    }
 }
 
-/// Each place, and pieces of one, two and five bytes before it: all cuttings of five bytes.
-fn cuttings<T: NormTable>(alloc: Global, table: &T) -> Result<(), Fail> {
-    for at in 0..6 {
-        for piece in 1..5 {
-            cut_letter(alloc, table, at, piece)?;
+/// The piece of a cutting that begins at a place, as a source; nothing where it doesn't cut there.
+fn piece_at(cutting: usize, place: usize) -> Trickle<'static> {
+    if !cuts_at(cutting, place) {
+        return Trickle::new(&[], 1);
+    }
+    for end in place + 1..5 {
+        if cuts_at(cutting, end) {
+            return Trickle::new(LETTER.get(place..end).unwrap_or(&[]), 5);
         }
+    }
+    Trickle::new(LETTER.get(place..).unwrap_or(&[]), 5)
+}
+
+/// The five bytes in the pieces of each of their 16 cuttings.
+fn cuttings<T: NormTable>(alloc: Global, table: &T) -> Result<(), Fail> {
+    for cutting in 0..16 {
+        let front = piece_at(cutting, 0).chain(piece_at(cutting, 1));
+        let middle = front.chain(piece_at(cutting, 2)).chain(piece_at(cutting, 3));
+        wants_run(
+            alloc,
+            table,
+            Form::Nfc,
+            Watched::new(middle.chain(piece_at(cutting, 4))),
+            Ok(3),
+            b"\xe1\xba\xad",
+        )?;
     }
     Ok(())
 }

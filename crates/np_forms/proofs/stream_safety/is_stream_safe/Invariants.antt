@@ -1,0 +1,10 @@
+use Rattle.std.proofs.Common.{◌≡◌, ◌≤◌, ◌++◌, ℕ, List, true, flat_map}
+use Rattle.np_forms.specs.inside.Runs.{runs_over}
+use Rattle.np_tables.specs.Versions.{class_of}
+use Rattle.np_tables.specs.inside.FullDecompositions.{full_of}
+use Rattle.np_forms.proofs.stream_safety.is_stream_safe.Given as goal
+
+abbrev pub invariant-loop-c : goal.invariant-loop-c
+invariant-loop-c g l =
+    let v = g.T.NormTable.model l.table in
+    (l.run ≤ 31) × ((rest : List ℕ) → runs_over (class_of v) l.run rest ≡ runs_over (class_of v) 0 (flat_map (full_of v true) l.yielded ++ rest))
