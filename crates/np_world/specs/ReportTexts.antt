@@ -6,7 +6,7 @@ use Rattle.np_code_points.specs.Codes.{code_digits}
 use Rattle.np_node.specs.Strings.{Entry}
 use Rattle.np_world.specs.Reports.{NodeReport, nodes_of, replies_of}
 use Rattle.np_world.specs.declared.replies.Reply.{Reply}
-use Rattle.np_world.specs.declared.replies.Reply.TheVariants.{Sent, Kept, Known, Full, TooLong, Unassigned, NoMessage, Version, LastVersion, Saved, Restarted, Forgotten, NotKept, Equal, Different, Malformed, OtherForm, NotUtf8, KeyDiffers}
+use Rattle.np_world.specs.declared.replies.Reply.TheVariants.{Sent, Kept, Known, Full, TooLong, Unassigned, NoMessage, Version, LastVersion, Saved, Restarted, Forgotten, NotKept, Equal, Different, Malformed, OtherForm, NotUtf8, KeyDiffers, OlderTables}
 use Rattle.np_world.specs.declared.report.Report.{Report}
 
 -- ---- words
@@ -31,6 +31,7 @@ reply_text (Malformed at) = codes "malformed at " ++ decimal at
 reply_text OtherForm = codes "other form"
 reply_text (NotUtf8 at) = codes "not UTF-8 at byte " ++ decimal at
 reply_text KeyDiffers = codes "key differs"
+reply_text (OlderTables need have) = codes "older tables " ++ (decimal need ++ (codes " " ++ decimal have))
 
 -- code points in hex digits with a space between; a dash where there are none
 abbrev pub codes_text : List ℕ → List ℕ
