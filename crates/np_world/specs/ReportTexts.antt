@@ -4,10 +4,9 @@ use Rattle.std.specs.Fmt.{decimal}
 use Rattle.std.specs.List.{enumerate_from, join_with_byte}
 use Rattle.np_code_points.specs.Codes.{code_digits}
 use Rattle.np_node.specs.Strings.{Entry}
-use Rattle.np_world.specs.Reports.{NodeReport, nodes_of, replies_of}
+use Rattle.np_world.specs.Reports.{NodeReport, ReportData, nodes_of, replies_of}
 use Rattle.np_world.specs.declared.replies.Reply.{Reply}
 use Rattle.np_world.specs.declared.replies.Reply.TheVariants.{Sent, Kept, Known, Full, TooLong, Unassigned, NoMessage, Version, LastVersion, Saved, Restarted, Forgotten, NotKept, Equal, Different, Malformed, OtherForm, NotUtf8, KeyDiffers, OlderTables}
-use Rattle.np_world.specs.declared.report.Report.{Report}
 
 -- ---- words
 
@@ -63,5 +62,5 @@ abbrev pub report_lines : List Reply → List NodeReport → List ℕ
 report_lines replies nodes =
     flat_map (λ p. reply_line p.0 p.1) (enumerate_from 0 replies) ++ flat_map (λ p. node_lines p.0 p.1) (enumerate_from 0 nodes)
 
-abbrev pub text_of_report : {T : Type 0} → Report T → List ℕ
+abbrev pub text_of_report : {T : Type 0} → ReportData T → List ℕ
 text_of_report report = report_lines (replies_of report) (nodes_of report)

@@ -2,6 +2,7 @@ pub mod LineReading
 pub mod LineValues
 pub mod Mirrors
 pub mod Played
+pub mod ReportViews
 pub mod ReportWriting
 pub mod Rust
 pub mod ScheduleReading
