@@ -4,6 +4,7 @@ pub mod Mirrors
 pub mod Played
 pub mod ReportViews
 pub mod ReportWriting
+pub mod Restarting
 pub mod Rust
 pub mod ScheduleReading
 pub mod Told
