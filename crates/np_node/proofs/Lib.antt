@@ -1,4 +1,5 @@
 pub mod FieldLemmas
+pub mod MarkedLemmas
 pub mod ImageLemmas
 pub mod KeyLemmas
 pub mod ListLemmas
