@@ -37,20 +37,20 @@ saved_state setting version entries = record { version = version; form = setting
 
 -- the bytes are the image of what the machine's node saved, under a version with no more assigned code points than its present
 -- one; where it never saved there are none
-pub record HasImage (setting : Setting) (version : VersionData) (bytes : List ℕ) (twin : MachineNode) : Type 0 where
+pub record HasImage (setting : Setting) (version : VersionData) (bytes : List ℕ) (saved : List (List ℕ)) (saved_at : Option ℕ) : Type 0 where
   pub at : ℕ
   pub saver : VersionData
-  pub saved_at : twin.saved_at ≡ Some at
+  pub place : saved_at ≡ Some at
   pub saver_is : slice_get setting.versions at ≡ Some saver
   pub entries : List Entry
   pub spelling : bytes ≡ image_bytes (record { needs = Some (assigned_count saver); form = setting.form; entries = entries })
   pub node : IsNode (saved_state setting saver entries)
-  pub strings : twin.saved ≡ texts_of entries
+  pub strings : saved ≡ texts_of entries
   pub no_fewer : assigned_count saver ≤ assigned_count version
 
-abbrev pub HasSaved : Setting → VersionData → Option (Vec ℕ Global) → MachineNode → Type 0
-HasSaved setting version None twin = (twin.saved ≡ []) × (twin.saved_at ≡ None)
-HasSaved setting version (Some bytes) twin = HasImage setting version bytes.items twin
+abbrev pub HasSaved : Setting → VersionData → Option (Vec ℕ Global) → List (List ℕ) → Option ℕ → Type 0
+HasSaved setting version None saved saved_at = (saved ≡ []) × (saved_at ≡ None)
+HasSaved setting version (Some bytes) saved saved_at = HasImage setting version bytes.items saved saved_at
 
 -- a member has the place, the strings and the image of what the machine's node has
 pub record Mirrors {T : Type 0} (model : T → VersionData) (rules : Rules T) (member : Member T) (twin : MachineNode) : Type 0 where
@@ -60,7 +60,7 @@ pub record Mirrors {T : Type 0} (model : T → VersionData) (rules : Rules T) (m
   pub room : member.node.room ≡ rules.room
   pub node : IsNode (state_of model member.node)
   pub strings : twin.strings ≡ texts_of member.node.entries
-  pub saved : HasSaved (setting_of model rules) (model member.node.table) member.image twin
+  pub saved : HasSaved (setting_of model rules) (model member.node.table) member.image twin.saved twin.saved_at
 
 -- the bytes are the message of a string that some node sent under its version
 pub record IsMessageOf (setting : Setting) (bytes string : List ℕ) : Type 0 where
