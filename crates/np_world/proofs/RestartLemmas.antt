@@ -1,5 +1,5 @@
 -- What a node does that begins again is what the machine does.
-use Rattle.std.proofs.Common.{◌≡◌, ◌≢◌, ◌⊎◌, ℕ, ◌<◌, ◌≤◌, List, [], ◌++◌, map, slice_get, Option, Some, None, refl, sym, ap, subst, ◌∙◌, arith, inl, inr, ⊎_elim, append-nil}
+use Rattle.std.proofs.Common.{◌≡◌, ℕ, ◌<◌, ◌≤◌, List, [], ◌++◌, map, slice_get, Option, Some, None, refl, sym, ap, subst, ◌∙◌, arith, inl, inr, ⊎_elim, append-nil}
 use Rattle.std.proofs.lemmas.Bool.{cases_lt}
 use Rattle.std.proofs.lemmas.Option.{slice_get-map}
 use Rattle.std.specs.Option.{option_map}
@@ -9,8 +9,8 @@ use Rattle.std.specs.declared.alloc.Global.{Global}
 use Rattle.np_chain.specs.Chain.{StandsAt}
 use Rattle.np_code_points.specs.declared.forms.Form.{Form}
 use Rattle.np_node.specs.Images.{Image, Needs, IsImage, IsImageFault}
-use Rattle.np_node.specs.Laws.{IsIn, IsSavedAs, HasOneFault, Saved, SpellsOne}
-use Rattle.np_node.specs.Nodes.{NodeState, state_of, IsNode}
+use Rattle.np_node.specs.Laws.{IsIn, HasOneFault, Saved, SpellsOne}
+use Rattle.np_node.specs.Nodes.{NodeState}
 use Rattle.np_node.specs.Restoring.{IsOlder, IsRestored, IsRestoreFault}
 use Rattle.np_node.specs.Strings.{Entry}
 use Rattle.np_node.specs.declared.faults.NodeFault.{NodeFault}
@@ -110,12 +110,6 @@ module _ {T : Type 0} (model : T → VersionData) (rules : Rules T) (member : Me
     has_image twin m = subst (λ i. HasSaved (setting_of model rules) (model member.node.table) i twin.saved twin.saved_at) some m.saved
 
     module _ (twin : MachineNode) (m : Mirrors model rules member twin) where
-      abbrev has : HasImage (setting_of model rules) (model member.node.table) bytes.items twin.saved twin.saved_at
-      has = has_image twin m
-
-      abbrev need : ℕ
-      need = assigned_count (has_image twin m).saver
-
       in_saver : IsIn (map model rules.tables) (has_image twin m).at (has_image twin m).saver
       in_saver = record { chain = are.chain; here = (has_image twin m).saver_is }
 

@@ -4,6 +4,7 @@ ghost use Rattle.std.specs.Fmt.{decimal};
 ghost use Rattle.std.specs.List.{enumerate_from};
 ghost use Rattle.np_code_points.specs.Codes.{code_digits};
 ghost use Rattle.np_world.specs.Reports.{node_report};
+ghost use Rattle.np_world.specs.inside.ReportViews.{end_of};
 ghost use Rattle.np_world.specs.inside.ReportWriting.{gap};
 ghost use Rattle.np_world.specs.declared.replies.Reply.TheVariants.{OlderTables, Unassigned};
 ghost use Rattle.np_world.specs.ReportTexts.{codes_text, entry_line, node_lines, reply_line, reply_text, text_of_report};
@@ -145,7 +146,7 @@ fn write_node<T: NormTable>(
     number: usize,
     member: &Member<'_, T>,
 ) -> Result<(), Memory>
-    ensures { IfOk result (λ _. string_bytes out.new ≡ string_bytes out.old ++ node_lines number (node_report member.now)) }
+    ensures { IfOk result (λ _. string_bytes out.new ≡ string_bytes out.old ++ node_lines number (node_report (end_of member.now))) }
 {
     let index = member.index;
     let entries = member.node.len();
@@ -165,7 +166,7 @@ fn write_replies(out: &mut String, replies: &[Reply]) -> Result<(), Memory>
 
 /// Adds the lines of the nodes.
 fn write_nodes<T: NormTable>(out: &mut String, members: &[Member<'_, T>]) -> Result<(), Memory>
-    ensures { IfOk result (λ _. string_bytes out.new ≡ string_bytes out.old ++ flat_map (λ p. node_lines p.0 p.1) (enumerate_from 0 (map node_report members.now))) }
+    ensures { IfOk result (λ _. string_bytes out.new ≡ string_bytes out.old ++ flat_map (λ p. node_lines p.0 p.1) (enumerate_from 0 (map node_report (map end_of members.now)))) }
 {
     for number in 0..members.len() {
         write_node(out, number, &members[number])?;
