@@ -63,7 +63,7 @@ module _ {T : Type 0} (model : T → VersionData) (rules : Rules T) (old new : M
   -- the refusals, in the order of the faults
   forges-refused : (told : List (Vec ℕ Global)) (f : NodeFault) → AnswersTake (state_of model old.node) bytes (Err f) → new ≡ old → IfOk (refusal_of f) (λ reply. Turns model rules deed_forge old told reply new told)
   forges-refused told (fault.Malformed at) answers same =
-      says model rules deed_forge old new told (Malformed at) same (λ node strings last are m sent end. inl (at, answers, refl, refl))
+      says model rules deed_forge old new told (Malformed at) same (λ node strings last are m sent end. inl (at, answers, (refl, refl)))
   forges-refused told fault.OtherForm answers same =
       says model rules deed_forge old new told OtherForm same
       (λ node strings last are m sent end. inr (answers.message, answers.spelled, inl (λ form. answers.other (form ∙ sym m.form), (refl, refl))))
@@ -158,7 +158,7 @@ module _ (setting : Setting) (v : VersionData) (before : Scene) (reply other : R
 
   -- bytes that reach a node have one reply, and leave one scene
   pub forges_once : SpellsOne IsMessage → HasOneFault IsMessage IsMessageFault → (bytes : List ℕ) → Forges setting v bytes before reply after → Forges setting v bytes before other next → Same reply other after next
-  forges_once one none bytes (inl a) (inl b) = (a.2 ∙ ap Malformed ((none bytes b.0 b.1).1 a.0 a.1) ∙ sym b.2, both after next before a.3 b.3)
+  forges_once one none bytes (inl a) (inl b) = (a.2.0 ∙ ap Malformed ((none bytes b.0 b.1).1 a.0 a.1) ∙ sym b.2.0, both after next before a.2.1 b.2.1)
   forges_once one none bytes (inl a) (inr b) = absurd ((none bytes a.0 a.1).0 b.0 b.1)
   forges_once one none bytes (inr a) (inl b) = absurd ((none bytes b.0 b.1).0 a.0 a.1)
   forges_once one none bytes (inr a) (inr b) =

@@ -74,17 +74,17 @@ sending string before = record { node = with_string before.node string; sent = b
 abbrev pub NamesUnassigned : VersionData → List ℕ → Reply → Type 0
 NamesUnassigned version string reply = (at : ℕ) × (code : ℕ) × IsFirstUnassigned version string at code × (reply ≡ Unassigned at code)
 
--- a string that is assigned comes to a node; where it is new and there is room for it, the reply is `kept`, and `next` is left
+-- a string that is assigned comes to a node; where it is new and there is room for it, the reply is `told`, and `next` is left
 abbrev pub Finds : Setting → List ℕ → Reply → Scene → Scene → Reply → Scene → Type 0
-Finds setting string kept next before reply after =
+Finds setting string told next before reply after =
     If (Contains before.node.strings string) (OnlyReplies Known before reply after)
-    (If (setting.room ≤ length before.node.strings) (OnlyReplies Full before reply after) (Gives kept next reply after))
+    (If (setting.room ≤ length before.node.strings) (OnlyReplies Full before reply after) (Gives told next reply after))
 
--- a string comes to a node; where it is assigned and new and there is room for it, the reply is `kept`, and `next` is left
+-- a string comes to a node; where it is assigned and new and there is room for it, the reply is `told`, and `next` is left
 abbrev pub Comes : Setting → VersionData → List ℕ → Reply → Scene → Scene → Reply → Scene → Type 0
-Comes setting version string kept next before reply after =
+Comes setting version string told next before reply after =
     If (¬ (IsAssigned version string)) (NamesUnassigned version string reply × (after ≡ before))
-    (Finds setting string kept next before reply after)
+    (Finds setting string told next before reply after)
 
 -- a node is given a string: it keeps and sends it
 abbrev pub Accepts : Setting → VersionData → List ℕ → Scene → Reply → Scene → Type 0
