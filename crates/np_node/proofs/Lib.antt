@@ -11,5 +11,6 @@ pub mod HeadLemmas
 pub mod ImageReading
 pub mod EntryLemmas
 pub mod FillLemmas
+pub mod FoundLemmas
 pub mod ForgetLemmas
 pub mod LawLemmas
