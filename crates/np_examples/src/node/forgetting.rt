@@ -2,7 +2,7 @@
 use super::{letters, wants_kept, wants_known, wants_refused, wants_taken};
 use crate::common::{Example, Made, V1, holds_over_each, table_of, want};
 use np_code_points::Form;
-use np_node::{Accepted, Node, NodeFault, Taken};
+use np_node::{MOST_ROOM, Node, NodeFault, Taken};
 use np_tables::{NormTable, PageTable};
 use std::alloc::Global;
 use std::test::Fail;
@@ -66,4 +66,61 @@ impl Example for Forgotten {
 #[test]
 fn strings_are_forgotten(rt: HostRuntime) -> Result<(), Fail> {
     holds_over_each(rt.alloc(), V1, &Forgotten)
+}
+
+/// A string of two private letters, one for each number below 65,536.
+fn string_of(alloc: Global, number: u32) -> Result<String, Fail> {
+    let mut string = String::new(alloc);
+    for letter in [number / 256, number % 256] {
+        string.push(char::from_u32(0xE000 + letter).ok_or("a private letter")?)?;
+    }
+    Ok(string)
+}
+
+/// A node that keeps as many strings as any.
+fn full<T: NormTable>(alloc: Global, table: &T) -> Result<Node<'_, T>, Fail> {
+    let mut node = Node::new(alloc, table, Form::Nfc, MOST_ROOM);
+    for number in 0..MOST_ROOM {
+        let string = string_of(alloc, number)?;
+        want(node.accept(string.as_bytes()).is_ok(), "a private string")?;
+    }
+    wants_refused(&mut node, b"a", NodeFault::Full, "one more")?;
+    Ok(node)
+}
+
+/// The node's entry at a place is the string of this number beside itself.
+fn wants_entry<T: NormTable>(
+    alloc: Global,
+    node: &Node<'_, T>,
+    index: usize,
+    number: u32,
+) -> Result<(), Fail> {
+    let string = string_of(alloc, number)?;
+    want(
+        node.entry(index) == Some((string.as_str(), string.as_str())),
+        "the entry at its place",
+    )
+}
+
+/// A full node is saved and restored whole.
+fn saved<T: NormTable>(alloc: Global, node: &Node<'_, T>) -> Result<(), Fail> {
+    let image = node.image()?;
+    want(image.len() == 720_909, "11 bytes an entry behind 13")?;
+    let again = Node::restore(alloc, node.table(), Form::Nfc, MOST_ROOM, &image)?;
+    want(again.len() == 65_536, "as many entries")?;
+    wants_entry(alloc, &again, 65_535, 65_535)
+}
+
+#[test]
+fn a_full_node_forgets_its_first_string(rt: HostRuntime) -> Result<(), Fail> {
+    let alloc = rt.alloc();
+    let table: PageTable = table_of(alloc, V1)?;
+    let mut node = full(alloc, &table)?;
+    saved(alloc, &node)?;
+    let first = string_of(alloc, 0)?;
+    want(node.forget(first.as_str()), "the first was kept")?;
+    want(node.len() == 65_535, "one is gone")?;
+    wants_entry(alloc, &node, 0, 1)?;
+    want(node.accept(first.as_bytes()).is_ok(), "the first anew")?;
+    wants_entry(alloc, &node, 65_535, 0)
 }
