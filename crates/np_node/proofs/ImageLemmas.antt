@@ -19,7 +19,7 @@ unfolding head_bytes
 head-cut t f n us =
     append_assoc (image_name t) (byte_of f ∷ (needs_bytes t ++ number_bytes n)) us ∙ ap (λ l. image_name t ++ byte_of f ∷ l) (append_assoc (needs_bytes t) (number_bytes n) us)
 
-length-name : (t : Needs) → length (image_name t) ≡ 4
+pub length-name : (t : Needs) → length (image_name t) ≡ 4
 length-name None = refl
 length-name (Some n) = refl
 
@@ -36,7 +36,7 @@ record OneLayout (s t : Needs) (us ws : List ℕ) : Type 0 where
   needs : s ≡ t
   rest : us ≡ ws
 
--- what is needs and what follows it
+-- what is told behind the name, and what follows it
 one_needs : (s t : Needs) (f g : Form) (us ws : List ℕ) → FitsNeeds s → FitsNeeds t → image_name s ++ byte_of f ∷ (needs_bytes s ++ us) ≡ image_name t ++ byte_of g ∷ (needs_bytes t ++ ws) → OneLayout s t (byte_of f ∷ us) (byte_of g ∷ ws)
 one_needs None None f g us ws p q e = record { needs = refl; rest = append_cancel_left (image_name None) _ _ e }
 one_needs None (Some n) f g us ws p q e = absurd (names_differ n _ _ e)
@@ -62,7 +62,7 @@ cut_head s t f g m n us ws x y p q e =
 
 -- ---- entries
 
-one_spelled : (t : Needs) (d e : Entry) (us ws : List ℕ) → FitsFields d → FitsFields e → spelled_entry t d ++ us ≡ spelled_entry t e ++ ws → (d ≡ e) × (us ≡ ws)
+pub one_spelled : (t : Needs) (d e : Entry) (us ws : List ℕ) → FitsFields d → FitsFields e → spelled_entry t d ++ us ≡ spelled_entry t e ++ ws → (d ≡ e) × (us ≡ ws)
 one_spelled None = one_entry
 one_spelled (Some n) = one_marked
 
@@ -167,7 +167,7 @@ Entries t n rest o =
     × (((length es < n) × ((a : ℕ) × IsSpellingFault t us a × (o ≡ Some (9 + (length (needs_bytes t) + (length (entries_bytes t es) + a))))))
     ⊎ ((length es ≡ n) × EndsAt (9 + (length (needs_bytes t) + length (entries_bytes t es))) us o))
 
--- behind what is needs
+-- behind what is told
 abbrev Counts : Needs → List ℕ → Option ℕ → Type 0
 Counts t rest o = ((length rest < 4) × (o ≡ Some (5 + length (needs_bytes t)))) ⊎ ((n : ℕ) × (us : List ℕ) × (n < 2 ^ 32) × (rest ≡ number_bytes n ++ us) × Entries t n us o)
 

@@ -6,7 +6,11 @@ pub mod ListLemmas
 pub mod MessageLemmas
 pub mod NodeLemmas
 pub mod ReadingLemmas
+pub mod MarkedReading
+pub mod HeadLemmas
+pub mod ImageReading
 pub mod EntryLemmas
 pub mod FillLemmas
+pub mod FoundLemmas
 pub mod ForgetLemmas
 pub mod LawLemmas

@@ -1,4 +1,4 @@
--- Entries whose key is told by a marker are read in one way, and where bytes stop being one is one place.
+-- Entries whose key a marker tells are read in one way, and where bytes stop being one is one place.
 use Rattle.std.proofs.Common.{◌≡◌, ◌≢◌, ℕ, ◌+◌, ◌<◌, ◌^◌, ◌⊎◌, inl, inr, Bool, true, false, List, [], ◌∷◌, ◌++◌, length, get_or, refl, sym, ap, ◌∙◌, subst, arith, append_assoc, true≢false}
 use Rattle.std.proofs.lemmas.Bool.{cond-true, cond-false, cases_Bool}
 use Rattle.std.proofs.lemmas.Slice.Eq.{bytes_eq-Decides}
@@ -23,6 +23,12 @@ ways e =
       | inl yes_ ↦ inl (record { same = (bytes_eq-Decides e.key e.string).0 yes_; bytes = cond-true _ _ _ yes_ })
       | inr off ↦ inr (record { other = λ same. true≢false (sym ((bytes_eq-Decides e.key e.string).1 same) ∙ off); bytes = cond-false _ _ _ off })
     ]
+
+pub key-same : (e : Entry) → e.key ≡ e.string → key_bytes e ≡ 0 ∷ []
+key-same e same = elim (ways e) [ inl a ↦ a.bytes | inr a ↦ absurd (a.other same) ]
+
+pub key-other : (e : Entry) → e.key ≢ e.string → key_bytes e ≡ 1 ∷ field_bytes e.key
+key-other e other = elim (ways e) [ inl a ↦ absurd (other a.same) | inr a ↦ a.bytes ]
 
 pub marked-cut : (e : Entry) (us : List ℕ) → marked_bytes e ++ us ≡ field_bytes e.string ++ (key_bytes e ++ us)
 unfolding marked_bytes
