@@ -1,5 +1,5 @@
 -- Bytes spell a message or an image, or they have a fault place.
-use Rattle.std.proofs.Common.{◌≡◌, ◌≢◌, ◌↔◌, ℕ, zero, suc, ◌+◌, ◌<◌, ◌^◌, ◌⊎◌, inl, inr, Bool, true, false, true≢false, IsTrue, List, [], ◌∷◌, ◌++◌, length, take, drop, get_or, codes, All, Option, Some, None, w32, refl, sym, ap, ◌∙◌, arith, append-nil}
+use Rattle.std.proofs.Common.{◌≡◌, ◌≢◌, ◌↔◌, ℕ, zero, suc, ◌+◌, ◌<◌, ◌^◌, ◌⊎◌, inl, inr, Bool, true, false, true≢false, IsTrue, List, [], ◌∷◌, ◌++◌, length, take, drop, get_or, codes, All, Some, None, w32, refl, sym, ap, ◌∙◌, arith, append-nil}
 use Rattle.std.proofs.lemmas.Bool.{cases_eq, cases_lt}
 use Rattle.std.proofs.lemmas.List.{take-append-drop, length-take-le}
 use Rattle.std.proofs.lemmas.List.Elements.{All-head, All-tail, All-drop, All-cons}
@@ -146,13 +146,16 @@ module _ (bytes : List ℕ) (s : Follows field_bytes IsShort bytes) where
         | inl k ↦
             elim (same-or-other k.value s.value) [
               | inl same ↦
-                  inr (length (field_bytes s.value), inr (inr (inr (record {
-                    string = s.value;
-                    rest = k.rest;
-                    fits = s.fits;
-                    split = split ∙ ap (λ l. field_bytes s.value ++ 1 ∷ l) (k.split ∙ ap (λ l. field_bytes l ++ k.rest) same);
-                    place = refl;
-                  }))))
+                  inr (
+                    length (field_bytes s.value),
+                    inr (inr (inr (record {
+                      string = s.value;
+                      rest = k.rest;
+                      fits = s.fits;
+                      split = split ∙ ap (λ l. field_bytes s.value ++ 1 ∷ l) (k.split ∙ ap (λ l. field_bytes l ++ k.rest) same);
+                      place = refl;
+                    }))),
+                  )
               | inr other ↦
                   let e : Entry = record { string = s.value; key = k.value } in
                   inl (record {
@@ -304,21 +307,24 @@ behind-needs bytes t form rest needs split all =
                 image-ends bytes i has.rest needs (omega (arith, has.counted, n.fits)) has.fits
                 (head ∙ (λ k. head_bytes t form (sym has.counted k) ++ has.split k) ∙ sym (image-cut i has.rest))
             | inr lacks ↦
-                inr (length (head_bytes t form n.value) + length (entries_bytes t lacks.entries) + lacks.inner, inr (inr (inr (inr (inl (record {
-                  needs = t;
-                  form = form;
-                  count = n.value;
-                  entries = lacks.entries;
-                  rest = lacks.rest;
-                  inner = lacks.inner;
-                  needs_fits = needs;
-                  small = n.fits;
-                  fits = lacks.fits;
-                  split = head ∙ ap (λ l. head_bytes t form n.value ++ l) lacks.split;
-                  fewer = lacks.fewer;
-                  fault = lacks.fault;
-                  place = refl;
-                }))))))
+                inr (
+                  length (head_bytes t form n.value) + length (entries_bytes t lacks.entries) + lacks.inner,
+                  inr (inr (inr (inr (inl (record {
+                    needs = t;
+                    form = form;
+                    count = n.value;
+                    entries = lacks.entries;
+                    rest = lacks.rest;
+                    inner = lacks.inner;
+                    needs_fits = needs;
+                    small = n.fits;
+                    fits = lacks.fits;
+                    split = head ∙ ap (λ l. head_bytes t form n.value ++ l) lacks.split;
+                    fewer = lacks.fewer;
+                    fault = lacks.fault;
+                    place = refl;
+                  }))))),
+                )
           ]
     ]
 

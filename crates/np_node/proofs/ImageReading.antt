@@ -5,7 +5,7 @@ use Rattle.std.proofs.lemmas.List.{nil_from_length, take_all}
 use Rattle.std.proofs.lemmas.List.Elements.{All-push}
 use Rattle.np_code_points.specs.declared.forms.Form.{Form}
 use Rattle.np_node.proofs.ImageLemmas.{entries-none, image-cut, length-entries-none, length-head_bytes, length-image_bytes}
-use Rattle.np_node.specs.Fields.{marked_bytes, FitsFields}
+use Rattle.np_node.specs.Fields.{FitsFields}
 use Rattle.np_node.specs.Images.{Needs, FitsNeeds, spelled_entry, head_bytes, entries_bytes, image_bytes, IsImageFault, IsSpellingFault}
 use Rattle.np_node.specs.Strings.{Entry}
 use Rattle.np_node.specs.declared.fields.Fields.{Fields}

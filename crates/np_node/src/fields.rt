@@ -202,7 +202,6 @@ pub(crate) fn push_entry(out: &mut Vec<u8>, string: &[u8], key: &[u8]) -> Result
 }
 
 /// Appends a string, and its key behind a marker, where it is another.
-#[tactic(auto, using(crate::proofs::MarkedLemmas::pushed_same, crate::proofs::MarkedLemmas::pushed_other))]
 pub(crate) fn push_marked(out: &mut Vec<u8>, string: &[u8], key: &[u8]) -> Result<(), Memory>
     requires string { length string.now < 2 ^ 32 }
     requires key { length key.now < 2 ^ 32 }

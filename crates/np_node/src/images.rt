@@ -148,9 +148,7 @@ impl<'t, T: NormTable> Node<'t, T> {
     ///
     /// `Memory` where memory ran out.
     pub fn image(&self) -> Result<Vec<u8>, Memory>
-        ensures {
-            IfOk result (λ bytes. bytes.items ≡ image_bytes (image_told (Some (assigned_count (T.model self.now.table))) (state_of T.model self.now)))
-        }
+        ensures { IfOk result (λ bytes. bytes.items ≡ image_bytes (image_told (Some (assigned_count (T.model self.now.table))) (state_of T.model self.now))) }
     {
         image_of(self.table.version().count(), self.form, &self.kept)
     }

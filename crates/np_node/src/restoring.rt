@@ -22,9 +22,7 @@ fn whole(fault: NodeFault) -> ImageFault
 /// Whether a table has as many assigned code points as an image needs.
 fn check_needs<T: NormTable>(table: &T, needs: Option<u32>) -> Result<(), ImageFault>
     ensures ok { OnOk result (¬ IsOlder (T.model table.now) needs) }
-    ensures err {
-        IfErr result (λ refused. (need : ℕ) × (have : ℕ) × (refused ≡ record { entry = None; fault = OlderTables need have }) × NeedsMore (T.model table.now) needs need have)
-    }
+    ensures err { IfErr result (λ refused. (need : ℕ) × (have : ℕ) × (refused ≡ record { entry = None; fault = OlderTables need have }) × NeedsMore (T.model table.now) needs need have) }
 {
     let Some(need) = needs else {
         return Ok(());

@@ -2,8 +2,8 @@
 use super::{letters, wants_kept, wants_known, wants_refused, wants_taken};
 use crate::common::{Example, Made, V1, V2, holds_over_each, table_of, want};
 use np_chain::{Break, BreakKind};
-use np_code_points::told::want_told;
 use np_code_points::Form;
+use np_code_points::told::want_told;
 use np_node::{Accepted, Node, NodeFault, Taken};
 use np_tables::NormTable;
 use std::alloc::Global;

@@ -36,7 +36,10 @@ fn absent<T: NormTable>(alloc: Global, table: &T) -> Result<(), Fail> {
     want(!node.forget(long), "65,537 bytes")?;
     want(node.len() == 1, "nothing changes")?;
     want(node.forget("\u{E2}"), "the only one")?;
-    want(node.is_empty() && node.entry(0).is_none(), "nothing is left")
+    want(
+        node.is_empty() && node.entry(0).is_none(),
+        "nothing is left",
+    )
 }
 
 /// What is forgotten comes again by an old message, and may be forgotten and kept again and again.

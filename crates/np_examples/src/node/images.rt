@@ -65,12 +65,7 @@ fn short<T: NormTable>(alloc: Global, table: &T) -> Result<(), Fail> {
 }
 
 /// An image gives a node with its two entries, whose own image this is.
-fn restored<T: NormTable>(
-    alloc: Global,
-    table: &T,
-    from: &[u8],
-    again: &[u8],
-) -> Result<(), Fail> {
+fn restored<T: NormTable>(alloc: Global, table: &T, from: &[u8], again: &[u8]) -> Result<(), Fail> {
     let node = Node::restore(alloc, table, Form::Nfc, 4, from)?;
     want(node.len() == 2 && node.room() == 4, "two entries")?;
     want(node.entry(0) == Some(("a\u{302}", "\u{E2}")), "the first")?;

@@ -7,7 +7,6 @@ use Rattle.np_node.specs.Nodes.{NodeState, State}
 use Rattle.np_node.specs.Restoring.{AreRight, HasRoom, IsWrong, place_behind}
 use Rattle.np_node.specs.Strings.{Entry}
 use Rattle.np_node.specs.declared.faults.ImageFault.{ImageFault}
-use Rattle.np_node.specs.declared.faults.NodeFault.{NodeFault}
 use Rattle.np_node.specs.declared.faults.NodeFault.TheVariants.{Memory}
 use Rattle.np_node.specs.declared.fields.Fields.{Fields}
 use Rattle.np_node.specs.declared.images.Layout.{Layout}
