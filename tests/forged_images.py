@@ -1,11 +1,11 @@
 #!/usr/bin/env python3
 """Cut and forged images: tests/forged_images.py [--write].
 
-No command takes an image from outside, so a unit test hands them to `restore`: an image of four entries is cut at
-every byte, each byte and each length and count is replaced by others, fields and entries are exchanged, repeated
-and left out. What each has to answer is judged here, from docs/FORMATS.md and over the first fixture, apart from
-the crate. It stands as a text in the test's file; without --write the file is compared with it. Ends in a line
-'N passed, M failed'.
+No command takes an image from outside, so a unit test hands them to `restore`: an image of four entries in each
+layout is cut at every byte, each byte and each length and count is replaced by others, fields and entries are
+exchanged, repeated and left out, and keys are told in another way. What each has to answer is judged here, from
+docs/FORMATS.md and over the first fixture, apart from the crate. It stands as a text in the test's file; without
+--write the file is compared with it. Ends in a line 'N passed, M failed'.
 """
 
 import sys
@@ -23,40 +23,82 @@ ENTRIES = [("", ""), ("a\u0302", "\u00e2"), ("\u212b", "\u00c5"), ("A", "A")]
 ROOM = 5
 FORMS = tuple(b"DCdc")
 FORM = ord("C")
-LONGEST = 4096
+LONGEST = 65536
+SAME, OTHER = b"\x00", b"\x01"
 
 
-def entry(string, key):
-    return field(string.encode()) + field(key.encode())
+def number(value):
+    return value.to_bytes(4, "big")
 
 
-def image_of(entries, count=None):
-    return b"NPS1C" + (len(entries) if count is None else count).to_bytes(4, "big") + b"".join(entries)
+def entry(string, key, needs):
+    """An entry, as the layout spells it that tells how many code points are needed, or the one that doesn't."""
+    if needs is None:
+        return field(string) + field(key)
+    return field(string) + (SAME if key == string else OTHER + field(key))
 
 
-def read(image):
-    """Each entry with its first byte's place, its string and its key; or the place of the first field that isn't
-    whole or isn't allowed, or of the first byte left over."""
-    if image[:4] != b"NPS1":
-        return 0
-    if len(image) < 5 or image[4] not in FORMS:
-        return 4
-    if len(image) < 9:
-        return 5
-    entries, at = [], 9
-    for _ in range(int.from_bytes(image[5:9], "big")):
-        first, parts = at, []
-        for _ in range(2):
-            if len(image) < at + 4:
-                return at
-            length = int.from_bytes(image[at:at + 4], "big")
-            at += 4
-            if len(image) < at + length:
-                return at
-            parts.append(image[at:at + length])
-            at += length
-        entries.append((first, *parts))
-    return entries if at == len(image) else at
+def image_of(entries, needs, count=None):
+    """The image of spelled entries: of the second layout where it tells how many code points it needs."""
+    front = b"NPS1C" if needs is None else b"NPS2C" + number(needs)
+    return front + number(len(entries) if count is None else count) + b"".join(entries)
+
+
+class Malformed(Exception):
+    """The place of the first field that isn't whole or isn't allowed, or of the first byte left over."""
+
+    def __init__(self, at):
+        super().__init__(at)
+        self.at = at
+
+
+class Reader:
+    """An image that is read whole: how many code points it needs, or None, and each entry with its first byte's
+    place, its string and its key. The places of its fields, numbers and markers are kept."""
+
+    def __init__(self, image):
+        self.image, self.at = image, 0
+        self.fields, self.numbers, self.markers = [], [], []
+        name = self.take(4)
+        if name not in (b"NPS1", b"NPS2"):
+            raise Malformed(0)
+        self.form = self.take(1)[0]
+        if self.form not in FORMS:
+            raise Malformed(4)
+        self.needs = self.number() if name == b"NPS2" else None
+        count = self.number()
+        self.entries = [self.entry() for _ in range(count)]
+        if self.at < len(image):
+            raise Malformed(self.at)
+
+    def take(self, size):
+        if len(self.image) < self.at + size:
+            raise Malformed(self.at)
+        self.fields.append(self.at)
+        self.at += size
+        return self.image[self.at - size:self.at]
+
+    def number(self):
+        value = int.from_bytes(self.take(4), "big")
+        self.numbers.append(self.at - 4)
+        return value
+
+    def field(self):
+        return self.take(self.number())
+
+    def entry(self):
+        first, string = self.at, self.field()
+        return first, string, self.field() if self.needs is None else self.key(string)
+
+    def key(self, string):
+        place, marker = self.at, self.take(1)
+        if marker not in (SAME, OTHER):
+            raise Malformed(place)
+        key = string if marker == SAME else self.field()
+        if marker == OTHER and key == string:
+            raise Malformed(place)
+        self.markers.append((place, self.at, string, key))
+        return key
 
 
 def refusal(string, key, version):
@@ -74,29 +116,25 @@ def refusal(string, key, version):
 
 
 def answer(image, version):
-    """What restoring answers, in the words of its fault."""
-    entries = read(image)
-    if isinstance(entries, int):
-        return f"malformed at byte {entries}"
-    if image[4] != FORM:
+    """What restoring answers, in the words of its fault; behind `restored` the image of the node, in hex digits."""
+    try:
+        found = Reader(image)
+    except Malformed as fault:
+        return f"malformed at byte {fault.at}"
+    have = len(version.assigned)
+    if found.form != FORM:
         return "another form"
-    if len(entries) > ROOM:
+    if found.needs is not None and found.needs > have:
+        return f"older tables: need {found.needs} code points, have {have}"
+    if len(found.entries) > ROOM:
         return "full"
     kept = set()
-    for number, (at, string, key) in enumerate(entries):
+    for place, (at, string, key) in enumerate(found.entries):
         fault = refusal(string, key, version) or (f"malformed at byte {at}" if string in kept else None)
         if fault:
-            return f"entry {number}: {fault}"
+            return f"entry {place}: {fault}"
         kept.add(string)
-    return "restored"
-
-
-def fields_of(image):
-    """The places of the fields, and the last byte's end."""
-    places = [0, 4, 5]
-    for at, string, key in read(image):
-        places += [at, at + 4, at + 4 + len(string), at + 8 + len(string)]
-    return [*places, len(image)]
+    return f"restored {image_of([entry(string, key, have) for _, string, key in found.entries], have).hex()}"
 
 
 def changed_bytes(image):
@@ -108,70 +146,92 @@ def changed_bytes(image):
 
 
 def changed_numbers(image):
-    """The count and each length, replaced by others."""
-    for at in [5, *(place for at, string, _ in read(image) for place in (at, at + 4 + len(string)))]:
+    """Each count and each length, replaced by others."""
+    for at in Reader(image).numbers:
         value = int.from_bytes(image[at:at + 4], "big")
         for other in sorted({*LENGTHS, max(value - 1, 0), value + 1}):
-            yield at, 4, other.to_bytes(4, "big")
+            yield at, 4, number(other)
+
+
+def changed_keys(image):
+    """What tells a key, replaced by what tells another, and by the string once more."""
+    for at, end, string, key in Reader(image).markers:
+        for other in (SAME, OTHER + field(string), OTHER + field(key + b"A"), OTHER + field(string)[:-1], b"\x02" + field(key)):
+            yield at, end - at, other
 
 
 def exchanged_fields(image):
     """Two fields exchanged: each with one of the next four, so with the next one of its kind too."""
-    places = fields_of(image)
+    places = [*Reader(image).fields, len(image)]
     for first in range(len(places) - 1):
         for second in range(first + 1, min(first + 5, len(places) - 1)):
             begin, middle, behind, end = places[first], places[first + 1], places[second], places[second + 1]
             yield begin, end - begin, image[behind:end] + image[middle:behind] + image[begin:middle]
 
 
-def changed_entries():
+def changed_entries(needs):
     """An entry repeated, left out, with its string and key exchanged, or exchanged with the next, each under the
     count before and behind."""
-    entries = [entry(*pair) for pair in ENTRIES]
-    for at, (string, key) in enumerate(ENTRIES):
+    pairs = [(string.encode(), key.encode()) for string, key in ENTRIES]
+    entries = [entry(*pair, needs) for pair in pairs]
+    for at, (string, key) in enumerate(pairs):
         for lists in (entries + [entries[at]], entries[:at] + entries[at + 1:], entries + [entries[at]] * 2,
-                      entries[:at] + [entry(key, string)] + entries[at + 1:],
+                      entries[:at] + [entry(key, string, needs)] + entries[at + 1:],
                       entries[:at] + entries[at:at + 2][::-1] + entries[at + 2:]):
             for count in (None, len(entries)):
-                yield image_of(lists, count)
+                yield image_of(lists, needs, count)
 
 
-def changes(image):
+def whole(needs):
+    """The image of the entries."""
+    return image_of([entry(string.encode(), key.encode(), needs) for string, key in ENTRIES], needs)
+
+
+def changes(image, needs):
     """All of them, each once: the place, how many bytes go, those that come, and what comes of it."""
     seen = set()
-    whole = [(0, len(image), other) for other in changed_entries()]
-    for at, gone, put in [*changed_bytes(image), *changed_numbers(image), *exchanged_fields(image), *whole]:
+    others = [(0, len(image), other) for other in changed_entries(needs)]
+    for at, gone, put in [*changed_bytes(image), *changed_numbers(image), *changed_keys(image), *exchanged_fields(image), *others]:
         made = image[:at] + put + image[at + gone:]
         if made not in seen:
             seen.add(made)
             yield at, gone, put, made
 
 
-def answers():
+def answers(needs, version):
     """A line for each place and answer: the place, how many bytes go, those that come in hex (`-` for none, several
     ways divided by commas), and the answer."""
-    version = Version()
-    image = image_of([entry(*pair) for pair in ENTRIES])
-    rows = [((at, gone, answer(made, version)), put.hex()) for at, gone, put, made in changes(image)]
+    rows = [((at, gone, answer(made, version)), put.hex()) for at, gone, put, made in changes(whole(needs), needs)]
     for (at, gone, told), puts in groupby(rows, lambda row: row[0]):
         yield f"{at} {gone} {','.join(put or '-' for _, put in puts)} {told}"
 
 
 def text():
     """The test's file."""
-    lines = "\n".join(answers())
-    image = image_of([entry(*pair) for pair in ENTRIES])
-    return f'''//! An image of four entries that is cut and forged, and what restoring answers. `tests/forged_images.py` writes
-//! this file from the format alone.
+    version = Version()
+    count = len(version.assigned)
+    first, second = ("\n".join(answers(needs, version)) for needs in (None, count))
+    return f'''//! An image of four entries in each layout that is cut and forged, and what restoring answers.
+//! `tests/forged_images.py` writes this file from the format alone.
 
-/// The image, in hex digits.
-pub const IMAGE: &str =
-    "{image.hex()}";
+/// The image of the first layout, in hex digits.
+pub const FIRST: &str =
+    "{whole(None).hex()}";
 
-/// A line for each change of the image: the place, how many bytes go, those that come instead in hex digits (`-` for
-/// none, several ways divided by commas), and what restoring with a room of {ROOM} answers.
-pub const ANSWERS: &str = "\\
-{lines}
+/// The same in the second layout, under the first fixture's version.
+pub const SECOND: &str =
+    "{whole(count).hex()}";
+
+/// A line for each change of the first image: the place, how many bytes go, those that come instead in hex digits
+/// (`-` for none, several ways divided by commas), and what restoring with a room of {ROOM} answers; behind `restored`
+/// the image of the node.
+pub const FIRST_ANSWERS: &str = "\\
+{first}
+";
+
+/// The same of the second image.
+pub const SECOND_ANSWERS: &str = "\\
+{second}
 ";
 '''
 

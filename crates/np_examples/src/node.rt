@@ -2,6 +2,7 @@
 mod answers;
 mod forged;
 mod forged_answers;
+mod forgetting;
 mod hosts;
 mod images;
 mod messages;
@@ -10,11 +11,16 @@ mod refused;
 ghost use Rattle.std.specs.Prelude.{◌≤◌};
 
 use crate::common::want;
-use np_code_points::Form;
+use np_code_points::{Form, Memory};
 use np_node::{Accepted, ImageFault, Node, NodeFault, Taken};
 use np_tables::NormTable;
 use std::alloc::Global;
 use std::test::Fail;
+
+/// So many times `a`.
+fn letters(alloc: Global, count: usize) -> Result<Vec<u8>, Memory> {
+    Ok(vec![in alloc; b'a'; count]?)
+}
 
 /// The node keeps a new string, and tells it by this message.
 fn wants_kept<T: NormTable>(

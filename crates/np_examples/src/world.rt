@@ -7,8 +7,8 @@ use np_chain::Chain;
 use np_code_points::Form;
 use np_tables::RowTable;
 use np_world::fixtures::{
-    EXCHANGE_REPORT, EXCHANGE_SCHEDULE, FORGED_REPORT, FORGED_SCHEDULE, RESTART_REPORT,
-    RESTART_SCHEDULE,
+    EXCHANGE_REPORT, EXCHANGE_SCHEDULE, FORGED_REPORT, FORGED_SCHEDULE, FORGETTING_REPORT,
+    FORGETTING_SCHEDULE, OLDER_REPORT, OLDER_SCHEDULE, RESTART_REPORT, RESTART_SCHEDULE,
 };
 use np_world::{Report, read_schedule, replay, report_text};
 use std::alloc::Global;
@@ -49,7 +49,29 @@ fn messages_reach_nodes_before_and_after_an_upgrade(rt: HostRuntime) -> Result<(
 
 #[test]
 fn a_restarted_node_has_what_it_saved(rt: HostRuntime) -> Result<(), Fail> {
-    wants_report(rt.alloc(), &[V1, V2], RESTART_SCHEDULE, RESTART_REPORT)
+    wants_report(rt.alloc(), &[V1, V2], RESTART_SCHEDULE, RESTART_REPORT)?;
+    wants_report(rt.alloc(), &[V1, V2], OLDER_SCHEDULE, OLDER_REPORT)?;
+    wants_report(rt.alloc(), &[V1], FORGETTING_SCHEDULE, FORGETTING_REPORT)
+}
+
+#[test]
+fn a_node_restarts_under_each_version_with_as_many_code_points(
+    rt: HostRuntime,
+) -> Result<(), Fail> {
+    // an earlier version with as many code points as the one that saved
+    wants_report(
+        rt.alloc(),
+        &[V1, V1],
+        "room 4\nnodes 0\naccept 0 0061\nupgrade 0\nsave 0\nrestart 0 0\n",
+        "0 kept 0\n1 version 1\n2 saved\n3 restarted\nnode 0 version 0 entries 1\nentry 0061 / 0061\n",
+    )?;
+    // a node that never saved goes to any version, empty, and on from there
+    wants_report(
+        rt.alloc(),
+        &[V1, V2],
+        "room 4\nnodes 1\naccept 0 16D68\nrestart 0 0\naccept 0 16D68\nupgrade 0\nrestart 0 0\n",
+        "0 kept 0\n1 restarted\n2 unassigned 16D68 at byte 0\n3 version 1\n4 restarted\nnode 0 version 0 entries 0\n",
+    )
 }
 
 #[test]
@@ -80,9 +102,9 @@ fn words_of_events_are_read_as_they_stand(rt: HostRuntime) -> Result<(), Fail> {
 /// The message of `E2` in its decomposed spelling, under NFC.
 const MESSAGE: &[u8] = b"C\0\0\0\x03a\xcc\x82\0\0\0\x02\xc3\xa2";
 
-/// The image of a node that keeps this string and 212B.
+/// The image of a node that saved this string and 212B under a version with 17,660 assigned code points.
 const IMAGE: &[u8] =
-    b"NPS1C\0\0\0\x02\0\0\0\x03a\xcc\x82\0\0\0\x02\xc3\xa2\0\0\0\x03\xe2\x84\xab\0\0\0\x02\xc3\x85";
+    b"NPS2C\0\0\x44\xfc\0\0\0\x02\0\0\0\x03a\xcc\x82\x01\0\0\0\x02\xc3\xa2\0\0\0\x03\xe2\x84\xab\x01\0\0\0\x02\xc3\x85";
 
 /// What the report of the restart lends.
 fn wants_lent(alloc: Global, tables: &[RowTable]) -> Result<(), Fail> {
@@ -100,6 +122,35 @@ fn wants_lent(alloc: Global, tables: &[RowTable]) -> Result<(), Fail> {
 fn a_report_lends_messages_and_images(rt: HostRuntime) -> Result<(), Fail> {
     let tables = tables_of(rt.alloc(), &[V1, V2])?;
     wants_lent(rt.alloc(), tables.as_slice())
+}
+
+/// A schedule of one event: a node is given a string of so many letters.
+fn with_letters(alloc: Global, count: usize) -> Result<String, Fail> {
+    let mut text = String::new(alloc);
+    text.push_str("room 1\nnodes 0\naccept 0")?;
+    for _ in 0..count {
+        text.push_str(" 0061")?;
+    }
+    Ok(text)
+}
+
+/// The longest string that is kept, and one that is longer by a byte.
+fn wants_limit(alloc: Global, tables: &[RowTable]) -> Result<(), Fail> {
+    let longest = with_letters(alloc, 65_536)?;
+    let report = replayed(alloc, tables, longest.as_str())?;
+    want(
+        report.sent(0).is_some_and(|message| message.len() == 131_081),
+        "65,536 bytes are kept",
+    )?;
+    let longer = with_letters(alloc, 65_537)?;
+    let wanted = "0 too long\nnode 0 version 0 entries 0\n";
+    wants_text(alloc, tables, longer.as_str(), wanted)
+}
+
+#[test]
+fn strings_have_65_536_bytes_at_most(rt: HostRuntime) -> Result<(), Fail> {
+    let tables = tables_of(rt.alloc(), &[V1])?;
+    wants_limit(rt.alloc(), tables.as_slice())
 }
 
 /// A schedule and a report show how much there is in them, and none of the strings.

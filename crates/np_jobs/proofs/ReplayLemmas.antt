@@ -8,11 +8,9 @@ use Rattle.np_code_points.specs.declared.forms.Form.{Form}
 use Rattle.np_tables.specs.Versions.{VersionData}
 use Rattle.np_world.specs.Events.{ScheduleData}
 use Rattle.np_world.specs.ReportTexts.{report_lines, text_of_report}
-use Rattle.np_world.specs.Reports.{index_at, node_at, node_report, nodes_of, replies_of}
+use Rattle.np_world.specs.Reports.{NodeAtEnd, ReportData, index_at, node_at, node_report, nodes_of, replies_of}
 use Rattle.np_world.specs.Runs.{AreKeysUnder, HasOneRun, InTheRun, IsLast, setting_over, texts_in}
 use Rattle.np_world.specs.World.{MachineNode}
-use Rattle.np_world.specs.declared.members.Member.{Member}
-use Rattle.np_world.specs.declared.report.Report.{Report}
 use Rattle.np_code_points.specs.Watched.{device_of}
 use Rattle.np_code_points.specs.declared.channels.watched.Watched.{Watched}
 use Rattle.np_jobs.specs.Chains.{VersionReaders, WereBuilt}
@@ -29,11 +27,11 @@ some_at (x ∷ xs) (suc k) lt = some_at xs k (omega arith)
 
 module _ {T : Type 0} (last : VersionData) (form : Form) where
   -- nodes that keep what the machine's keep, place by place
-  nodes_told : (members : List (Member T)) (nodes : List MachineNode)
-      → ((i : ℕ) → option_map (λ m. m.index) (slice_get members i) ≡ option_map (λ n. n.index) (slice_get nodes i))
-      → ((i : ℕ) → option_map (λ node. texts_in node.entries) (option_map (λ m. m.node) (slice_get members i)) ≡ option_map (λ n. n.strings) (slice_get nodes i))
-      → ((i : ℕ) → IfSome (option_map (λ m. m.node) (slice_get members i)) (λ node. AreKeysUnder last form node.entries))
-      → AllZip (IsNodeTold last form) nodes (map node_report members)
+  nodes_told : (ends : List (NodeAtEnd T)) (nodes : List MachineNode)
+      → ((i : ℕ) → option_map (λ e. e.index) (slice_get ends i) ≡ option_map (λ n. n.index) (slice_get nodes i))
+      → ((i : ℕ) → option_map (λ node. texts_in node.entries) (option_map (λ e. e.node) (slice_get ends i)) ≡ option_map (λ n. n.strings) (slice_get nodes i))
+      → ((i : ℕ) → IfSome (option_map (λ e. e.node) (slice_get ends i)) (λ node. AreKeysUnder last form node.entries))
+      → AllZip (IsNodeTold last form) nodes (map node_report ends)
   nodes_told [] [] indices strings keys = tt
   nodes_told [] (n ∷ ns) indices strings keys = let h = indices 0 in absurd (cc)
   nodes_told (m ∷ ms) [] indices strings keys = let h = indices 0 in absurd (cc)
@@ -43,13 +41,13 @@ module _ {T : Type 0} (last : VersionData) (form : Form) where
       (record { index = cc; strings = cc; keys = keys 0 }, nodes_told ms ns (λ i. indices (suc i)) (λ i. strings (suc i)) (λ i. keys (suc i)))
 
 -- the report of a replay over tables is the machine's run
-pub told_whole : {T : Type 0} (model : T → VersionData) (tables : List T) (form : Form) (schedule : ScheduleData) (report : Report T) (text : List ℕ)
+pub told_whole : {T : Type 0} (model : T → VersionData) (tables : List T) (form : Form) (schedule : ScheduleData) (report : ReportData T) (text : List ℕ)
     → 0 < length tables
-    → HasOneRun (setting_over model tables form schedule) schedule
-    → InTheRun (setting_over model tables form schedule) schedule (λ replies world. replies_of report ≡ replies)
-    → InTheRun (setting_over model tables form schedule) schedule (λ replies world. (i : ℕ) → index_at report i ≡ option_map (λ node. node.index) (slice_get world.nodes i))
-    → InTheRun (setting_over model tables form schedule) schedule (λ replies world. (i : ℕ) → option_map (λ node. texts_in node.entries) (node_at report i) ≡ option_map (λ node. node.strings) (slice_get world.nodes i))
-    → ((last : VersionData) → IsLast (setting_over model tables form schedule) last → (i : ℕ) → IfSome (node_at report i) (λ node. AreKeysUnder last form node.entries))
+    → HasOneRun model tables form schedule
+    → InTheRun model tables form schedule (λ replies world. replies_of report ≡ replies)
+    → InTheRun model tables form schedule (λ replies world. (i : ℕ) → index_at report i ≡ option_map (λ node. node.index) (slice_get world.nodes i))
+    → InTheRun model tables form schedule (λ replies world. (i : ℕ) → option_map (λ node. texts_in node.entries) (node_at report i) ≡ option_map (λ node. node.strings) (slice_get world.nodes i))
+    → ((last : VersionData) → IsLast (map model tables) last → (i : ℕ) → IfSome (node_at report i) (λ node. AreKeysUnder last form node.entries))
     → text ≡ text_of_report report → IsReplay form (map model tables) schedule text
 told_whole model tables form schedule report text some run replies indices strings keys is =
     let count = length-map tables model in
@@ -63,7 +61,7 @@ told_whole model tables form schedule report text some run replies indices strin
       world = run.0.1;
       run = run.1;
       nodes = nodes_of report;
-      told = nodes_told last.0 form report.members.items run.0.1.nodes (indices run.0.0 run.0.1 run.1) (strings run.0.0 run.0.1 run.1) (keys last.0 last.1);
+      told = nodes_told last.0 form report.nodes run.0.1.nodes (indices run.0.0 run.0.1 run.1) (strings run.0.0 run.0.1 run.1) (keys last.0 last.1);
       bytes_are = is ∙ ap (λ rs. report_lines rs (nodes_of report)) (replies run.0.0 run.0.1 run.1);
     }
 

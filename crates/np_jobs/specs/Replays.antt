@@ -39,7 +39,7 @@ pub record IsReplay (form : Form) (versions : List VersionData) (schedule : Sche
   pub setting : Setting
   pub setting_is : setting ≡ record { versions = versions; form = form; room = schedule.room }
   pub last : VersionData
-  pub is_last : IsLast setting last
+  pub is_last : IsLast versions last
   pub replies : List Reply
   pub world : World
   pub run : IsRun setting (start schedule.starts) schedule.events replies world

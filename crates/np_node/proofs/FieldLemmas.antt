@@ -28,7 +28,7 @@ one_number m n xs ys p q e =
 
 -- ---- fields
 
-field-cut : (xs us : List ℕ) → field_bytes xs ++ us ≡ number_bytes (length xs) ++ (xs ++ us)
+pub field-cut : (xs us : List ℕ) → field_bytes xs ++ us ≡ number_bytes (length xs) ++ (xs ++ us)
 unfolding field_bytes
 field-cut xs us = append_assoc (number_bytes (length xs)) xs us
 
@@ -57,7 +57,7 @@ one_field_fault bytes at other (inr a) (inr b) = b.place ∙ sym a.place
 
 -- ---- entries
 
-entry-cut : (e : Entry) (us : List ℕ) → entry_bytes e ++ us ≡ field_bytes e.string ++ (field_bytes e.key ++ us)
+pub entry-cut : (e : Entry) (us : List ℕ) → entry_bytes e ++ us ≡ field_bytes e.string ++ (field_bytes e.key ++ us)
 unfolding entry_bytes
 entry-cut e us = append_assoc (field_bytes e.string) (field_bytes e.key) us
 

@@ -1,11 +1,16 @@
 pub mod FieldLemmas
+pub mod MarkedLemmas
 pub mod ImageLemmas
 pub mod KeyLemmas
 pub mod ListLemmas
 pub mod MessageLemmas
 pub mod NodeLemmas
 pub mod ReadingLemmas
+pub mod MarkedReading
+pub mod HeadLemmas
+pub mod ImageReading
 pub mod EntryLemmas
 pub mod FillLemmas
+pub mod FoundLemmas
 pub mod ForgetLemmas
 pub mod LawLemmas

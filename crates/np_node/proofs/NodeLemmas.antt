@@ -1,5 +1,5 @@
 -- What holds of a node as strings come to it, and along an extension.
-use Rattle.std.proofs.Common.{◌≡◌, ◌≢◌, ℕ, zero, suc, ◌<◌, List, [], ◌∷◌, ◌++◌, length, take, slice_get, Some, get_or, All, AllPairs, Contains, Bool, true, false, true≢false, IsTrue, ◌↔◌, Result, Ok, Err, OnOk, OnErr, refl, sym, ap, subst, ◌∙◌, arith, length-append}
+use Rattle.std.proofs.Common.{◌≡◌, ◌≢◌, ℕ, zero, suc, ◌<◌, List, [], ◌∷◌, ◌++◌, length, take, slice_get, Some, get_or, All, AllPairs, Contains, Bool, false, true≢false, IsTrue, ◌↔◌, Result, Ok, Err, OnOk, OnErr, refl, sym, ap, subst, ◌∙◌, arith, length-append}
 use Rattle.std.proofs.lemmas.List.Elements.{All-push, All-weaker, All-head, All-tail}
 use Rattle.std.proofs.lemmas.List.Quantifiers.{all_pairs_push}
 use Rattle.np_chain.specs.Chain.{Extends}
@@ -11,7 +11,7 @@ use Rattle.np_node.specs.Nodes.{State, strings_of, HasPlace, IsKept, AreUnlike, 
 use Rattle.np_node.specs.Strings.{Entry, IsEntry, IsKey, IsStringFault}
 use Rattle.np_node.specs.Taking.{AnswersEntry}
 use Rattle.np_node.specs.declared.faults.NodeFault.{NodeFault}
-use Rattle.np_node.specs.declared.faults.NodeFault.TheVariants.{Malformed, OtherForm, TooLong, NotUtf8, Unassigned, KeyDiffers, Full, Memory}
+use Rattle.np_node.specs.declared.faults.NodeFault.TheVariants.{Malformed, OtherForm, TooLong, NotUtf8, Unassigned, KeyDiffers, Full, Memory, OlderTables}
 use Rattle.np_tables.specs.Conditions.{IsSound}
 use Rattle.np_tables.specs.Versions.{VersionData}
 
@@ -83,6 +83,7 @@ string_faults v string Wanted long cut lacks OtherForm h = absurd h
 string_faults v string Wanted long cut lacks KeyDiffers h = absurd h
 string_faults v string Wanted long cut lacks Full h = absurd h
 string_faults v string Wanted long cut lacks Memory h = absurd h
+string_faults v string Wanted long cut lacks (OlderTables need have) h = absurd h
 
 -- it is refused with it
 pub refuses-accept : (node : State) (string : List ℕ) (fault : NodeFault) → IsStringFault node.version string fault → AnswersAccept node string (Err fault)

@@ -6,7 +6,7 @@ use Rattle.np_node.specs.Strings.{IsKeepable, IsKey, IsStringFault}
 use Rattle.np_node.specs.declared.accepting.Accepted.{Accepted}
 use Rattle.np_node.specs.declared.accepting.Accepted.TheVariants.{Kept, Known}
 use Rattle.np_node.specs.declared.faults.NodeFault.{NodeFault}
-use Rattle.np_node.specs.declared.faults.NodeFault.TheVariants.{Malformed, OtherForm, TooLong, NotUtf8, Unassigned, KeyDiffers, Full, Memory}
+use Rattle.np_node.specs.declared.faults.NodeFault.TheVariants.{Malformed, OtherForm, TooLong, NotUtf8, Unassigned, KeyDiffers, Full, Memory, OlderTables}
 use Rattle.np_tables.specs.Versions.{VersionData}
 
 -- each answer's cause, with those of the answers before it absent: too long, not UTF-8, unassigned, known, full, kept. Want
@@ -22,6 +22,7 @@ AnswersAccept node string (Err Memory) = HasPlace node string
 AnswersAccept node string (Err (Malformed at)) = ⊥
 AnswersAccept node string (Err OtherForm) = ⊥
 AnswersAccept node string (Err KeyDiffers) = ⊥
+AnswersAccept node string (Err (OlderTables need have)) = ⊥
 
 -- the string is kept behind the others, beside its key, and the message spells both
 pub record KeepsAndTells {T : Type 0} (model : T → VersionData) (old new : NodeState T) (string message : List ℕ) : Type 0 where

@@ -5,7 +5,7 @@ use Rattle.np_code_points.specs.declared.forms.Form.{Form}
 use Rattle.np_forms.specs.Assigned.{IsAssigned, IsFirstUnassigned}
 use Rattle.np_forms.specs.Forms.{IsNormalForm}
 use Rattle.np_node.specs.declared.faults.NodeFault.{NodeFault}
-use Rattle.np_node.specs.declared.faults.NodeFault.TheVariants.{Malformed, OtherForm, TooLong, NotUtf8, Unassigned, KeyDiffers, Full, Memory}
+use Rattle.np_node.specs.declared.faults.NodeFault.TheVariants.{Malformed, OtherForm, TooLong, NotUtf8, Unassigned, KeyDiffers, Full, Memory, OlderTables}
 use Rattle.np_tables.specs.Versions.{VersionData}
 
 -- a string beside its key, both as bytes
@@ -44,3 +44,4 @@ IsStringFault v string OtherForm = ⊥
 IsStringFault v string KeyDiffers = ⊥
 IsStringFault v string Full = ⊥
 IsStringFault v string Memory = ⊥
+IsStringFault v string (OlderTables need have) = ⊥

@@ -6,10 +6,10 @@ use Rattle.np_node.specs.Strings.{Entry, IsEntry, IsKeepable, IsKey, IsStringFau
 use Rattle.np_node.specs.declared.taking.Taken.{Taken}
 use Rattle.np_node.specs.declared.taking.Taken.TheVariants.{Kept, Known}
 use Rattle.np_node.specs.declared.faults.NodeFault.{NodeFault}
-use Rattle.np_node.specs.declared.faults.NodeFault.TheVariants.{Malformed, OtherForm, TooLong, NotUtf8, Unassigned, KeyDiffers, Full, Memory}
+use Rattle.np_node.specs.declared.faults.NodeFault.TheVariants.{Malformed, OtherForm, TooLong, NotUtf8, Unassigned, KeyDiffers, Full, Memory, OlderTables}
 
 -- the bytes are a message of another form than the node's
-pub record IsOfOtherForm (node : State) (bytes : List ℕ) : Type 0 where
+pub record IsMessageOfOtherForm (node : State) (bytes : List ℕ) : Type 0 where
   pub message : Message
   pub spelled : IsMessage bytes message
   pub other : message.form ≢ node.form
@@ -37,6 +37,7 @@ AnswersEntry node e (Err Full) = IsEntry node.version node.form e × HasNoPlace 
 AnswersEntry node e (Err Memory) = IsNew node e.string
 AnswersEntry node e (Err (Malformed at)) = ⊥
 AnswersEntry node e (Err OtherForm) = ⊥
+AnswersEntry node e (Err (OlderTables need have)) = ⊥
 
 -- the bytes are a message of the node's form, and the answer is one to its string and key
 abbrev pub AnswersTold : State → List ℕ → Result Taken NodeFault → Type 0
@@ -45,13 +46,14 @@ AnswersTold node bytes answer = Tells node bytes (λ e. AnswersEntry node e answ
 -- malformed bytes are refused first, then another form; every other answer is one to the string and the key
 abbrev pub AnswersTake : State → List ℕ → Result Taken NodeFault → Type 0
 AnswersTake node bytes (Err (Malformed at)) = IsMessageFault bytes at
-AnswersTake node bytes (Err OtherForm) = IsOfOtherForm node bytes
+AnswersTake node bytes (Err OtherForm) = IsMessageOfOtherForm node bytes
 AnswersTake node bytes (Err TooLong) = AnswersTold node bytes (Err TooLong)
 AnswersTake node bytes (Err (NotUtf8 at)) = AnswersTold node bytes (Err (NotUtf8 at))
 AnswersTake node bytes (Err (Unassigned at code)) = AnswersTold node bytes (Err (Unassigned at code))
 AnswersTake node bytes (Err KeyDiffers) = AnswersTold node bytes (Err KeyDiffers)
 AnswersTake node bytes (Err Full) = AnswersTold node bytes (Err Full)
 AnswersTake node bytes (Err Memory) = AnswersTold node bytes (Err Memory)
+AnswersTake node bytes (Err (OlderTables need have)) = ⊥
 AnswersTake node bytes (Ok answer) = AnswersTold node bytes (Ok answer)
 
 -- `Kept` keeps what the message tells, every other answer changes nothing

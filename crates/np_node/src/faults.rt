@@ -36,6 +36,10 @@ pub enum NodeFault {
     /// Memory ran out.
     #[error("out of memory")]
     Memory,
+    /// The image was saved under a version with `need` assigned code points, and the version of
+    /// the table has fewer, `have` of them.
+    #[error("older tables: need {need} code points, have {have}")]
+    OlderTables { need: u32, have: u32 },
 }
 
 impl NodeFault {
@@ -52,6 +56,7 @@ impl NodeFault {
             NodeFault::KeyDiffers => "KeyDiffers",
             NodeFault::Full => "Full",
             NodeFault::Memory => "Memory",
+            NodeFault::OlderTables { .. } => "OlderTables",
         }
     }
 }

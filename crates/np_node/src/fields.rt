@@ -3,6 +3,12 @@
 use np_code_points::{Form, Memory};
 use std::alloc::Global;
 
+/// The marker of a key that is its string.
+const SAME_KEY: u8 = 0;
+
+/// The marker of a key that is another than its string, and follows.
+const OTHER_KEY: u8 = 1;
+
 /// Bytes that are read field by field, and the place up to which they are read.
 #[derive(Drop)]
 pub(crate) struct Fields<'b> {
@@ -30,8 +36,10 @@ pub(crate) fn same_bytes(left: &[u8], right: &[u8]) -> bool
 impl<'b> Fields<'b> {
     ghost use Rattle.std.specs.Prelude.{◌≡◌, ℕ, ◌+◌, ◌^◌, ◌<◌, ◌∷◌, [], IfOk, IfErr, IfSome, IfNone};
     ghost use Rattle.np_code_points.specs.Forms.{byte_of};
-    ghost use Rattle.np_node.specs.Fields.{entry_bytes, field_bytes, number_bytes, FitsFields, IsEntryFault, IsFieldFault, LacksForm};
-    ghost use Rattle.np_node.specs.inside.Reading.{left_of, told_entry, Passes, Skips};
+    ghost use Rattle.np_node.specs.Fields.{entry_bytes, field_bytes, marked_bytes, number_bytes, FitsFields};
+    ghost use Rattle.np_node.specs.Fields.{IsEntryFault, IsFieldFault, IsMarkedFault, LacksForm};
+    ghost use Rattle.np_node.specs.Images.{spelled_entry, IsSpellingFault};
+    ghost use Rattle.np_node.specs.inside.Reading.{left_of, told_entry, Passes};
 
     /// A reader of all of the bytes.
     pub(crate) fn new(bytes: &'b [u8]) -> Self
@@ -55,7 +63,7 @@ impl<'b> Fields<'b> {
     }
 
     /// The next so many bytes, where there are so many.
-    fn take(&mut self, count: usize) -> Option<&'b [u8]>
+    pub(crate) fn take(&mut self, count: usize) -> Option<&'b [u8]>
         ensures some { IfSome result (λ xs. Passes self.old self.new xs.now × (length xs.now ≡ count)) }
         ensures none { IfNone result ((length (left_of self.old) < count) × (self.new ≡ self.old)) }
     {
@@ -66,19 +74,6 @@ impl<'b> Fields<'b> {
         let from = self.at;
         self.at += count;
         Some(&bytes[from..from + count])
-    }
-
-    /// Goes over the name, where it is in front.
-    pub(crate) fn skip(&mut self, name: &[u8]) -> bool
-        ensures { Skips self.old self.new name.now result }
-    {
-        if self.left() < name.len() {
-            return false;
-        }
-        match self.take(name.len()) {
-            Some(found) => same_bytes(found, name),
-            None => false,
-        }
     }
 
     /// The form whose byte is next.
@@ -125,10 +120,55 @@ impl<'b> Fields<'b> {
             Err(at) => Err(at),
         }
     }
+
+    /// The next byte.
+    fn byte(&mut self) -> Option<u8>
+        ensures some { IfSome result (λ b. Passes self.old self.new (b ∷ [])) }
+        ensures none { IfNone result (left_of self.old ≡ []) }
+    {
+        let byte = self.take(1)?;
+        Some(byte[0])
+    }
+
+    /// The next string and its key, which a marker tells, or the offset of what is not whole or
+    /// not allowed. It takes no memory: where the marker says that the key is the string, the
+    /// key is lent once more.
+    fn marked(&mut self) -> Result<Told<'b>, usize>
+        ensures ok { IfOk result (λ told. Passes self.old self.new (marked_bytes (told_entry told)) × FitsFields (told_entry told)) }
+        ensures err { IfErr result (λ at. (inner : ℕ) × IsMarkedFault (left_of self.old) inner × (at ≡ self.old.at + inner)) }
+    {
+        let string = self.field()?;
+        let at = self.at;
+        match self.byte() {
+            Some(SAME_KEY) => Ok(Told {
+                string,
+                key: string,
+            }),
+            Some(OTHER_KEY) => match self.field() {
+                Ok(key) if same_bytes(key, string) => Err(at),
+                Ok(key) => Ok(Told { string, key }),
+                Err(at) => Err(at),
+            },
+            Some(_) | None => Err(at),
+        }
+    }
+
+    /// The next entry of an image that needs so many code points, as its layout spells it, or the
+    /// offset of what is not whole or not allowed.
+    pub(crate) fn spelled(&mut self, needs: Option<u32>) -> Result<Told<'b>, usize>
+        ensures ok { IfOk result (λ told. Passes self.old self.new (spelled_entry needs (told_entry told)) × FitsFields (told_entry told)) }
+        ensures err { IfErr result (λ at. (inner : ℕ) × IsSpellingFault needs (left_of self.old) inner × (at ≡ self.old.at + inner)) }
+    {
+        match needs {
+            None => self.entry(),
+            Some(_count) => self.marked(),
+        }
+    }
 }
 
 ghost use Rattle.std.specs.Prelude.{◌++◌, ◌^◌, ◌<◌, OnOk};
 ghost use Rattle.np_node.specs.Fields.{entry_bytes as entry_spelled, field_bytes as field_spelled, number_bytes as number_spelled};
+ghost use Rattle.np_node.specs.Fields.{marked_bytes as marked_spelled};
 
 /// Appends a number.
 #[tactic(auto, unfolding(crate::specs::Fields::number_bytes))]
@@ -158,5 +198,20 @@ pub(crate) fn push_entry(out: &mut Vec<u8>, string: &[u8], key: &[u8]) -> Result
     ensures { OnOk result (out.new.items ≡ out.old.items ++ entry_spelled (record { string = string.now; key = key.now })) }
 {
     push_field(out, string)?;
+    push_field(out, key)
+}
+
+/// Appends a string, and its key behind a marker, where it is another.
+pub(crate) fn push_marked(out: &mut Vec<u8>, string: &[u8], key: &[u8]) -> Result<(), Memory>
+    requires string { length string.now < 2 ^ 32 }
+    requires key { length key.now < 2 ^ 32 }
+    ensures { OnOk result (out.new.items ≡ out.old.items ++ marked_spelled (record { string = string.now; key = key.now })) }
+{
+    push_field(out, string)?;
+    if same_bytes(key, string) {
+        out.push(SAME_KEY)?;
+        return Ok(());
+    }
+    out.push(OTHER_KEY)?;
     push_field(out, key)
 }

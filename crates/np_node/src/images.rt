@@ -1,47 +1,105 @@
 //! Images, read and written.
-ghost use Rattle.std.specs.Prelude.{◌≡◌, ◌++◌, ◌≤◌, ◌<◌, ◌^◌, length, All, IfOk, IfErr, OnOk};
+ghost use Rattle.std.specs.Prelude.{◌≡◌, ◌++◌, ◌≤◌, ◌<◌, ◌^◌, length, All, IfOk, IfErr, IfSome, IfNone, OnOk, Some};
 ghost use Rattle.np_node.specs.Fields.{FitsFields};
-ghost use Rattle.np_node.specs.Images.{head_bytes, image_bytes, image_name, IsImageFault};
-ghost use Rattle.np_node.specs.inside.Reading.{Passes};
-ghost use Rattle.np_node.specs.inside.Shapes.{HasShape};
+ghost use Rattle.np_node.specs.Images.{head_bytes, image_bytes, image_name, needs_bytes, FitsNeeds, IsImageFault};
+ghost use Rattle.np_node.specs.inside.Reading.{left_of, Passes};
+ghost use Rattle.np_node.specs.inside.Shapes.{layout_name, HasShape};
+ghost use Rattle.np_node.specs.declared.images.Layout.TheVariants.{Second};
+ghost use Rattle.np_tables.specs.Counts.{assigned_count};
 
 use crate::entries::Entries;
-use crate::fields::{Fields, push_entry, push_number};
+use crate::fields::{Fields, push_marked, push_number, same_bytes};
 use crate::nodes::Node;
 use np_code_points::{Form, Memory};
 use np_tables::NormTable;
 
-/// What an image begins with.
-const NAME: [u8; 4] = *b"NPS1";
+/// What an image of the first layout begins with.
+const FIRST_NAME: [u8; 4] = *b"NPS1";
 
-/// What stands before the entries: the form and the count.
-pub(crate) fn read_head(fields: &mut Fields<'_>) -> Result<(Form, u32), usize>
+/// What an image of the second layout begins with.
+const SECOND_NAME: [u8; 4] = *b"NPS2";
+
+/// The layout of an image.
+#[derive(Clone, Copy)]
+enum Layout {
+    First,
+    Second,
+}
+
+/// What stands before the entries of an image.
+#[derive(Clone, Copy)]
+pub(crate) struct Head {
+    /// How many code points the version that saved assigns; none in the first layout.
+    pub needs: Option<u32>,
+    pub form: Form,
+    /// How many entries follow.
+    pub count: u32,
+}
+
+/// The layout whose name is in front.
+fn read_name(fields: &mut Fields<'_>) -> Option<Layout>
     requires { fields.old.at ≡ 0 }
-    ensures ok { IfOk result (λ head. Passes fields.old fields.new (head_bytes head.0 head.1)) }
-    ensures count { IfOk result (λ head. head.1 < 2 ^ 32) }
+    ensures some { IfSome result (λ layout. Passes fields.old fields.new (layout_name layout)) }
+    ensures none { IfNone result (IsImageFault fields.old.bytes.now 0) }
+{
+    let name = fields.take(4)?;
+    if same_bytes(name, &FIRST_NAME) {
+        return Some(Layout::First);
+    }
+    if same_bytes(name, &SECOND_NAME) {
+        return Some(Layout::Second);
+    }
+    None
+}
+
+/// What an image of the layout tells behind its form's byte.
+fn read_needs(fields: &mut Fields<'_>, layout: Layout) -> Option<Option<u32>>
+    ensures name { IfSome result (λ needs. layout_name layout ≡ image_name needs) }
+    ensures some { IfSome result (λ needs. Passes fields.old fields.new (needs_bytes needs) × FitsNeeds needs) }
+    ensures none { IfNone result ((layout ≡ Second) × (length (left_of fields.old) < 4)) }
+{
+    match layout {
+        Layout::First => Some(None),
+        Layout::Second => match fields.number() {
+            Some(count) => Some(Some(count)),
+            None => None,
+        },
+    }
+}
+
+/// What stands before the entries, or the offset of what is not whole or not allowed.
+pub(crate) fn read_head(fields: &mut Fields<'_>) -> Result<Head, usize>
+    requires { fields.old.at ≡ 0 }
+    ensures ok { IfOk result (λ head. Passes fields.old fields.new (head_bytes head.needs head.form head.count)) }
+    ensures needs { IfOk result (λ head. FitsNeeds head.needs) }
+    ensures count { IfOk result (λ head. head.count < 2 ^ 32) }
     ensures err { IfErr result (λ at. IsImageFault fields.old.bytes.now at) }
 {
-    if !fields.skip(&NAME) {
+    let Some(layout) = read_name(fields) else {
         return Err(0);
-    }
+    };
     let Some(form) = fields.form() else {
         return Err(4);
     };
-    let Some(count) = fields.number() else {
+    let Some(needs) = read_needs(fields, layout) else {
         return Err(5);
     };
-    Ok((form, count))
+    let at = fields.place();
+    let Some(count) = fields.number() else {
+        return Err(at);
+    };
+    Ok(Head { needs, form, count })
 }
 
-/// The form and the count of bytes that are an image, or the fault place of bytes that are none.
-pub(crate) fn shape_of(bytes: &[u8]) -> Result<(Form, u32), usize>
-    ensures ok { IfOk result (λ shape. HasShape bytes.now shape.0 shape.1) }
+/// The head of bytes that are an image, or the fault place of bytes that are none.
+pub(crate) fn shape_of(bytes: &[u8]) -> Result<Head, usize>
+    ensures ok { IfOk result (λ head. HasShape bytes.now head.needs head.form head.count) }
     ensures err { IfErr result (λ at. IsImageFault bytes.now at) }
 {
     let mut fields = Fields::new(bytes);
-    let (form, count) = read_head(&mut fields)?;
-    for _number in 0..count {
-        match fields.entry() {
+    let head = read_head(&mut fields)?;
+    for _number in 0..head.count {
+        match fields.spelled(head.needs) {
             Ok(_told) => {}
             Err(at) => return Err(at),
         }
@@ -49,43 +107,49 @@ pub(crate) fn shape_of(bytes: &[u8]) -> Result<(Form, u32), usize>
     if fields.left() > 0 {
         return Err(fields.place());
     }
-    Ok((form, count))
+    Ok(head)
 }
 
-/// Appends what stands before the entries.
-fn push_head(out: &mut Vec<u8>, form: Form, count: u32) -> Result<(), Memory>
-    ensures { OnOk result (out.new.items ≡ out.old.items ++ head_bytes form count) }
+/// Appends what stands before the entries in the second layout.
+fn push_head(out: &mut Vec<u8>, needs: u32, form: Form, count: u32) -> Result<(), Memory>
+    ensures { OnOk result (out.new.items ≡ out.old.items ++ head_bytes (Some needs) form count) }
 {
-    out.extend_from_slice(&NAME)?;
+    out.extend_from_slice(&SECOND_NAME)?;
     out.push(form.byte())?;
+    push_number(out, needs)?;
     push_number(out, count)?;
     Ok(())
 }
 
-/// The image of a form and entries.
-fn image_of(form: Form, entries: &Entries) -> Result<Vec<u8>, Memory>
+/// The image of the second layout of a form and entries.
+fn image_of(needs: u32, form: Form, entries: &Entries) -> Result<Vec<u8>, Memory>
     requires count { length entries.now ≤ 65536 }
     requires fits { All FitsFields entries.now }
-    ensures { IfOk result (λ bytes. bytes.items ≡ image_bytes (record { form = form; entries = entries.now })) }
+    ensures { IfOk result (λ bytes. bytes.items ≡ image_bytes (record { needs = Some needs; form = form; entries = entries.now })) }
 {
     let mut bytes = Vec::new(entries.allocator());
-    push_head(&mut bytes, form, entries.len() as u32)?;
+    push_head(&mut bytes, needs, form, entries.len() as u32)?;
     for index in 0..entries.len() {
         let (string, key) = entries.get(index).unwrap();
-        push_entry(&mut bytes, string.as_bytes(), key.as_bytes())?;
+        push_marked(&mut bytes, string.as_bytes(), key.as_bytes())?;
     }
     Ok(bytes)
 }
 
 impl<'t, T: NormTable> Node<'t, T> {
-    /// The image of the form and the entries, which `restore` reads. Linear in its length.
+    ghost use Rattle.np_node.specs.Laws.{image_of as image_told};
+    ghost use Rattle.np_node.specs.Nodes.{state_of};
+
+    /// The image of the form and the entries, which `restore` reads: it is of the second layout,
+    /// and tells how many code points the table's version assigns. A key that is its string
+    /// isn't repeated. Linear in the image's length.
     ///
     /// # Errors
     ///
     /// `Memory` where memory ran out.
     pub fn image(&self) -> Result<Vec<u8>, Memory>
-        ensures { IfOk result (λ bytes. bytes.items ≡ image_bytes (record { form = self.now.form; entries = self.now.entries })) }
+        ensures { IfOk result (λ bytes. bytes.items ≡ image_bytes (image_told (Some (assigned_count (T.model self.now.table))) (state_of T.model self.now))) }
     {
-        image_of(self.form, &self.kept)
+        image_of(self.table.version().count(), self.form, &self.kept)
     }
 }

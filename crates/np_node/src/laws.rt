@@ -1,19 +1,24 @@
 //! The laws of nodes, over the definitions alone.
 ghost use Rattle.np_node.specs.Images.{IsImage, IsImageFault};
-ghost use Rattle.np_node.specs.Laws.{Exchange, FairExchange, HasOneFault, NeverFewer, Saved, SpellsOne};
+ghost use Rattle.np_node.specs.Laws.{Exchange, FairExchange, HasOneFault, NeverFewer, Restored, Saved, SpellsOne, SpellsOrHasFault};
 ghost use Rattle.np_node.specs.Messages.{IsMessage, IsMessageFault};
 
-/// Bytes spell one message at most, no spelling is a proper prefix of another, and bytes that are
-/// no message have one fault place at most.
+use np_tables::NormTable;
+
+/// Bytes spell one message and have no fault place, or they spell none and have one. No spelling
+/// is a proper prefix of another.
 pub fn messages()
     ensures one { SpellsOne IsMessage }
     ensures fault { HasOneFault IsMessage IsMessageFault }
+    ensures some { SpellsOrHasFault IsMessage IsMessageFault }
 {}
 
-/// The same of images.
+/// The same of images, over both layouts: bytes spell one image and have no fault place, or they
+/// spell none and have one, and no spelling of either layout is a proper prefix of another.
 pub fn images()
     ensures one { SpellsOne IsImage }
     ensures fault { HasOneFault IsImage IsImageFault }
+    ensures some { SpellsOrHasFault IsImage IsImageFault }
 {}
 
 /// A string that is assigned in two versions of a chain has one key under both, so what `accept`
@@ -24,9 +29,16 @@ pub fn exchange()
     ensures fair { FairExchange }
 {}
 
-/// What a node keeps under a version of a chain may be kept under each later one, and its image is
-/// never refused there, but for want of memory.
+/// What a node keeps under a version of a chain may be kept under each version of it that assigns
+/// no fewer code points: its own, each later one, and an earlier one with as many. Its image, of
+/// either layout, is never refused there, but for want of memory.
 pub fn saved()
     ensures saved { Saved }
     ensures fewer { NeverFewer }
+{}
+
+/// The image of a node, of either layout, is restored under the node's table, form and room as
+/// that node, or memory ran out.
+pub fn restored<T: NormTable>()
+    ensures { Restored T.model }
 {}

@@ -1,10 +1,11 @@
 //! Nodes from their images.
-ghost use Rattle.std.specs.Prelude.{◌≡◌, ◌≤◌, None};
-ghost use Rattle.np_node.specs.Restoring.{AnswersRestore};
+ghost use Rattle.std.specs.Prelude.{◌≡◌, ◌≤◌, ℕ, None, IfErr, OnOk};
+ghost use Rattle.np_node.specs.Restoring.{AnswersRestore, IsOlder, NeedsMore};
+ghost use Rattle.np_node.specs.declared.faults.NodeFault.TheVariants.{OlderTables};
 
 use crate::faults::{ImageFault, NodeFault};
 use crate::fields::{Fields, Told};
-use crate::images::{read_head, shape_of};
+use crate::images::{Head, read_head, shape_of};
 use crate::nodes::{MOST_ROOM, Node};
 use crate::taking::Taken;
 use np_code_points::Form;
@@ -18,24 +19,41 @@ fn whole(fault: NodeFault) -> ImageFault
     ImageFault { entry: None, fault }
 }
 
+/// Whether a table has as many assigned code points as an image needs.
+fn check_needs<T: NormTable>(table: &T, needs: Option<u32>) -> Result<(), ImageFault>
+    ensures ok { OnOk result (¬ IsOlder (T.model table.now) needs) }
+    ensures err { IfErr result (λ refused. (need : ℕ) × (have : ℕ) × (refused ≡ record { entry = None; fault = OlderTables need have }) × NeedsMore (T.model table.now) needs need have) }
+{
+    let Some(need) = needs else {
+        return Ok(());
+    };
+    let have = table.version().count();
+    if have < need {
+        return Err(whole(NodeFault::OlderTables { need, have }));
+    }
+    Ok(())
+}
+
 impl<'t, T: NormTable> Node<'t, T> {
-    ghost use Rattle.std.specs.Prelude.{◌≡◌, ◌<◌, [], length, IfErr, OnOk};
+    ghost use Rattle.std.specs.Prelude.{◌≡◌, ◌<◌, [], length};
     ghost use Rattle.np_node.specs.Nodes.{state_of, with_entry, IsKept};
     ghost use Rattle.np_node.specs.Strings.{IsEntry};
     ghost use Rattle.np_node.specs.inside.Reading.{told_entry};
     ghost use Rattle.np_node.specs.inside.Shapes.{HasShape, IsEntryRefusal};
 
-    /// The node of an image, under a table, with a form and a room. No key of the image is
-    /// trusted: each is made anew. Linear in the image's length, but for what the forms cost.
+    /// The node of an image of either layout, under a table, with a form and a room. No key of
+    /// the image is trusted: each is made anew. Linear in the image's length, but for what the
+    /// forms cost.
     ///
     /// # Errors
     ///
     /// In this order, with no entry's number: `Malformed` where the bytes are no image;
-    /// `OtherForm`; `Full` where there are more entries than the room. Then for the first entry
-    /// that is wrong, with its number from 0: `TooLong`, `NotUtf8`, `Unassigned`, `KeyDiffers`,
-    /// and `Malformed` at the entry's first byte where an earlier entry has the string. `Memory`
-    /// has no entry's number, and can come in place of anything behind the shape, the form and
-    /// the room.
+    /// `OtherForm`; `OlderTables` where an image of the second layout was saved under a version
+    /// with more assigned code points than the table's; `Full` where there are more entries than
+    /// the room. Then for the first entry that is wrong, with its number from 0: `TooLong`,
+    /// `NotUtf8`, `Unassigned`, `KeyDiffers`, and `Malformed` at the entry's first byte where an
+    /// earlier entry has the string. `Memory` has no entry's number, and can come in place of
+    /// anything behind the shape, the form, the version and the room.
     pub fn restore(
         alloc: Global,
         table: &'t T,
@@ -46,31 +64,33 @@ impl<'t, T: NormTable> Node<'t, T> {
         requires { room ≤ MOST_ROOM }
         ensures { AnswersRestore T.model table.now form room image.now result }
     {
-        let count = match shape_of(image) {
-            Ok((found, count)) if found == form => count,
+        let head = match shape_of(image) {
+            Ok(head) if head.form == form => head,
             Ok(_) => return Err(whole(NodeFault::OtherForm)),
             Err(at) => return Err(whole(NodeFault::Malformed { at })),
         };
-        if count > room {
+        check_needs(table, head.needs)?;
+        if head.count > room {
             return Err(whole(NodeFault::Full));
         }
-        Node::new(alloc, table, form, room).filled(image, count)
+        Node::new(alloc, table, form, room).filled(image, head)
     }
 
     /// The empty node with the entries of an image.
-    fn filled(mut self, image: &[u8], count: u32) -> Result<Node<'t, T>, ImageFault>
+    fn filled(mut self, image: &[u8], head: Head) -> Result<Node<'t, T>, ImageFault>
         requires empty { self.entries ≡ [] }
-        requires shape { HasShape image.now self.form count }
-        requires room { count ≤ self.room }
+        requires shape { HasShape image.now head.needs self.form head.count }
+        requires young { ¬ IsOlder (T.model self.table) head.needs }
+        requires room { head.count ≤ self.room }
         ensures { AnswersRestore T.model self.entry.table self.entry.form self.entry.room image.now result }
     {
         let mut fields = Fields::new(image);
         if let Err(at) = read_head(&mut fields) {
             return Err(whole(NodeFault::Malformed { at }));
         }
-        for number in 0..count {
+        for number in 0..head.count {
             let at = fields.place();
-            let told = match fields.entry() {
+            let told = match fields.spelled(head.needs) {
                 Ok(told) => told,
                 Err(at) => return Err(whole(NodeFault::Malformed { at })),
             };

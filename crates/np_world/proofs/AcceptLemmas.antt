@@ -12,7 +12,7 @@ use Rattle.np_node.specs.declared.accepting.Accepted.{Accepted}
 use Rattle.np_node.specs.declared.faults.NodeFault.{NodeFault}
 use Rattle.np_node.specs.declared.faults.NodeFault.TheVariants as fault
 use Rattle.np_tables.specs.Versions.{VersionData}
-use Rattle.np_world.specs.World.{Scene, with_string, Finds, Accepts}
+use Rattle.np_world.specs.World.{Scene, sending, Finds, Accepts}
 use Rattle.np_world.specs.declared.members.Member.{Member}
 use Rattle.np_world.specs.declared.replies.Reply.{Reply}
 use Rattle.np_world.specs.declared.replies.Reply.TheVariants.{Sent, Known, Full, TooLong, Unassigned}
@@ -31,14 +31,14 @@ module _ {T : Type 0} (model : T → VersionData) (rules : Rules T) (old new : M
 
   -- a string that may be kept
   finds : (before after : Scene) (reply : Reply) → IsKeepable (model old.node.table) bytes
-      → Finds (setting_of model rules) (chars bytes) before reply after ((reply ≡ Sent (length before.sent)) × (after ≡ record { node = with_string before.node (chars bytes); sent = before.sent ++ chars bytes ∷ [] }))
+      → Finds (setting_of model rules) (chars bytes) (Sent (length before.sent)) (sending (chars bytes) before) before reply after
       → Accepts (setting_of model rules) (model old.node.table) (chars bytes) before reply after
   finds before after reply keepable does = inr (short_text keepable.utf8 keepable.short, inr (λ not. not keepable.assigned, does))
 
   pub accepts-known : (told : List (Vec ℕ Global)) → IsKeepable (model old.node.table) bytes → IsKept old.node.entries bytes → new ≡ old → Turns model rules deed_accept old told Known new told
   accepts-known told keepable kept same =
       says model rules deed_accept old new told Known same
-      (λ node strings last are m sent end. finds (scene node strings) (scene node strings) Known keepable (finds-known model rules old node m strings bytes _ kept))
+      (λ node strings last are m sent end. finds (scene node strings) (scene node strings) Known keepable (finds-known model rules old node m strings bytes _ _ kept))
 
   -- the refusals, in the order of the faults
   pub accepts-refused : (told : List (Vec ℕ Global)) (f : NodeFault) → IsUtf8 bytes → AnswersAccept (state_of model old.node) bytes (Err f) → new ≡ old → IfOk (refusal_of f) (λ reply. Turns model rules deed_accept old told reply new told)
@@ -54,8 +54,9 @@ module _ {T : Type 0} (model : T → VersionData) (rules : Rules T) (old new : M
   accepts-refused told fault.KeyDiffers utf8 answers same = absurd answers
   accepts-refused told fault.Full utf8 answers same =
       says model rules deed_accept old new told Full same
-      (λ node strings last are m sent end. finds (scene node strings) (scene node strings) Full answers.new.keepable (finds-full model rules old node m strings bytes _ answers))
+      (λ node strings last are m sent end. finds (scene node strings) (scene node strings) Full answers.new.keepable (finds-full model rules old node m strings bytes _ _ answers))
   accepts-refused told fault.Memory utf8 answers same = tt
+  accepts-refused told (fault.OlderTables need have) utf8 answers same = absurd answers
 
   -- the message is that of the string, made under the member's version
   is_of : (message : List ℕ) (twin : _) → Mirrors model rules old twin → IsKeepable (model old.node.table) bytes → KeepsAndTells model old.node new.node bytes message → IsMessageOf (setting_of model rules) message (chars bytes)
@@ -78,11 +79,11 @@ module _ {T : Type 0} (model : T → VersionData) (rules : Rules T) (old new : M
       turned model rules deed_accept old new sent told (Sent number)
       (λ node strings last are m messages end.
       let here : number ≡ length strings = count ∙ length-messages (setting_of model rules) sent strings messages in
-      let after : Scene = record { node = with_string node (chars bytes); sent = strings ++ chars bytes ∷ [] } in
+      let after : Scene = sending (chars bytes) (scene node strings) in
       record {
         next = after.node;
         more = after.sent;
-        does = finds (scene node strings) after (Sent number) place.new.keepable (finds-place model rules old node m strings bytes (Sent number) after _ place (ap Sent here, refl));
+        does = finds (scene node strings) after (Sent number) place.new.keepable (finds-place model rules old node m strings bytes (Sent (length strings)) (Sent number) after after place (ap Sent here, refl));
         mirrors = keeps_more model rules old node m new (record { string = bytes; key = tells.key }) index image tells.kept place tells.is_key;
         messages = subst (λ l. AreMessages (setting_of model rules) l after.sent) (sym more)
             (messages-push (setting_of model rules) sent strings message (chars bytes) messages (is_of message.items node m place.new.keepable tells));

@@ -16,12 +16,12 @@ use Rattle.np_node.specs.Nodes.{IsKept}
 use Rattle.np_node.specs.Strings.{Entry, IsEntry}
 use Rattle.np_tables.specs.Conditions.{IsSound}
 use Rattle.np_tables.specs.Versions.{VersionData}
-use Rattle.np_world.specs.World.{MachineNode, Asks, If}
+use Rattle.np_world.specs.World.{MachineNode, Scene, Asks, If, OnlyReplies}
 use Rattle.np_world.specs.declared.members.Member.{Member}
 use Rattle.np_world.specs.declared.replies.Reply.{Reply}
 use Rattle.np_world.specs.declared.replies.Reply.TheVariants.{NotKept, Equal, Different}
 use Rattle.np_world.specs.inside.Mirrors.{Rules, setting_of, Mirrors, AreRules, Turns}
-use Rattle.np_world.proofs.TurnLemmas.{Deed, bytes_of, has_text, table_here, says}
+use Rattle.np_world.proofs.TurnLemmas.{Deed, scene, bytes_of, has_text, table_here, says}
 
 -- ---- equivalence under two versions
 
@@ -73,6 +73,11 @@ if_same : {A B : Type 0} (P Q : Type 0) → P ↔ Q → If P A B → If Q A B
 if_same P Q same (inl (is, a)) = inl (same.0 is, a)
 if_same P Q same (inr (not, b)) = inr (λ is. not (same.1 is), b)
 
+-- a reply in each case, and nothing changes
+if_only : (P : Type 0) (first second reply : Reply) (before : Scene) → If P (reply ≡ first) (reply ≡ second) → If P (OnlyReplies first before reply before) (OnlyReplies second before reply before)
+if_only P first second reply before (inl (is, same)) = inl (is, (same, refl))
+if_only P first second reply before (inr (not, same)) = inr (not, (same, refl))
+
 module _ {T : Type 0} (model : T → VersionData) (rules : Rules T) (old new : Member T) (left right : List ℕ) (told : List (Vec ℕ Global)) (same : new ≡ old) where
   abbrev pub deed_ask : Deed
   deed_ask version last = Asks (setting_of model rules) last (chars left) (chars right)
@@ -80,16 +85,13 @@ module _ {T : Type 0} (model : T → VersionData) (rules : Rules T) (old new : M
   pub asks-none : IsUtf8 left → IsUtf8 right → ¬ (IsKept old.node.entries left × IsKept old.node.entries right) → Turns model rules deed_ask old told NotKept new told
   asks-none one other lacks =
       says model rules deed_ask old new told NotKept same
-      (λ node strings last are m sent end. (refl, inr (λ has. lacks (bytes_of model rules old node m left one has.0, bytes_of model rules old node m right other has.1), refl)))
+      (λ node strings last are m sent end. inr (λ has. lacks (bytes_of model rules old node m left one has.0, bytes_of model rules old node m right other has.1), (refl, refl)))
 
   pub asks-kept : Stability → SameForms → IsKept old.node.entries left → IsKept old.node.entries right → (reply : Reply)
       → If (IsEquivalent (model old.node.table) (is_compat old.node.form) (chars left) (chars right)) (reply ≡ Equal) (reply ≡ Different) → Turns model rules deed_ask old told reply new told
   asks-kept stability forms one other reply is =
       says model rules deed_ask old new told reply same
-      (λ node strings last are m sent end. (
-        refl,
-        inl (
-          (has_text model rules old node m left one, has_text model rules old node m right other),
-          if_same _ _ (equivalent_last model rules old node last m are stability forms end left right one other) is,
-        ),
+      (λ node strings last are m sent end. inl (
+        (has_text model rules old node m left one, has_text model rules old node m right other),
+        if_only _ Equal Different reply (scene node strings) (if_same _ _ (equivalent_last model rules old node last m are stability forms end left right one other) is),
       ))

@@ -59,13 +59,13 @@ pub same_as : (reply other told : Reply) (after next left : Scene) → (reply �
 same_as reply other told after next left one two = (both reply other told one.0 two.0, both after next left one.1 two.1)
 
 module _ (setting : Setting) (v : VersionData) (before : Scene) (reply other : Reply) (after next : Scene) where
-  pub one_finding : (s : List ℕ) (K L : Type 0) → (K → L → Same reply other after next) → Finds setting s before reply after K → Finds setting s before other next L → Same reply other after next
-  one_finding s K L kept one two =
+  pub one_finding : (s : List ℕ) (told : Reply) (left : Scene) → Finds setting s told left before reply after → Finds setting s told left before other next → Same reply other after next
+  one_finding s told left one two =
       one_if (Contains before.node.strings s) _ _ _ _ (Same reply other after next) (same_as reply other _ after next before)
-      (λ a b. one_if (setting.room ≤ length before.node.strings) _ _ _ _ (Same reply other after next) (same_as reply other _ after next before) kept a b) one two
+      (λ a b. one_if (setting.room ≤ length before.node.strings) _ _ _ _ (Same reply other after next) (same_as reply other _ after next before) (same_as reply other told after next left) a b) one two
 
-  pub one_coming : (s : List ℕ) (K L : Type 0) → (K → L → Same reply other after next) → Comes setting v s before reply after K → Comes setting v s before other next L → Same reply other after next
-  one_coming s K L kept one two =
+  pub one_coming : (s : List ℕ) (told : Reply) (left : Scene) → Comes setting v s told left before reply after → Comes setting v s told left before other next → Same reply other after next
+  one_coming s told left one two =
       one_if (¬ (IsAssigned v s)) _ _ _ _ (Same reply other after next)
       (λ a b. (one_name v s reply other a.0 b.0, both after next before a.1 b.1))
-      (λ a b. one_finding s K L kept a b) one two
+      (λ a b. one_finding s told left a b) one two

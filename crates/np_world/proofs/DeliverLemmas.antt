@@ -1,4 +1,4 @@
--- What was sent and reaches a node is what the machine delivers: its shape and its key are never refused.
+-- What was sent and receives a node is what the machine delivers: its shape and its key are never refused.
 use Rattle.std.proofs.Common.{◌≡◌, ℕ, ◌≤◌, List, length, slice_get, Some, refl, sym, subst, arith, inl, inr}
 use Rattle.std.proofs.lemmas.Option.{slice_get_past}
 use Rattle.std.specs.Prelude.{chars}
@@ -10,10 +10,10 @@ use Rattle.np_node.specs.Laws.{Exchange, HasOneFault, SpellsOne}
 use Rattle.np_node.specs.Messages.{Message, IsMessage, IsMessageFault}
 use Rattle.np_node.specs.Strings.{Entry, IsEntry, IsKey}
 use Rattle.np_tables.specs.Versions.{VersionData}
-use Rattle.np_world.specs.World.{Setting, Scene, If, NamesUnassigned, Comes, Finds, Keeps, Reaches, Delivers, Forges}
+use Rattle.np_world.specs.World.{Setting, Scene, If, NamesUnassigned, Comes, keeping, Finds, Receives, Delivers, Forges}
 use Rattle.np_world.specs.declared.members.Member.{Member}
 use Rattle.np_world.specs.declared.replies.Reply.{Reply}
-use Rattle.np_world.specs.declared.replies.Reply.TheVariants.{NoMessage, OtherForm, KeyDiffers}
+use Rattle.np_world.specs.declared.replies.Reply.TheVariants.{Kept, NoMessage, OtherForm, KeyDiffers}
 use Rattle.np_world.specs.inside.Mirrors.{Rules, setting_of, IsMessageOf, Turns}
 use Rattle.np_world.proofs.ForgeLemmas.{one_entry}
 use Rattle.np_world.proofs.SentLemmas.{length-messages, match-none, match-some, message_at}
@@ -29,8 +29,8 @@ module _ (setting : Setting) (v : VersionData) (place : ℕ) (chain : IsSoundCha
   -- a string that is assigned under two versions has one key
   comes : (e : Entry) (w : VersionData) (other : ℕ) → slice_get setting.versions other ≡ Some w → IsEntry w setting.form e
       → If (¬ (IsAssigned v (chars e.string))) (NamesUnassigned v (chars e.string) reply × (after ≡ before))
-      (If (¬ (IsKey v setting.form e.string e.key)) ((reply ≡ KeyDiffers) × (after ≡ before)) (Finds setting (chars e.string) before reply after (Keeps (chars e.string) before reply after)))
-      → Comes setting v (chars e.string) before reply after (Keeps (chars e.string) before reply after)
+      (If (¬ (IsKey v setting.form e.string e.key)) ((reply ≡ KeyDiffers) × (after ≡ before)) (Finds setting (chars e.string) Kept (keeping (chars e.string) before) before reply after))
+      → Comes setting v (chars e.string) Kept (keeping (chars e.string) before) before reply after
   comes e w other there is (inl h) = inl h
   comes e w other there is (inr h) =
       let assigned = assigned_stable v (chars e.string) h.0 in
@@ -39,26 +39,26 @@ module _ (setting : Setting) (v : VersionData) (place : ℕ) (chain : IsSoundCha
       inr (h.0, second _ _ _ h.1 (λ not. not key))
 
   -- a string that is right beside its key under some version of the chain
-  comes_right : (e : Entry) (w : VersionData) (other : ℕ) → slice_get setting.versions other ≡ Some w → IsEntry w setting.form e → Reaches setting v e.string e.key before reply after
-      → Comes setting v (chars e.string) before reply after (Keeps (chars e.string) before reply after)
-  comes_right e w other there is reaches =
-      comes e w other there is (second _ _ _ (second _ _ _ reaches (λ long. absurd (omega (arith, long, is.keepable.short)))) (λ not. not is.keepable.utf8))
+  comes_right : (e : Entry) (w : VersionData) (other : ℕ) → slice_get setting.versions other ≡ Some w → IsEntry w setting.form e → Receives setting v e.string e.key before reply after
+      → Comes setting v (chars e.string) Kept (keeping (chars e.string) before) before reply after
+  comes_right e w other there is receives =
+      comes e w other there is (second _ _ _ (second _ _ _ receives (λ long. absurd (omega (arith, long, is.keepable.short)))) (λ not. not is.keepable.utf8))
 
   module _ (one : SpellsOne IsMessage) (none : HasOneFault IsMessage IsMessageFault) (bytes string : List ℕ) (of : IsMessageOf setting bytes string) where
     abbrev told : Message
     told = record { form = setting.form; entry = of.entry }
 
-    comes_told : (m : Message) → told ≡ m → If ((m.form ≡ setting.form) → ⊥) ((reply ≡ OtherForm) × (after ≡ before)) (Reaches setting v m.entry.string m.entry.key before reply after)
-        → Comes setting v (chars of.entry.string) before reply after (Keeps (chars of.entry.string) before reply after)
+    comes_told : (m : Message) → told ≡ m → If ((m.form ≡ setting.form) → ⊥) ((reply ≡ OtherForm) × (after ≡ before)) (Receives setting v m.entry.string m.entry.key before reply after)
+        → Comes setting v (chars of.entry.string) Kept (keeping (chars of.entry.string) before) before reply after
     comes_told m same does =
-        let here_too = subst (λ (x : Message). If ((x.form ≡ setting.form) → ⊥) ((reply ≡ OtherForm) × (after ≡ before)) (Reaches setting v x.entry.string x.entry.key before reply after)) (sym same) does in
+        let here_too = subst (λ (x : Message). If ((x.form ≡ setting.form) → ⊥) ((reply ≡ OtherForm) × (after ≡ before)) (Receives setting v x.entry.string x.entry.key before reply after)) (sym same) does in
         comes_right of.entry of.version of.place of.here of.is (second _ _ _ here_too (λ other. other refl))
 
     -- the bytes of a message that was sent
-    pub comes_sent : Forges setting v bytes before reply after → Comes setting v string before reply after (Keeps string before reply after)
+    pub comes_sent : Forges setting v bytes before reply after → Comes setting v string Kept (keeping string before) before reply after
     comes_sent (inl bad) = absurd ((none bytes bad.0 bad.1).0 told of.message)
     comes_sent (inr good) =
-        subst (λ s. Comes setting v s before reply after (Keeps s before reply after)) (sym of.text) (comes_told good.0 (one_entry one bytes told good.0 of.message good.1) good.2)
+        subst (λ s. Comes setting v s Kept (keeping s before) before reply after) (sym of.text) (comes_told good.0 (one_entry one bytes told good.0 of.message good.1) good.2)
 
 module _ {T : Type 0} (model : T → VersionData) (rules : Rules T) (old new : Member T) (number : ℕ) (told : List (Vec ℕ Global)) where
   abbrev pub deed_deliver : Deed
@@ -80,7 +80,7 @@ module _ {T : Type 0} (model : T → VersionData) (rules : Rules T) (old new : M
       record {
         next = turn.next;
         more = turn.more;
-        does = match-some strings number has.string has.here _ (λ s. Comes (setting_of model rules) version s before reply after (Keeps s before reply after))
+        does = match-some strings number has.string has.here _ (λ s. Comes (setting_of model rules) version s Kept (keeping s before) before reply after)
             (comes_sent (setting_of model rules) version node.index are.chain present exchange before after reply one none b.items has.string has.of turn.does);
         mirrors = turn.mirrors;
         messages = turn.messages;

@@ -1,5 +1,5 @@
 -- The lines of events say what the grammar says.
-use Rattle.std.proofs.Common.{◌≡◌, ℕ, ◌+◌, ◌*◌, Bool, true, false, ◌&&◌, cond, List, [], ◌∷◌, ◌++◌, length, Option, Some, None, option_map, codes, refl, sym, ap, subst, ◌∙◌, arith}
+use Rattle.std.proofs.Common.{◌≡◌, ◌⊎◌, inl, inr, ⊎_elim, ℕ, ◌+◌, ◌*◌, Bool, true, false, ◌&&◌, cond, List, [], ◌∷◌, ◌++◌, length, Option, Some, None, option_map, codes, refl, sym, ap, subst, ◌∙◌, arith}
 use Rattle.std.specs.Char.{digit_value}
 use Rattle.std.specs.List.{AllZip}
 use Rattle.std.specs.Option.{option_and_then}
@@ -12,11 +12,11 @@ use Rattle.np_code_points.specs.inside.WordValues.{scalars_of, scalar_value}
 use Rattle.np_code_points.proofs.CodeLemmas.{code_value-short}
 use Rattle.np_code_points.proofs.ValueGrammar.{scalar_from, from_scalar, zip_from, from_zip}
 use Rattle.np_code_points.proofs.WordGrammar.{are_words, only_words}
-use Rattle.np_world.specs.Events.{Event, Accept, Deliver, Upgrade, Save, Restart, Ask, Forge, Forget}
-use Rattle.np_world.specs.ScheduleLines.{IsNumber, IsNumberBelow, AreHexPairs, AreHexWords, SaysOf, IsEventLine}
+use Rattle.np_world.specs.Events.{Event, Accept, Deliver, Upgrade, Save, Restart, Ask, Forge, Forget, RestartUnder}
+use Rattle.np_world.specs.ScheduleLines.{IsNumber, IsNumberBelow, AreHexPairs, AreHexWords, HasHead, SaysOf, IsEventLine}
 use Rattle.np_world.specs.declared.reading.verbs.Verb.{Verb}
 use Rattle.np_world.specs.declared.reading.verbs.Verb.TheVariants as verb
-use Rattle.np_world.specs.inside.LineValues.{number_value, below_value, is_slash, up_to_slash, behind_slash, halves_value, hex_pairs, hex_words, verb_named, deliver_value, alone_value, said_value, at_node, event_value}
+use Rattle.np_world.specs.inside.LineValues.{number_value, below_value, is_slash, up_to_slash, behind_slash, halves_value, hex_pairs, hex_words, verb_named, deliver_value, alone_value, restart_value, said_value, at_node, event_value}
 use Rattle.np_world.proofs.LineGrammar.{gave, maps, tested, same_bytes, number_said, said_number, below_said, said_below}
 
 -- The names of events.
@@ -176,57 +176,90 @@ delivery_said node (word ∷ []) event h =
     record { word = word; message = m.from; are = refl; number = number_said word m.from m.was; gives = m.gives }
 delivery_said node (word ∷ more ∷ words) event h = absurd (cc)
 
-said : (v : Verb) (nodes node : ℕ) (at : List ℕ) (words : List (List ℕ)) (event : Event) → IsNumberBelow nodes at node → said_value v node words ≡ Some event → SaysOf nodes (name_of v ∷ at ∷ words) event
-said verb.Accept nodes node at words event below h =
-    let m = maps (Accept node) (scalars_of words) event h in
-    subst (SaysOf nodes (codes "accept" ∷ at ∷ words)) m.gives (at, words, refl, below, scalars_said words m.from m.was)
-said verb.Deliver nodes node at words event below h =
-    let d = delivery_said node words event h in
-    subst (SaysOf nodes (codes "deliver" ∷ at ∷ words)) d.gives (at, d.word, ap (λ ws. codes "deliver" ∷ at ∷ ws) d.are, below, d.number)
-said verb.Upgrade nodes node at words event below h =
-    let a = alone_said (Upgrade node) words event h in
-    subst (SaysOf nodes (codes "upgrade" ∷ at ∷ words)) a.1 (at, ap (λ ws. codes "upgrade" ∷ at ∷ ws) a.0, below)
-said verb.Save nodes node at words event below h =
-    let a = alone_said (Save node) words event h in
-    subst (SaysOf nodes (codes "save" ∷ at ∷ words)) a.1 (at, ap (λ ws. codes "save" ∷ at ∷ ws) a.0, below)
-said verb.Restart nodes node at words event below h =
-    let a = alone_said (Restart node) words event h in
-    subst (SaysOf nodes (codes "restart" ∷ at ∷ words)) a.1 (at, ap (λ ws. codes "restart" ∷ at ∷ ws) a.0, below)
-said verb.Ask nodes node at words event below h =
-    let m = maps (λ (halves : List ℕ × List ℕ). Ask node halves.0 halves.1) (halves_value words) event h in
-    let s = halves_said words m.from m.was in
-    subst (SaysOf nodes (codes "ask" ∷ at ∷ words)) m.gives (at, s.first, s.second, ap (λ ws. codes "ask" ∷ at ∷ ws) s.are, below, s.left, s.right)
-said verb.Forge nodes node at words event below h =
-    let m = maps (Forge node) (hex_words words) event h in
-    subst (SaysOf nodes (codes "forge" ∷ at ∷ words)) m.gives (at, words, refl, below, hex_said words m.from m.was)
-said verb.Forget nodes node at words event below h =
-    let m = maps (Forget node) (scalars_of words) event h in
-    subst (SaysOf nodes (codes "forget" ∷ at ∷ words)) m.gives (at, words, refl, below, scalars_said words m.from m.was)
+record Restarting (versions node : ℕ) (words : List (List ℕ)) (event : Event) : Type 0 where
+  word : List ℕ
+  version : ℕ
+  are : words ≡ word ∷ []
+  number : IsNumberBelow versions word version
+  gives : RestartUnder node version ≡ event
 
-event_words : (nodes : ℕ) (words : List (List ℕ)) (event : Event) → event_value nodes words ≡ Some event → SaysOf nodes words event
-unfolding event_value
-event_words nodes [] event h = absurd (cc)
-event_words nodes (name ∷ []) event h = absurd (cc)
-event_words nodes (name ∷ at ∷ words) event h =
-    let v = gave (λ v. at_node nodes at v words) (verb_named name) event h in
-    let n = gave (λ node. said_value v.from node words) (below_value nodes at) event v.gives in
-    subst (λ name. SaysOf nodes (name ∷ at ∷ words) event) (sym (named name v.from v.was))
-    (said v.from nodes n.from at words event (below_said nodes at n.from n.was) n.gives)
+abbrev RestartSaid : ℕ → ℕ → List (List ℕ) → Event → Type 0
+RestartSaid versions node words event = ((words ≡ []) × (Restart node ≡ event)) ⊎ Restarting versions node words event
 
-pub event_said : (nodes : ℕ) (text : List ℕ) (event : Event) → event_value nodes (words_of Blanks text) ≡ Some event → IsEventLine nodes text event
-event_said nodes text event h = record { words = words_of Blanks text; are = are_words Blanks text; says = event_words nodes (words_of Blanks text) event h }
+restart_said : (versions node : ℕ) (words : List (List ℕ)) (event : Event) → restart_value versions node words ≡ Some event → RestartSaid versions node words event
+unfolding restart_value
+restart_said versions node [] event h = inl (refl, cc)
+restart_said versions node (word ∷ []) event h =
+    let m = maps (RestartUnder node) (below_value versions word) event h in
+    inr (record { word = word; version = m.from; are = refl; number = below_said versions word m.from m.was; gives = m.gives })
+restart_said versions node (word ∷ more ∷ words) event h = absurd (cc)
 
 -- an event's name, its node and the words behind it
-verb_words : (nodes node : ℕ) (at : List ℕ) (v : Verb) (words : List (List ℕ)) → IsNumberBelow nodes at node → event_value nodes (name_of v ∷ at ∷ words) ≡ said_value v node words
+abbrev said_words : Verb → List ℕ → List (List ℕ) → List (List ℕ)
+said_words v at words = name_of v ∷ at ∷ words
+
+head : (v : Verb) (nodes node : ℕ) (at : List ℕ) (words behind : List (List ℕ)) → IsNumberBelow nodes at node → words ≡ behind → HasHead nodes (said_words v at words) (name_of v) node behind
+head v nodes node at words behind below same = record { at = at; are = ap (λ ws. name_of v ∷ at ∷ ws) same; number = below }
+
+said : (v : Verb) (versions nodes node : ℕ) (at : List ℕ) (words : List (List ℕ)) (event : Event) → IsNumberBelow nodes at node → said_value versions v node words ≡ Some event
+    → SaysOf versions nodes (said_words v at words) event
+said verb.Accept versions nodes node at words event below h =
+    let m = maps (Accept node) (scalars_of words) event h in
+    subst (SaysOf versions nodes (said_words verb.Accept at words)) m.gives (record { behind = words; head = head verb.Accept nodes node at words words below refl; codes_are = scalars_said words m.from m.was })
+said verb.Deliver versions nodes node at words event below h =
+    let d = delivery_said node words event h in
+    subst (SaysOf versions nodes (said_words verb.Deliver at words)) d.gives (record { word = d.word; head = head verb.Deliver nodes node at words (d.word ∷ []) below d.are; number = d.number })
+said verb.Upgrade versions nodes node at words event below h =
+    let a = alone_said (Upgrade node) words event h in
+    subst (SaysOf versions nodes (said_words verb.Upgrade at words)) a.1 (head verb.Upgrade nodes node at words [] below a.0)
+said verb.Save versions nodes node at words event below h =
+    let a = alone_said (Save node) words event h in
+    subst (SaysOf versions nodes (said_words verb.Save at words)) a.1 (head verb.Save nodes node at words [] below a.0)
+said verb.Restart versions nodes node at words event below h =
+    ⊎_elim
+    (λ a. subst (SaysOf versions nodes (said_words verb.Restart at words)) a.1 (head verb.Restart nodes node at words [] below a.0))
+    (λ r. subst (SaysOf versions nodes (said_words verb.Restart at words)) r.gives (record { word = r.word; head = head verb.Restart nodes node at words (r.word ∷ []) below r.are; number = r.number }))
+    (restart_said versions node words event h)
+said verb.Ask versions nodes node at words event below h =
+    let m = maps (λ (halves : List ℕ × List ℕ). Ask node halves.0 halves.1) (halves_value words) event h in
+    let s = halves_said words m.from m.was in
+    subst (SaysOf versions nodes (said_words verb.Ask at words)) m.gives
+    (record { first = s.first; second = s.second; head = head verb.Ask nodes node at words (s.first ++ codes "/" ∷ s.second) below s.are; left_codes = s.left; right_codes = s.right })
+said verb.Forge versions nodes node at words event below h =
+    let m = maps (Forge node) (hex_words words) event h in
+    subst (SaysOf versions nodes (said_words verb.Forge at words)) m.gives (record { behind = words; head = head verb.Forge nodes node at words words below refl; digits = hex_said words m.from m.was })
+said verb.Forget versions nodes node at words event below h =
+    let m = maps (Forget node) (scalars_of words) event h in
+    subst (SaysOf versions nodes (said_words verb.Forget at words)) m.gives (record { behind = words; head = head verb.Forget nodes node at words words below refl; codes_are = scalars_said words m.from m.was })
+
+event_words : (versions nodes : ℕ) (words : List (List ℕ)) (event : Event) → event_value versions nodes words ≡ Some event → SaysOf versions nodes words event
+unfolding event_value
+event_words versions nodes [] event h = absurd (cc)
+event_words versions nodes (name ∷ []) event h = absurd (cc)
+event_words versions nodes (name ∷ at ∷ words) event h =
+    let v = gave (λ v. at_node versions nodes at v words) (verb_named name) event h in
+    let n = gave (λ node. said_value versions v.from node words) (below_value nodes at) event v.gives in
+    subst (λ name. SaysOf versions nodes (name ∷ at ∷ words) event) (sym (named name v.from v.was))
+    (said v.from versions nodes n.from at words event (below_said nodes at n.from n.was) n.gives)
+
+pub event_said : (versions nodes : ℕ) (text : List ℕ) (event : Event) → event_value versions nodes (words_of Blanks text) ≡ Some event → IsEventLine versions nodes text event
+event_said versions nodes text event h =
+    record { words = words_of Blanks text; are = are_words Blanks text; says = event_words versions nodes (words_of Blanks text) event h }
+
+-- the words of an event's name say what those behind its node say
+verb_words : (versions nodes node : ℕ) (at : List ℕ) (v : Verb) (words : List (List ℕ)) → IsNumberBelow nodes at node → event_value versions nodes (said_words v at words) ≡ said_value versions v node words
 unfolding event_value verb_named
-verb_words nodes node at verb.Accept words below = ap (option_and_then (λ node. said_value verb.Accept node words)) (said_below nodes at node below)
-verb_words nodes node at verb.Deliver words below = ap (option_and_then (λ node. said_value verb.Deliver node words)) (said_below nodes at node below)
-verb_words nodes node at verb.Upgrade words below = ap (option_and_then (λ node. said_value verb.Upgrade node words)) (said_below nodes at node below)
-verb_words nodes node at verb.Save words below = ap (option_and_then (λ node. said_value verb.Save node words)) (said_below nodes at node below)
-verb_words nodes node at verb.Restart words below = ap (option_and_then (λ node. said_value verb.Restart node words)) (said_below nodes at node below)
-verb_words nodes node at verb.Ask words below = ap (option_and_then (λ node. said_value verb.Ask node words)) (said_below nodes at node below)
-verb_words nodes node at verb.Forge words below = ap (option_and_then (λ node. said_value verb.Forge node words)) (said_below nodes at node below)
-verb_words nodes node at verb.Forget words below = ap (option_and_then (λ node. said_value verb.Forget node words)) (said_below nodes at node below)
+verb_words versions nodes node at verb.Accept words below = ap (option_and_then (λ node. said_value versions verb.Accept node words)) (said_below nodes at node below)
+verb_words versions nodes node at verb.Deliver words below = ap (option_and_then (λ node. said_value versions verb.Deliver node words)) (said_below nodes at node below)
+verb_words versions nodes node at verb.Upgrade words below = ap (option_and_then (λ node. said_value versions verb.Upgrade node words)) (said_below nodes at node below)
+verb_words versions nodes node at verb.Save words below = ap (option_and_then (λ node. said_value versions verb.Save node words)) (said_below nodes at node below)
+verb_words versions nodes node at verb.Restart words below = ap (option_and_then (λ node. said_value versions verb.Restart node words)) (said_below nodes at node below)
+verb_words versions nodes node at verb.Ask words below = ap (option_and_then (λ node. said_value versions verb.Ask node words)) (said_below nodes at node below)
+verb_words versions nodes node at verb.Forge words below = ap (option_and_then (λ node. said_value versions verb.Forge node words)) (said_below nodes at node below)
+verb_words versions nodes node at verb.Forget words below = ap (option_and_then (λ node. said_value versions verb.Forget node words)) (said_below nodes at node below)
+
+from_head : (versions nodes node : ℕ) (v : Verb) (words behind : List (List ℕ)) → HasHead nodes words (name_of v) node behind → event_value versions nodes words ≡ said_value versions v node behind
+from_head versions nodes node v words behind h = ap (event_value versions nodes) h.are ∙ verb_words versions nodes node h.at v behind h.number
 
 delivered : (node : ℕ) (word : List ℕ) (message : ℕ) → IsNumber word message → deliver_value node (word ∷ []) ≡ Some (Deliver node message)
 unfolding deliver_value
@@ -236,24 +269,31 @@ alone_is : (event : Event) → alone_value event [] ≡ Some event
 unfolding alone_value
 alone_is event = refl
 
-words_event : (nodes : ℕ) (words : List (List ℕ)) (event : Event) → SaysOf nodes words event → event_value nodes words ≡ Some event
-words_event nodes words (Accept node string) h =
-    ap (event_value nodes) h.2 ∙ verb_words nodes node h.0 verb.Accept h.1 h.3 ∙ ap (option_map (Accept node)) (said_scalars h.1 string h.4)
-words_event nodes words (Deliver node message) h =
-    ap (event_value nodes) h.2 ∙ verb_words nodes node h.0 verb.Deliver (h.1 ∷ []) h.3 ∙ delivered node h.1 message h.4
-words_event nodes words (Upgrade node) h =
-    ap (event_value nodes) h.1 ∙ verb_words nodes node h.0 verb.Upgrade [] h.2 ∙ alone_is (Upgrade node)
-words_event nodes words (Save node) h =
-    ap (event_value nodes) h.1 ∙ verb_words nodes node h.0 verb.Save [] h.2 ∙ alone_is (Save node)
-words_event nodes words (Restart node) h =
-    ap (event_value nodes) h.1 ∙ verb_words nodes node h.0 verb.Restart [] h.2 ∙ alone_is (Restart node)
-words_event nodes words (Ask node left right) h =
-    ap (event_value nodes) h.3 ∙ verb_words nodes node h.0 verb.Ask (h.1 ++ codes "/" ∷ h.2) h.4
-    ∙ ap (option_map (λ (halves : List ℕ × List ℕ). Ask node halves.0 halves.1)) (said_halves h.1 h.2 left right h.5 h.6)
-words_event nodes words (Forge node bytes) h =
-    ap (event_value nodes) h.2 ∙ verb_words nodes node h.0 verb.Forge h.1 h.3 ∙ ap (option_map (Forge node)) (said_hex h.1 bytes h.4)
-words_event nodes words (Forget node string) h =
-    ap (event_value nodes) h.2 ∙ verb_words nodes node h.0 verb.Forget h.1 h.3 ∙ ap (option_map (Forget node)) (said_scalars h.1 string h.4)
+restarted : (versions node : ℕ) (word : List ℕ) (version : ℕ) → IsNumberBelow versions word version → restart_value versions node (word ∷ []) ≡ Some (RestartUnder node version)
+unfolding restart_value
+restarted versions node word version h = ap (option_map (RestartUnder node)) (said_below versions word version h)
 
-pub said_event : (nodes : ℕ) (text : List ℕ) (event : Event) → IsEventLine nodes text event → event_value nodes (words_of Blanks text) ≡ Some event
-said_event nodes text event h = ap (event_value nodes) (sym (only_words Blanks text h.words h.are)) ∙ words_event nodes h.words event h.says
+restart_is : (versions node : ℕ) → restart_value versions node [] ≡ Some (Restart node)
+unfolding restart_value
+restart_is versions node = refl
+
+words_event : (versions nodes : ℕ) (words : List (List ℕ)) (event : Event) → SaysOf versions nodes words event → event_value versions nodes words ≡ Some event
+words_event versions nodes words (Accept node string) h =
+    from_head versions nodes node verb.Accept words h.behind h.head ∙ ap (option_map (Accept node)) (said_scalars h.behind string h.codes_are)
+words_event versions nodes words (Deliver node message) h =
+    from_head versions nodes node verb.Deliver words (h.word ∷ []) h.head ∙ delivered node h.word message h.number
+words_event versions nodes words (Upgrade node) h = from_head versions nodes node verb.Upgrade words [] h ∙ alone_is (Upgrade node)
+words_event versions nodes words (Save node) h = from_head versions nodes node verb.Save words [] h ∙ alone_is (Save node)
+words_event versions nodes words (Restart node) h = from_head versions nodes node verb.Restart words [] h ∙ restart_is versions node
+words_event versions nodes words (Ask node left right) h =
+    from_head versions nodes node verb.Ask words (h.first ++ codes "/" ∷ h.second) h.head
+    ∙ ap (option_map (λ (halves : List ℕ × List ℕ). Ask node halves.0 halves.1)) (said_halves h.first h.second left right h.left_codes h.right_codes)
+words_event versions nodes words (Forge node bytes) h =
+    from_head versions nodes node verb.Forge words h.behind h.head ∙ ap (option_map (Forge node)) (said_hex h.behind bytes h.digits)
+words_event versions nodes words (Forget node string) h =
+    from_head versions nodes node verb.Forget words h.behind h.head ∙ ap (option_map (Forget node)) (said_scalars h.behind string h.codes_are)
+words_event versions nodes words (RestartUnder node version) h =
+    from_head versions nodes node verb.Restart words (h.word ∷ []) h.head ∙ restarted versions node h.word version h.number
+
+pub said_event : (versions nodes : ℕ) (text : List ℕ) (event : Event) → IsEventLine versions nodes text event → event_value versions nodes (words_of Blanks text) ≡ Some event
+said_event versions nodes text event h = ap (event_value versions nodes) (sym (only_words Blanks text h.words h.are)) ∙ words_event versions nodes h.words event h.says

@@ -15,7 +15,7 @@ use Rattle.np_node.specs.declared.faults.NodeFault.TheVariants as fault
 use Rattle.np_node.specs.declared.taking.Taken.{Taken}
 use Rattle.np_node.specs.declared.taking.Taken.TheVariants as taken
 use Rattle.np_tables.specs.Versions.{VersionData}
-use Rattle.np_world.specs.World.{Setting, MachineNode, Scene, If, NamesNotUtf8, with_string, Finds, Keeps, Reaches, Forges}
+use Rattle.np_world.specs.World.{Setting, MachineNode, Scene, If, NamesNotUtf8, keeping, Finds, Receives, Forges}
 use Rattle.np_world.specs.declared.members.Member.{Member}
 use Rattle.np_world.specs.declared.replies.Reply.{Reply}
 use Rattle.np_world.specs.declared.replies.Reply.TheVariants.{Kept, Known, Full, TooLong, Unassigned, Malformed, OtherForm, NotUtf8, KeyDiffers}
@@ -43,15 +43,15 @@ module _ {T : Type 0} (model : T → VersionData) (rules : Rules T) (old new : M
   deed_forge version last = Forges (setting_of model rules) version bytes
 
   -- a message of the members' form
-  reaches : (twin : MachineNode) → Mirrors model rules old twin → (e : Entry) → IsMessage bytes (record { form = old.node.form; entry = e }) → (before after : Scene) (reply : Reply)
-      → Reaches (setting_of model rules) (model old.node.table) e.string e.key before reply after → Forges (setting_of model rules) (model old.node.table) bytes before reply after
-  reaches twin m e is before after reply does = inr (record { form = old.node.form; entry = e }, is, inr (λ other. other m.form, does))
+  receives : (twin : MachineNode) → Mirrors model rules old twin → (e : Entry) → IsMessage bytes (record { form = old.node.form; entry = e }) → (before after : Scene) (reply : Reply)
+      → Receives (setting_of model rules) (model old.node.table) e.string e.key before reply after → Forges (setting_of model rules) (model old.node.table) bytes before reply after
+  receives twin m e is before after reply does = inr (record { form = old.node.form; entry = e }, is, inr (λ other. other m.form, does))
 
   -- a string that may be kept, beside its key
   finds : (twin : MachineNode) → Mirrors model rules old twin → (e : Entry) → IsMessage bytes (record { form = old.node.form; entry = e }) → (before after : Scene) (reply : Reply) → IsEntry (model old.node.table) old.node.form e
-      → Finds (setting_of model rules) (chars e.string) before reply after (Keeps (chars e.string) before reply after) → Forges (setting_of model rules) (model old.node.table) bytes before reply after
+      → Finds (setting_of model rules) (chars e.string) Kept (keeping (chars e.string) before) before reply after → Forges (setting_of model rules) (model old.node.table) bytes before reply after
   finds twin m e is before after reply right does =
-      reaches twin m e is before after reply
+      receives twin m e is before after reply
       (inr (
         not_long (length e.string) right.keepable.short,
         inr (
@@ -63,22 +63,22 @@ module _ {T : Type 0} (model : T → VersionData) (rules : Rules T) (old new : M
   -- the refusals, in the order of the faults
   forges-refused : (told : List (Vec ℕ Global)) (f : NodeFault) → AnswersTake (state_of model old.node) bytes (Err f) → new ≡ old → IfOk (refusal_of f) (λ reply. Turns model rules deed_forge old told reply new told)
   forges-refused told (fault.Malformed at) answers same =
-      says model rules deed_forge old new told (Malformed at) same (λ node strings last are m sent end. inl (at, answers, refl, refl))
+      says model rules deed_forge old new told (Malformed at) same (λ node strings last are m sent end. inl (at, answers, (refl, refl)))
   forges-refused told fault.OtherForm answers same =
       says model rules deed_forge old new told OtherForm same
       (λ node strings last are m sent end. inr (answers.message, answers.spelled, inl (λ form. answers.other (form ∙ sym m.form), (refl, refl))))
   forges-refused told fault.TooLong answers same =
       says model rules deed_forge old new told TooLong same
-      (λ node strings last are m sent end. reaches node m answers.entry answers.spelled (scene node strings) (scene node strings) TooLong (inl (answers.has, (refl, refl))))
+      (λ node strings last are m sent end. receives node m answers.entry answers.spelled (scene node strings) (scene node strings) TooLong (inl (answers.has, (refl, refl))))
   forges-refused told (fault.NotUtf8 at) answers same =
       let e = answers.entry in
       says model rules deed_forge old new told (NotUtf8 at) same
-      (λ node strings last are m sent end. reaches node m e answers.spelled (scene node strings) (scene node strings) (NotUtf8 at)
+      (λ node strings last are m sent end. receives node m e answers.spelled (scene node strings) (scene node strings) (NotUtf8 at)
       (inr (not_long (length e.string) answers.has.0, inl (not_utf8 e.string at answers.has.1 answers.has.2, ((at, answers.has.1, refl), refl)))))
   forges-refused told (fault.Unassigned at code) answers same =
       let e = answers.entry in
       says model rules deed_forge old new told (Unassigned at code) same
-      (λ node strings last are m sent end. reaches node m e answers.spelled (scene node strings) (scene node strings) (Unassigned at code)
+      (λ node strings last are m sent end. receives node m e answers.spelled (scene node strings) (scene node strings) (Unassigned at code)
       (inr (
         not_long (length e.string) answers.has.0,
         inr (λ not. not answers.has.1, inl (not_assigned (model old.node.table) (chars e.string) at code answers.has.2, ((at, code, answers.has.2, refl), refl))),
@@ -87,7 +87,7 @@ module _ {T : Type 0} (model : T → VersionData) (rules : Rules T) (old new : M
       let e = answers.entry in
       let keepable = answers.has.0 in
       says model rules deed_forge old new told KeyDiffers same
-      (λ node strings last are m sent end. reaches node m e answers.spelled (scene node strings) (scene node strings) KeyDiffers
+      (λ node strings last are m sent end. receives node m e answers.spelled (scene node strings) (scene node strings) KeyDiffers
       (inr (
         not_long (length e.string) keepable.short,
         inr (
@@ -98,14 +98,15 @@ module _ {T : Type 0} (model : T → VersionData) (rules : Rules T) (old new : M
   forges-refused told fault.Full answers same =
       let e = answers.entry in
       says model rules deed_forge old new told Full same
-      (λ node strings last are m sent end. finds node m e answers.spelled (scene node strings) (scene node strings) Full answers.has.0 (finds-full model rules old node m strings e.string _ answers.has.1))
+      (λ node strings last are m sent end. finds node m e answers.spelled (scene node strings) (scene node strings) Full answers.has.0 (finds-full model rules old node m strings e.string _ _ answers.has.1))
   forges-refused told fault.Memory answers same = tt
+  forges-refused told (fault.OlderTables need have) answers same = absurd answers
 
   forges-known : (told : List (Vec ℕ Global)) → AnswersTake (state_of model old.node) bytes (Ok taken.Known) → new ≡ old → Turns model rules deed_forge old told Known new told
   forges-known told answers same =
       let e = answers.entry in
       says model rules deed_forge old new told Known same
-      (λ node strings last are m sent end. finds node m e answers.spelled (scene node strings) (scene node strings) Known answers.has.0 (finds-known model rules old node m strings e.string _ answers.has.1))
+      (λ node strings last are m sent end. finds node m e answers.spelled (scene node strings) (scene node strings) Known answers.has.0 (finds-known model rules old node m strings e.string _ _ answers.has.1))
 
   forges-kept : (told : List (Vec ℕ Global)) → SpellsOne IsMessage → AnswersTake (state_of model old.node) bytes (Ok taken.Kept) → LeavesTaken old.node new.node bytes (Ok taken.Kept)
       → new.index ≡ old.index → new.image ≡ old.image → Turns model rules deed_forge old told Kept new told
@@ -115,11 +116,11 @@ module _ {T : Type 0} (model : T → VersionData) (rules : Rules T) (old new : M
       let kept : new.node ≡ with_entry old.node e = leaves.2 ∙ ap (with_entry old.node) same in
       turned model rules deed_forge old new told told Kept
       (λ node strings last are m sent end.
-      let after : Scene = record { node = with_string node (chars e.string); sent = strings } in
+      let after : Scene = keeping (chars e.string) (scene node strings) in
       record {
         next = after.node;
         more = strings;
-        does = finds node m e answers.spelled (scene node strings) after Kept answers.has.0 (finds-place model rules old node m strings e.string Kept after _ answers.has.1 (refl, refl));
+        does = finds node m e answers.spelled (scene node strings) after Kept answers.has.0 (finds-place model rules old node m strings e.string Kept Kept after after answers.has.1 (refl, refl));
         mirrors = keeps_more model rules old node m new e index image kept answers.has.1 answers.has.0.key;
         messages = sent;
       })
@@ -147,22 +148,22 @@ one_place bytes reply other first second =
     first.2 ∙ ap NotUtf8 same ∙ sym second.2
 
 module _ (setting : Setting) (v : VersionData) (before : Scene) (reply other : Reply) (after next : Scene) where
-  one_reaching : (string key : List ℕ) → Reaches setting v string key before reply after → Reaches setting v string key before other next → Same reply other after next
-  one_reaching string key first second =
+  one_receiving : (string key : List ℕ) → Receives setting v string key before reply after → Receives setting v string key before other next → Same reply other after next
+  one_receiving string key first second =
       one_if (65536 < length string) _ _ _ _ (Same reply other after next) (same_as reply other TooLong after next before)
       (λ a b. one_if (¬ (IsUtf8 string)) _ _ _ _ (Same reply other after next) (λ c d. (one_place string reply other c.0 d.0, both after next before c.1 d.1))
       (λ c d. one_if (¬ (IsAssigned v (chars string))) _ _ _ _ (Same reply other after next) (λ e f. (one_name v (chars string) reply other e.0 f.0, both after next before e.1 f.1))
       (λ e f. one_if (¬ (IsKey v setting.form string key)) _ _ _ _ (Same reply other after next) (same_as reply other KeyDiffers after next before)
-      (λ g h. one_finding setting v before reply other after next (chars string) _ _ (same_as reply other Kept after next (record before { node = with_string before.node (chars string) })) g h) e f) c d) a b) first second
+      (λ g h. one_finding setting v before reply other after next (chars string) _ _ g h) e f) c d) a b) first second
 
   -- bytes that reach a node have one reply, and leave one scene
   pub forges_once : SpellsOne IsMessage → HasOneFault IsMessage IsMessageFault → (bytes : List ℕ) → Forges setting v bytes before reply after → Forges setting v bytes before other next → Same reply other after next
-  forges_once one none bytes (inl a) (inl b) = (a.2 ∙ ap Malformed ((none bytes b.0 b.1).1 a.0 a.1) ∙ sym b.2, both after next before a.3 b.3)
+  forges_once one none bytes (inl a) (inl b) = (a.2.0 ∙ ap Malformed ((none bytes b.0 b.1).1 a.0 a.1) ∙ sym b.2.0, both after next before a.2.1 b.2.1)
   forges_once one none bytes (inl a) (inr b) = absurd ((none bytes a.0 a.1).0 b.0 b.1)
   forges_once one none bytes (inr a) (inl b) = absurd ((none bytes b.0 b.1).0 a.0 a.1)
   forges_once one none bytes (inr a) (inr b) =
       let m : Message = a.0 in
       let same : b.0 ≡ m = one_entry one bytes b.0 m b.1 a.1 in
       one_if (m.form ≢ setting.form) _ _ _ _ (Same reply other after next) (same_as reply other OtherForm after next before)
-      (λ c d. one_reaching m.entry.string m.entry.key c d) a.2
-      (subst (λ (x : Message). If (x.form ≢ setting.form) ((other ≡ OtherForm) × (next ≡ before)) (Reaches setting v x.entry.string x.entry.key before other next)) same b.2)
+      (λ c d. one_receiving m.entry.string m.entry.key c d) a.2
+      (subst (λ (x : Message). If (x.form ≢ setting.form) ((other ≡ OtherForm) × (next ≡ before)) (Receives setting v x.entry.string x.entry.key before other next)) same b.2)

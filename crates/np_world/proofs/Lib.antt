@@ -14,6 +14,7 @@ pub mod PayloadLemmas
 pub mod ReadingLemmas
 pub mod ReportLemmas
 pub mod ReportTextLemmas
+pub mod RestartLemmas
 pub mod RunLemmas
 pub mod SaveLemmas
 pub mod ScheduleLemmas

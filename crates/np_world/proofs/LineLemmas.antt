@@ -58,5 +58,5 @@ room_is text = record { from = room_said text; to = said_room text }
 pub starts_are : (versions : ℕ) (text : List ℕ) → IsValueOf (IsNodesLine versions text) (starts_value versions (words_of Blanks text))
 starts_are versions text = record { from = starts_said versions text; to = said_starts versions text }
 
-pub event_is : (nodes : ℕ) (text : List ℕ) → IsValueOf (IsEventLine nodes text) (event_value nodes (words_of Blanks text))
-event_is nodes text = record { from = event_said nodes text; to = said_event nodes text }
+pub event_is : (versions nodes : ℕ) (text : List ℕ) → IsValueOf (IsEventLine versions nodes text) (event_value versions nodes (words_of Blanks text))
+event_is versions nodes text = record { from = event_said versions nodes text; to = said_event versions nodes text }

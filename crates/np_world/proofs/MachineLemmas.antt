@@ -5,37 +5,35 @@ use Rattle.np_forms.specs.Forms.{IsEquivalent}
 use Rattle.np_node.specs.Laws.{HasOneFault, SpellsOne}
 use Rattle.np_node.specs.Messages.{IsMessage, IsMessageFault}
 use Rattle.np_tables.specs.Versions.{VersionData}
-use Rattle.np_world.specs.Events.{Event, Accept, Deliver, Upgrade, Save, Restart, Ask, Forge, Forget, node_of}
+use Rattle.np_world.specs.Events.{Event, Accept, Deliver, Upgrade, Save, Restart, Ask, Forge, Forget, RestartUnder, node_of}
 use Rattle.np_world.specs.Laws.{OneRun}
 use Rattle.np_world.specs.World.{Setting, MachineNode, World, Scene, Accepts, Delivers, Upgrades, Asks, Does, IsStep, IsRun}
 use Rattle.np_world.specs.declared.replies.Reply.{Reply}
 use Rattle.np_world.proofs.CaseLemmas.{both, one_coming, one_if, one_match, same_as, Same}
 use Rattle.np_world.proofs.ForgeLemmas.{forges_once}
 use Rattle.np_world.proofs.ForgettingLemmas.{one_forgetting}
+use Rattle.np_world.proofs.RestartLemmas.{one_restart}
 
 -- ---- one event
 
 module _ (setting : Setting) (v : VersionData) (before : Scene) (reply other : Reply) (after next : Scene) where
   one_accept : (s : List ℕ) → Accepts setting v s before reply after → Accepts setting v s before other next → Same reply other after next
   one_accept s one two =
-      one_if _ _ _ _ _ (Same reply other after next) (same_as reply other _ after next before)
-      (one_coming setting v before reply other after next s _ _ (same_as reply other _ after next _)) one two
+      one_if _ _ _ _ _ (Same reply other after next) (same_as reply other _ after next before) (one_coming setting v before reply other after next s _ _) one two
 
   one_delivery : (message : ℕ) → Delivers setting v message before reply after → Delivers setting v message before other next → Same reply other after next
   one_delivery message one two =
       one_match (slice_get before.sent message) _ _ (Same reply other after next) _ _ (same_as reply other _ after next before)
-      (λ s. one_coming setting v before reply other after next s _ _ (same_as reply other _ after next _)) one two
+      (λ s. one_coming setting v before reply other after next s _ _) one two
 
   one_upgrade : Upgrades setting before reply after → Upgrades setting before other next → Same reply other after next
   one_upgrade one two = one_if _ _ _ _ _ (Same reply other after next) (same_as reply other _ after next _) (same_as reply other _ after next before) one two
 
   one_asking : (last : VersionData) (left right : List ℕ) → Asks setting last left right before reply after → Asks setting last left right before other next → Same reply other after next
-  one_asking last left right one two = (
-    one_if _ _ _ _ _ (reply ≡ other)
-        (one_if (IsEquivalent last (is_compat setting.form) left right) _ _ _ _ (reply ≡ other) (both reply other _) (both reply other _))
-        (both reply other _) one.1 two.1,
-    both after next before one.0 two.0,
-  )
+  one_asking last left right one two =
+      one_if _ _ _ _ _ (Same reply other after next)
+      (one_if (IsEquivalent last (is_compat setting.form) left right) _ _ _ _ (Same reply other after next) (same_as reply other _ after next before) (same_as reply other _ after next before))
+      (same_as reply other _ after next before) one two
 
   one_deed : SpellsOne IsMessage → HasOneFault IsMessage IsMessageFault → (last : VersionData) (event : Event) → Does setting v last event before reply after → Does setting v last event before other next → Same reply other after next
   one_deed message fault last (Accept node s) one two = one_accept s one two
@@ -46,6 +44,7 @@ module _ (setting : Setting) (v : VersionData) (before : Scene) (reply other : R
   one_deed message fault last (Ask node left right) one two = one_asking last left right one two
   one_deed message fault last (Forge node bytes) one two = forges_once setting v before reply other after next message fault bytes one two
   one_deed message fault last (Forget node s) one two = one_forgetting before reply other after next s one two
+  one_deed message fault last (RestartUnder node place) one two = one_restart setting before reply other after next place one two
 
 -- ---- steps and runs
 

@@ -18,15 +18,15 @@ use Rattle.np_world.proofs.LineLemmas.{one_value, some_or_none, room_is, starts_
 use Rattle.np_world.proofs.ScheduleLemmas.{EventHere, Begins, begins_taking, takes_next, takes_all, names_unfit, room_refused, starts_refused, events_refused, says_schedule}
 
 -- Each line says one thing, so all say one schedule.
-one_events : (nodes : ℕ) (lines : List Numbered) (a b : List Event) → AllZip (EventHere nodes) lines a → AllZip (EventHere nodes) lines b → a ≡ b
-one_events nodes [] [] [] h k = refl
-one_events nodes [] [] (e ∷ b) h k = absurd k
-one_events nodes [] (e ∷ a) b h k = absurd h
-one_events nodes (line ∷ lines) [] b h k = absurd h
-one_events nodes (line ∷ lines) (e ∷ a) [] h k = absurd k
-one_events nodes (line ∷ lines) (e ∷ a) (f ∷ b) h k =
-    let head : e ≡ f = one_value (event_is nodes line.text) e f h.0 k.0 in
-    let tail : a ≡ b = one_events nodes lines a b h.1 k.1 in
+one_events : (versions nodes : ℕ) (lines : List Numbered) (a b : List Event) → AllZip (EventHere versions nodes) lines a → AllZip (EventHere versions nodes) lines b → a ≡ b
+one_events versions nodes [] [] [] h k = refl
+one_events versions nodes [] [] (e ∷ b) h k = absurd k
+one_events versions nodes [] (e ∷ a) b h k = absurd h
+one_events versions nodes (line ∷ lines) [] b h k = absurd h
+one_events versions nodes (line ∷ lines) (e ∷ a) [] h k = absurd k
+one_events versions nodes (line ∷ lines) (e ∷ a) (f ∷ b) h k =
+    let head : e ≡ f = one_value (event_is versions nodes line.text) e f h.0 k.0 in
+    let tail : a ≡ b = one_events versions nodes lines a b h.1 k.1 in
     cc
 
 abbrev made : ℕ → ℕ → List ℕ → List Event → ScheduleData
@@ -55,17 +55,18 @@ one_said a b bytes h k versions =
     let room = one_value (room_is h.room.text) a.room b.room h.room_says (subst (λ (r : Numbered). IsRoomLine r.text b.room) (sym same.first) k.room_says) in
     let starts = one_value (starts_are a.versions h.nodes.text) a.starts b.starts h.nodes_say
     (subst (λ v. IsNodesLine v h.nodes.text b.starts) (sym versions) (subst (λ (r : Numbered). IsNodesLine b.versions r.text b.starts) (sym same.second) k.nodes_say)) in
-    let events = one_events (length a.starts) h.events a.events b.events h.events_say.0
-    (subst (λ ss. AllZip (EventHere (length ss)) h.events b.events) (sym starts)
-    (subst (λ ls. AllZip (EventHere (length b.starts)) ls b.events) (sym same.rest) k.events_say.0)) in
+    let events = one_events a.versions (length a.starts) h.events a.events b.events h.events_say.0
+    (subst (λ ss. AllZip (EventHere a.versions (length ss)) h.events b.events) (sym starts)
+    (subst (λ ls. AllZip (EventHere a.versions (length b.starts)) ls b.events) (sym same.rest)
+    (subst (λ v. AllZip (EventHere v (length b.starts)) k.events b.events) (sym versions) k.events_say.0))) in
     same_schedule a b versions room starts events
 
 -- What stands at the front of lines that may stand may stand.
-front_says : (nodes : ℕ) (front back : List Numbered) (events : List Event) → AllZip (EventHere nodes) (front ++ back) events → (some : List Event) × AllZip (EventHere nodes) front some × (length some ≤ length events)
-front_says nodes [] back events h = ([], tt, omega arith)
-front_says nodes (line ∷ front) back [] h = absurd h
-front_says nodes (line ∷ front) back (event ∷ events) h =
-    let more = front_says nodes front back events h.1 in
+front_says : (versions nodes : ℕ) (front back : List Numbered) (events : List Event) → AllZip (EventHere versions nodes) (front ++ back) events → (some : List Event) × AllZip (EventHere versions nodes) front some × (length some ≤ length events)
+front_says versions nodes [] back events h = ([], tt, omega arith)
+front_says versions nodes (line ∷ front) back [] h = absurd h
+front_says versions nodes (line ∷ front) back (event ∷ events) h =
+    let more = front_says versions nodes front back events h.1 in
     let few = more.2 in
     (event ∷ more.0, (h.0, more.1), omega (arith, few))
 
@@ -74,7 +75,7 @@ front_stands versions [] back h = tt
 front_stands versions (room ∷ []) [] h = h
 front_stands versions (room ∷ []) (line ∷ back) h = (h.0, h.3)
 front_stands versions (room ∷ nodes ∷ front) back h =
-    let some = front_says (length h.1) front back h.2 h.5.0 in
+    let some = front_says versions (length h.1) front back h.2 h.5.0 in
     let few = some.2 in
     let most = h.5.1 in
     (h.0, h.1, some.0, h.3, h.4, (some.1, omega (arith, few, most)))
@@ -146,25 +147,25 @@ no_fault_said bytes schedule line h fault =
     fault
 
 -- Bytes say a schedule, or have a faulty line.
-one_more : (nodes : ℕ) (old : List Event) (text : List ℕ) (event : Event) → IsEventLine nodes text event → length old < 1000000 → AddsEvent nodes old text (old ++ event ∷ [])
-one_more nodes old text event says room = record {
+one_more : (versions nodes : ℕ) (old : List Event) (text : List ℕ) (event : Event) → IsEventLine versions nodes text event → length old < 1000000 → AddsEvent versions nodes old text (old ++ event ∷ [])
+one_more versions nodes old text event says room = record {
   event = event;
   says = says;
   grown = refl;
   most = let longer = length-append old (event ∷ []) in omega (arith, longer, room);
 }
 
-events_outcome : (nodes : ℕ) (lines left : List Numbered) (events : List Event) → HasTaken nodes lines left events → ((number : ℕ) × IsUnfitEvent nodes lines number) ⊎ ((all : List Event) × AreEventLines nodes lines all)
-events_outcome nodes lines [] events h = inr (events, takes_all nodes lines [] events h refl)
-events_outcome nodes lines (line ∷ more) events h =
-    let unfit = λ (none : IsNoneOf (IsEventLine nodes line.text) ⊎ (1000000 ≤ length events)). names_unfit nodes lines (line ∷ more) more line events (Line line.line) h refl (record { none = none; here = refl }) in
+events_outcome : (versions nodes : ℕ) (lines left : List Numbered) (events : List Event) → HasTaken versions nodes lines left events → ((number : ℕ) × IsUnfitEvent versions nodes lines number) ⊎ ((all : List Event) × AreEventLines versions nodes lines all)
+events_outcome versions nodes lines [] events h = inr (events, takes_all versions nodes lines [] events h refl)
+events_outcome versions nodes lines (line ∷ more) events h =
+    let unfit = λ (none : IsNoneOf (IsEventLine versions nodes line.text) ⊎ (1000000 ≤ length events)). names_unfit versions nodes lines (line ∷ more) more line events (Line line.line) h refl (record { none = none; here = refl }) in
     ⊎_elim
     (λ some. ⊎_elim
-    (λ room. events_outcome nodes lines more (events ++ some.0 ∷ []) (takes_next nodes lines (line ∷ more) more line events (events ++ some.0 ∷ []) h refl (one_more nodes events line.text some.0 some.1 room)))
+    (λ room. events_outcome versions nodes lines more (events ++ some.0 ∷ []) (takes_next versions nodes lines (line ∷ more) more line events (events ++ some.0 ∷ []) h refl (one_more versions nodes events line.text some.0 some.1 room)))
     (λ full. inl (line.line, unfit (inr full)))
     (cases_lt (length events) 1000000))
     (λ none. inl (line.line, unfit (inl none)))
-    (some_or_none (event_is nodes line.text))
+    (some_or_none (event_is versions nodes line.text))
 
 abbrev walk_to : List ℕ → List Numbered → Walk
 walk_to bytes left = record { left = left; passed = 0; total = length (lines_of bytes) }
@@ -186,7 +187,7 @@ behind_nodes bytes versions room starts nodes_left left first second =
       made versions room starts says.0,
       (says_schedule bytes (start_of bytes) (walk_to bytes nodes_left) (walk_to bytes left) (made versions room starts says.0) (start_begins bytes) first second says.1, refl),
     ))
-    (events_outcome (length starts) left left [] (begins_taking (length starts) left left [] refl refl))
+    (events_outcome versions (length starts) left left [] (begins_taking versions (length starts) left left [] refl refl))
 
 behind_room : (bytes : List ℕ) (versions room : ℕ) (left : List Numbered) → NextSays IsRoomLine (start_of bytes) room (walk_to bytes left) → Outcome bytes versions
 behind_room bytes versions room [] first =

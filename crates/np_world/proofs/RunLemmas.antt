@@ -9,14 +9,15 @@ use Rattle.np_node.specs.Nodes.{NodeState}
 use Rattle.np_tables.specs.Versions.{VersionData}
 use Rattle.np_code_points.specs.declared.forms.Form.{Form}
 use Rattle.np_world.specs.Events.{Event, ScheduleData, node_of}
-use Rattle.np_world.specs.Schedules.{NameNodes}
+use Rattle.np_world.specs.Reports.{ReportData}
+use Rattle.np_world.specs.Schedules.{NameNodes, NamesVersion, NameVersions}
 use Rattle.np_world.specs.World.{Setting, MachineNode, World, IsStep, IsRun, start}
 use Rattle.np_world.specs.declared.events.EventLine.{EventLine}
 use Rattle.np_world.specs.declared.members.Member.{Member}
 use Rattle.np_world.specs.declared.replies.Reply.{Reply}
 use Rattle.np_world.specs.inside.Mirrors.{Rules, setting_of, Mirrors, AreRules}
-use Rattle.np_world.specs.declared.report.Report.{Report}
 use Rattle.np_world.specs.inside.Played.{IsPlayed}
+use Rattle.np_world.specs.inside.ReportViews.{report_of}
 use Rattle.np_world.specs.inside.Rust.{event_of}
 use Rattle.np_world.specs.inside.Worlds.{AreMirrored, HaveImages, IsShown, LeavesImages, Steps, Begins, EndsRun, first_node}
 use Rattle.np_world.proofs.ImageLemmas.{images_lack, images_more, images_none}
@@ -89,7 +90,7 @@ module _ {T : Type 0} (model : T → VersionData) (rules : Rules T) where
         room = refl;
         node = record { sound = stands.sound; entries = λ k d lt. absurd (omega arith); unlike = λ i j d lt within. absurd (omega arith); fits = omega arith; room = are.room };
         strings = refl;
-        saved = refl;
+        saved = (refl, refl);
       })
 
   pub begins-nothing : (members : List (Member T)) (starts : List ℕ) → members ≡ [] → Begins model rules members (take 0 starts)
@@ -115,17 +116,28 @@ named_at nodes events i d names lt =
     let there = names i (event_of d) (omega (arith, lt, length-map events event_of)) in
     subst (λ e. node_of e < nodes) (get_or-map event_of events i d (event_of d) lt) there
 
+-- an event that names a version names one of so many
+pub version_at : (versions : ℕ) (events : List EventLine) (i : ℕ) (d : EventLine) → NameVersions versions (map event_of events) → i < length events → NamesVersion versions (event_of (get_or events i d))
+version_at versions events i d names lt =
+    let there = names i (event_of d) (omega (arith, lt, length-map events event_of)) in
+    subst (NamesVersion versions) (get_or-map event_of events i d (event_of d) lt) there
+
 abbrev pub rules_with : {T : Type 0} → List T → Form → ℕ → Rules T
 rules_with tables form room = record { tables = tables; form = form; room = room }
 
-pub played : {T : Type 0} (model : T → VersionData) (tables : List T) (form : Form) (schedule : ScheduleData) (report : Report T) (room : ℕ) (starts : List ℕ) (events : List Event) (members : List (Member T))
-    → AreRules model (rules_with tables form room) → room ≡ schedule.room → starts ≡ schedule.starts → events ≡ schedule.events → members ≡ report.members.items
-    → EndsRun model (rules_with tables form room) starts events report.replies.items members report.sent.items → IsPlayed model tables form schedule report
-played model tables form schedule report room starts events members are size same all kept ends =
-    record {
-      rules_hold = subst (λ r. AreRules model (rules_with tables form r)) size are;
-      ends = subst (λ r. EndsRun model (rules_with tables form r) schedule.starts schedule.events report.replies.items report.members.items report.sent.items) size
-          (subst (λ ms. EndsRun model (rules_with tables form room) schedule.starts schedule.events report.replies.items ms report.sent.items) kept
-          (subst (λ es. EndsRun model (rules_with tables form room) schedule.starts es report.replies.items members report.sent.items) all
-          (subst (λ ss. EndsRun model (rules_with tables form room) ss events report.replies.items members report.sent.items) same ends)));
-    }
+pub played : {T : Type 0} (model : T → VersionData) (tables : List T) (form : Form) (schedule : ScheduleData) (report : ReportData T) (room : ℕ) (starts : List ℕ) (events : List Event)
+    (replies : List Reply) (told : List (Vec ℕ Global)) (members : List (Member T))
+    → AreRules model (rules_with tables form room) → room ≡ schedule.room → starts ≡ schedule.starts → events ≡ schedule.events → report ≡ report_of replies told members
+    → EndsRun model (rules_with tables form room) starts events replies members told → IsPlayed model tables form schedule report
+played model tables form schedule report room starts events replies told members are size same all is ends = record {
+  replies = replies;
+  told = told;
+  members = members;
+  report_is = is;
+  by = record {
+    rules_hold = subst (λ r. AreRules model (rules_with tables form r)) size are;
+    ends = subst (λ r. EndsRun model (rules_with tables form r) schedule.starts schedule.events replies members told) size
+        (subst (λ es. EndsRun model (rules_with tables form room) schedule.starts es replies members told) all
+        (subst (λ ss. EndsRun model (rules_with tables form room) ss events replies members told) same ends));
+  };
+}

@@ -7,76 +7,76 @@ use Rattle.std.proofs.lemmas.Slice.Zip.{AllZip-long, all_zipped_more}
 use Rattle.np_code_points.specs.Lines.{Numbered, Walk, AreDataLines, AreLines}
 use Rattle.np_code_points.specs.Laws.{HasOneCut}
 use Rattle.np_code_points.proofs.LineLemmas.{filled}
-use Rattle.np_world.specs.Events.{Event, ScheduleData, Accept, Deliver, Upgrade, Save, Restart, Ask, Forge, Forget, node_of}
+use Rattle.np_world.specs.Events.{Event, ScheduleData, Accept, Deliver, Upgrade, Save, Restart, Ask, Forge, Forget, RestartUnder, node_of}
 use Rattle.np_world.specs.ScheduleFiles.{AreEventLines, SaysSchedule, MayStand, EndsEarly, NamesLine}
 use Rattle.np_world.specs.ScheduleLines.{SaysOf, IsEventLine, IsNodesLine, IsRoomLine}
-use Rattle.np_world.specs.Schedules.{IsStandable}
+use Rattle.np_world.specs.Schedules.{IsStandable, NamesVersion}
 use Rattle.np_world.specs.declared.reading.ScheduleFault.{ScheduleFault}
 use Rattle.np_world.specs.declared.reading.ScheduleFault.TheVariants.{Line, Memory}
 use Rattle.np_world.specs.inside.LineReading.{IsNoneOf}
 use Rattle.np_world.specs.inside.ScheduleReading.{AddsEvent, AddsNone, NextSays, NextRefuses, HasTaken, NamesUnfit}
 use Rattle.np_world.proofs.LineLemmas.{one_value, starts_are}
 
-abbrev pub EventHere : ℕ → Numbered → Event → Type 0
-EventHere nodes line event = IsEventLine nodes line.text event
+abbrev pub EventHere : ℕ → ℕ → Numbered → Event → Type 0
+EventHere versions nodes line event = IsEventLine versions nodes line.text event
 
 -- the last line says some event
-last_says : (nodes : ℕ) (lines : List Numbered) (line : Numbered) (events : List Event) → AllZip (EventHere nodes) (lines ++ line ∷ []) events → (event : Event) × IsEventLine nodes line.text event
-last_says nodes [] line [] h = absurd h
-last_says nodes [] line (event ∷ events) h = (event, h.0)
-last_says nodes (l ∷ lines) line [] h = absurd h
-last_says nodes (l ∷ lines) line (event ∷ events) h = last_says nodes lines line events h.1
+last_says : (versions nodes : ℕ) (lines : List Numbered) (line : Numbered) (events : List Event) → AllZip (EventHere versions nodes) (lines ++ line ∷ []) events → (event : Event) × IsEventLine versions nodes line.text event
+last_says versions nodes [] line [] h = absurd h
+last_says versions nodes [] line (event ∷ events) h = (event, h.0)
+last_says versions nodes (l ∷ lines) line [] h = absurd h
+last_says versions nodes (l ∷ lines) line (event ∷ events) h = last_says versions nodes lines line events h.1
 
 -- The walk over the events.
-pub begins_taking : (nodes : ℕ) (lines left : List Numbered) (events : List Event) → left ≡ lines → events ≡ [] → HasTaken nodes lines left events
-begins_taking nodes lines left events all e = record {
+pub begins_taking : (versions nodes : ℕ) (lines left : List Numbered) (events : List Event) → left ≡ lines → events ≡ [] → HasTaken versions nodes lines left events
+begins_taking versions nodes lines left events all e = record {
   done = [];
   stands = sym all;
-  says = subst (AreEventLines nodes []) (sym e) (tt, omega arith);
+  says = subst (AreEventLines versions nodes []) (sym e) (tt, omega arith);
 }
 
-pub takes_next : (nodes : ℕ) (lines left more : List Numbered) (line : Numbered) (old new : List Event) → HasTaken nodes lines left old → left ≡ line ∷ more → AddsEvent nodes old line.text new → HasTaken nodes lines more new
-takes_next nodes lines left more line old new h cut adds = record {
+pub takes_next : (versions nodes : ℕ) (lines left more : List Numbered) (line : Numbered) (old new : List Event) → HasTaken versions nodes lines left old → left ≡ line ∷ more → AddsEvent versions nodes old line.text new → HasTaken versions nodes lines more new
+takes_next versions nodes lines left more line old new h cut adds = record {
   done = h.done ++ line ∷ [];
   stands = h.stands ∙ ap (λ ls. h.done ++ ls) cut ∙ sym (append_assoc h.done (line ∷ []) more);
   says = (
-    subst (AllZip (EventHere nodes) (h.done ++ line ∷ [])) (sym adds.grown)
-        (all_zipped_more (EventHere nodes) h.done old line adds.event h.says.0 adds.says),
+    subst (AllZip (EventHere versions nodes) (h.done ++ line ∷ [])) (sym adds.grown)
+        (all_zipped_more (EventHere versions nodes) h.done old line adds.event h.says.0 adds.says),
     adds.most,
   );
 }
 
-pub takes_all : (nodes : ℕ) (lines left : List Numbered) (events : List Event) → HasTaken nodes lines left events → left ≡ [] → AreEventLines nodes lines events
-takes_all nodes lines left events h end =
-    subst (λ ls. AreEventLines nodes ls events) (sym (h.stands ∙ ap (λ ls. h.done ++ ls) end ∙ append-nil h.done)) h.says
+pub takes_all : (versions nodes : ℕ) (lines left : List Numbered) (events : List Event) → HasTaken versions nodes lines left events → left ≡ [] → AreEventLines versions nodes lines events
+takes_all versions nodes lines left events h end =
+    subst (λ ls. AreEventLines versions nodes ls events) (sym (h.stands ∙ ap (λ ls. h.done ++ ls) end ∙ append-nil h.done)) h.says
 
-too_many : (nodes : ℕ) (done : List Numbered) (line : Numbered) (events more : List Event) → AllZip (EventHere nodes) done events → 1000000 ≤ length events → AreEventLines nodes (done ++ line ∷ []) more → ⊥
-too_many nodes done line events more h full k =
-    let taken = AllZip-long (EventHere nodes) done events h in
-    let all = AllZip-long (EventHere nodes) (done ++ line ∷ []) more k.0 in
+too_many : (versions nodes : ℕ) (done : List Numbered) (line : Numbered) (events more : List Event) → AllZip (EventHere versions nodes) done events → 1000000 ≤ length events → AreEventLines versions nodes (done ++ line ∷ []) more → ⊥
+too_many versions nodes done line events more h full k =
+    let taken = AllZip-long (EventHere versions nodes) done events h in
+    let all = AllZip-long (EventHere versions nodes) (done ++ line ∷ []) more k.0 in
     let longer = length-append done (line ∷ []) in
     let most = k.1 in
     absurd (omega (arith, taken, all, longer, most, full))
 
-no_more : (nodes : ℕ) (done : List Numbered) (line : Numbered) (old : List Event) → AreEventLines nodes done old → IsNoneOf (IsEventLine nodes line.text) ⊎ (1000000 ≤ length old) → IsNoneOf (AreEventLines nodes (done ++ line ∷ []))
-no_more nodes done line old h none more k =
+no_more : (versions nodes : ℕ) (done : List Numbered) (line : Numbered) (old : List Event) → AreEventLines versions nodes done old → IsNoneOf (IsEventLine versions nodes line.text) ⊎ (1000000 ≤ length old) → IsNoneOf (AreEventLines versions nodes (done ++ line ∷ []))
+no_more versions nodes done line old h none more k =
     ⊎_elim
-    (λ says_none. let last = last_says nodes done line more k.0 in says_none last.0 last.1)
-    (λ full. too_many nodes done line old more h.0 full k)
+    (λ says_none. let last = last_says versions nodes done line more k.0 in says_none last.0 last.1)
+    (λ full. too_many versions nodes done line old more h.0 full k)
     none
 
-pub names_unfit : (nodes : ℕ) (lines left more : List Numbered) (line : Numbered) (old : List Event) (fault : ScheduleFault) → HasTaken nodes lines left old → left ≡ line ∷ more → AddsNone nodes old line fault → NamesUnfit nodes lines fault
-names_unfit nodes lines left more line old (Line number) h cut adds = record {
+pub names_unfit : (versions nodes : ℕ) (lines left more : List Numbered) (line : Numbered) (old : List Event) (fault : ScheduleFault) → HasTaken versions nodes lines left old → left ≡ line ∷ more → AddsNone versions nodes old line fault → NamesUnfit versions nodes lines fault
+names_unfit versions nodes lines left more line old (Line number) h cut adds = record {
   before = h.done;
   unfit = line;
   behind = more;
   lines_are = h.stands ∙ ap (λ ls. h.done ++ ls) cut;
   events = old;
   stand = h.says;
-  falls = no_more nodes h.done line old h.says adds.none;
+  falls = no_more versions nodes h.done line old h.says adds.none;
   here = adds.here;
 }
-names_unfit nodes lines left more line old Memory h cut adds = tt
+names_unfit versions nodes lines left more line old Memory h cut adds = tt
 
 -- The walk over a whole file.
 pub record Begins (bytes : List ℕ) (walk : Walk) : Type 0 where
@@ -156,7 +156,7 @@ starts_refused bytes versions start walk room (Line number) h said refused =
 starts_refused bytes versions start walk room Memory h said refused = tt
 
 -- The lines of the events.
-pub events_refused : (bytes : List ℕ) (versions : ℕ) (start walk rest : Walk) (room : ℕ) (starts : List ℕ) (fault : ScheduleFault) → Begins bytes start → NextSays IsRoomLine start room walk → NextSays (IsNodesLine versions) walk starts rest → NamesUnfit (length starts) rest.left fault → NamesLine bytes versions fault
+pub events_refused : (bytes : List ℕ) (versions : ℕ) (start walk rest : Walk) (room : ℕ) (starts : List ℕ) (fault : ScheduleFault) → Begins bytes start → NextSays IsRoomLine start room walk → NextSays (IsNodesLine versions) walk starts rest → NamesUnfit versions (length starts) rest.left fault → NamesLine bytes versions fault
 events_refused bytes versions start walk rest room starts (Line number) h first second u =
     inl (record {
       before = first.line ∷ second.line ∷ u.before;
@@ -166,13 +166,13 @@ events_refused bytes versions start walk rest room starts (Line number) h first 
       stand = (room, starts, u.events, first.is, second.is, u.stand);
       falls = λ k.
           let same = one_value (starts_are versions second.line.text) k.1 starts k.4 second.is in
-          u.falls k.2 (subst (λ ss. AreEventLines (length ss) (u.before ++ u.unfit ∷ []) k.2) same k.5);
+          u.falls k.2 (subst (λ ss. AreEventLines versions (length ss) (u.before ++ u.unfit ∷ []) k.2) same k.5);
       here = u.here;
     })
 events_refused bytes versions start walk rest room starts Memory h first second u = tt
 
 -- A schedule was read.
-pub says_schedule : (bytes : List ℕ) (start walk rest : Walk) (schedule : ScheduleData) → Begins bytes start → NextSays IsRoomLine start schedule.room walk → NextSays (IsNodesLine schedule.versions) walk schedule.starts rest → AreEventLines (length schedule.starts) rest.left schedule.events → SaysSchedule bytes schedule
+pub says_schedule : (bytes : List ℕ) (start walk rest : Walk) (schedule : ScheduleData) → Begins bytes start → NextSays IsRoomLine start schedule.room walk → NextSays (IsNodesLine schedule.versions) walk schedule.starts rest → AreEventLines schedule.versions (length schedule.starts) rest.left schedule.events → SaysSchedule bytes schedule
 says_schedule bytes start walk rest schedule h first second events = record {
   room = first.line;
   nodes = second.line;
@@ -189,21 +189,29 @@ all_second R P [] (y ∷ ys) to h = absurd h
 all_second R P (x ∷ xs) [] to h = absurd h
 all_second R P (x ∷ xs) (y ∷ ys) to h = All-cons P y ys (to x y h.0) (all_second R P xs ys to h.1)
 
-names_node : (nodes : ℕ) (words : List (List ℕ)) (event : Event) → SaysOf nodes words event → node_of event < nodes
-names_node nodes words (Accept node string) h = h.3.1
-names_node nodes words (Deliver node message) h = h.3.1
-names_node nodes words (Upgrade node) h = h.2.1
-names_node nodes words (Save node) h = h.2.1
-names_node nodes words (Restart node) h = h.2.1
-names_node nodes words (Ask node left right) h = h.4.1
-names_node nodes words (Forge node bytes) h = h.3.1
-names_node nodes words (Forget node string) h = h.3.1
+names_node : (versions nodes : ℕ) (words : List (List ℕ)) (event : Event) → SaysOf versions nodes words event → node_of event < nodes
+names_node versions nodes words (Accept node string) h = h.head.number.1
+names_node versions nodes words (Deliver node message) h = h.head.number.1
+names_node versions nodes words (Upgrade node) h = h.number.1
+names_node versions nodes words (Save node) h = h.number.1
+names_node versions nodes words (Restart node) h = h.number.1
+names_node versions nodes words (Ask node left right) h = h.head.number.1
+names_node versions nodes words (Forge node bytes) h = h.head.number.1
+names_node versions nodes words (Forget node string) h = h.head.number.1
+names_node versions nodes words (RestartUnder node version) h = h.head.number.1
+
+names_version : (versions nodes : ℕ) (words : List (List ℕ)) (event : Event) → SaysOf versions nodes words event → NamesVersion versions event
+names_version versions nodes words event h = λ node version is.
+    let says : SaysOf versions nodes words (RestartUnder node version) = subst (SaysOf versions nodes words) is h in says.number.1
 
 -- what was read can stand
-pub is_standable : (start walk rest : Walk) (schedule : ScheduleData) → NextSays IsRoomLine start schedule.room walk → NextSays (IsNodesLine schedule.versions) walk schedule.starts rest → AreEventLines (length schedule.starts) rest.left schedule.events → IsStandable schedule
+pub is_standable : (start walk rest : Walk) (schedule : ScheduleData) → NextSays IsRoomLine start schedule.room walk → NextSays (IsNodesLine schedule.versions) walk schedule.starts rest
+    → AreEventLines schedule.versions (length schedule.starts) rest.left schedule.events → IsStandable schedule
 is_standable start walk rest schedule first second events = record {
   room = first.is.most;
   starts = all_second _ (λ index. index < schedule.versions) second.is.words schedule.starts (λ word index below. below.1) second.is.numbers;
-  events = all_second (EventHere (length schedule.starts)) (λ event. node_of event < length schedule.starts) rest.left schedule.events
-      (λ line event is. names_node (length schedule.starts) is.words event is.says) events.0;
+  events = all_second (EventHere schedule.versions (length schedule.starts)) (λ event. node_of event < length schedule.starts) rest.left schedule.events
+      (λ line event is. names_node schedule.versions (length schedule.starts) is.words event is.says) events.0;
+  restarts = all_second (EventHere schedule.versions (length schedule.starts)) (NamesVersion schedule.versions) rest.left schedule.events
+      (λ line event is. names_version schedule.versions (length schedule.starts) is.words event is.says) events.0;
 }

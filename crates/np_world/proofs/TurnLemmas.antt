@@ -71,16 +71,17 @@ module _ {T : Type 0} (model : T → VersionData) (rules : Rules T) (old : Membe
 
   -- ---- what a string finds that may be kept
 
-  pub finds-known : (strings : List (List ℕ)) (bytes : List ℕ) (kept : Type 0) → IsKept old.node.entries bytes → Finds (setting_of model rules) (chars bytes) (scene twin strings) Known (scene twin strings) kept
-  finds-known strings bytes kept has = inl (has_text bytes has, (refl, refl))
+  pub finds-known : (strings : List (List ℕ)) (bytes : List ℕ) (told : Reply) (next : Scene) → IsKept old.node.entries bytes → Finds (setting_of model rules) (chars bytes) told next (scene twin strings) Known (scene twin strings)
+  finds-known strings bytes told next has = inl (has_text bytes has, (refl, refl))
 
-  pub finds-full : (strings : List (List ℕ)) (bytes : List ℕ) (kept : Type 0) → HasNoPlace (state_of model old.node) bytes → Finds (setting_of model rules) (chars bytes) (scene twin strings) Full (scene twin strings) kept
-  finds-full strings bytes kept place =
+  pub finds-full : (strings : List (List ℕ)) (bytes : List ℕ) (told : Reply) (next : Scene) → HasNoPlace (state_of model old.node) bytes → Finds (setting_of model rules) (chars bytes) told next (scene twin strings) Full (scene twin strings)
+  finds-full strings bytes told next place =
       inr (λ has. place.new.absent (bytes_of bytes place.new.keepable.utf8 has), inl (omega (arith, place.full, count_is, m.room), (refl, refl)))
 
-  pub finds-place : (strings : List (List ℕ)) (bytes : List ℕ) (reply : Reply) (after : Scene) (kept : Type 0) → HasPlace (state_of model old.node) bytes → kept → Finds (setting_of model rules) (chars bytes) (scene twin strings) reply after kept
-  finds-place strings bytes reply after kept place does =
-      inr (λ has. place.new.absent (bytes_of bytes place.new.keepable.utf8 has), inr (λ full. absurd (omega (arith, place.room, full, count_is, m.room)), does))
+  pub finds-place : (strings : List (List ℕ)) (bytes : List ℕ) (told reply : Reply) (next after : Scene) → HasPlace (state_of model old.node) bytes → (reply ≡ told) × (after ≡ next)
+      → Finds (setting_of model rules) (chars bytes) told next (scene twin strings) reply after
+  finds-place strings bytes told reply next after place gives =
+      inr (λ has. place.new.absent (bytes_of bytes place.new.keepable.utf8 has), inr (λ full. absurd (omega (arith, place.room, full, count_is, m.room)), gives))
 
 -- ---- turns
 

@@ -1,4 +1,5 @@
--- The events of a schedule. Nodes and messages are named by their numbers, from 0; a string is the list of its code points.
+-- The events of a schedule. Nodes, messages and versions are named by their numbers, from 0; a string is the list of its code
+-- points.
 use Rattle.std.specs.Prelude.{ℕ, List}
 
 pub data Event : Type 0 where
@@ -10,6 +11,7 @@ pub data Event : Type 0 where
   Ask : (node : ℕ) (left right : List ℕ) → Event
   Forge : (node : ℕ) (bytes : List ℕ) → Event
   Forget : (node : ℕ) (string : List ℕ) → Event
+  RestartUnder : (node version : ℕ) → Event
 
 -- the node that an event names
 abbrev pub node_of : Event → ℕ
@@ -21,6 +23,7 @@ node_of (Restart node) = node
 node_of (Ask node left right) = node
 node_of (Forge node bytes) = node
 node_of (Forget node string) = node
+node_of (RestartUnder node version) = node
 
 -- the number of versions, the room of each node, the place of each node's first version, and the events
 pub record ScheduleData : Type 0 where

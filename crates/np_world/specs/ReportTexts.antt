@@ -4,10 +4,9 @@ use Rattle.std.specs.Fmt.{decimal}
 use Rattle.std.specs.List.{enumerate_from, join_with_byte}
 use Rattle.np_code_points.specs.Codes.{code_digits}
 use Rattle.np_node.specs.Strings.{Entry}
-use Rattle.np_world.specs.Reports.{NodeReport, nodes_of, replies_of}
+use Rattle.np_world.specs.Reports.{NodeReport, ReportData, nodes_of, replies_of}
 use Rattle.np_world.specs.declared.replies.Reply.{Reply}
-use Rattle.np_world.specs.declared.replies.Reply.TheVariants.{Sent, Kept, Known, Full, TooLong, Unassigned, NoMessage, Version, LastVersion, Saved, Restarted, Forgotten, NotKept, Equal, Different, Malformed, OtherForm, NotUtf8, KeyDiffers}
-use Rattle.np_world.specs.declared.report.Report.{Report}
+use Rattle.np_world.specs.declared.replies.Reply.TheVariants.{Sent, Kept, Known, Full, TooLong, Unassigned, NoMessage, Version, LastVersion, Saved, Restarted, Forgotten, NotKept, Equal, Different, Malformed, OtherForm, NotUtf8, KeyDiffers, OlderTables}
 
 -- ---- words
 
@@ -31,6 +30,7 @@ reply_text (Malformed at) = codes "malformed at " ++ decimal at
 reply_text OtherForm = codes "other form"
 reply_text (NotUtf8 at) = codes "not UTF-8 at byte " ++ decimal at
 reply_text KeyDiffers = codes "key differs"
+reply_text (OlderTables need have) = codes "older tables " ++ (decimal need ++ (codes " " ++ decimal have))
 
 -- code points in hex digits with a space between; a dash where there are none
 abbrev pub codes_text : List ℕ → List ℕ
@@ -62,5 +62,5 @@ abbrev pub report_lines : List Reply → List NodeReport → List ℕ
 report_lines replies nodes =
     flat_map (λ p. reply_line p.0 p.1) (enumerate_from 0 replies) ++ flat_map (λ p. node_lines p.0 p.1) (enumerate_from 0 nodes)
 
-abbrev pub text_of_report : {T : Type 0} → Report T → List ℕ
+abbrev pub text_of_report : {T : Type 0} → ReportData T → List ℕ
 text_of_report report = report_lines (replies_of report) (nodes_of report)

@@ -7,9 +7,10 @@ use Rattle.np_world.specs.ScheduleLines.{IsEventLine, IsNodesLine, IsRoomLine}
 use Rattle.np_world.specs.declared.reading.ScheduleFault.{ScheduleFault}
 use Rattle.np_world.specs.declared.reading.ScheduleFault.TheVariants.{Line, Memory}
 
--- lines are events, at most 1,000,000
-abbrev pub AreEventLines : ℕ → List Numbered → List Event → Type 0
-AreEventLines nodes lines events = AllZip (λ line event. IsEventLine nodes line.text event) lines events × (length events ≤ 1000000)
+-- lines are events, at most 1,000,000, where there are so many versions and so many nodes
+abbrev pub AreEventLines : ℕ → ℕ → List Numbered → List Event → Type 0
+AreEventLines versions nodes lines events =
+    AllZip (λ line event. IsEventLine versions nodes line.text event) lines events × (length events ≤ 1000000)
 
 -- the data lines: the room, the nodes, the events
 pub record SaysSchedule (bytes : List ℕ) (schedule : ScheduleData) : Type 0 where
@@ -19,7 +20,7 @@ pub record SaysSchedule (bytes : List ℕ) (schedule : ScheduleData) : Type 0 wh
   pub lines : AreDataLines bytes (room ∷ nodes ∷ events)
   pub room_says : IsRoomLine room.text schedule.room
   pub nodes_say : IsNodesLine schedule.versions nodes.text schedule.starts
-  pub events_say : AreEventLines (length schedule.starts) events schedule.events
+  pub events_say : AreEventLines schedule.versions (length schedule.starts) events schedule.events
 
 -- these data lines may stand at the front of a schedule over so many versions
 abbrev pub MayStand : ℕ → List Numbered → Type 0
@@ -27,7 +28,7 @@ MayStand versions [] = Unit {0}
 MayStand versions (room ∷ []) = (size : ℕ) × IsRoomLine room.text size
 MayStand versions (room ∷ nodes ∷ lines) =
     (size : ℕ) × (starts : List ℕ) × (events : List Event)
-    × IsRoomLine room.text size × IsNodesLine versions nodes.text starts × AreEventLines (length starts) lines events
+    × IsRoomLine room.text size × IsNodesLine versions nodes.text starts × AreEventLines versions (length starts) lines events
 
 -- the first data line that can't stand after those before it
 pub record IsUnfit (bytes : List ℕ) (versions line : ℕ) : Type 0 where

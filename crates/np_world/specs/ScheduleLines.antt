@@ -6,7 +6,7 @@ use Rattle.std.specs.Str.Parse.{digits_value}
 use Rattle.np_code_points.specs.Codes.{IsScalarOf, is_hex_digit}
 use Rattle.np_code_points.specs.Words.{AreWords}
 use Rattle.np_code_points.specs.declared.words.Dividers.TheVariants.{Blanks}
-use Rattle.np_world.specs.Events.{Event, Accept, Deliver, Upgrade, Save, Restart, Ask, Forge, Forget}
+use Rattle.np_world.specs.Events.{Event, Accept, Deliver, Upgrade, Save, Restart, Ask, Forge, Forget, RestartUnder}
 
 -- a number: 1 to 9 decimal digits
 pub record IsNumber (word : List ℕ) (number : ℕ) : Type 0 where
@@ -33,28 +33,61 @@ AreHexWords [] bytes = bytes ≡ []
 AreHexWords (word ∷ []) bytes = AreHexPairs word bytes
 AreHexWords (word ∷ more ∷ words) bytes = ⊥
 
--- the words behind an event's name, where there are so many nodes; '/' stands between the two strings of a question
-abbrev pub SaysOf : ℕ → List (List ℕ) → Event → Type 0
-SaysOf nodes words (Accept node string) =
-    (at : List ℕ) × (rest : List (List ℕ)) × (words ≡ codes "accept" ∷ at ∷ rest) × IsNumberBelow nodes at node × AllZip IsScalarOf rest string
-SaysOf nodes words (Deliver node message) =
-    (at number : List ℕ) × (words ≡ codes "deliver" ∷ at ∷ number ∷ []) × IsNumberBelow nodes at node × IsNumber number message
-SaysOf nodes words (Upgrade node) = (at : List ℕ) × (words ≡ codes "upgrade" ∷ at ∷ []) × IsNumberBelow nodes at node
-SaysOf nodes words (Save node) = (at : List ℕ) × (words ≡ codes "save" ∷ at ∷ []) × IsNumberBelow nodes at node
-SaysOf nodes words (Restart node) = (at : List ℕ) × (words ≡ codes "restart" ∷ at ∷ []) × IsNumberBelow nodes at node
-SaysOf nodes words (Ask node left right) =
-    (at : List ℕ) × (first second : List (List ℕ)) × (words ≡ codes "ask" ∷ at ∷ (first ++ codes "/" ∷ second))
-    × IsNumberBelow nodes at node × AllZip IsScalarOf first left × AllZip IsScalarOf second right
-SaysOf nodes words (Forge node bytes) =
-    (at : List ℕ) × (rest : List (List ℕ)) × (words ≡ codes "forge" ∷ at ∷ rest) × IsNumberBelow nodes at node × AreHexWords rest bytes
-SaysOf nodes words (Forget node string) =
-    (at : List ℕ) × (rest : List (List ℕ)) × (words ≡ codes "forget" ∷ at ∷ rest) × IsNumberBelow nodes at node × AllZip IsScalarOf rest string
+-- an event's name, the number of a node, of which there are so many, and the words behind it
+pub record HasHead (nodes : ℕ) (words : List (List ℕ)) (name : List ℕ) (node : ℕ) (behind : List (List ℕ)) : Type 0 where
+  pub at : List ℕ
+  pub are : words ≡ name ∷ at ∷ behind
+  pub number : IsNumberBelow nodes at node
 
--- a line is an event, where there are so many nodes
-pub record IsEventLine (nodes : ℕ) (text : List ℕ) (event : Event) : Type 0 where
+-- behind the node stands a string: a word for each code point
+pub record SaysString (nodes : ℕ) (words : List (List ℕ)) (name : List ℕ) (node : ℕ) (string : List ℕ) : Type 0 where
+  pub behind : List (List ℕ)
+  pub head : HasHead nodes words name node behind
+  pub codes_are : AllZip IsScalarOf behind string
+
+-- behind the node stands the number of a message
+pub record SaysMessage (nodes : ℕ) (words : List (List ℕ)) (node message : ℕ) : Type 0 where
+  pub word : List ℕ
+  pub head : HasHead nodes words (codes "deliver") node (word ∷ [])
+  pub number : IsNumber word message
+
+-- behind the node stands the number of a version, of which there are so many
+pub record SaysVersion (versions nodes : ℕ) (words : List (List ℕ)) (node version : ℕ) : Type 0 where
+  pub word : List ℕ
+  pub head : HasHead nodes words (codes "restart") node (word ∷ [])
+  pub number : IsNumberBelow versions word version
+
+-- behind the node stand two strings, and '/' between them
+pub record SaysStrings (nodes : ℕ) (words : List (List ℕ)) (node : ℕ) (left right : List ℕ) : Type 0 where
+  pub first : List (List ℕ)
+  pub second : List (List ℕ)
+  pub head : HasHead nodes words (codes "ask") node (first ++ codes "/" ∷ second)
+  pub left_codes : AllZip IsScalarOf first left
+  pub right_codes : AllZip IsScalarOf second right
+
+-- behind the node stand bytes
+pub record SaysBytes (nodes : ℕ) (words : List (List ℕ)) (node : ℕ) (bytes : List ℕ) : Type 0 where
+  pub behind : List (List ℕ)
+  pub head : HasHead nodes words (codes "forge") node behind
+  pub digits : AreHexWords behind bytes
+
+-- words are an event, where there are so many versions and so many nodes
+abbrev pub SaysOf : ℕ → ℕ → List (List ℕ) → Event → Type 0
+SaysOf versions nodes words (Accept node string) = SaysString nodes words (codes "accept") node string
+SaysOf versions nodes words (Deliver node message) = SaysMessage nodes words node message
+SaysOf versions nodes words (Upgrade node) = HasHead nodes words (codes "upgrade") node []
+SaysOf versions nodes words (Save node) = HasHead nodes words (codes "save") node []
+SaysOf versions nodes words (Restart node) = HasHead nodes words (codes "restart") node []
+SaysOf versions nodes words (Ask node left right) = SaysStrings nodes words node left right
+SaysOf versions nodes words (Forge node bytes) = SaysBytes nodes words node bytes
+SaysOf versions nodes words (Forget node string) = SaysString nodes words (codes "forget") node string
+SaysOf versions nodes words (RestartUnder node version) = SaysVersion versions nodes words node version
+
+-- a line is an event, where there are so many versions and so many nodes
+pub record IsEventLine (versions nodes : ℕ) (text : List ℕ) (event : Event) : Type 0 where
   pub words : List (List ℕ)
   pub are : AreWords Blanks text words
-  pub says : SaysOf nodes words event
+  pub says : SaysOf versions nodes words event
 
 -- the first line: the room of each node
 pub record IsRoomLine (text : List ℕ) (room : ℕ) : Type 0 where

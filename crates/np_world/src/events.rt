@@ -41,4 +41,9 @@ pub(crate) enum EventLine {
         node: usize,
         string: String,
     },
+    /// The node begins again with what it saved, under the version at this place of the chain.
+    RestartUnder {
+        node: usize,
+        version: usize,
+    },
 }

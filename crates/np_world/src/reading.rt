@@ -111,12 +111,17 @@ fn read_starts(
     }
 }
 
-/// The event that a line says, where there are so many nodes.
-fn read_event(alloc: Global, line: DataLine<'_>, nodes: usize) -> Result<EventLine, ScheduleFault>
-    ensures event { IfOk result (λ event. IsEventLine nodes line.entry.text.now (event_of event)) }
-    ensures refused { IfErr result (Misses line.entry.number (IsEventLine nodes line.entry.text.now)) }
+/// The event that a line says, where there are so many versions and nodes.
+fn read_event(
+    alloc: Global,
+    line: DataLine<'_>,
+    versions: usize,
+    nodes: usize,
+) -> Result<EventLine, ScheduleFault>
+    ensures event { IfOk result (λ event. IsEventLine versions nodes line.entry.text.now (event_of event)) }
+    ensures refused { IfErr result (Misses line.entry.number (IsEventLine versions nodes line.entry.text.now)) }
 {
-    match event_in(alloc, line.text, nodes) {
+    match event_in(alloc, line.text, versions, nodes) {
         Ok(event) => Ok(event),
         Err(fault) => Err(fault_at(line.number, fault)),
     }
@@ -127,30 +132,32 @@ fn take_event(
     alloc: Global,
     events: &mut Vec<EventLine>,
     line: DataLine<'_>,
+    versions: usize,
     nodes: usize,
 ) -> Result<(), ScheduleFault>
-    ensures event { OnOk result (AddsEvent nodes (map event_of events.old.items) line.entry.text.now (map event_of events.new.items)) }
-    ensures refused { IfErr result (AddsNone nodes (map event_of events.old.items) (numbered line.entry)) }
+    ensures event { OnOk result (AddsEvent versions nodes (map event_of events.old.items) line.entry.text.now (map event_of events.new.items)) }
+    ensures refused { IfErr result (AddsNone versions nodes (map event_of events.old.items) (numbered line.entry)) }
 {
     if events.len() >= MOST_EVENTS {
         return Err(ScheduleFault::Line { line: line.number });
     }
-    events.push(read_event(alloc, line, nodes)?)?;
+    events.push(read_event(alloc, line, versions, nodes)?)?;
     Ok(())
 }
 
-/// The events that all lines left say, where there are so many nodes.
+/// The events that all lines left say, where there are so many versions and nodes.
 fn read_events(
     alloc: Global,
     lines: DataLines<'_>,
+    versions: usize,
     nodes: usize,
 ) -> Result<Vec<EventLine>, ScheduleFault>
-    ensures events { IfOk result (λ events. AreEventLines nodes lines.entry.left (map event_of events.items)) }
-    ensures refused { IfErr result (NamesUnfit nodes lines.entry.left) }
+    ensures events { IfOk result (λ events. AreEventLines versions nodes lines.entry.left (map event_of events.items)) }
+    ensures refused { IfErr result (NamesUnfit versions nodes lines.entry.left) }
 {
     let mut events = Vec::new(alloc);
     for line in lines {
-        take_event(alloc, &mut events, line, nodes)?;
+        take_event(alloc, &mut events, line, versions, nodes)?;
     }
     Ok(events)
 }
@@ -175,6 +182,6 @@ pub fn read_schedule(
     let mut lines = DataLines::new(bytes);
     let room = read_room(&mut lines)?;
     let starts = read_starts(alloc, &mut lines, versions)?;
-    let events = read_events(alloc, lines, starts.len())?;
+    let events = read_events(alloc, lines, versions, starts.len())?;
     Ok(Schedule::new(versions, room, starts, events))
 }

@@ -1,15 +1,15 @@
 //! Schedules, replayed by real nodes.
-ghost use Rattle.std.specs.Prelude.{◌≡◌, ◌<◌, ◌≤◌, ◌↔◌, ℕ, length, map, slice_get, Some, slice_index, None, [], Contains, IfOk, IfSome, IsSome, IsSomeAnd, MatchOption};
+ghost use Rattle.std.specs.Prelude.{◌≡◌, ◌<◌, ◌≤◌, ◌↔◌, ℕ, length, map, slice_get, slice_index, None, Contains, IfOk, IfSome, IsSome, MatchOption};
 ghost use Rattle.std.specs.Option.{option_map};
 ghost use Rattle.np_tables.specs.Versions.{VersionData};
 ghost use Rattle.np_node.specs.Nodes.{state_of};
 ghost use Rattle.np_world.specs.Events.{Save};
-ghost use Rattle.np_world.specs.Reports.{image_at, index_at, message_at, node_at, replies_of};
-ghost use Rattle.np_world.specs.Runs.{setting_over, AgreeOn, AnswerAlike, AreKeysUnder, HasOneRun, InTheRun, IsImageUnder, IsLast, IsMessageUnder, IsNodeOf, texts_in};
+ghost use Rattle.np_world.specs.Reports.{image_at, index_at, node_at, replies_of};
+ghost use Rattle.np_world.specs.Runs.{AgreeOn, AnswerAlike, AreKeysUnder, HasOneRun, InTheRun, IsLast, IsNodeOf, LendsImages, LendsMessages, texts_in};
 ghost use Rattle.np_world.specs.inside.Mirrors.{rules_of, AreRules};
 ghost use Rattle.np_world.specs.inside.Played.{IsPlayed};
 ghost use Rattle.np_world.specs.inside.Worlds.{Begins, EndsRun};
-ghost use Rattle.np_world.specs.Schedules.{IsStandable, NameNodes};
+ghost use Rattle.np_world.specs.Schedules.{IsStandable, NameNodes, NameVersions};
 ghost use Rattle.np_world.specs.inside.Rust.{event_of};
 
 use crate::events::EventLine;
@@ -62,6 +62,7 @@ fn run_events<'t, T: NormTable>(
     requires rules { AreRules T.model (rules_of common.now) }
     requires begun { Begins T.model (rules_of common.now) members.old starts.now }
     requires named { NameNodes (length starts.now) (map event_of events.now) }
+    requires versions { NameVersions (length common.now.chain.now) (map event_of events.now) }
     ensures { IfOk result (λ told. EndsRun T.model (rules_of common.now) starts.now (map event_of events.now) told.replies.items members.new told.sent.items) }
 {
     let mut replies = Vec::with_capacity(common.alloc, events.len())?;
@@ -112,28 +113,24 @@ pub fn replay<'t, T: NormTable>(
     schedule: &Schedule,
 ) -> Result<Report<'t, T>, Memory>
     requires { schedule.now.versions ≡ length chain.now }
-    ensures run { IfOk result (λ report. HasOneRun (setting_over T.model chain.now form schedule.now) schedule.now) }
-    ensures replies { IfOk result (λ report. InTheRun (setting_over T.model chain.now form schedule.now) schedule.now
-        (λ replies world. replies_of report ≡ replies)) }
-    ensures indices { IfOk result (λ report. InTheRun (setting_over T.model chain.now form schedule.now) schedule.now
+    ensures run { IfOk result (λ report. HasOneRun T.model chain.now form schedule.now) }
+    ensures replies { IfOk result (λ report. InTheRun T.model chain.now form schedule.now (λ replies world. replies_of report ≡ replies)) }
+    ensures indices { IfOk result (λ report. InTheRun T.model chain.now form schedule.now
         (λ replies world. (i : ℕ) → index_at report i ≡ option_map (λ node. node.index) (slice_get world.nodes i))) }
-    ensures strings { IfOk result (λ report. InTheRun (setting_over T.model chain.now form schedule.now) schedule.now
-        (λ replies world. (i : ℕ) → option_map (λ node. texts_in node.entries) (node_at report i) ≡ option_map (λ node. node.strings) (slice_get world.nodes i))) }
-    ensures keys { IfOk result (λ report. (last : VersionData) → IsLast (setting_over T.model chain.now form schedule.now) last
+    ensures strings { IfOk result (λ report. InTheRun T.model chain.now form schedule.now (λ replies world. (i : ℕ)
+        → option_map (λ node. texts_in node.entries) (node_at report i) ≡ option_map (λ node. node.strings) (slice_get world.nodes i))) }
+    ensures keys { IfOk result (λ report. (last : VersionData) → IsLast (map T.model chain.now) last
         → (i : ℕ) → IfSome (node_at report i) (λ node. AreKeysUnder last form node.entries)) }
     ensures nodes { IfOk result (λ report. (i : ℕ) → MatchOption (node_at report i) (index_at report i ≡ None)
         (λ node. IsNodeOf chain.now form schedule.now.room (index_at report i) node)) }
-    ensures sent { IfOk result (λ report. (last : VersionData) → IsLast (setting_over T.model chain.now form schedule.now) last
-        → InTheRun (setting_over T.model chain.now form schedule.now) schedule.now
-        (λ replies world. (i : ℕ) → MatchOption (slice_get world.sent i) (message_at report i ≡ None) (λ string. IsSomeAnd (message_at report i) (IsMessageUnder last form string)))) }
-    ensures saved { IfOk result (λ report. (last : VersionData) → IsLast (setting_over T.model chain.now form schedule.now) last
-        → InTheRun (setting_over T.model chain.now form schedule.now) schedule.now
-        (λ replies world. (i : ℕ) → MatchOption (slice_get world.nodes i) (image_at report i ≡ None)
-        (λ node. MatchOption (image_at report i) (node.saved ≡ []) (IsImageUnder last form node.saved)))) }
+    ensures sent { IfOk result (λ report. (last : VersionData) → IsLast (map T.model chain.now) last
+        → InTheRun T.model chain.now form schedule.now (LendsMessages last form report)) }
+    ensures saved { IfOk result (λ report. (last : VersionData) → IsLast (map T.model chain.now) last
+        → InTheRun T.model chain.now form schedule.now (LendsImages (map T.model chain.now) last form report)) }
     ensures images { IfOk result (λ report. (i : ℕ) → IsSome (image_at report i) ↔ Contains schedule.now.events (Save i)) }
-    ensures equivalence { IfOk result (λ report. (last : VersionData) → IsLast (setting_over T.model chain.now form schedule.now) last
+    ensures equivalence { IfOk result (λ report. (last : VersionData) → IsLast (map T.model chain.now) last
         → (i : ℕ) → IfSome (node_at report i) (λ node. AgreeOn (T.model node.table) last form node.entries)) }
-    ensures alike { IfOk result (λ report. (last : VersionData) → IsLast (setting_over T.model chain.now form schedule.now) last
+    ensures alike { IfOk result (λ report. (last : VersionData) → IsLast (map T.model chain.now) last
         → (i j : ℕ) → IfSome (node_at report i) (λ node. IfSome (node_at report j)
         (λ other. AnswerAlike last form (state_of T.model node) (state_of T.model other)))) }
 {

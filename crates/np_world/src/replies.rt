@@ -42,4 +42,7 @@ pub enum Reply {
     NotUtf8 { at: usize },
     /// The key of a forged message isn't that of its string.
     KeyDiffers,
+    /// What was saved last needs a version with `need` assigned code points, and the one under which
+    /// the node was to restart assigns `have`, which are fewer. The node is left as it was.
+    OlderTables { need: u32, have: u32 },
 }

@@ -8,13 +8,26 @@ use crate::replies::Reply;
 use np_node::Node;
 use np_tables::NormTable;
 use std::fmt;
+use std::marker::Model;
 
 /// What a replay answers: a reply to each event, the messages sent, and the nodes at the end.
+///
+/// Contracts see the three lists, and of each node the place of its version in the chain, the node
+/// itself and its last image.
 #[derive(Drop)]
 pub struct Report<'t, T: NormTable> {
     pub(crate) replies: Vec<Reply>,
     pub(crate) sent: Vec<Vec<u8>>,
     pub(crate) members: Vec<Member<'t, T>>,
+}
+
+impl<'t, T: NormTable> Model for Report<'t, T> {
+    ghost use Rattle.np_world.specs.Reports.{ReportData};
+    ghost use Rattle.np_world.specs.inside.ReportViews.{report_of};
+
+    ghost Value = { ReportData T };
+
+    ghost view = { λ a. report_of a.replies.items a.sent.items a.members.items };
 }
 
 /// Shows how many replies, messages and nodes there are, and none of the strings in them: they may
@@ -50,8 +63,9 @@ impl<'t, T: NormTable> Report<'t, T> {
         }
     }
 
-    /// The last image of the node of this number, from 0; none where it never saved, and where there
-    /// is no such node.
+    /// The last image of the node of this number, from 0: the second layout, which tells how many
+    /// code points the version assigns under which it saved. None where it never saved, and where
+    /// there is no such node.
     pub fn saved(&self, number: usize) -> Option<&[u8]>
         ensures { option_map (λ b. b.now) result ≡ image_at self.now number }
     {

@@ -4,8 +4,9 @@ ghost use Rattle.std.specs.Fmt.{decimal};
 ghost use Rattle.std.specs.List.{enumerate_from};
 ghost use Rattle.np_code_points.specs.Codes.{code_digits};
 ghost use Rattle.np_world.specs.Reports.{node_report};
+ghost use Rattle.np_world.specs.inside.ReportViews.{end_of};
 ghost use Rattle.np_world.specs.inside.ReportWriting.{gap};
-ghost use Rattle.np_world.specs.declared.replies.Reply.TheVariants.{Unassigned};
+ghost use Rattle.np_world.specs.declared.replies.Reply.TheVariants.{OlderTables, Unassigned};
 ghost use Rattle.np_world.specs.ReportTexts.{codes_text, entry_line, node_lines, reply_line, reply_text, text_of_report};
 
 use crate::members::Member;
@@ -52,6 +53,14 @@ fn write_unassigned(out: &mut String, at: usize, code: char) -> Result<(), Memor
     Ok(())
 }
 
+/// Adds a reply that names two counts of code points.
+fn write_older(out: &mut String, need: u32, have: u32) -> Result<(), Memory>
+    ensures { IfOk result (λ _. string_bytes out.new ≡ string_bytes out.old ++ reply_text (OlderTables need have)) }
+{
+    write!(out, "older tables {need} {have}")?;
+    Ok(())
+}
+
 /// Adds words.
 fn write_words(out: &mut String, words: &str) -> Result<(), Memory>
     ensures { IfOk result (λ _. string_bytes out.new ≡ string_bytes out.old ++ words.now) }
@@ -93,6 +102,7 @@ fn write_reply(out: &mut String, reply: &Reply) -> Result<(), Memory>
         Reply::OtherForm => write_words(out, "other form"),
         Reply::NotUtf8 { at } => write_number(out, "not UTF-8 at byte ", at),
         Reply::KeyDiffers => write_words(out, "key differs"),
+        Reply::OlderTables { need, have } => write_older(out, need, have),
     }
 }
 
@@ -136,7 +146,7 @@ fn write_node<T: NormTable>(
     number: usize,
     member: &Member<'_, T>,
 ) -> Result<(), Memory>
-    ensures { IfOk result (λ _. string_bytes out.new ≡ string_bytes out.old ++ node_lines number (node_report member.now)) }
+    ensures { IfOk result (λ _. string_bytes out.new ≡ string_bytes out.old ++ node_lines number (node_report (end_of member.now))) }
 {
     let index = member.index;
     let entries = member.node.len();
@@ -156,7 +166,7 @@ fn write_replies(out: &mut String, replies: &[Reply]) -> Result<(), Memory>
 
 /// Adds the lines of the nodes.
 fn write_nodes<T: NormTable>(out: &mut String, members: &[Member<'_, T>]) -> Result<(), Memory>
-    ensures { IfOk result (λ _. string_bytes out.new ≡ string_bytes out.old ++ flat_map (λ p. node_lines p.0 p.1) (enumerate_from 0 (map node_report members.now))) }
+    ensures { IfOk result (λ _. string_bytes out.new ≡ string_bytes out.old ++ flat_map (λ p. node_lines p.0 p.1) (enumerate_from 0 (map node_report (map end_of members.now)))) }
 {
     for number in 0..members.len() {
         write_node(out, number, &members[number])?;

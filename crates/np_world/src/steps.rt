@@ -1,6 +1,7 @@
 //! One event after another.
 ghost use Rattle.std.specs.Prelude.{◌≡◌, ◌<◌, length, IfOk};
 ghost use Rattle.np_world.specs.Events.{node_of};
+ghost use Rattle.np_world.specs.Schedules.{NamesVersion};
 ghost use Rattle.np_world.specs.inside.Mirrors.{rules_of};
 ghost use Rattle.np_world.specs.inside.Rust.{event_of};
 ghost use Rattle.np_world.specs.inside.Worlds.{IsShown, LeavesImages, Steps};
@@ -8,7 +9,7 @@ ghost use Rattle.np_world.specs.inside.Worlds.{IsShown, LeavesImages, Steps};
 use crate::events::EventLine;
 use crate::members::{Common, Member};
 use crate::replies::Reply;
-use crate::turns::{accept, ask, deliver, forge, forget, restart, save, upgrade};
+use crate::turns::{accept, ask, deliver, forge, forget, restart, restart_under, save, upgrade};
 use np_code_points::Memory;
 use np_tables::NormTable;
 
@@ -21,6 +22,7 @@ pub(crate) fn step<'t, T: NormTable>(
 ) -> Result<Reply, Memory>
     requires shown { IsShown T.model (rules_of common.now) members.old sent.old.items }
     requires named { node_of (event_of event.now) < length members.old }
+    requires version { NamesVersion (length common.now.chain.now) (event_of event.now) }
     ensures step { IfOk result (λ reply. Steps T.model (rules_of common.now) members.old sent.old.items (event_of event.now) reply members.new sent.new.items) }
     ensures images { IfOk result (λ reply. LeavesImages (event_of event.now) members.old members.new) }
 {
@@ -34,6 +36,9 @@ pub(crate) fn step<'t, T: NormTable>(
         EventLine::Upgrade { node } => Ok(upgrade(common, &mut members[*node])),
         EventLine::Save { node } => save(common, &mut members[*node]),
         EventLine::Restart { node } => restart(common, &mut members[*node]),
+        EventLine::RestartUnder { node, version } => {
+            restart_under(common, &mut members[*node], *version)
+        }
         EventLine::Ask { node, left, right } => Ok(ask(
             common,
             &members[*node],

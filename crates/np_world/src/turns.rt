@@ -1,7 +1,8 @@
 //! What each event does to a node of a replay.
-ghost use Rattle.std.specs.Prelude.{◌≡◌, ◌≤◌, chars, IfOk, IsSome};
-ghost use Rattle.np_world.specs.World.{Accepts, Asks, Delivers, Forges, Forgets, Restarts, Saves, Upgrades};
+ghost use Rattle.std.specs.Prelude.{◌≡◌, ◌<◌, ◌≤◌, chars, length, IfErr, IfOk, IsSome};
+ghost use Rattle.np_world.specs.World.{Accepts, Asks, Delivers, Forges, Forgets, Restarts, RestartsUnder, Saves, Upgrades};
 ghost use Rattle.np_world.specs.inside.Mirrors.{rules_of, setting_of, IsReady, Turns};
+ghost use Rattle.np_world.specs.inside.Restarting.{BeginsAgain, RefusesToBegin};
 ghost use Rattle.np_world.specs.inside.Told.{refusal_of};
 
 use crate::members::{Common, Member};
@@ -21,6 +22,7 @@ fn refusal(fault: NodeFault) -> Result<Reply, Memory>
         NodeFault::NotUtf8 { at } => Ok(Reply::NotUtf8 { at }),
         NodeFault::Unassigned { at, code } => Ok(Reply::Unassigned { at, code }),
         NodeFault::KeyDiffers => Ok(Reply::KeyDiffers),
+        NodeFault::OlderTables { need, have } => Ok(Reply::OlderTables { need, have }),
         NodeFault::Full => Ok(Reply::Full),
         NodeFault::Memory => Err(Memory),
     }
@@ -126,7 +128,39 @@ pub(crate) fn save<T: NormTable>(
     Ok(Reply::Saved)
 }
 
-/// The one fault that a saved image can meet.
+/// A node that begins again under the version at this place of the chain with what another saved
+/// last, or with nothing. It is refused for older tables and for want of memory alone.
+fn begun_again<'t, T: NormTable>(
+    common: &Common<'_, 't, T>,
+    member: &Member<'t, T>,
+    place: usize,
+) -> Result<Node<'t, T>, NodeFault>
+    requires ready { IsReady T.model (rules_of common.now) member.now }
+    requires within { place < length common.now.chain.now }
+    ensures begins { IfOk result (BeginsAgain T.model (rules_of common.now) member.now place) }
+    ensures refused { IfErr result (RefusesToBegin T.model (rules_of common.now) member.now place) }
+{
+    let table = common.chain.at(place);
+    let Some(image) = &member.image else {
+        return Ok(Node::new(common.alloc, table, common.form, common.room));
+    };
+    // An image is never refused under a version with as many code points as that of its node, and
+    // bytes are one image at most.
+    np_node::laws::saved();
+    np_node::laws::images();
+    match Node::restore(
+        common.alloc,
+        table,
+        common.form,
+        common.room,
+        image.as_slice(),
+    ) {
+        Ok(node) => Ok(node),
+        Err(refused) => Err(refused.fault),
+    }
+}
+
+/// The one fault that a restart under the node's own version can meet.
 fn want_of_memory(fault: NodeFault) -> Memory
     requires { fault ≡ NodeFault.Memory }
 {
@@ -138,6 +172,7 @@ fn want_of_memory(fault: NodeFault) -> Memory
         NodeFault::NotUtf8 { .. } => unreachable!(),
         NodeFault::Unassigned { .. } => unreachable!(),
         NodeFault::KeyDiffers => unreachable!(),
+        NodeFault::OlderTables { .. } => unreachable!(),
         NodeFault::Full => unreachable!(),
     }
 }
@@ -152,26 +187,37 @@ pub(crate) fn restart<'t, T: NormTable>(
         (λ version last. Restarts) member.old messages reply member.new messages) }
     ensures image { member.new.image ≡ member.old.image }
 {
-    let table = member.node.table();
-    let Some(image) = &member.image else {
-        member.node = Node::new(common.alloc, table, common.form, common.room);
-        return Ok(Reply::Restarted);
-    };
-    // An image that a node saved is never refused under its own or a later version.
-    np_node::laws::saved();
-    np_node::laws::images();
-    match Node::restore(
-        common.alloc,
-        table,
-        common.form,
-        common.room,
-        image.as_slice(),
-    ) {
+    match begun_again(common, member, member.index) {
         Ok(node) => {
             member.node = node;
             Ok(Reply::Restarted)
         }
-        Err(refused) => Err(want_of_memory(refused.fault)),
+        Err(fault) => Err(want_of_memory(fault)),
+    }
+}
+
+/// The node begins again under the version at this place of the chain with what it saved last, or
+/// with nothing, unless it saved under a version with more assigned code points: then it stays as it
+/// is.
+pub(crate) fn restart_under<'t, T: NormTable>(
+    common: &Common<'_, 't, T>,
+    member: &mut Member<'t, T>,
+    place: usize,
+) -> Result<Reply, Memory>
+    requires ready { IsReady T.model (rules_of common.now) member.old }
+    requires within { place < length common.now.chain.now }
+    ensures turn { (messages : _) → IfOk result (λ reply. Turns T.model (rules_of common.now)
+        (λ version last. RestartsUnder (setting_of T.model (rules_of common.now)) place)
+        member.old messages reply member.new messages) }
+    ensures image { member.new.image ≡ member.old.image }
+{
+    match begun_again(common, member, place) {
+        Ok(node) => {
+            member.index = place;
+            member.node = node;
+            Ok(Reply::Restarted)
+        }
+        Err(refused) => refusal(refused),
     }
 }
 

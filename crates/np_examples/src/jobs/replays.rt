@@ -3,12 +3,12 @@ use super::{Job, JobRow, are_answered, wants_answer};
 use crate::common::{Files, V1, V2};
 use np_code_points::fixtures::{V1_EXCLUSIONS, V2_EXCLUSIONS};
 use np_world::fixtures::{
-    EXCHANGE_REPORT, EXCHANGE_SCHEDULE, FORGED_REPORT, FORGED_SCHEDULE, RESTART_REPORT,
-    RESTART_SCHEDULE,
+    EXCHANGE_REPORT, EXCHANGE_SCHEDULE, FORGED_REPORT, FORGED_SCHEDULE, FORGETTING_REPORT,
+    FORGETTING_SCHEDULE, OLDER_REPORT, OLDER_SCHEDULE, RESTART_REPORT, RESTART_SCHEDULE,
 };
 use std::test::Fail;
 
-const SCRIPTS: [JobRow; 3] = [
+const SCRIPTS: [JobRow; 5] = [
     (
         Job::ReplayOverTwo(EXCHANGE_SCHEDULE, V1, V2),
         (0, EXCHANGE_REPORT, ""),
@@ -23,6 +23,16 @@ const SCRIPTS: [JobRow; 3] = [
         Job::ReplayOverOne(FORGED_SCHEDULE, V1),
         (0, FORGED_REPORT, ""),
         "forged",
+    ),
+    (
+        Job::ReplayOverTwo(OLDER_SCHEDULE, V1, V2),
+        (0, OLDER_REPORT, ""),
+        "older",
+    ),
+    (
+        Job::ReplayOverOne(FORGETTING_SCHEDULE, V1),
+        (0, FORGETTING_REPORT, ""),
+        "forgetting",
     ),
 ];
 

@@ -1,9 +1,9 @@
 //! What a node answers to strings.
-use super::{wants_kept, wants_known, wants_refused, wants_taken};
+use super::{letters, wants_kept, wants_known, wants_refused, wants_taken};
 use crate::common::{Example, Made, V1, V2, holds_over_each, table_of, want};
 use np_chain::{Break, BreakKind};
+use np_code_points::Form;
 use np_code_points::told::want_told;
-use np_code_points::{Form, Memory};
 use np_node::{Accepted, Node, NodeFault, Taken};
 use np_tables::NormTable;
 use std::alloc::Global;
@@ -66,18 +66,39 @@ fn wants_shown<T: NormTable>(alloc: Global, node: &Node<'_, T>) -> Result<(), Fa
     )
 }
 
-/// So many times `a`.
-fn letters(alloc: Global, count: usize) -> Result<Vec<u8>, Memory> {
-    Ok(vec![in alloc; b'a'; count]?)
-}
-
 fn longest<T: NormTable>(alloc: Global, table: &T) -> Result<(), Fail> {
     let mut node = Node::new(alloc, table, Form::Nfc, 4);
-    let over = letters(alloc, 4097)?;
-    wants_refused(&mut node, &over, NodeFault::TooLong, "4,097 bytes")?;
-    let most = letters(alloc, 4096)?;
-    want(node.accept(&most).is_ok(), "4,096 bytes")?;
-    wants_known(&mut node, &most, "4,096 bytes again")
+    let over = letters(alloc, 65_537)?;
+    wants_refused(&mut node, &over, NodeFault::TooLong, "65,537 bytes")?;
+    let most = letters(alloc, 65_536)?;
+    want(node.accept(&most).is_ok(), "65,536 bytes")?;
+    wants_known(&mut node, &most, "65,536 bytes again")?;
+    longest_told(alloc, table, &over, NodeFault::TooLong)?;
+    longest_restored(alloc, &node)
+}
+
+/// A message that tells a string beside itself is refused.
+fn longest_told<T: NormTable>(
+    alloc: Global,
+    table: &T,
+    string: &[u8],
+    fault: NodeFault,
+) -> Result<(), Fail> {
+    let mut message = Vec::new(alloc);
+    message.extend_from_slice(b"C\0\x01\0\x01")?;
+    message.extend_from_slice(string)?;
+    message.extend_from_slice(b"\0\x01\0\x01")?;
+    message.extend_from_slice(string)?;
+    let mut node = Node::new(alloc, table, Form::Nfc, 4);
+    wants_taken(&mut node, &message, Err(fault), "65,537 bytes told")
+}
+
+/// A node's longest string is told to another, and stands in its image.
+fn longest_restored<T: NormTable>(alloc: Global, node: &Node<'_, T>) -> Result<(), Fail> {
+    let image = node.image()?;
+    want(image.len() == 65_554, "an image of 65,554 bytes")?;
+    let again = Node::restore(alloc, node.table(), Form::Nfc, 4, &image)?;
+    want(again.entry(0) == node.entry(0), "the same entry")
 }
 
 fn unlike_strings<T: NormTable>(alloc: Global, table: &T) -> Result<(), Fail> {
@@ -219,7 +240,7 @@ fn upgrades_go_forward_alone(rt: HostRuntime) -> Result<(), Fail> {
 }
 
 /// Each fault, and how it is told; a code point in four hex digits at least.
-const TOLD: [(NodeFault, &str); 9] = [
+const TOLD: [(NodeFault, &str); 10] = [
     (NodeFault::Malformed { at: 5 }, "malformed at byte 5"),
     (NodeFault::OtherForm, "another form"),
     (NodeFault::TooLong, "too long"),
@@ -238,6 +259,13 @@ const TOLD: [(NodeFault, &str); 9] = [
     (NodeFault::KeyDiffers, "key differs"),
     (NodeFault::Full, "full"),
     (NodeFault::Memory, "out of memory"),
+    (
+        NodeFault::OlderTables {
+            need: 17_666,
+            have: 17_660,
+        },
+        "older tables: need 17666 code points, have 17660",
+    ),
 ];
 
 #[test]

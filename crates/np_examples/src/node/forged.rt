@@ -1,9 +1,9 @@
-//! Cut and forged images: each is refused by name at its place, or it is the image of the node that it gives.
-use super::forged_answers::{ANSWERS, IMAGE};
+//! Cut and forged images: each is refused by name at its place, or restored as a node with the image that is told.
+use super::forged_answers::{FIRST, FIRST_ANSWERS, SECOND, SECOND_ANSWERS};
 use crate::common::{Example, Made, V1, holds_over_each, want};
+use np_code_points::Form;
 use np_code_points::codes::hex_value;
-use np_code_points::{Form, Memory};
-use np_node::{ImageFault, Node, NodeFault};
+use np_node::Node;
 use np_tables::NormTable;
 use std::alloc::Global;
 use std::test::Fail;
@@ -48,29 +48,34 @@ fn changed(
     Ok(made)
 }
 
-/// What restoring the image answers, in words. What is restored has the image again.
-fn answer<T: NormTable>(alloc: Global, table: &T, image: &[u8]) -> Result<String, Fail> {
-    match Node::restore(alloc, table, Form::Nfc, 5, image) {
-        Ok(node) => {
-            want(
-                node.image()?.as_slice() == image,
-                "the image that was restored",
-            )?;
-            Ok(String::from_str(alloc, "restored")?)
-        }
-        Err(fault) => Ok(format!(in alloc; "{fault}")?),
-    }
+/// The node's image has these hex digits.
+fn wants_image<T: NormTable>(alloc: Global, node: &Node<'_, T>, digits: &str) -> Result<(), Fail> {
+    let mut wanted = Vec::new(alloc);
+    push_bytes(&mut wanted, digits)?;
+    let image = node.image()?;
+    want(
+        image.as_slice() == wanted.as_slice(),
+        "the image of what was restored",
+    )
 }
 
-/// Restoring the image answers this.
+/// Restoring the image answers this, in words; what is restored has the image behind `restored`.
 fn wants_answer<T: NormTable>(
     alloc: Global,
     table: &T,
     image: &[u8],
     told: &str,
 ) -> Result<(), Fail> {
-    let answer = answer(alloc, table, image)?;
-    want(answer.as_str() == told, told)
+    match Node::restore(alloc, table, Form::Nfc, 5, image) {
+        Ok(node) => {
+            let digits = told.strip_prefix("restored ").ok_or(told)?;
+            wants_image(alloc, &node, digits)
+        }
+        Err(fault) => {
+            let answer = format!(in alloc; "{fault}")?;
+            want(answer.as_str() == told, told)
+        }
+    }
 }
 
 /// The image changed as a line has it, in each of its ways, is answered as the line tells.
@@ -94,17 +99,28 @@ fn wants_line<T: NormTable>(
     Ok(())
 }
 
+/// The image in these hex digits is answered, changed as each line has it, as the line tells.
+fn wants_lines<T: NormTable>(
+    alloc: Global,
+    table: &T,
+    digits: &str,
+    lines: &str,
+) -> Result<(), Fail> {
+    let mut image = Vec::new(alloc);
+    push_bytes(&mut image, digits)?;
+    for line in lines.lines() {
+        wants_line(alloc, table, &image, line)?;
+    }
+    Ok(())
+}
+
 /// What restoring answers to each changed image.
 struct Answers;
 
 impl Example for Answers {
     fn holds<T: Made>(&self, alloc: Global, table: &T) -> Result<(), Fail> {
-        let mut image = Vec::new(alloc);
-        push_bytes(&mut image, IMAGE)?;
-        for line in ANSWERS.lines() {
-            wants_line(alloc, table, &image, line)?;
-        }
-        Ok(())
+        wants_lines(alloc, table, FIRST, FIRST_ANSWERS)?;
+        wants_lines(alloc, table, SECOND, SECOND_ANSWERS)
     }
 }
 

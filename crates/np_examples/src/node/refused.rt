@@ -3,7 +3,7 @@
 ghost use Rattle.std.specs.Prelude.{◌≤◌};
 
 use super::{
-    NoImage, Told, wants_all_taken, wants_kept, wants_known, wants_no_nodes, wants_refused,
+    NoImage, Told, letters, wants_all_taken, wants_kept, wants_known, wants_no_nodes, wants_refused,
 };
 use crate::common::{Example, Made, V1, holds_over_each, want};
 use np_code_points::Form;
@@ -16,7 +16,11 @@ const STRING: &[u8] = b"a\xcc\x82";
 
 const MESSAGE: &[u8] = b"C\0\0\0\x03a\xcc\x82\0\0\0\x02\xc3\xa2";
 
-const IMAGE: &[u8] = b"NPS1C\0\0\0\x02\0\0\0\x01A\0\0\0\x01A\0\0\0\x03a\xcc\x82\0\0\0\x02\xc3\xa2";
+/// The image in the first layout.
+const FIRST: &[u8] = b"NPS1C\0\0\0\x02\0\0\0\x01A\0\0\0\x01A\0\0\0\x03a\xcc\x82\0\0\0\x02\xc3\xa2";
+
+const IMAGE: &[u8] =
+    b"NPS2C\0\0\x44\xfc\0\0\0\x02\0\0\0\x01A\0\0\0\0\x03a\xcc\x82\x01\0\0\0\x02\xc3\xa2";
 
 /// The calls that can want memory, and those that take none.
 #[derive(Clone, Copy)]
@@ -83,22 +87,26 @@ fn saves<T: NormTable>(alloc: Global, table: &T) -> Result<(), Fail> {
 }
 
 fn restores<T: NormTable>(alloc: Global, table: &T) -> Result<(), Fail> {
-    let node = match Node::restore(alloc, table, Form::Nfc, 4, IMAGE) {
+    restores_image(alloc, table, FIRST)?;
+    restores_image(alloc, table, IMAGE)
+}
+
+fn restores_image<T: NormTable>(alloc: Global, table: &T, image: &[u8]) -> Result<(), Fail> {
+    let node = match Node::restore(alloc, table, Form::Nfc, 4, image) {
         Ok(node) => node,
         Err(refused) => {
             want(
                 refused.entry.is_none() && refused.fault == NodeFault::Memory,
                 "no other refusal of an image",
             )?;
-            Node::restore(alloc, table, Form::Nfc, 4, IMAGE)?
+            Node::restore(alloc, table, Form::Nfc, 4, image)?
         }
     };
     want(keeps_both(&node), "the image's entries")
 }
 
 /// Strings, and why a full node refuses them.
-const REFUSED: [(&[u8], NodeFault); 4] = [
-    (&[b'a'; 4097], NodeFault::TooLong),
+const REFUSED: [(&[u8], NodeFault); 3] = [
     (b"a\xcc", NodeFault::NotUtf8 { at: 1 }),
     (
         b"\xef\xbf\xbe",
@@ -141,7 +149,22 @@ const TOLD: [Told; 6] = [
 ];
 
 /// Images of no node of a room of one.
-const NO_IMAGES: [NoImage; 3] = [
+const NO_IMAGES: [NoImage; 5] = [
+    (
+        b"NPS2C\0\0\0\0\xff\xff\xff\xff",
+        None,
+        NodeFault::Malformed { at: 13 },
+        "a great count in the second layout",
+    ),
+    (
+        b"NPS2C\xff\xff\xff\xff\0\0\0\0",
+        None,
+        NodeFault::OlderTables {
+            need: 4_294_967_295,
+            have: 17_660,
+        },
+        "older tables",
+    ),
     (
         b"NPS1C\xff\xff\xff\xff",
         None,
@@ -155,13 +178,17 @@ const NO_IMAGES: [NoImage; 3] = [
 /// What a full node refuses for itself, and what it knows: it has none of it refused for want of memory.
 fn refuses<T: NormTable>(alloc: Global, table: &T) -> Result<(), Fail> {
     let mut node = one_kept(alloc, table, 1)?;
+    let long = letters(alloc, 65_537)?;
+    wants_refused(&mut node, &long, NodeFault::TooLong, "a long string")?;
     for (string, fault) in &REFUSED {
         wants_refused(&mut node, string, *fault, "a string")?;
     }
     wants_all_taken(&mut node, &TOLD)?;
     wants_known(&mut node, b"A", "what is kept")?;
     want(keeps_one(&node), "nothing changes")?;
-    wants_no_nodes(alloc, table, 1, &NO_IMAGES)
+    wants_no_nodes(alloc, table, 1, &NO_IMAGES)?;
+    want(!node.forget("a") && node.forget("A"), "A is forgotten")?;
+    want(node.is_empty(), "nothing is kept")
 }
 
 impl Example for Call {

@@ -54,7 +54,7 @@ fn a_schedule_begins_with_its_room_and_its_nodes(rt: HostRuntime) -> Result<(), 
 }
 
 /// Lines behind the beginning that are no events.
-const NO_EVENTS: [(&str, u64); 16] = [
+const NO_EVENTS: [(&str, u64); 20] = [
     ("room 4\nnodes 0\nask 0 0061\n", 3),
     ("room 4\nnodes 0\nask 0 0061 / 0061 / 0061\n", 3),
     ("room 4\nnodes 0\naccept 0 D800\n", 3),
@@ -68,6 +68,10 @@ const NO_EVENTS: [(&str, u64); 16] = [
     ("room 4\nnodes 0\nforge 0 ab cd\n", 3),
     ("room 4\nnodes 0\nforge 0 0g\n", 3),
     ("room 4\nnodes 0\nsave 0 0\n", 3),
+    ("room 4\nnodes 0\nrestart 0 2\n", 3),
+    ("room 4\nnodes 0\nrestart 0 0 0\n", 3),
+    ("room 4\nnodes 0\nrestart 1 0\n", 3),
+    ("room 4\nnodes 0\nrestart 0 -\n", 3),
     ("room 4\nnodes 0\nSave 0\n", 3),
     ("room 4\nnodes 0\nnodes 0\n", 3),
     ("room 4\nnodes 0\nsave 0\nsave 1\nsave 2\n", 4),
@@ -87,11 +91,12 @@ fn comments_blank_lines_and_carriage_returns_are_passed_over(rt: HostRuntime) ->
 }
 
 /// Texts that are schedules.
-const SCHEDULES: [&str; 5] = [
+const SCHEDULES: [&str; 6] = [
     "room 4\nnodes 0",
     "room 0\r\nnodes 0\t1\r\n",
     " room\t65536 \nnodes 0 1\n\taccept  0\t0061 \n",
     "room 000000004\nnodes 000000001\ndeliver 0 999999999\n",
+    "room 4\nnodes 0\nrestart 0\nrestart 0 1\nrestart\t0 00 \nforget 0\n",
     "room 4\nnodes 0\naccept 0\nask 0 /\nask 0 0061 /\nforge 0\nforge 0 aBcD\n",
 ];
 

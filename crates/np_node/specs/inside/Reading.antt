@@ -1,5 +1,5 @@
 -- What a reader of fields has left.
-use Rattle.std.specs.Prelude.{◌≡◌, ◌≢◌, ℕ, ◌+◌, List, ◌++◌, length, drop, Bool, MatchBool}
+use Rattle.std.specs.Prelude.{◌≡◌, ℕ, ◌+◌, List, ◌++◌, length, drop}
 use Rattle.np_node.specs.Strings.{Entry}
 use Rattle.np_node.specs.declared.fields.Fields.{Fields}
 use Rattle.np_node.specs.declared.fields.Told.{Told}
@@ -17,7 +17,3 @@ pub record Passes (old new : Fields) (xs : List ℕ) : Type 0 where
 -- the string and the key that stand in a message or an image
 abbrev pub told_entry : Told → Entry
 told_entry told = record { string = told.string.now; key = told.key.now }
-
--- the bytes were gone over, or they aren't in front
-abbrev pub Skips : Fields → Fields → List ℕ → Bool → Type 0
-Skips old new name found = MatchBool found (Passes old new name) ((rest : List ℕ) → left_of old ≢ name ++ rest)

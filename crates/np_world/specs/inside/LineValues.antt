@@ -5,7 +5,7 @@ use Rattle.std.specs.Str.{bytes_eq, all_ascii_digits}
 use Rattle.std.specs.Str.Parse.{digits_value}
 use Rattle.np_code_points.specs.Codes.{is_hex_digit}
 use Rattle.np_code_points.specs.inside.WordValues.{values_of, scalars_of, if_short}
-use Rattle.np_world.specs.Events.{Event, Accept, Deliver, Upgrade, Save, Restart, Ask, Forge, Forget}
+use Rattle.np_world.specs.Events.{Event, Accept, Deliver, Upgrade, Save, Restart, Ask, Forge, Forget, RestartUnder}
 use Rattle.np_world.specs.declared.reading.verbs.Verb.{Verb}
 use Rattle.np_world.specs.declared.reading.verbs.Verb.TheVariants as verb
 
@@ -82,21 +82,27 @@ unfoldable pub alone_value : Event → List (List ℕ) → Option Event
 alone_value event [] = Some event
 alone_value event (word ∷ words) = None
 
+-- a restart under the node's version, or under the one that the word behind the node names, of so many
+unfoldable pub restart_value : ℕ → ℕ → List (List ℕ) → Option Event
+restart_value versions node [] = Some (Restart node)
+restart_value versions node (word ∷ []) = option_map (RestartUnder node) (below_value versions word)
+restart_value versions node (word ∷ more ∷ words) = None
+
 -- what the words behind the node say
-abbrev pub said_value : Verb → ℕ → List (List ℕ) → Option Event
-said_value verb.Accept node words = option_map (Accept node) (scalars_of words)
-said_value verb.Deliver node words = deliver_value node words
-said_value verb.Upgrade node words = alone_value (Upgrade node) words
-said_value verb.Save node words = alone_value (Save node) words
-said_value verb.Restart node words = alone_value (Restart node) words
-said_value verb.Ask node words = option_map (λ (halves : List ℕ × List ℕ). Ask node halves.0 halves.1) (halves_value words)
-said_value verb.Forge node words = option_map (Forge node) (hex_words words)
-said_value verb.Forget node words = option_map (Forget node) (scalars_of words)
+abbrev pub said_value : ℕ → Verb → ℕ → List (List ℕ) → Option Event
+said_value versions verb.Accept node words = option_map (Accept node) (scalars_of words)
+said_value versions verb.Deliver node words = deliver_value node words
+said_value versions verb.Upgrade node words = alone_value (Upgrade node) words
+said_value versions verb.Save node words = alone_value (Save node) words
+said_value versions verb.Restart node words = restart_value versions node words
+said_value versions verb.Ask node words = option_map (λ (halves : List ℕ × List ℕ). Ask node halves.0 halves.1) (halves_value words)
+said_value versions verb.Forge node words = option_map (Forge node) (hex_words words)
+said_value versions verb.Forget node words = option_map (Forget node) (scalars_of words)
 
-abbrev pub at_node : ℕ → List ℕ → Verb → List (List ℕ) → Option Event
-at_node nodes at verb words = option_and_then (λ node. said_value verb node words) (below_value nodes at)
+abbrev pub at_node : ℕ → ℕ → List ℕ → Verb → List (List ℕ) → Option Event
+at_node versions nodes at verb words = option_and_then (λ node. said_value versions verb node words) (below_value nodes at)
 
-unfoldable pub event_value : ℕ → List (List ℕ) → Option Event
-event_value nodes [] = None
-event_value nodes (name ∷ []) = None
-event_value nodes (name ∷ at ∷ words) = option_and_then (λ verb. at_node nodes at verb words) (verb_named name)
+unfoldable pub event_value : ℕ → ℕ → List (List ℕ) → Option Event
+event_value versions nodes [] = None
+event_value versions nodes (name ∷ []) = None
+event_value versions nodes (name ∷ at ∷ words) = option_and_then (λ verb. at_node versions nodes at verb words) (verb_named name)

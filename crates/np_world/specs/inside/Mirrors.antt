@@ -8,6 +8,7 @@ use Rattle.np_node.specs.Images.{image_bytes}
 use Rattle.np_node.specs.Messages.{IsMessage}
 use Rattle.np_node.specs.Nodes.{State, state_of, strings_of, IsNode}
 use Rattle.np_node.specs.Strings.{Entry, IsEntry}
+use Rattle.np_tables.specs.Counts.{assigned_count}
 use Rattle.np_tables.specs.Versions.{VersionData}
 use Rattle.np_world.specs.World.{Setting, MachineNode, Scene}
 use Rattle.np_world.specs.declared.members.Common.{Common}
@@ -34,16 +35,22 @@ setting_of model rules = record { versions = map model rules.tables; form = rule
 abbrev pub saved_state : Setting → VersionData → List Entry → State
 saved_state setting version entries = record { version = version; form = setting.form; room = setting.room; entries = entries }
 
--- the bytes are the image of what the machine's node saved; where it never did there are none
-pub record HasImage (setting : Setting) (version : VersionData) (bytes : List ℕ) (saved : List (List ℕ)) : Type 0 where
+-- the bytes are the image of what the machine's node saved, under a version with no more assigned code points than its present
+-- one; where it never saved there are none
+pub record HasImage (setting : Setting) (version : VersionData) (bytes : List ℕ) (saved : List (List ℕ)) (saved_at : Option ℕ) : Type 0 where
+  pub at : ℕ
+  pub saver : VersionData
+  pub place : saved_at ≡ Some at
+  pub saver_is : slice_get setting.versions at ≡ Some saver
   pub entries : List Entry
-  pub spelling : bytes ≡ image_bytes (record { form = setting.form; entries = entries })
-  pub node : IsNode (saved_state setting version entries)
+  pub spelling : bytes ≡ image_bytes (record { needs = Some (assigned_count saver); form = setting.form; entries = entries })
+  pub node : IsNode (saved_state setting saver entries)
   pub strings : saved ≡ texts_of entries
+  pub no_fewer : assigned_count saver ≤ assigned_count version
 
-abbrev pub HasSaved : Setting → VersionData → Option (Vec ℕ Global) → List (List ℕ) → Type 0
-HasSaved setting version None saved = saved ≡ []
-HasSaved setting version (Some bytes) saved = HasImage setting version bytes.items saved
+abbrev pub HasSaved : Setting → VersionData → Option (Vec ℕ Global) → List (List ℕ) → Option ℕ → Type 0
+HasSaved setting version None saved saved_at = (saved ≡ []) × (saved_at ≡ None)
+HasSaved setting version (Some bytes) saved saved_at = HasImage setting version bytes.items saved saved_at
 
 -- a member has the place, the strings and the image of what the machine's node has
 pub record Mirrors {T : Type 0} (model : T → VersionData) (rules : Rules T) (member : Member T) (twin : MachineNode) : Type 0 where
@@ -53,7 +60,7 @@ pub record Mirrors {T : Type 0} (model : T → VersionData) (rules : Rules T) (m
   pub room : member.node.room ≡ rules.room
   pub node : IsNode (state_of model member.node)
   pub strings : twin.strings ≡ texts_of member.node.entries
-  pub saved : HasSaved (setting_of model rules) (model member.node.table) member.image twin.saved
+  pub saved : HasSaved (setting_of model rules) (model member.node.table) member.image twin.saved twin.saved_at
 
 -- the bytes are the message of a string that some node sent under its version
 pub record IsMessageOf (setting : Setting) (bytes string : List ℕ) : Type 0 where

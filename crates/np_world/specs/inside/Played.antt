@@ -1,15 +1,28 @@
 -- A report of a replay mirrors the machine's run.
-use Rattle.std.specs.Prelude.{List}
+use Rattle.std.specs.Prelude.{◌≡◌, ℕ, List}
+use Rattle.std.specs.declared.vec.Vec.{Vec}
+use Rattle.std.specs.declared.alloc.Global.{Global}
 use Rattle.np_code_points.specs.declared.forms.Form.{Form}
 use Rattle.np_tables.specs.Versions.{VersionData}
 use Rattle.np_world.specs.Events.{ScheduleData}
-use Rattle.np_world.specs.declared.report.Report.{Report}
+use Rattle.np_world.specs.Reports.{ReportData}
+use Rattle.np_world.specs.declared.members.Member.{Member}
+use Rattle.np_world.specs.declared.replies.Reply.{Reply}
 use Rattle.np_world.specs.inside.Mirrors.{Rules, AreRules}
+use Rattle.np_world.specs.inside.ReportViews.{report_of}
 use Rattle.np_world.specs.inside.Worlds.{EndsRun}
 
 abbrev pub rules_over : {T : Type 0} → List T → Form → ScheduleData → Rules T
 rules_over tables form schedule = record { tables = tables; form = form; room = schedule.room }
 
-pub record IsPlayed {T : Type 0} (model : T → VersionData) (tables : List T) (form : Form) (schedule : ScheduleData) (report : Report T) : Type 0 where
+-- the replies, the messages and the members mirror the machine's run
+pub record IsPlayedBy {T : Type 0} (model : T → VersionData) (tables : List T) (form : Form) (schedule : ScheduleData) (replies : List Reply) (told : List (Vec ℕ Global)) (members : List (Member T)) : Type 0 where
   pub rules_hold : AreRules model (rules_over tables form schedule)
-  pub ends : EndsRun model (rules_over tables form schedule) schedule.starts schedule.events report.replies.items report.members.items report.sent.items
+  pub ends : EndsRun model (rules_over tables form schedule) schedule.starts schedule.events replies members told
+
+pub record IsPlayed {T : Type 0} (model : T → VersionData) (tables : List T) (form : Form) (schedule : ScheduleData) (report : ReportData T) : Type 0 where
+  pub replies : List Reply
+  pub told : List (Vec ℕ Global)
+  pub members : List (Member T)
+  pub report_is : report ≡ report_of replies told members
+  pub by : IsPlayedBy model tables form schedule replies told members

@@ -45,38 +45,38 @@ NextRefuses says walk (Line line) = NextFalls says walk line ⊎ WalkEnds walk l
 NextRefuses says walk Memory = Unit {0}
 
 -- a line says one more event, and there may be so many
-pub record AddsEvent (nodes : ℕ) (old : List Event) (text : List ℕ) (new : List Event) : Type 0 where
+pub record AddsEvent (versions nodes : ℕ) (old : List Event) (text : List ℕ) (new : List Event) : Type 0 where
   pub event : Event
-  pub says : IsEventLine nodes text event
+  pub says : IsEventLine versions nodes text event
   pub grown : new ≡ old ++ event ∷ []
   pub most : length new ≤ 1000000
 
 -- it says none, or there may be no more; it is named
-pub record AddsNoEvent (nodes : ℕ) (old : List Event) (line : Numbered) (number : ℕ) : Type 0 where
-  pub none : IsNoneOf (IsEventLine nodes line.text) ⊎ (1000000 ≤ length old)
+pub record AddsNoEvent (versions nodes : ℕ) (old : List Event) (line : Numbered) (number : ℕ) : Type 0 where
+  pub none : IsNoneOf (IsEventLine versions nodes line.text) ⊎ (1000000 ≤ length old)
   pub here : number ≡ line.line
 
-abbrev pub AddsNone : ℕ → List Event → Numbered → ScheduleFault → Type 0
-AddsNone nodes old line (Line number) = AddsNoEvent nodes old line number
-AddsNone nodes old line Memory = Unit {0}
+abbrev pub AddsNone : ℕ → ℕ → List Event → Numbered → ScheduleFault → Type 0
+AddsNone versions nodes old line (Line number) = AddsNoEvent versions nodes old line number
+AddsNone versions nodes old line Memory = Unit {0}
 
 -- the lines before those left say these events
-pub record HasTaken (nodes : ℕ) (lines left : List Numbered) (events : List Event) : Type 0 where
+pub record HasTaken (versions nodes : ℕ) (lines left : List Numbered) (events : List Event) : Type 0 where
   pub done : List Numbered
   pub stands : lines ≡ done ++ left
-  pub says : AreEventLines nodes done events
+  pub says : AreEventLines versions nodes done events
 
 -- the first line that can't stand among the events
-pub record IsUnfitEvent (nodes : ℕ) (lines : List Numbered) (number : ℕ) : Type 0 where
+pub record IsUnfitEvent (versions nodes : ℕ) (lines : List Numbered) (number : ℕ) : Type 0 where
   pub before : List Numbered
   pub unfit : Numbered
   pub behind : List Numbered
   pub lines_are : lines ≡ before ++ unfit ∷ behind
   pub events : List Event
-  pub stand : AreEventLines nodes before events
-  pub falls : IsNoneOf (AreEventLines nodes (before ++ unfit ∷ []))
+  pub stand : AreEventLines versions nodes before events
+  pub falls : IsNoneOf (AreEventLines versions nodes (before ++ unfit ∷ []))
   pub here : number ≡ unfit.line
 
-abbrev pub NamesUnfit : ℕ → List Numbered → ScheduleFault → Type 0
-NamesUnfit nodes lines (Line line) = IsUnfitEvent nodes lines line
-NamesUnfit nodes lines Memory = Unit {0}
+abbrev pub NamesUnfit : ℕ → ℕ → List Numbered → ScheduleFault → Type 0
+NamesUnfit versions nodes lines (Line line) = IsUnfitEvent versions nodes lines line
+NamesUnfit versions nodes lines Memory = Unit {0}

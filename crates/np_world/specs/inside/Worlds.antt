@@ -1,5 +1,5 @@
 -- How the nodes and messages of a replay mirror the machine's world.
-use Rattle.std.specs.Prelude.{◌≡◌, ◌↔◌, ◌⊎◌, ℕ, List, [], ◌∷◌, Option, slice_get, Contains, IsSome}
+use Rattle.std.specs.Prelude.{◌≡◌, ◌↔◌, ◌⊎◌, ℕ, List, [], ◌∷◌, Option, None, slice_get, Contains, IsSome}
 use Rattle.std.specs.Option.{option_and_then, option_map}
 use Rattle.std.specs.declared.vec.Vec.{Vec}
 use Rattle.std.specs.declared.alloc.Global.{Global}
@@ -35,7 +35,7 @@ Steps model rules old sent event reply new told =
 
 -- a node at the start
 abbrev pub first_node : ℕ → MachineNode
-first_node index = record { index = index; strings = []; saved = [] }
+first_node index = record { index = index; strings = []; saved = []; saved_at = None }
 
 -- the last image of a member, and of the member of a number
 abbrev pub image_in : {T : Type 0} → Member T → Option (List ℕ)

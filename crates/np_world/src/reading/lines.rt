@@ -8,7 +8,7 @@ ghost use Rattle.np_world.specs.inside.LineValues.{below_value, event_value, roo
 ghost use Rattle.np_world.specs.inside.Rust.{event_of};
 
 use crate::events::EventLine;
-use crate::reading::arms::event_at;
+use crate::reading::arms::{Limits, event_at};
 pub(crate) use crate::reading::faults::LineFault;
 use crate::reading::numbers::{number_below, number_in};
 use crate::reading::verbs::Verb;
@@ -99,12 +99,11 @@ pub(crate) fn starts_in(
 #[tactic(auto, unfolding(crate::specs::inside::LineValues::event_value))]
 fn event_of_words(
     alloc: Global,
-    most: usize,
+    limits: Limits,
     mut words: Words<'_>,
-    nodes: usize,
 ) -> Result<EventLine, LineFault>
-    ensures event { IfOk result (λ event. event_value nodes words.entry ≡ Some (event_of event)) }
-    ensures refused { IfErr result (Lacks (event_value nodes words.entry)) }
+    ensures event { IfOk result (λ event. event_value limits.versions limits.nodes words.entry ≡ Some (event_of event)) }
+    ensures refused { IfErr result (Lacks (event_value limits.versions limits.nodes words.entry)) }
 {
     let Some(name) = words.next() else {
         return Err(LineFault::Unfit);
@@ -115,21 +114,32 @@ fn event_of_words(
     let Some(verb) = Verb::of_name(name) else {
         return Err(LineFault::Unfit);
     };
-    let Some(node) = number_below(at, nodes) else {
+    let Some(node) = number_below(at, limits.nodes) else {
         return Err(LineFault::Unfit);
     };
-    event_at(alloc, most, verb, node, words)
+    event_at(alloc, limits, verb, node, words)
 }
 
-/// The event that a line says, where it is a line of an event over so many nodes: its name, a
-/// number below that of the nodes, and what belongs to such an event. In time linear in the line.
+/// The event that a line says, where it is a line of an event over so many versions and nodes: its
+/// name, a number below that of the nodes, and what belongs to such an event. In time linear in the
+/// line.
 ///
 /// # Errors
 ///
 /// `Unfit` where it is no such line, `Memory` where memory ran out.
-pub(crate) fn event_in(alloc: Global, text: &[u8], nodes: usize) -> Result<EventLine, LineFault>
-    ensures ok { IfOk result (λ event. IsEventLine nodes text.now (event_of event)) }
-    ensures refused { IfErr result (Refuses (IsEventLine nodes text.now)) }
+pub(crate) fn event_in(
+    alloc: Global,
+    text: &[u8],
+    versions: usize,
+    nodes: usize,
+) -> Result<EventLine, LineFault>
+    ensures ok { IfOk result (λ event. IsEventLine versions nodes text.now (event_of event)) }
+    ensures refused { IfErr result (Refuses (IsEventLine versions nodes text.now)) }
 {
-    event_of_words(alloc, text.len(), Words::new(text, Dividers::Blanks), nodes)
+    let limits = Limits {
+        versions,
+        nodes,
+        bytes: text.len(),
+    };
+    event_of_words(alloc, limits, Words::new(text, Dividers::Blanks))
 }

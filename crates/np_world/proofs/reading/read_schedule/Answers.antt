@@ -40,11 +40,11 @@ returns-in_err-events-clause-refused c =
     let start = begins c.args.bytes.now c.new-lines.result c.lines.ensures c.new-lines.ensures.lines c.new-lines.ensures.total in
     let nodes : c.len.result ≡ length c.in_ok-starts.starts.items = search rules in
     let left = c.read_starts.new.lines.left in
-    let here : IfErr c.from_residual-in_err-events.result (NamesUnfit c.len.result left) = search rules in
-    IfErr-weaker c.from_residual-in_err-events.result (NamesUnfit c.len.result left) (NamesLine c.args.bytes.now c.args.versions)
+    let here : IfErr c.from_residual-in_err-events.result (NamesUnfit c.args.versions c.len.result left) = search rules in
+    IfErr-weaker c.from_residual-in_err-events.result (NamesUnfit c.args.versions c.len.result left) (NamesLine c.args.bytes.now c.args.versions)
     (λ e unfit. events_refused c.args.bytes.now c.args.versions c.new-lines.result c.read_room.new.lines c.read_starts.new.lines
     c.in_ok-room.room c.in_ok-starts.starts.items e start c.in_ok-room.ensures.room c.in_ok-starts.ensures.starts
-    (subst (λ n. NamesUnfit n left e) nodes unfit))
+    (subst (λ n. NamesUnfit c.args.versions n left e) nodes unfit))
     here
 
 pub new-requires : goal.new-requires
@@ -54,7 +54,7 @@ new-requires c =
     is_standable c.new-lines.result c.read_room.new.lines c.read_starts.new.lines
     (schedule_data c.args.versions c.in_ok-room.room c.in_ok-starts.starts.items c.in_ok-events.events.items)
     c.in_ok-room.ensures.room c.in_ok-starts.ensures.starts
-    (subst (λ n. AreEventLines n c.read_starts.new.lines.left events) nodes c.in_ok-events.ensures.events)
+    (subst (λ n. AreEventLines c.args.versions n c.read_starts.new.lines.left events) nodes c.in_ok-events.ensures.events)
 
 pub returns-clause-schedule : goal.returns-clause-schedule
 returns-clause-schedule c =
@@ -65,4 +65,4 @@ returns-clause-schedule c =
     (says_schedule c.args.bytes.now c.new-lines.result c.read_room.new.lines c.read_starts.new.lines
     (schedule_data c.args.versions c.in_ok-room.room c.in_ok-starts.starts.items c.in_ok-events.events.items)
     start c.in_ok-room.ensures.room c.in_ok-starts.ensures.starts
-    (subst (λ n. AreEventLines n c.read_starts.new.lines.left events) nodes c.in_ok-events.ensures.events))
+    (subst (λ n. AreEventLines c.args.versions n c.read_starts.new.lines.left events) nodes c.in_ok-events.ensures.events))

@@ -1,8 +1,9 @@
-use Rattle.std.proofs.Common.{map, sym, arith}
+use Rattle.std.proofs.Common.{map, ap, arith}
 use Rattle.std.proofs.lemmas.List.{length-map, with_items_is}
 use Rattle.np_world.specs.World.{start}
 use Rattle.np_world.specs.inside.Worlds.{first_node}
 use Rattle.np_world.specs.inside.Mirrors.{rules_of}
+use Rattle.np_world.specs.inside.ReportViews.{report_of}
 use Rattle.np_world.specs.inside.Rust.{event_of}
 use Rattle.np_world.proofs.RunLemmas.{count_ends, length-mirrored, played}
 use Rattle.np_world.proofs.replays.play.Goals as goal
@@ -17,5 +18,7 @@ returns g c =
     let begun = length-mirrored model (rules_of common) v.items (start starts).nodes c.in_ok-members.ensures.nodes in
     let many = length-map starts first_node in
     let ended = count_ends model (rules_of common) starts (map event_of c.events.result.now) c.in_ok-replies.field-0.replies.items ws c.in_ok-replies.field-0.sent.items c.in_ok-replies.ensures in
-    played model common.chain.now common.form c.args.schedule.now _ common.room starts (map event_of c.events.result.now) ws c.requires.rules c.requires.room c.starts-starts.ensures c.events.ensures
-    (sym (with_items_is v ws (omega (arith, begun, many, ended)))) c.in_ok-replies.ensures
+    let told = c.in_ok-replies.field-0.sent.items in
+    played model common.chain.now common.form c.args.schedule.now _ common.room starts (map event_of c.events.result.now) c.in_ok-replies.field-0.replies.items told ws
+    c.requires.rules c.requires.room c.starts-starts.ensures c.events.ensures
+    (ap (report_of c.in_ok-replies.field-0.replies.items told) (with_items_is v ws (omega (arith, begun, many, ended)))) c.in_ok-replies.ensures

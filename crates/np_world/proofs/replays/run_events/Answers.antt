@@ -1,8 +1,9 @@
 use Rattle.std.proofs.Common.{◌<◌, length, map, subst, sym, take}
 use Rattle.np_world.specs.Events.{node_of}
+use Rattle.np_world.specs.Schedules.{NamesVersion}
 use Rattle.np_world.specs.inside.Mirrors.{rules_of}
 use Rattle.np_world.specs.inside.Rust.{event_of}
-use Rattle.np_world.proofs.RunLemmas.{count_ends, ends-more, named_at}
+use Rattle.np_world.proofs.RunLemmas.{count_ends, ends-more, named_at, version_at}
 use Rattle.np_world.proofs.replays.run_events.Goals as goal
 
 pub step-requires-clause-named : goal.step-requires-clause-named
@@ -13,6 +14,12 @@ step-requires-clause-named g c =
     let count = count_ends model rules c.args.starts.now (map event_of (take i c.args.events.now)) c.loop-event.replies.items c.loop-event.members c.loop-event.sent.items c.loop-event.invariant in
     let named = named_at (length c.args.starts.now) c.args.events.now i c.event-item.result c.requires.named c.loop-event-test.true in
     subst (λ n. node_of (event_of c.event-item.result) < n) (sym count) (subst (λ e. node_of (event_of e) < length c.args.starts.now) (sym c.event-item.is) named)
+
+pub step-requires-clause-version : goal.step-requires-clause-version
+step-requires-clause-version g c =
+    let versions = length c.args.common.now.chain.now in
+    subst (λ e. NamesVersion versions (event_of e)) (sym c.event-item.is)
+    (version_at versions c.args.events.now c.loop-event.event-index c.event-item.result c.requires.versions c.loop-event-test.true)
 
 pub loop-event-preserved : goal.loop-event-preserved
 loop-event-preserved g c =

@@ -18,6 +18,14 @@ restart-requires g c =
     let within = ap node_of (ap event_of c.in-Restart.is) in
     ready_at g.T.NormTable.model (rules_of c.args.common.now) c.args.members.now c.args.sent.now.items c.in-Restart.node c.index-members-node-in-Restart.result c.requires.shown (omega (arith, c.requires.named, within))
 
+pub restart_under-requires-clause-ready : goal.restart_under-requires-clause-ready
+restart_under-requires-clause-ready g c =
+    let within = ap node_of (ap event_of c.in-RestartUnder.is) in
+    ready_at g.T.NormTable.model (rules_of c.args.common.now) c.args.members.now c.args.sent.now.items c.in-RestartUnder.node c.index-members-node-in-RestartUnder.result c.requires.shown (omega (arith, c.requires.named, within))
+
+pub restart_under-requires-clause-within : goal.restart_under-requires-clause-within
+restart_under-requires-clause-within g c = c.requires.version c.in-RestartUnder.node c.in-RestartUnder.version (ap event_of c.in-RestartUnder.is)
+
 pub returns-in-Accept-clause-step : goal.returns-in-Accept-clause-step
 returns-in-Accept-clause-step g c =
     ok_stepped g.T.NormTable.model (rules_of c.args.common.now) c.args.members.now c.args.sent.now.items c.accept.new.sent.items (ap event_of c.in-Accept.is ∙ ap (λ b. Accept c.in-Accept.node (chars b)) (sym c.as_str.ensures.value)) c.requires.named
@@ -93,3 +101,12 @@ returns-in-Forget-clause-step g c =
 pub returns-in-Forget-clause-images : goal.returns-in-Forget-clause-images
 returns-in-Forget-clause-images g c =
     images_kept (event_of c.args.event.now) c.args.members.now c.in-Forget.node c.index-members-node-in-Forget.result c.forget.new.member (ap saves (ap event_of c.in-Forget.is)) c.forget.ensures.image
+
+pub returns-in-RestartUnder-clause-step : goal.returns-in-RestartUnder-clause-step
+returns-in-RestartUnder-clause-step g c =
+    ok_stepped g.T.NormTable.model (rules_of c.args.common.now) c.args.members.now c.args.sent.now.items c.args.sent.now.items (ap event_of c.in-RestartUnder.is) c.requires.named
+    c.index-members-node-in-RestartUnder.result c.restart_under.new.member c.restart_under.result (c.restart_under.ensures.turn c.args.sent.now.items)
+
+pub returns-in-RestartUnder-clause-images : goal.returns-in-RestartUnder-clause-images
+returns-in-RestartUnder-clause-images g c =
+    ok_any _ _ (λ reply. images_kept (event_of c.args.event.now) c.args.members.now c.in-RestartUnder.node c.index-members-node-in-RestartUnder.result c.restart_under.new.member (ap saves (ap event_of c.in-RestartUnder.is)) c.restart_under.ensures.image)

@@ -1,4 +1,4 @@
-use Rattle.std.proofs.Common.{List, ℕ, Bool, sym, subst}
+use Rattle.std.proofs.Common.{List, Bool, sym, subst}
 use Rattle.np_node.proofs.ForgetLemmas.{removed}
 use Rattle.np_node.specs.Strings.{Entry}
 use Rattle.np_node.specs.inside.Removed.{IsRemoved}

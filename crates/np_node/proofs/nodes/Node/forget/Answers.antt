@@ -1,7 +1,6 @@
-use Rattle.std.proofs.Common.{List, sym, subst}
+use Rattle.std.proofs.Common.{subst}
 use Rattle.np_node.proofs.ForgetLemmas.{forgotten}
 use Rattle.np_node.specs.Forgetting.{Forgets}
-use Rattle.np_node.specs.Nodes.{NodeState}
 use Rattle.np_node.proofs.nodes.Node.forget.Goals as goal
 
 pub invariant_of-self : goal.invariant_of-self
