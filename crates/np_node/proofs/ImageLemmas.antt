@@ -172,8 +172,8 @@ abbrev Counts : Needs → List ℕ → Option ℕ → Type 0
 Counts t rest o = ((length rest < 4) × (o ≡ Some (5 + length (needs_bytes t)))) ⊎ ((n : ℕ) × (us : List ℕ) × (n < 2 ^ 32) × (rest ≡ number_bytes n ++ us) × Entries t n us o)
 
 -- behind the form's byte of the second layout
-abbrev Tells : List ℕ → Option ℕ → Type 0
-Tells rest o = ((length rest < 4) × (o ≡ Some 5)) ⊎ ((n : ℕ) × (us : List ℕ) × (n < 2 ^ 32) × (rest ≡ number_bytes n ++ us) × Counts (Some n) us o)
+abbrev TellsNeeds : List ℕ → Option ℕ → Type 0
+TellsNeeds rest o = ((length rest < 4) × (o ≡ Some 5)) ⊎ ((n : ℕ) × (us : List ℕ) × (n < 2 ^ 32) × (rest ≡ number_bytes n ++ us) × Counts (Some n) us o)
 
 -- behind the name
 abbrev Forms : (List ℕ → Option ℕ → Type 0) → List ℕ → Option ℕ → Type 0
@@ -188,7 +188,7 @@ second_name = codes "NPS2"
 abbrev Stops : List ℕ → Option ℕ → Type 0
 Stops bytes o =
     (((needs : Needs) (rest : List ℕ) → bytes ≢ image_name needs ++ rest) × (o ≡ Some 0))
-    ⊎ (((rest : List ℕ) × (bytes ≡ first_name ++ rest) × Forms (Counts None) rest o) ⊎ ((rest : List ℕ) × (bytes ≡ second_name ++ rest) × Forms Tells rest o))
+    ⊎ (((rest : List ℕ) × (bytes ≡ first_name ++ rest) × Forms (Counts None) rest o) ⊎ ((rest : List ℕ) × (bytes ≡ second_name ++ rest) × Forms TellsNeeds rest o))
 
 abbrev IsOne : (List ℕ → Option ℕ → Type 0) → Type 0
 IsOne Next = (rest : List ℕ) (o p : Option ℕ) → Next rest o → Next rest p → p ≡ o
@@ -229,7 +229,7 @@ one_count t rest o p (inr (m, us, lt, split, more)) (inr (n, ws, lt', split', mo
     let cut = one_number m n us ws lt lt' (sym split ∙ split') in
     one_entries t m us o p more (subst (λ (k : ℕ). Entries t k us p) (sym cut.0) (subst (λ l. Entries t n l p) (sym cut.1) more'))
 
-one_telling : IsOne Tells
+one_telling : IsOne TellsNeeds
 one_telling rest o p (inl (short, is)) (inl (short', js)) = js ∙ sym is
 one_telling rest o p (inl (short, is)) (inr (n, us, lt, split, more)) = absurd (short-number rest us n short split)
 one_telling rest o p (inr (n, us, lt, split, more)) (inl (short, js)) = absurd (short-number rest us n short split)
@@ -254,7 +254,7 @@ one_stop bytes o p (inr (inr (rest, split, more))) (inl (lacks, js)) = absurd (l
 one_stop bytes o p (inr (inl (us, split, more))) (inr (inl (ws, split', more'))) =
     let same = append_cancel_left first_name us ws (sym split ∙ split') in one_form (Counts None) (one_count None) us o p more (subst (λ l. Forms (Counts None) l p) (sym same) more')
 one_stop bytes o p (inr (inr (us, split, more))) (inr (inr (ws, split', more'))) =
-    let same = append_cancel_left second_name us ws (sym split ∙ split') in one_form Tells one_telling us o p more (subst (λ l. Forms Tells l p) (sym same) more')
+    let same = append_cancel_left second_name us ws (sym split ∙ split') in one_form TellsNeeds one_telling us o p more (subst (λ l. Forms TellsNeeds l p) (sym same) more')
 one_stop bytes o p (inr (inl (us, split, more))) (inr (inr (ws, split', more'))) = absurd (names_differ 0 us ws (sym split ∙ split'))
 one_stop bytes o p (inr (inr (us, split, more))) (inr (inl (ws, split', more'))) = absurd (names_differ 0 ws us (sym split' ∙ split))
 

@@ -52,7 +52,7 @@ abbrev pub IsFieldFault : List ℕ → ℕ → Type 0
 IsFieldFault bytes at = LacksNumber bytes at ⊎ LacksBytes bytes at
 
 -- a string is in front, and no whole key follows it
-pub record LacksKey (bytes : List ℕ) (at : ℕ) : Type 0 where
+pub record LacksKeyField (bytes : List ℕ) (at : ℕ) : Type 0 where
   pub string : List ℕ
   pub rest : List ℕ
   pub inner : ℕ
@@ -63,7 +63,7 @@ pub record LacksKey (bytes : List ℕ) (at : ℕ) : Type 0 where
 
 -- no whole string and key are in front
 abbrev pub IsEntryFault : List ℕ → ℕ → Type 0
-IsEntryFault bytes at = IsFieldFault bytes at ⊎ LacksKey bytes at
+IsEntryFault bytes at = IsFieldFault bytes at ⊎ LacksKeyField bytes at
 
 -- a string is in front, and neither marker behind it
 pub record LacksMarker (bytes : List ℕ) (at : ℕ) : Type 0 where

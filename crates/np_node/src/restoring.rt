@@ -1,7 +1,7 @@
 //! Nodes from their images.
-ghost use Rattle.std.specs.Prelude.{◌≡◌, ◌≤◌, ℕ, None, IfErr, OnOk};
-ghost use Rattle.np_node.specs.Restoring.{AnswersRestore, IsOlder, NeedsMore};
-ghost use Rattle.np_node.specs.declared.faults.NodeFault.TheVariants.{OlderTables};
+ghost use Rattle.std.specs.Prelude.{◌≡◌, ◌≤◌, None, IfErr, OnOk};
+ghost use Rattle.np_node.specs.Restoring.{AnswersRestore, IsOlder};
+ghost use Rattle.np_node.specs.inside.Shapes.{IsOlderRefusal};
 
 use crate::faults::{ImageFault, NodeFault};
 use crate::fields::{Fields, Told};
@@ -22,7 +22,7 @@ fn whole(fault: NodeFault) -> ImageFault
 /// Whether a table has as many assigned code points as an image needs.
 fn check_needs<T: NormTable>(table: &T, needs: Option<u32>) -> Result<(), ImageFault>
     ensures ok { OnOk result (¬ IsOlder (T.model table.now) needs) }
-    ensures err { IfErr result (λ refused. (need : ℕ) × (have : ℕ) × (refused ≡ record { entry = None; fault = OlderTables need have }) × NeedsMore (T.model table.now) needs need have) }
+    ensures err { IfErr result (IsOlderRefusal (T.model table.now) needs) }
 {
     let Some(need) = needs else {
         return Ok(());

@@ -1,10 +1,10 @@
 //! What a node answers to strings.
-use super::{letters, wants_kept, wants_known, wants_refused, wants_taken};
+use super::{letters, wants_kept, wants_known, wants_no_node, wants_refused, wants_taken};
 use crate::common::{Example, Made, V1, V2, holds_over_each, table_of, want};
 use np_chain::{Break, BreakKind};
-use np_code_points::Form;
 use np_code_points::told::want_told;
-use np_node::{Accepted, Node, NodeFault, Taken};
+use np_code_points::{Form, Memory};
+use np_node::{Accepted, ImageFault, Node, NodeFault, Taken};
 use np_tables::NormTable;
 use std::alloc::Global;
 use std::test::Fail;
@@ -66,34 +66,47 @@ fn wants_shown<T: NormTable>(alloc: Global, node: &Node<'_, T>) -> Result<(), Fa
     )
 }
 
-fn longest<T: NormTable>(alloc: Global, table: &T) -> Result<(), Fail> {
+/// These bytes, and behind them a string of 65,537 bytes and itself as key.
+fn behind(alloc: Global, front: &[u8], string: &[u8]) -> Result<Vec<u8>, Memory> {
+    let mut bytes = Vec::new(alloc);
+    bytes.extend_from_slice(front)?;
+    bytes.extend_from_slice(b"\0\x01\0\x01")?;
+    bytes.extend_from_slice(string)?;
+    bytes.extend_from_slice(b"\0\x01\0\x01")?;
+    bytes.extend_from_slice(string)?;
+    Ok(bytes)
+}
+
+/// A string that is too long is refused by each call.
+fn too_long<T: NormTable>(alloc: Global, table: &T) -> Result<(), Fail> {
     let mut node = Node::new(alloc, table, Form::Nfc, 4);
     let over = letters(alloc, 65_537)?;
     wants_refused(&mut node, &over, NodeFault::TooLong, "65,537 bytes")?;
+    let message = behind(alloc, b"C", &over)?;
+    wants_taken(&mut node, &message, Err(NodeFault::TooLong), "told")?;
+    let image = behind(alloc, b"NPS1C\0\0\0\x01", &over)?;
+    let wanted = ImageFault {
+        entry: Some(0),
+        fault: NodeFault::TooLong,
+    };
+    wants_no_node(alloc, table, 4, &image, wanted, "saved")
+}
+
+fn longest<T: NormTable>(alloc: Global, table: &T) -> Result<(), Fail> {
+    let mut node = Node::new(alloc, table, Form::Nfc, 4);
     let most = letters(alloc, 65_536)?;
-    want(node.accept(&most).is_ok(), "65,536 bytes")?;
+    match node.accept(&most)? {
+        Accepted::Kept(message) => {
+            let mut other = Node::new(alloc, table, Form::Nfc, 4);
+            wants_taken(&mut other, &message, Ok(Taken::Kept), "65,536 bytes told")?;
+        }
+        Accepted::Known => return Err(Fail::new("known before it is kept")),
+    }
     wants_known(&mut node, &most, "65,536 bytes again")?;
-    longest_told(alloc, table, &over, NodeFault::TooLong)?;
     longest_restored(alloc, &node)
 }
 
-/// A message that tells a string beside itself is refused.
-fn longest_told<T: NormTable>(
-    alloc: Global,
-    table: &T,
-    string: &[u8],
-    fault: NodeFault,
-) -> Result<(), Fail> {
-    let mut message = Vec::new(alloc);
-    message.extend_from_slice(b"C\0\x01\0\x01")?;
-    message.extend_from_slice(string)?;
-    message.extend_from_slice(b"\0\x01\0\x01")?;
-    message.extend_from_slice(string)?;
-    let mut node = Node::new(alloc, table, Form::Nfc, 4);
-    wants_taken(&mut node, &message, Err(fault), "65,537 bytes told")
-}
-
-/// A node's longest string is told to another, and stands in its image.
+/// A node's longest string stands in its image.
 fn longest_restored<T: NormTable>(alloc: Global, node: &Node<'_, T>) -> Result<(), Fail> {
     let image = node.image()?;
     want(image.len() == 65_554, "an image of 65,554 bytes")?;
@@ -129,6 +142,7 @@ fn kept_once<T: NormTable>(alloc: Global, table: &T) -> Result<(), Fail> {
     empty_string(alloc, table)?;
     no_room(alloc, table)?;
     little_room(alloc, table)?;
+    too_long(alloc, table)?;
     longest(alloc, table)?;
     unlike_strings(alloc, table)
 }

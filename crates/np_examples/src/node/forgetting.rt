@@ -71,12 +71,17 @@ fn strings_are_forgotten(rt: HostRuntime) -> Result<(), Fail> {
     holds_over_each(rt.alloc(), V1, &Forgotten)
 }
 
+/// One of 256 private letters.
+fn letter(number: u32) -> Result<char, Fail> {
+    let letter = char::from_u32(0xE000 + number % 256).ok_or("a private letter")?;
+    Ok(letter)
+}
+
 /// A string of two private letters, one for each number below 65,536.
 fn string_of(alloc: Global, number: u32) -> Result<String, Fail> {
     let mut string = String::new(alloc);
-    for letter in [number / 256, number % 256] {
-        string.push(char::from_u32(0xE000 + letter).ok_or("a private letter")?)?;
-    }
+    string.push(letter(number / 256)?)?;
+    string.push(letter(number)?)?;
     Ok(string)
 }
 

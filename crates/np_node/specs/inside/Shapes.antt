@@ -4,10 +4,10 @@ use Rattle.np_code_points.specs.declared.forms.Form.{Form}
 use Rattle.np_node.specs.Fields.{FitsFields}
 use Rattle.np_node.specs.Images.{Needs, IsImage, head_bytes, entries_bytes}
 use Rattle.np_node.specs.Nodes.{NodeState, State}
-use Rattle.np_node.specs.Restoring.{AreRight, HasRoom, IsWrong, place_behind}
+use Rattle.np_node.specs.Restoring.{AreRight, HasRoom, IsWrong, NeedsMore, place_behind}
 use Rattle.np_node.specs.Strings.{Entry}
 use Rattle.np_node.specs.declared.faults.ImageFault.{ImageFault}
-use Rattle.np_node.specs.declared.faults.NodeFault.TheVariants.{Memory}
+use Rattle.np_node.specs.declared.faults.NodeFault.TheVariants.{Memory, OlderTables}
 use Rattle.np_node.specs.declared.fields.Fields.{Fields}
 use Rattle.np_node.specs.declared.images.Layout.{Layout}
 use Rattle.np_node.specs.declared.images.Layout.TheVariants.{First, Second}
@@ -34,7 +34,8 @@ pub record HasRead (bytes : List ℕ) (here : Fields) (needs : Needs) (form : Fo
   pub place : here.at ≡ place_behind needs form count entries
 
 -- the node has the first n entries of an image, each of them right, and the reader stands before the others
-pub record IsFilling {T : Type 0} (model : T → VersionData) (empty node : NodeState T) (bytes : List ℕ) (needs : Needs) (count : ℕ) (here : Fields) (n : ℕ) : Type 0 where
+pub record IsFilling {T : Type 0} (model : T → VersionData) (empty node : NodeState T) (bytes : List ℕ) (needs : Needs) (count : ℕ) (here : Fields)
+    (n : ℕ) : Type 0 where
   pub entries : List Entry
   pub spelled : IsImage bytes (record { needs = needs; form = empty.form; entries = entries })
   pub counted : length entries ≡ count
@@ -43,6 +44,11 @@ pub record IsFilling {T : Type 0} (model : T → VersionData) (empty node : Node
   pub right : AreRight (model empty.table) empty.form (take n entries)
   pub left_is : left_of here ≡ entries_bytes needs (drop n entries)
   pub place : here.at ≡ place_behind needs empty.form count (take n entries)
+
+-- the whole image is refused, since it needs more code points than the version has
+abbrev pub IsOlderRefusal : VersionData → Needs → ImageFault → Type 0
+IsOlderRefusal v needs refused =
+    (need : ℕ) × (have : ℕ) × (refused ≡ record { entry = None; fault = OlderTables need have }) × NeedsMore v needs need have
 
 -- want of memory, without the entry's number, or what is wrong with an entry that comes to a node, with its number
 abbrev pub IsEntryRefusal : State → Entry → ℕ → ℕ → ImageFault → Type 0
