@@ -268,9 +268,9 @@ fn faults_of_schedules_have_lines(rt: HostRuntime) -> Result<(), Fail> {
 }
 
 /// Versions that are no chain.
-const CHAINS: [(ReplayFault, u8, &str); 2] = [
+const CHAINS: [(JobFault, u8, &str); 2] = [
     (
-        ReplayFault::NotExtension {
+        JobFault::NotExtension {
             version: 1,
             brk: Break {
                 kind: BreakKind::Lost,
@@ -281,7 +281,7 @@ const CHAINS: [(ReplayFault, u8, &str); 2] = [
         "not an extension: version 1 Lost 1DFA\n",
     ),
     (
-        ReplayFault::NotExtension {
+        JobFault::NotExtension {
             version: 12,
             brk: Break {
                 kind: BreakKind::NewComposite,
@@ -295,7 +295,7 @@ const CHAINS: [(ReplayFault, u8, &str); 2] = [
 
 #[test]
 fn versions_that_are_no_chain_have_lines(rt: HostRuntime) -> Result<(), Fail> {
-    are_told(rt.alloc(), &CHAINS, &replay)
+    are_told(rt.alloc(), &CHAINS, &itself)
 }
 
 /// Faults of no input.
