@@ -3,7 +3,7 @@
 from dataclasses import dataclass
 
 from harness import ROOT
-from versions import BAD_DATA, BAD_TABLES, EXCLUSIONS, LIMIT, S, V1, V2, good_files
+from versions import BAD_DATA, BAD_TABLES, EXCLUSIONS, LIMIT, ODD_NAMES, S, V1, V2, good_files
 
 # The usage text is that of the stored run, which tests/fixtures.py compares with docs/FORMATS.md.
 USAGE = (ROOT / "crates" / "npss" / "stdout").read_text(encoding="utf-8")
@@ -223,6 +223,21 @@ def word_cases():
     yield Case(["audit", *V1, *V1], out=b"extends\n")
 
 
+def name_cases():
+    """A file is opened by its name as it stands in the words, with blanks and line ends at its ends."""
+    given, wanted = text("0061 0302 0323"), text("1EAD")
+    for data, exclusions in ODD_NAMES:
+        yield Case(["key", "--form", "nfc", "--", data, exclusions], given, wanted)
+        yield Case(["audit", "--", data, exclusions, *V2], out=b"extends\n")
+        yield Case(["audit", "--", *V2, data, exclusions], out=LOST.encode(), status=DIFFERENT)
+    for name in (" v1/UnicodeData.txt", "v1/UnicodeData.txt ", "v1/UnicodeData.txt\n"):
+        yield refused(["key", "--form", "nfc", name, V1[1]], f"cannot open {name}", DEVICE)
+        yield refused(["key", "--form", "nfc", V1[0], name], f"cannot open {name}", DEVICE)
+    # of two that don't open the first is told
+    yield refused(["key", "--form", "nfc", "nothing", "never"], "cannot open nothing", DEVICE)
+    yield refused(["audit", V1[0], "nothing", "never", V1[1]], "cannot open nothing", DEVICE)
+
+
 def under_cases():
     """Keys under an earlier version: the flag and the form at each place, and what is refused in which order."""
     files = [*V1, *V2]
@@ -368,6 +383,6 @@ def order_cases():
 
 def all_cases():
     """All of them."""
-    for group in (usage_cases, word_cases, under_cases, form_cases, worked_cases, input_cases, compare_cases, audit_cases,
+    for group in (usage_cases, word_cases, name_cases, under_cases, form_cases, worked_cases, input_cases, compare_cases, audit_cases,
                   file_cases, order_cases):
         yield from group()
