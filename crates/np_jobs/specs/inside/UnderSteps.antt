@@ -12,7 +12,7 @@ use Rattle.np_jobs.specs.declared.ending.Made.{Made}
 -- the new version extends the old one, and the input was answered
 pub record MakesOfPair (form : Form) (old new : VersionData) (input : Stream) (made : Made) : Type 0 where
   pub extends : Extends old new
-  pub made : IsMadeOfText (IsKeyUnder form old new) input made.is_yes (string_bytes made.text)
+  pub answered : IsMadeOfText (IsKeyUnder form old new) input made.is_yes (string_bytes made.text)
 
 -- the code points before `rest` were read of a text, and the version assigns each
 pub record IsPassed (v : VersionData) (text rest : List ℕ) : Type 0 where
