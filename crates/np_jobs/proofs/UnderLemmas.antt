@@ -1,5 +1,5 @@
--- Texts that were read up to some place, under a version that assigns what was read.
-use Rattle.std.proofs.Common.{◌≡◌, ℕ, ◌-◌, ◌&&◌, true, false, List, [], ◌∷◌, ◌++◌, length, chars, IsUtf8, encode_utf8, encode_utf8_all, refl, sym, ap, ◌∙◌, arith, append_assoc, append-nil, length-append}
+-- Texts that were read up to some place, under a version that assigns what was read; and what is made of two versions.
+use Rattle.std.proofs.Common.{◌≡◌, ℕ, ◌-◌, ◌&&◌, true, false, List, [], ◌∷◌, ◌++◌, length, chars, string_bytes, IsUtf8, encode_utf8, encode_utf8_all, refl, sym, ap, ◌∙◌, arith, append_assoc, append-nil, length-append}
 use Rattle.std.proofs.lemmas.Bool.{and_from}
 use Rattle.std.proofs.lemmas.List.{nil_from_length}
 use Rattle.std.proofs.lemmas.List.Folds.{list_all-append}
@@ -7,7 +7,12 @@ use Rattle.std.proofs.lemmas.Str.{chars-nil, chars_past_char, encodes-append, Is
 use Rattle.std.specs.List.{list_all}
 use Rattle.np_forms.specs.Assigned.{IsAssigned, IsFirstUnassigned}
 use Rattle.np_tables.specs.Versions.{VersionData, is_assigned}
-use Rattle.np_jobs.specs.inside.UnderSteps.{IsPassed}
+use Rattle.np_code_points.specs.declared.forms.Form.{Form}
+use Rattle.np_jobs.specs.Chains.{VersionReaders, WereBuilt}
+use Rattle.np_jobs.specs.KeysUnder.{MakesUnder}
+use Rattle.np_jobs.specs.Streams.{Stream}
+use Rattle.np_jobs.specs.declared.ending.Made.{Made}
+use Rattle.np_jobs.specs.inside.UnderSteps.{IsPassed, MakesOfPair}
 
 module _ (v : VersionData) where
   pub none_passed : (text : List ℕ) → IsUtf8 text → IsPassed v text text
@@ -39,3 +44,8 @@ module _ (v : VersionData) where
         lacks = lacks;
         place = omega (arith, ap length passed.bytes, length-append (encode_utf8_all passed.before) rest);
       }
+
+-- what was made over two versions that were built
+pub made_under : (form : Form) (versions : List VersionReaders) (input : Stream) (old new : VersionData) (m : Made) → WereBuilt versions (old ∷ new ∷ []) → MakesOfPair form old new input m
+    → MakesUnder form (record { versions = versions; input = input }) m.is_yes (string_bytes m.text)
+made_under form versions input old new m built makes = record { old = old; new = new; built = built; extends = makes.extends; made = makes.answered }
