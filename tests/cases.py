@@ -3,7 +3,7 @@
 from dataclasses import dataclass
 
 from harness import ROOT
-from versions import BAD_DATA, BAD_TABLES, EXCLUSIONS, LIMIT, S, V1, V2, good_files
+from versions import BAD_DATA, BAD_TABLES, EXCLUSIONS, LIMIT, ODD_NAMES, S, V1, V2, good_files
 
 # The usage text is that of the stored run, which tests/fixtures.py compares with docs/FORMATS.md.
 USAGE = (ROOT / "crates" / "npss" / "stdout").read_text(encoding="utf-8")
@@ -172,6 +172,28 @@ AUDIT_ROWS = [
 ]
 
 
+# What V1 has of keys under V2: the form, the string and the line.
+UNDER_ROWS = [
+    ("nfc", "0061 0302 0323", "own form"),
+    ("nfc", "", "own form"),
+    ("nfc", "16D67 16D67", "own form, unassigned 16D68 at byte 0"),
+    # the place in the key, where the string has it a byte later
+    ("nfc", "0061 0302 16D67", "own form, unassigned 16D67 at byte 2"),
+    ("nfd", "16D6A", "own form, unassigned 16D63 at byte 0"),
+    ("nfkc", "FB01 1DFA 16D67", "own form, unassigned 1DFA at byte 2"),
+]
+
+# Their keys.
+KEYS_OF_UNDER_ROWS = {
+    ("nfc", "0061 0302 0323"): "1EAD",
+    ("nfc", ""): "",
+    ("nfc", "16D67 16D67"): "16D68",
+    ("nfc", "0061 0302 16D67"): "00E2 16D67",
+    ("nfd", "16D6A"): "16D63 16D67 16D67",
+    ("nfkc", "FB01 1DFA 16D67"): "0066 0069 1DFA 16D67",
+}
+
+
 def refused(words, line, status, stdin=b"a"):
     """A case in which one line is written, to standard error."""
     return Case(words, stdin, b"", line + "\n", status)
@@ -183,6 +205,9 @@ def usage_cases():
     wrong = ["--help", "-h", "help", "--version", "help key", "key --help", "key", "nothing", "--",
              "key --form nfx D E", "key --form NFC D E", "key D E", "key --form nfc D",
              "key --form nfc D E F", "key --form nfc --form nfc D E", "audit A B C",
+             "key --form nfc A B C D", "key --check-under A B C D", "key --form nfc --check-under A B",
+             "key --form nfc --check-under A B C", "key --form nfc --check-under A B C D E",
+             "key --form nfc --check-under --check-under A B C D", "key --form nfc --check-under=true A B C D",
              "audit A B C D E", "audit A B --form nfc C D", "compare --form nfc D", "normalize --form nfc"]
     for words in wrong:
         yield Case(words.split(), err=USAGE, status=WRONG_WORDS)
@@ -196,6 +221,56 @@ def word_cases():
         yield Case(["key", *words], given, wanted)
     # one file may be named twice
     yield Case(["audit", *V1, *V1], out=b"extends\n")
+
+
+def name_cases():
+    """A file is opened by its name as it stands in the words, with blanks and line ends at its ends."""
+    given, wanted = text("0061 0302 0323"), text("1EAD")
+    for data, exclusions in ODD_NAMES:
+        yield Case(["key", "--form", "nfc", "--", data, exclusions], given, wanted)
+        yield Case(["audit", "--", data, exclusions, *V2], out=b"extends\n")
+        yield Case(["audit", "--", *V2, data, exclusions], out=LOST.encode(), status=DIFFERENT)
+    for name in (" v1/UnicodeData.txt", "v1/UnicodeData.txt ", "v1/UnicodeData.txt\n"):
+        yield refused(["key", "--form", "nfc", name, V1[1]], f"cannot open {name}", DEVICE)
+        yield refused(["key", "--form", "nfc", V1[0], name], f"cannot open {name}", DEVICE)
+    # of two that don't open the first is told
+    yield refused(["key", "--form", "nfc", "nothing", "never"], "cannot open nothing", DEVICE)
+    yield refused(["audit", V1[0], "nothing", "never", V1[1]], "cannot open nothing", DEVICE)
+
+
+def under_cases():
+    """Keys under an earlier version: the flag and the form at each place, and what is refused in which order."""
+    files = [*V1, *V2]
+    for form, given, line in UNDER_ROWS:
+        out = (line + "\n").encode()
+        for place in range(len(files) + 1):
+            words = [*files[:place], "--check-under", *files[place:]]
+            yield Case(["key", "--form", form, *words], text(given), out)
+            yield Case(["key", *words[:place], "--form", form, *words[place:]], text(given), out)
+    words = ["key", "--form", "nfc", "--check-under"]
+    yield refused([*words, *V1, *V2], "unassigned FFFE at byte 0", UNASSIGNED, text("FFFE"))
+    yield refused([*words, *V1, *V2], "input: not UTF-8 at byte 1", BAD_TEXT, b"a\xff")
+    yield refused([*words, *V1, *V2], "input: TooLarge", BAD_TEXT, b"a" * (LIMIT + 1))
+    # files are opened first, and versions read in order; the pair is looked at before the input
+    broken = "not an extension: version 1"
+    for given in (b"a", b"\xff"):
+        yield refused([*words, *V2, *V1], f"{broken} Lost 1DFA", DIFFERENT, given)
+    yield refused([*words, *V1, "new-composite.data", V1[1]], f"{broken} NewComposite 00C1", DIFFERENT)
+    yield refused([*words, *V1, V1[0], "empty"], f"{broken} NowIncluded 0958", DIFFERENT)
+    for place in range(len(files)):
+        missing = [*files[:place], "nothing", *files[place + 1:]]
+        yield refused([*words, *missing], "cannot open nothing", DEVICE)
+        behind = ["page.bad", *files[1:place], "nothing", *files[place + 1:]] if place else missing
+        yield refused([*words, *behind], "cannot open nothing", DEVICE)
+    yield refused([*words, "page.bad", "falling.excl", "page.bad", V1[1]], "version 0 data: line 1: FieldCount", BAD_TEXT)
+    yield refused([*words, *V2, "page.bad", "falling.excl"], "version 1 data: line 1: FieldCount", BAD_TEXT)
+    yield refused([*words, "one-jamo.data", V1[1], "page.bad", V1[1]], "version 0 tables: HangulWrong 1101", BAD_TEXT)
+    # the key is its own form under both versions
+    for form, given, _ in UNDER_ROWS:
+        key = text(KEYS_OF_UNDER_ROWS[form, given])
+        for version in (V1, V2):
+            yield Case(["normalize", "--form", form, *version], key, key)
+        yield Case(["key", "--form", form, *V2], text(given), key)
 
 
 def form_cases():
@@ -308,6 +383,6 @@ def order_cases():
 
 def all_cases():
     """All of them."""
-    for group in (usage_cases, word_cases, form_cases, worked_cases, input_cases, compare_cases, audit_cases,
+    for group in (usage_cases, word_cases, name_cases, under_cases, form_cases, worked_cases, input_cases, compare_cases, audit_cases,
                   file_cases, order_cases):
         yield from group()

@@ -25,6 +25,7 @@ def bounded_runs():
     """Words, input and the answer with ample memory."""
     given = text("0061 0302 0323")
     yield ["key", "--form", "nfc", *V1], given, (0, text("1EAD"), b"")
+    yield ["key", "--form", "nfc", "--check-under", *V1, *V2], given, (0, b"own form\n", b"")
     yield ["normalize", "--form", "nfd", *V1], given, (0, text("0061 0323 0302"), b"")
     yield ["compare", "--form", "nfc", *V1], given + b"\n" + given, (0, b"equal\n", b"")
     yield ["audit", *V1, *V1], b"", (0, b"extends\n", b"")

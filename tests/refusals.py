@@ -50,8 +50,9 @@ CALLS = {
     "world": ("read_schedule", "replay", "report_text"),
     "words": ("parse",),
 }
-# The commands of the program, each of which is one call of the crate.
-COMMANDS = ("normalize", "key", "compare", "audit", "replay")
+# The commands of the program, each of which is one call of the crate; with its flag `key` is another call.
+FLAG = "--check-under"
+COMMANDS = ("normalize", "key", f"key {FLAG}", "compare", "audit", "replay")
 # Tests that hand over counts and lengths for which nothing is there pass with each allocation refused that is
 # larger than this, in bytes.
 PROMISING = "::each_cut_and_forged_"
@@ -73,6 +74,9 @@ def runs():
     for form in ("nfc", "nfkc"):
         yield ["compare", "--form", form, *V1], text("FB01") + b"\n" + text("0066 0069") + b"\n"
     yield ["key", "--form", "nfc", *V1], text("0041 16D67")
+    for given in ("0061 0302 0323", "16D67 16D67", "FFFE"):
+        yield ["key", "--form", "nfc", FLAG, *V1, *V2], text(given)
+    yield ["key", "--form", "nfc", FLAG, *V2, *V1], b"a"
     yield ["audit", *V1, *V1], b""
     yield ["audit", *V1, "new-composite.data", V1[1]], b""
     yield ["audit", *V1, "new-composite.data", "with-00c1.excl"], b""
@@ -258,8 +262,9 @@ def main():
             ample, counts = refusals.counted(program, words, stdin)
             tally.same(f"{' '.join(words)} with calls counted", ample, run(program, words, stdin, folder))
             told = check_memory(tally, refusals, program, words, stdin, ample, counts["memory"])
-            if words[:1] and words[0] in refused:
-                refused[words[0]] += told
+            command = f"{words[0]} {FLAG}" if FLAG in words else "".join(words[:1])
+            if command in refused:
+                refused[command] += told
             check_devices(tally, refusals, program, words, stdin, ample, counts)
         for command, count in refused.items():
             tally.check(f"{command} was refused memory", count > 0, "no refused allocation was told")

@@ -2,7 +2,7 @@
 
 from cases import BAD_TEXT, DEVICE, DIFFERENT, USAGE, WRONG_WORDS, Case, refused
 from harness import ROOT
-from versions import LIMIT, V1, V2, filled
+from versions import GROWN, LIMIT, V1, V2, filled
 
 # The most events of a schedule, the most nodes, and the most bytes of a string.
 EVENTS, NODES, MOST_BYTES = 1_000_000, 64, 65_536
@@ -149,6 +149,13 @@ def chain_cases():
     yield refused(replay("no-events.schedule", *V1, *V2, *V1), "not an extension: version 2 Lost 1DFA", DIFFERENT)
     yield refused(replay("no-events.schedule", *V1, "new-composite.data", V1[1]),
                   "not an extension: version 1 NewComposite 00C1", DIFFERENT)
+    # each version is read from its own files
+    grown = [(f"grown-{place}.data", "empty") for place in range(GROWN)]
+    yield Case(replay("no-events.schedule", *sum(grown, ())), out=none)
+    for place in range(1, GROWN):
+        files = [*grown[:place], (f"lossy-{place}.data", "empty"), *grown[place + 1:]]
+        yield refused(replay("no-events.schedule", *sum(files, ())),
+                      f"not an extension: version {place} Lost {0x60 + place:04X}", DIFFERENT)
     for place in range(3):
         files = [*V1] * place
         yield refused(replay("no-events.schedule", *files, "page.bad", V1[1], *V1),
@@ -165,6 +172,8 @@ def chain_cases():
 def replay_order_cases():
     """Where several things are wrong, the first of the order is told."""
     yield refused(replay("a-page.schedule", "page.bad", V1[1], *V1, "nothing", V1[1]), "cannot open nothing", DEVICE)
+    yield refused(replay("nothing", "never", V1[1]), "cannot open nothing", DEVICE)
+    yield refused(replay("a-page.schedule", *V1, V2[0], "nothing", "never", V1[1]), "cannot open nothing", DEVICE)
     yield refused(replay("a-page.schedule", *V2, *V1), "not an extension: version 1 Lost 1DFA", DIFFERENT)
     yield refused(replay("a-page.schedule", *V2, *V1, "page.bad", V1[1]), "version 2 data: line 1: FieldCount", BAD_TEXT)
     yield refused(replay("folder", "page.bad", V1[1]), "version 0 data: line 1: FieldCount", BAD_TEXT)

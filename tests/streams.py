@@ -4,7 +4,7 @@ from itertools import combinations
 
 from cases import DEVICE, DIFFERENT, USAGE, WRONG_WORDS, text
 from harness import run
-from versions import V1
+from versions import V1, V2
 
 # How a shell closes each of the standard streams.
 CLOSINGS = ("<&-", ">&-", "2>&-")
@@ -14,6 +14,7 @@ RUNS = [
     ([], b"", USAGE.encode(), 0),
     (["nothing"], b"", b"", WRONG_WORDS),
     (["key", "--form", "nfc", *V1], text("0061 0302 0323"), text("1EAD"), 0),
+    (["key", "--form", "nfc", "--check-under", *V1, *V2], text("16D67"), b"own form, unassigned 16D67 at byte 0\n", 0),
     (["normalize", "--form", "nfd", *V1], text("1EAD"), text("0061 0323 0302"), 0),
     (["compare", "--form", "nfc", *V1], b"A\na\n", b"different\n", DIFFERENT),
     (["audit", *V1, *V1], b"", b"extends\n", 0),

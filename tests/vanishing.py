@@ -13,7 +13,7 @@ import time
 from cases import BAD_TEXT, DEVICE, text
 from harness import run
 from replays import replay
-from versions import V1
+from versions import V1, V2
 
 UNWRITTEN = (DEVICE, b"", b"output: WriteFailed\n")
 # More than a pipe and a piece of the input hold together.
@@ -29,6 +29,7 @@ def runs():
     """A run of each command that writes something: words and input."""
     for command in ("key", "normalize"):
         yield [command, "--form", "nfc", *V1], text("0061 0302 0323")
+    yield ["key", "--form", "nfc", "--check-under", *V1, *V2], text("0061 0302 0323")
     yield ["compare", "--form", "nfc", *V1], b"a\na"
     yield ["audit", *V1, *V1], b""
     yield replay("no-events.schedule", *V1), b""
@@ -141,6 +142,7 @@ def check_terminals(tally, program, folder):
         tally.same(f"{words[:1]} to a terminal that is gone", run(program, words, stdin, folder, stdout=slave), UNWRITTEN)
         os.close(slave)
     for words, wanted in ((["key", "--form", "nfc", *V1], (0, b"", b"")),
+                          (["key", "--form", "nfc", "--check-under", *V1, *V2], (0, b"own form\n", b"")),
                           (["normalize", "--form", "nfc", *V1], (0, b"", b"")),
                           (["compare", "--form", "nfc", *V1], (BAD_TEXT, b"", b"input: two lines wanted\n"))):
         master, slave = pty.openpty()

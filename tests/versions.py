@@ -76,6 +76,21 @@ def made_versions(v1):
     }
 
 
+# So many versions, each of which has one code point more than the one before.
+GROWN = 6
+
+
+def grown_versions():
+    """Data files of these versions, by name; and each but the first without the code point before its last."""
+    rows = [record(f"{0x61 + place:04X}") for place in range(GROWN)]
+    grown = {f"grown-{place}": "".join(rows[:place + 1]) for place in range(GROWN)}
+    return grown | {f"lossy-{place}": "".join(rows[:place - 1] + [rows[place]]) for place in range(1, GROWN)}
+
+
+# Names that a program might change: the data file and the exclusions of V1, so named.
+ODD_NAMES = ((" both ends ", "\texclusions\n"), ("a\nline end\n", "\u2028"), ("-dash", "--form"), ("caf\u00e9", "cafe\u0301"))
+
+
 def good_files(v1):
     """Unusual data files with nothing wrong in them, by name; each lists 0061."""
     two = record("0041") + record("0061")
@@ -151,6 +166,9 @@ def write_all(folder):
     texts.update({f"{name}.data": text for name, text in good_files(v1).items()})
     texts.update({f"{name}.bad": text for name, text, _, _ in BAD_DATA})
     texts.update({f"{name}.excl": text for name, text, _ in EXCLUSIONS})
+    texts.update({f"{name}.data": text for name, text in grown_versions().items()})
+    for data, exclusions in ODD_NAMES:
+        texts |= {data: v1, exclusions: (folder / V1[1]).read_text(encoding="utf-8")}
     texts["empty"] = ""
     texts["too-large"] = filled("", LIMIT + 1)
     texts["comments-at-limit"] = filled("", LIMIT)

@@ -11,7 +11,7 @@ use crate::common::{Files, want};
 use np_code_points::Form;
 use np_code_points::fixtures::V1_EXCLUSIONS;
 use np_code_points::watched::Watched;
-use np_jobs::{audit_job, compare_job, key_job, normalize_job, replay_job};
+use np_jobs::{audit_job, compare_job, key_job, key_under_job, normalize_job, replay_job};
 use std::alloc::Global;
 use std::io::Write;
 use std::test::Fail;
@@ -24,11 +24,12 @@ enum Command {
     Compare,
 }
 
-/// A job and what it reads: a form, a data file beside the first fixture's exclusions and a text; two versions; or a
-/// schedule over one version or two, under NFC.
+/// A job and what it reads: a form, a data file beside the first fixture's exclusions and a text; a form, two versions
+/// and a text; two versions; or a schedule over one version or two, under NFC.
 #[derive(Clone, Copy)]
 enum Job<'a> {
     Text(Command, Form, &'a str, &'a [u8]),
+    KeyUnder(Form, Files<'a>, Files<'a>, &'a [u8]),
     Audit(Files<'a>, Files<'a>),
     ReplayOverOne(&'a str, Files<'a>),
     ReplayOverTwo(&'a str, Files<'a>, Files<'a>),
@@ -44,6 +45,9 @@ fn job_into<O: Write, E: Write>(
     match job {
         Job::Text(command, form, data, input) => {
             text_into(alloc, (*command, *form), data, input, output, error)
+        }
+        Job::KeyUnder(form, old, new, input) => {
+            key_under_into(alloc, *form, (*old, *new), input, output, error)
         }
         Job::Audit(old, new) => audit_into(alloc, *old, *new, output, error),
         Job::ReplayOverOne(schedule, files) => {
@@ -72,6 +76,32 @@ fn text_into<O: Write, E: Write>(
         Command::Key => key_job(alloc, form, data, exclusions, input, output, error),
         Command::Compare => compare_job(alloc, form, data, exclusions, input, output, error),
     }
+}
+
+fn key_under_into<O: Write, E: Write>(
+    alloc: Global,
+    form: Form,
+    (old, new): (Files<'_>, Files<'_>),
+    input: &[u8],
+    output: &mut Watched<O>,
+    error: &mut Watched<E>,
+) -> u8 {
+    let mut old_data = Watched::new(old.0.as_bytes());
+    let mut old_exclusions = Watched::new(old.1.as_bytes());
+    let mut data = Watched::new(new.0.as_bytes());
+    let mut exclusions = Watched::new(new.1.as_bytes());
+    let mut input = Watched::new(input);
+    key_under_job(
+        alloc,
+        form,
+        &mut old_data,
+        &mut old_exclusions,
+        &mut data,
+        &mut exclusions,
+        &mut input,
+        output,
+        error,
+    )
 }
 
 fn audit_into<O: Write, E: Write>(

@@ -26,7 +26,7 @@ lacks_old old new fault refused data_file exclusions_file = record {
 }
 
 -- the old version was built, and the new one refused
-lacks_new : (old new : VersionReaders) (v : VersionData) (fault : VersionFault) → WasBuilt old.data_file old.exclusions_file v → IsVersionFault 1 new.data_file new.exclusions_file fault
+pub lacks_new : (old new : VersionReaders) (v : VersionData) (fault : VersionFault) → WasBuilt old.data_file old.exclusions_file v → IsVersionFault 1 new.data_file new.exclusions_file fault
     → LacksOne (old ∷ new ∷ []) fault
 lacks_new old new v fault built refused = record {
   before = old ∷ [];

@@ -16,8 +16,7 @@ use Rattle.np_code_points.specs.declared.channels.watched.Watched.{Watched}
 use Rattle.np_jobs.specs.Chains.{VersionReaders, WereBuilt}
 use Rattle.np_jobs.specs.Replays.{IsNodeTold, IsReplay, LacksReport, RefusesReplay}
 use Rattle.np_jobs.specs.Streams.{stream_of}
-use Rattle.np_jobs.specs.declared.faults.JobFault.TheVariants.{Replay}
-use Rattle.np_jobs.specs.declared.faults.ReplayFault.{ReplayFault}
+use Rattle.np_jobs.specs.declared.faults.JobFault.{JobFault}
 use Rattle.np_jobs.proofs.EndLemmas.{same_stream}
 
 some_at : {A : Type 0} (xs : List A) (k : ℕ) → k < length xs → (x : A) × (slice_get xs k ≡ Some x)
@@ -66,10 +65,10 @@ told_whole model tables form schedule report text some run replies indices strin
     }
 
 -- what is refused over versions that were built, behind a schedule whose mark was taken away
-pub refused_of_files : {D : Type 0} (tells : D → Option (List ℕ)) (cleared old new : Watched D) (readers : List VersionReaders) (tables slice : List VersionData) (fault : ReplayFault)
+pub refused_of_files : {D : Type 0} (tells : D → Option (List ℕ)) (cleared old new : Watched D) (readers : List VersionReaders) (tables slice : List VersionData) (fault : JobFault)
     → device_of cleared ≡ device_of old → slice ≡ tables → WereBuilt readers tables → LacksReport (stream_of tells cleared new) (map (λ t. t) slice) fault
-    → RefusesReplay (record { schedule_file = stream_of tells old new; versions = readers }) (Replay fault)
+    → RefusesReplay (record { schedule_file = stream_of tells old new; versions = readers }) fault
 refused_of_files tells cleared old new readers tables slice fault device same built lacks =
     let versions : map (λ (t : VersionData). t) slice ≡ tables = map-id slice ∙ same in
     let half = subst (λ vs. LacksReport (stream_of tells cleared new) vs fault) versions lacks in
-    inr (tables, built, (fault, refl, subst (λ s. LacksReport s tables fault) (same_stream tells cleared old new device) half))
+    inr (tables, built, subst (λ s. LacksReport s tables fault) (same_stream tells cleared old new device) half)

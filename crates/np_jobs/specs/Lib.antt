@@ -3,6 +3,7 @@ pub mod Chains
 pub mod Comparisons
 pub mod Ends
 pub mod Keys
+pub mod KeysUnder
 pub mod NormalForms
 pub mod Replays
 pub mod Statuses

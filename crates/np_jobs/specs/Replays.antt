@@ -17,9 +17,9 @@ use Rattle.np_jobs.specs.Ends.{Ends}
 use Rattle.np_jobs.specs.Streams.{Stream, IsUntouched, WasNotRead, WasRead}
 use Rattle.np_jobs.specs.Wraps.{Wraps}
 use Rattle.np_jobs.specs.declared.faults.JobFault.{JobFault}
-use Rattle.np_jobs.specs.declared.faults.JobFault.TheVariants.{Version, Replay}
+use Rattle.np_jobs.specs.declared.faults.JobFault.TheVariants.{Version, NotExtension, Replay}
 use Rattle.np_jobs.specs.declared.faults.ReplayFault.{ReplayFault}
-use Rattle.np_jobs.specs.declared.faults.ReplayFault.TheVariants.{NotExtension, Schedule, Line, Memory}
+use Rattle.np_jobs.specs.declared.faults.ReplayFault.TheVariants.{Schedule, Line, Memory}
 
 -- the readers of a job over a schedule and versions
 pub record ReplayReaders : Type 0 where
@@ -75,16 +75,16 @@ LacksSchedule schedule_file count fault =
     Wraps Schedule (WasNotRead schedule_file) fault ⊎ ((script : List ℕ) × WasRead schedule_file script × LacksLine script count fault)
 
 -- one version doesn't extend the one before, and the schedule was not looked at; or it is not replayed over their chain
-abbrev pub LacksReport : Stream → List VersionData → ReplayFault → Type 0
+abbrev pub LacksReport : Stream → List VersionData → JobFault → Type 0
 LacksReport schedule_file versions fault =
     ((place : ℕ) × (brk : Break) × (fault ≡ NotExtension place brk) × IsFirstBroken versions place brk × IsUntouched schedule_file)
-    ⊎ (IsChain versions × LacksSchedule schedule_file (length versions) fault)
+    ⊎ (IsChain versions × Wraps Replay (LacksSchedule schedule_file (length versions)) fault)
 
 -- a version was refused, and the schedule not looked at; or all were built, and give no report
 abbrev pub RefusesReplay : ReplayReaders → JobFault → Type 0
 RefusesReplay readers fault =
     (Wraps Version (LacksOne readers.versions) fault × IsUntouched readers.schedule_file)
-    ⊎ ((versions : List VersionData) × WereBuilt readers.versions versions × Wraps Replay (LacksReport readers.schedule_file versions) fault)
+    ⊎ ((versions : List VersionData) × WereBuilt readers.versions versions × LacksReport readers.schedule_file versions fault)
 
 -- `replay`: the machine's run over the schedule, as text
 abbrev pub ReplayEnds : Form → ReplayReaders → Stream → Stream → ℕ → Type 0

@@ -12,7 +12,7 @@ use Rattle.np_ucd.specs.Faults as files
 use Rattle.np_ucd.specs.declared.faults.UcdFault.{UcdFault}
 use Rattle.np_jobs.specs.Statuses.{file_status, input_status, tables_status}
 use Rattle.np_jobs.specs.declared.faults.JobFault.{JobFault}
-use Rattle.np_jobs.specs.declared.faults.JobFault.TheVariants.{Version, Text, Replay, WriteFailed, Memory}
+use Rattle.np_jobs.specs.declared.faults.JobFault.TheVariants.{Version, NotExtension, Text, Replay, WriteFailed, Memory}
 use Rattle.np_jobs.specs.declared.faults.ReplayFault.{ReplayFault}
 use Rattle.np_jobs.specs.declared.faults.ReplayFault.TheVariants as Replays
 use Rattle.np_jobs.specs.declared.faults.TextFault.{TextFault}
@@ -89,7 +89,6 @@ abbrev pub break_line : Break → List ℕ
 break_line b = name_of b.kind ++ (codes " " ++ (code_digits b.code ++ codes "\n"))
 
 abbrev pub replay_telling : ReplayFault → Telling
-replay_telling (Replays.NotExtension version brk) = made 1 (codes "not an extension: version " ++ (decimal version ++ (codes " " ++ break_line brk)))
 replay_telling (Replays.Schedule fault) = fixed (input_status fault) (input_line (codes "schedule") fault)
 replay_telling (Replays.Line line) = made 4 (codes "schedule: line " ++ (decimal line ++ codes "\n"))
 replay_telling Replays.Memory = fixed 6 memory_line
@@ -98,6 +97,7 @@ replay_telling Replays.Memory = fixed 6 memory_line
 
 abbrev pub telling_of : JobFault → Telling
 telling_of (Version fault) = version_telling fault
+telling_of (NotExtension version brk) = made 1 (codes "not an extension: version " ++ (decimal version ++ (codes " " ++ break_line brk)))
 telling_of (Text fault) = text_telling fault
 telling_of (Replay fault) = replay_telling fault
 telling_of WriteFailed = fixed 5 (codes "output: WriteFailed\n")

@@ -4,3 +4,4 @@ pub mod Endings
 pub mod Groups
 pub mod ReplaySteps
 pub mod TextJobs
+pub mod UnderSteps

@@ -38,27 +38,22 @@ pub enum TextFault {
     #[error("input: two lines wanted")]
     TwoLinesWanted,
     /// The first unassigned code point of the input.
-    #[error("unassigned {code:?} at byte {at}")]
+    #[error("unassigned {code:04X} at byte {at}", code = u32::from(*.code))]
     Unassigned { at: usize, code: char },
     /// The first unassigned code point of the first string.
-    #[error("first: unassigned {code:?} at byte {at}")]
+    #[error("first: unassigned {code:04X} at byte {at}", code = u32::from(*.code))]
     FirstUnassigned { at: usize, code: char },
     /// The first unassigned code point of the second string.
-    #[error("second: unassigned {code:?} at byte {at}")]
+    #[error("second: unassigned {code:04X} at byte {at}", code = u32::from(*.code))]
     SecondUnassigned { at: usize, code: char },
     /// Memory ran out after the text was read.
     #[error("out of memory")]
     Memory,
 }
 
-/// Why versions that were built and a schedule give no report. Versions are numbered from 0, lines
-/// from 1.
+/// Why a chain of versions and a schedule give no report. Lines are numbered from 1.
 #[derive(Clone, Copy, Debug, PartialEq, Eq, Drop, Error)]
 pub enum ReplayFault {
-    /// The version of this number does not extend the one before, the first that does not, and
-    /// `brk` is its first break.
-    #[error("not an extension: version {version} {brk}")]
-    NotExtension { version: usize, brk: Break },
     /// The schedule was not read whole.
     #[error("schedule: {fault}")]
     Schedule { fault: InputFault },
@@ -70,16 +65,20 @@ pub enum ReplayFault {
     Memory,
 }
 
-/// Why a job is refused.
+/// Why a job is refused. Versions are numbered from 0.
 #[derive(Clone, Copy, Debug, PartialEq, Eq, Drop, Error)]
 pub enum JobFault {
     /// The two files of a version make none.
     #[error("{fault}")]
     Version { fault: VersionFault },
+    /// The version of this number does not extend the one before, the first that does not, and
+    /// `brk` is its first break.
+    #[error("not an extension: version {version} {brk}")]
+    NotExtension { version: usize, brk: Break },
     /// The text of the input is not answered.
     #[error("{fault}")]
     Text { fault: TextFault },
-    /// The versions are no chain, or the schedule is not replayed.
+    /// The schedule is not replayed.
     #[error("{fault}")]
     Replay { fault: ReplayFault },
     /// A write or the flush of the output failed.
@@ -192,7 +191,6 @@ impl ReplayFault {
         ensures { result ≡ (replay_telling self.now).status }
     {
         match self {
-            ReplayFault::NotExtension { .. } => DIFFERENT,
             ReplayFault::Schedule { fault } => status_of_input(fault),
             ReplayFault::Line { .. } => BAD,
             ReplayFault::Memory => MEMORY,
@@ -207,6 +205,7 @@ impl JobFault {
     {
         match self {
             JobFault::Version { fault } => fault.status(),
+            JobFault::NotExtension { .. } => DIFFERENT,
             JobFault::Text { fault } => fault.status(),
             JobFault::Replay { fault } => fault.status(),
             JobFault::WriteFailed => FAILED,

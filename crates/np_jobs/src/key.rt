@@ -1,5 +1,6 @@
 //! The command `key`: stabilized strings (UAX #15 section 12).
-ghost use Rattle.std.specs.Prelude.{◌≡◌, IfOk, IfErr, string_bytes};
+ghost use Rattle.std.specs.Prelude.{◌≡◌, IfOk, IfErr, chars, string_bytes, true};
+ghost use Rattle.np_forms.specs.Forms.{IsNormalForm};
 ghost use Rattle.np_jobs.specs.Keys.{IsKey, KeyEnds, LacksKey};
 ghost use Rattle.np_jobs.specs.Streams.{stream_of};
 
@@ -14,6 +15,24 @@ use std::alloc::Global;
 use std::io::{Read, Write};
 
 /// The stabilized string of a text, which is given up.
+pub(super) fn key_of<T: NormTable>(
+    alloc: Global,
+    form: Form,
+    table: &T,
+    text: String,
+) -> Result<String, TextFault>
+    ensures key { IfOk result (λ key. IsKey form (T.model table.now) (string_bytes text) true (string_bytes key)) }
+    ensures normal { IfOk result (λ key. IsNormalForm (T.model table.now) form (chars (string_bytes text)) (chars (string_bytes key))) }
+    ensures refused { IfErr result (LacksKey (T.model table.now) (string_bytes text)) }
+{
+    match into_npss(alloc, table, form, text) {
+        Ok(key) => Ok(key),
+        Err(NpssFault::Unassigned { at, code }) => Err(TextFault::Unassigned { at, code }),
+        Err(NpssFault::Memory) => Err(TextFault::Memory),
+    }
+}
+
+/// The same as what the job writes.
 pub(super) fn make_key<T: NormTable>(
     alloc: Global,
     form: Form,
@@ -23,14 +42,8 @@ pub(super) fn make_key<T: NormTable>(
     ensures key { IfOk result (λ m. IsKey form (T.model table.now) (string_bytes text) m.is_yes (string_bytes m.text)) }
     ensures refused { IfErr result (LacksKey (T.model table.now) (string_bytes text)) }
 {
-    match into_npss(alloc, table, form, text) {
-        Ok(key) => Ok(Made {
-            text: key,
-            is_yes: true,
-        }),
-        Err(NpssFault::Unassigned { at, code }) => Err(TextFault::Unassigned { at, code }),
-        Err(NpssFault::Memory) => Err(TextFault::Memory),
-    }
+    let text = key_of(alloc, form, table, text)?;
+    Ok(Made { text, is_yes: true })
 }
 
 /// Writes the stabilized string of the input, a text, to the output: its normal form under the

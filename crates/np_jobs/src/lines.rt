@@ -98,12 +98,24 @@ fn input_line(fault: &InputFault) -> &'static str
     }
 }
 
+/// The text of the line on an unassigned code point, where `head` says of which text.
+pub(super) fn unassigned_text(
+    alloc: Global,
+    head: &str,
+    at: usize,
+    code: char,
+) -> Result<String, Memory>
+    ensures { IfOk result (λ text. string_bytes text ≡ tellings.unassigned_line head.now at code) }
+{
+    let code = code_text(alloc, u32::from(code))?;
+    Ok(format!(in alloc; "{head}unassigned {code} at byte {at}\n")?)
+}
+
 /// The line on an unassigned code point, where `head` says of which text.
 fn unassigned_line(alloc: Global, head: &str, at: usize, code: char) -> Result<Line, Memory>
     ensures line { IfOk result (λ line. line_bytes line ≡ tellings.unassigned_line head.now at code) }
 {
-    let code = code_text(alloc, u32::from(code))?;
-    Ok(Line::Made(format!(in alloc; "{head}unassigned {code} at byte {at}\n")?))
+    Ok(Line::Made(unassigned_text(alloc, head, at, code)?))
 }
 
 /// The line on a text.
@@ -137,7 +149,7 @@ pub(super) fn write_break(text: &mut String, found: &Break) -> Result<(), Memory
 
 /// The line on a version that does not extend the one before.
 fn extension_line(alloc: Global, version: usize, brk: &Break) -> Result<Line, Memory>
-    ensures { IfOk result (λ line. line_bytes line ≡ (replay_telling (ReplayFault.NotExtension version brk.now)).line) }
+    ensures { IfOk result (λ line. line_bytes line ≡ (telling_of (JobFault.NotExtension version brk.now)).line) }
 {
     let mut text = format!(in alloc; "not an extension: version {version} ")?;
     write_break(&mut text, brk)?;
@@ -155,13 +167,12 @@ fn schedule_line(fault: &InputFault) -> &'static str
     }
 }
 
-/// The line on versions and a schedule that give no report.
+/// The line on a schedule that gives no report.
 fn replay_line(alloc: Global, fault: &ReplayFault) -> Result<Line, Memory>
     ensures line { IfOk result (λ line. line_bytes line ≡ (replay_telling fault.now).line) }
     ensures free { OnErr result ((replay_telling fault.now).is_fixed ≡ false) }
 {
     match fault {
-        ReplayFault::NotExtension { version, brk } => extension_line(alloc, *version, brk),
         ReplayFault::Schedule { fault } => Ok(Line::Fixed(schedule_line(fault))),
         ReplayFault::Line { line } => Ok(Line::Made(format!(in alloc; "schedule: line {line}\n")?)),
         ReplayFault::Memory => Ok(Line::Fixed(OUT_OF_MEMORY)),
@@ -179,6 +190,7 @@ pub fn line_of(alloc: Global, fault: &JobFault) -> Result<Line, Memory>
 {
     match fault {
         JobFault::Version { fault } => version_line(alloc, fault),
+        JobFault::NotExtension { version, brk } => extension_line(alloc, *version, brk),
         JobFault::Text { fault } => text_line(alloc, fault),
         JobFault::Replay { fault } => replay_line(alloc, fault),
         JobFault::WriteFailed => Ok(Line::Fixed("output: WriteFailed\n")),

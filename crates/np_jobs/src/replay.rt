@@ -1,6 +1,7 @@
 //! The command `replay`: what nodes keep and tell, as a schedule has it, over a chain of versions.
 ghost use Rattle.std.specs.Prelude.{◌≡◌, ◌<◌, ◌≤◌, ◌%◌, false, length, map, IfOk, IfErr, string_bytes};
 ghost use Rattle.np_code_points.specs.Watched.{has_failed};
+ghost use Rattle.np_chain.specs.Chain.{IsChain};
 ghost use Rattle.np_world.specs.ScheduleFiles.{SaysSchedule};
 ghost use Rattle.np_jobs.specs.Chains.{readers_of};
 ghost use Rattle.np_jobs.specs.Replays.{IsReplay, LacksLine, LacksReport, LacksSchedule, MakesReplay, RefusesReplay, ReplayEnds, WasScheduled};
@@ -83,7 +84,8 @@ fn made_over_chain<T: NormTable, F: Read>(
     schedule_file: &mut Watched<F>,
 ) -> Result<Made, ReplayFault>
     ensures made { IfOk result (MakesOverChain form (map T.model chain.now) (stream_of F.remaining schedule_file.old schedule_file.new)) }
-    ensures refused { IfErr result (LacksReport (stream_of F.remaining schedule_file.old schedule_file.new) (map T.model chain.now)) }
+    ensures chain { IfErr result (λ fault. IsChain (map T.model chain.now)) }
+    ensures refused { IfErr result (LacksSchedule (stream_of F.remaining schedule_file.old schedule_file.new) (length (map T.model chain.now))) }
 {
     // A chain's versions extend one another.
     chain.meets_conditions();
@@ -100,15 +102,15 @@ fn made_over<T: NormTable, F: Read>(
     form: Form,
     tables: &[T],
     schedule_file: &mut Watched<F>,
-) -> Result<Made, ReplayFault>
+) -> Result<Made, JobFault>
     requires some { 0 < length tables.now }
     requires clear { has_failed schedule_file.old ≡ false }
     ensures made { IfOk result (MakesOverChain form (map T.model tables.now) (stream_of F.remaining schedule_file.old schedule_file.new)) }
     ensures refused { IfErr result (LacksReport (stream_of F.remaining schedule_file.old schedule_file.new) (map T.model tables.now)) }
 {
     match Chain::check(tables) {
-        Ok(chain) => made_over_chain(alloc, form, &chain, schedule_file),
-        Err(ChainFault::Broken { at, brk }) => Err(ReplayFault::NotExtension { version: at, brk }),
+        Ok(chain) => Ok(made_over_chain(alloc, form, &chain, schedule_file)?),
+        Err(ChainFault::Broken { at, brk }) => Err(JobFault::NotExtension { version: at, brk }),
         Err(ChainFault::NoVersion) => unreachable!(),
     }
 }
@@ -132,7 +134,7 @@ fn made_of_files<F: Read>(
 {
     schedule_file.clear();
     let tables = read_tables(alloc, files)?;
-    Ok(made_over(alloc, form, tables.as_slice(), schedule_file)?)
+    made_over(alloc, form, tables.as_slice(), schedule_file)
 }
 
 /// Writes what nodes reply to the events of a schedule and what they keep at the end, over a chain

@@ -44,7 +44,7 @@ fn make<T: NormTable>(
 }
 
 /// Reads the input whole.
-fn read_input<R: Read>(alloc: Global, input: &mut Watched<R>) -> Result<Vec<u8>, TextFault>
+pub(super) fn read_input<R: Read>(alloc: Global, input: &mut Watched<R>) -> Result<Vec<u8>, TextFault>
     ensures read { IfOk result (λ bytes. WasRead (stream_of R.remaining input.old input.new) bytes.items) }
     ensures refused { IfErr result (Wraps TextFault.Input (WasNotRead (stream_of R.remaining input.old input.new))) }
 {
@@ -55,7 +55,7 @@ fn read_input<R: Read>(alloc: Global, input: &mut Watched<R>) -> Result<Vec<u8>,
 }
 
 /// The text that the bytes write, in the same memory.
-fn text_in(bytes: Vec<u8>) -> Result<String, TextFault>
+pub(super) fn text_in(bytes: Vec<u8>) -> Result<String, TextFault>
     ensures text { IfOk result (λ text. string_bytes text ≡ bytes.items) }
     ensures valid { IfOk result (λ text. IsUtf8 bytes.items) }
     ensures refused { IfErr result (IsNoText bytes.items) }

@@ -2,7 +2,7 @@
 use Rattle.std.specs.Prelude.{true, Some, codes}
 use Rattle.clap.specs.Lexer.{usize_max}
 use Rattle.clap.specs.Words.{App, Rule, Text, new_app, new_rule, with_rule, with_subcommand}
-use Rattle.clap.specs.declared.builder.action.ArgAction.TheVariants.{Append, Set}
+use Rattle.clap.specs.declared.builder.action.ArgAction.TheVariants.{Append, Set, SetTrue}
 
 -- --form FORM, once
 abbrev pub form_rule : Rule
@@ -11,6 +11,10 @@ form_rule = record (new_rule (codes "form")) {
   required = true;
   action = Some Set;
 }
+
+-- --check-under, at most once
+abbrev pub check_under_rule : Rule
+check_under_rule = record (new_rule (codes "check-under")) { long = Some (codes "check-under"); action = Some SetTrue }
 
 -- a file
 abbrev pub file_rule : Text → Rule
@@ -32,6 +36,10 @@ with_files a data_file exclusions_file = with_rule (with_rule a (file_rule data_
 abbrev pub text_app : Text → App
 text_app name = with_files (with_rule (new_app name) form_rule) (codes "DATA") (codes "EXCL")
 
+-- key --form FORM --check-under FILES..
+abbrev pub key_app : App
+key_app = with_rule (with_rule (with_rule (new_app (codes "key")) form_rule) check_under_rule) (files_rule (codes "FILES"))
+
 -- audit OLDDATA OLDEXCL NEWDATA NEWEXCL
 abbrev pub audit_app : App
 audit_app = with_files (with_files (new_app (codes "audit")) (codes "OLDDATA") (codes "OLDEXCL")) (codes "NEWDATA") (codes "NEWEXCL")
@@ -46,7 +54,7 @@ with_settings a = record a { top = record a.top { no_binary_name = true; subcomm
 
 abbrev pub texts_app : App
 texts_app = with_subcommand (with_subcommand (with_subcommand (with_settings (new_app (codes "npss")))
-    (text_app (codes "normalize")).top) (text_app (codes "key")).top) (text_app (codes "compare")).top
+    (text_app (codes "normalize")).top) key_app.top) (text_app (codes "compare")).top
 
 abbrev pub program_app : App
 program_app = with_subcommand (with_subcommand texts_app audit_app.top) replay_app.top

@@ -6,6 +6,7 @@ use Rattle.np_jobs.specs.Chains.{VersionReaders}
 use Rattle.np_jobs.specs.Comparisons.{CompareEnds}
 use Rattle.np_jobs.specs.Ends.{IsRefused, IsTold, Writes}
 use Rattle.np_jobs.specs.Keys.{KeyEnds}
+use Rattle.np_jobs.specs.KeysUnder.{KeyUnderEnds, UnderReaders}
 use Rattle.np_jobs.specs.NormalForms.{NormalizeEnds}
 use Rattle.np_jobs.specs.Replays.{ReplayEnds, ReplayReaders}
 use Rattle.np_jobs.specs.Streams.{Stream}
@@ -14,13 +15,14 @@ use Rattle.npss.specs.Usage.{IsUnopened}
 use Rattle.npss.specs.Words.{asked_by, asked_of, usage_lines}
 use Rattle.np_jobs.specs.declared.faults.JobFault.TheVariants.{Memory}
 use Rattle.npss.specs.declared.words.Job.{Job}
-use Rattle.npss.specs.declared.words.Job.TheVariants.{Help, Normalize, Key, Compare, Audit, Replay}
+use Rattle.npss.specs.declared.words.Job.TheVariants.{Help, Normalize, Key, KeyUnder, Compare, Audit, Replay}
 
 -- how a job ends, over as many files as it names
 abbrev pub JobEnds : Job → Stream → Stream → Stream → ℕ → Type 0
 JobEnds Help input output error status = Writes true usage_lines output error status
 JobEnds (Normalize form files) input output error status = (readers : TextReaders) × (readers.input ≡ input) × NormalizeEnds form readers output error status
 JobEnds (Key form files) input output error status = (readers : TextReaders) × (readers.input ≡ input) × KeyEnds form readers output error status
+JobEnds (KeyUnder form old new) input output error status = (readers : UnderReaders) × (length readers.versions ≡ 2) × (readers.input ≡ input) × KeyUnderEnds form readers output error status
 JobEnds (Compare form files) input output error status = (readers : TextReaders) × (readers.input ≡ input) × CompareEnds form readers output error status
 JobEnds (Audit old new) input output error status = (readers : List VersionReaders) × (length readers ≡ 2) × AuditEnds readers output error status
 JobEnds (Replay form schedule_file version_files) input output error status = (readers : ReplayReaders) × (length readers.versions ≡ vec_len version_files) × ReplayEnds form readers output error status

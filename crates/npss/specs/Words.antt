@@ -1,12 +1,12 @@
 -- What words ask for, by `clap`'s reading of them.
-use Rattle.std.specs.Prelude.{Bool, List, [], ◌∷◌, ◌++◌, ◌%◌, ◌==◌, ◌&&◌, nat_le, length, flat_map, option_map, option_and_then, string_bytes, Option, Some, None, codes, if◌then◌else◌}
+use Rattle.std.specs.Prelude.{ℕ, Bool, true, false, List, [], ◌∷◌, ◌++◌, ◌%◌, ◌==◌, ◌&&◌, nat_le, length, flat_map, option_map, option_and_then, string_bytes, Option, Some, None, codes, if◌then◌else◌}
 use Rattle.std.specs.Option.{option_zip}
 use Rattle.std.specs.Str.{bytes_eq}
 use Rattle.np_code_points.specs.declared.forms.Form.{Form}
 use Rattle.np_code_points.specs.Forms.{form_named}
 use Rattle.npss.specs.declared.words.Job.{Job}
 use Rattle.npss.specs.declared.words.VersionFiles.{VersionFiles}
-use Rattle.npss.specs.declared.words.Job.TheVariants.{Help, Normalize, Key, Compare, Audit, Replay}
+use Rattle.npss.specs.declared.words.Job.TheVariants.{Help, Normalize, Key, KeyUnder, Compare, Audit, Replay}
 use Rattle.clap.specs.Words.{Kinds, Row, Text, all_of, fault_of, first_of, subcommand_of}
 use Rattle.npss.specs.Commands.{program_app}
 
@@ -15,13 +15,15 @@ abbrev pub usage_lines : Text
 usage_lines =
     codes "usage: npss normalize --form FORM DATA EXCL\n" ++
     (codes "       npss key --form FORM DATA EXCL\n" ++
+    (codes "       npss key --form FORM --check-under OLDDATA OLDEXCL DATA EXCL\n" ++
     (codes "       npss compare --form FORM DATA EXCL\n" ++
-    (codes "       npss audit OLDDATA OLDEXCL NEWDATA NEWEXCL\n" ++ codes "       npss replay --form FORM SCHEDULE FILES..\n")))
+    (codes "       npss audit OLDDATA OLDEXCL NEWDATA NEWEXCL\n" ++ codes "       npss replay --form FORM SCHEDULE FILES..\n"))))
 
--- a command with its form, where it has one, and its files in the order of the words
+-- a command with its form, where it has one, whether it has the flag --check-under, and its files in the order of the words
 pub record Asked : Type 0 where
   pub command : Text
   pub form : Option Form
+  pub checks_under : Bool
   pub files : List Text
 
 -- the names of the two files of a version, in the order of the words
@@ -30,14 +32,16 @@ names_of files = string_bytes files.data_file ∷ (string_bytes files.exclusions
 
 -- what a job does; help is no command
 abbrev pub asked_of : Job → Asked
-asked_of Help = record { command = []; form = None; files = [] }
-asked_of (Normalize form files) = record { command = codes "normalize"; form = Some form; files = names_of files }
-asked_of (Key form files) = record { command = codes "key"; form = Some form; files = names_of files }
-asked_of (Compare form files) = record { command = codes "compare"; form = Some form; files = names_of files }
-asked_of (Audit old new) = record { command = codes "audit"; form = None; files = names_of old ++ names_of new }
+asked_of Help = record { command = []; form = None; checks_under = false; files = [] }
+asked_of (Normalize form files) = record { command = codes "normalize"; form = Some form; checks_under = false; files = names_of files }
+asked_of (Key form files) = record { command = codes "key"; form = Some form; checks_under = false; files = names_of files }
+asked_of (KeyUnder form old new) = record { command = codes "key"; form = Some form; checks_under = true; files = names_of old ++ names_of new }
+asked_of (Compare form files) = record { command = codes "compare"; form = Some form; checks_under = false; files = names_of files }
+asked_of (Audit old new) = record { command = codes "audit"; form = None; checks_under = false; files = names_of old ++ names_of new }
 asked_of (Replay form schedule_file version_files) = record {
   command = codes "replay";
   form = Some form;
+  checks_under = false;
   files = string_bytes schedule_file ∷ flat_map names_of version_files.items;
 }
 
@@ -51,16 +55,36 @@ files_of data_place exclusions_place rows = option_map (λ p. p.0 ∷ (p.1 ∷ [
 
 -- a command with a form and its files, where both are there
 abbrev pub asked_with : Text → Option Form → Option (List Text) → Option Asked
-asked_with command form files = option_map (λ p. record { command = command; form = Some p.0; files = p.1 }) (option_zip form files)
+asked_with command form files = option_map (λ p. record { command = command; form = Some p.0; checks_under = false; files = p.1 }) (option_zip form files)
 
 -- a command with a form and two files
 abbrev pub text_asked : Text → List Row → Option Asked
 text_asked command rows = asked_with command (form_of rows) (files_of (codes "DATA") (codes "EXCL") rows)
 
+-- the value of a flag: `true` where the words have it
+abbrev pub is_given : Option Text → Bool
+is_given None = false
+is_given (Some value) = bytes_eq value (codes "true")
+
+-- the words have the flag --check-under
+abbrev pub checks_under : List Row → Bool
+checks_under rows = is_given (first_of (codes "check-under") rows)
+
+-- the values of the last place, where there are so many
+abbrev pub counted_files_of : ℕ → List Row → Option (List Text)
+counted_files_of count rows = option_and_then (λ files. if length files == count then Some files else None) (all_of (codes "FILES") rows)
+
+-- the key of a text, with two files; or with the flag what an earlier version has of it, with four
+abbrev pub key_asked : List Row → Option Asked
+key_asked rows =
+    if checks_under rows
+    then option_map (λ p. record { command = codes "key"; form = Some p.0; checks_under = true; files = p.1 }) (option_zip (form_of rows) (counted_files_of 4 rows))
+    else asked_with (codes "key") (form_of rows) (counted_files_of 2 rows)
+
 -- the comparison of two versions, four files
 abbrev pub audit_asked : List Row → Option Asked
 audit_asked rows =
-    option_map (λ p. record { command = codes "audit"; form = None; files = p.0 ++ p.1 })
+    option_map (λ p. record { command = codes "audit"; form = None; checks_under = false; files = p.0 ++ p.1 })
     (option_zip (files_of (codes "OLDDATA") (codes "OLDEXCL") rows) (files_of (codes "NEWDATA") (codes "NEWEXCL") rows))
 
 -- an even number of files, at least two
@@ -83,7 +107,7 @@ replay_asked rows = asked_with (codes "replay") (form_of rows) (replay_files_of 
 abbrev pub asked_in : Text → List Row → Option Asked
 asked_in name rows =
     if bytes_eq name (codes "normalize") then text_asked (codes "normalize") rows
-    else (if bytes_eq name (codes "key") then text_asked (codes "key") rows
+    else (if bytes_eq name (codes "key") then key_asked rows
     else (if bytes_eq name (codes "compare") then text_asked (codes "compare") rows
     else (if bytes_eq name (codes "audit") then audit_asked rows
     else (if bytes_eq name (codes "replay") then replay_asked rows else None))))

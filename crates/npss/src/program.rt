@@ -5,6 +5,7 @@ ghost use Rattle.std.specs.IoError.{error_kind};
 ghost use Rattle.np_jobs.specs.Audits.{AuditEnds};
 ghost use Rattle.np_jobs.specs.Chains.{VersionReaders};
 ghost use Rattle.np_jobs.specs.Ends.{IsRefused, IsTold, Writes};
+ghost use Rattle.np_jobs.specs.KeysUnder.{KeyUnderEnds, UnderReaders};
 ghost use Rattle.npss.specs.Program.{JobEnds, ProgramEnds};
 ghost use Rattle.np_jobs.specs.Replays.{ReplayEnds, ReplayReaders};
 ghost use Rattle.np_jobs.specs.Streams.{stream_of};
@@ -20,7 +21,8 @@ use np_code_points::Form;
 use np_code_points::output::write_out;
 use np_code_points::watched::Watched;
 use np_jobs::{
-    DONE, JobFault, audit_job, compare_job, key_job, normalize_job, refuse, replay_job, tell,
+    DONE, JobFault, audit_job, compare_job, key_job, key_under_job, normalize_job, refuse,
+    replay_job, tell,
 };
 use std::alloc::Global;
 use std::io::{Error, ErrorKind, Read, Write};
@@ -174,6 +176,43 @@ where
     ))
 }
 
+/// Runs `key` with `--check-under`.
+///
+/// # Errors
+///
+/// The status that was told, where a file can't be opened.
+fn run_key_under<R: Files, I: Read, O: Write, E: Write>(
+    rt: &R,
+    alloc: Global,
+    form: Form,
+    old: &VersionFiles,
+    new: &VersionFiles,
+    input: &mut Watched<I>,
+    output: &mut Watched<O>,
+    error: &mut Watched<E>,
+) -> Result<u8, u8>
+where
+    R::File: Drop,
+    ensures done { IfOk result (λ status. (readers : UnderReaders) × (length readers.versions ≡ 2) × (readers.input ≡ stream_of I.remaining input.old input.new)
+        × KeyUnderEnds form readers (stream_of O.contents output.old output.new) (stream_of E.contents error.old error.new) status) }
+    ensures unopened { IfErr result (IsUnopened (names_of old.now ++ names_of new.now) (stream_of E.contents error.old error.new)) }
+    ensures unwritten { IfErr result (λ status. output.new ≡ output.old) }
+{
+    let (mut old_data, mut old_exclusions) = open_version(rt, alloc, error, old)?;
+    let (mut data, mut exclusions) = open_version(rt, alloc, error, new)?;
+    Ok(key_under_job(
+        alloc,
+        form,
+        &mut old_data,
+        &mut old_exclusions,
+        &mut data,
+        &mut exclusions,
+        input,
+        output,
+        error,
+    ))
+}
+
 /// Runs `replay`.
 ///
 /// # Errors
@@ -249,6 +288,9 @@ where
             output,
             error,
         ),
+        Job::KeyUnder { form, old, new } => {
+            run_key_under(rt, alloc, *form, old, new, input, output, error)
+        }
         Job::Compare { form, files } => run_on_text(
             rt,
             alloc,

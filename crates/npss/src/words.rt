@@ -1,7 +1,7 @@
 //! What a command line asks for.
-ghost use Rattle.std.specs.Prelude.{◌≡◌, ◌≢◌, ◌≤◌, ◌∷◌, ◌/◌, ◌%◌, [], codes, length, vec_len, flat_map, IfOk, IsTrue, Some, None, Err, map, string_bytes};
+ghost use Rattle.std.specs.Prelude.{◌≡◌, ◌≢◌, ◌≤◌, ◌∷◌, ◌++◌, ◌/◌, ◌%◌, [], codes, length, vec_len, flat_map, IfOk, IfErr, IsTrue, Some, None, Err, map, string_bytes};
 ghost use Rattle.clap.specs.Words.{Text, first_of, found_of, kind_of, rows_of, subcommand_rows_of};
-ghost use Rattle.npss.specs.Words.{are_paired, asked_among, asked_by, asked_in, asked_of, asked_unless, audit_asked, files_of, form_of, names_of, paired_files_of, replay_asked, text_asked};
+ghost use Rattle.npss.specs.Words.{are_paired, asked_among, asked_by, asked_in, asked_of, asked_unless, audit_asked, checks_under, counted_files_of, files_of, form_of, key_asked, names_of, paired_files_of, replay_asked, text_asked};
 ghost use Rattle.npss.specs.inside.Jobs.{HasVersions};
 
 mod command;
@@ -38,6 +38,12 @@ pub enum Job {
     Key {
         form: Form,
         files: VersionFiles,
+    },
+    /// What an earlier version has of the key of a text.
+    KeyUnder {
+        form: Form,
+        old: VersionFiles,
+        new: VersionFiles,
     },
     /// Whether two strings are equivalent.
     Compare {
@@ -144,6 +150,85 @@ fn form_and_files(alloc: Global, found: &ArgMatches<'_>) -> Result<(Form, Versio
     Ok((form, files))
 }
 
+/// Whether the words have the flag `--check-under`.
+#[tactic(auto, using(crate::proofs::MatchLemmas::first_value_in_rows))]
+fn checks_under_in(found: &ArgMatches<'_>) -> bool
+    ensures { result ≡ checks_under (rows_of (found_of found.now)) }
+{
+    match found.get_str("check-under") {
+        Some(value) => value == "true",
+        None => false,
+    }
+}
+
+/// Two files of a version, by their names.
+fn files_named(
+    alloc: Global,
+    data_file: &str,
+    exclusions_file: &str,
+) -> Result<VersionFiles, WordsFault>
+    ensures names { IfOk result (λ files. names_of files ≡ data_file.now ∷ (exclusions_file.now ∷ [])) }
+    ensures memory { IfErr result (λ fault. fault ≡ WordsFault.Memory) }
+{
+    let (Ok(data_file), Ok(exclusions_file)) = (
+        String::from_str(alloc, data_file),
+        String::from_str(alloc, exclusions_file),
+    ) else {
+        return Err(WordsFault::Memory);
+    };
+    Ok(VersionFiles {
+        data_file,
+        exclusions_file,
+    })
+}
+
+/// The two files of the one version that the words name.
+#[tactic(auto, using(crate::proofs::MatchLemmas::raw_values_in_rows))]
+fn one_version_in(alloc: Global, found: &ArgMatches<'_>) -> Result<VersionFiles, WordsFault>
+    ensures ok { IfOk result (λ files. counted_files_of 2 (rows_of (found_of found.now)) ≡ Some (names_of files)) }
+    ensures usage { result ≡ Err WordsFault.Usage → counted_files_of 2 (rows_of (found_of found.now)) ≡ None }
+{
+    let Some([data_file, exclusions_file]) = found.get_strs("FILES") else {
+        return Err(WordsFault::Usage);
+    };
+    files_named(alloc, data_file, exclusions_file)
+}
+
+/// The four files of the two versions that the words name.
+#[tactic(auto, using(crate::proofs::MatchLemmas::raw_values_in_rows))]
+fn two_versions_in(
+    alloc: Global,
+    found: &ArgMatches<'_>,
+) -> Result<(VersionFiles, VersionFiles), WordsFault>
+    ensures ok { IfOk result (λ both. counted_files_of 4 (rows_of (found_of found.now)) ≡ Some (names_of both.0 ++ names_of both.1)) }
+    ensures usage { result ≡ Err WordsFault.Usage → counted_files_of 4 (rows_of (found_of found.now)) ≡ None }
+{
+    let Some([old_data, old_exclusions, data, exclusions]) = found.get_strs("FILES") else {
+        return Err(WordsFault::Usage);
+    };
+    let old = files_named(alloc, old_data, old_exclusions)?;
+    let new = files_named(alloc, data, exclusions)?;
+    Ok((old, new))
+}
+
+/// The job of the word `key` that the words ask for.
+fn key_in(alloc: Global, found: &ArgMatches<'_>) -> Result<Job, WordsFault>
+    ensures ok { IfOk result (λ job. key_asked (rows_of (found_of found.now)) ≡ Some (asked_of job)) }
+    ensures command { IfOk result (λ job. job ≢ Job.Help) }
+    ensures versions { IfOk result HasVersions }
+    ensures usage { result ≡ Err WordsFault.Usage → key_asked (rows_of (found_of found.now)) ≡ None }
+{
+    let Some(form) = form_in(found) else {
+        return Err(WordsFault::Usage);
+    };
+    if checks_under_in(found) {
+        let (old, new) = two_versions_in(alloc, found)?;
+        return Ok(Job::KeyUnder { form, old, new });
+    }
+    let files = one_version_in(alloc, found)?;
+    Ok(Job::Key { form, files })
+}
+
 /// The audit that the words ask for.
 fn audit_in(alloc: Global, found: &ArgMatches<'_>) -> Result<Job, WordsFault>
     ensures ok { IfOk result (λ job. audit_asked (rows_of (found_of found.now)) ≡ Some (asked_of job)) }
@@ -233,10 +318,7 @@ fn job_from(alloc: Global, name: &str, found: &ArgMatches<'_>) -> Result<Job, Wo
             let (form, files) = form_and_files(alloc, found)?;
             Ok(Job::Normalize { form, files })
         }
-        "key" => {
-            let (form, files) = form_and_files(alloc, found)?;
-            Ok(Job::Key { form, files })
-        }
+        "key" => key_in(alloc, found),
         "compare" => {
             let (form, files) = form_and_files(alloc, found)?;
             Ok(Job::Compare { form, files })

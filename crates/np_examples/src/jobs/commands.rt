@@ -104,6 +104,51 @@ fn bad_bytes_and_bad_files_are_told(rt: HostRuntime) -> Result<(), Fail> {
     are_answered(rt.alloc(), &BAD)
 }
 
+/// What the first fixture has of keys under the second: the input and the answer.
+const KEYS_UNDER: [(&[u8], Answer); 6] = [
+    (b"a\xcc\x82\xcc\xa3", (0, "own form\n", "")),
+    (b"", (0, "own form\n", "")),
+    (
+        b"\xf0\x96\xb5\xa7\xf0\x96\xb5\xa7",
+        (0, "own form, unassigned 16D68 at byte 0\n", ""),
+    ),
+    (
+        // the key is two bytes long before that place, the text three
+        b"a\xcc\x82\xf0\x96\xb5\xa7",
+        (0, "own form, unassigned 16D67 at byte 2\n", ""),
+    ),
+    (b"\xef\xbf\xbe", (3, "", "unassigned FFFE at byte 0\n")),
+    (b"a\xff", (4, "", "input: not UTF-8 at byte 1\n")),
+];
+
+/// Versions that are refused before the input is looked at, which is no UTF-8.
+const UNDER_REFUSED: [JobRow; 3] = [
+    (
+        Job::KeyUnder(Form::Nfc, V2, V1, b"\xff"),
+        (1, "", "not an extension: version 1 Lost 1DFA\n"),
+        "V2, V1",
+    ),
+    (
+        Job::KeyUnder(Form::Nfc, ("41;X;Lu;0;L;;;;;N;;;;;\n", ""), V1, b"\xff"),
+        (4, "", "version 0 data: line 1: BadCode\n"),
+        "a bad file, V1",
+    ),
+    (
+        Job::KeyUnder(Form::Nfc, V2, (V1_DATA, "x\n"), b"\xff"),
+        (4, "", "version 1 exclusions: line 1: BadCode\n"),
+        "V2, bad exclusions",
+    ),
+];
+
+#[test]
+fn keys_under_an_earlier_version_are_answered(rt: HostRuntime) -> Result<(), Fail> {
+    for (input, answer) in &KEYS_UNDER {
+        let job = Job::KeyUnder(Form::Nfc, V1, V2, input);
+        wants_answer(rt.alloc(), &job, answer, answer.1)?;
+    }
+    are_answered(rt.alloc(), &UNDER_REFUSED)
+}
+
 const AUDITS: [JobRow; 3] = [
     (Job::Audit(V1, V2), (0, "extends\n", ""), "V1, V2"),
     (

@@ -5,7 +5,7 @@ use np_code_points::Form;
 use np_code_points::devices::{Failure, Room, Trickle};
 use np_code_points::fixtures::{V1_DATA, V1_EXCLUSIONS};
 use np_code_points::watched::Watched;
-use np_jobs::{audit_job, key_job, replay_job};
+use np_jobs::{audit_job, key_job, key_under_job, replay_job};
 use std::alloc::Global;
 use std::io::Write;
 use std::test::Fail;
@@ -253,6 +253,34 @@ fn audit_reads_the_old_version_first(rt: HostRuntime) -> Result<(), Fail> {
     Ok(())
 }
 
+/// The status of a key under an earlier version whose file of this number fails at its first read; 4 is the input.
+/// And what it tells, and whether the input was read.
+fn key_under_fails(alloc: Global, failing: usize) -> (u8, Vec<u8>, bool) {
+    let (mut a, mut b) = (file(0, failing), file(1, failing));
+    let (mut c, mut d) = (file(2, failing), file(3, failing));
+    let text = if failing == 4 {
+        input().failing_at(0, Failure::Error)
+    } else {
+        input()
+    };
+    let mut text = Watched::new(text);
+    let mut output = Watched::new(Vec::new(alloc));
+    let mut error = Watched::new(Vec::new(alloc));
+    let status = key_under_job(
+        alloc,
+        Form::Nfc,
+        &mut a,
+        &mut b,
+        &mut c,
+        &mut d,
+        &mut text,
+        &mut output,
+        &mut error,
+    );
+    let _: Vec<u8> = output.into_inner();
+    (status, error.into_inner(), text.into_inner().calls() > 0)
+}
+
 /// The status of a replay over two versions, whose file of this number fails at its first read; 4
 /// is the schedule's. And what it tells, and whether the schedule was read.
 fn replay_fails(alloc: Global, failing: usize) -> (u8, Vec<u8>, bool) {
@@ -287,24 +315,28 @@ fn replay_fails(alloc: Global, failing: usize) -> (u8, Vec<u8>, bool) {
     )
 }
 
-/// Whether a replay ends so, with status 5.
-fn is_replay_failure(alloc: Global, failing: usize, line: &str, is_read: bool) -> bool {
-    let (status, told, read) = replay_fails(alloc, failing);
-    status == 5 && told.as_slice() == line.as_bytes() && read == is_read
+/// Whether a job ended so, with status 5.
+fn is_failure((status, told, read): &(u8, Vec<u8>, bool), line: &str, is_read: bool) -> bool {
+    *status == 5 && told.as_slice() == line.as_bytes() && *read == is_read
 }
 
 #[test]
-fn replay_reads_the_versions_in_order_and_then_the_schedule(rt: HostRuntime) -> Result<(), Fail> {
+fn versions_are_read_in_order_and_then_the_schedule_or_the_input(
+    rt: HostRuntime,
+) -> Result<(), Fail> {
     let alloc = rt.alloc();
-    let rows = [
-        (0, "version 0 data: ReadFailed\n", false),
-        (1, "version 0 exclusions: ReadFailed\n", false),
-        (2, "version 1 data: ReadFailed\n", false),
-        (3, "version 1 exclusions: ReadFailed\n", false),
-        (4, "schedule: ReadFailed\n", true),
+    let files = [
+        "version 0 data: ReadFailed\n",
+        "version 0 exclusions: ReadFailed\n",
+        "version 1 data: ReadFailed\n",
+        "version 1 exclusions: ReadFailed\n",
     ];
-    for (failing, line, is_read) in rows {
-        want(is_replay_failure(alloc, failing, line, is_read), line)?;
+    for failing in 0..4 {
+        let line = files[failing];
+        want(is_failure(&replay_fails(alloc, failing), line, false), line)?;
+        want(is_failure(&key_under_fails(alloc, failing), line, false), line)?;
     }
-    Ok(())
+    let (schedule, input) = ("schedule: ReadFailed\n", "input: ReadFailed\n");
+    want(is_failure(&replay_fails(alloc, 4), schedule, true), schedule)?;
+    want(is_failure(&key_under_fails(alloc, 4), input, true), input)
 }

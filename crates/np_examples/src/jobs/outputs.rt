@@ -1,6 +1,6 @@
 //! Each job into an output of which one write, or the flush, fails, in each way.
 use super::{Command, Job, job_into};
-use crate::common::{FAILURES, V1, want};
+use crate::common::{FAILURES, V1, V2, want};
 use np_code_points::Form;
 use np_code_points::devices::{Failure, Room};
 use np_code_points::fixtures::V1_DATA;
@@ -14,7 +14,7 @@ const LETTER: &[u8] = b"a\xcc\x82\xcc\xa3";
 const LINES: &[u8] = b"\xe1\xba\xad\na\xcc\x82\xcc\xa3\n";
 
 /// The jobs, and what each writes over the first fixture.
-const JOBS: [(Job, &[u8]); 5] = [
+const JOBS: [(Job, &[u8]); 6] = [
     (
         Job::Text(Command::Normalize, Form::Nfc, V1_DATA, LETTER),
         b"\xe1\xba\xad",
@@ -27,6 +27,7 @@ const JOBS: [(Job, &[u8]); 5] = [
         Job::Text(Command::Compare, Form::Nfc, V1_DATA, LINES),
         b"equal\n",
     ),
+    (Job::KeyUnder(Form::Nfc, V1, V2, LETTER), b"own form\n"),
     (Job::Audit(V1, V1), b"extends\n"),
     (
         Job::ReplayOverOne("room 1\nnodes 0\n", V1),

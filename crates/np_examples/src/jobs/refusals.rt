@@ -239,8 +239,17 @@ const TEXTS: [(TextFault, u8, &str); 6] = [
     (TextFault::Memory, 6, "out of memory\n"),
 ];
 
+/// Fails unless the fault as text is its line without the line end.
+fn wants_text(alloc: Global, fault: &JobFault, line: &str) -> Result<(), Fail> {
+    let text = format!(in alloc; "{fault}\n")?;
+    want(text.as_str() == line, line)
+}
+
 #[test]
 fn faults_of_texts_have_lines(rt: HostRuntime) -> Result<(), Fail> {
+    for (fault, _, line) in &TEXTS {
+        wants_text(rt.alloc(), &text(*fault), line)?;
+    }
     are_told(rt.alloc(), &TEXTS, &text)
 }
 
@@ -268,9 +277,9 @@ fn faults_of_schedules_have_lines(rt: HostRuntime) -> Result<(), Fail> {
 }
 
 /// Versions that are no chain.
-const CHAINS: [(ReplayFault, u8, &str); 2] = [
+const CHAINS: [(JobFault, u8, &str); 2] = [
     (
-        ReplayFault::NotExtension {
+        JobFault::NotExtension {
             version: 1,
             brk: Break {
                 kind: BreakKind::Lost,
@@ -281,7 +290,7 @@ const CHAINS: [(ReplayFault, u8, &str); 2] = [
         "not an extension: version 1 Lost 1DFA\n",
     ),
     (
-        ReplayFault::NotExtension {
+        JobFault::NotExtension {
             version: 12,
             brk: Break {
                 kind: BreakKind::NewComposite,
@@ -295,7 +304,10 @@ const CHAINS: [(ReplayFault, u8, &str); 2] = [
 
 #[test]
 fn versions_that_are_no_chain_have_lines(rt: HostRuntime) -> Result<(), Fail> {
-    are_told(rt.alloc(), &CHAINS, &replay)
+    for (fault, _, line) in &CHAINS {
+        wants_text(rt.alloc(), fault, line)?;
+    }
+    are_told(rt.alloc(), &CHAINS, &itself)
 }
 
 /// Faults of no input.

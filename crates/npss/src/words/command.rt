@@ -2,7 +2,7 @@
 ghost use Rattle.std.specs.Prelude.{◌≡◌, IfOk, false, map, string_bytes};
 ghost use Rattle.clap.specs.Words.{FailsBy, app_of, fault_of, rule_of, subcommand_of, subcommand_rows_of, with_subcommand};
 ghost use Rattle.clap.specs.declared.builder.command.Command.TheViews.{out-Command as fields_of};
-ghost use Rattle.npss.specs.Commands.{audit_app, file_rule, files_rule, form_rule, replay_app, text_app, texts_app, program_app, with_files};
+ghost use Rattle.npss.specs.Commands.{audit_app, check_under_rule, file_rule, files_rule, form_rule, key_app, replay_app, text_app, texts_app, program_app, with_files};
 
 use clap::{Arg, ArgAction, ArgMatches, Command, Error};
 use std::alloc::{AllocError, Global};
@@ -62,6 +62,27 @@ fn text_command<'a>(alloc: Global, name: &'a str) -> Result<Command<'a>, AllocEr
     with_files(alloc, command, "DATA", "EXCL")
 }
 
+/// The flag `--check-under`.
+fn check_under_arg<'a>(alloc: Global) -> Arg<'a>
+    ensures rule { rule_of result ≡ check_under_rule }
+    ensures local { result.global ≡ false }
+{
+    Arg::new(alloc, "check-under")
+        .long("check-under")
+        .action(ArgAction::SetTrue)
+}
+
+/// The command that makes keys.
+fn key_command<'a>(alloc: Global) -> Result<Command<'a>, AllocError>
+    ensures app { IfOk result (λ c. app_of c ≡ key_app) }
+    ensures local { IfOk result (λ c. (fields_of c).has_globals ≡ false) }
+{
+    Command::new(alloc, "key")
+        .arg(form_arg(alloc))?
+        .arg(check_under_arg(alloc))?
+        .arg(files_arg(alloc, "FILES"))
+}
+
 /// The command that compares two versions.
 fn audit_command<'a>(alloc: Global) -> Result<Command<'a>, AllocError>
     ensures app { IfOk result (λ c. app_of c ≡ audit_app) }
@@ -98,7 +119,7 @@ fn program_of_texts<'a>(alloc: Global) -> Result<Command<'a>, AllocError>
         .no_binary_name(true)
         .subcommand_required(true);
     let program = with_command(program, text_command(alloc, "normalize")?)?;
-    let program = with_command(program, text_command(alloc, "key")?)?;
+    let program = with_command(program, key_command(alloc)?)?;
     with_command(program, text_command(alloc, "compare")?)
 }
 

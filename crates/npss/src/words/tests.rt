@@ -37,6 +37,32 @@ const NFD_KEY: &str =
 const NFC_KEY: &str =
     r#"Key { form: Nfc, files: VersionFiles { data_file: "D", exclusions_file: "E" } }"#;
 
+const KEY_UNDER: &str =
+    r#"KeyUnder { form: Nfc, old: VersionFiles { data_file: "A", exclusions_file: "B" }, new: VersionFiles { data_file: "C", exclusions_file: "D" } }"#;
+
+/// Words that name a key under an earlier version: the flag and the form stand anywhere among the files.
+const KEYS_UNDER: [&str; 11] = [
+    "key --form nfc --check-under A B C D",
+    "key --check-under --form nfc A B C D",
+    "key --form=nfc A --check-under B C D",
+    "key --form nfc A B --check-under C D",
+    "key --form nfc A B C --check-under D",
+    "key --form nfc A B C D --check-under",
+    "key --check-under A --form nfc B C D",
+    "key --check-under A B --form nfc C D",
+    "key A --check-under B C --form nfc D",
+    "key A B C D --check-under --form nfc",
+    "key --form nfc --check-under -- A B C D",
+];
+
+#[test]
+fn reads_the_flag_at_each_place(rt: HostRuntime) -> Result<(), Fail> {
+    for text in &KEYS_UNDER {
+        are_read(rt.alloc(), &[(text, KEY_UNDER)])?;
+    }
+    Ok(())
+}
+
 /// Words that name a job, and the job.
 const JOBS: [(&str, &str); 13] = [
     ("", "Help"),
@@ -103,7 +129,7 @@ fn reads_words_that_name_a_replay(rt: HostRuntime) -> Result<(), Fail> {
 }
 
 /// Words that name no job.
-const OTHERS: [&str; 36] = [
+const OTHERS: [&str; 47] = [
     "--help",
     "-h",
     "--version",
@@ -124,6 +150,17 @@ const OTHERS: [&str; 36] = [
     "key --form nfc D",
     "key --form nfc D E F",
     "key --form nfc --unknown D E",
+    "key --form nfc A B C D",
+    "key --check-under A B C D",
+    "key --form nfc --check-under",
+    "key --form nfc --check-under A",
+    "key --form nfc --check-under A B",
+    "key --form nfc --check-under A B C",
+    "key --form nfc --check-under A B C D E",
+    "key --form nfc --check-under --check-under A B C D",
+    "key --form nfc --check-under=true A B C D",
+    "key --form nfc --check A B C D",
+    "normalize --form nfc --check-under A B C D",
     "compare --form nfc D",
     "normalize D E",
     "audit A B C",
@@ -171,5 +208,6 @@ fn a_refused_parse_succeeds_after_all(rt: HostRuntime) -> Result<(), Fail> {
     wants_read(rt.alloc(), "", true)?;
     wants_read(rt.alloc(), "key --form nfx D E", false)?;
     wants_read(rt.alloc(), "--help", false)?;
+    wants_read(rt.alloc(), "key --form nfc --check-under A B C D", true)?;
     wants_read(rt.alloc(), "replay --form nfc S D E", true)
 }

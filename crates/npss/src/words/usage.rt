@@ -8,6 +8,7 @@ pub fn usage_text() -> &'static str
 {
     "usage: npss normalize --form FORM DATA EXCL
        npss key --form FORM DATA EXCL
+       npss key --form FORM --check-under OLDDATA OLDEXCL DATA EXCL
        npss compare --form FORM DATA EXCL
        npss audit OLDDATA OLDEXCL NEWDATA NEWEXCL
        npss replay --form FORM SCHEDULE FILES..

@@ -1,0 +1,204 @@
+//! The command `key` with `--check-under`: what a machine that lags behind has of a key.
+ghost use Rattle.std.specs.Prelude.{◌≡◌, ◌∷◌, [], false, IfNone, IfOk, IfErr, IfSome, chars, string_bytes};
+ghost use Rattle.np_chain.specs.Extension.{Extends};
+ghost use Rattle.np_code_points.specs.Watched.{has_failed};
+ghost use Rattle.np_forms.specs.Assigned.{IsAssigned, IsFirstUnassigned};
+ghost use Rattle.np_jobs.specs.Chains.{LacksOne, WereBuilt, readers_of};
+ghost use Rattle.np_jobs.specs.Keys.{LacksKey};
+ghost use Rattle.np_jobs.specs.KeysUnder.{IsKeyUnder, KeyUnderEnds, MakesUnder, RefusesPair, RefusesUnder, SaysOwn};
+ghost use Rattle.np_jobs.specs.Streams.{stream_of};
+ghost use Rattle.np_jobs.specs.Texts.{IsMadeOfText, IsTextFault};
+ghost use Rattle.np_jobs.specs.inside.UnderSteps.{MakesOfPair};
+
+use crate::ending::{Made, finish};
+use crate::faults::{JobFault, TextFault, VersionFault};
+use crate::key::key_of;
+use crate::lines::unassigned_text;
+use crate::texts::{read_input, text_in};
+use crate::versions::{read_table, read_version};
+use np_chain::extends;
+use np_code_points::watched::Watched;
+use np_code_points::{Form, Memory};
+use np_tables::{NormTable, PageTable, Version};
+use std::alloc::Global;
+use std::io::{Read, Write};
+
+/// The first code point of a text that a version does not assign, with its byte place, from 0; none
+/// where it assigns each.
+fn first_absent(version: &Version, text: &str) -> Option<(usize, char)>
+    ensures none { IfNone result (IsAssigned version.now (chars text.now)) }
+    ensures some { IfSome result (λ found. IsFirstUnassigned version.now (chars text.now) found.0 found.1) }
+{
+    let mut iter = text.chars();
+    'scan: loop {
+        let here = iter.as_str();
+        let Some(c) = iter.next() else {
+            return None;
+        };
+        if !version.assigned_code(u32::from(c)) {
+            return Some((text.len() - here.len(), c));
+        }
+    }
+}
+
+/// What is said of a key that is its own form under a version: which code point of it that version
+/// lacks, if it lacks one.
+fn own_line(alloc: Global, old: &Version, key: &str) -> Result<String, Memory>
+    ensures { IfOk result (λ line. SaysOwn old.now (chars key.now) (string_bytes line)) }
+{
+    match first_absent(old, key) {
+        None => Ok(String::from_str(alloc, "own form\n")?),
+        Some((at, code)) => unassigned_text(alloc, "own form, ", at, code),
+    }
+}
+
+/// What is said of the stabilized string of a text, which is given up, under the earlier version.
+fn make_own<T: NormTable>(
+    alloc: Global,
+    form: Form,
+    old: &Version,
+    table: &T,
+    text: String,
+) -> Result<Made, TextFault>
+    requires { Extends old.now (T.model table.now) }
+    ensures own { IfOk result (λ m. IsKeyUnder form old.now (T.model table.now) (string_bytes text) m.is_yes (string_bytes m.text)) }
+    ensures refused { IfErr result (LacksKey (T.model table.now) (string_bytes text)) }
+{
+    old.meets_conditions();
+    table.meets_conditions();
+    // The key is its own form under the old version, which is not asked for it.
+    np_chain::laws::backward();
+    let key = key_of(alloc, form, table, text)?;
+    match own_line(alloc, old, key.as_str()) {
+        Ok(text) => Ok(Made { text, is_yes: true }),
+        Err(_) => Err(TextFault::Memory),
+    }
+}
+
+/// Reads the input, and says what the earlier version has of its key.
+fn made_of_input<T: NormTable, I: Read>(
+    alloc: Global,
+    form: Form,
+    old: &Version,
+    table: &T,
+    input: &mut Watched<I>,
+) -> Result<Made, TextFault>
+    requires { Extends old.now (T.model table.now) }
+    ensures made { IfOk result (λ m. IsMadeOfText (IsKeyUnder form old.now (T.model table.now))
+        (stream_of I.remaining input.old input.new) m.is_yes (string_bytes m.text)) }
+    ensures refused { IfErr result (IsTextFault (LacksKey (T.model table.now)) (stream_of I.remaining input.old input.new)) }
+{
+    let bytes = read_input(alloc, input)?;
+    let text = text_in(bytes)?;
+    make_own(alloc, form, old, table, text)
+}
+
+/// Checks that the table's version extends the old one, and answers the input.
+fn made_of_pair<T: NormTable, I: Read>(
+    alloc: Global,
+    form: Form,
+    old: &Version,
+    table: &T,
+    input: &mut Watched<I>,
+) -> Result<Made, JobFault>
+    requires { has_failed input.old ≡ false }
+    ensures made { IfOk result (MakesOfPair form old.now (T.model table.now) (stream_of I.remaining input.old input.new)) }
+    ensures refused { IfErr result (RefusesPair old.now (T.model table.now) (stream_of I.remaining input.old input.new)) }
+{
+    if let Err(brk) = extends(old, table.version()) {
+        return Err(JobFault::NotExtension { version: 1, brk });
+    }
+    Ok(made_of_input(alloc, form, old, table, input)?)
+}
+
+/// Reads the files of both versions, the old one's first. Of the old one there is no table.
+fn read_both<F: Read>(
+    alloc: Global,
+    old_data_file: &mut Watched<F>,
+    old_exclusions_file: &mut Watched<F>,
+    data_file: &mut Watched<F>,
+    exclusions_file: &mut Watched<F>,
+) -> Result<(Version, PageTable), VersionFault>
+    ensures built { IfOk result (λ both. WereBuilt (readers_of F.remaining
+        (old_data_file.old ∷ old_exclusions_file.old ∷ data_file.old ∷ exclusions_file.old ∷ [])
+        (old_data_file.new ∷ old_exclusions_file.new ∷ data_file.new ∷ exclusions_file.new ∷ [])) (both.0 ∷ both.1 ∷ [])) }
+    ensures refused { IfErr result (LacksOne (readers_of F.remaining
+        (old_data_file.old ∷ old_exclusions_file.old ∷ data_file.old ∷ exclusions_file.old ∷ [])
+        (old_data_file.new ∷ old_exclusions_file.new ∷ data_file.new ∷ exclusions_file.new ∷ []))) }
+{
+    data_file.clear();
+    exclusions_file.clear();
+    let old = read_version(alloc, 0, old_data_file, old_exclusions_file)?;
+    let table = read_table(alloc, 1, data_file, exclusions_file)?;
+    Ok((old, table))
+}
+
+/// Reads both versions, and answers the input.
+fn made_of_versions<F: Read, I: Read>(
+    alloc: Global,
+    form: Form,
+    old_data_file: &mut Watched<F>,
+    old_exclusions_file: &mut Watched<F>,
+    data_file: &mut Watched<F>,
+    exclusions_file: &mut Watched<F>,
+    input: &mut Watched<I>,
+) -> Result<Made, JobFault>
+    ensures made { IfOk result (λ m. MakesUnder form (record {
+      versions = readers_of F.remaining
+          (old_data_file.old ∷ old_exclusions_file.old ∷ data_file.old ∷ exclusions_file.old ∷ [])
+          (old_data_file.new ∷ old_exclusions_file.new ∷ data_file.new ∷ exclusions_file.new ∷ []);
+      input = stream_of I.remaining input.old input.new;
+    }) m.is_yes (string_bytes m.text)) }
+    ensures refused { IfErr result (RefusesUnder (record {
+      versions = readers_of F.remaining
+          (old_data_file.old ∷ old_exclusions_file.old ∷ data_file.old ∷ exclusions_file.old ∷ [])
+          (old_data_file.new ∷ old_exclusions_file.new ∷ data_file.new ∷ exclusions_file.new ∷ []);
+      input = stream_of I.remaining input.old input.new;
+    })) }
+{
+    input.clear();
+    let (old, table) = read_both(
+        alloc,
+        old_data_file,
+        old_exclusions_file,
+        data_file,
+        exclusions_file,
+    )?;
+    made_of_pair(alloc, form, &old, &table, input)
+}
+
+/// Makes the stabilized string of the input, a text, under the version of the last two files, and
+/// writes a line on it under the earlier version of the first two: `own form`, since there it is its
+/// own normal form; and where that version does not assign each code point of it, the first that it
+/// lacks, with its byte place in the stabilized string, from 0. Answers the status, 1 where the
+/// later version does not extend the earlier one, and then the input is not read; a refusal is told
+/// in a line on `error`, and leaves the output as it was.
+pub fn key_under_job<F: Read, I: Read, O: Write, E: Write>(
+    alloc: Global,
+    form: Form,
+    old_data_file: &mut Watched<F>,
+    old_exclusions_file: &mut Watched<F>,
+    data_file: &mut Watched<F>,
+    exclusions_file: &mut Watched<F>,
+    input: &mut Watched<I>,
+    output: &mut Watched<O>,
+    error: &mut Watched<E>,
+) -> u8
+    ensures { KeyUnderEnds form (record {
+      versions = readers_of F.remaining
+          (old_data_file.old ∷ old_exclusions_file.old ∷ data_file.old ∷ exclusions_file.old ∷ [])
+          (old_data_file.new ∷ old_exclusions_file.new ∷ data_file.new ∷ exclusions_file.new ∷ []);
+      input = stream_of I.remaining input.old input.new;
+    }) (stream_of O.contents output.old output.new) (stream_of E.contents error.old error.new) result }
+{
+    let made = made_of_versions(
+        alloc,
+        form,
+        old_data_file,
+        old_exclusions_file,
+        data_file,
+        exclusions_file,
+        input,
+    );
+    finish(alloc, output, error, made)
+}
