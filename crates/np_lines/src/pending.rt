@@ -1,5 +1,5 @@
 //! What of an input was not read to the end of a line, and what of the answers is not written.
-ghost use Rattle.std.specs.Prelude.{◌≡◌, ◌++◌, ℕ, List, IfOk, OnOk};
+ghost use Rattle.std.specs.Prelude.{◌≡◌, ◌++◌, [], ℕ, List, IfOk, OnOk};
 ghost use Rattle.np_lines.specs.inside.Steps.{Finishes, Goes, HasBegun, IsAnswerTo, IsEnded, IsNew, IsTold};
 
 use crate::answers::{LIMIT, push_answer, push_refusal};
@@ -35,6 +35,11 @@ impl Pending {
             out: Vec::new(alloc),
             any_refused: false,
         }
+    }
+
+    /// The allocator.
+    pub(crate) fn alloc(&self) -> Global {
+        self.alloc
     }
 
     /// The answers that are not written yet.

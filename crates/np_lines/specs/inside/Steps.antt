@@ -1,5 +1,5 @@
 -- A run between two bytes of its input.
-use Rattle.std.specs.Prelude.{◌≡◌, ◌⊎◌, ℕ, ◌<◌, ◌≤◌, ◌||◌, Bool, true, false, List, [], ◌∷◌, ◌++◌, length}
+use Rattle.std.specs.Prelude.{◌≡◌, ◌⊎◌, ℕ, ◌<◌, ◌≤◌, ◌||◌, Bool, true, false, List, [], ◌∷◌, ◌++◌, length, take, Option}
 use Rattle.std.specs.Io.KnownBytes.{Appends, Consumes}
 use Rattle.std.specs.List.{list_any}
 use Rattle.np_code_points.specs.Lines.{HasNo}
@@ -8,6 +8,8 @@ use Rattle.np_tables.specs.Versions.{VersionData}
 use Rattle.np_lines.specs.Answers.{Wanted, AreAnswers, IsAnswer, is_refusal, most_bytes}
 use Rattle.np_lines.specs.Lines.{AreLines, IsCut, byte_of, ended}
 use Rattle.np_lines.specs.declared.pending.Pending.{Pending}
+use Rattle.np_lines.specs.declared.runs.LinesFault.{LinesFault}
+use Rattle.np_lines.specs.declared.runs.LinesFault.TheVariants.{ReadFailed, WriteFailed, Memory}
 
 -- of the line that has begun these bytes came: they are kept, or are too many
 abbrev pub HasBegun : Pending → List ℕ → Type 0
@@ -81,3 +83,42 @@ pub record IsBetweenReads (v : VersionData) (wanted : Wanted) (ends : Ends) (p :
   pub written : Appends ends.out_before ends.out_after done
   pub answered : IsAnswered v wanted came done p
   pub nothing : p.out.items ≡ []
+
+-- a piece came, and the answers to the lines that end in it are written
+pub record IsPieceAnswered (v : VersionData) (wanted : Wanted) (old new : Pending) (o₁ o₂ : Option (List ℕ)) (piece : List ℕ) : Type 0 where
+  pub more : List ℕ
+  pub written : Appends o₁ o₂ more
+  pub nothing : new.out.items ≡ []
+  pub carries : (came done : List ℕ) → IsAnswered v wanted came done old → IsAnswered v wanted (came ++ piece) (done ++ more) new
+
+-- some first bytes of the answers to the lines that end in a piece are written
+pub record IsPieceFront (v : VersionData) (wanted : Wanted) (old : Pending) (o₁ o₂ : Option (List ℕ)) (piece : List ℕ) : Type 0 where
+  pub more : List ℕ
+  pub count : ℕ
+  pub written : Appends o₁ o₂ (take count more)
+  pub new : Pending
+  pub carries : (came done : List ℕ) → IsAnswered v wanted came done old → IsAnswered v wanted (came ++ piece) (done ++ more) new
+
+abbrev pub IsPieceCut : VersionData → Wanted → Pending → Option (List ℕ) → Option (List ℕ) → List ℕ → LinesFault → Type 0
+IsPieceCut v wanted old o₁ o₂ piece ReadFailed = ⊥
+IsPieceCut v wanted old o₁ o₂ piece WriteFailed = IsPieceFront v wanted old o₁ o₂ piece
+IsPieceCut v wanted old o₁ o₂ piece Memory = Appends o₁ o₂ []
+
+-- the input ended, and the answers to all its lines are written
+pub record IsRestAnswered (v : VersionData) (wanted : Wanted) (old : Pending) (o₁ o₂ : Option (List ℕ)) (any_refused : Bool) : Type 0 where
+  pub more : List ℕ
+  pub written : Appends o₁ o₂ more
+  pub whole : (came done : List ℕ) → IsAnswered v wanted came done old → IsAllAnswered v wanted came (done ++ more) any_refused
+
+-- some first bytes of them are
+pub record IsRestFront (v : VersionData) (wanted : Wanted) (old : Pending) (o₁ o₂ : Option (List ℕ)) : Type 0 where
+  pub more : List ℕ
+  pub count : ℕ
+  pub written : Appends o₁ o₂ (take count more)
+  pub any_refused : Bool
+  pub whole : (came done : List ℕ) → IsAnswered v wanted came done old → IsAllAnswered v wanted came (done ++ more) any_refused
+
+abbrev pub IsRestCut : VersionData → Wanted → Pending → Option (List ℕ) → Option (List ℕ) → LinesFault → Type 0
+IsRestCut v wanted old o₁ o₂ ReadFailed = ⊥
+IsRestCut v wanted old o₁ o₂ WriteFailed = IsRestFront v wanted old o₁ o₂
+IsRestCut v wanted old o₁ o₂ Memory = Appends o₁ o₂ []
