@@ -1,3 +1,4 @@
 pub mod CutLemmas
 pub mod StepLemmas
+pub mod BegunLemmas
 pub mod RunLemmas

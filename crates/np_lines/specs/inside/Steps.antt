@@ -34,6 +34,12 @@ pub record Goes (v : VersionData) (wanted : Wanted) (old new : Pending) (bytes :
   pub out_is : new.out.items ≡ old.out.items ++ more
   pub carries : (came done : List ℕ) → IsAnswered v wanted came done old → IsAnswered v wanted (came ++ bytes) (done ++ more) new
 
+-- of a piece some first bytes came, and the rest is left
+pub record HasTaken (v : VersionData) (wanted : Wanted) (old new : Pending) (piece rest : List ℕ) : Type 0 where
+  pub front : List ℕ
+  pub split : piece ≡ front ++ rest
+  pub goes : Goes v wanted old new front
+
 -- an answer was appended, and whether it is a refusal
 pub record IsTold (Is : List ℕ → Type 0) (old new : List ℕ) (refused : Bool) : Type 0 where
   pub answer : List ℕ
