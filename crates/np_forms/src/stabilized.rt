@@ -1,6 +1,6 @@
 //! Stabilized strings (UAX #15, section 12).
 ghost use Rattle.std.specs.Prelude.{◌≡◌, ◌++◌, chars, string_bytes, encode_utf8_all, IfOk, IfErr, IfNone, IfSome, IsTrue, OnOk};
-ghost use Rattle.std_alloc.specs.Cow.{cow_str_bytes};
+ghost use Rattle.std.specs.Cow.{cow_str_bytes};
 ghost use Rattle.np_forms.specs.Assigned.{IsAssigned};
 ghost use Rattle.np_forms.specs.Faults.{IsNpssFault};
 ghost use Rattle.np_forms.specs.Forms.{IsNormalForm};
@@ -154,9 +154,9 @@ pub fn lend_npss<'a, T: NormTable>(
 {
     table.meets_conditions();
     let (stays, behind, _stood) = split_standing(table, wanted, true, text);
-    if behind.is_empty() {
-        return Ok(CowStr::Borrowed(text));
+    if !behind.is_empty() {
+        let key = stabilize(alloc, table, wanted, text, stays, behind)?;
+        return Ok(CowStr::Owned(key));
     }
-    let key = stabilize(alloc, table, wanted, text, stays, behind)?;
-    Ok(CowStr::Owned(key))
+    Ok(CowStr::Borrowed(text))
 }
