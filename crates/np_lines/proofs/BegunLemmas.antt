@@ -27,7 +27,7 @@ begun-kept p q rest bytes not within long line (inr (is_long, _, many)) = absurd
 
 -- ---- its answer
 
-module _ {v : VersionData} {wanted : Wanted} where
+module _ (v : VersionData) (wanted : Wanted) where
   -- all of it is here
   pub told-whole : (p : Pending) (bytes old new : List ℕ) (refused : Bool) → p.line.items ≡ [] → p.is_long ≡ false → IsTold (IsAnswer v wanted bytes) old new refused → IsTold (IsAnswerTo v wanted p bytes) old new refused
   told-whole p bytes old new refused line short t = record {
@@ -77,17 +77,17 @@ module _ {v : VersionData} {wanted : Wanted} where
   -- ---- the lines of a piece
 
   pub taken-line : (p q r : Pending) (piece rest line behind : List ℕ) → HasTaken v wanted p q piece rest → rest ≡ line ++ byte_of wanted.end ∷ behind → HasNo (byte_of wanted.end) line → IsEnded v wanted q r line → HasTaken v wanted p r piece behind
-  taken-line p q r piece rest line behind t is no e = record {
+  taken-line p q r piece rest line behind t is free e = record {
     front = t.front ++ (line ++ byte_of wanted.end ∷ []);
     split =
         t.split
         ∙ ap (λ l. t.front ++ l) is
         ∙ ap (λ l. t.front ++ l) (sym (append_assoc line (byte_of wanted.end ∷ []) behind))
         ∙ sym (append_assoc t.front (line ++ byte_of wanted.end ∷ []) behind);
-    goes = goes-joined v wanted p q r t.front (line ++ byte_of wanted.end ∷ []) t.goes (goes-end v wanted q r line no e);
+    goes = goes-joined v wanted p q r t.front (line ++ byte_of wanted.end ∷ []) t.goes (goes-end v wanted q r line free e);
   }
 
   pub taken-last : (p q r : Pending) (piece rest line : List ℕ) → HasTaken v wanted p q piece rest → rest ≡ line → HasNo (byte_of wanted.end) line → r.out.items ≡ q.out.items → r.any_refused ≡ q.any_refused
       → ((rest : List ℕ) → HasBegun q rest → HasBegun r (rest ++ line)) → Goes v wanted p r piece
-  taken-last p q r piece rest line t is no out told begun =
-      subst (Goes v wanted p r) (sym (t.split ∙ ap (λ l. t.front ++ l) is)) (goes-joined v wanted p q r t.front line t.goes (goes-on v wanted q r line no out told begun))
+  taken-last p q r piece rest line t is free out told begun =
+      subst (Goes v wanted p r) (sym (t.split ∙ ap (λ l. t.front ++ l) is)) (goes-joined v wanted p q r t.front line t.goes (goes-on v wanted q r line free out told begun))

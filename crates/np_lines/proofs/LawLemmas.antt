@@ -27,16 +27,16 @@ use Rattle.np_lines.specs.Lines.{LineEnd, Lf, Nul, AreLines, IsCut, byte_of, end
 
 -- a byte is among these, or not
 no_step : (byte x : ℕ) (xs : List ℕ) (t : Bool) → eqb x byte ≡ t → HasNo byte xs ⊎ (¬ HasNo byte xs) → HasNo byte (x ∷ xs) ⊎ (¬ HasNo byte (x ∷ xs))
-no_step byte x xs true e more = inr (λ no. All-head (not_byte byte) x xs no (eqb-true x byte e))
-no_step byte x xs false e (inl no) = inl (All-cons (not_byte byte) x xs (eqb-false x byte e) no)
-no_step byte x xs false e (inr some) = inr (λ no. some (All-tail (not_byte byte) x xs no))
+no_step byte x xs true e more = inr (λ free. All-head (not_byte byte) x xs free (eqb-true x byte e))
+no_step byte x xs false e (inl free) = inl (All-cons (not_byte byte) x xs (eqb-false x byte e) free)
+no_step byte x xs false e (inr some) = inr (λ free. some (All-tail (not_byte byte) x xs free))
 
 has_no_or : (byte : ℕ) (xs : List ℕ) → HasNo byte xs ⊎ (¬ HasNo byte xs)
 has_no_or byte [] = inl (All-nil (not_byte byte))
 has_no_or byte (x ∷ xs) = no_step byte x xs (eqb x byte) refl (has_no_or byte xs)
 
 told_in : (end : LineEnd) (key : List ℕ) → HasNo (byte_of end) key ⊎ (¬ HasNo (byte_of end) key) → HasOne (IsToldKey end key)
-told_in end key (inl no) = (told_key key, inl (no, refl), λ answer h. elim h as (λ _. answer ≡ told_key key) [ inl is ↦ is.1 | inr other ↦ absurd (other.0 no) ])
+told_in end key (inl free) = (told_key key, inl (free, refl), λ answer h. elim h as (λ _. answer ≡ told_key key) [ inl is ↦ is.1 | inr other ↦ absurd (other.0 free) ])
 told_in end key (inr some) =
     let why = told_refusal (codes "line end in key") in
     (why, inr (some, refl), λ answer h. elim h as (λ _. answer ≡ why) [ inl other ↦ absurd (some other.0) | inr is ↦ is.1 ])
@@ -230,7 +230,7 @@ refusal_printed : (end : LineEnd) (why : List ℕ) → All IsPrinted why → Has
 refusal_printed end why h = printed end (told_refusal why) (All-cons IsPrinted 33 why (omega arith) h)
 
 told_no_end : (end : LineEnd) (key answer : List ℕ) → IsToldKey end key answer → HasNo (byte_of end) answer
-told_no_end end key answer (inl (no, is)) = subst (HasNo (byte_of end)) (sym is) (All-cons (not_byte (byte_of end)) 61 key (no_end end 61 (omega arith)) no)
+told_no_end end key answer (inl (free, is)) = subst (HasNo (byte_of end)) (sym is) (All-cons (not_byte (byte_of end)) 61 key (no_end end 61 (omega arith)) free)
 told_no_end end key answer (inr (some, is)) = subst (HasNo (byte_of end)) (sym is) (refusal_printed end (codes "line end in key") (printed_all (codes "line end in key") refl))
 
 within_no_end : (v : VersionData) (wanted : Wanted) (line answer : List ℕ) → length line ≤ most_bytes → IsAnswerWithin v wanted line answer → HasNo (byte_of wanted.end) answer

@@ -1,4 +1,5 @@
 pub mod CutLemmas
+pub mod AnswerLemmas
 pub mod StepLemmas
 pub mod BegunLemmas
 pub mod RunLemmas

@@ -22,7 +22,7 @@ ends_of i₀ i₁ o₀ o₁ = record { in_before = i₀; in_after = i₁; out_be
 front_split : (done more : List ℕ) (count : ℕ) → done ++ more ≡ (done ++ take count more) ++ drop count more
 front_split done more count = ap (λ l. done ++ l) (sym (take-append-drop count more)) ∙ sym (append_assoc done (take count more) (drop count more))
 
-module _ {v : VersionData} {wanted : Wanted} where
+module _ (v : VersionData) (wanted : Wanted) where
   -- before the first read
   pub between-new : (i o : Option (List ℕ)) (p : Pending) → IsNew p → IsBetweenReads v wanted (ends_of i i o o) p
   between-new i o p h = record {

@@ -79,13 +79,13 @@ goes-joined v wanted p q r front back g h = record {
 -- bytes without an end
 pub goes-on : (v : VersionData) (wanted : Wanted) (p q : Pending) (bytes : List ℕ) → HasNo (byte_of wanted.end) bytes → q.out.items ≡ p.out.items → q.any_refused ≡ p.any_refused
     → ((rest : List ℕ) → HasBegun p rest → HasBegun q (rest ++ bytes)) → Goes v wanted p q bytes
-goes-on v wanted p q bytes no out told begun = record {
+goes-on v wanted p q bytes free out told begun = record {
   more = [];
   out_is = out ∙ sym (append-nil p.out.items);
   carries = λ came done a. record {
     lines = a.lines;
     rest = a.rest ++ bytes;
-    cut = cut-more wanted.end came a.lines a.rest bytes a.cut no;
+    cut = cut-more wanted.end came a.lines a.rest bytes a.cut free;
     begun = begun a.rest a.begun;
     answers = a.answers;
     answers_are = a.answers_are;
@@ -107,7 +107,7 @@ one_more_told old new answers answer told before =
 
 -- the rest of a line and its end
 pub goes-end : (v : VersionData) (wanted : Wanted) (p q : Pending) (bytes : List ℕ) → HasNo (byte_of wanted.end) bytes → IsEnded v wanted p q bytes → Goes v wanted p q (bytes ++ byte_of wanted.end ∷ [])
-goes-end v wanted p q bytes no e = record {
+goes-end v wanted p q bytes free e = record {
   more = e.answer ++ byte_of wanted.end ∷ [];
   out_is = e.out_is;
   carries = λ came done a. record {
@@ -115,7 +115,7 @@ goes-end v wanted p q bytes no e = record {
     rest = [];
     cut =
         subst (λ l. IsCut wanted.end l (a.lines ++ (a.rest ++ bytes) ∷ []) []) (append_assoc came bytes (byte_of wanted.end ∷ []))
-        (cut-end wanted.end (came ++ bytes) a.lines (a.rest ++ bytes) (cut-more wanted.end came a.lines a.rest bytes a.cut no));
+        (cut-end wanted.end (came ++ bytes) a.lines (a.rest ++ bytes) (cut-more wanted.end came a.lines a.rest bytes a.cut free));
     begun = e.begins;
     answers = a.answers ++ e.answer ∷ [];
     answers_are = AllZip-push (IsAnswer v wanted) a.lines a.answers (a.rest ++ bytes) e.answer a.answers_are (e.is a.rest a.begun);

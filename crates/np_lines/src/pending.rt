@@ -1,5 +1,5 @@
 //! What of an input was not read to the end of a line, and what of the answers is not written.
-ghost use Rattle.std.specs.Prelude.{◌≡◌, ◌++◌, [], ℕ, List, IfOk, OnOk};
+ghost use Rattle.std.specs.Prelude.{◌≡◌, ◌≢◌, ◌⊎◌, ◌++◌, [], true, false, ℕ, List, IfOk, IsTrue, OnOk};
 ghost use Rattle.np_lines.specs.inside.Steps.{Finishes, Goes, HasBegun, IsAnswerTo, IsEnded, IsNew, IsTold};
 
 use crate::answers::{LIMIT, push_answer, push_refusal};
@@ -56,6 +56,14 @@ impl Pending {
         self.any_refused
     }
 
+    /// Whether a byte came of a line whose end did not.
+    fn has_begun(&self) -> bool
+        ensures some { IsTrue result → (self.now.line.items ≢ []) ⊎ (self.now.is_long ≡ true) }
+        ensures none { result ≡ false → (self.now.line.items ≡ []) × (self.now.is_long ≡ false) }
+    {
+        self.is_long || !self.line.is_empty()
+    }
+
     /// Forgets the answers, which were written.
     pub(crate) fn clear_out(&mut self)
         ensures empty { self.new.out.items ≡ [] }
@@ -95,7 +103,7 @@ impl Pending {
         ensures told { IfOk result (IsTold (IsAnswerTo (T.model table.now) wanted self.old bytes.now) self.old.out.items self.new.out.items) }
         ensures same { self.new.any_refused ≡ self.old.any_refused }
     {
-        if self.line.is_empty() && !self.is_long {
+        if !self.has_begun() {
             return push_answer(self.alloc, table, wanted, bytes, &mut self.out);
         }
         self.go_on(bytes)?;
@@ -147,7 +155,7 @@ impl Pending {
     pub(crate) fn finish<T: NormTable>(&mut self, table: &T, wanted: Wanted) -> Result<(), Memory>
         ensures { OnOk result (Finishes (T.model table.now) wanted self.old self.new) }
     {
-        if self.line.is_empty() && !self.is_long {
+        if !self.has_begun() {
             return Ok(());
         }
         self.end_line(table, wanted, b"")
