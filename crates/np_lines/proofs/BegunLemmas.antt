@@ -1,10 +1,12 @@
 -- A line that comes piece by piece, and its answer.
-use Rattle.std.proofs.Common.{◌≡◌, ℕ, ◌+◌, ◌<◌, ◌≤◌, ◌||◌, Bool, true, false, List, [], ◌∷◌, ◌++◌, length, codes, refl, sym, ap, subst, ◌∙◌, inl, inr, append_assoc, length-append, arith}
+use Rattle.std.proofs.Common.{◌≡◌, ℕ, ◌+◌, ◌<◌, ◌≤◌, ◌||◌, Bool, true, false, List, [], ◌∷◌, ◌++◌, length, codes, Bor, Option, None, Some, option_map, refl, sym, ap, subst, ◌∙◌, inl, inr, append_assoc, length-append, arith}
 use Rattle.std.proofs.lemmas.Bool.{both_ways}
 use Rattle.np_code_points.specs.Lines.{HasNo}
+use Rattle.np_code_points.specs.inside.LineCuts.{before_byte, after_byte}
+use Rattle.np_code_points.proofs.LineGrammar.{before_free, joined_none, joined_some}
 use Rattle.np_tables.specs.Versions.{VersionData}
 use Rattle.np_lines.specs.Answers.{Wanted, IsAnswer, is_refusal, most_bytes, told_refusal}
-use Rattle.np_lines.specs.Lines.{byte_of}
+use Rattle.np_lines.specs.Lines.{LineEnd, byte_of}
 use Rattle.np_lines.specs.declared.pending.Pending.{Pending}
 use Rattle.np_lines.specs.inside.Steps.{Goes, HasBegun, HasTaken, IsAnswerTo, IsEnded, IsTold}
 use Rattle.np_lines.proofs.StepLemmas.{goes-end, goes-joined, goes-on, nothing_begun}
@@ -24,6 +26,22 @@ begun-kept p q rest bytes not within long line (inl (short, is, fits)) =
     let same = ap length is in
     inl (long ∙ short, line ∙ ap (λ l. l ++ bytes) is, omega (arith, same, length-append rest bytes))
 begun-kept p q rest bytes not within long line (inr (is_long, _, many)) = absurd (both_ways p.is_long not is_long)
+
+-- ---- a cut at the byte that ends lines
+
+pub cut_some : (end : LineEnd) (rest line : List ℕ) (byte : ℕ) (o : Option (Bor (List ℕ))) (behind : Bor (List ℕ)) → byte ≡ byte_of end → line ≡ before_byte byte rest
+    → option_map (λ (r : Bor (List ℕ)). r.now) o ≡ after_byte byte rest → o ≡ Some behind → (rest ≡ line ++ byte_of end ∷ behind.now) × HasNo (byte_of end) line
+cut_some end rest line byte o behind is before after some =
+    let found : after_byte byte rest ≡ Some behind.now = sym after ∙ ap (option_map (λ (r : Bor (List ℕ)). r.now)) some in (
+      joined_some byte rest behind.now found ∙ ap (λ l. l ++ byte ∷ behind.now) (sym before) ∙ ap (λ b. line ++ b ∷ behind.now) is,
+      subst (λ b. HasNo b line) is (subst (HasNo byte) (sym before) (before_free byte rest)),
+    )
+
+pub cut_last : (end : LineEnd) (rest line : List ℕ) (byte : ℕ) (o : Option (Bor (List ℕ))) → byte ≡ byte_of end → line ≡ before_byte byte rest
+    → option_map (λ (r : Bor (List ℕ)). r.now) o ≡ after_byte byte rest → o ≡ None → (rest ≡ line) × HasNo (byte_of end) line
+cut_last end rest line byte o is before after none =
+    let nothing : after_byte byte rest ≡ None = sym after ∙ ap (option_map (λ (r : Bor (List ℕ)). r.now)) none in
+    (joined_none byte rest nothing ∙ sym before, subst (λ b. HasNo b line) is (subst (HasNo byte) (sym before) (before_free byte rest)))
 
 -- ---- its answer
 

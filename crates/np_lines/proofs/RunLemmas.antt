@@ -1,8 +1,8 @@
 -- A run over a whole input, piece by piece.
-use Rattle.std.proofs.Common.{◌≡◌, ℕ, ◌⊎◌, Bool, List, [], ◌∷◌, ◌++◌, take, drop, Option, Result, Ok, Err, refl, sym, ap, subst, ◌∙◌, inl, inr, append_assoc, append-nil}
+use Rattle.std.proofs.Common.{◌≡◌, ℕ, ◌⊎◌, Bool, List, [], ◌∷◌, ◌++◌, length, take, drop, take_all, Option, None, Some, arith, refl, sym, ap, subst, ◌∙◌, inl, inr, append_assoc, append-nil}
 use Rattle.std.proofs.KnownBytes.{Appends-nil, Appends-trans, Consumes-nil, Consumes-trans}
 use Rattle.std.proofs.lemmas.List.{take-append-drop}
-use Rattle.std.specs.Io.KnownBytes.{Appends, Consumes, IsAtEnd}
+use Rattle.std.specs.Io.KnownBytes.{Appends, Consumes, IsAtEnd, Keeps}
 use Rattle.np_forms.specs.RunEnds.{Ends}
 use Rattle.np_tables.specs.Versions.{VersionData}
 use Rattle.np_lines.specs.Answers.{Wanted}
@@ -11,9 +11,9 @@ use Rattle.np_lines.specs.Runs.{AreDue, IsFirstLines, IsFront, IsRunCut, IsRunWh
 use Rattle.np_lines.specs.declared.pending.Pending.{Pending}
 use Rattle.np_lines.specs.declared.runs.LinesFault.{LinesFault}
 use Rattle.np_lines.specs.declared.runs.LinesFault.TheVariants.{ReadFailed, WriteFailed, Memory}
-use Rattle.np_lines.specs.inside.Steps.{IsAllAnswered, IsAnswered, IsBetweenReads, IsNew, IsPieceAnswered, IsPieceCut, IsPieceFront, IsRestAnswered, IsRestCut, IsRestFront}
+use Rattle.np_lines.specs.inside.Steps.{Finishes, Goes, IsAllAnswered, IsAnswered, IsBetweenReads, IsNew, IsPieceAnswered, IsPieceCut, IsPieceFront, IsRestAnswered, IsRestCut, IsRestFront}
 use Rattle.np_lines.proofs.CutLemmas.{cut_behind}
-use Rattle.np_lines.proofs.StepLemmas.{answered-new}
+use Rattle.np_lines.proofs.StepLemmas.{answered-new, answered-same}
 
 abbrev pub ends_of : Option (List ℕ) → Option (List ℕ) → Option (List ℕ) → Option (List ℕ) → Ends
 ends_of i₀ i₁ o₀ o₁ = record { in_before = i₀; in_after = i₁; out_before = o₀; out_after = o₁ }
@@ -22,7 +22,51 @@ ends_of i₀ i₁ o₀ o₁ = record { in_before = i₀; in_after = i₁; out_be
 front_split : (done more : List ℕ) (count : ℕ) → done ++ more ≡ (done ++ take count more) ++ drop count more
 front_split done more count = ap (λ l. done ++ l) (sym (take-append-drop count more)) ∙ sym (append_assoc done (take count more) (drop count more))
 
+-- a flush keeps what was written
+pub appends_kept : (o₁ o₂ o₃ : Option (List ℕ)) (bytes : List ℕ) → Appends o₁ o₂ bytes → Keeps o₂ o₃ → Appends o₁ o₃ bytes
+appends_kept None o₂ o₃ bytes written kept = tt
+appends_kept (Some xs) None o₃ bytes written kept = absurd written
+appends_kept (Some xs) (Some ys) None bytes written kept = absurd kept
+appends_kept (Some xs) (Some ys) (Some zs) bytes written kept = kept ∙ written
+
 module _ (v : VersionData) (wanted : Wanted) where
+  -- a piece was taken in, and its answers were written
+  pub piece_answered : (p q r : Pending) (o₁ o₂ : Option (List ℕ)) (piece : List ℕ) → p.out.items ≡ [] → Goes v wanted p q piece
+      → r.line.items ≡ q.line.items → r.is_long ≡ q.is_long → r.any_refused ≡ q.any_refused → Appends o₁ o₂ q.out.items × (r.out.items ≡ []) → IsPieceAnswered v wanted p r o₁ o₂ piece
+  piece_answered p q r o₁ o₂ piece nothing g line long told (written, none) = record {
+    more = g.more;
+    written = subst (Appends o₁ o₂) (g.out_is ∙ ap (λ l. l ++ g.more) nothing) written;
+    nothing = none;
+    carries = λ came done a. answered-same v wanted (came ++ piece) (done ++ g.more) q r line long told (g.carries came done a);
+  }
+
+  -- or some first bytes of them
+  pub piece_cut : (p q : Pending) (o₁ o₂ : Option (List ℕ)) (piece : List ℕ) (fault : LinesFault) → p.out.items ≡ [] → Goes v wanted p q piece
+      → (n : ℕ) × Appends o₁ o₂ (take n q.out.items) × (fault ≡ WriteFailed) → IsPieceCut v wanted p o₁ o₂ piece fault
+  piece_cut p q o₁ o₂ piece fault nothing g (n, written, is) =
+      subst (IsPieceCut v wanted p o₁ o₂ piece) (sym is)
+      (record { more = g.more; count = n; written = subst (λ l. Appends o₁ o₂ (take n l)) (g.out_is ∙ ap (λ l. l ++ g.more) nothing) written; new = q; carries = g.carries })
+
+  -- the same of the last line
+  pub rest_answered : (p q r : Pending) (o₁ o₂ : Option (List ℕ)) → p.out.items ≡ [] → Finishes v wanted p q → r.any_refused ≡ q.any_refused → Appends o₁ o₂ q.out.items → IsRestAnswered v wanted p o₁ o₂ r.any_refused
+  rest_answered p q r o₁ o₂ nothing f told written = record {
+    more = f.more;
+    written = subst (Appends o₁ o₂) (f.out_is ∙ ap (λ l. l ++ f.more) nothing) written;
+    whole = λ came done a. subst (IsAllAnswered v wanted came (done ++ f.more)) (sym told) (f.whole came done a);
+  }
+
+  pub rest_cut : (p q : Pending) (o₁ o₂ : Option (List ℕ)) (fault : LinesFault) → p.out.items ≡ [] → Finishes v wanted p q
+      → (n : ℕ) × Appends o₁ o₂ (take n q.out.items) × (fault ≡ WriteFailed) → IsRestCut v wanted p o₁ o₂ fault
+  rest_cut p q o₁ o₂ fault nothing f (n, written, is) =
+      subst (IsRestCut v wanted p o₁ o₂) (sym is)
+      (record {
+        more = f.more;
+        count = n;
+        written = subst (λ l. Appends o₁ o₂ (take n l)) (f.out_is ∙ ap (λ l. l ++ f.more) nothing) written;
+        any_refused = q.any_refused;
+        whole = f.whole;
+      })
+
   -- before the first read
   pub between-new : (i o : Option (List ℕ)) (p : Pending) → IsNew p → IsBetweenReads v wanted (ends_of i i o o) p
   between-new i o p h = record {

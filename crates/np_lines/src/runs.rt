@@ -59,13 +59,12 @@ fn read_piece<R: Read>(source: &mut Watched<R>, piece: &mut [u8]) -> Result<usiz
 
 /// Writes the answers that are not written yet.
 fn write_out<W: Write>(pending: &mut Pending, target: &mut Watched<W>) -> Result<(), LinesFault>
-    ensures ok { OnOk result (Appends (W.contents (device_of target.old)) (W.contents (device_of target.new)) pending.old.out.items) }
-    ensures empty { OnOk result (pending.new.out.items ≡ []) }
+    ensures ok { OnOk result (Appends (W.contents (device_of target.old)) (W.contents (device_of target.new)) pending.old.out.items × (pending.new.out.items ≡ [])) }
     ensures line { pending.new.line.items ≡ pending.old.line.items }
     ensures long { pending.new.is_long ≡ pending.old.is_long }
     ensures told { pending.new.any_refused ≡ pending.old.any_refused }
-    ensures err { OnErr result ((n : ℕ) × Appends (W.contents (device_of target.old)) (W.contents (device_of target.new)) (take n pending.old.out.items)) }
-    ensures fault { IfErr result (λ fault. fault ≡ LinesFault.WriteFailed) }
+    ensures err { IfErr result (λ fault. (n : ℕ) × Appends (W.contents (device_of target.old)) (W.contents (device_of target.new)) (take n pending.old.out.items)
+        × (fault ≡ LinesFault.WriteFailed)) }
     ensures failed { IsErr result ↔ (has_failed target.new ≡ true) }
 {
     let Ok(()) = write_whole(target, pending.out()) else {

@@ -10,7 +10,7 @@ returns-then-not-has_begun-clause-told g c =
     let v = g.T.NormTable.model c.args.table.now in
     let w = c.args.wanted in
     let old = c.args.self.now in
-    let none = ? in
+    let none = c.has_begun.ensures.none c.if-not-has_begun.true in
     IfOk-weaker c.push_answer.result (IsTold (IsAnswer v w c.args.bytes.now) old.out.items c.push_answer.new.out.items)
     (IsTold (IsAnswerTo v w old c.args.bytes.now) old.out.items c.push_answer.new.out.items)
     (λ refused t. told-whole v w old c.args.bytes.now old.out.items c.push_answer.new.out.items refused none.0 none.1 t) c.push_answer.ensures
