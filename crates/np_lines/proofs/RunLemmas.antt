@@ -1,6 +1,6 @@
 -- A run over a whole input, piece by piece.
-use Rattle.std.proofs.Common.{◌≡◌, ℕ, ◌⊎◌, Bool, List, [], ◌∷◌, ◌++◌, length, take, drop, take_all, Option, None, Some, arith, refl, sym, ap, subst, ◌∙◌, inl, inr, append_assoc, append-nil}
-use Rattle.std.proofs.KnownBytes.{Appends-nil, Appends-trans, Consumes-nil, Consumes-trans}
+use Rattle.std.proofs.Common.{◌≡◌, ℕ, ◌⊎◌, Bool, List, [], ◌∷◌, ◌++◌, length, take, drop, take_all, Option, Result, Ok, Err, IfOk, IfErr, arith, refl, sym, ap, subst, ◌∙◌, inl, inr, append_assoc, append-nil}
+use Rattle.std.proofs.KnownBytes.{Appends-kept, Appends-nil, Appends-trans, Consumes-nil, Consumes-trans}
 use Rattle.std.proofs.lemmas.List.{take-append-drop}
 use Rattle.std.specs.Io.KnownBytes.{Appends, Consumes, IsAtEnd, Keeps}
 use Rattle.np_forms.specs.RunEnds.{Ends}
@@ -21,13 +21,6 @@ ends_of i₀ i₁ o₀ o₁ = record { in_before = i₀; in_after = i₁; out_be
 -- the first bytes of a front, and the rest
 front_split : (done more : List ℕ) (count : ℕ) → done ++ more ≡ (done ++ take count more) ++ drop count more
 front_split done more count = ap (λ l. done ++ l) (sym (take-append-drop count more)) ∙ sym (append_assoc done (take count more) (drop count more))
-
--- a flush keeps what was written
-pub appends_kept : (o₁ o₂ o₃ : Option (List ℕ)) (bytes : List ℕ) → Appends o₁ o₂ bytes → Keeps o₂ o₃ → Appends o₁ o₃ bytes
-appends_kept None o₂ o₃ bytes written kept = tt
-appends_kept (Some xs) None o₃ bytes written kept = absurd written
-appends_kept (Some xs) (Some ys) None bytes written kept = absurd kept
-appends_kept (Some xs) (Some ys) (Some zs) bytes written kept = kept ∙ written
 
 module _ (v : VersionData) (wanted : Wanted) where
   -- a piece was taken in, and its answers were written
@@ -66,6 +59,12 @@ module _ (v : VersionData) (wanted : Wanted) where
         any_refused = q.any_refused;
         whole = f.whole;
       })
+
+  -- all of them, but the flush failed
+  pub rest_front : (p q : Pending) (o₁ o₂ o₃ : Option (List ℕ)) → p.out.items ≡ [] → Finishes v wanted p q → Appends o₁ o₂ q.out.items → Keeps o₂ o₃ → IsRestFront v wanted p o₁ o₃
+  rest_front p q o₁ o₂ o₃ nothing f written kept =
+      let all = f.out_is ∙ ap (λ l. l ++ f.more) nothing ∙ sym (take_all (length f.more) f.more (omega arith)) in
+      record { more = f.more; count = length f.more; written = Appends-kept o₁ o₂ o₃ _ (subst (Appends o₁ o₂) all written) kept; any_refused = q.any_refused; whole = f.whole }
 
   -- before the first read
   pub between-new : (i o : Option (List ℕ)) (p : Pending) → IsNew p → IsBetweenReads v wanted (ends_of i i o o) p
@@ -200,3 +199,15 @@ module _ (v : VersionData) (wanted : Wanted) where
     cut_rest o₂ ReadFailed end c = absurd c
     cut_rest o₂ WriteFailed end c = cut_rest_front o₂ end c
     cut_rest o₂ Memory end c = cut_memory i₁ o₂ [] (Consumes-nil i₁) c
+
+-- ---- the whole of a run
+
+-- devices that hold the same
+pub ends_same : (v : VersionData) (wanted : Wanted) (i j k o p q : Option (List ℕ)) (result : Result Bool LinesFault) → j ≡ i → p ≡ o → RunEnds v wanted (ends_of j k p q) result → RunEnds v wanted (ends_of i k o q) result
+ends_same v wanted i j k o p q result read written h =
+    subst (λ l. RunEnds v wanted (ends_of l k o q) result) read (subst (λ l. RunEnds v wanted (ends_of j k l q) result) written h)
+
+pub ends_rest : (v : VersionData) (wanted : Wanted) (i₀ i₁ o₀ o₁ o₂ : Option (List ℕ)) (p : Pending) (result : Result Bool LinesFault) → IsBetweenReads v wanted (ends_of i₀ i₁ o₀ o₁) p → IsAtEnd i₁
+    → IfOk result (IsRestAnswered v wanted p o₁ o₂) → IfErr result (IsRestCut v wanted p o₁ o₂) → RunEnds v wanted (ends_of i₀ i₁ o₀ o₂) result
+ends_rest v wanted i₀ i₁ o₀ o₁ o₂ p (Ok any_refused) b end ok err = run_whole v wanted b o₂ any_refused end ok
+ends_rest v wanted i₀ i₁ o₀ o₁ o₂ p (Err fault) b end ok err = cut_rest v wanted b o₂ fault end err
