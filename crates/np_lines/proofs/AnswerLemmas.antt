@@ -1,9 +1,8 @@
 -- The answer to a line.
-use Rattle.std.proofs.Common.{◌≡◌, ℕ, ◌≤◌, Bool, true, false, List, [], ◌∷◌, ◌++◌, length, chars, encode_utf8_all, Bor, Option, None, Some, is_some, option_map, IsUtf8, sym, ap, subst, ◌∙◌, inl, inr}
+use Rattle.std.proofs.Common.{◌≡◌, ℕ, ◌≤◌, Bool, true, false, List, length, Bor, Option, None, Some, is_some, option_map, sym, subst, inr}
 use Rattle.np_code_points.specs.Lines.{HasNo}
-use Rattle.np_code_points.specs.inside.LineCuts.{before_byte, after_byte}
+use Rattle.np_code_points.specs.inside.LineCuts.{after_byte}
 use Rattle.np_code_points.proofs.LineGrammar.{after_none, before_free, joined_none}
-use Rattle.np_code_points.specs.declared.forms.Form.{Form}
 use Rattle.np_tables.specs.Versions.{VersionData}
 use Rattle.np_lines.specs.Answers.{Wanted, IsAnswer, IsAnswerWithin, IsKey, IsToldKey, most_bytes}
 use Rattle.np_lines.specs.inside.Steps.{IsTold}

@@ -5,7 +5,7 @@ use Rattle.np_code_points.specs.Lines.{HasNo}
 use Rattle.np_code_points.specs.inside.LineCuts.{before_byte, after_byte}
 use Rattle.np_code_points.proofs.LineGrammar.{before_free, joined_none, joined_some}
 use Rattle.np_tables.specs.Versions.{VersionData}
-use Rattle.np_lines.specs.Answers.{Wanted, IsAnswer, is_refusal, most_bytes, told_refusal}
+use Rattle.np_lines.specs.Answers.{Wanted, IsAnswer, most_bytes, told_refusal}
 use Rattle.np_lines.specs.Lines.{LineEnd, byte_of}
 use Rattle.np_lines.specs.declared.pending.Pending.{Pending}
 use Rattle.np_lines.specs.inside.Steps.{Goes, HasBegun, HasTaken, IsAnswerTo, IsEnded, IsTold}

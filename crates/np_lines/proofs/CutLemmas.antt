@@ -1,5 +1,5 @@
 -- Bytes are cut into lines in one way.
-use Rattle.std.proofs.Common.{◌≡◌, ◌≢◌, ℕ, Bool, true, false, eqb, List, [], ◌∷◌, ◌++◌, Option, Some, None, refl, sym, ap, subst, ◌∙◌, append_assoc, append-nil}
+use Rattle.std.proofs.Common.{◌≡◌, ◌≢◌, ℕ, Bool, true, false, eqb, List, [], ◌∷◌, ◌++◌, Some, None, refl, sym, ap, ◌∙◌, append_assoc, append-nil}
 use Rattle.std.proofs.lemmas.Bool.{eqb-true, eqb-false}
 use Rattle.std.proofs.lemmas.List.{flat_map_more}
 use Rattle.std.proofs.lemmas.List.Concat.{flat_map-append}
@@ -7,7 +7,7 @@ use Rattle.std.specs.List.{All}
 use Rattle.std.proofs.lemmas.List.Elements.{All-nil, All-cons, All-head, All-tail, All-append, All-push}
 use Rattle.np_code_points.specs.Lines.{HasNo}
 use Rattle.np_code_points.specs.inside.LineCuts.{before_byte, after_byte}
-use Rattle.np_code_points.proofs.LineGrammar.{not_byte, before_at, after_at, after_none, before_free}
+use Rattle.np_code_points.proofs.LineGrammar.{not_byte, before_at, after_at, after_none}
 use Rattle.np_lines.specs.Lines.{LineEnd, AreLines, IsCut, byte_of, ended, last_line}
 
 -- one more line

@@ -1,5 +1,5 @@
 -- A line has one answer, and no answer has the byte that ends lines.
-use Rattle.std.proofs.Common.{◌≡◌, ◌≢◌, ◌⊎◌, ℕ, ◌+◌, ◌<◌, ◌≤◌, ◌%◌, ◌^◌, Bool, true, false, eqb, leb, nat_lt, List, [], ◌∷◌, ◌++◌, length, take, take_all, map, chars, codes, encode_utf8_all, IsUtf8, refl, sym, ap, subst, ◌∙◌, inl, inr, append-nil, length-append, arith}
+use Rattle.std.proofs.Common.{◌≡◌, ◌≢◌, ◌⊎◌, ℕ, ◌+◌, ◌<◌, ◌≤◌, ◌%◌, ◌^◌, Bool, true, false, eqb, leb, nat_lt, List, [], ◌∷◌, ◌++◌, length, take_all, chars, codes, encode_utf8_all, IsUtf8, refl, sym, ap, subst, ◌∙◌, inl, inr, append-nil, length-append, arith}
 use Rattle.std.proofs.lemmas.Bool.{and_from, and_parts, both_ways, cases_eq, cases_lt, cond_both, eqb-false, eqb-true, leb-true}
 use Rattle.std.proofs.lemmas.Fmt.{decimal_by_steps}
 use Rattle.std.proofs.lemmas.List.Elements.{All-nil, All-cons, All-head, All-tail, All-append, All-map, All-replicate, All-weaker}
@@ -19,9 +19,9 @@ use Rattle.np_forms.proofs.RunTextLemmas.{longest_prefix, one_prefix}
 use Rattle.np_forms.proofs.TextLemmas.{lacks-unassigned}
 use Rattle.np_tables.specs.Conditions.{IsSound}
 use Rattle.np_tables.specs.Versions.{VersionData, is_assigned}
-use Rattle.np_lines.specs.Answers.{Wanted, AreAnswers, IsAnswer, IsAnswerWithin, IsKey, IsNoText, IsToldKey, IsUnassigned, most_bytes, not_utf8, told_key, told_refusal, unassigned}
+use Rattle.np_lines.specs.Answers.{Wanted, AreAnswers, IsAnswer, IsAnswerWithin, IsKey, IsToldKey, IsUnassigned, most_bytes, not_utf8, told_key, told_refusal, unassigned}
 use Rattle.np_lines.specs.Laws.{AnswersAreLines, OneAnswer}
-use Rattle.np_lines.specs.Lines.{LineEnd, Lf, Nul, AreLines, IsCut, byte_of, ended}
+use Rattle.np_lines.specs.Lines.{LineEnd, Lf, Nul, byte_of, ended}
 
 -- ---- one answer
 
@@ -52,9 +52,9 @@ utf8_or bytes =
       | inl all ↦ inl (subst IsUtf8 (take_all (utf8_valid_len bytes) bytes (omega arith)) longest.valid)
       | inr part ↦
           inr (λ utf8.
-              let most = longest.longest (length bytes) (omega arith) (subst IsUtf8 (sym (take_all (length bytes) bytes (omega arith))) utf8) in
-              let within = longest.within in
-              part (omega arith))
+          let most = longest.longest (length bytes) (omega arith) (subst IsUtf8 (sym (take_all (length bytes) bytes (omega arith))) utf8) in
+          let within = longest.within in
+          part (omega arith))
     ]
 
 -- a first code point that is not assigned, or none

@@ -1,17 +1,16 @@
 -- A run over a whole input, piece by piece.
-use Rattle.std.proofs.Common.{◌≡◌, ℕ, ◌⊎◌, Bool, List, [], ◌∷◌, ◌++◌, length, take, drop, take_all, Option, Result, Ok, Err, IfOk, IfErr, arith, refl, sym, ap, subst, ◌∙◌, inl, inr, append_assoc, append-nil}
+use Rattle.std.proofs.Common.{◌≡◌, ℕ, Bool, List, [], ◌++◌, length, take, drop, take_all, Option, Result, Ok, Err, IfOk, IfErr, arith, sym, ap, subst, ◌∙◌, inl, inr, append_assoc, append-nil}
 use Rattle.std.proofs.KnownBytes.{Appends-kept, Appends-nil, Appends-trans, Consumes-nil, Consumes-trans}
 use Rattle.std.proofs.lemmas.List.{take-append-drop}
 use Rattle.std.specs.Io.KnownBytes.{Appends, Consumes, IsAtEnd, Keeps}
 use Rattle.np_forms.specs.RunEnds.{Ends}
 use Rattle.np_tables.specs.Versions.{VersionData}
 use Rattle.np_lines.specs.Answers.{Wanted}
-use Rattle.np_lines.specs.Lines.{AreLines, IsCut, ended}
-use Rattle.np_lines.specs.Runs.{AreDue, IsFirstLines, IsFront, IsRunCut, IsRunWhole, IsWholeLines, RunEnds}
+use Rattle.np_lines.specs.Runs.{IsRunCut, IsRunWhole, RunEnds}
 use Rattle.np_lines.specs.declared.pending.Pending.{Pending}
 use Rattle.np_lines.specs.declared.runs.LinesFault.{LinesFault}
 use Rattle.np_lines.specs.declared.runs.LinesFault.TheVariants.{ReadFailed, WriteFailed, Memory}
-use Rattle.np_lines.specs.inside.Steps.{Finishes, Goes, IsAllAnswered, IsAnswered, IsBetweenReads, IsNew, IsPieceAnswered, IsPieceCut, IsPieceFront, IsRestAnswered, IsRestCut, IsRestFront}
+use Rattle.np_lines.specs.inside.Steps.{Finishes, Goes, IsAllAnswered, IsBetweenReads, IsNew, IsPieceAnswered, IsPieceCut, IsPieceFront, IsRestAnswered, IsRestCut, IsRestFront}
 use Rattle.np_lines.proofs.CutLemmas.{cut_behind}
 use Rattle.np_lines.proofs.StepLemmas.{answered-new, answered-same}
 

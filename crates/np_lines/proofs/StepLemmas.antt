@@ -1,15 +1,15 @@
 -- A run from line to line.
-use Rattle.std.proofs.Common.{◌≡◌, ◌≢◌, ◌⊎◌, ℕ, ◌<◌, ◌≤◌, ◌||◌, Bool, true, false, List, [], ◌∷◌, ◌++◌, length, refl, sym, ap, subst, ◌∙◌, inl, inr, append_assoc, append-nil, arith}
+use Rattle.std.proofs.Common.{◌≡◌, ◌≢◌, ◌⊎◌, ℕ, ◌||◌, Bool, true, false, List, [], ◌∷◌, ◌++◌, length, refl, sym, ap, subst, ◌∙◌, inl, inr, append_assoc, append-nil, arith}
 use Rattle.std.proofs.lemmas.Bool.{both_ways}
 use Rattle.std.proofs.lemmas.List.Elements.{AllZip-push}
 use Rattle.std.proofs.lemmas.List.Folds.{list_any-append}
 use Rattle.std.specs.List.{list_any}
 use Rattle.np_code_points.specs.Lines.{HasNo}
 use Rattle.np_tables.specs.Versions.{VersionData}
-use Rattle.np_lines.specs.Answers.{Wanted, IsAnswer, is_refusal, most_bytes}
-use Rattle.np_lines.specs.Lines.{AreLines, IsCut, byte_of, ended, last_line}
+use Rattle.np_lines.specs.Answers.{Wanted, IsAnswer, is_refusal}
+use Rattle.np_lines.specs.Lines.{IsCut, byte_of, last_line}
 use Rattle.np_lines.specs.declared.pending.Pending.{Pending}
-use Rattle.np_lines.specs.inside.Steps.{Finishes, Goes, HasBegun, IsAllAnswered, IsAnswered, IsEnded, IsNew}
+use Rattle.np_lines.specs.inside.Steps.{Finishes, Goes, HasBegun, IsAnswered, IsEnded, IsNew}
 use Rattle.np_lines.proofs.CutLemmas.{cut-nil, cut-more, cut-end, ended-push, last_line-filled}
 
 -- ---- the line that has begun

@@ -2,7 +2,6 @@
 use Rattle.std.specs.Prelude.{◌≡◌, ◌⊎◌, ℕ, ◌<◌, ◌≤◌, ◌||◌, Bool, true, false, List, [], ◌∷◌, ◌++◌, length, take, Option}
 use Rattle.std.specs.Io.KnownBytes.{Appends, Consumes}
 use Rattle.std.specs.List.{list_any}
-use Rattle.np_code_points.specs.Lines.{HasNo}
 use Rattle.np_forms.specs.RunEnds.{Ends}
 use Rattle.np_tables.specs.Versions.{VersionData}
 use Rattle.np_lines.specs.Answers.{Wanted, AreAnswers, IsAnswer, is_refusal, most_bytes}

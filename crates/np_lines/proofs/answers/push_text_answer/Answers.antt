@@ -1,6 +1,5 @@
-use Rattle.std.proofs.Common.{chars, subst, sym, ◌∙◌, encode_utf8_all}
+use Rattle.std.proofs.Common.{chars, subst, ◌∙◌}
 use Rattle.std.proofs.lemmas.Result.{IfOk-weaker}
-use Rattle.std.specs.Cow.{cow_str_bytes}
 use Rattle.np_forms.specs.Forms.{IsNormalForm}
 use Rattle.np_forms.specs.inside.NormalForms.{normal_form}
 use Rattle.np_lines.specs.Answers.{IsAnswerWithin, IsKey, IsToldKey}

@@ -1,4 +1,3 @@
-use Rattle.std.proofs.KnownBytes.{Appends-nil}
 use Rattle.std.proofs.lemmas.Result.{IfErr-weaker, on_ok_weaker}
 use Rattle.np_code_points.specs.Watched.{device_of}
 use Rattle.np_lines.proofs.RunLemmas.{piece_answered, piece_cut}

@@ -1,5 +1,5 @@
 use Rattle.std.proofs.lemmas.Result.{on_ok_weaker}
-use Rattle.np_lines.proofs.StepLemmas.{finishes-none, finishes-some}
+use Rattle.np_lines.proofs.StepLemmas.{finishes-some}
 use Rattle.np_lines.proofs.pending.Pending.finish.Goals as goal
 
 pub returns : goal.returns

@@ -1,4 +1,4 @@
-use Rattle.std.proofs.Common.{ap, subst, sym, ◌∙◌}
+use Rattle.std.proofs.Common.{subst}
 use Rattle.std.proofs.lemmas.Result.{IfOk-weaker}
 use Rattle.np_lines.specs.Answers.{IsAnswer}
 use Rattle.np_lines.specs.inside.Steps.{IsAnswerTo, IsTold}

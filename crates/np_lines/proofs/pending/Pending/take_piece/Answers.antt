@@ -1,7 +1,5 @@
-use Rattle.std.proofs.Common.{◌≡◌, ◌∷◌, ◌++◌, [], ℕ, List, Bor, Some, None, length, option_map, ap, refl, subst, sym, ◌∙◌, arith, length-append}
+use Rattle.std.proofs.Common.{◌∷◌, [], length, ap, refl, arith, length-append}
 use Rattle.std.proofs.lemmas.Result.{on_ok_weaker}
-use Rattle.np_code_points.specs.Lines.{HasNo}
-use Rattle.np_code_points.proofs.LineGrammar.{before_free, joined_none, joined_some}
 use Rattle.np_lines.specs.Lines.{byte_of}
 use Rattle.np_lines.proofs.BegunLemmas.{cut_last, cut_some, taken-last, taken-line}
 use Rattle.np_lines.proofs.StepLemmas.{goes-none}
