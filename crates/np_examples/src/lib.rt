@@ -13,6 +13,8 @@ mod forms;
 #[cfg(test)]
 mod jobs;
 #[cfg(test)]
+mod lines;
+#[cfg(test)]
 mod node;
 #[cfg(test)]
 mod refused;

@@ -44,6 +44,6 @@ pub use assigned::{first_lacking, first_unassigned};
 pub use equivalence::equivalent;
 pub use forms::{form, is_form};
 pub use runs::{LIMIT, RunFault, run};
-pub use stabilized::{NpssFault, into_npss, npss};
+pub use stabilized::{NpssFault, into_npss, lend_npss, npss};
 pub use stream_safety::is_stream_safe;
 pub use streams::Stream;

@@ -1,5 +1,6 @@
 //! Stabilized strings (UAX #15, section 12).
 ghost use Rattle.std.specs.Prelude.{◌≡◌, ◌++◌, chars, string_bytes, encode_utf8_all, IfOk, IfErr, IfNone, IfSome, IsTrue, OnOk};
+ghost use Rattle.std.specs.Cow.{cow_str_bytes};
 ghost use Rattle.np_forms.specs.Assigned.{IsAssigned};
 ghost use Rattle.np_forms.specs.Faults.{IsNpssFault};
 ghost use Rattle.np_forms.specs.Forms.{IsNormalForm};
@@ -12,6 +13,7 @@ use crate::out_texts::OutText;
 use np_code_points::{Form, Memory};
 use np_tables::NormTable;
 use std::alloc::Global;
+use std::borrow::CowStr;
 use thiserror::Error;
 
 /// Why a text has no stabilized form.
@@ -130,4 +132,31 @@ pub fn into_npss<T: NormTable>(
     }
     let key = stabilize(alloc, table, wanted, whole, stays, behind)?;
     Ok(key)
+}
+
+/// The same of a text that is lent. Where it is known to be its own stabilized form, it is answered itself,
+/// and no memory is taken.
+///
+/// # Errors
+///
+/// As `npss`.
+pub fn lend_npss<'a, T: NormTable>(
+    alloc: Global,
+    table: &T,
+    wanted: Form,
+    text: &'a str,
+) -> Result<CowStr<'a>, NpssFault>
+    ensures normal { IfOk result (λ t. IsNormalForm (T.model table.now) wanted (chars text.now) (chars (cow_str_bytes t))) }
+    ensures value { IfOk result (λ t. chars (cow_str_bytes t) ≡ normal_form (T.model table.now) wanted (chars text.now)) }
+    ensures bytes { IfOk result (λ t. cow_str_bytes t ≡ encode_utf8_all (normal_form (T.model table.now) wanted (chars text.now))) }
+    ensures assigned { OnOk result (IsAssigned (T.model table.now) (chars text.now)) }
+    ensures fault { IfErr result (IsNpssFault (T.model table.now) (chars text.now)) }
+{
+    table.meets_conditions();
+    let (stays, behind, _stood) = split_standing(table, wanted, true, text);
+    if !behind.is_empty() {
+        let key = stabilize(alloc, table, wanted, text, stays, behind)?;
+        return Ok(CowStr::Owned(key));
+    }
+    Ok(CowStr::Borrowed(text))
 }

@@ -3,9 +3,12 @@ use super::wants_form;
 use crate::common::{Example, LETTERS, Made, S, V1, V2, amid, holds_over_each, want};
 use np_code_points::told::want_told;
 use np_code_points::{Form, Memory};
-use np_forms::{NpssFault, equivalent, first_unassigned, into_npss, is_form, is_stream_safe, npss};
+use np_forms::{
+    NpssFault, equivalent, first_unassigned, into_npss, is_form, is_stream_safe, lend_npss, npss,
+};
 use np_tables::NormTable;
 use std::alloc::Global;
+use std::borrow::CowStr;
 use std::test::Fail;
 
 /// `before` and then `count` times `c`.
@@ -146,6 +149,8 @@ fn wants_refusal<T: NormTable>(
     fault: NpssFault,
 ) -> Result<(), Fail> {
     want(npss(alloc, table, wanted, text).err() == Some(fault), text)?;
+    let lent = lend_npss(alloc, table, wanted, text).err();
+    want(lent == Some(fault), text)?;
     let given = repeated(alloc, text, 'A', 0)?;
     let refused = into_npss(alloc, table, wanted, given).err();
     want(refused == Some(fault), text)
@@ -171,6 +176,8 @@ fn canonical<T: NormTable>(
         wants_form(alloc, table, Form::Nfd, text, nfd)?;
         let made = npss(alloc, table, Form::Nfc, text)?;
         want(made.as_str() == *nfc, text)?;
+        let lent = lend_npss(alloc, table, Form::Nfc, text)?;
+        want(lent.as_str() == *nfc, text)?;
         let given = repeated(alloc, text, 'A', 0)?;
         let kept = into_npss(alloc, table, Form::Nfc, given)?;
         want(kept.as_str() == *nfc, text)?;
@@ -182,6 +189,8 @@ fn canonical<T: NormTable>(
 fn told_from_others<T: NormTable>(alloc: Global, table: &T) -> Result<(), Fail> {
     want(is_form(alloc, table, Form::Nfc, "\u{1EAD}")?, "is NFC")?;
     want(!is_form(alloc, table, Form::Nfd, "\u{1EAD}")?, "is not NFD")?;
+    let lent = lend_npss(alloc, table, Form::Nfc, "\u{1EAD}")?;
+    want(matches!(lent, CowStr::Borrowed(_)), "is lent")?;
     // as long as its form, and not its form
     let turned = "\u{61}\u{302}\u{323}";
     want(!is_form(alloc, table, Form::Nfd, turned)?, "is not ordered")?;

@@ -6,7 +6,7 @@ use np_code_points::text::string_of;
 use np_code_points::watched::Watched;
 use np_code_points::{Form, Memory};
 use np_forms::{
-    NpssFault, RunFault, Stream, equivalent, form, into_npss, is_form, npss, run,
+    NpssFault, RunFault, Stream, equivalent, form, into_npss, is_form, lend_npss, npss, run,
 };
 use np_tables::NormTable;
 use std::alloc::Global;
@@ -19,6 +19,7 @@ const TEXT: &str = "\u{61}\u{302}\u{323}";
 enum Call {
     Form,
     Npss,
+    LendNpss,
     IntoNpss,
     IsForm,
     Equivalent,
@@ -40,6 +41,15 @@ fn stabilized<T: NormTable>(alloc: Global, table: &T) -> Result<(), Fail> {
     };
     want(lacking == Some(fault), "what is told at once")?;
     let made = again(&NpssFault::Memory, &|| npss(alloc, table, Form::Nfc, TEXT))?;
+    want(made.as_str() == "\u{1EAD}", "the key")
+}
+
+/// A text that changes, lent.
+fn lent<T: NormTable>(alloc: Global, table: &T) -> Result<(), Fail> {
+    let made = again(
+        &NpssFault::Memory,
+        &|| lend_npss(alloc, table, Form::Nfc, TEXT),
+    )?;
     want(made.as_str() == "\u{1EAD}", "the key")
 }
 
@@ -167,6 +177,7 @@ impl Example for Call {
                 forms(alloc, table, Form::Nfc, "\u{1EAD}")
             }
             Call::Npss => stabilized(alloc, table),
+            Call::LendNpss => lent(alloc, table),
             Call::IntoNpss => stabilized_in_place(alloc, table),
             Call::IsForm => {
                 in_form(alloc, table, Form::Nfc, "\u{1EAD}", true)?;
@@ -190,6 +201,11 @@ fn a_refused_form_succeeds_after_all(rt: HostRuntime) -> Result<(), Fail> {
 #[test]
 fn a_refused_npss_succeeds_after_all(rt: HostRuntime) -> Result<(), Fail> {
     holds_over_each(rt.alloc(), V1, &Call::Npss)
+}
+
+#[test]
+fn a_refused_lend_npss_succeeds_after_all(rt: HostRuntime) -> Result<(), Fail> {
+    holds_over_each(rt.alloc(), V1, &Call::LendNpss)
 }
 
 #[test]

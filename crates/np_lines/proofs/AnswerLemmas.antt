@@ -1,0 +1,31 @@
+-- The answer to a line.
+use Rattle.std.proofs.Common.{◌≡◌, ℕ, ◌≤◌, Bool, true, false, List, length, Bor, Option, None, Some, is_some, option_map, sym, subst, inr}
+use Rattle.np_code_points.specs.Lines.{HasNo}
+use Rattle.np_code_points.specs.inside.LineCuts.{after_byte}
+use Rattle.np_code_points.proofs.LineGrammar.{after_none, before_free, joined_none}
+use Rattle.np_tables.specs.Versions.{VersionData}
+use Rattle.np_lines.specs.Answers.{Wanted, IsAnswer, IsAnswerWithin, IsKey, IsToldKey, most_bytes}
+use Rattle.np_lines.specs.inside.Steps.{IsTold}
+
+-- what stands behind a byte
+pub behind_some : (byte : ℕ) (bytes : List ℕ) (o : Option (Bor (List ℕ))) → option_map (λ (r : Bor (List ℕ)). r.now) o ≡ after_byte byte bytes → is_some o ≡ true → ¬ HasNo byte bytes
+behind_some byte bytes None e h free = absurd (cc)
+behind_some byte bytes (Some r) e h free = let none = after_none byte bytes free in absurd (cc)
+
+pub behind_none : (byte : ℕ) (bytes : List ℕ) (o : Option (Bor (List ℕ))) → option_map (λ (r : Bor (List ℕ)). r.now) o ≡ after_byte byte bytes → is_some o ≡ false → HasNo byte bytes
+behind_none byte bytes None e h = subst (HasNo byte) (sym (joined_none byte bytes (sym e))) (before_free byte bytes)
+behind_none byte bytes (Some r) e h = absurd (cc)
+
+module _ (v : VersionData) (wanted : Wanted) where
+  -- of a text
+  pub told_of_key : (line key old new : List ℕ) (refused : Bool) → IsKey v wanted.form line key → IsTold (IsToldKey wanted.end key) old new refused → IsTold (IsAnswerWithin v wanted line) old new refused
+  told_of_key line key old new refused k t = record { answer = t.answer; is = inr (inr (key, k, t.is)); out_is = t.out_is; told = t.told }
+
+  -- within the limit
+  pub told_of_text : (line text old new : List ℕ) (refused : Bool) → length line ≤ most_bytes → text ≡ line → IsTold (IsAnswerWithin v wanted text) old new refused → IsTold (IsAnswer v wanted line) old new refused
+  told_of_text line text old new refused short same t = record {
+    answer = t.answer;
+    is = inr (short, subst (λ l. IsAnswerWithin v wanted l t.answer) same t.is);
+    out_is = t.out_is;
+    told = t.told;
+  }

@@ -1,0 +1,212 @@
+-- A run over a whole input, piece by piece.
+use Rattle.std.proofs.Common.{◌≡◌, ℕ, Bool, List, [], ◌++◌, length, take, drop, take_all, Option, Result, Ok, Err, IfOk, IfErr, arith, sym, ap, subst, ◌∙◌, inl, inr, append_assoc, append-nil}
+use Rattle.std.proofs.KnownBytes.{Appends-kept, Appends-nil, Appends-trans, Consumes-nil, Consumes-trans}
+use Rattle.std.proofs.lemmas.List.{take-append-drop}
+use Rattle.std.specs.Io.KnownBytes.{Appends, Consumes, IsAtEnd, Keeps}
+use Rattle.np_forms.specs.RunEnds.{Ends}
+use Rattle.np_tables.specs.Versions.{VersionData}
+use Rattle.np_lines.specs.Answers.{Wanted}
+use Rattle.np_lines.specs.Runs.{IsRunCut, IsRunWhole, RunEnds}
+use Rattle.np_lines.specs.declared.pending.Pending.{Pending}
+use Rattle.np_lines.specs.declared.runs.LinesFault.{LinesFault}
+use Rattle.np_lines.specs.declared.runs.LinesFault.TheVariants.{ReadFailed, WriteFailed, Memory}
+use Rattle.np_lines.specs.inside.Steps.{Finishes, Goes, IsAllAnswered, IsBetweenReads, IsNew, IsPieceAnswered, IsPieceCut, IsPieceFront, IsRestAnswered, IsRestCut, IsRestFront}
+use Rattle.np_lines.proofs.CutLemmas.{cut_behind}
+use Rattle.np_lines.proofs.StepLemmas.{answered-new, answered-same}
+
+abbrev pub ends_of : Option (List ℕ) → Option (List ℕ) → Option (List ℕ) → Option (List ℕ) → Ends
+ends_of i₀ i₁ o₀ o₁ = record { in_before = i₀; in_after = i₁; out_before = o₀; out_after = o₁ }
+
+-- the first bytes of a front, and the rest
+front_split : (done more : List ℕ) (count : ℕ) → done ++ more ≡ (done ++ take count more) ++ drop count more
+front_split done more count = ap (λ l. done ++ l) (sym (take-append-drop count more)) ∙ sym (append_assoc done (take count more) (drop count more))
+
+module _ (v : VersionData) (wanted : Wanted) where
+  -- a piece was taken in, and its answers were written
+  pub piece_answered : (p q r : Pending) (o₁ o₂ : Option (List ℕ)) (piece : List ℕ) → p.out.items ≡ [] → Goes v wanted p q piece
+      → r.line.items ≡ q.line.items → r.is_long ≡ q.is_long → r.any_refused ≡ q.any_refused → Appends o₁ o₂ q.out.items × (r.out.items ≡ []) → IsPieceAnswered v wanted p r o₁ o₂ piece
+  piece_answered p q r o₁ o₂ piece nothing g line long told (written, none) = record {
+    more = g.more;
+    written = subst (Appends o₁ o₂) (g.out_is ∙ ap (λ l. l ++ g.more) nothing) written;
+    nothing = none;
+    carries = λ came done a. answered-same v wanted (came ++ piece) (done ++ g.more) q r line long told (g.carries came done a);
+  }
+
+  -- or some first bytes of them
+  pub piece_cut : (p q : Pending) (o₁ o₂ : Option (List ℕ)) (piece : List ℕ) (fault : LinesFault) → p.out.items ≡ [] → Goes v wanted p q piece
+      → (n : ℕ) × Appends o₁ o₂ (take n q.out.items) × (fault ≡ WriteFailed) → IsPieceCut v wanted p o₁ o₂ piece fault
+  piece_cut p q o₁ o₂ piece fault nothing g (n, written, is) =
+      subst (IsPieceCut v wanted p o₁ o₂ piece) (sym is)
+      (record { more = g.more; count = n; written = subst (λ l. Appends o₁ o₂ (take n l)) (g.out_is ∙ ap (λ l. l ++ g.more) nothing) written; new = q; carries = g.carries })
+
+  -- the same of the last line
+  pub rest_answered : (p q r : Pending) (o₁ o₂ : Option (List ℕ)) → p.out.items ≡ [] → Finishes v wanted p q → r.any_refused ≡ q.any_refused → Appends o₁ o₂ q.out.items → IsRestAnswered v wanted p o₁ o₂ r.any_refused
+  rest_answered p q r o₁ o₂ nothing f told written = record {
+    more = f.more;
+    written = subst (Appends o₁ o₂) (f.out_is ∙ ap (λ l. l ++ f.more) nothing) written;
+    whole = λ came done a. subst (IsAllAnswered v wanted came (done ++ f.more)) (sym told) (f.whole came done a);
+  }
+
+  pub rest_cut : (p q : Pending) (o₁ o₂ : Option (List ℕ)) (fault : LinesFault) → p.out.items ≡ [] → Finishes v wanted p q
+      → (n : ℕ) × Appends o₁ o₂ (take n q.out.items) × (fault ≡ WriteFailed) → IsRestCut v wanted p o₁ o₂ fault
+  rest_cut p q o₁ o₂ fault nothing f (n, written, is) =
+      subst (IsRestCut v wanted p o₁ o₂) (sym is)
+      (record {
+        more = f.more;
+        count = n;
+        written = subst (λ l. Appends o₁ o₂ (take n l)) (f.out_is ∙ ap (λ l. l ++ f.more) nothing) written;
+        any_refused = q.any_refused;
+        whole = f.whole;
+      })
+
+  -- all of them, but the flush failed
+  pub rest_front : (p q : Pending) (o₁ o₂ o₃ : Option (List ℕ)) → p.out.items ≡ [] → Finishes v wanted p q → Appends o₁ o₂ q.out.items → Keeps o₂ o₃ → IsRestFront v wanted p o₁ o₃
+  rest_front p q o₁ o₂ o₃ nothing f written kept =
+      let all = f.out_is ∙ ap (λ l. l ++ f.more) nothing ∙ sym (take_all (length f.more) f.more (omega arith)) in
+      record { more = f.more; count = length f.more; written = Appends-kept o₁ o₂ o₃ _ (subst (Appends o₁ o₂) all written) kept; any_refused = q.any_refused; whole = f.whole }
+
+  -- before the first read
+  pub between-new : (i o : Option (List ℕ)) (p : Pending) → IsNew p → IsBetweenReads v wanted (ends_of i i o o) p
+  between-new i o p h = record {
+    came = [];
+    taken = Consumes-nil i;
+    done = [];
+    written = Appends-nil o;
+    answered = answered-new v wanted p h;
+    nothing = h.out;
+  }
+
+  module _ {i₀ i₁ o₀ o₁ : Option (List ℕ)} {p : Pending} (b : IsBetweenReads v wanted (ends_of i₀ i₁ o₀ o₁) p) where
+    -- a read that gave nothing
+    pub between-kept : (i₂ : Option (List ℕ)) → Consumes i₁ i₂ [] → IsBetweenReads v wanted (ends_of i₀ i₂ o₀ o₁) p
+    between-kept i₂ taken = record {
+      came = b.came;
+      taken = subst (Consumes i₀ i₂) (append-nil b.came) (Consumes-trans i₀ i₁ i₂ b.came [] b.taken taken);
+      done = b.done;
+      written = b.written;
+      answered = b.answered;
+      nothing = b.nothing;
+    }
+
+    -- a piece
+    pub between-piece : (i₂ o₂ : Option (List ℕ)) (q : Pending) (piece : List ℕ) → Consumes i₁ i₂ piece → IsPieceAnswered v wanted p q o₁ o₂ piece → IsBetweenReads v wanted (ends_of i₀ i₂ o₀ o₂) q
+    between-piece i₂ o₂ q piece taken a = record {
+      came = b.came ++ piece;
+      taken = Consumes-trans i₀ i₁ i₂ b.came piece b.taken taken;
+      done = b.done ++ a.more;
+      written = Appends-trans o₀ o₁ o₂ b.done a.more b.written a.written;
+      answered = a.carries b.came b.done b.answered;
+      nothing = a.nothing;
+    }
+
+    -- a failed read
+    pub cut_read : IsRunCut v wanted (ends_of i₀ i₁ o₀ o₁) ReadFailed
+    cut_read = record {
+      bytes = b.came;
+      taken = b.taken;
+      out = b.done;
+      written = b.written;
+      front = record {
+        lines = b.answered.lines;
+        rest = b.answered.rest;
+        cut = b.answered.cut;
+        answers = b.answered.answers;
+        answers_are = b.answered.answers_are;
+        out_is = b.answered.done_is;
+      };
+    }
+
+    -- no memory, where nothing more was written
+    pub cut_memory : (i₂ o₂ : Option (List ℕ)) (piece : List ℕ) → Consumes i₁ i₂ piece → Appends o₁ o₂ [] → IsRunCut v wanted (ends_of i₀ i₂ o₀ o₂) Memory
+    cut_memory i₂ o₂ piece taken written =
+        let a = b.answered in
+        let behind = cut_behind wanted.end b.came piece a.lines a.rest a.cut in
+        record {
+          bytes = b.came ++ piece;
+          taken = Consumes-trans i₀ i₁ i₂ b.came piece b.taken taken;
+          out = b.done;
+          written = subst (Appends o₀ o₂) (append-nil b.done) (Appends-trans o₀ o₁ o₂ b.done [] b.written written);
+          front = record {
+            lines = a.lines;
+            behind = behind.more;
+            due = inl (behind.rest, behind.cut);
+            answers = a.answers;
+            answers_are = a.answers_are;
+            out_is = a.done_is;
+          };
+        }
+
+    -- a piece that was not written whole
+    cut_front : (i₂ o₂ : Option (List ℕ)) (piece : List ℕ) → Consumes i₁ i₂ piece → IsPieceFront v wanted p o₁ o₂ piece → IsRunCut v wanted (ends_of i₀ i₂ o₀ o₂) WriteFailed
+    cut_front i₂ o₂ piece taken f =
+        let a = f.carries b.came b.done b.answered in
+        record {
+          bytes = b.came ++ piece;
+          taken = Consumes-trans i₀ i₁ i₂ b.came piece b.taken taken;
+          out = b.done ++ take f.count f.more;
+          written = Appends-trans o₀ o₁ o₂ b.done (take f.count f.more) b.written f.written;
+          front = record {
+            lines = a.lines;
+            due = inl (a.rest, a.cut);
+            answers = a.answers;
+            answers_are = a.answers_are;
+            more = drop f.count f.more;
+            split = sym a.done_is ∙ front_split b.done f.more f.count;
+          };
+        }
+
+    pub cut_piece : (i₂ o₂ : Option (List ℕ)) (piece : List ℕ) (fault : LinesFault) → Consumes i₁ i₂ piece → IsPieceCut v wanted p o₁ o₂ piece fault → IsRunCut v wanted (ends_of i₀ i₂ o₀ o₂) fault
+    cut_piece i₂ o₂ piece ReadFailed taken c = absurd c
+    cut_piece i₂ o₂ piece WriteFailed taken c = cut_front i₂ o₂ piece taken c
+    cut_piece i₂ o₂ piece Memory taken c = cut_memory i₂ o₂ piece taken c
+
+    -- the end of the input
+    pub run_whole : (o₂ : Option (List ℕ)) (any_refused : Bool) → IsAtEnd i₁ → IsRestAnswered v wanted p o₁ o₂ any_refused → IsRunWhole v wanted (ends_of i₀ i₁ o₀ o₂) any_refused
+    run_whole o₂ any_refused end r =
+        let a = r.whole b.came b.done b.answered in
+        record {
+          bytes = b.came;
+          taken = b.taken;
+          end = end;
+          lines = a.lines;
+          lines_are = a.lines_are;
+          answers = a.answers;
+          answers_are = a.answers_are;
+          written = subst (Appends o₀ o₂) a.done_is (Appends-trans o₀ o₁ o₂ b.done r.more b.written r.written);
+          told = a.told;
+        }
+
+    cut_rest_front : (o₂ : Option (List ℕ)) → IsAtEnd i₁ → IsRestFront v wanted p o₁ o₂ → IsRunCut v wanted (ends_of i₀ i₁ o₀ o₂) WriteFailed
+    cut_rest_front o₂ end f =
+        let a = f.whole b.came b.done b.answered in
+        record {
+          bytes = b.came;
+          taken = b.taken;
+          out = b.done ++ take f.count f.more;
+          written = Appends-trans o₀ o₁ o₂ b.done (take f.count f.more) b.written f.written;
+          front = record {
+            lines = a.lines;
+            due = inr (end, a.lines_are);
+            answers = a.answers;
+            answers_are = a.answers_are;
+            more = drop f.count f.more;
+            split = sym a.done_is ∙ front_split b.done f.more f.count;
+          };
+        }
+
+    pub cut_rest : (o₂ : Option (List ℕ)) (fault : LinesFault) → IsAtEnd i₁ → IsRestCut v wanted p o₁ o₂ fault → IsRunCut v wanted (ends_of i₀ i₁ o₀ o₂) fault
+    cut_rest o₂ ReadFailed end c = absurd c
+    cut_rest o₂ WriteFailed end c = cut_rest_front o₂ end c
+    cut_rest o₂ Memory end c = cut_memory i₁ o₂ [] (Consumes-nil i₁) c
+
+-- ---- the whole of a run
+
+-- devices that hold the same
+pub ends_same : (v : VersionData) (wanted : Wanted) (i j k o p q : Option (List ℕ)) (result : Result Bool LinesFault) → j ≡ i → p ≡ o → RunEnds v wanted (ends_of j k p q) result → RunEnds v wanted (ends_of i k o q) result
+ends_same v wanted i j k o p q result read written h =
+    subst (λ l. RunEnds v wanted (ends_of l k o q) result) read (subst (λ l. RunEnds v wanted (ends_of j k l q) result) written h)
+
+pub ends_rest : (v : VersionData) (wanted : Wanted) (i₀ i₁ o₀ o₁ o₂ : Option (List ℕ)) (p : Pending) (result : Result Bool LinesFault) → IsBetweenReads v wanted (ends_of i₀ i₁ o₀ o₁) p → IsAtEnd i₁
+    → IfOk result (IsRestAnswered v wanted p o₁ o₂) → IfErr result (IsRestCut v wanted p o₁ o₂) → RunEnds v wanted (ends_of i₀ i₁ o₀ o₂) result
+ends_rest v wanted i₀ i₁ o₀ o₁ o₂ p (Ok any_refused) b end ok err = run_whole v wanted b o₂ any_refused end ok
+ends_rest v wanted i₀ i₁ o₀ o₁ o₂ p (Err fault) b end ok err = cut_rest v wanted b o₂ fault end err

@@ -1,0 +1,7 @@
+use Rattle.std.proofs.lemmas.Result.{on_ok_weaker}
+use Rattle.np_lines.proofs.StepLemmas.{finishes-some}
+use Rattle.np_lines.proofs.pending.Pending.finish.Goals as goal
+
+pub returns : goal.returns
+returns g c =
+    on_ok_weaker c.end_line.result (λ e. finishes-some (g.T.NormTable.model c.args.table.now) c.args.wanted c.args.self.now c.end_line.new.self (c.has_begun.ensures.some c.if-not-has_begun.false) e) c.end_line.ensures

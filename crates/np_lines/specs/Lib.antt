@@ -1,0 +1,5 @@
+pub mod Lines
+pub mod Answers
+pub mod Runs
+pub mod Laws
+pub mod inside

@@ -1,0 +1,18 @@
+//! The stabilized string (UAX #15, section 12) of each line of an input, or why a line has none: a line
+//! of output for each line of input, in constant memory.
+//!
+//! ```
+//! let wanted = Wanted { form: Form::Nfc, end: LineEnd::Lf };
+//! let any_refused = answer_lines(alloc, &table, wanted, &mut Watched::new(input), &mut Watched::new(output))?;
+//! ```
+#![tactic(auto)]
+
+mod answers;
+pub mod laws;
+mod lines;
+mod pending;
+mod runs;
+
+pub use answers::LIMIT;
+pub use lines::{LineEnd, Wanted};
+pub use runs::{LinesFault, answer_lines};
