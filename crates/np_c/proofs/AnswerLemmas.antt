@@ -1,5 +1,5 @@
 -- What answers tell, from the answers below them.
-use Rattle.std.proofs.Common.{◌≡◌, ◌⊎◌, ◌↔◌, ℕ, Bool, true, false, List, Option, Some, refl, sym, subst, inl, inr, ⊎_elim, IsTrue}
+use Rattle.std.proofs.Common.{◌≡◌, ◌⊎◌, ◌↔◌, ℕ, Bool, true, false, List, Option, Some, refl, subst, inl, inr, ⊎_elim, IsTrue}
 use Rattle.std.proofs.lemmas.Bool.{false≢true}
 use Rattle.np_code_points.specs.Inputs.{IsReadWhole}
 use Rattle.np_tables.specs.TableFaults.{IsLeastFault}
@@ -12,7 +12,6 @@ use Rattle.np_ucd.specs.declared.faults.UcdFault.{UcdFault}
 use Rattle.np_ucd.specs.declared.faults.UcdFault.TheVariants.{FieldCount, BadCode, OutOfOrder, BadCategory, BadClass, BadMapping, RangeOpen, RangeLone, RangeDiffers, RangeMaps, TooLarge, ReadFailed, Memory}
 use Rattle.np_c.specs.Answers.{Tells}
 use Rattle.np_c.specs.Files.{IsFileFault, IsFileRefused, IsTablesAnswer}
-use Rattle.np_c.specs.declared.answers.Answer.{Answer}
 use Rattle.np_c.specs.inside.FaultAnswers.{at_line, file_answer, tables_answer, told_answer}
 
 -- yes or no

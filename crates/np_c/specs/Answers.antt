@@ -8,7 +8,7 @@ use Rattle.np_code_points.specs.declared.forms.Form.{Form}
 use Rattle.np_forms.specs.Forms.{IsEquivalent, IsNormalForm}
 use Rattle.np_tables.specs.Versions.{VersionData}
 use Rattle.np_c.specs.Files.{IsNoVersion, IsVersionOf}
-use Rattle.np_c.specs.Texts.{IsFormLetter, IsFormOf, IsFormRefused, IsKeyOf, IsNoForm, IsNoKey, IsNoText}
+use Rattle.np_c.specs.Texts.{IsFormLetter, IsFormOf, IsKeyOf, IsNoForm, IsNoKey, IsNoText}
 use Rattle.np_c.specs.declared.answers.Answer.{Answer}
 
 -- ---- what is written

@@ -108,12 +108,7 @@ pub extern "C" fn npss_normalize(
 
 /// Whether a text is its own normal form.
 #[unsafe(no_mangle)]
-pub extern "C" fn npss_is_form(
-    alloc: Global,
-    handle: &mut Handle,
-    form: u8,
-    text: &[u8],
-) -> Answer
+pub extern "C" fn npss_is_form(alloc: Global, handle: &mut Handle, form: u8, text: &[u8]) -> Answer
     ensures same { version_of handle.new ≡ version_of handle.old }
     ensures told { IfSome (version_of handle.old) (λ v. IsOwnFormAnswer v form text.now result) }
     ensures closed { handle.old.is_open ≡ false → result.status ≡ 5 }

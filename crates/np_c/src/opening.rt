@@ -18,6 +18,7 @@ use std::alloc::Global;
 
 /// The data file is the first of the two, and the exclusions file the second.
 const FIRST: u32 = 1;
+
 const SECOND: u32 = 2;
 
 /// The answer that tells a fault of a file at a line.

@@ -23,10 +23,8 @@ use denote.Triple.Call.{calls_at_last}
 use denote.Triple.Spec.{triple_of}
 use denote.Triple.Table.{framed}
 use denote.Triple.Walked.{says, Stays, stay_dropped, walk_of, ends_at}
-use Rattle.core.proofs.alloc.Calls.{token, Goes-blank}
+use Rattle.core.proofs.alloc.Calls.{Goes-blank}
 use Rattle.std.proofs.raw_atomic.Walks.{proved_at}
-use Rattle.std.proofs.VecSteps.Shapes.{after}
-use Rattle.std_alloc.specs.Box.Ownership.{box_owns}
 use Rattle.std_alloc.proofs.BoxSteps.Form.{Bx, D, R, P, B, args, box_ty, word, box_typed}
 use Rattle.std_alloc.proofs.BoxSteps.Steps.{box_out, box_in}
 use Rattle.std_alloc.specs.contracts.boxed.Box.from_raw as From

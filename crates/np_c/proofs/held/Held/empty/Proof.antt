@@ -1,9 +1,9 @@
 -- `empty` makes a null pointer, behind which nothing is owned.
 use mathlib.Core.Path.{refl}
 use mathlib.Core.List.{List, [], ◌∷◌, ◌++◌}
-use lib.Dec.{T, lit<}
+use lib.Dec.{lit<}
 use Rattle.std.proofs.Common.{None}
-use mir.Val.{Val, vnull, vstruct, vcons, vnil, has_ty, WT}
+use mir.Val.{Val, vnull, vstruct, vcons, vnil, has_ty}
 use base.Logic.{SProp, emp}
 use base.Fml.{ftrue, fsep}
 use prog.Wp.{WpFn}
