@@ -10,8 +10,7 @@
 #define LONG_TEXT 4096
 
 typedef struct tables {
-    PyObject_HEAD
-    npss_handle handle;
+    PyObject_HEAD npss_handle handle;
 } tables;
 
 static PyTypeObject *tables_type, *break_type;
@@ -35,7 +34,10 @@ static int text_of(PyObject *text, bytes *found) {
 }
 
 static int form_of(PyObject *name, uint8_t *form) {
-    static const struct { const char *name; uint8_t form; } forms[] = {
+    static const struct {
+        const char *name;
+        uint8_t form;
+    } forms[] = {
         {"nfc", NPSS_NFC}, {"nfd", NPSS_NFD}, {"nfkc", NPSS_NFKC}, {"nfkd", NPSS_NFKD},
         {"NFC", NPSS_NFC}, {"NFD", NPSS_NFD}, {"NFKC", NPSS_NFKC}, {"NFKD", NPSS_NFKD},
     };
@@ -56,7 +58,8 @@ static int form_of(PyObject *name, uint8_t *form) {
 }
 
 /* The arguments by place or by name; `names` ends in NULL. The first `least` must be there. */
-static int take(PyObject *const *given, Py_ssize_t count, PyObject *words, const char *const *names, Py_ssize_t least, PyObject **taken) {
+static int take(PyObject *const *given, Py_ssize_t count, PyObject *words, const char *const *names, Py_ssize_t least,
+                PyObject **taken) {
     Py_ssize_t most = 0, named = words ? PyTuple_Size(words) : 0;
     while (names[most]) taken[most++] = NULL;
     if (count > most) {
@@ -93,8 +96,11 @@ static PyObject *raise(PyObject *class, PyObject *error) {
 
 /* Raises what an answer tells that is not done. */
 static PyObject *refuse(npss_answer a, const uint8_t *text) {
-    static const char *const file_faults[] = {"", "FieldCount", "BadCode", "OutOfOrder", "BadCategory", "BadClass", "BadMapping", "RangeOpen", "RangeLone", "RangeDiffers", "RangeMaps"};
-    static const char *const table_faults[] = {"", "MapsToUnassigned", "TooDeep", "TooLong", "AmbiguousPair", "HangulWrong"};
+    static const char *const file_faults[] = {"",         "FieldCount", "BadCode",   "OutOfOrder", "BadCategory",
+                                              "BadClass", "BadMapping", "RangeOpen", "RangeLone",  "RangeDiffers",
+                                              "RangeMaps"};
+    static const char *const table_faults[] = {"",        "MapsToUnassigned", "TooDeep",
+                                               "TooLong", "AmbiguousPair",    "HangulWrong"};
     Py_ssize_t index = 0;
     switch (a.status) {
     case NPSS_UNASSIGNED:
@@ -102,11 +108,14 @@ static PyObject *refuse(npss_answer a, const uint8_t *text) {
         return raise(unassigned, PyObject_CallFunction(unassigned, "IKn", a.code, (unsigned long long)a.place, index));
     case NPSS_DATA:
     case NPSS_EXCLUSIONS:
-        return raise(bad_tables, PyObject_CallFunction(bad_tables, "sKs", a.status == NPSS_DATA ? "data" : "exclusions", (unsigned long long)a.place, file_faults[a.fault]));
+        return raise(bad_tables, PyObject_CallFunction(bad_tables, "sKs", a.status == NPSS_DATA ? "data" : "exclusions",
+                                                       (unsigned long long)a.place, file_faults[a.fault]));
     case NPSS_TABLES:
-        return raise(bad_tables, PyObject_CallFunction(bad_tables, "sOsI", "tables", Py_None, table_faults[a.fault], a.code));
+        return raise(bad_tables,
+                     PyObject_CallFunction(bad_tables, "sOsI", "tables", Py_None, table_faults[a.fault], a.code));
     case NPSS_TOO_LARGE:
-        return raise(bad_tables, PyObject_CallFunction(bad_tables, "sOs", a.fault == 1 ? "data" : "exclusions", Py_None, "TooLarge"));
+        return raise(bad_tables, PyObject_CallFunction(bad_tables, "sOs", a.fault == 1 ? "data" : "exclusions", Py_None,
+                                                       "TooLarge"));
     case NPSS_MEMORY:
         return PyErr_NoMemory();
     default:
@@ -132,8 +141,7 @@ static PyObject *make(tables *self, writer *write, PyObject *text, uint8_t form)
     }
     while (room) {
         if (handle == &own) {
-            Py_BEGIN_ALLOW_THREADS
-            a = write(handle, form, b.at, (size_t)b.length, room, size);
+            Py_BEGIN_ALLOW_THREADS a = write(handle, form, b.at, (size_t)b.length, room, size);
             Py_END_ALLOW_THREADS
         } else {
             a = write(handle, form, b.at, (size_t)b.length, room, size);
@@ -207,12 +215,12 @@ static PyObject *tables_is_normalized(PyObject *of, PyObject *const *given, Py_s
     uint8_t form;
     bytes b;
     int yes;
-    if (take(given, count, words, text_names, 1, taken) || form_of(taken[1], &form) || text_of(taken[0], &b)) return NULL;
+    if (take(given, count, words, text_names, 1, taken) || form_of(taken[1], &form) || text_of(taken[0], &b))
+        return NULL;
     if (b.length <= LONG_TEXT) {
         a = npss_is_form(&((tables *)of)->handle, form, b.at, (size_t)b.length);
     } else if ((a = npss_share(&((tables *)of)->handle, &own)).status == NPSS_DONE) {
-        Py_BEGIN_ALLOW_THREADS
-        a = npss_is_form(&own, form, b.at, (size_t)b.length);
+        Py_BEGIN_ALLOW_THREADS a = npss_is_form(&own, form, b.at, (size_t)b.length);
         npss_close(&own);
         Py_END_ALLOW_THREADS
     }
@@ -226,13 +234,15 @@ static PyObject *tables_equivalent(PyObject *of, PyObject *const *given, Py_ssiz
     npss_answer a;
     bytes left, right;
     int yes, compatible = 0;
-    if (take(given, count, words, names, 2, taken) || text_of(taken[0], &left) || text_of(taken[1], &right)) return NULL;
+    if (take(given, count, words, names, 2, taken) || text_of(taken[0], &left) || text_of(taken[1], &right))
+        return NULL;
     if (taken[2] && (compatible = PyObject_IsTrue(taken[2])) < 0) return NULL;
     if (left.length + right.length <= LONG_TEXT) {
-        a = npss_equivalent(&((tables *)of)->handle, compatible != 0, left.at, (size_t)left.length, right.at, (size_t)right.length);
+        a = npss_equivalent(&((tables *)of)->handle, compatible != 0, left.at, (size_t)left.length, right.at,
+                            (size_t)right.length);
     } else if ((a = npss_share(&((tables *)of)->handle, &own)).status == NPSS_DONE) {
-        Py_BEGIN_ALLOW_THREADS
-        a = npss_equivalent(&own, compatible != 0, left.at, (size_t)left.length, right.at, (size_t)right.length);
+        Py_BEGIN_ALLOW_THREADS a =
+            npss_equivalent(&own, compatible != 0, left.at, (size_t)left.length, right.at, (size_t)right.length);
         npss_close(&own);
         Py_END_ALLOW_THREADS
     }
@@ -260,7 +270,8 @@ static PyObject *tables_extends(PyObject *self, PyObject *older) {
 }
 
 static PyObject *tables_first_break(PyObject *self, PyObject *older) {
-    static const char *const kinds[] = {"", "Lost", "ClassChanged", "MappingChanged", "NowExcluded", "NowIncluded", "NewComposite"};
+    static const char *const kinds[] = {
+        "", "Lost", "ClassChanged", "MappingChanged", "NowExcluded", "NowIncluded", "NewComposite"};
     PyObject *found, *kind, *code;
     npss_answer a;
     int yes = extension(self, older, &a);
@@ -309,14 +320,14 @@ static PyObject *tables_open(PyObject *class, PyObject *const *given, Py_ssize_t
     npss_answer a;
     if (take(given, count, words, names, 2, taken)) return NULL;
     if (!(data = contents(taken[0]))) return NULL;
-    if ((exclusions = contents(taken[1])) && !PyBytes_AsStringAndSize(data, &d, &dl) && !PyBytes_AsStringAndSize(exclusions, &e, &el)) {
+    if ((exclusions = contents(taken[1])) && !PyBytes_AsStringAndSize(data, &d, &dl) &&
+        !PyBytes_AsStringAndSize(exclusions, &e, &el)) {
         allocfunc alloc = (allocfunc)PyType_GetSlot((PyTypeObject *)class, Py_tp_alloc);
         made = (tables *)alloc((PyTypeObject *)class, 0); /* zeros: closed */
         if (made) {
-            Py_BEGIN_ALLOW_THREADS
-            a = npss_open(&made->handle, (const uint8_t *)d, (size_t)dl, (const uint8_t *)e, (size_t)el);
-            Py_END_ALLOW_THREADS
-            if (a.status != NPSS_DONE) {
+            Py_BEGIN_ALLOW_THREADS a =
+                npss_open(&made->handle, (const uint8_t *)d, (size_t)dl, (const uint8_t *)e, (size_t)el);
+            Py_END_ALLOW_THREADS if (a.status != NPSS_DONE) {
                 refuse(a, NULL);
                 Py_CLEAR(made);
             }
@@ -338,21 +349,30 @@ static void tables_dealloc(PyObject *self) {
 
 static PyMethodDef methods[] = {
     {"open", (PyCFunction)(void (*)(void))tables_open, METH_FASTCALL | METH_KEYWORDS | METH_CLASS,
-     "open($type, /, data, exclusions)\n--\n\nThe version of UnicodeData.txt and CompositionExclusions.txt.\n\nEach is a path, or the bytes of the file. Raises BadTables where they make no version.\nTakes some 10 ms and 6 MB for the published files."},
+     "open($type, /, data, exclusions)\n--\n\nThe version of UnicodeData.txt and CompositionExclusions.txt.\n\nEach is "
+     "a path, or the bytes of the file. Raises BadTables where they make no version.\nTakes some 10 ms and 6 MB for "
+     "the published files."},
     {"key", FAST(tables_key),
-     "key($self, /, text, form='nfc')\n--\n\nThe key of a text: its stabilized string under the form.\n\nThe form is 'nfc', 'nfd', 'nfkc' or 'nfkd'. Raises Unassigned where the version does not\nassign a code point of the text, and UnicodeEncodeError at a lone surrogate."},
+     "key($self, /, text, form='nfc')\n--\n\nThe key of a text: its stabilized string under the form.\n\nThe form is "
+     "'nfc', 'nfd', 'nfkc' or 'nfkd'. Raises Unassigned where the version does not\nassign a code point of the text, "
+     "and UnicodeEncodeError at a lone surrogate."},
     {"keys", FAST(tables_keys),
-     "keys($self, /, texts, form='nfc')\n--\n\nThe keys of several texts, a list. Raises as key does, at the first text that has none."},
+     "keys($self, /, texts, form='nfc')\n--\n\nThe keys of several texts, a list. Raises as key does, at the first "
+     "text that has none."},
     {"normalize", FAST(tables_normalize),
-     "normalize($self, /, text, form='nfc')\n--\n\nThe normal form of a text, whether or not its code points are assigned."},
+     "normalize($self, /, text, form='nfc')\n--\n\nThe normal form of a text, whether or not its code points are "
+     "assigned."},
     {"is_normalized", FAST(tables_is_normalized),
      "is_normalized($self, /, text, form='nfc')\n--\n\nWhether a text is its own normal form."},
     {"equivalent", FAST(tables_equivalent),
-     "equivalent($self, /, left, right, compatible=False)\n--\n\nWhether two texts are canonical equivalents, or compatible ones where `compatible`."},
+     "equivalent($self, /, left, right, compatible=False)\n--\n\nWhether two texts are canonical equivalents, or "
+     "compatible ones where `compatible`."},
     {"extends", tables_extends, METH_O,
-     "extends($self, older, /)\n--\n\nWhether this version extends an older one, so that keys under the older one stay keys."},
+     "extends($self, older, /)\n--\n\nWhether this version extends an older one, so that keys under the older one stay "
+     "keys."},
     {"first_break", tables_first_break, METH_O,
-     "first_break($self, older, /)\n--\n\nWhat this version breaks of an older one at the least code point, a Break; None where it\nextends the older one."},
+     "first_break($self, older, /)\n--\n\nWhat this version breaks of an older one at the least code point, a Break; "
+     "None where it\nextends the older one."},
     {NULL, NULL, 0, NULL},
 };
 
@@ -369,7 +389,8 @@ static PyType_Slot slots[] = {
     {0, NULL},
 };
 
-static PyType_Spec spec = {"npss.Tables", sizeof(tables), 0, Py_TPFLAGS_DEFAULT | Py_TPFLAGS_DISALLOW_INSTANTIATION, slots};
+static PyType_Spec spec = {"npss.Tables", sizeof(tables), 0, Py_TPFLAGS_DEFAULT | Py_TPFLAGS_DISALLOW_INSTANTIATION,
+                           slots};
 
 static PyStructSequence_Field break_fields[] = {
     {"kind", "the name of the kind of break"},
@@ -377,15 +398,21 @@ static PyStructSequence_Field break_fields[] = {
     {NULL, NULL},
 };
 
-static PyStructSequence_Desc break_description = {"npss.Break", "What a newer version breaks of an older one, at a code point.", break_fields, 2};
+static PyStructSequence_Desc break_description = {
+    "npss.Break", "What a newer version breaks of an older one, at a code point.", break_fields, 2};
 
-static struct PyModuleDef module = {PyModuleDef_HEAD_INIT, "npss._npss", "The C half of npss.", -1, NULL, NULL, NULL, NULL, NULL};
+static struct PyModuleDef module = {
+    PyModuleDef_HEAD_INIT, "npss._npss", "The C half of npss.", -1, NULL, NULL, NULL, NULL, NULL};
 
 PyMODINIT_FUNC PyInit__npss(void) {
     PyObject *made = PyModule_Create(&module), *errors = PyImport_ImportModule("npss._errors");
-    if (!made || !errors || !(bad_tables = PyObject_GetAttrString(errors, "BadTables")) || !(unassigned = PyObject_GetAttrString(errors, "Unassigned"))
-        || !(tables_type = (PyTypeObject *)PyType_FromSpec(&spec)) || !(break_type = PyStructSequence_NewType(&break_description))
-        || PyModule_AddObjectRef(made, "Tables", (PyObject *)tables_type) || PyModule_AddObjectRef(made, "Break", (PyObject *)break_type)) Py_CLEAR(made);
+    if (!made || !errors || !(bad_tables = PyObject_GetAttrString(errors, "BadTables")) ||
+        !(unassigned = PyObject_GetAttrString(errors, "Unassigned")) ||
+        !(tables_type = (PyTypeObject *)PyType_FromSpec(&spec)) ||
+        !(break_type = PyStructSequence_NewType(&break_description)) ||
+        PyModule_AddObjectRef(made, "Tables", (PyObject *)tables_type) ||
+        PyModule_AddObjectRef(made, "Break", (PyObject *)break_type))
+        Py_CLEAR(made);
     Py_XDECREF(errors);
     return made;
 }

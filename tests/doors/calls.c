@@ -14,7 +14,9 @@ static int is(npss_answer a, uint32_t status, uint32_t fault, uint32_t code, uin
     return a.status == status && a.fault == fault && a.code == code && a.place == place && a.length == length;
 }
 
-static int is_closed(const npss_handle *handle) { return !handle->is_open; }
+static int is_closed(const npss_handle *handle) {
+    return !handle->is_open;
+}
 
 /* Each call on a handle of zeros. */
 static void check_closed(void) {
@@ -115,7 +117,8 @@ static void check_questions(npss_handle *h) {
     CHECK("different", is(npss_equivalent(h, false, TEXT(LIGATURE), TEXT("fi")), NPSS_DIFFERENT, 0, 0, 0, 0));
     CHECK("compatible", is(npss_equivalent(h, true, TEXT(LIGATURE), TEXT("fi")), NPSS_DONE, 0, 0, 0, 0));
     CHECK("empty texts", npss_equivalent(h, false, TEXT(""), TEXT("")).status == NPSS_DONE);
-    CHECK("the first is no text", is(npss_equivalent(h, false, TEXT("a\xff"), TEXT("\xff")), NPSS_NOT_UTF8, 1, 0, 1, 0));
+    CHECK("the first is no text",
+          is(npss_equivalent(h, false, TEXT("a\xff"), TEXT("\xff")), NPSS_NOT_UTF8, 1, 0, 1, 0));
     CHECK("the second is no text", is(npss_equivalent(h, false, TEXT("a"), TEXT("\xff")), NPSS_NOT_UTF8, 2, 0, 0, 0));
 }
 
@@ -156,7 +159,8 @@ int main(int argc, char **argv) {
     npss_close(&second);
     CHECK("the shared one stays open", is_closed(&second) && npss_count(&shared).length == 17666);
     check_made(&shared, NPSS_NFC, LATER LATER LATER, "\xf0\x96\xb5\xa8" LATER);
-    CHECK("open anew", open_files(&shared, argv[1], argv[2]).status == NPSS_DONE && npss_count(&shared).length == 17660);
+    CHECK("open anew",
+          open_files(&shared, argv[1], argv[2]).status == NPSS_DONE && npss_count(&shared).length == 17660);
     npss_close(&shared);
     npss_close(&first);
     return finish();

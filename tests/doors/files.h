@@ -39,14 +39,14 @@ static npss_answer open_files(npss_handle *handle, const char *data_name, const 
 
 static unsigned long passed, failed;
 
-#define CHECK(name, holds)                                       \
-    do {                                                         \
-        if (holds) {                                             \
-            passed++;                                            \
-        } else {                                                 \
-            failed++;                                            \
-            printf("FAILED %s (line %d)\n", (name), __LINE__);   \
-        }                                                        \
+#define CHECK(name, holds)                                                                                             \
+    do {                                                                                                               \
+        if (holds) {                                                                                                   \
+            passed++;                                                                                                  \
+        } else {                                                                                                       \
+            failed++;                                                                                                  \
+            printf("FAILED %s (line %d)\n", (name), __LINE__);                                                         \
+        }                                                                                                              \
     } while (0)
 
 static inline int finish(void) {
