@@ -19,7 +19,7 @@ ROOT = HERE.parent.parent
 def build(folder, prefix):
     """Copies the package into the folder, and compiles its C half there, with the library in it."""
     package = folder / "npss"
-    shutil.copytree(HERE / "npss", package, dirs_exist_ok=True, ignore=shutil.ignore_patterns("__pycache__"))
+    shutil.copytree(HERE / "src" / "npss", package, dirs_exist_ok=True, ignore=shutil.ignore_patterns("__pycache__"))
     flags = {"darwin": ["-bundle", "-undefined", "dynamic_lookup"]}.get(sys.platform, ["-shared"])
     subprocess.run([os.environ.get("CC", "cc"), "-O2", "-fPIC", *flags, "-fvisibility=hidden",
                     "-I", sysconfig.get_path("include"), "-I", str(prefix / "include"),
