@@ -1,0 +1,361 @@
+//! Unicode text under the tables of a version that you choose: keys, normal forms, equivalence.
+//!
+//! A key is a stabilized string (UAX #15, section 12): the normal form of a text, all of whose code points the
+//! version assigns. It stays the same under each later version. The work is done by a proved library behind its C
+//! calls; this crate, which hands the texts over, is tested.
+//!
+//! ```
+//! use npss::{Form, KeyError, Tables};
+//!
+//! let data = b"0061;X;Ll;0;L;;;;;N;;;;;\n0302;X;Mn;230;L;;;;;N;;;;;\n00E2;X;Ll;0;L;0061 0302;;;;N;;;;;\n";
+//! // the records of a data file rise
+//! assert!(Tables::open(data, b"").is_err());
+//!
+//! let data = b"0061;X;Ll;0;L;;;;;N;;;;;\n00E2;X;Ll;0;L;0061 0302;;;;N;;;;;\n0302;X;Mn;230;L;;;;;N;;;;;\n";
+//! let mut tables = Tables::open(data, b"")?;
+//! assert_eq!(tables.key(Form::Nfc, "a\u{302}")?, "\u{e2}");
+//! assert_eq!(tables.key(Form::Nfc, "ab"), Err(KeyError::Unassigned { at: 1, code: 'b' }));
+//! # Ok::<(), Box<dyn std::error::Error>>(())
+//! ```
+//!
+//! A [`Tables`] has one call at a time, so its calls take `&mut self`. Each thread takes one of its own by
+//! [`Tables::share`], which is cheap: all of them share one table.
+#![warn(missing_docs)]
+
+mod errors;
+#[allow(missing_docs)]
+mod raw;
+
+pub use errors::{File, KeyError, Memory, OpenError};
+use raw::{Answer, Handle};
+use std::ptr::null_mut;
+
+/// A normalization form.
+#[derive(Clone, Copy, Debug, PartialEq, Eq)]
+pub enum Form {
+    /// Canonical decomposition.
+    Nfd,
+    /// Canonical decomposition, then canonical composition.
+    Nfc,
+    /// Compatibility decomposition.
+    Nfkd,
+    /// Compatibility decomposition, then canonical composition.
+    Nfkc,
+}
+
+impl Form {
+    fn letter(self) -> u8 {
+        match self {
+            Form::Nfd => b'D',
+            Form::Nfc => b'C',
+            Form::Nfkd => b'd',
+            Form::Nfkc => b'c',
+        }
+    }
+}
+
+/// A kind of break. A code point that has several is told with the first in this order.
+#[derive(Clone, Copy, Debug, PartialEq, Eq)]
+#[non_exhaustive]
+pub enum BreakKind {
+    /// Assigned in the older version, not in the newer one.
+    Lost,
+    /// Assigned in both, with unlike combining classes.
+    ClassChanged,
+    /// Assigned in both, with unlike mappings.
+    MappingChanged,
+    /// A primary composite of the older version, not of the newer one.
+    NowExcluded,
+    /// A primary composite of the newer version alone, assigned in both, of parts that the older one assigns.
+    NowIncluded,
+    /// A primary composite of the newer version that the older one does not assign, of parts that it does.
+    NewComposite,
+}
+
+/// What a newer version breaks of an older one, at a code point.
+#[derive(Clone, Copy, Debug, PartialEq, Eq)]
+pub struct Break {
+    /// The kind of break.
+    pub kind: BreakKind,
+    /// The code point.
+    pub code: u32,
+}
+
+/// The tables of a version of Unicode.
+#[derive(Debug)]
+pub struct Tables {
+    handle: Handle,
+}
+
+// SAFETY: that the table behind a handle may be used from another thread is proved (`np_c::shared::crosses`). A
+// handle has one call at a time, since each call takes it by `&mut`; so a `&` to one can do nothing.
+unsafe impl Send for Tables {}
+unsafe impl Sync for Tables {}
+
+impl Drop for Tables {
+    fn drop(&mut self) {
+        // SAFETY: the handle was last touched by the library.
+        unsafe { raw::npss_close(&mut self.handle) }
+    }
+}
+
+/// A call that writes what it makes of a text into a room.
+type Writer = unsafe extern "C" fn(*mut Handle, u8, *const u8, usize, *mut u8, usize) -> Answer;
+
+const FILE_FAULTS: [&str; 11] = [
+    "",
+    "FieldCount",
+    "BadCode",
+    "OutOfOrder",
+    "BadCategory",
+    "BadClass",
+    "BadMapping",
+    "RangeOpen",
+    "RangeLone",
+    "RangeDiffers",
+    "RangeMaps",
+];
+
+const TABLE_FAULTS: [&str; 6] = [
+    "",
+    "MapsToUnassigned",
+    "TooDeep",
+    "TooLong",
+    "AmbiguousPair",
+    "HangulWrong",
+];
+
+fn open_error(a: Answer) -> OpenError {
+    let fault = a.fault as usize;
+    match a.status {
+        raw::DATA => OpenError::File {
+            file: File::Data,
+            line: a.place,
+            name: FILE_FAULTS[fault],
+        },
+        raw::EXCLUSIONS => OpenError::File {
+            file: File::Exclusions,
+            line: a.place,
+            name: FILE_FAULTS[fault],
+        },
+        raw::TABLES => OpenError::Tables {
+            code: a.code,
+            name: TABLE_FAULTS[fault],
+        },
+        raw::TOO_LARGE => OpenError::TooLarge {
+            file: if a.fault == 1 {
+                File::Data
+            } else {
+                File::Exclusions
+            },
+        },
+        _ => OpenError::Memory,
+    }
+}
+
+impl Tables {
+    fn closed() -> Tables {
+        Tables {
+            handle: Handle {
+                is_open: 0,
+                held: null_mut(),
+            },
+        }
+    }
+
+    /// The version that the bytes of UnicodeData.txt and CompositionExclusions.txt make. Takes some 10 ms and 6 MB
+    /// for the published files.
+    ///
+    /// # Errors
+    ///
+    /// The first fault of the data file; else that of the exclusions; else that of the tables. `Memory` where memory
+    /// ran out.
+    ///
+    /// ```
+    /// let error = npss::Tables::open(b"0041;x\n", b"").unwrap_err();
+    /// assert_eq!(error.to_string(), "data: line 1: FieldCount");
+    /// ```
+    pub fn open(data: &[u8], exclusions: &[u8]) -> Result<Tables, OpenError> {
+        let mut made = Tables::closed();
+        // SAFETY: the slices are readable, and the handle is closed.
+        let a = unsafe {
+            raw::npss_open(
+                &mut made.handle,
+                data.as_ptr(),
+                data.len(),
+                exclusions.as_ptr(),
+                exclusions.len(),
+            )
+        };
+        if a.status == raw::DONE {
+            Ok(made)
+        } else {
+            Err(open_error(a))
+        }
+    }
+
+    /// The same tables once more, for another thread. They take 48 bytes or so.
+    ///
+    /// # Errors
+    ///
+    /// `Memory` where memory ran out.
+    ///
+    /// ```
+    /// # use npss::{Form, Tables};
+    /// let mut tables = Tables::open(b"0041;X;Lu;0;L;;;;;N;;;;;\n", b"")?;
+    /// let mut others = tables.share()?;
+    /// let key = std::thread::spawn(move || others.key(Form::Nfc, "A")).join().unwrap()?;
+    /// assert_eq!(key, "A");
+    /// # Ok::<(), Box<dyn std::error::Error>>(())
+    /// ```
+    pub fn share(&mut self) -> Result<Tables, Memory> {
+        let mut made = Tables::closed();
+        // SAFETY: both handles are ours, and they are two.
+        let a = unsafe { raw::npss_share(&mut self.handle, &mut made.handle) };
+        if a.status == raw::DONE {
+            Ok(made)
+        } else {
+            Err(Memory)
+        }
+    }
+
+    /// What a call makes of a text.
+    fn make(&mut self, write: Writer, form: Form, text: &str) -> Result<String, Answer> {
+        let mut room: Vec<u8> = Vec::new();
+        let mut wanted = text.len() + text.len() / 2;
+        loop {
+            if room.try_reserve_exact(wanted).is_err() {
+                return Err(Answer {
+                    status: raw::MEMORY,
+                    fault: 0,
+                    code: 0,
+                    place: 0,
+                    length: 0,
+                });
+            }
+            room.resize(wanted, 0);
+            // SAFETY: the text is readable and the room writable, and they don't overlap.
+            let a = unsafe {
+                write(
+                    &mut self.handle,
+                    form.letter(),
+                    text.as_ptr(),
+                    text.len(),
+                    room.as_mut_ptr(),
+                    room.len(),
+                )
+            };
+            match a.status {
+                raw::DONE => {
+                    room.truncate(a.length as usize);
+                    // SAFETY: what is written is the UTF-8 of code points; that is proved.
+                    return Ok(unsafe { String::from_utf8_unchecked(room) });
+                }
+                raw::NO_ROOM => wanted = a.length as usize,
+                _ => return Err(a),
+            }
+        }
+    }
+
+    /// The key of a text: its stabilized string.
+    ///
+    /// # Errors
+    ///
+    /// `Unassigned` exactly where the version does not assign a code point of the text; `Memory` where memory ran out.
+    pub fn key(&mut self, form: Form, text: &str) -> Result<String, KeyError> {
+        self.make(raw::npss_key, form, text)
+            .map_err(|a| match char::from_u32(a.code) {
+                Some(code) if a.status == raw::UNASSIGNED => KeyError::Unassigned {
+                    at: a.place as usize,
+                    code,
+                },
+                _ => KeyError::Memory,
+            })
+    }
+
+    /// The normal form of a text, whether or not its code points are assigned.
+    ///
+    /// # Errors
+    ///
+    /// `Memory` where memory ran out.
+    pub fn normalize(&mut self, form: Form, text: &str) -> Result<String, Memory> {
+        self.make(raw::npss_normalize, form, text)
+            .map_err(|_| Memory)
+    }
+
+    /// Whether a text is its own normal form.
+    ///
+    /// # Errors
+    ///
+    /// `Memory` where memory ran out.
+    pub fn is_normalized(&mut self, form: Form, text: &str) -> Result<bool, Memory> {
+        // SAFETY: the text is readable.
+        told(unsafe {
+            raw::npss_is_form(&mut self.handle, form.letter(), text.as_ptr(), text.len())
+        })
+    }
+
+    /// Whether two texts are canonical equivalents, or compatible ones where `compatible`.
+    ///
+    /// # Errors
+    ///
+    /// `Memory` where memory ran out.
+    ///
+    /// ```
+    /// # use npss::Tables;
+    /// let mut tables = Tables::open(b"0066;X;Ll;0;L;;;;;N;;;;;\n0069;X;Ll;0;L;;;;;N;;;;;\nFB01;X;Ll;0;L;<compat> 0066 0069;;;;N;;;;;\n", b"")?;
+    /// assert!(!tables.equivalent("\u{fb01}", "fi", false)?);
+    /// assert!(tables.equivalent("\u{fb01}", "fi", true)?);
+    /// # Ok::<(), Box<dyn std::error::Error>>(())
+    /// ```
+    pub fn equivalent(
+        &mut self,
+        left: &str,
+        right: &str,
+        compatible: bool,
+    ) -> Result<bool, Memory> {
+        // SAFETY: the texts are readable.
+        told(unsafe {
+            raw::npss_equivalent(
+                &mut self.handle,
+                compatible,
+                left.as_ptr(),
+                left.len(),
+                right.as_ptr(),
+                right.len(),
+            )
+        })
+    }
+
+    /// What this version breaks of an older one at the least code point. `None` where it extends the older one, so
+    /// that keys under the older one stay keys.
+    pub fn first_break(&mut self, older: &mut Tables) -> Option<Break> {
+        // SAFETY: both handles are ours, and they are two, since both are borrowed uniquely.
+        let a = unsafe { raw::npss_extends(&mut older.handle, &mut self.handle) };
+        let kind = match (a.status, a.fault) {
+            (raw::DIFFERENT, 1) => BreakKind::Lost,
+            (raw::DIFFERENT, 2) => BreakKind::ClassChanged,
+            (raw::DIFFERENT, 3) => BreakKind::MappingChanged,
+            (raw::DIFFERENT, 4) => BreakKind::NowExcluded,
+            (raw::DIFFERENT, 5) => BreakKind::NowIncluded,
+            (raw::DIFFERENT, _) => BreakKind::NewComposite,
+            _ => return None,
+        };
+        Some(Break { kind, code: a.code })
+    }
+
+    /// How many code points the version assigns.
+    pub fn count(&mut self) -> u64 {
+        // SAFETY: the handle is ours.
+        unsafe { raw::npss_count(&mut self.handle) }.length
+    }
+}
+
+/// The answer to a question.
+fn told(a: Answer) -> Result<bool, Memory> {
+    match a.status {
+        raw::DONE => Ok(true),
+        raw::DIFFERENT => Ok(false),
+        _ => Err(Memory),
+    }
+}

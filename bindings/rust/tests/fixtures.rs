@@ -1,0 +1,122 @@
+//! The calls over the fixtures of the repository.
+
+use npss::{Break, BreakKind, File, Form, KeyError, OpenError, Tables};
+use std::thread;
+
+const FOLDER: &str = concat!(env!("CARGO_MANIFEST_DIR"), "/../../fixtures/");
+
+fn bytes(name: &str) -> Vec<u8> {
+    std::fs::read(format!("{FOLDER}{name}")).unwrap()
+}
+
+fn version(name: &str) -> Tables {
+    let data = bytes(&format!("{name}/UnicodeData.txt"));
+    Tables::open(&data, &bytes(&format!("{name}/CompositionExclusions.txt"))).unwrap()
+}
+
+#[test]
+fn forms_of_a_text() {
+    let mut v1 = version("v1");
+    for (form, text, made) in [
+        (Form::Nfd, "a\u{302}\u{323}", "a\u{323}\u{302}"),
+        (Form::Nfc, "a\u{302}\u{323}", "\u{1ead}"),
+        (Form::Nfkd, "\u{fb01}", "fi"),
+        (Form::Nfkc, "\u{fb01}", "fi"),
+        (Form::Nfc, "\u{958}", "\u{915}\u{93c}"),
+        (Form::Nfc, "", ""),
+        (Form::Nfd, "\u{d4db}", "\u{1111}\u{1171}\u{11b6}"),
+    ] {
+        assert_eq!(v1.key(form, text).as_deref(), Ok(made));
+        assert_eq!(v1.normalize(form, text).as_deref(), Ok(made));
+        assert_eq!(v1.is_normalized(form, made), Ok(true));
+        assert_eq!(v1.is_normalized(form, text), Ok(text == made));
+    }
+}
+
+#[test]
+fn unassigned_code_points_are_told() {
+    let mut v1 = version("v1");
+    let error = v1.key(Form::Nfc, "A\u{16d67}").unwrap_err();
+    assert_eq!(
+        error,
+        KeyError::Unassigned {
+            at: 1,
+            code: '\u{16d67}'
+        }
+    );
+    assert_eq!(error.to_string(), "unassigned 16D67 at byte 1");
+    assert_eq!(
+        v1.normalize(Form::Nfc, "\u{16d67}").as_deref(),
+        Ok("\u{16d67}")
+    );
+}
+
+#[test]
+fn files_are_refused() {
+    let exclusions = bytes("v1/CompositionExclusions.txt");
+    let none = |data: &[u8], exclusions: &[u8]| Tables::open(data, exclusions).unwrap_err();
+    let file = OpenError::File {
+        file: File::Data,
+        line: 1,
+        name: "FieldCount",
+    };
+    assert_eq!(none(b"0041;x\n", &exclusions), file);
+    let file = OpenError::File {
+        file: File::Exclusions,
+        line: 1,
+        name: "BadCode",
+    };
+    assert_eq!(none(b"", b"none"), file);
+    let tables = none(b"0041;X;Lu;0;L;0042;;;;N;;;;;\n", &exclusions);
+    assert_eq!(tables.to_string(), "tables: MapsToUnassigned 0041");
+    let large = vec![b'\n'; 16_777_217];
+    assert_eq!(none(&large, b""), OpenError::TooLarge { file: File::Data });
+    assert_eq!(
+        none(b"", &large),
+        OpenError::TooLarge {
+            file: File::Exclusions
+        }
+    );
+}
+
+#[test]
+fn versions_beside_one_another() {
+    let (mut v1, mut v2) = (version("v1"), version("v2"));
+    assert_eq!((v1.count(), v2.count()), (17_660, 17_666));
+    assert_eq!(v2.first_break(&mut v1), None);
+    let lost = Break {
+        kind: BreakKind::Lost,
+        code: 0x1dfa,
+    };
+    assert_eq!(v1.first_break(&mut v2), Some(lost));
+}
+
+#[test]
+fn threads_share_a_table() {
+    let mut tables = version("v1");
+    let threads: Vec<_> = (0..5)
+        .map(|_| {
+            let mut own = tables.share().unwrap();
+            thread::spawn(move || {
+                (0..20_000)
+                    .all(|_| own.key(Form::Nfc, "a\u{302}\u{323}").as_deref() == Ok("\u{1ead}"))
+            })
+        })
+        .collect();
+    drop(tables);
+    assert!(threads.into_iter().all(|thread| thread.join().unwrap()));
+}
+
+#[test]
+fn long_texts() {
+    let mut v1 = version("v1");
+    let text = "a\u{302}\u{323}".repeat(1_000_000);
+    assert_eq!(
+        v1.key(Form::Nfc, &text).unwrap(),
+        "\u{1ead}".repeat(1_000_000)
+    );
+    assert_eq!(
+        v1.equivalent(&text, &"\u{1ead}".repeat(1_000_000), false),
+        Ok(true)
+    );
+}

@@ -1,0 +1,54 @@
+-- `of_parts` moves two fields, and with them goes the box that they own.
+use mathlib.Core.Path.{refl}
+use mathlib.Core.List.{List, [], ◌∷◌, ◌++◌}
+use Rattle.std.proofs.Common.{Some}
+use mir.Val.{Val}
+use base.Logic.{SProp, emp, id⊢}
+use base.Fml.{ftrue, fsep}
+use prog.Wp.{WpFn}
+use contract.Running.{tables}
+use types.Kit.{‵, raw, ◌⊛◌, prop, ◌$◌, ◌∵◌, !, qed, move, drop, use1, split, join, regoal, fsplit, fjoin, suffices, done}
+use types.Part.{whole, sub, agg}
+use types.Run.{stop, fld, of_opd, no_more, and_then, returns, enter}
+use types.ByLocal.{alloc_all, pass_all, free_all, look_at, get, get_in, sets}
+use denote.Exit.{yes}
+use denote.Signature.{plain}
+use denote.Steps.{nothing}
+use denote.Triple.Walked.{says, Stays, stay_dropped, walk_of, ends_at, Goes-dropped}
+use Rattle.std.proofs.raw_atomic.Walks.{proved_at}
+use Rattle.std_alloc.proofs.BoxSteps.Form.{D, B, word, box_typed}
+use Rattle.std_alloc.proofs.BoxSteps.Steps.{box_out, box_in}
+use Rattle.np_c.proofs.Rows.{TheBox, Parts, Kept}
+use Rattle.np_c.specs.contracts.held.Held.of_parts as F
+use Rattle.np_c.proofs.held.Held.of_parts.Statement.{statement}
+use Rattle.np_c.proofs.held.Held.of_parts.Code as code
+
+abbrev given_up : Stays F.signature.params F.ended.kept
+given_up = (stay_dropped (plain (λ _. Parts)) yes, tt)
+
+pub of_parts_spec : {M : Type 1} → statement M
+of_parts_spec 𝓤 𝓛 𝓜 𝓡 wired =
+    let 𝓣 = tables 𝓤 𝓛.H 𝓜 𝓡 𝓡.env in
+    let c = F.clauses 𝓛 𝓜.mem 𝓡.returns in
+    let fn = code.function in
+    proved_at 𝓛 F.ended given_up c 𝓜 𝓡 (Goes-dropped 𝓛 0 (plain (λ _. Parts)) yes (λ κs x f. refl), tt) F.Key.name fn (code.unfolded 𝓤 𝓛.H 𝓜 𝓡 wired) (λ z are.
+    let p = z.0.3.0 in
+    let vs = z.0.4.0 in
+    let Post : Val → SProp 𝓤 = (walk_of 𝓛 F.ended given_up c).post z in
+    let box : D TheBox = record { ptr = p.at; alloc = p.alloc; value = p.value } in
+    let made : Kept.Denot = record { at = p.at; alloc = p.alloc; held = Some p.value } in
+    qed 𝓛 ((‵ ftrue ⊛ ‵ (fsep ((B TheBox).own_val box vs) ftrue)) ∷ raw (emp 𝓤) ∷ []) ∵
+    move ! (1 ∷ []) $ drop ! $ split ! $ drop ! $ fsplit ! $ move ! (1 ∷ []) $ drop ! $ box_out TheBox ! box vs (λ b o hv e ws fits.
+    let w = word TheBox hv b o in
+    let typed = box_typed TheBox hv b o fits in
+    regoal ! (λ (us : List Val). prop (WpFn 𝓤 𝓛.H 𝓣.C 𝓣.Λ fn (us ++ []) Post)) ws refl $
+    box_in TheBox ! box b o p.value e refl $ use1 𝓛 (‵ (Kept.own_val made (w ∷ []))) (id⊢ 𝓤 _) $
+    enter ! _ _ _ _ _ $ alloc_all ! (λ ls. pass_all ! refl (typed, tt) $
+    sets ! (of_opd ! (get_in ! (fld ! refl (stop !)) (sub ! 0 refl (whole !)))) refl (tt, tt) $
+    sets ! (of_opd ! (get_in ! (fld ! refl (stop !)) (sub ! 1 refl (whole !)))) refl fits $
+    sets ! (of_opd ! (get ! refl)) refl (tt, tt) $
+    sets ! (agg ! (and_then ! (get ! refl) (and_then ! (get ! refl) (no_more !)))) refl typed $
+    returns ! (look_at ! 0 refl) $ free_all ! refl $
+    -- [what is held]
+    suffices ! _ (ends_at 𝓛 F.ended given_up c z w made (tt, tt) (tt, tt)) $ says ! refl $
+    nothing ! $ nothing ! $ fjoin ! $ join ! $ nothing ! $ join ! $ done !)))

@@ -1,0 +1,5 @@
+use Rattle.std.proofs.Common.{refl, inr}
+use Rattle.np_c.proofs.keys.write_form.Goals as goal
+
+pub returns-in-Err : goal.returns-in-Err
+returns-in-Err g c = inr (c.in-Some.form, c.in-Some.ensures.some, record { how = inr (c.in-Err.ensures.refused, refl) })

@@ -1,0 +1,5 @@
+pub mod Answers
+pub mod Files
+pub mod Texts
+pub mod Versions
+pub mod inside

@@ -1,0 +1,2 @@
+pub mod FaultAnswers
+pub mod Owned

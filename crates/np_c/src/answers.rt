@@ -1,0 +1,58 @@
+//! How a call ended.
+ghost use Rattle.std.specs.Prelude.{◌≡◌};
+
+/// What was asked for is done; or, of a question, yes.
+pub const DONE: u32 = 0;
+/// A code point of the text is not assigned in the version.
+pub const UNASSIGNED: u32 = 1;
+/// The bytes are not UTF-8.
+pub const NOT_UTF8: u32 = 2;
+/// What is made is longer than the room.
+pub const NO_ROOM: u32 = 3;
+/// Memory ran out.
+pub const MEMORY: u32 = 4;
+/// The handle holds no table.
+pub const CLOSED: u32 = 5;
+/// The form is none of the four letters.
+pub const NO_FORM: u32 = 6;
+/// UnicodeData.txt has a fault.
+pub const DATA: u32 = 7;
+/// CompositionExclusions.txt has a fault.
+pub const EXCLUSIONS: u32 = 8;
+/// The tables that the two files make have a fault.
+pub const TABLES: u32 = 9;
+/// A file is too large.
+pub const TOO_LARGE: u32 = 10;
+/// Of a question: no.
+pub const DIFFERENT: u32 = 11;
+
+/// How a call ended. What a status has no use for is 0.
+#[repr(C)]
+#[derive(Clone, Copy, Debug, PartialEq, Eq)]
+pub struct Answer {
+    /// One of the numbers above.
+    pub status: u32,
+    /// The number of a fault or of a break, or which of two files or texts is meant, from 1.
+    pub fault: u32,
+    /// A code point.
+    pub code: u32,
+    /// A byte place from 0, or a line from 1.
+    pub place: u64,
+    /// How many bytes were written, or have room wanted; or how many code points are assigned.
+    pub length: u64,
+}
+
+impl Answer {
+    /// A status alone.
+    pub fn of(status: u32) -> Answer
+        ensures { result ≡ record { status = status; fault = 0; code = 0; place = 0; length = 0 } }
+    {
+        Answer {
+            status,
+            fault: 0,
+            code: 0,
+            place: 0,
+            length: 0,
+        }
+    }
+}

@@ -1,0 +1,92 @@
+//! Questions on texts and versions.
+ghost use Rattle.std.specs.Prelude.{◌≡◌};
+ghost use Rattle.np_c.specs.Answers.{IsEquivalentAnswer, IsExtensionAnswer, IsOwnFormAnswer};
+ghost use Rattle.np_chain.specs.Breaks.{number_of};
+ghost use Rattle.np_c.specs.inside.FaultAnswers.{told_answer};
+
+use crate::answers::{Answer, DIFFERENT, DONE, MEMORY, NO_FORM};
+use crate::texts::{form_in, text_in};
+use np_chain::{BreakKind, extends};
+use np_forms::{equivalent, is_form};
+use np_tables::{NormTable, Version};
+use std::alloc::Global;
+
+/// The answer to a question.
+fn told(yes: bool) -> Answer
+    ensures { result ≡ told_answer yes }
+{
+    if yes {
+        Answer::of(DONE)
+    } else {
+        Answer::of(DIFFERENT)
+    }
+}
+
+/// Whether a text is its own normal form.
+pub fn tell_form<T: NormTable>(alloc: Global, table: &T, letter: u8, bytes: &[u8]) -> Answer
+    ensures { IsOwnFormAnswer (T.model table.now) letter bytes.now result }
+{
+    let Some(form) = form_in(letter) else {
+        return Answer::of(NO_FORM);
+    };
+    let text = match text_in(0, bytes) {
+        Ok(text) => text,
+        Err(answer) => return answer,
+    };
+    match is_form(alloc, table, form, text) {
+        Ok(yes) => told(yes),
+        Err(_) => Answer::of(MEMORY),
+    }
+}
+
+/// Whether two texts are equivalent: compatible where `compat`, else canonical equivalents.
+pub fn tell_equivalent<T: NormTable>(
+    alloc: Global,
+    table: &T,
+    compat: bool,
+    left: &[u8],
+    right: &[u8],
+) -> Answer
+    ensures { IsEquivalentAnswer (T.model table.now) compat left.now right.now result }
+{
+    let first = match text_in(1, left) {
+        Ok(text) => text,
+        Err(answer) => return answer,
+    };
+    let second = match text_in(2, right) {
+        Ok(text) => text,
+        Err(answer) => return answer,
+    };
+    match equivalent(alloc, table, compat, first, second) {
+        Ok(yes) => told(yes),
+        Err(_) => Answer::of(MEMORY),
+    }
+}
+
+/// The number of a kind of break.
+fn kind_number(kind: BreakKind) -> u32
+    ensures { result ≡ number_of kind }
+{
+    match kind {
+        BreakKind::Lost => 1,
+        BreakKind::ClassChanged => 2,
+        BreakKind::MappingChanged => 3,
+        BreakKind::NowExcluded => 4,
+        BreakKind::NowIncluded => 5,
+        BreakKind::NewComposite => 6,
+    }
+}
+
+/// Whether a version extends an older one, and its first break where it doesn't.
+pub fn tell_extension(old: &Version, new: &Version) -> Answer
+    ensures { IsExtensionAnswer old.now new.now result }
+{
+    match extends(old, new) {
+        Ok(()) => Answer::of(DONE),
+        Err(first) => Answer {
+            fault: kind_number(first.kind),
+            code: first.code,
+            ..Answer::of(DIFFERENT)
+        },
+    }
+}

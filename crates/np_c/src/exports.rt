@@ -1,0 +1,201 @@
+//! The functions that C calls. Each takes what its handle holds, and puts it back.
+ghost use Rattle.std.specs.Prelude.{◌≡◌, false, None, IfSome};
+ghost use Rattle.np_tables.specs.Counts.{assigned_count};
+ghost use Rattle.np_c.specs.Answers.{IsEquivalentAnswer, IsExtensionAnswer, IsFormAnswer, IsKeyAnswer, IsOpenAnswer, IsOwnFormAnswer, IsShareAnswer};
+ghost use Rattle.np_c.specs.Versions.{version_of};
+
+use crate::answers::{Answer, CLOSED, DONE, MEMORY};
+use crate::comparing::{tell_equivalent, tell_extension, tell_form};
+use crate::handles::Handle;
+use crate::keys::{write_form, write_key};
+use crate::opening::shared_of;
+use np_tables::NormTable;
+use std::alloc::Global;
+
+/// Closes the handle, and opens it on the version of two files. It stays closed where they make none.
+#[unsafe(no_mangle)]
+pub extern "C" fn npss_open(
+    alloc: Global,
+    handle: &mut Handle,
+    data_file: &[u8],
+    exclusions_file: &[u8],
+) -> Answer
+    ensures { IsOpenAnswer data_file.now exclusions_file.now (version_of handle.new) result }
+{
+    drop(handle.take(alloc));
+    match shared_of(alloc, data_file, exclusions_file) {
+        Ok(shared) => {
+            *handle = Handle::open(shared);
+            Answer::of(DONE)
+        }
+        Err(answer) => answer,
+    }
+}
+
+/// Closes the other handle, and opens it on the version of the handle, for another thread: both share the table.
+#[unsafe(no_mangle)]
+pub extern "C" fn npss_share(alloc: Global, handle: &mut Handle, other: &mut Handle) -> Answer
+    ensures same { version_of handle.new ≡ version_of handle.old }
+    ensures shared { IfSome (version_of handle.old) (λ v. IsShareAnswer v (version_of other.new) result) }
+    ensures closed { handle.old.is_open ≡ false → (result.status ≡ 5) × (version_of other.new ≡ None) }
+{
+    drop(other.take(alloc));
+    match handle.take(alloc) {
+        None => Answer::of(CLOSED),
+        Some(shared) => {
+            let made = shared.another();
+            *handle = Handle::open(shared);
+            match made {
+                Ok(one) => match Box::new(alloc, one) {
+                    Ok(second) => {
+                        *other = Handle::open(second);
+                        Answer::of(DONE)
+                    }
+                    Err(_) => Answer::of(MEMORY),
+                },
+                Err(_) => Answer::of(MEMORY),
+            }
+        }
+    }
+}
+
+/// Writes the key of a text into the room: its stabilized string (UAX #15, section 12). The form is one of the
+/// letters `D`, `C`, `d` and `c`.
+#[unsafe(no_mangle)]
+pub extern "C" fn npss_key(
+    alloc: Global,
+    handle: &mut Handle,
+    form: u8,
+    text: &[u8],
+    room: &mut [u8],
+) -> Answer
+    ensures same { version_of handle.new ≡ version_of handle.old }
+    ensures key { IfSome (version_of handle.old) (λ v. IsKeyAnswer v form text.now room.old room.new result) }
+    ensures closed { handle.old.is_open ≡ false → (result.status ≡ 5) × (room.new ≡ room.old) }
+{
+    match handle.take(alloc) {
+        None => Answer::of(CLOSED),
+        Some(shared) => {
+            let answer = write_key(alloc, &*shared.table, form, text, room);
+            *handle = Handle::open(shared);
+            answer
+        }
+    }
+}
+
+/// Writes the normal form of a text into the room, whether or not its code points are assigned.
+#[unsafe(no_mangle)]
+pub extern "C" fn npss_normalize(
+    alloc: Global,
+    handle: &mut Handle,
+    form: u8,
+    text: &[u8],
+    room: &mut [u8],
+) -> Answer
+    ensures same { version_of handle.new ≡ version_of handle.old }
+    ensures made { IfSome (version_of handle.old) (λ v. IsFormAnswer v form text.now room.old room.new result) }
+    ensures closed { handle.old.is_open ≡ false → (result.status ≡ 5) × (room.new ≡ room.old) }
+{
+    match handle.take(alloc) {
+        None => Answer::of(CLOSED),
+        Some(shared) => {
+            let answer = write_form(alloc, &*shared.table, form, text, room);
+            *handle = Handle::open(shared);
+            answer
+        }
+    }
+}
+
+/// Whether a text is its own normal form.
+#[unsafe(no_mangle)]
+pub extern "C" fn npss_is_form(alloc: Global, handle: &mut Handle, form: u8, text: &[u8]) -> Answer
+    ensures same { version_of handle.new ≡ version_of handle.old }
+    ensures told { IfSome (version_of handle.old) (λ v. IsOwnFormAnswer v form text.now result) }
+    ensures closed { handle.old.is_open ≡ false → result.status ≡ 5 }
+{
+    match handle.take(alloc) {
+        None => Answer::of(CLOSED),
+        Some(shared) => {
+            let answer = tell_form(alloc, &*shared.table, form, text);
+            *handle = Handle::open(shared);
+            answer
+        }
+    }
+}
+
+/// Whether two texts are equivalent: compatible where `compat`, else canonical equivalents.
+#[unsafe(no_mangle)]
+pub extern "C" fn npss_equivalent(
+    alloc: Global,
+    handle: &mut Handle,
+    compat: bool,
+    left: &[u8],
+    right: &[u8],
+) -> Answer
+    ensures same { version_of handle.new ≡ version_of handle.old }
+    ensures told { IfSome (version_of handle.old) (λ v. IsEquivalentAnswer v compat left.now right.now result) }
+    ensures closed { handle.old.is_open ≡ false → result.status ≡ 5 }
+{
+    match handle.take(alloc) {
+        None => Answer::of(CLOSED),
+        Some(shared) => {
+            let answer = tell_equivalent(alloc, &*shared.table, compat, left, right);
+            *handle = Handle::open(shared);
+            answer
+        }
+    }
+}
+
+/// Whether the version of the newer handle extends that of the older one; else the first break.
+#[unsafe(no_mangle)]
+pub extern "C" fn npss_extends(alloc: Global, older: &mut Handle, newer: &mut Handle) -> Answer
+    ensures same_older { version_of older.new ≡ version_of older.old }
+    ensures same_newer { version_of newer.new ≡ version_of newer.old }
+    ensures told { IfSome (version_of older.old) (λ old. IfSome (version_of newer.old) (λ new. IsExtensionAnswer old new result)) }
+    ensures older_closed { older.old.is_open ≡ false → result.status ≡ 5 }
+    ensures newer_closed { newer.old.is_open ≡ false → result.status ≡ 5 }
+{
+    match older.take(alloc) {
+        None => Answer::of(CLOSED),
+        Some(old) => {
+            let answer = match newer.take(alloc) {
+                None => Answer::of(CLOSED),
+                Some(new) => {
+                    let answer = tell_extension(old.table.version(), new.table.version());
+                    *newer = Handle::open(new);
+                    answer
+                }
+            };
+            *older = Handle::open(old);
+            answer
+        }
+    }
+}
+
+/// How many code points the version assigns: the length of the answer.
+#[unsafe(no_mangle)]
+pub extern "C" fn npss_count(alloc: Global, handle: &mut Handle) -> Answer
+    ensures same { version_of handle.new ≡ version_of handle.old }
+    ensures count { IfSome (version_of handle.old) (λ v. (result.status ≡ 0) × (result.length ≡ assigned_count v)) }
+    ensures closed { handle.old.is_open ≡ false → result.status ≡ 5 }
+{
+    match handle.take(alloc) {
+        None => Answer::of(CLOSED),
+        Some(shared) => {
+            let count = shared.table.version().count();
+            *handle = Handle::open(shared);
+            Answer {
+                length: u64::from(count),
+                ..Answer::of(DONE)
+            }
+        }
+    }
+}
+
+/// Closes the handle. A closed one stays closed.
+#[unsafe(no_mangle)]
+pub extern "C" fn npss_close(alloc: Global, handle: &mut Handle)
+    ensures { handle.new.is_open ≡ false }
+{
+    drop(handle.take(alloc));
+}

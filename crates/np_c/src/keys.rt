@@ -1,0 +1,120 @@
+//! Keys and normal forms of bytes, into room that the caller lends.
+ghost use Rattle.std.specs.Prelude.{◌≡◌, List, ℕ, string_bytes, IfOk, IfErr};
+ghost use Rattle.np_c.specs.Answers.{IsFormAnswer, IsKeyAnswer, IsPut};
+ghost use Rattle.np_c.specs.Texts.{IsFormOf, IsKeyOf, IsNoForm, IsNoKey};
+
+use crate::answers::{Answer, DONE, MEMORY, NO_FORM, NO_ROOM, UNASSIGNED};
+use crate::texts::{form_in, text_in};
+use np_code_points::Form;
+use np_forms::{NpssFault, form as form_of, npss};
+use np_tables::NormTable;
+use std::alloc::Global;
+
+/// The key of bytes.
+///
+/// # Errors
+///
+/// The answer that tells why there is none.
+fn key_of<T: NormTable>(
+    alloc: Global,
+    table: &T,
+    form: Form,
+    bytes: &[u8],
+) -> Result<String, Answer>
+    ensures key { IfOk result (λ key. IsKeyOf (T.model table.now) form bytes.now (string_bytes key)) }
+    ensures refused { IfErr result (IsNoKey (T.model table.now) bytes.now) }
+{
+    let text = match text_in(0, bytes) {
+        Ok(text) => text,
+        Err(answer) => return Err(answer),
+    };
+    match npss(alloc, table, form, text) {
+        Ok(key) => Ok(key),
+        Err(NpssFault::Unassigned { at, code }) => Err(Answer {
+            code: u32::from(code),
+            place: at as u64,
+            ..Answer::of(UNASSIGNED)
+        }),
+        Err(NpssFault::Memory) => Err(Answer::of(MEMORY)),
+    }
+}
+
+/// The normal form of bytes.
+///
+/// # Errors
+///
+/// The answer that tells why there is none.
+fn normal_form_of<T: NormTable>(
+    alloc: Global,
+    table: &T,
+    form: Form,
+    bytes: &[u8],
+) -> Result<String, Answer>
+    ensures made { IfOk result (λ made. IsFormOf (T.model table.now) form bytes.now (string_bytes made)) }
+    ensures refused { IfErr result (IsNoForm bytes.now) }
+{
+    let text = match text_in(0, bytes) {
+        Ok(text) => text,
+        Err(answer) => return Err(answer),
+    };
+    match form_of(alloc, table, form, text) {
+        Ok(made) => Ok(made),
+        Err(_) => Err(Answer::of(MEMORY)),
+    }
+}
+
+/// Puts bytes to the front of the room, where they fit.
+fn put(bytes: &[u8], room: &mut [u8]) -> Answer
+    ensures { IsPut bytes.now room.old room.new result }
+{
+    let length = bytes.len();
+    if length > room.len() {
+        return Answer {
+            length: length as u64,
+            ..Answer::of(NO_ROOM)
+        };
+    }
+    room[..length].copy_from_slice(bytes);
+    Answer {
+        length: length as u64,
+        ..Answer::of(DONE)
+    }
+}
+
+/// Writes the key of bytes into the room.
+pub fn write_key<T: NormTable>(
+    alloc: Global,
+    table: &T,
+    letter: u8,
+    bytes: &[u8],
+    room: &mut [u8],
+) -> Answer
+    ensures { IsKeyAnswer (T.model table.now) letter bytes.now room.old room.new result }
+{
+    let Some(form) = form_in(letter) else {
+        return Answer::of(NO_FORM);
+    };
+    match key_of(alloc, table, form, bytes) {
+        Ok(key) => put(key.as_bytes(), room),
+        Err(answer) => answer,
+    }
+}
+
+/// Writes the normal form of bytes into the room.
+pub fn write_form<T: NormTable>(
+    alloc: Global,
+    table: &T,
+    letter: u8,
+    bytes: &[u8],
+    room: &mut [u8],
+) -> Answer
+    ensures { IsFormAnswer (T.model table.now) letter bytes.now room.old room.new result }
+{
+    let Some(form) = form_in(letter) else {
+        return Answer::of(NO_FORM);
+    };
+    match normal_form_of(alloc, table, form, bytes) {
+        Ok(made) => put(made.as_bytes(), room),
+        Err(answer) => answer,
+    }
+}

@@ -1,0 +1,14 @@
+//! Stabilized Unicode strings for C: a static library of functions over numbers and bytes, whose header is
+//! `include/npss.h`. What a function answers is an `Answer`; its status is one of the numbers of `answers`.
+#![tactic(auto)]
+
+mod answers;
+mod apart;
+mod comparing;
+mod exports;
+mod handles;
+mod held;
+mod keys;
+mod opening;
+mod shared;
+mod texts;

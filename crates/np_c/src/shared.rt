@@ -1,0 +1,56 @@
+//! A table that several handles share.
+ghost use Rattle.std.specs.Prelude.{◌≡◌, IfOk};
+ghost use Rattle.std.specs.Arc.{arc_value};
+
+use np_code_points::Memory;
+use np_tables::PageTable;
+use std::alloc::Global;
+use std::sync::Arc;
+
+/// One owner of a table.
+#[derive(Drop)]
+pub struct Shared {
+    pub table: Arc<PageTable>,
+}
+
+impl Shared {
+    /// The first owner of a table.
+    ///
+    /// # Errors
+    ///
+    /// `Memory` where memory ran out.
+    pub fn new(alloc: Global, table: PageTable) -> Result<Shared, Memory>
+        ensures { IfOk result (λ s. arc_value s.table ≡ table) }
+    {
+        Ok(Shared {
+            table: Arc::new(alloc, table)?,
+        })
+    }
+
+    /// One more owner of the table.
+    ///
+    /// # Errors
+    ///
+    /// `Memory` where it has too many.
+    pub fn another(&self) -> Result<Shared, Memory>
+        ensures { IfOk result (λ s. arc_value s.table ≡ arc_value self.now.table) }
+    {
+        Ok(Shared {
+            table: Arc::try_clone(&self.table)?,
+        })
+    }
+}
+
+/// A value that may be handed to another thread.
+fn crossing<T: Send>(value: T) -> T
+    ensures { result ≡ value }
+{
+    value
+}
+
+/// An owner of a table may be handed to another thread, as C does with a handle.
+pub fn crosses(shared: Shared) -> Shared
+    ensures { result ≡ shared }
+{
+    crossing(shared)
+}

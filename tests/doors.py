@@ -1,0 +1,222 @@
+#!/usr/bin/env python3
+"""Tests the library for C, and what is built upon it, over the fixtures: tests/doors.py [PREFIX].
+
+PREFIX is where ./build-c installed the library; without it ./build-c is called first. In turn: the header as C and as
+C++, the names that the shared library shows, each call and each status from C (also under valgrind), threads, a
+program that pkg-config's flags build; the module for Python; the crate for Rust; the worked host over a database; the
+README's Java program. All strings of the published NormalizationTest.txt through C and Python are the program's own
+answers. What needs a command that isn't here is skipped, with the reason. Ends in a line 'N passed, M failed'.
+"""
+
+import os
+import re
+import shutil
+import subprocess
+import sys
+import tempfile
+from pathlib import Path
+
+# Nothing is written into the tree but crates/*/out.
+sys.dont_write_bytecode = True
+
+import ucd
+import versions
+from harness import ROOT, Tally, built_program, run
+
+HERE = ROOT / "tests" / "doors"
+V1, V2 = ([str(ROOT / "fixtures" / name) for name in version] for version in (versions.V1, versions.V2))
+CALLS = ("close", "count", "equivalent", "extends", "is_form", "key", "normalize", "open", "share")
+# The form's letter for C, and its name for the program.
+LETTERS = {"D": "nfd", "C": "nfc", "d": "nfkd", "c": "nfkc"}
+# How many keys the threads make together.
+KEYS = 10_000_000
+# No command is waited for longer, in seconds.
+PATIENCE = 600
+
+
+def wanted(*commands):
+    """Whether the commands are here; where one is missing, says what is skipped."""
+    missing = [command for command in commands if shutil.which(command) is None]
+    if missing:
+        print(f"skipped: {' and '.join(missing)} not found")
+    return not missing
+
+
+def done(tally, name, command, **options):
+    """Runs a command, which has to end with status 0, and answers what it wrote."""
+    try:
+        ended = subprocess.run(list(map(str, command)), stdin=subprocess.DEVNULL, stdout=subprocess.PIPE,
+                               stderr=subprocess.STDOUT, timeout=PATIENCE, **options)
+    except (OSError, subprocess.TimeoutExpired) as error:
+        tally.check(name, False, error)
+        return None
+    written = ended.stdout.decode(errors="replace")
+    return written if tally.check(name, ended.returncode == 0, f"status {ended.returncode}: {written[-2000:]}") else None
+
+
+def counted(tally, name, command, **options):
+    """Runs a test that ends in a line 'N passed, M failed', and adds it up."""
+    written = done(tally, name, command, **options)
+    last = re.fullmatch(r"(\d+) passed, (\d+) failed", (written or "").strip().rpartition("\n")[2])
+    if last:
+        tally.passed += int(last[1])
+        tally.failed += int(last[2])
+    elif written is not None:
+        tally.check(name, False, f"no last line 'N passed, M failed': {written[-2000:]}")
+
+
+def compiled(tally, prefix, folder, name, shared=False):
+    """The C program of this folder, over the archive or the shared library; None where it isn't built."""
+    program = folder / (name + ("-shared" if shared else ""))
+    library = [f"-L{prefix}/lib", f"-Wl,-rpath,{prefix}/lib", "-lnpss"] if shared else [prefix / "lib" / "libnpss.a"]
+    built = done(tally, f"{program.name} is built", ["cc", "-std=c11", "-O2", "-Wall", "-Wextra", "-pedantic", "-Werror",
+                                                     f"-I{prefix}/include", HERE / f"{name}.c", *library, "-pthread", "-o", program])
+    return None if built is None else program
+
+
+def check_header(tally, prefix, folder):
+    """The header stands alone, in C and in C++."""
+    (folder / "header.c").write_text("#include <npss.h>\nint main(void) { npss_handle h = {0}; npss_close(&h); return 0; }\n")
+    shutil.copy(folder / "header.c", folder / "header.cc")
+    strict = ["-Wall", "-Wextra", "-pedantic", "-Werror", f"-I{prefix}/include", "-fsyntax-only"]
+    done(tally, "the header as C99", ["cc", "-std=c99", *strict, folder / "header.c"])
+    if wanted("c++"):
+        done(tally, "the header as C++", ["c++", *strict, folder / "header.cc"])
+
+
+def check_names(tally, prefix):
+    """The shared library shows the calls alone, and wants the C library alone."""
+    if not wanted("nm", "readelf"):
+        return
+    library = prefix / "lib" / "libnpss.so"
+    names = {line.split()[-1].partition("@")[0] for line in (done(tally, "nm", ["nm", "-D", "--defined-only", library]) or "").splitlines()}
+    tally.same("the names of the shared library", sorted(name for name in names if name.startswith("npss_")),
+               [f"npss_{call}" for call in CALLS])
+    tally.same("no other names", sorted(name for name in names if not name.lower().startswith("npss_")), [])
+    told = done(tally, "readelf", ["readelf", "-d", library]) or ""
+    tally.same("what it wants", set(re.findall(r"\(NEEDED\).*\[(.*)\]", told)), {"libc.so.6"})
+
+
+def check_c(tally, prefix, folder):
+    """Each call and each status, from C, and threads."""
+    files = [*V1, *V2]
+    for shared in (False, True):
+        program = compiled(tally, prefix, folder, "calls", shared)
+        if program:
+            counted(tally, program.name, [program, *files])
+    program = folder / "calls"
+    if program.exists() and wanted("valgrind"):
+        counted(tally, "the calls under valgrind", ["valgrind", "-q", "--error-exitcode=9", "--leak-check=full",
+                                                    "--show-leak-kinds=all", program, *files])
+    program = compiled(tally, prefix, folder, "threads")
+    if program:
+        counted(tally, "threads", [program, *V1, KEYS])
+        if wanted("valgrind"):
+            counted(tally, "threads under helgrind", ["valgrind", "-q", "--tool=helgrind", "--error-exitcode=9", program, *V1, 500])
+
+
+def readme_program(language):
+    """The first program in a language of docs/DOORS.md."""
+    page = (ROOT / "docs" / "DOORS.md").read_text(encoding="utf-8")
+    found = re.search(rf"```{language}\n(.*?)```", page, re.DOTALL)
+    return found and found[1]
+
+
+def check_flags(tally, prefix, folder):
+    """The page's program is built by pkg-config's flags, and prints a key."""
+    if not wanted("pkg-config"):
+        return
+    environment = {**os.environ, "PKG_CONFIG_PATH": str(prefix / "lib" / "pkgconfig"), "LD_LIBRARY_PATH": str(prefix / "lib")}
+    (folder / "prog.c").write_text(readme_program("c"), encoding="utf-8")
+    if done(tally, "the page's program in C", ["sh", "-c", "cc prog.c -o prog $(pkg-config --cflags --libs npss)"],
+            cwd=folder, env=environment) is not None:
+        printed = done(tally, "its run", [folder / "prog", *V1], env=environment)
+        tally.same("its key", printed, "\u1ead\n")
+
+
+def check_python(tally, prefix, folder):
+    """The module for Python: built by its one command, and its own tests."""
+    site = folder / "site"
+    headers = done(tally, "Python's folder", [sys.executable, "-c", "import sysconfig; print(sysconfig.get_path('include'))"])
+    if headers is None or not Path(headers.strip(), "Python.h").exists():
+        print("skipped: the module for Python, since Python.h is not here")
+        return None
+    build = [sys.executable, ROOT / "bindings" / "python" / "build.py", site, prefix]
+    if done(tally, "the module for Python is built", build) is None:
+        return None
+    environment = {**os.environ, "PYTHONPATH": str(site)}
+    counted(tally, "the module for Python", [sys.executable, ROOT / "bindings" / "python" / "test.py", *V1, *V2], env=environment)
+    counted(tally, "accounts in a database", [sys.executable, ROOT / "examples" / "accounts.py", "--test", *V1, *V2], env=environment)
+    return environment
+
+
+def check_rust(tally, prefix, folder):
+    """The crate for Rust: its tests and the examples of its pages."""
+    if not wanted("cargo"):
+        return
+    environment = {**os.environ, "NPSS_PREFIX": str(prefix), "CARGO_TARGET_DIR": str(folder / "target")}
+    written = done(tally, "the crate for Rust", ["cargo", "test", "--offline", "--locked"], cwd=ROOT / "bindings" / "rust", env=environment)
+    for passed, failed in re.findall(r"test result: \w+\. (\d+) passed; (\d+) failed", written or ""):
+        tally.passed += int(passed)
+        tally.failed += int(failed)
+
+
+def check_java(tally, prefix, folder):
+    """The page's program for Java's foreign functions, where they are there."""
+    if not wanted("java", "javac"):
+        return
+    told = done(tally, "java", ["java", "-version"]) or ""
+    number = re.search(r'version "(\d+)', told)
+    if not number or int(number[1]) < 22:
+        print(f"skipped: Java's foreign functions, which are there from 22 on; here is {number and number[1]}")
+        return
+    (folder / "Prog.java").write_text(readme_program("java"), encoding="utf-8")
+    printed = done(tally, "the page's program in Java", ["java", "--enable-native-access=ALL-UNNAMED", "Prog.java", prefix / "lib" / "libnpss.so", *V1], cwd=folder)
+    tally.same("its key in Java", printed, "\u1ead\n")
+
+
+def check_published(tally, prefix, folder, environment):
+    """All strings of NormalizationTest.txt through C and Python, against the program."""
+    files, why = ucd.package_files()
+    strings = files and ucd.each_test_string(files)
+    if not strings:
+        print(f"skipped: the strings of NormalizationTest.txt through the doors: {why or 'no such file'}")
+        return
+    version = [str(files[ucd.DATA]), str(files[ucd.EXCLUSIONS])]
+    lines = "".join(f"{string}\n" for string in strings).encode()
+    program, keys = built_program(), compiled(tally, prefix, folder, "keys")
+    if not program or not keys:
+        return
+    for letter, form in LETTERS.items():
+        _, whole, _ = run(program, ["key", "--form", form, *version], lines)
+        _, made, _ = run(keys, [*version, letter], lines)
+        tally.check(f"NormalizationTest.txt through C under {form}", made == whole and made, "other keys")
+        if environment:
+            script = "import sys, npss; t = npss.Tables.open(*sys.argv[2:]); sys.stdout.write('\\n'.join(t.keys(sys.stdin.read()[:-1].split('\\n'), sys.argv[1])) + '\\n')"
+            _, made, _ = run(sys.executable, ["-X", "utf8", "-c", script, form, *version], lines, env=environment)
+            tally.check(f"NormalizationTest.txt through Python under {form}", made == whole and made, "other keys")
+
+
+def main():
+    tally = Tally()
+    if not wanted("cc"):
+        print("skipped: the library for C")
+        tally.finish()
+    prefix = Path(sys.argv[1]).resolve() if len(sys.argv) > 1 else ROOT / "crates" / "np_c" / "out" / "c"
+    if len(sys.argv) < 2 and done(tally, "the library is built", [ROOT / "build-c"]) is None:
+        tally.finish()
+    with tempfile.TemporaryDirectory() as name:
+        folder = Path(name)
+        check_header(tally, prefix, folder)
+        check_names(tally, prefix)
+        check_c(tally, prefix, folder)
+        check_flags(tally, prefix, folder)
+        environment = check_python(tally, prefix, folder)
+        check_rust(tally, prefix, folder)
+        check_java(tally, prefix, folder)
+        check_published(tally, prefix, folder, environment)
+    tally.finish()
+
+
+if __name__ == "__main__":
+    main()
