@@ -134,8 +134,8 @@ pub fn into_npss<T: NormTable>(
     Ok(key)
 }
 
-/// The same of a text that is lent. Where it is known to be its own stabilized form, it is answered itself,
-/// and no memory is taken.
+/// The stabilized form of a text that is lent (UAX #15, section 12). Where the text is known to be its own
+/// stabilized form, it is answered itself, and no memory is taken.
 ///
 /// # Errors
 ///
