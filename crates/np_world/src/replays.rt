@@ -94,11 +94,11 @@ fn play<'t, T: NormTable>(
     })
 }
 
-/// What happens to nodes over the versions of a chain: each node keeps strings beside their keys of
-/// one form, tells them to others in messages, saves and restarts, and goes on from version to
-/// version, as the schedule has it. Each reply is that of the machine that keeps strings alone,
-/// each node keeps at the end exactly the machine's strings, each key is that of its string under
-/// the chain's last version, and what two nodes tell of two strings that both keep is the same.
+/// What happens to nodes over the versions of a chain. Each node keeps strings beside their keys of one form,
+/// tells them to others in messages, forgets them, saves and restarts, and goes on from version to version, as
+/// the schedule has it. Each reply is that of the machine that keeps strings alone, and each node keeps at the
+/// end exactly the machine's strings. Each key is that of its string under the chain's last version, and what
+/// two nodes tell of two strings that both keep is the same.
 ///
 /// An event costs what the node's call costs: a string one normal form and one look-up by hash, an
 /// upgrade one comparison of two versions, a save or a restart time linear in what the node keeps.

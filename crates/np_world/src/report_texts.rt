@@ -174,11 +174,11 @@ fn write_nodes<T: NormTable>(out: &mut String, members: &[Member<'_, T>]) -> Res
     Ok(())
 }
 
-/// The text of a report, in lines that end with LF: for each event its number, from 0, and the reply;
-/// then for each node in order `node I version V entries N`, with the node's number, the place of its
-/// version in the chain and how many strings it keeps, and for each of these strings a line
-/// `entry STRING / KEY`. Code points are written in at least four upper-case hex digits with one
-/// space between, and a dash stands where there are none. The time is linear in the text's length.
+/// The text of a report, in lines that end with LF. For each event it has a line with the event's number,
+/// from 0, and the reply. Then comes for each node in order `node I version V entries N`, with the node's
+/// number, the place of its version in the chain and how many strings it keeps. Behind it stands for each of
+/// these strings a line `entry STRING / KEY`. Code points are written in at least four upper-case hex digits
+/// with one space between, and a dash stands where there are none. The time is linear in the text's length.
 ///
 /// # Errors
 ///
