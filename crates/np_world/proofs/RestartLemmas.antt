@@ -1,5 +1,5 @@
 -- What a node does that begins again is what the machine does.
-use Rattle.std.proofs.Common.{◌≡◌, ℕ, ◌<◌, ◌≤◌, List, [], ◌++◌, map, slice_get, Option, Some, None, refl, sym, ap, subst, ◌∙◌, arith, inl, inr, ⊎_elim, append-nil}
+use Rattle.std.proofs.Common.{◌≡◌, ℕ, ◌<◌, ◌≤◌, List, [], map, slice_get, Option, Some, None, refl, sym, ap, subst, ◌∙◌, arith, inl, inr, ⊎_elim, append-nil}
 use Rattle.std.proofs.lemmas.Bool.{cases_lt}
 use Rattle.std.proofs.lemmas.Option.{slice_get-map}
 use Rattle.std.specs.Option.{option_map}
@@ -25,7 +25,7 @@ use Rattle.np_world.specs.inside.Mirrors.{texts_of, Rules, setting_of, saved_sta
 use Rattle.np_world.specs.inside.Restarting.{BeginsAgain, RefusesToBegin}
 use Rattle.np_world.specs.inside.Told.{refusal_of}
 use Rattle.np_world.proofs.CaseLemmas.{both, one_if, same_as, Same}
-use Rattle.np_world.proofs.TurnLemmas.{scene, table_here, says, turned, turns_to}
+use Rattle.np_world.proofs.TurnLemmas.{table_here, says, turned, turns_to}
 
 -- ---- the machine
 

@@ -1,4 +1,4 @@
-use Rattle.std.proofs.Common.{subst, sym}
+use Rattle.std.proofs.Common.{subst}
 use Rattle.np_node.specs.Restoring.{AnswersRestore, IsRestored, IsRestoreFault}
 use Rattle.np_world.specs.inside.Mirrors.{rules_of}
 use Rattle.np_world.proofs.RestartLemmas.{begins-empty, begins-saved, refuses}
