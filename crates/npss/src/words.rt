@@ -140,7 +140,8 @@ fn files_in(
 
 /// The form and the two files of a command on text.
 fn form_and_files(alloc: Global, found: &ArgMatches<'_>) -> Result<(Form, VersionFiles), WordsFault>
-    ensures ok { IfOk result (λ p. (c : Text) → text_asked c (rows_of (found_of found.now)) ≡ Some (record { command = c; form = Some p.0; checks_under = false; files = names_of p.1 })) }
+    ensures ok { IfOk result (λ p. (c : Text) → text_asked c (rows_of (found_of found.now))
+        ≡ Some (record { command = c; form = Some p.0; checks_under = false; files = names_of p.1 })) }
     ensures usage { result ≡ Err WordsFault.Usage → (c : Text) → text_asked c (rows_of (found_of found.now)) ≡ None }
 {
     let Some(form) = form_in(found) else {
