@@ -1,5 +1,5 @@
 //! What a command line asks for.
-ghost use Rattle.std.specs.Prelude.{◌≡◌, ◌≢◌, ◌≤◌, ◌∷◌, ◌++◌, ◌/◌, ◌%◌, [], codes, length, vec_len, flat_map, IfOk, IfErr, IsTrue, Some, None, Err, map, string_bytes};
+ghost use Rattle.std.specs.Prelude.{◌≡◌, ◌≢◌, ◌≤◌, ◌∷◌, ◌++◌, ◌/◌, ◌%◌, [], codes, false, length, vec_len, flat_map, IfOk, IfErr, IsTrue, Some, None, Err, map, string_bytes};
 ghost use Rattle.clap.specs.Words.{Text, first_of, found_of, kind_of, rows_of, subcommand_rows_of};
 ghost use Rattle.npss.specs.Words.{are_paired, asked_among, asked_by, asked_in, asked_of, asked_unless, audit_asked, checks_under, counted_files_of, files_of, form_of, key_asked, names_of, paired_files_of, replay_asked, text_asked};
 ghost use Rattle.npss.specs.inside.Jobs.{HasVersions};
@@ -140,7 +140,8 @@ fn files_in(
 
 /// The form and the two files of a command on text.
 fn form_and_files(alloc: Global, found: &ArgMatches<'_>) -> Result<(Form, VersionFiles), WordsFault>
-    ensures ok { IfOk result (λ p. (c : Text) → text_asked c (rows_of (found_of found.now)) ≡ Some (record { command = c; form = Some p.0; files = names_of p.1 })) }
+    ensures ok { IfOk result (λ p. (c : Text) → text_asked c (rows_of (found_of found.now))
+        ≡ Some (record { command = c; form = Some p.0; checks_under = false; files = names_of p.1 })) }
     ensures usage { result ≡ Err WordsFault.Usage → (c : Text) → text_asked c (rows_of (found_of found.now)) ≡ None }
 {
     let Some(form) = form_in(found) else {

@@ -334,9 +334,15 @@ fn versions_are_read_in_order_and_then_the_schedule_or_the_input(
     for failing in 0..4 {
         let line = files[failing];
         want(is_failure(&replay_fails(alloc, failing), line, false), line)?;
-        want(is_failure(&key_under_fails(alloc, failing), line, false), line)?;
+        want(
+            is_failure(&key_under_fails(alloc, failing), line, false),
+            line,
+        )?;
     }
     let (schedule, input) = ("schedule: ReadFailed\n", "input: ReadFailed\n");
-    want(is_failure(&replay_fails(alloc, 4), schedule, true), schedule)?;
+    want(
+        is_failure(&replay_fails(alloc, 4), schedule, true),
+        schedule,
+    )?;
     want(is_failure(&key_under_fails(alloc, 4), input, true), input)
 }
