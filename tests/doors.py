@@ -1,7 +1,8 @@
 #!/usr/bin/env python3
-"""Tests the library for C, and what is built upon it, over the fixtures: tests/doors.py [PREFIX].
+"""Tests the library for C, and what is built upon it, over the fixtures: tests/doors.py PROGRAM [PREFIX].
 
-PREFIX is where ./build-c installed the library; without it ./build-c is called first. In turn: the header as C and as
+PROGRAM is npss, with which the published strings are compared. PREFIX is where ./build-c installed the library;
+without it ./build-c is called first. In turn: the header as C and as
 C++, the names that the shared library shows, each call and each status from C (also under valgrind), threads, a
 program that pkg-config's flags build; the module for Python; the crate for Rust; the worked host over a database; the
 README's Java program. All strings of the published NormalizationTest.txt through C and Python are the program's own
@@ -21,7 +22,7 @@ sys.dont_write_bytecode = True
 
 import ucd
 import versions
-from harness import ROOT, Tally, built_program, run
+from harness import ROOT, Tally, run
 
 HERE = ROOT / "tests" / "doors"
 V1, V2 = ([str(ROOT / "fixtures" / name) for name in version] for version in (versions.V1, versions.V2))
@@ -76,8 +77,8 @@ def compiled(tally, prefix, folder, name, shared=False):
 
 def check_header(tally, prefix, folder):
     """The header stands alone, in C and in C++."""
-    (folder / "header.c").write_text("#include <npss.h>\nint main(void) { npss_handle h = {0}; npss_close(&h); return 0; }\n")
-    shutil.copy(folder / "header.c", folder / "header.cc")
+    for name, zeros in (("header.c", "{0}"), ("header.cc", "{}")):
+        (folder / name).write_text(f"#include <npss.h>\nint main(void) {{ npss_handle h = {zeros}; npss_close(&h); return 0; }}\n")
     strict = ["-Wall", "-Wextra", "-pedantic", "-Werror", f"-I{prefix}/include", "-fsyntax-only"]
     done(tally, "the header as C99", ["cc", "-std=c99", *strict, folder / "header.c"])
     if wanted("c++"):
@@ -175,17 +176,17 @@ def check_java(tally, prefix, folder):
     tally.same("its key in Java", printed, "\u1ead\n")
 
 
-def check_published(tally, prefix, folder, environment):
+def check_published(tally, program, prefix, folder, environment):
     """All strings of NormalizationTest.txt through C and Python, against the program."""
     files, why = ucd.package_files()
     strings = files and ucd.each_test_string(files)
-    if not strings:
-        print(f"skipped: the strings of NormalizationTest.txt through the doors: {why or 'no such file'}")
+    if not strings or not program.exists():
+        print(f"skipped: the strings of NormalizationTest.txt through the doors: {why or 'no such file, or no program'}")
         return
     version = [str(files[ucd.DATA]), str(files[ucd.EXCLUSIONS])]
     lines = "".join(f"{string}\n" for string in strings).encode()
-    program, keys = built_program(), compiled(tally, prefix, folder, "keys")
-    if not program or not keys:
+    keys = compiled(tally, prefix, folder, "keys")
+    if not keys:
         return
     for letter, form in LETTERS.items():
         _, whole, _ = run(program, ["key", "--form", form, *version], lines)
@@ -202,8 +203,8 @@ def main():
     if not wanted("cc"):
         print("skipped: the library for C")
         tally.finish()
-    prefix = Path(sys.argv[1]).resolve() if len(sys.argv) > 1 else ROOT / "crates" / "np_c" / "out" / "c"
-    if len(sys.argv) < 2 and done(tally, "the library is built", [ROOT / "build-c"]) is None:
+    prefix = Path(sys.argv[2]).resolve() if len(sys.argv) > 2 else ROOT / "crates" / "np_c" / "out" / "c"
+    if len(sys.argv) < 3 and done(tally, "the library is built", [ROOT / "build-c"]) is None:
         tally.finish()
     with tempfile.TemporaryDirectory() as name:
         folder = Path(name)
@@ -214,7 +215,7 @@ def main():
         environment = check_python(tally, prefix, folder)
         check_rust(tally, prefix, folder)
         check_java(tally, prefix, folder)
-        check_published(tally, prefix, folder, environment)
+        check_published(tally, Path(sys.argv[1]).resolve(), prefix, folder, environment)
     tally.finish()
 
 
