@@ -138,10 +138,10 @@ fn with_letters(alloc: Global, count: usize) -> Result<String, Fail> {
 fn wants_limit(alloc: Global, tables: &[RowTable]) -> Result<(), Fail> {
     let longest = with_letters(alloc, 65_536)?;
     let report = replayed(alloc, tables, longest.as_str())?;
-    want(
-        report.sent(0).is_some_and(|message| message.len() == 131_081),
-        "65,536 bytes are kept",
-    )?;
+    let Some(message) = report.sent(0) else {
+        return Err(Fail::new("65,536 bytes are kept"));
+    };
+    want(message.len() == 131_081, "the message of 65,536 bytes")?;
     let longer = with_letters(alloc, 65_537)?;
     let wanted = "0 too long\nnode 0 version 0 entries 0\n";
     wants_text(alloc, tables, longer.as_str(), wanted)
