@@ -17,7 +17,7 @@ import sys
 import tempfile
 from pathlib import Path
 
-# Nothing is written into the tree but crates/*/out.
+# Nothing is written into the tree but crates/*/out and out/c.
 sys.dont_write_bytecode = True
 
 import ucd
@@ -203,7 +203,7 @@ def main():
     if not wanted("cc"):
         print("skipped: the library for C")
         tally.finish()
-    prefix = Path(sys.argv[2]).resolve() if len(sys.argv) > 2 else ROOT / "crates" / "np_c" / "out" / "c"
+    prefix = Path(sys.argv[2]).resolve() if len(sys.argv) > 2 else ROOT / "out" / "c"
     if len(sys.argv) < 3 and done(tally, "the library is built", [ROOT / "build-c"]) is None:
         tally.finish()
     with tempfile.TemporaryDirectory() as name:

@@ -34,7 +34,7 @@ def main():
         prefix = Path(sys.argv[2])
     else:
         subprocess.run([ROOT / "build-c"], check=True)
-        prefix = ROOT / "crates" / "np_c" / "out" / "c"
+        prefix = ROOT / "out" / "c"
     print(build(folder, prefix))
 
 

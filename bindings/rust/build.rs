@@ -6,7 +6,7 @@ use std::path::PathBuf;
 fn main() {
     println!("cargo:rerun-if-env-changed=NPSS_PREFIX");
     let prefix = env::var_os("NPSS_PREFIX").map_or_else(
-        || PathBuf::from(env!("CARGO_MANIFEST_DIR")).join("../../crates/np_c/out/c"),
+        || PathBuf::from(env!("CARGO_MANIFEST_DIR")).join("../../out/c"),
         PathBuf::from,
     );
     let library = prefix.join("lib");

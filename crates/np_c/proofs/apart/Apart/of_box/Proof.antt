@@ -5,14 +5,14 @@ use mir.Syntax.{a_type, dcons, dnil}
 use mir.MapTy.{inst_fn}
 use mir.Raw.{raw as bare}
 use mir.Val.{Val, vstruct, of_list}
-use base.Logic.{SProp, id⊢, never, fst∗}
+use base.Logic.{SProp, emp, id⊢, never, fst∗}
 use base.Fml.{ftrue, fsep, flft}
 use prog.Wp.{WpFn}
 use types.Logic.{sem}
 use contract.BorrowLft.{◌⊑◌}
-use contract.Monad.{fact}
+use contract.Monad.{fact, fact_i}
 use contract.Running.{tables}
-use types.Kit.{Item, ‵, raw, ◌⊛◌, some, later, prop, ◌$◌, ◌∵◌, !, qed, move, drop, use1, join, split, split3, pick, rewrite, regoal, fsplit, fjoin, fpick, feq_l, suffices, await, done}
+use types.Kit.{Item, ‵, raw, ◌⊛◌, some, later, prop, ◌$◌, ◌∵◌, !, qed, by, move, keep, drop, use0, use1, join, split, split3, pick, rewrite, regoal, fsplit, fjoin, fpick, feq_l, await}
 use types.Part.{whole, sub, agg}
 use types.Run.{stop, fld, no_more, and_then, of_opd, returns, enter}
 use types.ByLocal.{alloc_all, pass_all, free_all, look_at, get, get_in, sets, lands_as}
@@ -26,11 +26,11 @@ use denote.Struct.Tuple.{Tuple}
 use denote.Triple.Call.{calls_at}
 use denote.Triple.Spec.{triple_of}
 use denote.Triple.Table.{framed}
-use denote.Triple.Walked.{says, Stays, stay_dropped, walk_of, ends_at}
+use denote.Triple.Walked.{Stays, stay_dropped, walk_of}
 use Rattle.core.proofs.alloc.Calls.{token, handle_tells, Goes-blank}
-use Rattle.std.proofs.raw_atomic.Walks.{proved_at}
+use Rattle.std.proofs.raw_atomic.Walks.{proved_at, leaves}
 use Rattle.std_alloc.specs.Box.Ownership.{box_owns}
-use Rattle.std_alloc.proofs.BoxSteps.Form.{Bx, D, τ, R, P, B, word, box_typed}
+use Rattle.std_alloc.proofs.BoxSteps.Form.{Bx, D, τ, R, P, B, handle, word, box_typed}
 use Rattle.std_alloc.proofs.BoxSteps.Steps.{box_out, box_in}
 use Rattle.std_alloc.specs.contracts.boxed.Box.into_raw_with_allocator as Into
 use Rattle.std_alloc.proofs.boxed.Box.into_raw_with_allocator.Met as into
@@ -86,6 +86,9 @@ of_box_spec 𝓤 𝓛 𝓜 𝓡 wired X Z LX LZ g d dd dx met md glue =
     sets ! (agg ! (and_then ! (get ! refl) (and_then ! (get ! refl) (no_more !)))) refl typed $
     returns ! (look_at ! 0 refl) $ free_all ! refl $
     -- [the allocator; nothing; the tokens; what is owned behind the pointer; the bounds]
-    move ! (3 ∷ []) $ fsplit ! $ box_in E ! parts b' o' box.value refl refl $ use1 𝓛 (‵ (Parts.own_val made (word E hw b' o' ∷ []))) (id⊢ 𝓤 _) $ move ! (1 ∷ []) $ drop ! $
-    suffices ! _ (ends_at 𝓛 ended hs c z (word E hw b' o') made ((tt, (tt, tt)), tt) (tt, tt)) $ says ! refl $
-    nothing ! $ nothing ! $ fjoin ! $ join ! $ move ! (1 ∷ 0 ∷ []) $ join ! $ done !))))))))))))
+    keep ! (0 ∷ 2 ∷ 3 ∷ []) $ by !
+    (qed 𝓛 (‵ (handle E a hw) ∷ tokens ∷ ‵ (box_owns (token E.al a) (R E) (block_ptr b' o') box.value) ∷ []) ∵
+    move ! (2 ∷ 0 ∷ []) $ fsplit ! $ box_in E ! parts b' o' box.value refl refl $ use1 𝓛 (‵ (Parts.own_val made (word E hw b' o' ∷ []))) (id⊢ 𝓤 _) $
+    use0 𝓛 (raw (fact 𝓤 (made.value ≡ box.value))) (fact_i 𝓤 _ (emp 𝓤) refl) $ nothing ! $ nothing ! $ fjoin ! $
+    -- [nothing is left of the box; that the value is the same; what the parts own; the tokens]
+    move ! (3 ∷ 0 ∷ 2 ∷ 1 ∷ []) $ by ! (leaves 𝓛 ended hs c z (word E hw b' o') made ((tt, (tt, tt)), tt) (tt, tt)))))))))))))))
