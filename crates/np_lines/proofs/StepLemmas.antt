@@ -126,28 +126,6 @@ goes-end v wanted p q bytes free e = record {
 
 -- ---- the end
 
--- no line has begun
-pub finishes-none : (v : VersionData) (wanted : Wanted) (p : Pending) → p.line.items ≡ [] → p.is_long ≡ false → Finishes v wanted p p
-finishes-none v wanted p line short = record {
-  more = [];
-  out_is = sym (append-nil p.out.items);
-  whole = λ came done a.
-      let none = nothing_begun p a.rest line short a.begun in
-      record {
-        lines = a.lines;
-        lines_are = record {
-          whole = a.lines;
-          rest = a.rest;
-          cut = a.cut;
-          lines_are = sym (append-nil a.lines) ∙ ap (λ l. a.lines ++ last_line l) (sym none);
-        };
-        answers = a.answers;
-        answers_are = a.answers_are;
-        done_is = append-nil done ∙ a.done_is;
-        told = a.told;
-      };
-}
-
 -- one has
 pub finishes-some : (v : VersionData) (wanted : Wanted) (p q : Pending) → ((p.line.items ≢ []) ⊎ (p.is_long ≡ true)) → IsEnded v wanted p q [] → Finishes v wanted p q
 finishes-some v wanted p q some e = record {
