@@ -1,11 +1,11 @@
 -- A line that comes piece by piece, and its answer.
-use Rattle.std.proofs.Common.{◌≡◌, ℕ, ◌+◌, ◌<◌, ◌≤◌, ◌||◌, Bool, true, false, List, [], ◌∷◌, ◌++◌, length, codes, Bor, Option, None, Some, option_map, refl, sym, ap, subst, ◌∙◌, inl, inr, append_assoc, length-append, arith}
+use Rattle.std.proofs.Common.{◌≡◌, ℕ, Bool, false, List, [], ◌∷◌, ◌++◌, Bor, Option, None, Some, option_map, sym, ap, subst, ◌∙◌, inl, inr, append_assoc}
 use Rattle.std.proofs.lemmas.Bool.{both_ways}
 use Rattle.np_code_points.specs.Lines.{HasNo}
 use Rattle.np_code_points.specs.inside.LineCuts.{before_byte, after_byte}
 use Rattle.np_code_points.proofs.LineGrammar.{before_free, joined_none, joined_some}
 use Rattle.np_tables.specs.Versions.{VersionData}
-use Rattle.np_lines.specs.Answers.{Wanted, IsAnswer, most_bytes, told_refusal}
+use Rattle.np_lines.specs.Answers.{Wanted, IsAnswer}
 use Rattle.np_lines.specs.Lines.{LineEnd, byte_of}
 use Rattle.np_lines.specs.declared.pending.Pending.{Pending}
 use Rattle.np_lines.specs.inside.Steps.{Goes, HasBegun, HasTaken, IsAnswerTo, IsEnded, IsTold}

@@ -10,7 +10,7 @@ use Rattle.np_lines.specs.Runs.{IsRunCut, IsRunWhole, RunEnds}
 use Rattle.np_lines.specs.declared.pending.Pending.{Pending}
 use Rattle.np_lines.specs.declared.runs.LinesFault.{LinesFault}
 use Rattle.np_lines.specs.declared.runs.LinesFault.TheVariants.{ReadFailed, WriteFailed, Memory}
-use Rattle.np_lines.specs.inside.Steps.{Finishes, Goes, IsAllAnswered, IsBetweenReads, IsNew, IsPieceAnswered, IsPieceCut, IsPieceFront, IsRestAnswered, IsRestCut, IsRestFront}
+use Rattle.np_lines.specs.inside.Steps.{Finishes, Goes, IsBetweenReads, IsNew, IsPieceAnswered, IsPieceCut, IsPieceFront, IsRestAnswered, IsRestCut, IsRestFront}
 use Rattle.np_lines.proofs.CutLemmas.{cut_behind}
 use Rattle.np_lines.proofs.StepLemmas.{answered-new, answered-same}
 

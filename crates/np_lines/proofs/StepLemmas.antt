@@ -7,7 +7,7 @@ use Rattle.std.specs.List.{list_any}
 use Rattle.np_code_points.specs.Lines.{HasNo}
 use Rattle.np_tables.specs.Versions.{VersionData}
 use Rattle.np_lines.specs.Answers.{Wanted, IsAnswer, is_refusal}
-use Rattle.np_lines.specs.Lines.{IsCut, byte_of, last_line}
+use Rattle.np_lines.specs.Lines.{IsCut, byte_of}
 use Rattle.np_lines.specs.declared.pending.Pending.{Pending}
 use Rattle.np_lines.specs.inside.Steps.{Finishes, Goes, HasBegun, IsAnswered, IsEnded, IsNew}
 use Rattle.np_lines.proofs.CutLemmas.{cut-nil, cut-more, cut-end, ended-push, last_line-filled}
