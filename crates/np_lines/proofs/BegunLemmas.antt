@@ -1,31 +1,15 @@
 -- A line that comes piece by piece, and its answer.
-use Rattle.std.proofs.Common.{◌≡◌, ℕ, ◌+◌, ◌<◌, ◌≤◌, ◌||◌, Bool, true, false, List, [], ◌∷◌, ◌++◌, length, codes, Bor, Option, None, Some, option_map, refl, sym, ap, subst, ◌∙◌, inl, inr, append_assoc, length-append, arith}
+use Rattle.std.proofs.Common.{◌≡◌, ℕ, Bool, false, List, [], ◌∷◌, ◌++◌, Bor, Option, None, Some, option_map, sym, ap, subst, ◌∙◌, inl, inr, append_assoc}
 use Rattle.std.proofs.lemmas.Bool.{both_ways}
 use Rattle.np_code_points.specs.Lines.{HasNo}
 use Rattle.np_code_points.specs.inside.LineCuts.{before_byte, after_byte}
 use Rattle.np_code_points.proofs.LineGrammar.{before_free, joined_none, joined_some}
 use Rattle.np_tables.specs.Versions.{VersionData}
-use Rattle.np_lines.specs.Answers.{Wanted, IsAnswer, most_bytes, told_refusal}
+use Rattle.np_lines.specs.Answers.{Wanted, IsAnswer}
 use Rattle.np_lines.specs.Lines.{LineEnd, byte_of}
 use Rattle.np_lines.specs.declared.pending.Pending.{Pending}
 use Rattle.np_lines.specs.inside.Steps.{Goes, HasBegun, HasTaken, IsAnswerTo, IsEnded, IsTold}
 use Rattle.np_lines.proofs.StepLemmas.{goes-end, goes-joined, goes-on, nothing_begun}
-
--- ---- more of the line came
-
-pub begun-long : (p : Pending) (rest bytes : List ℕ) → p.is_long ≡ true → HasBegun p rest → HasBegun p (rest ++ bytes)
-begun-long p rest bytes long (inl (short, is, fits)) = absurd (both_ways p.is_long short long)
-begun-long p rest bytes long (inr (is_long, none, many)) = inr (is_long, none, omega (arith, length-append rest bytes))
-
-pub begun-over : (p q : Pending) (rest bytes : List ℕ) → p.is_long ≡ false → most_bytes < length p.line.items + length bytes → q.is_long ≡ true → q.line.items ≡ [] → HasBegun p rest → HasBegun q (rest ++ bytes)
-begun-over p q rest bytes not over long none (inl (short, is, fits)) = let same = ap length is in inr (long, none, omega (arith, same, length-append rest bytes))
-begun-over p q rest bytes not over long none (inr (is_long, _, many)) = absurd (both_ways p.is_long not is_long)
-
-pub begun-kept : (p q : Pending) (rest bytes : List ℕ) → p.is_long ≡ false → length p.line.items + length bytes ≤ most_bytes → q.is_long ≡ p.is_long → q.line.items ≡ p.line.items ++ bytes → HasBegun p rest → HasBegun q (rest ++ bytes)
-begun-kept p q rest bytes not within long line (inl (short, is, fits)) =
-    let same = ap length is in
-    inl (long ∙ short, line ∙ ap (λ l. l ++ bytes) is, omega (arith, same, length-append rest bytes))
-begun-kept p q rest bytes not within long line (inr (is_long, _, many)) = absurd (both_ways p.is_long not is_long)
 
 -- ---- a cut at the byte that ends lines
 
@@ -55,19 +39,6 @@ module _ (v : VersionData) (wanted : Wanted) where
     told = t.told;
   }
 
-  too_long : (q : Pending) (line : List ℕ) → q.is_long ≡ true → HasBegun q line → IsAnswer v wanted line (told_refusal (codes "too long"))
-  too_long q line long (inl (short, is, fits)) = absurd (both_ways q.is_long short long)
-  too_long q line long (inr (is_long, none, many)) = inl (many, refl)
-
-  -- it is too long
-  pub told-long : (p q : Pending) (bytes old new : List ℕ) (refused : Bool) → ((rest : List ℕ) → HasBegun p rest → HasBegun q (rest ++ bytes)) → q.is_long ≡ true → new ≡ old ++ told_refusal (codes "too long") → refused ≡ true → IsTold (IsAnswerTo v wanted p bytes) old new refused
-  told-long p q bytes old new refused more long out is = record {
-    answer = told_refusal (codes "too long");
-    is = λ rest begun. too_long q (rest ++ bytes) long (more rest begun);
-    out_is = out;
-    told = is;
-  }
-
   kept_line : (q : Pending) (line answer : List ℕ) → q.is_long ≡ false → HasBegun q line → IsAnswer v wanted q.line.items answer → IsAnswer v wanted line answer
   kept_line q line answer short (inl (_, is, fits)) a = subst (λ l. IsAnswer v wanted l answer) is a
   kept_line q line answer short (inr (is_long, none, many)) a = absurd (both_ways q.is_long short is_long)
@@ -79,17 +50,6 @@ module _ (v : VersionData) (wanted : Wanted) where
     is = λ rest begun. kept_line q (rest ++ bytes) t.answer short (more rest begun) t.is;
     out_is = t.out_is;
     told = t.told;
-  }
-
-  -- and its end
-  pub is-ended : (p q r : Pending) (bytes : List ℕ) (refused : Bool) → IsTold (IsAnswerTo v wanted p bytes) p.out.items q.out.items refused → q.any_refused ≡ p.any_refused
-      → r.out.items ≡ q.out.items ++ byte_of wanted.end ∷ [] → r.line.items ≡ [] → r.is_long ≡ false → r.any_refused ≡ (q.any_refused || refused) → IsEnded v wanted p r bytes
-  is-ended p q r bytes refused t same out line short any = record {
-    answer = t.answer;
-    is = t.is;
-    out_is = out ∙ ap (λ l. l ++ byte_of wanted.end ∷ []) t.out_is ∙ append_assoc p.out.items t.answer (byte_of wanted.end ∷ []);
-    begins = inl (short, line, omega arith);
-    told = any ∙ ap (λ b. b || refused) same ∙ ap (λ b. p.any_refused || b) t.told;
   }
 
   -- ---- the lines of a piece

@@ -10,7 +10,7 @@ use Rattle.np_lines.specs.Runs.{IsRunCut, IsRunWhole, RunEnds}
 use Rattle.np_lines.specs.declared.pending.Pending.{Pending}
 use Rattle.np_lines.specs.declared.runs.LinesFault.{LinesFault}
 use Rattle.np_lines.specs.declared.runs.LinesFault.TheVariants.{ReadFailed, WriteFailed, Memory}
-use Rattle.np_lines.specs.inside.Steps.{Finishes, Goes, IsAllAnswered, IsBetweenReads, IsNew, IsPieceAnswered, IsPieceCut, IsPieceFront, IsRestAnswered, IsRestCut, IsRestFront}
+use Rattle.np_lines.specs.inside.Steps.{Finishes, Goes, IsBetweenReads, IsNew, IsPieceAnswered, IsPieceCut, IsPieceFront, IsRestAnswered, IsRestCut, IsRestFront}
 use Rattle.np_lines.proofs.CutLemmas.{cut_behind}
 use Rattle.np_lines.proofs.StepLemmas.{answered-new, answered-same}
 
@@ -38,14 +38,6 @@ module _ (v : VersionData) (wanted : Wanted) where
   piece_cut p q o₁ o₂ piece fault nothing g (n, written, is) =
       subst (IsPieceCut v wanted p o₁ o₂ piece) (sym is)
       (record { more = g.more; count = n; written = subst (λ l. Appends o₁ o₂ (take n l)) (g.out_is ∙ ap (λ l. l ++ g.more) nothing) written; new = q; carries = g.carries })
-
-  -- the same of the last line
-  pub rest_answered : (p q r : Pending) (o₁ o₂ : Option (List ℕ)) → p.out.items ≡ [] → Finishes v wanted p q → r.any_refused ≡ q.any_refused → Appends o₁ o₂ q.out.items → IsRestAnswered v wanted p o₁ o₂ r.any_refused
-  rest_answered p q r o₁ o₂ nothing f told written = record {
-    more = f.more;
-    written = subst (Appends o₁ o₂) (f.out_is ∙ ap (λ l. l ++ f.more) nothing) written;
-    whole = λ came done a. subst (IsAllAnswered v wanted came (done ++ f.more)) (sym told) (f.whole came done a);
-  }
 
   pub rest_cut : (p q : Pending) (o₁ o₂ : Option (List ℕ)) (fault : LinesFault) → p.out.items ≡ [] → Finishes v wanted p q
       → (n : ℕ) × Appends o₁ o₂ (take n q.out.items) × (fault ≡ WriteFailed) → IsRestCut v wanted p o₁ o₂ fault
@@ -77,17 +69,6 @@ module _ (v : VersionData) (wanted : Wanted) where
   }
 
   module _ {i₀ i₁ o₀ o₁ : Option (List ℕ)} {p : Pending} (b : IsBetweenReads v wanted (ends_of i₀ i₁ o₀ o₁) p) where
-    -- a read that gave nothing
-    pub between-kept : (i₂ : Option (List ℕ)) → Consumes i₁ i₂ [] → IsBetweenReads v wanted (ends_of i₀ i₂ o₀ o₁) p
-    between-kept i₂ taken = record {
-      came = b.came;
-      taken = subst (Consumes i₀ i₂) (append-nil b.came) (Consumes-trans i₀ i₁ i₂ b.came [] b.taken taken);
-      done = b.done;
-      written = b.written;
-      answered = b.answered;
-      nothing = b.nothing;
-    }
-
     -- a piece
     pub between-piece : (i₂ o₂ : Option (List ℕ)) (q : Pending) (piece : List ℕ) → Consumes i₁ i₂ piece → IsPieceAnswered v wanted p q o₁ o₂ piece → IsBetweenReads v wanted (ends_of i₀ i₂ o₀ o₂) q
     between-piece i₂ o₂ q piece taken a = record {
@@ -97,23 +78,6 @@ module _ (v : VersionData) (wanted : Wanted) where
       written = Appends-trans o₀ o₁ o₂ b.done a.more b.written a.written;
       answered = a.carries b.came b.done b.answered;
       nothing = a.nothing;
-    }
-
-    -- a failed read
-    pub cut_read : IsRunCut v wanted (ends_of i₀ i₁ o₀ o₁) ReadFailed
-    cut_read = record {
-      bytes = b.came;
-      taken = b.taken;
-      out = b.done;
-      written = b.written;
-      front = record {
-        lines = b.answered.lines;
-        rest = b.answered.rest;
-        cut = b.answered.cut;
-        answers = b.answered.answers;
-        answers_are = b.answered.answers_are;
-        out_is = b.answered.done_is;
-      };
     }
 
     -- no memory, where nothing more was written

@@ -7,7 +7,7 @@ use Rattle.std.specs.List.{list_any}
 use Rattle.np_code_points.specs.Lines.{HasNo}
 use Rattle.np_tables.specs.Versions.{VersionData}
 use Rattle.np_lines.specs.Answers.{Wanted, IsAnswer, is_refusal}
-use Rattle.np_lines.specs.Lines.{IsCut, byte_of, last_line}
+use Rattle.np_lines.specs.Lines.{IsCut, byte_of}
 use Rattle.np_lines.specs.declared.pending.Pending.{Pending}
 use Rattle.np_lines.specs.inside.Steps.{Finishes, Goes, HasBegun, IsAnswered, IsEnded, IsNew}
 use Rattle.np_lines.proofs.CutLemmas.{cut-nil, cut-more, cut-end, ended-push, last_line-filled}
@@ -125,28 +125,6 @@ goes-end v wanted p q bytes free e = record {
 }
 
 -- ---- the end
-
--- no line has begun
-pub finishes-none : (v : VersionData) (wanted : Wanted) (p : Pending) → p.line.items ≡ [] → p.is_long ≡ false → Finishes v wanted p p
-finishes-none v wanted p line short = record {
-  more = [];
-  out_is = sym (append-nil p.out.items);
-  whole = λ came done a.
-      let none = nothing_begun p a.rest line short a.begun in
-      record {
-        lines = a.lines;
-        lines_are = record {
-          whole = a.lines;
-          rest = a.rest;
-          cut = a.cut;
-          lines_are = sym (append-nil a.lines) ∙ ap (λ l. a.lines ++ last_line l) (sym none);
-        };
-        answers = a.answers;
-        answers_are = a.answers_are;
-        done_is = append-nil done ∙ a.done_is;
-        told = a.told;
-      };
-}
 
 -- one has
 pub finishes-some : (v : VersionData) (wanted : Wanted) (p q : Pending) → ((p.line.items ≢ []) ⊎ (p.is_long ≡ true)) → IsEnded v wanted p q [] → Finishes v wanted p q

@@ -59,11 +59,13 @@ fn read_piece<R: Read>(source: &mut Watched<R>, piece: &mut [u8]) -> Result<usiz
 
 /// Writes the answers that are not written yet.
 fn write_out<W: Write>(pending: &mut Pending, target: &mut Watched<W>) -> Result<(), LinesFault>
-    ensures ok { OnOk result (Appends (W.contents (device_of target.old)) (W.contents (device_of target.new)) pending.old.out.items × (pending.new.out.items ≡ [])) }
+    ensures ok { OnOk result (Appends (W.contents (device_of target.old)) (W.contents (device_of target.new)) pending.old.out.items
+        × (pending.new.out.items ≡ [])) }
     ensures line { pending.new.line.items ≡ pending.old.line.items }
     ensures long { pending.new.is_long ≡ pending.old.is_long }
     ensures told { pending.new.any_refused ≡ pending.old.any_refused }
-    ensures err { IfErr result (λ fault. (n : ℕ) × Appends (W.contents (device_of target.old)) (W.contents (device_of target.new)) (take n pending.old.out.items)
+    ensures err { IfErr result (λ fault. (n : ℕ)
+        × Appends (W.contents (device_of target.old)) (W.contents (device_of target.new)) (take n pending.old.out.items)
         × (fault ≡ LinesFault.WriteFailed)) }
     ensures failed { IsErr result ↔ (has_failed target.new ≡ true) }
 {
@@ -84,8 +86,10 @@ fn answer_piece<W: Write, T: NormTable>(
 ) -> Result<(), LinesFault>
     requires nothing { pending.old.out.items ≡ [] }
     requires clear { has_failed target.old ≡ false }
-    ensures ok { OnOk result (IsPieceAnswered (T.model table.now) wanted pending.old pending.new (W.contents (device_of target.old)) (W.contents (device_of target.new)) piece.now) }
-    ensures err { IfErr result (IsPieceCut (T.model table.now) wanted pending.old (W.contents (device_of target.old)) (W.contents (device_of target.new)) piece.now) }
+    ensures ok { OnOk result (IsPieceAnswered (T.model table.now) wanted pending.old pending.new
+        (W.contents (device_of target.old)) (W.contents (device_of target.new)) piece.now) }
+    ensures err { IfErr result (IsPieceCut (T.model table.now) wanted pending.old
+        (W.contents (device_of target.old)) (W.contents (device_of target.new)) piece.now) }
     ensures failed { result ≡ Err LinesFault.WriteFailed ↔ (has_failed target.new ≡ true) }
 {
     let Ok(()) = pending.take_piece(table, wanted, piece) else {
