@@ -5,11 +5,12 @@
     accounts.py STORE DATA EXCLUSIONS find NAME..       prints the name of each account, as it was given
     accounts.py STORE DATA EXCLUSIONS upgrade NEWDATA NEWEXCLUSIONS
                                                         goes on to a newer version of Unicode
-    accounts.py --test DATA EXCLUSIONS NEWDATA NEWEXCLUSIONS
+    accounts.py --test DATA EXCLUSIONS [NEWDATA NEWEXCLUSIONS]
 
 The store keeps each name as it was given, its key under NFKC, which is unique, and how many code points the version
-assigned under which the key was made. Names that are equivalent are one account. A name with a code point that the version does not assign has no key yet, and is refused. Keys stay the same
-under each version that extends theirs, so an upgrade makes no key anew; a version that breaks one is refused.
+assigned under which the key was made. Names that are equivalent are one account. A name with a code point that the
+version does not assign has no key yet, and is refused. Keys stay the same under each version that extends theirs, so
+an upgrade makes no key anew; a version that breaks one is refused.
 """
 
 import sqlite3
@@ -28,7 +29,7 @@ class Refused(Exception):
 
 
 class Accounts:
-    """A store of accounts, by the tables of the version that its keys were made under, or a later one."""
+    """A store of accounts, by the tables of the version that it was upgraded to last."""
 
     def __init__(self, store, tables):
         self.base = sqlite3.connect(store)
@@ -40,7 +41,7 @@ class Accounts:
             newest = self.base.execute("SELECT max(assigned) FROM version").fetchone()[0]
             if newest is None:
                 self.base.execute("INSERT INTO version VALUES (?)", (tables.count,))
-            elif tables.count < newest:
+            elif tables.count != newest:
                 raise Refused(f"the store's version assigns {newest} code points, these tables {tables.count}")
 
     def key(self, name):
@@ -73,8 +74,8 @@ class Accounts:
         self.tables = tables
 
 
-def test(first, second):
-    """Tries all of this over two versions, the second an extension of the first."""
+def test(first, second=None):
+    """Tries all of this over a version; and the upgrade to a second one, the first to assign 16D67, where it is given."""
     results = []
 
     def refused(call, *given):
@@ -90,12 +91,14 @@ def test(first, second):
         accounts.add("a\u0302\u0323", "\ufb01a")
         results += [accounts.find("\u1ead") == "a\u0302\u0323", accounts.find("fia") == "\ufb01a", accounts.find("A") is None]
         results += [refused(accounts.add, "\u1ead"), refused(accounts.add, "Ai", "fia"), accounts.find("Ai") is None]
-        results += [refused(accounts.add, "\U00016d67"), refused(accounts.find, "\U00016d67")]
-        kept = accounts.base.execute("SELECT * FROM account").fetchall()
-        accounts.upgrade(second)
-        results += [accounts.base.execute("SELECT * FROM account").fetchall() == kept, accounts.find("\u1ead") is not None]
-        accounts.add("\U00016d67")
-        results += [refused(accounts.upgrade, first), accounts.find("\U00016d67") is not None, refused(Accounts, store, first)]
+        results += [refused(accounts.add, "\u0378"), refused(accounts.find, "\u0378")]
+        if second:
+            results.append(refused(accounts.add, "\U00016d67"))
+            kept = accounts.base.execute("SELECT * FROM account").fetchall()
+            accounts.upgrade(second)
+            results += [accounts.base.execute("SELECT * FROM account").fetchall() == kept, accounts.find("\u1ead") is not None]
+            accounts.add("\U00016d67")
+            results += [accounts.find("\U00016d67") is not None, refused(accounts.upgrade, first), refused(Accounts, store, first)]
         names = ["".join(chr(0xAC00 + i // 30 ** p % 30) for p in range(4)) for i in range(100_000)]
         start = time.perf_counter()
         accounts.add(*names)
@@ -109,7 +112,10 @@ def test(first, second):
 
 def main(words):
     if words[:1] == ["--test"]:
-        return 0 if test(Tables.open(*words[1:3]), Tables.open(*words[3:5])) else 1
+        return 0 if test(*(Tables.open(*words[at:at + 2]) for at in range(1, len(words), 2))) else 1
+    if len(words) < 4 or words[3] not in ("add", "find", "upgrade"):
+        print(__doc__, file=sys.stderr)
+        return 2
     store, data, exclusions, command, *names = words
     try:
         accounts = Accounts(store, Tables.open(data, exclusions))
@@ -117,7 +123,7 @@ def main(words):
             accounts.add(*names)
         elif command == "upgrade":
             accounts.upgrade(Tables.open(*names))
-        elif command == "find":
+        else:
             for name in names:
                 print(accounts.find(name) or "no such account")
     except Refused as error:

@@ -29,6 +29,12 @@ V1, V2 = ([str(ROOT / "fixtures" / name) for name in version] for version in (ve
 CALLS = ("close", "count", "equivalent", "extends", "is_form", "key", "normalize", "open", "share")
 # The form's letter for C, and its name for the program.
 LETTERS = {"D": "nfd", "C": "nfc", "d": "nfkd", "c": "nfkc"}
+# The keys of the lines of the input, by Python: words are the form and the two files.
+SCRIPT = """
+import sys, npss
+tables, texts = npss.Tables.open(*sys.argv[2:]), sys.stdin.read()[:-1].split("\\n")
+sys.stdout.writelines(key + "\\n" for key in tables.keys(texts, sys.argv[1]))
+"""
 # How many keys the threads make together.
 KEYS = 10_000_000
 # No command is waited for longer, in seconds.
@@ -172,7 +178,8 @@ def check_java(tally, prefix, folder):
         print(f"skipped: Java's foreign functions, which are there from 22 on; here is {number and number[1]}")
         return
     (folder / "Prog.java").write_text(readme_program("java"), encoding="utf-8")
-    printed = done(tally, "the page's program in Java", ["java", "--enable-native-access=ALL-UNNAMED", "Prog.java", prefix / "lib" / "libnpss.so", *V1], cwd=folder)
+    command = ["java", "--enable-native-access=ALL-UNNAMED", "Prog.java", prefix / "lib" / "libnpss.so", *V1]
+    printed = done(tally, "the page's program in Java", command, cwd=folder)
     tally.same("its key in Java", printed, "\u1ead\n")
 
 
@@ -180,10 +187,16 @@ def check_published(tally, program, prefix, folder, environment):
     """All strings of NormalizationTest.txt through C and Python, against the program."""
     files, why = ucd.package_files()
     strings = files and ucd.each_test_string(files)
-    if not strings or not program.exists():
-        print(f"skipped: the strings of NormalizationTest.txt through the doors: {why or 'no such file, or no program'}")
+    if files is None:
+        print(f"skipped: the published version through the doors: {why}")
         return
     version = [str(files[ucd.DATA]), str(files[ucd.EXCLUSIONS])]
+    if environment:
+        accounts = [sys.executable, ROOT / "examples" / "accounts.py", "--test", *version]
+        counted(tally, "accounts under the published version", accounts, env=environment)
+    if not strings or not program.exists():
+        print("skipped: the strings of NormalizationTest.txt through the doors: no such file, or no program")
+        return
     lines = "".join(f"{string}\n" for string in strings).encode()
     keys = compiled(tally, prefix, folder, "keys")
     if not keys:
@@ -193,8 +206,7 @@ def check_published(tally, program, prefix, folder, environment):
         _, made, _ = run(keys, [*version, letter], lines)
         tally.check(f"NormalizationTest.txt through C under {form}", made == whole and made, "other keys")
         if environment:
-            script = "import sys, npss; t = npss.Tables.open(*sys.argv[2:]); sys.stdout.write('\\n'.join(t.keys(sys.stdin.read()[:-1].split('\\n'), sys.argv[1])) + '\\n')"
-            _, made, _ = run(sys.executable, ["-X", "utf8", "-c", script, form, *version], lines, env=environment)
+            _, made, _ = run(sys.executable, ["-X", "utf8", "-c", SCRIPT, form, *version], lines, env=environment)
             tally.check(f"NormalizationTest.txt through Python under {form}", made == whole and made, "other keys")
 
 
