@@ -70,9 +70,13 @@ is_given (Some value) = bytes_eq value (codes "true")
 abbrev pub checks_under : List Row → Bool
 checks_under rows = is_given (first_of (codes "check-under") rows)
 
+-- files, where there are so many
+abbrev pub counted : ℕ → List Text → Option (List Text)
+counted count files = if length files == count then Some files else None
+
 -- the values of the last place, where there are so many
 abbrev pub counted_files_of : ℕ → List Row → Option (List Text)
-counted_files_of count rows = option_and_then (λ files. if length files == count then Some files else None) (all_of (codes "FILES") rows)
+counted_files_of count rows = option_and_then (counted count) (all_of (codes "FILES") rows)
 
 -- the key of a text, with two files; or with the flag what an earlier version has of it, with four
 abbrev pub key_asked : List Row → Option Asked

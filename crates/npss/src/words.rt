@@ -1,7 +1,7 @@
 //! What a command line asks for.
 ghost use Rattle.std.specs.Prelude.{◌≡◌, ◌≢◌, ◌≤◌, ◌∷◌, ◌++◌, ◌/◌, ◌%◌, [], codes, false, length, vec_len, flat_map, IfOk, IfErr, IsTrue, Some, None, Err, map, string_bytes};
 ghost use Rattle.clap.specs.Words.{Text, first_of, found_of, kind_of, rows_of, subcommand_rows_of};
-ghost use Rattle.npss.specs.Words.{are_paired, asked_among, asked_by, asked_in, asked_of, asked_unless, audit_asked, checks_under, counted_files_of, files_of, form_of, key_asked, names_of, paired_files_of, replay_asked, text_asked};
+ghost use Rattle.npss.specs.Words.{are_paired, asked_among, asked_by, asked_in, asked_of, asked_unless, audit_asked, checks_under, counted, counted_files_of, files_of, form_of, key_asked, names_of, paired_files_of, replay_asked, text_asked};
 ghost use Rattle.npss.specs.inside.Jobs.{HasVersions};
 
 mod command;
@@ -183,16 +183,43 @@ fn files_named(
     })
 }
 
+/// The one version whose two files are named so.
+fn one_version_of(alloc: Global, names: &[&str]) -> Result<VersionFiles, WordsFault>
+    ensures ok { IfOk result (λ files. counted 2 (map (λ name. name.now) names.now) ≡ Some (names_of files)) }
+    ensures usage { result ≡ Err WordsFault.Usage → counted 2 (map (λ name. name.now) names.now) ≡ None }
+{
+    if names.len() != 2 {
+        return Err(WordsFault::Usage);
+    }
+    files_named(alloc, names[0], names[1])
+}
+
+/// The two versions whose four files are named so.
+fn two_versions_of(
+    alloc: Global,
+    names: &[&str],
+) -> Result<(VersionFiles, VersionFiles), WordsFault>
+    ensures ok { IfOk result (λ both. counted 4 (map (λ name. name.now) names.now) ≡ Some (names_of both.0 ++ names_of both.1)) }
+    ensures usage { result ≡ Err WordsFault.Usage → counted 4 (map (λ name. name.now) names.now) ≡ None }
+{
+    if names.len() != 4 {
+        return Err(WordsFault::Usage);
+    }
+    let old = files_named(alloc, names[0], names[1])?;
+    let new = files_named(alloc, names[2], names[3])?;
+    Ok((old, new))
+}
+
 /// The two files of the one version that the words name.
 #[tactic(auto, using(crate::proofs::MatchLemmas::raw_values_in_rows))]
 fn one_version_in(alloc: Global, found: &ArgMatches<'_>) -> Result<VersionFiles, WordsFault>
     ensures ok { IfOk result (λ files. counted_files_of 2 (rows_of (found_of found.now)) ≡ Some (names_of files)) }
     ensures usage { result ≡ Err WordsFault.Usage → counted_files_of 2 (rows_of (found_of found.now)) ≡ None }
 {
-    let Some([data_file, exclusions_file]) = found.get_strs("FILES") else {
+    let Some(names) = found.get_strs("FILES") else {
         return Err(WordsFault::Usage);
     };
-    files_named(alloc, data_file, exclusions_file)
+    one_version_of(alloc, names)
 }
 
 /// The four files of the two versions that the words name.
@@ -204,12 +231,10 @@ fn two_versions_in(
     ensures ok { IfOk result (λ both. counted_files_of 4 (rows_of (found_of found.now)) ≡ Some (names_of both.0 ++ names_of both.1)) }
     ensures usage { result ≡ Err WordsFault.Usage → counted_files_of 4 (rows_of (found_of found.now)) ≡ None }
 {
-    let Some([old_data, old_exclusions, data, exclusions]) = found.get_strs("FILES") else {
+    let Some(names) = found.get_strs("FILES") else {
         return Err(WordsFault::Usage);
     };
-    let old = files_named(alloc, old_data, old_exclusions)?;
-    let new = files_named(alloc, data, exclusions)?;
-    Ok((old, new))
+    two_versions_of(alloc, names)
 }
 
 /// The job of the word `key` that the words ask for.
