@@ -57,6 +57,9 @@ class Version:
     def key(self, string):
         """The string's normal form under NFC."""
         codes = [whole for c in string for whole in self.full(ord(c))]
+        # What has starters alone, of which no two neighbours compose, stays: so long ones take no time.
+        if not any(map(self.class_of, codes)) and not self.pairs.keys() & set(zip(codes, codes[1:])):
+            return "".join(map(chr, codes))
         for end in range(len(codes), 1, -1):
             for at in range(1, end):
                 if self.class_of(codes[at - 1]) > self.class_of(codes[at]) > 0:
