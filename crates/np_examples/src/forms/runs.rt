@@ -45,8 +45,8 @@ fn piece_at(cutting: usize, place: usize) -> Trickle<'static> {
     if !cuts_at(cutting, place) {
         return Trickle::new(&[], 1);
     }
-    for end in place + 1..5 {
-        if cuts_at(cutting, end) {
+    for end in 1..5 {
+        if end > place && cuts_at(cutting, end) {
             return Trickle::new(LETTER.get(place..end).unwrap_or(&[]), 5);
         }
     }
