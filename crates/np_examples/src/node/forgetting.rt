@@ -119,16 +119,29 @@ fn saved<T: NormTable>(alloc: Global, node: &Node<'_, T>) -> Result<(), Fail> {
     wants_entry(alloc, &again, 65_535, 65_535)
 }
 
+/// The first of a full node's strings is forgotten, and stands last when it is kept anew.
+fn first_forgotten<T: NormTable>(
+    alloc: Global,
+    node: &mut Node<'_, T>,
+    first: &str,
+) -> Result<(), Fail> {
+    want(node.forget(first), "the first was kept")?;
+    want(node.len() == 65_535, "one is gone")?;
+    wants_entry(alloc, node, 0, 1)?;
+    want(node.accept(first.as_bytes()).is_ok(), "the first anew")?;
+    wants_entry(alloc, node, 65_535, 0)
+}
+
+fn full_node<T: NormTable>(alloc: Global, table: &T) -> Result<(), Fail> {
+    let mut node = full(alloc, table)?;
+    saved(alloc, &node)?;
+    let first = string_of(alloc, 0)?;
+    first_forgotten(alloc, &mut node, first.as_str())
+}
+
 #[test]
 fn a_full_node_forgets_its_first_string(rt: HostRuntime) -> Result<(), Fail> {
     let alloc = rt.alloc();
     let table: PageTable = table_of(alloc, V1)?;
-    let mut node = full(alloc, &table)?;
-    saved(alloc, &node)?;
-    let first = string_of(alloc, 0)?;
-    want(node.forget(first.as_str()), "the first was kept")?;
-    want(node.len() == 65_535, "one is gone")?;
-    wants_entry(alloc, &node, 0, 1)?;
-    want(node.accept(first.as_bytes()).is_ok(), "the first anew")?;
-    wants_entry(alloc, &node, 65_535, 0)
+    full_node(alloc, &table)
 }
