@@ -1,12 +1,12 @@
 //! What each call answers on worked examples.
 use super::wants_form;
-use crate::common::{Example, LETTERS, Made, S, V1, V2, amid, holds_over_each, want};
+use crate::common::{Example, LETTERS, Made, S, V1, V2, amid, holds_over_each, table_of, want};
 use np_code_points::told::want_told;
 use np_code_points::{Form, Memory};
 use np_forms::{
     NpssFault, equivalent, first_unassigned, into_npss, is_form, is_stream_safe, lend_npss, npss,
 };
-use np_tables::NormTable;
+use np_tables::{NormTable, PageTable};
 use std::alloc::Global;
 use std::borrow::CowStr;
 use std::test::Fail;
@@ -186,11 +186,21 @@ fn canonical<T: NormTable>(
     Ok(())
 }
 
+/// A table that knows of a text that it is its own form lets it be lent.
+fn lent(alloc: Global, table: &PageTable) -> Result<(), Fail> {
+    let lent = lend_npss(alloc, table, Form::Nfc, "\u{1EAD}")?;
+    want(matches!(lent, CowStr::Borrowed(_)), "is lent")
+}
+
+#[test]
+fn a_text_that_is_its_own_form_is_lent(rt: HostRuntime) -> Result<(), Fail> {
+    let table: PageTable = table_of(rt.alloc(), V1)?;
+    lent(rt.alloc(), &table)
+}
+
 fn told_from_others<T: NormTable>(alloc: Global, table: &T) -> Result<(), Fail> {
     want(is_form(alloc, table, Form::Nfc, "\u{1EAD}")?, "is NFC")?;
     want(!is_form(alloc, table, Form::Nfd, "\u{1EAD}")?, "is not NFD")?;
-    let lent = lend_npss(alloc, table, Form::Nfc, "\u{1EAD}")?;
-    want(matches!(lent, CowStr::Borrowed(_)), "is lent")?;
     // as long as its form, and not its form
     let turned = "\u{61}\u{302}\u{323}";
     want(!is_form(alloc, table, Form::Nfd, turned)?, "is not ordered")?;

@@ -6,8 +6,7 @@ use np_code_points::text::string_of;
 use np_code_points::watched::Watched;
 use np_code_points::{Form, Memory};
 use np_forms::{
-    NpssFault, RunFault, Stream, equivalent, form, into_npss, is_form, lend_npss,
-    npss, run,
+    NpssFault, RunFault, Stream, equivalent, form, into_npss, is_form, lend_npss, npss, run,
 };
 use np_tables::NormTable;
 use std::alloc::Global;

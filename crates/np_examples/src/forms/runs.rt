@@ -57,7 +57,9 @@ fn piece_at(cutting: usize, place: usize) -> Trickle<'static> {
 fn cuttings<T: NormTable>(alloc: Global, table: &T) -> Result<(), Fail> {
     for cutting in 0..16 {
         let front = piece_at(cutting, 0).chain(piece_at(cutting, 1));
-        let middle = front.chain(piece_at(cutting, 2)).chain(piece_at(cutting, 3));
+        let middle = front
+            .chain(piece_at(cutting, 2))
+            .chain(piece_at(cutting, 3));
         wants_run(
             alloc,
             table,
