@@ -4,7 +4,7 @@ use Rattle.clap.specs.Words.{Text}
 use Rattle.np_jobs.specs.Audits.{AuditEnds}
 use Rattle.np_jobs.specs.Chains.{VersionReaders}
 use Rattle.np_jobs.specs.Comparisons.{CompareEnds}
-use Rattle.np_jobs.specs.Ends.{IsRefused, IsTold, Writes}
+use Rattle.np_jobs.specs.Ends.{TellsRefusal, IsTold, WritesAnswer}
 use Rattle.np_jobs.specs.Keys.{KeyEnds}
 use Rattle.np_jobs.specs.KeysUnder.{KeyUnderEnds, UnderReaders}
 use Rattle.np_jobs.specs.NormalForms.{NormalizeEnds}
@@ -19,7 +19,7 @@ use Rattle.npss.specs.declared.words.Job.TheVariants.{Help, Normalize, Key, KeyU
 
 -- how a job ends, over as many files as it names
 abbrev pub JobEnds : Job → Stream → Stream → Stream → ℕ → Type 0
-JobEnds Help input output error status = Writes true usage_lines output error status
+JobEnds Help input output error status = WritesAnswer true usage_lines output error status
 JobEnds (Normalize form files) input output error status = (readers : TextReaders) × (readers.input ≡ input) × NormalizeEnds form readers output error status
 JobEnds (Key form files) input output error status = (readers : TextReaders) × (readers.input ≡ input) × KeyEnds form readers output error status
 JobEnds (KeyUnder form old new) input output error status = (readers : UnderReaders) × (length readers.versions ≡ 2) × (readers.input ≡ input) × KeyUnderEnds form readers output error status
@@ -29,7 +29,7 @@ JobEnds (Replay form schedule_file version_files) input output error status = (r
 
 -- no job is asked for: the words ask for nothing that there is, or memory ran out
 abbrev pub IsNotAsked : List Text → Stream → ℕ → Type 0
-IsNotAsked words error status = ((asked_by words ≡ None) × IsTold error usage_lines × (status ≡ 2)) ⊎ IsRefused Memory error status
+IsNotAsked words error status = ((asked_by words ≡ None) × IsTold error usage_lines × (status ≡ 2)) ⊎ TellsRefusal Memory error status
 
 -- the job is run that the words ask for; or one of its files can't be opened, or none is asked for, and nothing is written
 abbrev pub ProgramEnds : List Text → Stream → Stream → Stream → ℕ → Type 0

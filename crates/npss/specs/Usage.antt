@@ -1,6 +1,6 @@
 -- What is told where a file does not open.
 use Rattle.std.specs.Prelude.{◌≡◌, ◌⊎◌, ◌++◌, ℕ, List, Contains, codes}
-use Rattle.np_jobs.specs.Ends.{IsRefused, IsTold}
+use Rattle.np_jobs.specs.Ends.{TellsRefusal, IsTold}
 use Rattle.np_jobs.specs.Streams.{Stream}
 use Rattle.np_jobs.specs.declared.faults.JobFault.TheVariants.{Memory}
 
@@ -8,4 +8,4 @@ use Rattle.np_jobs.specs.declared.faults.JobFault.TheVariants.{Memory}
 abbrev pub IsUnopened : List (List ℕ) → Stream → ℕ → Type 0
 IsUnopened names error status =
     ((name : List ℕ) × Contains names name × IsTold error (codes "cannot open " ++ (name ++ codes "\n")) × (status ≡ 5))
-    ⊎ IsRefused Memory error status
+    ⊎ TellsRefusal Memory error status

@@ -1,7 +1,7 @@
 //! The files of a job are opened before any of them is read.
 
 ghost use Rattle.std.specs.Prelude.{◌≡◌, ◌+◌, ◌*◌, ◌∷◌, [], flat_map, length, vec_len, IfOk, IfErr, OnOk};
-ghost use Rattle.np_jobs.specs.Ends.{IsRefused};
+ghost use Rattle.np_jobs.specs.Ends.{TellsRefusal};
 ghost use Rattle.np_jobs.specs.Streams.{stream_of};
 ghost use Rattle.npss.specs.Usage.{IsUnopened};
 ghost use Rattle.npss.specs.Words.{names_of};
@@ -81,7 +81,7 @@ fn keep_file<F: Drop, E: Write>(
 ) -> Result<(), u8>
     ensures one { OnOk result (vec_len files.new ≡ vec_len files.old + 1) }
     ensures silent { OnOk result (error.new ≡ error.old) }
-    ensures told { IfErr result (IsRefused JobFault.Memory (stream_of E.contents error.old error.new)) }
+    ensures told { IfErr result (TellsRefusal JobFault.Memory (stream_of E.contents error.old error.new)) }
 {
     match files.push(file) {
         Ok(()) => Ok(()),

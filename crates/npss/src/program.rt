@@ -4,7 +4,7 @@ ghost use Rattle.std.specs.Prelude.{◌≡◌, ◌≢◌, ◌≤◌, ◌++◌, l
 ghost use Rattle.std.specs.IoError.{error_kind};
 ghost use Rattle.np_jobs.specs.Audits.{AuditEnds};
 ghost use Rattle.np_jobs.specs.Chains.{VersionReaders};
-ghost use Rattle.np_jobs.specs.Ends.{IsRefused, IsTold, Writes};
+ghost use Rattle.np_jobs.specs.Ends.{TellsRefusal, IsTold, WritesAnswer};
 ghost use Rattle.np_jobs.specs.KeysUnder.{KeyUnderEnds, UnderReaders};
 ghost use Rattle.npss.specs.Program.{JobEnds, ProgramEnds};
 ghost use Rattle.np_jobs.specs.Replays.{ReplayEnds, ReplayReaders};
@@ -13,7 +13,7 @@ ghost use Rattle.np_jobs.specs.Texts.{TextReaders};
 ghost use Rattle.npss.specs.Usage.{IsUnopened};
 ghost use Rattle.npss.specs.Words.{asked_of, names_of, usage_lines};
 ghost use Rattle.npss.specs.inside.Jobs.{HasVersions};
-ghost use Rattle.npss.specs.inside.TextCommands.{EndsAs};
+ghost use Rattle.npss.specs.inside.TextCommands.{TextCommandEnds};
 
 use crate::opening::{open_file, open_version, open_versions};
 use crate::words::{Job, VersionFiles, WordsFault, parse, usage_text};
@@ -45,7 +45,7 @@ fn show_usage<O: Write, E: Write>(
     output: &mut Watched<O>,
     error: &mut Watched<E>,
 ) -> u8
-    ensures { Writes true usage_lines (stream_of O.contents output.old output.new) (stream_of E.contents error.old error.new) result }
+    ensures { WritesAnswer true usage_lines (stream_of O.contents output.old output.new) (stream_of E.contents error.old error.new) result }
 {
     error.clear();
     match write_out(output, usage_text().as_bytes()) {
@@ -73,7 +73,7 @@ fn text_job<F: Read, I: Read, O: Write, E: Write>(
     output: &mut Watched<O>,
     error: &mut Watched<E>,
 ) -> u8
-    ensures { EndsAs command form (record {
+    ensures { TextCommandEnds command form (record {
       data_file = stream_of F.remaining data_file.old data_file.new;
       exclusions_file = stream_of F.remaining exclusions_file.old exclusions_file.new;
       input = stream_of I.remaining input.old input.new;
@@ -127,7 +127,7 @@ fn run_on_text<R: Files, I: Read, O: Write, E: Write>(
 ) -> Result<u8, u8>
 where
     R::File: Drop,
-    ensures done { IfOk result (λ status. (readers : TextReaders) × (readers.input ≡ stream_of I.remaining input.old input.new) × EndsAs command form readers (stream_of O.contents output.old output.new) (stream_of E.contents error.old error.new) status) }
+    ensures done { IfOk result (λ status. (readers : TextReaders) × (readers.input ≡ stream_of I.remaining input.old input.new) × TextCommandEnds command form readers (stream_of O.contents output.old output.new) (stream_of E.contents error.old error.new) status) }
     ensures unopened { IfErr result (IsUnopened (names_of files.now) (stream_of E.contents error.old error.new)) }
     ensures unwritten { IfErr result (λ status. output.new ≡ output.old) }
 {
@@ -333,7 +333,7 @@ where
     ensures done { IfOk found.now (λ job. JobEnds job (stream_of I.remaining input.old input.new) (stream_of O.contents output.old output.new) (stream_of E.contents error.old error.new) result
         ⊎ (IsUnopened (asked_of job).files (stream_of E.contents error.old error.new) result × (output.new ≡ output.old))) }
     ensures usage { found.now ≡ Err WordsFault.Usage → IsTold (stream_of E.contents error.old error.new) usage_lines × (result ≡ 2) }
-    ensures memory { found.now ≡ Err WordsFault.Memory → IsRefused JobFault.Memory (stream_of E.contents error.old error.new) result }
+    ensures memory { found.now ≡ Err WordsFault.Memory → TellsRefusal JobFault.Memory (stream_of E.contents error.old error.new) result }
     ensures unwritten { IfErr found.now (λ _. output.new ≡ output.old) }
 {
     match found {
@@ -365,7 +365,7 @@ where
 
 /// Says why there are no words: memory ran out, or one of them is no UTF-8.
 pub fn refuse_words<E: Write>(alloc: Global, error: &mut Watched<E>, why: &Error) -> u8
-    ensures memory { error_kind why.now ≡ ErrorKind.OutOfMemory → IsRefused JobFault.Memory (stream_of E.contents error.old error.new) result }
+    ensures memory { error_kind why.now ≡ ErrorKind.OutOfMemory → TellsRefusal JobFault.Memory (stream_of E.contents error.old error.new) result }
     ensures usage { error_kind why.now ≢ ErrorKind.OutOfMemory → IsTold (stream_of E.contents error.old error.new) usage_lines × (result ≡ 2) }
 {
     if why.kind() == ErrorKind::OutOfMemory {

@@ -2,7 +2,7 @@ use Rattle.std.proofs.Common.{refl}
 use Rattle.npss.proofs.OpeningLemmas.{ends_before}
 use Rattle.np_jobs.specs.Streams.{stream_of}
 use Rattle.np_jobs.specs.Texts.{TextReaders}
-use Rattle.npss.specs.inside.TextCommands.{EndsAs}
+use Rattle.npss.specs.inside.TextCommands.{TextCommandEnds}
 use Rattle.npss.proofs.program.run_on_text.Goals as goal
 
 pub returns-clause-done : goal.returns-clause-done
@@ -16,6 +16,6 @@ returns-clause-done g c =
     let output = stream_of g.O.Write.contents c.args.output.now c.text_job.new.output in (
       readers,
       refl,
-      ends_before g.E.Write.contents (λ error. EndsAs c.args.command c.args.form readers output error c.text_job.result)
+      ends_before g.E.Write.contents (λ error. TextCommandEnds c.args.command c.args.form readers output error c.text_job.result)
           c.args.error.now c.open_version.new.error c.text_job.new.error c.in_ok-data.ensures.opened c.text_job.ensures,
     )

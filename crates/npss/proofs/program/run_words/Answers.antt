@@ -2,7 +2,7 @@ use Rattle.std.proofs.Common.{◌≡◌, ◌⊎◌, ℕ, List, None, Option, Som
 use Rattle.clap.specs.Words.{Text}
 use Rattle.np_code_points.specs.declared.channels.watched.Watched.{Watched}
 use Rattle.np_code_points.specs.Watched.{device_of}
-use Rattle.np_jobs.specs.Ends.{IsRefused, IsTold}
+use Rattle.np_jobs.specs.Ends.{TellsRefusal, IsTold}
 use Rattle.np_jobs.specs.Streams.{Stream, stream_of}
 use Rattle.np_jobs.specs.declared.faults.JobFault.TheVariants.{Memory}
 use Rattle.npss.specs.Program.{JobEnds, ProgramEnds}
@@ -19,7 +19,7 @@ ended : {D : Type 0} (tells : D → Option (List ℕ)) (words : List Text) (foun
     → (found ≡ Err faults.Usage → asked_by words ≡ None)
     → IfOk found (λ job. JobEnds job input (stream_of tells old new) error status ⊎ (IsUnopened (asked_of job).files error status × (new ≡ old)))
     → (found ≡ Err faults.Usage → IsTold error usage_lines × (status ≡ 2))
-    → (found ≡ Err faults.Memory → IsRefused Memory error status)
+    → (found ≡ Err faults.Memory → TellsRefusal Memory error status)
     → IfErr found (λ _. new ≡ old)
     → ProgramEnds words input (stream_of tells old new) error status
 ended tells words (Ok job) input error old new status asked none (inl done) usage memory silent = inl (job, asked, inl done)
