@@ -4,6 +4,7 @@ mod devices;
 mod outputs;
 mod refusals;
 mod replays;
+mod words;
 
 ghost use Rattle.std.specs.Prelude.{◌≡◌, ◌≤◌, ◌%◌, length};
 
