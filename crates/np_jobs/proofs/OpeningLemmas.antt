@@ -59,18 +59,23 @@ module _ (Gives : List ℕ → Option (List ℕ) → Type 0) (Lacks : List ℕ �
 
 -- versions are those before a place, the one at it, and those behind it
 pub names_at : (versions : List VersionFiles) (i : ℕ) (files : VersionFiles) → i < length versions → slice_index_or versions i files ≡ files
-    → flat_map names_of versions ≡ flat_map names_of (take i versions) ++ (names_of files ++ flat_map names_of (drop (i + 1) versions))
+    → flat_map names_of versions ≡ flat_map names_of (take i versions) ++ (names_of files ++ flat_map names_of (drop (suc i) versions))
 names_at [] i files inside is = absurd (omega (arith, inside))
 names_at (v ∷ vs) zero files inside is = ap (λ (f : VersionFiles). names_of f ++ flat_map names_of vs) is
-names_at (v ∷ vs) (suc i) files inside is =
-    ap (λ l. names_of v ++ l) (names_at vs i files (omega (arith, inside)) is)
+names_at (v ∷ vs) (suc i) files inside is = ap (λ l. names_of v ++ l) (names_at vs i files (omega (arith, inside)) is)
+
+up_to : (versions : List VersionFiles) (i : ℕ) (files : VersionFiles) → i < length versions → slice_index_or versions i files ≡ files
+    → flat_map names_of (take (suc i) versions) ≡ flat_map names_of (take i versions) ++ names_of files
+up_to [] i files inside is = absurd (omega (arith, inside))
+up_to (v ∷ vs) zero files inside is = ap (λ (f : VersionFiles). names_of f) is
+up_to (v ∷ vs) (suc i) files inside is = ap (λ l. names_of v ++ l) (up_to vs i files (omega (arith, inside)) is)
 
 -- and so those up to the next place
 pub names_up_to : (versions : List VersionFiles) (i : ℕ) (files : VersionFiles) → i < length versions → slice_index_or versions i files ≡ files
     → flat_map names_of (take (i + 1) versions) ≡ flat_map names_of (take i versions) ++ names_of files
-names_up_to [] i files inside is = absurd (omega (arith, inside))
-names_up_to (v ∷ vs) zero files inside is = ap (λ (f : VersionFiles). names_of f) is
-names_up_to (v ∷ vs) (suc i) files inside is = ap (λ l. names_of v ++ l) (names_up_to vs i files (omega (arith, inside)) is)
+names_up_to versions i files inside is =
+    let on : i + 1 ≡ suc i = omega arith in
+    ap (λ n. flat_map names_of (take n versions)) on ∙ up_to versions i files inside is
 
 -- files in pairs tell before a job what they told one by one
 pub befores : {D : Type 0} (tells : D → Option (List ℕ)) (count : ℕ) (old new : List (Watched D)) → length old ≡ 2 * count → length new ≡ 2 * count

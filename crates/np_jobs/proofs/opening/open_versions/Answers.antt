@@ -1,10 +1,17 @@
+use Rattle.std.proofs.Common.{flat_map, take, drop, suc, sym}
 use Rattle.std.proofs.lemmas.Result.{err_from_is_err_and}
-use Rattle.npss.proofs.OpeningLemmas.{one_lacks_file}
-use Rattle.npss.proofs.opening.open_versions.Goals as goal
+use Rattle.np_jobs.proofs.OpeningLemmas.{names_at, unopened_among}
+use Rattle.np_jobs.specs.Words.{names_of}
+use Rattle.np_jobs.proofs.opening.open_versions.Goals as goal
 
 pub returns-in_err-data-clause-told : goal.returns-in_err-data-clause-told
 returns-in_err-data-clause-told g c =
     let p = err_from_is_err_and c.from_residual.result c.from_residual.ensures.1 in
+    let opener = c.args.opener.now in
+    let versions = c.args.versions.now in
+    let at = c.loop-version.version-index in
+    let files = c.version-item.result in
     rw (p.1, p.2)
-    (one_lacks_file g.E.Write.contents c.args.versions.now c.args.error.now c.loop-version.error c.open_version.new.error _ c.version-item.result c.loop-version.version-index
-    c.loop-version.invariant.1 c.loop-version-test.true c.version-item.is c.in_err-data.ensures.told)
+    (unopened_among (g.O.Opener.gives opener) (g.O.Opener.lacks opener) g.E.Write.contents (flat_map names_of versions)
+    (flat_map names_of (take at versions)) (names_of files) (flat_map names_of (drop (suc at) versions)) _ c.args.error.now c.loop-version.error c.open_version.new.error _
+    c.loop-version.invariant.silent (names_at versions at files c.loop-version-test.true (sym c.version-item.is)) c.loop-version.invariant.files c.in_err-data.ensures.told)

@@ -30,7 +30,7 @@ returns-in_err-data-clause-unopened g c =
 
 pub returns-clause-done : goal.returns-clause-done
 returns-clause-done g c =
-    let tells = g.P.Opener.File.Read.remaining in
+    let tells = g.P.File.Read.remaining in
     let readers : UnderReaders = record {
       versions = readers_of tells
           (c.in_ok-old_data.old_data ∷ c.in_ok-old_data.old_exclusions ∷ c.in_ok-data.data ∷ c.in_ok-data.exclusions ∷ [])

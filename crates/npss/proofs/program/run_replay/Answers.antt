@@ -29,7 +29,7 @@ returns-in_err-files-clause-unopened g c =
 
 pub returns-clause-done : goal.returns-clause-done
 returns-clause-done g c =
-    let tells = g.P.Opener.File.Read.remaining in
+    let tells = g.P.File.Read.remaining in
     let gives = g.P.Opener.gives c.args.opener.now in
     let names = flat_map names_of c.args.version_files.now in
     let count = length c.args.version_files.now in
