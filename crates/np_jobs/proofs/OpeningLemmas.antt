@@ -1,5 +1,6 @@
 -- Files that are opened in silence, and which of them is the first that can't be.
 use Rattle.std.proofs.Common.{◌≡◌, ℕ, zero, suc, ◌+◌, ◌*◌, ◌<◌, List, [], ◌∷◌, ◌++◌, length, flat_map, map, take, drop, Option, slice_index_or, string_bytes, inl, inr, refl, sym, ap, subst, ◌∙◌, arith, append_assoc, append-nil, All}
+use Rattle.std.proofs.lemmas.List.{map-append}
 use Rattle.std.proofs.lemmas.List.Elements.{All-nil, All-cons, All-append}
 use Rattle.std.specs.List.{AllZip}
 use Rattle.np_code_points.specs.Watched.{device_of}
@@ -76,6 +77,28 @@ pub names_up_to : (versions : List VersionFiles) (i : ℕ) (files : VersionFiles
 names_up_to versions i files inside is =
     let on : i + 1 ≡ suc i = omega arith in
     ap (λ n. flat_map names_of (take n versions)) on ∙ up_to versions i files inside is
+
+-- the files of one more version were opened, and are kept behind the others
+module _ (Gives : List ℕ → Option (List ℕ) → Type 0) {D : Type 0} (tells : D → Option (List ℕ)) where
+  abbrev told_by : List (Watched D) → List (Option (List ℕ))
+  told_by files = map (λ (file : Watched D). tells (device_of file)) files
+
+  two_kept : (kept one two : List (Watched D)) (d e : Watched D) → one ≡ kept ++ d ∷ [] → two ≡ one ++ e ∷ []
+      → told_by two ≡ told_by kept ++ (tells (device_of d) ∷ (tells (device_of e) ∷ []))
+  two_kept kept one two d e first second =
+      ap told_by (second ∙ ap (λ l. l ++ e ∷ []) first ∙ append_assoc kept (d ∷ []) (e ∷ []))
+      ∙ map-append (λ (file : Watched D). tells (device_of file)) kept (d ∷ (e ∷ []))
+
+  pub opened_more : (versions : List VersionFiles) (i : ℕ) (files : VersionFiles) (kept one two : List (Watched D)) (d e : Watched D)
+      → i < length versions → slice_index_or versions i files ≡ files
+      → AllZip Gives (flat_map names_of (take i versions)) (map (λ (file : Watched D). tells (device_of file)) kept)
+      → AllZip Gives (names_of files) (tells (device_of d) ∷ (tells (device_of e) ∷ []))
+      → one ≡ kept ++ d ∷ [] → two ≡ one ++ e ∷ []
+      → AllZip Gives (flat_map names_of (take (i + 1) versions)) (map (λ (file : Watched D). tells (device_of file)) two)
+  opened_more versions i files kept one two d e inside is so_far both first second =
+      subst (λ names. AllZip Gives names (told_by two)) (sym (names_up_to versions i files inside is))
+      (subst (AllZip Gives (flat_map names_of (take i versions) ++ names_of files)) (sym (two_kept kept one two d e first second))
+      (all_zip-append Gives (flat_map names_of (take i versions)) (names_of files) (told_by kept) _ so_far both))
 
 -- files in pairs tell before a job what they told one by one
 pub befores : {D : Type 0} (tells : D → Option (List ℕ)) (count : ℕ) (old new : List (Watched D)) → length old ≡ 2 * count → length new ≡ 2 * count

@@ -17,10 +17,10 @@ pub returns-in_err-exclusions-clause-told : goal.returns-in_err-exclusions-claus
 returns-in_err-exclusions-clause-told g c =
     let p = err_from_is_err_and c.from_residual-in_err-exclusions.result c.from_residual-in_err-exclusions.ensures.1 in
     let opener = c.args.opener.now in
-    let data = c.as_str.result.now in
+    let first = c.as_str.result.now in
     let exclusions = string_bytes c.args.files.now.exclusions_file in
     rw (p.1, p.2)
-    (unopened_among (g.O.Opener.gives opener) (g.O.Opener.lacks opener) g.E.Write.contents (names_of c.args.files.now) (data ∷ []) (c.as_str-2.result.now ∷ []) [] (_ ∷ []) c.args.error.now c.open_file.new.error c.open_file-2.new.error _
+    (unopened_among (g.O.Opener.gives opener) (g.O.Opener.lacks opener) g.E.Write.contents (names_of c.args.files.now) (first ∷ []) (c.as_str-2.result.now ∷ []) [] (_ ∷ []) c.args.error.now c.open_file.new.error c.open_file-2.new.error _
     c.in_ok-data.ensures.silent
-    (ap (λ name. name ∷ (exclusions ∷ [])) (sym c.as_str.ensures.value) ∙ ap (λ name. data ∷ (name ∷ [])) (sym c.as_str-2.ensures.value))
+    (ap (λ name. name ∷ (exclusions ∷ [])) (sym c.as_str.ensures.value) ∙ ap (λ name. first ∷ (name ∷ [])) (sym c.as_str-2.ensures.value))
     (c.in_ok-data.ensures.file, tt) c.in_err-exclusions.ensures.told)
