@@ -4,7 +4,10 @@ use Rattle.std.specs.List.{AllZip}
 use Rattle.np_jobs.specs.Chains.{VersionReaders}
 use Rattle.np_jobs.specs.Ends.{IsTold, TellsRefusal}
 use Rattle.np_jobs.specs.Streams.{Stream}
+use Rattle.np_jobs.specs.Texts.{TextReaders}
+use Rattle.np_jobs.specs.Words.{names_of}
 use Rattle.np_jobs.specs.declared.faults.JobFault.TheVariants.{Memory}
+use Rattle.np_jobs.specs.declared.words.files.VersionFiles.{VersionFiles}
 
 -- the files of a version, in the order of the words
 abbrev pub both_files : VersionReaders → List Stream
@@ -13,6 +16,11 @@ both_files files = files.data_file ∷ (files.exclusions_file ∷ [])
 -- each name was opened, as it stands and in this order, and gave the file of its place: by which contents a file of a name may have
 abbrev pub WereOpened : (List ℕ → Option (List ℕ) → Type 0) → List (List ℕ) → List Stream → Type 0
 WereOpened Gives names files = AllZip Gives names (map (λ (file : Stream). file.before) files)
+
+-- the readers of a job on one text: its two files were opened by their names, and its input is the program's
+pub record AreTextReaders (Gives : List ℕ → Option (List ℕ) → Type 0) (files : VersionFiles) (input : Stream) (readers : TextReaders) : Type 0 where
+  pub opened : WereOpened Gives (names_of files) (readers.data_file ∷ (readers.exclusions_file ∷ []))
+  pub input_is : readers.input ≡ input
 
 -- a name opened
 abbrev pub Opens : (List ℕ → Option (List ℕ) → Type 0) → List ℕ → Type 0

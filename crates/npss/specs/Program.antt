@@ -8,7 +8,7 @@ use Rattle.np_jobs.specs.Ends.{IsTold, TellsRefusal, WritesAnswer}
 use Rattle.np_jobs.specs.Keys.{KeyEnds}
 use Rattle.np_jobs.specs.KeysUnder.{KeyUnderEnds, UnderReaders}
 use Rattle.np_jobs.specs.NormalForms.{NormalizeEnds}
-use Rattle.np_jobs.specs.Opening.{IsUnopened, WereOpened, both_files}
+use Rattle.np_jobs.specs.Opening.{AreTextReaders, IsUnopened, WereOpened, both_files}
 use Rattle.np_jobs.specs.Replays.{ReplayEnds, ReplayReaders}
 use Rattle.np_jobs.specs.Streams.{Stream}
 use Rattle.np_jobs.specs.Texts.{TextReaders}
@@ -18,11 +18,6 @@ use Rattle.np_jobs.specs.declared.words.Job.{Job}
 use Rattle.np_jobs.specs.declared.words.Job.TheVariants.{Help, Normalize, Key, KeyUnder, Compare, Audit, Replay}
 use Rattle.np_jobs.specs.declared.words.files.VersionFiles.{VersionFiles}
 use Rattle.npss.specs.Usage.{usage_lines}
-
--- the readers of a job on one text: its two files were opened by their names, and its input is the program's
-pub record AreTextReaders (Gives : Text → Option (List ℕ) → Type 0) (files : VersionFiles) (input : Stream) (readers : TextReaders) : Type 0 where
-  pub opened : WereOpened Gives (names_of files) (readers.data_file ∷ (readers.exclusions_file ∷ []))
-  pub input_is : readers.input ≡ input
 
 -- the readers of two versions were opened by their names, the old one's first
 abbrev pub ArePair : (Text → Option (List ℕ) → Type 0) → VersionFiles → VersionFiles → List VersionReaders → Type 0

@@ -5,12 +5,12 @@ ghost use Rattle.np_jobs.specs.Audits.{AuditEnds};
 ghost use Rattle.np_jobs.specs.Chains.{VersionReaders};
 ghost use Rattle.np_jobs.specs.Ends.{IsTold, TellsRefusal};
 ghost use Rattle.np_jobs.specs.KeysUnder.{KeyUnderEnds, UnderReaders};
-ghost use Rattle.np_jobs.specs.Opening.{IsUnopened};
+ghost use Rattle.np_jobs.specs.Opening.{AreTextReaders, IsUnopened};
 ghost use Rattle.np_jobs.specs.Replays.{ReplayEnds, ReplayReaders};
 ghost use Rattle.np_jobs.specs.Streams.{stream_of};
 ghost use Rattle.np_jobs.specs.Texts.{TextReaders};
 ghost use Rattle.np_jobs.specs.Words.{HasVersions, asked_of, names_of};
-ghost use Rattle.npss.specs.Program.{ArePair, AreReplayReaders, AreTextReaders, EndsOverFiles, IsRun, ProgramEnds};
+ghost use Rattle.npss.specs.Program.{ArePair, AreReplayReaders, EndsOverFiles, IsRun, ProgramEnds};
 ghost use Rattle.npss.specs.Usage.{usage_lines};
 ghost use Rattle.npss.specs.inside.TextCommands.{TextCommandEnds};
 
