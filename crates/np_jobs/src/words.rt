@@ -9,10 +9,10 @@ mod files;
 mod versions;
 
 use clap::ArgMatches;
-use command::matches_in;
 pub use command::command_on_text;
-use faults::fault_from;
+use command::matches_in;
 pub use faults::WordsFault;
+use faults::fault_from;
 use files::{file_in, files_in, form_in};
 pub use files::{VersionFiles, form_and_files};
 use np_code_points::Form;

@@ -57,20 +57,29 @@ fn open_as(alloc: Global, names: (&str, &str), texts: (&str, &str)) -> Result<bo
         Ok((mut data, mut exclusions)) => {
             let data = held(alloc, &mut data)?;
             let exclusions = held(alloc, &mut exclusions)?;
-            Ok(data.as_slice() == texts.0.as_bytes()
-                && exclusions.as_slice() == texts.1.as_bytes())
+            Ok(data.as_slice() == texts.0.as_bytes() && exclusions.as_slice() == texts.1.as_bytes())
         }
         Err(_) => Ok(false),
     }
 }
 
 /// Whether two versions don't open, and that is told in this line, with status 5.
-fn is_unopened(alloc: Global, old: (&str, &str), new: (&str, &str), line: &str) -> Result<bool, Fail> {
+fn is_unopened(
+    alloc: Global,
+    old: (&str, &str),
+    new: (&str, &str),
+    line: &str,
+) -> Result<bool, Fail> {
     let mut versions = Vec::new(alloc);
     versions.push(version(alloc, old.0, old.1)?)?;
     versions.push(version(alloc, new.0, new.1)?)?;
     let mut error = Watched::new(Vec::new(alloc));
-    let opened = open_versions(&Shelf { files: &FILES }, alloc, &mut error, versions.as_slice());
+    let opened = open_versions(
+        &Shelf { files: &FILES },
+        alloc,
+        &mut error,
+        versions.as_slice(),
+    );
     let told: Vec<u8> = error.into_inner();
     match opened {
         Ok(_) => Ok(false),
@@ -82,14 +91,29 @@ fn is_unopened(alloc: Global, old: (&str, &str), new: (&str, &str), line: &str) 
 fn a_name_is_opened_as_it_stands(rt: HostRuntime) -> Result<(), Fail> {
     let alloc = rt.alloc();
     want(open_as(alloc, ("d", "e"), ("2", "3"))?, "plain names")?;
-    want(open_as(alloc, (" d ", "e\n"), ("1", "4"))?, "names with blanks and a line end")?;
-    want(!open_as(alloc, ("d ", "e"), ("2", "3"))?, "a name that no file has")
+    want(
+        open_as(alloc, (" d ", "e\n"), ("1", "4"))?,
+        "names with blanks and a line end",
+    )?;
+    want(
+        !open_as(alloc, ("d ", "e"), ("2", "3"))?,
+        "a name that no file has",
+    )
 }
 
 #[test]
 fn the_first_file_that_does_not_open_is_told(rt: HostRuntime) -> Result<(), Fail> {
     let alloc = rt.alloc();
-    want(is_unopened(alloc, ("d", "e"), ("d", " e"), "cannot open  e\n")?, "the last")?;
-    want(is_unopened(alloc, ("x", "y"), ("z", "e"), "cannot open x\n")?, "the first of three")?;
-    want(is_unopened(alloc, ("d", "y"), ("z", "e"), "cannot open y\n")?, "the first of two")
+    want(
+        is_unopened(alloc, ("d", "e"), ("d", " e"), "cannot open  e\n")?,
+        "the last",
+    )?;
+    want(
+        is_unopened(alloc, ("x", "y"), ("z", "e"), "cannot open x\n")?,
+        "the first of three",
+    )?;
+    want(
+        is_unopened(alloc, ("d", "y"), ("z", "e"), "cannot open y\n")?,
+        "the first of two",
+    )
 }

@@ -27,4 +27,3 @@ pub(super) fn fault_from(error: &ClapError) -> WordsFault
         WordsFault::Usage
     }
 }
-

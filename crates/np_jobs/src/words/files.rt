@@ -25,7 +25,11 @@ pub(super) fn form_in(found: &ArgMatches<'_>) -> Option<Form>
 
 /// The file that the words name at this place.
 #[tactic(auto, using(crate::proofs::MatchLemmas::first_value_in_rows))]
-pub(super) fn file_in(alloc: Global, found: &ArgMatches<'_>, place: &str) -> Result<String, WordsFault>
+pub(super) fn file_in(
+    alloc: Global,
+    found: &ArgMatches<'_>,
+    place: &str,
+) -> Result<String, WordsFault>
     ensures ok { IfOk result (λ name. first_of place.now (rows_of (found_of found.now)) ≡ Some (string_bytes name)) }
     ensures usage { result ≡ Err WordsFault.Usage → first_of place.now (rows_of (found_of found.now)) ≡ None }
 {
@@ -63,7 +67,10 @@ pub(super) fn files_in(
 ///
 /// `Usage` where the form has another name, or one of the three is not there. `Memory` where memory ran
 /// out for a name.
-pub fn form_and_files(alloc: Global, found: &ArgMatches<'_>) -> Result<(Form, VersionFiles), WordsFault>
+pub fn form_and_files(
+    alloc: Global,
+    found: &ArgMatches<'_>,
+) -> Result<(Form, VersionFiles), WordsFault>
     ensures ok { IfOk result (λ p. (c : Text) → text_asked c (rows_of (found_of found.now))
         ≡ Some (record { command = c; form = Some p.0; checks_under = false; files = names_of p.1 })) }
     ensures usage { result ≡ Err WordsFault.Usage → (c : Text) → text_asked c (rows_of (found_of found.now)) ≡ None }
@@ -74,4 +81,3 @@ pub fn form_and_files(alloc: Global, found: &ArgMatches<'_>) -> Result<(Form, Ve
     let files = files_in(alloc, found, "DATA", "EXCL")?;
     Ok((form, files))
 }
-

@@ -69,7 +69,10 @@ fn two_versions_of(
 
 /// The two files of the one version that the words name.
 #[tactic(auto, using(crate::proofs::MatchLemmas::raw_values_in_rows))]
-pub(super) fn one_version_in(alloc: Global, found: &ArgMatches<'_>) -> Result<VersionFiles, WordsFault>
+pub(super) fn one_version_in(
+    alloc: Global,
+    found: &ArgMatches<'_>,
+) -> Result<VersionFiles, WordsFault>
     ensures ok { IfOk result (λ files. counted_files_of 2 (rows_of (found_of found.now)) ≡ Some (names_of files)) }
     ensures usage { result ≡ Err WordsFault.Usage → counted_files_of 2 (rows_of (found_of found.now)) ≡ None }
 {
@@ -123,7 +126,10 @@ fn in_pairs(alloc: Global, names: &[&str]) -> Result<Vec<VersionFiles>, AllocErr
 
 /// The files of versions that the words name, two for each version.
 #[tactic(auto, using(crate::proofs::MatchLemmas::raw_values_in_rows))]
-pub(super) fn version_files_in(alloc: Global, found: &ArgMatches<'_>) -> Result<Vec<VersionFiles>, WordsFault>
+pub(super) fn version_files_in(
+    alloc: Global,
+    found: &ArgMatches<'_>,
+) -> Result<Vec<VersionFiles>, WordsFault>
     ensures ok { IfOk result (λ versions. paired_files_of (rows_of (found_of found.now)) ≡ Some (flat_map names_of versions.items)) }
     ensures some { IfOk result (λ versions. 1 ≤ vec_len versions) }
     ensures usage { result ≡ Err WordsFault.Usage → paired_files_of (rows_of (found_of found.now)) ≡ None }
@@ -139,4 +145,3 @@ pub(super) fn version_files_in(alloc: Global, found: &ArgMatches<'_>) -> Result<
         Err(_) => Err(WordsFault::Memory),
     }
 }
-
