@@ -49,7 +49,7 @@ CALLS = {
     "lines": ("answer_lines",),
     "node": ("accept", "take", "image", "restore"),
     "world": ("read_schedule", "replay", "report_text"),
-    "words": ("parse",),
+    "jobs": ("parse",),
 }
 # The commands of the program, each of which is one call of the crate; with its flag `key` is another call.
 FLAG = "--check-under"

@@ -64,7 +64,7 @@ CALLS = [
     Call("read_schedule", "np_world", "reading.rt", "Err(ScheduleFault::Memory)", "a_refused_read_schedule_"),
     Call("replay", "np_world", "replays.rt", "Err(Memory)", "a_refused_replay_"),
     Call("report_text", "np_world", "report_texts.rt", "Err(Memory)", "a_refused_report_text_"),
-    Call("parse", "npss", "words.rt", "Err(WordsFault::Memory)", "a_refused_parse_"),
+    Call("parse", "np_jobs", "words.rt", "Err(WordsFault::Memory)", "a_refused_parse_"),
     Call("normalize_job", "np_jobs", "normalize.rt", "6", "normalize_answers_the_worked_examples"),
     Call("key_job", "np_jobs", "key.rt", "6", "key_answers_the_worked_examples"),
     Call("compare_job", "np_jobs", "compare.rt", "6", "compare_answers_the_worked_examples"),
@@ -88,9 +88,7 @@ def failure_of(out, test):
 
 
 def leave_examples(folder, crate):
-    """Leaves of the unit tests those of one library; where the crate has its own, they are all that runs."""
-    if crate == "npss":
-        return folder / "crates" / crate
+    """Leaves of the unit tests those of one library."""
     wanted = ("common", crate.removeprefix("np_"))
     examples = folder / "crates" / EXAMPLES
     shutil.rmtree(examples / "src")

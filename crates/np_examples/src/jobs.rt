@@ -1,9 +1,11 @@
 //! The jobs over the fixtures and over devices that fail.
 mod commands;
 mod devices;
+mod opening;
 mod outputs;
 mod refusals;
 mod replays;
+mod words;
 
 ghost use Rattle.std.specs.Prelude.{◌≡◌, ◌≤◌, ◌%◌, length};
 
