@@ -37,8 +37,8 @@ MEMORY = (6, b"", b"out of memory\n")
 # The status of a unit test that failed by its result.
 FAILED = 101
 
-# The calls that can answer that memory ran out, by the modules of their tests: those of `np_examples` have the
-# crates' names. Each has one test whose name begins with `a_refused_` and the call's name: it makes the call a
+# The calls that can answer that memory ran out, by the modules of their tests: in the crates of examples these have
+# the libraries' names. Each has one test whose name begins with `a_refused_` and the call's name: it makes the call a
 # second time where memory was refused to the first.
 CALLS = {
     "code_points": ("chars_of", "string_of", "write_code"),

@@ -2,10 +2,9 @@
 //! after all.
 ghost use Rattle.std.specs.Prelude.{◌≡◌, IfOk, length};
 
-use crate::common::{V1, V2, tables_of, want};
-use crate::refused::again_where;
 use np_chain::Chain;
 use np_code_points::{Form, Memory};
+use np_examples_shared::{V1, V2, again_where, tables_of, want};
 use np_tables::RowTable;
 use np_world::fixtures::{EXCHANGE_REPORT, EXCHANGE_SCHEDULE, RESTART_REPORT, RESTART_SCHEDULE};
 use np_world::{Report, Schedule, ScheduleFault, read_schedule, replay, report_text};

@@ -1,8 +1,8 @@
 //! The line and the status of each refusal, as docs/FORMATS.md has them.
-use crate::common::want;
 use np_chain::{Break, BreakKind};
 use np_code_points::input::InputFault;
 use np_code_points::watched::Watched;
+use np_examples_shared::want;
 use np_jobs::{JobFault, ReplayFault, TextFault, VersionFault, refuse};
 use np_tables::TableFault;
 use np_ucd::UcdFault;

@@ -2,9 +2,9 @@
 mod refused;
 mod schedules;
 
-use crate::common::{Files, V1, V2, tables_of, want};
 use np_chain::Chain;
 use np_code_points::Form;
+use np_examples_shared::{Files, V1, V2, tables_of, want};
 use np_tables::RowTable;
 use np_world::fixtures::{
     EXCHANGE_REPORT, EXCHANGE_SCHEDULE, FORGED_REPORT, FORGED_SCHEDULE, FORGETTING_REPORT,

@@ -1,9 +1,9 @@
 //! What a node answers to strings.
 use super::{letters, wants_kept, wants_known, wants_no_node, wants_refused, wants_taken};
-use crate::common::{Example, Made, V1, V2, holds_over_each, table_of, want};
 use np_chain::{Break, BreakKind};
 use np_code_points::told::want_told;
 use np_code_points::{Form, Memory};
+use np_examples_shared::{Example, Made, V1, V2, holds_over_each, table_of, want};
 use np_node::{Accepted, ImageFault, Node, NodeFault, Taken};
 use np_tables::NormTable;
 use std::alloc::Global;

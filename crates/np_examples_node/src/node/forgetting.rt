@@ -1,7 +1,7 @@
 //! Strings that a node forgets, and a node that is full.
 use super::{letters, wants_kept, wants_known, wants_refused, wants_taken};
-use crate::common::{Example, Made, V1, holds_over_each, table_of, want};
 use np_code_points::Form;
+use np_examples_shared::{Example, Made, V1, holds_over_each, table_of, want};
 use np_node::{MOST_ROOM, Node, NodeFault, Taken};
 use np_tables::{NormTable, PageTable};
 use std::alloc::Global;

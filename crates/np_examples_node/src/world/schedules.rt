@@ -1,7 +1,7 @@
 //! Worked examples of schedules, and of lines that can't stand.
-use crate::common::want;
 use np_code_points::Memory;
 use np_code_points::told::want_told;
+use np_examples_shared::want;
 use np_world::{ScheduleFault, read_schedule};
 use std::alloc::Global;
 use std::test::Fail;

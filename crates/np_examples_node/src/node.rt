@@ -10,8 +10,8 @@ mod refused;
 
 ghost use Rattle.std.specs.Prelude.{◌≤◌};
 
-use crate::common::want;
 use np_code_points::{Form, Memory};
+use np_examples_shared::want;
 use np_node::{Accepted, ImageFault, Node, NodeFault, Taken};
 use np_tables::NormTable;
 use std::alloc::Global;

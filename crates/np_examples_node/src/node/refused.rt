@@ -5,8 +5,8 @@ ghost use Rattle.std.specs.Prelude.{◌≤◌};
 use super::{
     NoImage, Told, letters, wants_all_taken, wants_kept, wants_known, wants_no_nodes, wants_refused,
 };
-use crate::common::{Example, Made, V1, holds_over_each, want};
 use np_code_points::Form;
+use np_examples_shared::{Example, Made, V1, holds_over_each, want};
 use np_node::{Accepted, Node, NodeFault, Taken};
 use np_tables::NormTable;
 use std::alloc::Global;

@@ -7,10 +7,10 @@ mod replays;
 
 ghost use Rattle.std.specs.Prelude.{◌≡◌, ◌≤◌, ◌%◌, length};
 
-use crate::common::{Files, want};
 use np_code_points::Form;
 use np_code_points::fixtures::V1_EXCLUSIONS;
 use np_code_points::watched::Watched;
+use np_examples_shared::{Files, want};
 use np_jobs::{audit_job, compare_job, key_job, key_under_job, normalize_job, replay_job};
 use std::alloc::Global;
 use std::io::Write;

@@ -1,6 +1,7 @@
-//! What the examples of several libraries share.
+//! Versions, tables and examples over them, of which tests of several libraries make use.
 ghost use Rattle.std.specs.Prelude.{IsTrue, OnOk};
 
+use crate::guest_table::GuestTable;
 use np_code_points::Memory;
 use np_code_points::devices::{Failure, Trickle};
 use np_code_points::fixtures::{
@@ -14,21 +15,17 @@ use std::io::Read;
 use std::test::Fail;
 
 /// Fails with these words where the fact does not hold.
-pub(crate) fn want(holds: bool, what: &str) -> Result<(), Fail>
+pub fn want(holds: bool, what: &str) -> Result<(), Fail>
     ensures { OnOk result (IsTrue holds) }
 {
     if holds { Ok(()) } else { Err(Fail::new(what)) }
 }
 
 /// How a call of a device fails.
-pub(crate) const FAILURES: [Failure; 3] = [
-    Failure::Error,
-    Failure::Interrupted,
-    Failure::TakesNothing,
-];
+pub const FAILURES: [Failure; 3] = [Failure::Error, Failure::Interrupted, Failure::TakesNothing];
 
 /// A reader of the bytes that has failed once, and whose mark says so.
-pub(crate) fn mended(bytes: &[u8]) -> Result<Watched<Trickle<'_>>, Fail> {
+pub fn mended(bytes: &[u8]) -> Result<Watched<Trickle<'_>>, Fail> {
     let mut source = Watched::new(Trickle::new(bytes, 100).failing_at(0, Failure::Error));
     let mut piece = [0u8; 4];
     let failed = source.read(&mut piece).is_err() && source.failed();
@@ -37,20 +34,20 @@ pub(crate) fn mended(bytes: &[u8]) -> Result<Watched<Trickle<'_>>, Fail> {
 }
 
 /// The data and the exclusions of a version.
-pub(crate) type Files<'t> = (&'t str, &'t str);
+pub type Files<'t> = (&'t str, &'t str);
 
 /// The first fixture.
-pub(crate) const V1: Files = (V1_DATA, V1_EXCLUSIONS);
+pub const V1: Files = (V1_DATA, V1_EXCLUSIONS);
 
 /// The second fixture, which extends the first.
-pub(crate) const V2: Files = (V2_DATA, V2_EXCLUSIONS);
+pub const V2: Files = (V2_DATA, V2_EXCLUSIONS);
 
 /// The fixture whose composite spans a non-starter.
-pub(crate) const S: Files = (S_DATA, S_EXCLUSIONS);
+pub const S: Files = (S_DATA, S_EXCLUSIONS);
 
 /// All of ASCII, a composite of a letter and an accent, three non-starters more, and characters of three and four
 /// bytes: ASCII stays, so that what stands in a long text is looked for many bytes at a time.
-pub(crate) const LETTERS: Files = (
+pub const LETTERS: Files = (
     "\
 0000;<ASCII, First>;Ll;0;L;;;;;N;;;;;
 007F;<ASCII, Last>;Ll;0;L;;;;;N;;;;;
@@ -77,7 +74,7 @@ fn push_often(text: &mut String, piece: &str) -> Result<(), Memory> {
 }
 
 /// `turn` in the midst of a long text of `piece` again and again.
-pub(crate) fn amid(alloc: Global, piece: &str, turn: &str) -> Result<String, Memory> {
+pub fn amid(alloc: Global, piece: &str, turn: &str) -> Result<String, Memory> {
     let mut text = String::new(alloc);
     push_often(&mut text, piece)?;
     text.push_str(turn)?;
@@ -86,7 +83,7 @@ pub(crate) fn amid(alloc: Global, piece: &str, turn: &str) -> Result<String, Mem
 }
 
 /// The version that two files give.
-pub(crate) fn version_of(alloc: Global, files: Files<'_>) -> Result<Version, Fail> {
+pub fn version_of(alloc: Global, files: Files<'_>) -> Result<Version, Fail> {
     let (data, exclusions) = files;
     let rows = read_rows(alloc, &mut Watched::new(data.as_bytes()))?;
     let exclusions = read_exclusions(alloc, &mut Watched::new(exclusions.as_bytes()))?;
@@ -94,7 +91,7 @@ pub(crate) fn version_of(alloc: Global, files: Files<'_>) -> Result<Version, Fai
 }
 
 /// A table that is made of a version.
-pub(crate) trait Made: NormTable + Drop {
+pub trait Made: NormTable + Drop {
     /// The table of a version.
     fn of(alloc: Global, version: Version) -> Result<Self, Memory>;
 }
@@ -111,29 +108,40 @@ impl Made for PageTable {
     }
 }
 
+impl Made for GuestTable {
+    fn of(alloc: Global, version: Version) -> Result<GuestTable, Memory> {
+        GuestTable::new(alloc, version)
+    }
+}
+
 /// A table of the version that two files give.
-pub(crate) fn table_of<T: Made>(alloc: Global, files: Files<'_>) -> Result<T, Fail> {
+pub fn table_of<T: Made>(alloc: Global, files: Files<'_>) -> Result<T, Fail> {
     let version = version_of(alloc, files)?;
     Ok(T::of(alloc, version)?)
 }
 
-/// The plain tables of several versions.
-pub(crate) fn tables_of(alloc: Global, versions: &[Files<'_>]) -> Result<Vec<RowTable>, Fail> {
+/// The tables of several versions.
+pub fn made_of<T: Made>(alloc: Global, versions: &[Files<'_>]) -> Result<Vec<T>, Fail> {
     let mut tables = Vec::new(alloc);
     for files in versions {
-        tables.push(table_of::<RowTable>(alloc, *files)?)?;
+        tables.push(table_of::<T>(alloc, *files)?)?;
     }
     Ok(tables)
 }
 
+/// The plain tables of several versions.
+pub fn tables_of(alloc: Global, versions: &[Files<'_>]) -> Result<Vec<RowTable>, Fail> {
+    made_of::<RowTable>(alloc, versions)
+}
+
 /// An example that holds over any table of a version.
-pub(crate) trait Example {
+pub trait Example {
     /// Fails unless the example holds over the table.
     fn holds<T: Made>(&self, alloc: Global, table: &T) -> Result<(), Fail>;
 }
 
-/// Fails unless the example holds over one kind of table.
-fn holds_over<T: Made, E: Example>(
+/// Fails unless the example holds over one kind of table of the version that two files give.
+pub fn holds_over<T: Made, E: Example>(
     alloc: Global,
     files: Files<'_>,
     example: &E,
@@ -142,8 +150,8 @@ fn holds_over<T: Made, E: Example>(
     example.holds(alloc, &table)
 }
 
-/// Fails unless the example holds over each kind of table of the version that two files give.
-pub(crate) fn holds_over_each<E: Example>(
+/// Fails unless the example holds over each kind of table that `np_tables` has.
+pub fn holds_over_each<E: Example>(
     alloc: Global,
     files: Files<'_>,
     example: &E,

@@ -1,6 +1,8 @@
 //! A host's loop: what it sends, saves and moves is its own affair.
-use crate::common::{Example, Made, V1, V2, holds_over_each, table_of, want};
 use np_code_points::Form;
+use np_examples_shared::{
+    Example, GuestTable, Made, V1, V2, holds_over, holds_over_each, table_of, want,
+};
 use np_node::{Accepted, Node};
 use np_tables::NormTable;
 use std::alloc::Global;
@@ -40,4 +42,9 @@ impl Example for HostLoop {
 #[test]
 fn nodes_of_unlike_versions_agree(rt: HostRuntime) -> Result<(), Fail> {
     holds_over_each(rt.alloc(), V1, &HostLoop)
+}
+
+#[test]
+fn nodes_over_a_table_of_somebody_else_agree(rt: HostRuntime) -> Result<(), Fail> {
+    holds_over::<GuestTable, HostLoop>(rt.alloc(), V1, &HostLoop)
 }

@@ -1,8 +1,8 @@
 //! Cut and forged images: each is refused by name at its place, or restored as a node with the image that is told.
 use super::forged_answers::{FIRST, FIRST_ANSWERS, SECOND, SECOND_ANSWERS};
-use crate::common::{Example, Made, V1, holds_over_each, want};
 use np_code_points::Form;
 use np_code_points::codes::hex_value;
+use np_examples_shared::{Example, Made, V1, holds_over_each, want};
 use np_node::Node;
 use np_tables::NormTable;
 use std::alloc::Global;

@@ -1,10 +1,10 @@
 //! Devices that fail in mid-stream, and marks from before.
 use super::{Command, Job, job_into};
-use crate::common::{mended, want};
 use np_code_points::Form;
 use np_code_points::devices::{Failure, Room, Trickle};
 use np_code_points::fixtures::{V1_DATA, V1_EXCLUSIONS};
 use np_code_points::watched::Watched;
+use np_examples_shared::{mended, want};
 use np_jobs::{audit_job, key_job, key_under_job, replay_job};
 use std::alloc::Global;
 use std::io::Write;

@@ -1,7 +1,7 @@
 //! What a node answers to messages.
 use super::{Told, wants_all_taken, wants_taken};
-use crate::common::{Example, Made, V1, holds_over_each, want};
 use np_code_points::Form;
+use np_examples_shared::{Example, Made, V1, holds_over_each, want};
 use np_node::{Accepted, Node, NodeFault, Taken};
 use np_tables::NormTable;
 use std::alloc::Global;

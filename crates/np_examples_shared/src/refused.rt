@@ -3,7 +3,7 @@
 //! counts those after which the call of the test's name was made again.
 
 /// What the call answers, and where that is that memory ran out, what it answers when it is made again.
-pub(crate) fn again<V: Drop, E: PartialEq + Drop, F: Fn() -> Result<V, E>>(
+pub fn again<V: Drop, E: PartialEq + Drop, F: Fn() -> Result<V, E>>(
     memory: &E,
     call: &F,
 ) -> Result<V, E>
@@ -14,7 +14,7 @@ pub(crate) fn again<V: Drop, E: PartialEq + Drop, F: Fn() -> Result<V, E>>(
 }
 
 /// The same, where that is asked for.
-pub(crate) fn again_where<V: Drop, E: PartialEq + Drop, F: Fn() -> Result<V, E>>(
+pub fn again_where<V: Drop, E: PartialEq + Drop, F: Fn() -> Result<V, E>>(
     asked: bool,
     memory: &E,
     call: &F,
