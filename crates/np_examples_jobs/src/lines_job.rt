@@ -71,7 +71,12 @@ fn lines_are_answered_with_a_status(rt: HostRuntime) -> Result<(), Fail> {
             wants_end(&made, status, ANSWERS, "")?;
         }
     }
-    let made = run_over(alloc, true, Trickle::new(b"a".as_slice(), 1), Room::new(alloc, 9, 9)?);
+    let made = run_over(
+        alloc,
+        true,
+        Trickle::new(b"a".as_slice(), 1),
+        Room::new(alloc, 9, 9)?,
+    );
     wants_end(&made, 0, "=a\n", "")
 }
 
@@ -96,11 +101,21 @@ fn read(alloc: Global, text: &str) -> Result<String, AllocError> {
     let words = words_of(alloc, text)?;
     match parse_lines(alloc, words.as_slice()) {
         Ok(LinesJob::Help) => format!(in alloc; "help"),
-        Ok(LinesJob::Answer {
-            asked,
+        Ok(
+            LinesJob::Answer {
+                asked,
+                shows_progress,
+                files,
+            },
+        ) => format!(in alloc;
+            "{:?} {:?} {} {} {} {}",
+            asked.wanted.form,
+            asked.wanted.end,
+            asked.is_strict,
             shows_progress,
-            files,
-        }) => format!(in alloc; "{:?} {:?} {} {} {} {}", asked.wanted.form, asked.wanted.end, asked.is_strict, shows_progress, files.data_file, files.exclusions_file),
+            files.data_file,
+            files.exclusions_file
+        ),
         Err(fault) => format!(in alloc; "{fault:?}"),
     }
 }
@@ -113,7 +128,10 @@ const WORDS: [(&str, &str); 16] = [
     ("--null --form nfc D E", "Nfc Nul false false D E"),
     ("--form nfc --strict D E", "Nfc Lf true false D E"),
     ("--form nfc D --progress E", "Nfc Lf false true D E"),
-    ("D E --progress --strict --null --form nfd", "Nfd Nul true true D E"),
+    (
+        "D E --progress --strict --null --form nfd",
+        "Nfd Nul true true D E",
+    ),
     ("--form nfc -- -D E", "Nfc Lf false false -D E"),
     ("--form nfc D", "Usage"),
     ("--form nfc D E F", "Usage"),
@@ -130,13 +148,19 @@ fn words_name_a_run(rt: HostRuntime) -> Result<(), Fail> {
     for (text, wanted) in &WORDS {
         want(read(rt.alloc(), text)?.as_str() == *wanted, text)?;
     }
-    want(lines_usage_text().starts_with("usage: npss_lines "), "usage")
+    want(
+        lines_usage_text().starts_with("usage: npss_lines "),
+        "usage",
+    )
 }
 
 #[test]
 fn a_refused_parse_lines_succeeds_after_all(rt: HostRuntime) -> Result<(), Fail> {
     let alloc = rt.alloc();
     let words = words_of(alloc, "--form nfc --null D E")?;
-    let job = again(&WordsFault::Memory, &|| parse_lines(alloc, words.as_slice()))?;
+    let job = again(
+        &WordsFault::Memory,
+        &|| parse_lines(alloc, words.as_slice()),
+    )?;
     want(matches!(job, LinesJob::Answer { .. }), "answers")
 }

@@ -66,11 +66,13 @@ fn run_found<P: Opener, I: Read, O: Write, E: Write>(
 {
     match found {
         Ok(LinesJob::Help) => show_usage(alloc, output, error, lines_usage_text()),
-        Ok(LinesJob::Answer {
-            asked,
-            shows_progress: _,
-            files,
-        }) => match run_on_lines(opener, alloc, *asked, files, input, output, error) {
+        Ok(
+            LinesJob::Answer {
+                asked,
+                shows_progress: _,
+                files,
+            },
+        ) => match run_on_lines(opener, alloc, *asked, files, input, output, error) {
             Ok(status) => status,
             Err(status) => status,
         },

@@ -21,8 +21,14 @@ fn a_key_is_its_own_form_under_both_versions(rt: HostRuntime) -> Result<(), Fail
     for (text, wanted) in &KEYS {
         let key = npss(alloc, &new, Form::Nfc, text)?;
         want(key.as_str() == *wanted, text)?;
-        want(is_form(alloc, &old, Form::Nfc, key.as_str())?, "under the first fixture")?;
-        want(is_form(alloc, &new, Form::Nfc, key.as_str())?, "under the second fixture")?;
+        want(
+            is_form(alloc, &old, Form::Nfc, key.as_str())?,
+            "under the first fixture",
+        )?;
+        want(
+            is_form(alloc, &new, Form::Nfc, key.as_str())?,
+            "under the second fixture",
+        )?;
     }
     Ok(())
 }
