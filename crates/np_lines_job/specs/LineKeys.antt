@@ -1,7 +1,7 @@
 -- How `npss_lines` ends.
 use Rattle.std.specs.Prelude.{◌≡◌, ◌⊎◌, ◌↔◌, ◌&&◌, ℕ, Bool, true, Result, Ok, Err, if◌then◌else◌}
 use Rattle.np_code_points.specs.declared.channels.input.InputFault.TheVariants as Inputs
-use Rattle.np_lines.specs.Answers.{Wanted}
+use Rattle.np_lines.specs.declared.lines.Wanted.{Wanted}
 use Rattle.np_lines.specs.Runs.{RunEnds}
 use Rattle.np_lines.specs.declared.runs.LinesFault.{LinesFault}
 use Rattle.np_lines.specs.declared.runs.LinesFault.TheVariants as Lines

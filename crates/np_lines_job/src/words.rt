@@ -1,5 +1,5 @@
 //! What the command line of `npss_lines` asks for.
-ghost use Rattle.std.specs.Prelude.{◌≡◌, ◌≢◌, [], IfOk, Some, None, Err, map, string_bytes};
+ghost use Rattle.std.specs.Prelude.{◌≡◌, ◌≢◌, [], IfOk, Ok, Some, None, Err, map, string_bytes};
 ghost use Rattle.clap.specs.Words.{found_of, kind_of, rows_of};
 ghost use Rattle.np_lines_job.specs.LineWords.{asked_among, asked_by, asked_in, asked_of, asked_unless, ends_with_nul, has_flag};
 
@@ -103,10 +103,11 @@ fn parse_some(alloc: Global, words: &[String]) -> Result<LinesJob, WordsFault>
 /// # Errors
 ///
 /// `Usage` where they ask for nothing that there is: an unknown option or form, a wrong number of files, a
-/// request for help. `Memory` where memory ran out.
+/// request for help. `Memory` where memory ran out; no words take none.
 pub fn parse_lines(alloc: Global, words: &[String]) -> Result<LinesJob, WordsFault>
     ensures ok { IfOk result (λ job. asked_by (map string_bytes words.now) ≡ Some (asked_of job)) }
     ensures help { IfOk result (λ job. job ≡ LinesJob.Help → words.now ≡ []) }
+    ensures free { words.now ≡ [] → result ≡ Ok LinesJob.Help }
     ensures usage { result ≡ Err WordsFault.Usage → asked_by (map string_bytes words.now) ≡ None }
 {
     match words {
