@@ -1,12 +1,12 @@
 #!/usr/bin/env python3
-"""Tests the library for C, and what is built upon it, over the fixtures: tests/doors.py PROGRAM [PREFIX].
+"""Tests the library for C, and what is built upon it, over the fixtures: tests/doors.py PROGRAM [PREFIX|--after-gate].
 
 PROGRAM is npss, with which the published strings are compared. PREFIX is where ./build-c installed the library;
-without it ./build-c is called first. In turn: the header as C and as
-C++, the names that the shared library shows, each call and each status from C (also under valgrind), threads, a
+without it ./build-c is called first, with that flag where it is given. In turn: the header as C and as C++, the names that the shared library shows, each call and each status from C (also under valgrind), threads, a
 program that pkg-config's flags build; the module for Python; the crate for Rust; the worked host over a database; the
-programs for Java and Go of docs/DOORS.md. All strings of the published NormalizationTest.txt through C and Python are the program's own
-answers. What needs a command that isn't here is skipped, with the reason. Ends in a line 'N passed, M failed'.
+programs for Java and Go of docs/DOORS.md. All strings of the published NormalizationTest.txt through C and Python are
+the program's own answers. What needs a command that isn't here is skipped, with the reason. Ends in a line
+'N passed, M failed'.
 """
 
 import os
@@ -37,8 +37,9 @@ sys.stdout.writelines(key + "\\n" for key in tables.keys(texts, sys.argv[1]))
 """
 # How many keys the threads make together.
 KEYS = 10_000_000
-# No command is waited for longer, in seconds.
+# No command is waited for longer, in seconds; but the proof of the library, from nothing on a slow machine.
 PATIENCE = 600
+BUILDING = 3600
 
 
 def wanted(*commands):
@@ -49,11 +50,11 @@ def wanted(*commands):
     return not missing
 
 
-def done(tally, name, command, **options):
+def done(tally, name, command, patience=PATIENCE, **options):
     """Runs a command, which has to end with status 0, and answers what it wrote."""
     try:
         ended = subprocess.run(list(map(str, command)), stdin=subprocess.DEVNULL, stdout=subprocess.PIPE,
-                               stderr=subprocess.STDOUT, timeout=PATIENCE, **options)
+                               stderr=subprocess.STDOUT, timeout=patience, **options)
     except (OSError, subprocess.TimeoutExpired) as error:
         tally.check(name, False, error)
         return None
@@ -232,8 +233,10 @@ def main():
     if not wanted("cc"):
         print("skipped: the library for C")
         tally.finish()
-    prefix = Path(sys.argv[2]).resolve() if len(sys.argv) > 2 else ROOT / "out" / "c"
-    if len(sys.argv) < 3 and done(tally, "the library is built", [ROOT / "build-c"]) is None:
+    flags = [word for word in sys.argv[2:] if word == "--after-gate"]
+    made = len(sys.argv) > 2 and not flags
+    prefix = Path(sys.argv[2]).resolve() if made else ROOT / "out" / "c"
+    if not made and done(tally, "the library is built", [ROOT / "build-c", *flags], patience=BUILDING) is None:
         tally.finish()
     with tempfile.TemporaryDirectory() as name:
         folder = Path(name)

@@ -46,7 +46,7 @@ CALLS = {
     "tables": ("build", "row_table", "page_table"),
     "forms": ("form", "npss", "lend_npss", "into_npss", "is_form", "equivalent", "feed", "finish", "run"),
     "chain": ("audit",),
-    "lines": ("answer_lines",),
+    "lines": ("answer_lines", "answer_bytes"),
     "node": ("accept", "take", "image", "restore"),
     "world": ("read_schedule", "replay", "report_text"),
     "words": ("parse",),
