@@ -2,8 +2,9 @@
 """Tests the library for C, and what is built upon it, over the fixtures: tests/doors.py PROGRAM [PREFIX|--after-gate].
 
 PROGRAM is npss, with which the published strings are compared. PREFIX is where ./build-c installed the library;
-without it ./build-c is called first, with that flag where it is given. In turn: the header as C and as C++, the names that the shared library shows, each call and each status from C (also under valgrind), threads, a
-program that pkg-config's flags build; the module for Python; the crate for Rust; the worked host over a database; the
+without it ./build-c is called first, with the flag where that is given. In turn: the header as C and as C++, the names
+that the shared library shows, each call and each status from C (also under valgrind), threads, the programs of the
+pages, built by pkg-config's flags; the module for Python; the crate for Rust; the worked host over a database; the
 programs for Java and Go of docs/DOORS.md. All strings of the published NormalizationTest.txt through C and Python are
 the program's own answers. What needs a command that isn't here is skipped, with the reason. Ends in a line
 'N passed, M failed'.
