@@ -22,10 +22,11 @@ sys.dont_write_bytecode = True
 
 from cases import DEVICE, USAGE, WRONG_WORDS, all_cases, text
 from harness import ROOT, Tally, built_program, run, shown
+from large import check_large
 from launching import check_building
 from limits import check_memory, check_usage
 from replays import replay, replay_cases, schedules
-from streams import check_closed, check_words
+from streams import check_closed, check_closed_input, check_words
 from vanishing import check_vanishing
 from versions import V1, write_all
 
@@ -121,9 +122,11 @@ def main():
         check_devices(tally, program, folder)
         check_usage(tally, program, folder)
         check_closed(tally, program, folder)
+        check_closed_input(tally, program, folder)
         check_words(tally, program, folder)
         check_vanishing(tally, program, folder)
         check_memory(tally, program, folder)
+        check_large(tally, program, folder)
         if len(sys.argv) > 2:
             check_launcher(tally, Path(sys.argv[2]).resolve(), folder)
             check_building(tally, Path(sys.argv[2]).resolve(), Path(name))

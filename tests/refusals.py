@@ -37,8 +37,8 @@ MEMORY = (6, b"", b"out of memory\n")
 # The status of a unit test that failed by its result.
 FAILED = 101
 
-# The calls that can answer that memory ran out, by the modules of their tests: those of `np_examples` have the
-# crates' names. Each has one test whose name begins with `a_refused_` and the call's name: it makes the call a
+# The calls that can answer that memory ran out, by the modules of their tests: in the crates of examples these have
+# the libraries' names. Each has one test whose name begins with `a_refused_` and the call's name: it makes the call a
 # second time where memory was refused to the first.
 CALLS = {
     "code_points": ("chars_of", "string_of", "write_code"),
@@ -49,7 +49,8 @@ CALLS = {
     "lines": ("answer_lines", "answer_bytes"),
     "node": ("accept", "take", "image", "restore"),
     "world": ("read_schedule", "replay", "report_text"),
-    "words": ("parse",),
+    "jobs": ("parse",),
+    "lines_job": ("parse_lines",),
 }
 # The commands of the program, each of which is one call of the crate; with its flag `key` is another call.
 FLAG = "--check-under"
@@ -244,18 +245,26 @@ def is_test_end(name, got):
     return status in (0, FAILED, -signal.SIGABRT)
 
 
+def built_shim(folder):
+    """What refuses, compiled into the folder; None where there is no C compiler."""
+    compiler = shutil.which("cc") or shutil.which("gcc")
+    if compiler is None:
+        return None
+    shim = folder / "refuse.so"
+    subprocess.run([compiler, "-O2", "-shared", "-fPIC", "-o", shim, ROOT / "tests/refusals/refuse.c"], check=True)
+    return shim
+
+
 def main():
     tally = Tally()
-    compiler = shutil.which("cc") or shutil.which("gcc")
     with tempfile.TemporaryDirectory() as name:
         folder = Path(name) / "files"
         shutil.copytree(FIXTURES, folder)
         write_all(folder)
-        shim = Path(name) / "refuse.so"
-        if not compiler:
+        shim = built_shim(Path(name))
+        if shim is None:
             print("skipped: refused allocations, reads and writes: there is no C compiler")
             tally.finish()
-        subprocess.run([compiler, "-O2", "-shared", "-fPIC", "-o", shim, ROOT / "tests/refusals/refuse.c"], check=True)
         refusals = Refusals(shim, folder)
         program = Path(sys.argv[1]).resolve()
         refused = dict.fromkeys(COMMANDS, 0)

@@ -1,10 +1,9 @@
 //! The command `key` with `--check-under`: what a machine that lags behind has of a key.
-ghost use Rattle.std.specs.Prelude.{◌≡◌, ◌∷◌, [], false, IfNone, IfOk, IfErr, IfSome, chars, string_bytes};
+ghost use Rattle.std.specs.Prelude.{◌≡◌, ◌∷◌, [], false, IfOk, IfErr, chars, string_bytes};
 ghost use Rattle.np_chain.specs.Extension.{Extends};
 ghost use Rattle.np_code_points.specs.Watched.{has_failed};
-ghost use Rattle.np_forms.specs.Assigned.{IsAssigned, IsFirstUnassigned};
 ghost use Rattle.np_jobs.specs.Chains.{LacksOne, WereBuilt, readers_of};
-ghost use Rattle.np_jobs.specs.Keys.{LacksKey};
+ghost use Rattle.np_jobs.specs.Keys.{LacksKeyOutput};
 ghost use Rattle.np_jobs.specs.KeysUnder.{IsKeyUnder, KeyUnderEnds, MakesUnder, RefusesPair, RefusesUnder, SaysOwn};
 ghost use Rattle.np_jobs.specs.Streams.{stream_of};
 ghost use Rattle.np_jobs.specs.Texts.{IsMadeOfText, IsTextFault};
@@ -19,27 +18,10 @@ use crate::versions::{read_table, read_version};
 use np_chain::extends;
 use np_code_points::watched::Watched;
 use np_code_points::{Form, Memory};
+use np_forms::first_absent;
 use np_tables::{NormTable, PageTable, Version};
 use std::alloc::Global;
 use std::io::{Read, Write};
-
-/// The first code point of a text that a version does not assign, with its byte place, from 0; none
-/// where it assigns each.
-fn first_absent(version: &Version, text: &str) -> Option<(usize, char)>
-    ensures none { IfNone result (IsAssigned version.now (chars text.now)) }
-    ensures some { IfSome result (λ found. IsFirstUnassigned version.now (chars text.now) found.0 found.1) }
-{
-    let mut iter = text.chars();
-    'scan: loop {
-        let here = iter.as_str();
-        let Some(c) = iter.next() else {
-            return None;
-        };
-        if !version.assigned_code(u32::from(c)) {
-            return Some((text.len() - here.len(), c));
-        }
-    }
-}
 
 /// What is said of a key that is its own form under a version: which code point of it that version
 /// lacks, if it lacks one.
@@ -62,7 +44,7 @@ fn make_own<T: NormTable>(
 ) -> Result<Made, TextFault>
     requires { Extends old.now (T.model table.now) }
     ensures own { IfOk result (λ m. IsKeyUnder form old.now (T.model table.now) (string_bytes text) m.is_yes (string_bytes m.text)) }
-    ensures refused { IfErr result (LacksKey (T.model table.now) (string_bytes text)) }
+    ensures refused { IfErr result (LacksKeyOutput (T.model table.now) (string_bytes text)) }
 {
     old.meets_conditions();
     table.meets_conditions();
@@ -86,7 +68,7 @@ fn made_of_input<T: NormTable, I: Read>(
     requires { Extends old.now (T.model table.now) }
     ensures made { IfOk result (λ m. IsMadeOfText (IsKeyUnder form old.now (T.model table.now))
         (stream_of I.remaining input.old input.new) m.is_yes (string_bytes m.text)) }
-    ensures refused { IfErr result (IsTextFault (LacksKey (T.model table.now)) (stream_of I.remaining input.old input.new)) }
+    ensures refused { IfErr result (IsTextFault (LacksKeyOutput (T.model table.now)) (stream_of I.remaining input.old input.new)) }
 {
     let bytes = read_input(alloc, input)?;
     let text = text_in(bytes)?;
