@@ -1,12 +1,13 @@
 #!/usr/bin/env python3
-"""Tests the library for C, and what is built upon it, over the fixtures: tests/doors.py PROGRAM [PREFIX].
+"""Tests the library for C, and what is built upon it, over the fixtures: tests/doors.py PROGRAM [PREFIX|--after-gate].
 
 PROGRAM is npss, with which the published strings are compared. PREFIX is where ./build-c installed the library;
-without it ./build-c is called first. In turn: the header as C and as
-C++, the names that the shared library shows, each call and each status from C (also under valgrind), threads, a
-program that pkg-config's flags build; the module for Python; the crate for Rust; the worked host over a database; the
-README's Java program. All strings of the published NormalizationTest.txt through C and Python are the program's own
-answers. What needs a command that isn't here is skipped, with the reason. Ends in a line 'N passed, M failed'.
+without it ./build-c is called first, with the flag where that is given. In turn: the header as C and as C++, the names
+that the shared library shows, each call and each status from C (also under valgrind), threads, the programs of the
+pages, built by pkg-config's flags; the module for Python; the crate for Rust; the worked host over a database; the
+programs for Java and Go of docs/DOORS.md. All strings of the published NormalizationTest.txt through C and Python are
+the program's own answers. What needs a command that isn't here is skipped, with the reason. Ends in a line
+'N passed, M failed'.
 """
 
 import os
@@ -26,7 +27,7 @@ from harness import ROOT, Tally, run
 
 HERE = ROOT / "tests" / "doors"
 V1, V2 = ([str(ROOT / "fixtures" / name) for name in version] for version in (versions.V1, versions.V2))
-CALLS = ("close", "count", "equivalent", "extends", "is_form", "key", "normalize", "open", "share")
+CALLS = ("answers", "close", "count", "equivalent", "extends", "is_form", "key", "normalize", "open", "share")
 # The form's letter for C, and its name for the program.
 LETTERS = {"D": "nfd", "C": "nfc", "d": "nfkd", "c": "nfkc"}
 # The keys of the lines of the input, by Python: words are the form and the two files.
@@ -37,8 +38,9 @@ sys.stdout.writelines(key + "\\n" for key in tables.keys(texts, sys.argv[1]))
 """
 # How many keys the threads make together.
 KEYS = 10_000_000
-# No command is waited for longer, in seconds.
+# No command is waited for longer, in seconds; but the proof of the library, from nothing on a slow machine.
 PATIENCE = 600
+BUILDING = 3600
 
 
 def wanted(*commands):
@@ -49,11 +51,11 @@ def wanted(*commands):
     return not missing
 
 
-def done(tally, name, command, **options):
+def done(tally, name, command, patience=PATIENCE, **options):
     """Runs a command, which has to end with status 0, and answers what it wrote."""
     try:
         ended = subprocess.run(list(map(str, command)), stdin=subprocess.DEVNULL, stdout=subprocess.PIPE,
-                               stderr=subprocess.STDOUT, timeout=PATIENCE, **options)
+                               stderr=subprocess.STDOUT, timeout=patience, **options)
     except (OSError, subprocess.TimeoutExpired) as error:
         tally.check(name, False, error)
         return None
@@ -122,23 +124,29 @@ def check_c(tally, prefix, folder):
             counted(tally, "threads under helgrind", ["valgrind", "-q", "--tool=helgrind", "--error-exitcode=9", program, *V1, 500])
 
 
-def readme_program(language):
-    """The first program in a language of docs/DOORS.md."""
-    page = (ROOT / "docs" / "DOORS.md").read_text(encoding="utf-8")
-    found = re.search(rf"```{language}\n(.*?)```", page, re.DOTALL)
+def page_program(page, language):
+    """The first program in a language of a page; None where it has none."""
+    found = re.search(rf"```{language}\n(.*?)```", (ROOT / page).read_text(encoding="utf-8"), re.DOTALL)
     return found and found[1]
 
 
 def check_flags(tally, prefix, folder):
-    """The page's program is built by pkg-config's flags, and prints a key."""
+    """The pages' programs are built by pkg-config's flags, and print a key: README's, of ten lines, and that of docs/DOORS.md."""
     if not wanted("pkg-config"):
         return
     environment = {**os.environ, "PKG_CONFIG_PATH": str(prefix / "lib" / "pkgconfig"), "LD_LIBRARY_PATH": str(prefix / "lib")}
-    (folder / "prog.c").write_text(readme_program("c"), encoding="utf-8")
-    if done(tally, "the page's program in C", ["sh", "-c", "cc prog.c -o prog $(pkg-config --cflags --libs npss)"],
-            cwd=folder, env=environment) is not None:
-        printed = done(tally, "its run", [folder / "prog", *V1], env=environment)
-        tally.same("its key", printed, "\u1ead\n")
+    for name in V1:
+        shutil.copy(name, folder)
+    for page, key in (("README.md", "\u00c5\n"), ("docs/DOORS.md", "\u1ead\n")):
+        program = page_program(page, "c")
+        if not tally.check(f"{page} has a program in C", program, "it has none"):
+            continue
+        (folder / "prog.c").write_text(program, encoding="utf-8")
+        if done(tally, f"the program in C of {page}", ["sh", "-c", "cc prog.c -o prog $(pkg-config --cflags --libs npss)"],
+                cwd=folder, env=environment) is not None:
+            tally.same("its key", done(tally, "its run", [folder / "prog", *V1], cwd=folder, env=environment), key)
+    lines = len((page_program("README.md", "c") or "").splitlines())
+    tally.check("README's program has ten lines", lines <= 10, f"{lines} lines")
 
 
 def check_python(tally, prefix, folder):
@@ -177,10 +185,21 @@ def check_java(tally, prefix, folder):
     if not number or int(number[1]) < 22:
         print(f"skipped: Java's foreign functions, which are there from 22 on; here is {number and number[1]}")
         return
-    (folder / "Prog.java").write_text(readme_program("java"), encoding="utf-8")
+    (folder / "Prog.java").write_text(page_program("docs/DOORS.md", "java"), encoding="utf-8")
     command = ["java", "--enable-native-access=ALL-UNNAMED", "Prog.java", prefix / "lib" / "libnpss.so", *V1]
     printed = done(tally, "the page's program in Java", command, cwd=folder)
     tally.same("its key in Java", printed, "\u1ead\n")
+
+
+def check_go(tally, prefix, folder):
+    """The page's program for Go, where it is there."""
+    if not wanted("go", "pkg-config"):
+        return
+    (folder / "prog.go").write_text(page_program("docs/DOORS.md", "go"), encoding="utf-8")
+    environment = {**os.environ, "PKG_CONFIG_PATH": str(prefix / "lib" / "pkgconfig"), "LD_LIBRARY_PATH": str(prefix / "lib"),
+                   "GOCACHE": str(folder / "go"), "GOFLAGS": "-mod=mod", "GO111MODULE": "off"}
+    printed = done(tally, "the page's program in Go", ["go", "run", "prog.go", *V1], cwd=folder, env=environment)
+    tally.same("its key in Go", printed, "\u1ead\n")
 
 
 def check_published(tally, program, prefix, folder, environment):
@@ -215,8 +234,10 @@ def main():
     if not wanted("cc"):
         print("skipped: the library for C")
         tally.finish()
-    prefix = Path(sys.argv[2]).resolve() if len(sys.argv) > 2 else ROOT / "out" / "c"
-    if len(sys.argv) < 3 and done(tally, "the library is built", [ROOT / "build-c"]) is None:
+    flags = [word for word in sys.argv[2:] if word == "--after-gate"]
+    made = len(sys.argv) > 2 and not flags
+    prefix = Path(sys.argv[2]).resolve() if made else ROOT / "out" / "c"
+    if not made and done(tally, "the library is built", [ROOT / "build-c", *flags], patience=BUILDING) is None:
         tally.finish()
     with tempfile.TemporaryDirectory() as name:
         folder = Path(name)
@@ -227,6 +248,7 @@ def main():
         environment = check_python(tally, prefix, folder)
         check_rust(tally, prefix, folder)
         check_java(tally, prefix, folder)
+        check_go(tally, prefix, folder)
         check_published(tally, Path(sys.argv[1]).resolve(), prefix, folder, environment)
     tally.finish()
 

@@ -56,6 +56,7 @@ CALLS = [
     Call("feed", "np_forms", "streams.rt", "Err(Memory)", "a_refused_feed_"),
     Call("finish", "np_forms", "streams.rt", "Err(Memory)", "a_refused_finish_"),
     Call("run", "np_forms", "runs.rt", "Err(RunFault::Memory)", "a_refused_run_"),
+    Call("answer_bytes", "np_lines", "whole.rt", "Err(Memory)", "a_refused_answer_bytes_"),
     Call("audit", "np_chain", "audits.rt", "Err(Memory)", "a_refused_audit_"),
     Call("accept", "np_node", "accepting.rt", "Err(NodeFault::Memory)", "a_refused_accept_"),
     Call("take", "np_node", "taking.rt", "Err(NodeFault::Memory)", "a_refused_take_"),

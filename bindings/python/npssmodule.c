@@ -1,204 +1,151 @@
 /* The C half of the Python module `npss`: it hands texts to the proved library and answers back.
  * It stands on CPython's stable ABI, from version 3.10 on. */
-#define PY_SSIZE_T_CLEAN
-#define Py_LIMITED_API 0x030A0000
-#include <Python.h>
-#include <npss.h>
-#include <string.h>
+#include "arguments.h"
+#include "refusals.h"
 
 /* Texts of more bytes are worked on without the interpreter's lock. */
 #define LONG_TEXT 4096
+/* The room on the stack for what is made of others. */
+#define SMALL_ROOM 6144
 
 typedef struct tables {
     PyObject_HEAD npss_handle handle;
 } tables;
 
 static PyTypeObject *tables_type, *break_type;
-static PyObject *bad_tables, *unassigned;
 
-/* A call that writes into a room: npss_key or npss_normalize. */
-typedef npss_answer writer(npss_handle *, uint8_t, const uint8_t *, size_t, uint8_t *, size_t);
+/* A call that writes into a room, and what it is asked for. */
+typedef struct maker {
+    enum { KEY, FORM, ANSWERS } what;
+    npss_asked asked;
+} maker;
 
-typedef struct bytes {
-    const uint8_t *at;
-    Py_ssize_t length;
-} bytes;
-
-static int text_of(PyObject *text, bytes *found) {
-    if (!PyUnicode_Check(text)) {
-        PyErr_Format(PyExc_TypeError, "a str is wanted, not %R", (PyObject *)Py_TYPE(text));
-        return -1;
+static inline npss_answer call(const maker *maker, npss_handle *handle, bytes b, uint8_t *room, size_t size) {
+    switch (maker->what) {
+    case KEY:
+        return npss_key(handle, maker->asked.form, b.at, (size_t)b.length, room, size);
+    case FORM:
+        return npss_normalize(handle, maker->asked.form, b.at, (size_t)b.length, room, size);
+    default:
+        return npss_answers(handle, &maker->asked, b.at, (size_t)b.length, room, size);
     }
-    found->at = (const uint8_t *)PyUnicode_AsUTF8AndSize(text, &found->length);
-    return found->at ? 0 : -1; /* a lone surrogate: UnicodeEncodeError */
 }
 
-static int form_of(PyObject *name, uint8_t *form) {
-    static const struct {
-        const char *name;
-        uint8_t form;
-    } forms[] = {
-        {"nfc", NPSS_NFC}, {"nfd", NPSS_NFD}, {"nfkc", NPSS_NFKC}, {"nfkd", NPSS_NFKD},
-        {"NFC", NPSS_NFC}, {"NFD", NPSS_NFD}, {"NFKC", NPSS_NFKC}, {"NFKD", NPSS_NFKD},
-    };
-    bytes found;
-    if (!name) {
-        *form = NPSS_NFC;
-        return 0;
+/* The str of what was made of a text; the text itself where that has the same bytes. */
+static inline PyObject *str_of(PyObject *text, bytes b, const uint8_t *made, uint64_t length) {
+    if (length == (uint64_t)b.length && !memcmp(made, b.at, (size_t)length)) {
+        Py_INCREF(text);
+        return text;
     }
-    if (text_of(name, &found)) return -1;
-    for (size_t i = 0; i < sizeof forms / sizeof *forms; i++) {
-        if (!strcmp((const char *)found.at, forms[i].name)) {
-            *form = forms[i].form;
-            return 0;
-        }
-    }
-    PyErr_Format(PyExc_ValueError, "a form is 'nfc', 'nfd', 'nfkc' or 'nfkd', not %R", name);
-    return -1;
+    return PyUnicode_DecodeUTF8((const char *)made, (Py_ssize_t)length, NULL);
 }
 
-/* The arguments by place or by name; `names` ends in NULL. The first `least` must be there. */
-static int take(PyObject *const *given, Py_ssize_t count, PyObject *words, const char *const *names, Py_ssize_t least,
-                PyObject **taken) {
-    Py_ssize_t most = 0, named = words ? PyTuple_Size(words) : 0;
-    while (names[most]) taken[most++] = NULL;
-    if (count > most) {
-        PyErr_Format(PyExc_TypeError, "at most %zd arguments are taken, %zd were given", most, count);
-        return -1;
-    }
-    for (Py_ssize_t i = 0; i < count; i++) taken[i] = given[i];
-    for (Py_ssize_t i = 0; i < named; i++) {
-        PyObject *word = PyTuple_GetItem(words, i);
-        Py_ssize_t at = 0;
-        while (names[at] && PyUnicode_CompareWithASCIIString(word, names[at])) at++;
-        if (!names[at] || taken[at]) {
-            PyErr_Format(PyExc_TypeError, names[at] ? "%R was given twice" : "there is no argument %R", word);
-            return -1;
-        }
-        taken[at] = given[count + i];
-    }
-    for (Py_ssize_t i = 0; i < least; i++) {
-        if (!taken[i]) {
-            PyErr_Format(PyExc_TypeError, "the argument '%s' is wanted", names[i]);
-            return -1;
+/* What a call makes of bytes, in a room of its own, which the caller frees; NULL where an error was raised. `size` is
+ * its first size. Worked on without the interpreter's lock, on a handle of its own, since others may call meanwhile. */
+static uint8_t *make_long(tables *self, const maker *maker, bytes b, size_t size, npss_answer *a) {
+    npss_handle own = {0, NULL};
+    uint8_t *room = NULL;
+    *a = npss_share(&self->handle, &own);
+    if (a->status == NPSS_DONE) a->status = NPSS_NO_ROOM, a->length = size;
+    while (a->status == NPSS_NO_ROOM) {
+        PyMem_Free(room);
+        size = (size_t)a->length;
+        if (!(room = PyMem_Malloc(size))) {
+            a->status = NPSS_MEMORY;
+        } else {
+            Py_BEGIN_ALLOW_THREADS *a = call(maker, &own, b, room, size);
+            Py_END_ALLOW_THREADS
         }
     }
-    return 0;
-}
-
-static PyObject *raise(PyObject *class, PyObject *error) {
-    if (error) {
-        PyErr_SetObject(class, error);
-        Py_DECREF(error);
-    }
+    npss_close(&own);
+    if (a->status == NPSS_DONE) return room;
+    PyMem_Free(room);
+    refuse(*a, b.at);
     return NULL;
 }
 
-/* Raises what an answer tells that is not done. */
-static PyObject *refuse(npss_answer a, const uint8_t *text) {
-    static const char *const file_faults[] = {"",         "FieldCount", "BadCode",   "OutOfOrder", "BadCategory",
-                                              "BadClass", "BadMapping", "RangeOpen", "RangeLone",  "RangeDiffers",
-                                              "RangeMaps"};
-    static const char *const table_faults[] = {"",        "MapsToUnassigned", "TooDeep",
-                                               "TooLong", "AmbiguousPair",    "HangulWrong"};
-    Py_ssize_t index = 0;
-    switch (a.status) {
-    case NPSS_UNASSIGNED:
-        for (uint64_t i = 0; i < a.place; i++) index += (text[i] & 0xC0) != 0x80;
-        return raise(unassigned, PyObject_CallFunction(unassigned, "IKn", a.code, (unsigned long long)a.place, index));
-    case NPSS_DATA:
-    case NPSS_EXCLUSIONS:
-        return raise(bad_tables, PyObject_CallFunction(bad_tables, "sKs", a.status == NPSS_DATA ? "data" : "exclusions",
-                                                       (unsigned long long)a.place, file_faults[a.fault]));
-    case NPSS_TABLES:
-        return raise(bad_tables,
-                     PyObject_CallFunction(bad_tables, "sOsI", "tables", Py_None, table_faults[a.fault], a.code));
-    case NPSS_TOO_LARGE:
-        return raise(bad_tables, PyObject_CallFunction(bad_tables, "sOs", a.fault == 1 ? "data" : "exclusions", Py_None,
-                                                       "TooLarge"));
-    case NPSS_MEMORY:
-        return PyErr_NoMemory();
-    default:
-        return PyErr_Format(PyExc_SystemError, "the library answered %u", a.status);
-    }
-}
-
-/* What the call makes of a text; the text itself where that has the same bytes. */
-static PyObject *make(tables *self, writer *write, PyObject *text, uint8_t form) {
-    uint8_t small[512], *room = small;
-    size_t size = sizeof small;
-    npss_handle own = {0, NULL}, *handle = &self->handle;
-    PyObject *made = NULL;
+/* What a call makes of a text. */
+static PyObject *make(tables *self, const maker *maker, PyObject *text) {
+    uint8_t small[SMALL_ROOM], *room;
+    PyObject *made;
     npss_answer a;
     bytes b;
     if (text_of(text, &b)) return NULL;
-    if (b.length > LONG_TEXT) { /* on a handle of its own, since others may call meanwhile */
-        a = npss_share(handle, &own);
-        if (a.status != NPSS_DONE) return refuse(a, b.at);
-        handle = &own;
-        size = (size_t)b.length + (size_t)b.length / 2;
-        room = PyMem_Malloc(size);
+    if (b.length <= LONG_TEXT) {
+        a = call(maker, &self->handle, b, small, sizeof small);
+        if (a.status == NPSS_DONE) return str_of(text, b, small, a.length);
+        if (a.status != NPSS_NO_ROOM) return refuse(a, b.at);
     }
-    while (room) {
-        if (handle == &own) {
-            Py_BEGIN_ALLOW_THREADS a = write(handle, form, b.at, (size_t)b.length, room, size);
-            Py_END_ALLOW_THREADS
-        } else {
-            a = write(handle, form, b.at, (size_t)b.length, room, size);
-        }
-        if (a.status != NPSS_NO_ROOM) break;
-        if (room != small) PyMem_Free(room);
-        size = (size_t)a.length;
-        room = PyMem_Malloc(size);
-    }
-    if (!room) {
-        PyErr_NoMemory();
-    } else if (a.status != NPSS_DONE) {
-        refuse(a, b.at);
-    } else if (a.length == (uint64_t)b.length && !memcmp(room, b.at, (size_t)b.length)) {
-        Py_INCREF(text);
-        made = text;
-    } else {
-        made = PyUnicode_DecodeUTF8((const char *)room, (Py_ssize_t)a.length, NULL);
-    }
-    if (room != small) PyMem_Free(room);
-    npss_close(&own);
+    if (!(room = make_long(self, maker, b, (size_t)b.length + (size_t)b.length / 2, &a))) return NULL;
+    made = str_of(text, b, room, a.length);
+    PyMem_Free(room);
     return made;
 }
 
 static const char *const text_names[] = {"text", "form", NULL};
 
-static PyObject *make_of(PyObject *self, writer *write, PyObject *const *given, Py_ssize_t count, PyObject *words) {
-    PyObject *taken[2];
-    uint8_t form;
-    if (take(given, count, words, text_names, 1, taken) || form_of(taken[1], &form)) return NULL;
-    return make((tables *)self, write, taken[0], form);
-}
-
 static PyObject *tables_key(PyObject *self, PyObject *const *given, Py_ssize_t count, PyObject *words) {
-    return make_of(self, npss_key, given, count, words);
+    maker key = {KEY, {0, 0}};
+    PyObject *taken[2];
+    if (take(given, count, words, text_names, 1, taken) || form_of(taken[1], &key.asked.form)) return NULL;
+    return make((tables *)self, &key, taken[0]);
 }
 
 static PyObject *tables_normalize(PyObject *self, PyObject *const *given, Py_ssize_t count, PyObject *words) {
-    return make_of(self, npss_normalize, given, count, words);
+    maker form = {FORM, {0, 0}};
+    PyObject *taken[2];
+    if (take(given, count, words, text_names, 1, taken) || form_of(taken[1], &form.asked.form)) return NULL;
+    return make((tables *)self, &form, taken[0]);
 }
 
 static PyObject *tables_keys(PyObject *self, PyObject *const *given, Py_ssize_t count, PyObject *words) {
     static const char *const names[] = {"texts", "form", NULL};
+    maker key = {KEY, {0, 0}};
     PyObject *taken[2], *iterator, *text, *keys;
-    uint8_t form;
-    if (take(given, count, words, names, 1, taken) || form_of(taken[1], &form)) return NULL;
+    if (take(given, count, words, names, 1, taken) || form_of(taken[1], &key.asked.form)) return NULL;
     if (!(iterator = PyObject_GetIter(taken[0]))) return NULL;
     keys = PyList_New(0);
     while (keys && (text = PyIter_Next(iterator))) {
-        PyObject *key = make((tables *)self, npss_key, text, form);
+        PyObject *made = make((tables *)self, &key, text);
         Py_DECREF(text);
-        if (!key || PyList_Append(keys, key)) Py_CLEAR(keys);
-        Py_XDECREF(key);
+        if (!made || PyList_Append(keys, made)) Py_CLEAR(keys);
+        Py_XDECREF(made);
     }
     Py_DECREF(iterator);
     if (keys && PyErr_Occurred()) Py_CLEAR(keys);
     return keys;
+}
+
+/* The byte that ends lines: of b"\n" or b"\0", or NULL for the first. */
+static int end_of(PyObject *given, uint8_t *end) {
+    char *at = "\n";
+    Py_ssize_t length = 1;
+    if (given && PyBytes_AsStringAndSize(given, &at, &length)) return -1;
+    if (length == 1 && (*at == '\n' || *at == 0)) {
+        *end = (uint8_t)*at;
+        return 0;
+    }
+    PyErr_Format(PyExc_ValueError, "the end of lines is b'\\n' or b'\\0', not %R", given);
+    return -1;
+}
+
+static PyObject *tables_answers(PyObject *self, PyObject *const *given, Py_ssize_t count, PyObject *words) {
+    static const char *const names[] = {"lines", "form", "end", NULL};
+    maker answers = {ANSWERS, {0, 0}};
+    PyObject *taken[3], *lines, *made = NULL;
+    uint8_t *room;
+    npss_answer a;
+    bytes b;
+    if (take(given, count, words, names, 1, taken) || form_of(taken[1], &answers.asked.form) ||
+        end_of(taken[2], &answers.asked.end) || !(lines = PyBytes_FromObject(taken[0])))
+        return NULL;
+    b.at = (const uint8_t *)PyBytes_AsString(lines);
+    b.length = PyBytes_Size(lines);
+    if ((room = make_long((tables *)self, &answers, b, (size_t)b.length + (size_t)b.length / 2, &a)))
+        made = PyBytes_FromStringAndSize((const char *)room, (Py_ssize_t)a.length);
+    PyMem_Free(room);
+    Py_DECREF(lines);
+    return made;
 }
 
 /* The answer to a question; -1 where an error was raised. */
@@ -359,6 +306,10 @@ static PyMethodDef methods[] = {
     {"keys", FAST(tables_keys),
      "keys($self, /, texts, form='nfc')\n--\n\nThe keys of several texts, a list. Raises as key does, at the first "
      "text that has none."},
+    {"answers", FAST(tables_answers),
+     "answers($self, /, lines, form='nfc', end=b'\\n')\n--\n\nThe answers to the lines of some bytes, which are told as "
+     "bytes.\n\nThe end is b'\\n' or b'\\0'. The answer to a line is '=' and its key, or '!' and why it has none, and "
+     "then the\nend. A last line without an end is a line. No line makes the call fail: see docs/FORMATS.md."},
     {"normalize", FAST(tables_normalize),
      "normalize($self, /, text, form='nfc')\n--\n\nThe normal form of a text, whether or not its code points are "
      "assigned."},
@@ -406,7 +357,7 @@ static struct PyModuleDef module = {
 
 PyMODINIT_FUNC PyInit__npss(void) {
     PyObject *made = PyModule_Create(&module), *errors = PyImport_ImportModule("npss._errors");
-    if (!made || !errors || !(bad_tables = PyObject_GetAttrString(errors, "BadTables")) ||
+    if (!made || !errors || intern_forms() || !(bad_tables = PyObject_GetAttrString(errors, "BadTables")) ||
         !(unassigned = PyObject_GetAttrString(errors, "Unassigned")) ||
         !(tables_type = (PyTypeObject *)PyType_FromSpec(&spec)) ||
         !(break_type = PyStructSequence_NewType(&break_description)) ||

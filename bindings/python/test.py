@@ -90,6 +90,27 @@ class Texts(unittest.TestCase):
             with self.assertRaisesRegex(UnicodeEncodeError, "surrogates not allowed"):
                 call("a\ud800")
 
+    def test_answers_to_lines(self):
+        marked, made = MARKED.encode(), "\u1ead".encode()
+        for lines, form, answers in ((b"", "nfc", b""), (b"\n", "nfc", b"=\n"), (b"a\n" + marked, "nfc", b"=a\n=" + made + b"\n"),
+                                     ("\ufb01\nA\U00016d67\n".encode(), "nfkc", b"=fi\n!unassigned 16D67 at byte 1\n"),
+                                     (b"A\nAi\xff", "nfc", b"=A\n!not UTF-8 at byte 2\n")):
+            self.assertEqual(self.tables.answers(lines, form), answers)
+            self.assertEqual(self.tables.answers(form=form, lines=bytearray(lines), end=b"\n"), answers)
+        self.assertEqual(self.tables.answers(marked + b"\n"), b"=" + made + b"\n")
+        self.assertEqual(self.tables.answers(b"a\0A", end=b"\0"), b"=a\0=A\0")
+        self.assertEqual(self.tables.answers(b"\xff\n" * 100_000), b"!not UTF-8 at byte 0\n" * 100_000)
+        self.assertRaises(TypeError, self.tables.answers, "a")
+        self.assertRaises(ValueError, self.tables.answers, b"a", "nfc", b";")
+        self.assertRaises(TypeError, self.tables.answers, b"a", "nfc", "\n")
+
+    def test_a_key_that_is_much_longer_than_its_text(self):
+        for count in (1, 1_000, 2_000, 100_000):
+            self.assertEqual(self.tables.key("\u1ead" * count, "nfd"), "a\u0323\u0302" * count)
+
+    def test_forms_of_any_str(self):
+        self.assertEqual(self.tables.key(MARKED, "".join(["n", "f", "d"])), "a\u0323\u0302")
+
     def test_wrong_arguments(self):
         for call in (lambda: self.tables.key(b"A"), lambda: self.tables.key(), lambda: self.tables.key("A", "nfc", 3),
                      lambda: self.tables.key("A", text="A"), lambda: self.tables.key("A", kind="nfc"), lambda: self.tables.keys(3)):

@@ -25,61 +25,12 @@
 mod errors;
 #[allow(missing_docs)]
 mod raw;
+mod values;
 
 pub use errors::{File, KeyError, Memory, OpenError};
 use raw::{Answer, Handle};
 use std::ptr::null_mut;
-
-/// A normalization form.
-#[derive(Clone, Copy, Debug, PartialEq, Eq)]
-pub enum Form {
-    /// Canonical decomposition.
-    Nfd,
-    /// Canonical decomposition, then canonical composition.
-    Nfc,
-    /// Compatibility decomposition.
-    Nfkd,
-    /// Compatibility decomposition, then canonical composition.
-    Nfkc,
-}
-
-impl Form {
-    fn letter(self) -> u8 {
-        match self {
-            Form::Nfd => b'D',
-            Form::Nfc => b'C',
-            Form::Nfkd => b'd',
-            Form::Nfkc => b'c',
-        }
-    }
-}
-
-/// A kind of break. A code point that has several is told with the first in this order.
-#[derive(Clone, Copy, Debug, PartialEq, Eq)]
-#[non_exhaustive]
-pub enum BreakKind {
-    /// Assigned in the older version, not in the newer one.
-    Lost,
-    /// Assigned in both, with unlike combining classes.
-    ClassChanged,
-    /// Assigned in both, with unlike mappings.
-    MappingChanged,
-    /// A primary composite of the older version, not of the newer one.
-    NowExcluded,
-    /// A primary composite of the newer version alone, assigned in both, of parts that the older one assigns.
-    NowIncluded,
-    /// A primary composite of the newer version that the older one does not assign, of parts that it does.
-    NewComposite,
-}
-
-/// What a newer version breaks of an older one, at a code point.
-#[derive(Clone, Copy, Debug, PartialEq, Eq)]
-pub struct Break {
-    /// The kind of break.
-    pub kind: BreakKind,
-    /// The code point.
-    pub code: u32,
-}
+pub use values::{Answers, Break, BreakKind, Form, LineEnd};
 
 /// The tables of a version of Unicode.
 #[derive(Debug)]
@@ -153,6 +104,35 @@ fn open_error(a: Answer) -> OpenError {
     }
 }
 
+/// What a call writes into a room, first into one of so many bytes and then into one of as many as it tells.
+fn filled(
+    mut wanted: usize,
+    mut write: impl FnMut(*mut u8, usize) -> Answer,
+) -> Result<(Vec<u8>, Answer), Answer> {
+    let mut room: Vec<u8> = Vec::new();
+    loop {
+        if room.try_reserve_exact(wanted).is_err() {
+            return Err(Answer {
+                status: raw::MEMORY,
+                fault: 0,
+                code: 0,
+                place: 0,
+                length: 0,
+            });
+        }
+        room.resize(wanted, 0);
+        let a = write(room.as_mut_ptr(), room.len());
+        match a.status {
+            raw::DONE => {
+                room.truncate(a.length as usize);
+                return Ok((room, a));
+            }
+            raw::NO_ROOM => wanted = a.length as usize,
+            _ => return Err(a),
+        }
+    }
+}
+
 impl Tables {
     fn closed() -> Tables {
         Tables {
@@ -221,40 +201,22 @@ impl Tables {
 
     /// What a call makes of a text.
     fn make(&mut self, write: Writer, form: Form, text: &str) -> Result<String, Answer> {
-        let mut room: Vec<u8> = Vec::new();
-        let mut wanted = text.len() + text.len() / 2;
-        loop {
-            if room.try_reserve_exact(wanted).is_err() {
-                return Err(Answer {
-                    status: raw::MEMORY,
-                    fault: 0,
-                    code: 0,
-                    place: 0,
-                    length: 0,
-                });
-            }
-            room.resize(wanted, 0);
+        let handle = &mut self.handle;
+        let (made, _) = filled(text.len() + text.len() / 2, |room, length| {
             // SAFETY: the text is readable and the room writable, and they don't overlap.
-            let a = unsafe {
+            unsafe {
                 write(
-                    &mut self.handle,
+                    handle,
                     form.letter(),
                     text.as_ptr(),
                     text.len(),
-                    room.as_mut_ptr(),
-                    room.len(),
+                    room,
+                    length,
                 )
-            };
-            match a.status {
-                raw::DONE => {
-                    room.truncate(a.length as usize);
-                    // SAFETY: what is written is the UTF-8 of code points; that is proved.
-                    return Ok(unsafe { String::from_utf8_unchecked(room) });
-                }
-                raw::NO_ROOM => wanted = a.length as usize,
-                _ => return Err(a),
             }
-        }
+        })?;
+        // SAFETY: what is written is the UTF-8 of code points; that is proved.
+        Ok(unsafe { String::from_utf8_unchecked(made) })
     }
 
     /// The key of a text: its stabilized string.
@@ -281,6 +243,40 @@ impl Tables {
     pub fn normalize(&mut self, form: Form, text: &str) -> Result<String, Memory> {
         self.make(raw::npss_normalize, form, text)
             .map_err(|_| Memory)
+    }
+
+    /// The answers to the lines of some bytes, each with the byte that ends it: `=` and the key of the line, or `!`
+    /// and why it has none, as `docs/FORMATS.md` tells. A last line without that byte is a line.
+    ///
+    /// # Errors
+    ///
+    /// `Memory` where memory ran out.
+    ///
+    /// ```
+    /// # use npss::{Form, LineEnd, Tables};
+    /// let mut tables = Tables::open(b"0041;X;Lu;0;L;;;;;N;;;;;\n", b"")?;
+    /// let answers = tables.answers(Form::Nfc, LineEnd::Lf, b"A\nB\n")?;
+    /// assert_eq!(answers.bytes, b"=A\n!unassigned 0042 at byte 0\n");
+    /// assert!(answers.any_refused);
+    /// # Ok::<(), Box<dyn std::error::Error>>(())
+    /// ```
+    pub fn answers(&mut self, form: Form, end: LineEnd, lines: &[u8]) -> Result<Answers, Memory> {
+        let handle = &mut self.handle;
+        let asked = raw::Asked {
+            form: form.letter(),
+            end: end.byte(),
+        };
+        let made = filled(lines.len() + lines.len() / 2, |room, length| {
+            // SAFETY: the lines are readable and the room writable, and they don't overlap.
+            unsafe { raw::npss_answers(handle, &asked, lines.as_ptr(), lines.len(), room, length) }
+        });
+        match made {
+            Ok((bytes, a)) => Ok(Answers {
+                bytes,
+                any_refused: a.fault != 0,
+            }),
+            Err(_) => Err(Memory),
+        }
     }
 
     /// Whether a text is its own normal form.

@@ -21,6 +21,14 @@ pub struct Handle {
     pub held: *mut c_void,
 }
 
+/// What is asked of each line.
+#[repr(C)]
+#[derive(Clone, Copy, Debug)]
+pub struct Asked {
+    pub form: u8,
+    pub end: u8,
+}
+
 pub const DONE: u32 = 0;
 pub const UNASSIGNED: u32 = 1;
 pub const NO_ROOM: u32 = 3;
@@ -51,6 +59,14 @@ extern "C" {
     pub fn npss_normalize(
         handle: *mut Handle,
         form: u8,
+        text: *const u8,
+        text_length: usize,
+        room: *mut u8,
+        room_length: usize,
+    ) -> Answer;
+    pub fn npss_answers(
+        handle: *mut Handle,
+        asked: *const Asked,
         text: *const u8,
         text_length: usize,
         room: *mut u8,

@@ -1,6 +1,6 @@
 //! The calls over the fixtures of the repository.
 
-use npss::{Break, BreakKind, File, Form, KeyError, OpenError, Tables};
+use npss::{Break, BreakKind, File, Form, KeyError, LineEnd, OpenError, Tables};
 use std::thread;
 
 const FOLDER: &str = concat!(env!("CARGO_MANIFEST_DIR"), "/../../fixtures/");
@@ -49,6 +49,37 @@ fn unassigned_code_points_are_told() {
         v1.normalize(Form::Nfc, "\u{16d67}").as_deref(),
         Ok("\u{16d67}")
     );
+}
+
+#[test]
+fn lines_are_answered() {
+    let mut v1 = version("v1");
+    for (form, end, lines, answers, any_refused) in [
+        (Form::Nfc, LineEnd::Lf, "", "", false),
+        (
+            Form::Nfc,
+            LineEnd::Lf,
+            "a\u{302}\u{323}\n\nA",
+            "=\u{1ead}\n=\n=A\n",
+            false,
+        ),
+        (
+            Form::Nfkc,
+            LineEnd::Lf,
+            "\u{fb01}\nA\u{16d67}\n",
+            "=fi\n!unassigned 16D67 at byte 1\n",
+            true,
+        ),
+        (Form::Nfc, LineEnd::Nul, "a\0A", "=a\0=A\0", false),
+    ] {
+        let made = v1.answers(form, end, lines.as_bytes()).unwrap();
+        assert_eq!(made.bytes, answers.as_bytes());
+        assert_eq!(made.any_refused, any_refused);
+    }
+    let many = v1
+        .answers(Form::Nfc, LineEnd::Lf, &b"a\n".repeat(100_000))
+        .unwrap();
+    assert_eq!(many.bytes, b"=a\n".repeat(100_000));
 }
 
 #[test]

@@ -1,10 +1,12 @@
 //! Keys of the lines of whole inputs on worked examples, over devices that give and take in pieces and fail.
-use np_code_points::Form;
 use np_code_points::devices::{Failure, Room, Trickle};
 use np_code_points::told::want_told;
 use np_code_points::watched::Watched;
-use np_examples_shared::{Example, FAILURES, Files, LETTERS, Made, V1, holds_over_each, want};
-use np_lines::{LineEnd, LinesFault, Wanted, answer_lines};
+use np_code_points::{Form, Memory};
+use np_examples_shared::{
+    Example, FAILURES, Files, LETTERS, Made, V1, again, holds_over_each, want,
+};
+use np_lines::{LineEnd, LinesFault, Wanted, answer_bytes, answer_lines};
 use np_tables::NormTable;
 use std::alloc::Global;
 use std::test::Fail;
@@ -257,10 +259,26 @@ fn refused<T: NormTable>(alloc: Global, table: &T) -> Result<(), Fail> {
     want(answer? && room.bytes() == answers, "the run")
 }
 
+/// The answers to all lines of bytes that are in memory; where memory ran out, again.
+fn answered_at_once<T: NormTable>(alloc: Global, table: &T, row: &Row) -> Result<(), Fail> {
+    let (wanted, what, input, answers, refused) = row;
+    let made = again(&Memory, &|| answer_bytes(alloc, table, *wanted, input))?;
+    want(made.any_refused == *refused, what)?;
+    want(made.bytes.as_slice() == answers.as_bytes(), what)
+}
+
+fn rows_at_once<T: NormTable>(alloc: Global, table: &T, rows: &[Row]) -> Result<(), Fail> {
+    for row in rows {
+        answered_at_once(alloc, table, row)?;
+    }
+    Ok(())
+}
+
 /// What runs over lines show.
 #[derive(Clone, Copy)]
 enum Shown {
     Rows(&'static [Row]),
+    AtOnce(&'static [Row]),
     Long,
     FailedReads(Failure),
     FailedWrites(Failure),
@@ -271,6 +289,7 @@ impl Example for Shown {
     fn holds<T: Made>(&self, alloc: Global, table: &T) -> Result<(), Fail> {
         match self {
             Shown::Rows(rows) => wants_rows(alloc, table, rows),
+            Shown::AtOnce(rows) => rows_at_once(alloc, table, rows),
             Shown::Long => long_lines(alloc, table),
             Shown::FailedReads(failure) => failed_reads(alloc, table, *failure),
             Shown::FailedWrites(failure) => failed_writes(alloc, table, *failure),
@@ -308,4 +327,12 @@ fn failed_devices_are_told_behind_whole_lines(rt: HostRuntime) -> Result<(), Fai
 #[test]
 fn a_refused_answer_lines_succeeds_after_all(rt: HostRuntime) -> Result<(), Fail> {
     holds_over_each(rt.alloc(), V1, &Shown::Refused)
+}
+
+#[test]
+fn a_refused_answer_bytes_succeeds_after_all(rt: HostRuntime) -> Result<(), Fail> {
+    let alloc = rt.alloc();
+    holds_over_each(alloc, V1, &Shown::AtOnce(&ROWS))?;
+    holds_over_each(alloc, MAPS_TO_LF, &Shown::AtOnce(&LF_ROWS))?;
+    holds_over_each(alloc, LETTERS, &Shown::AtOnce(&LETTER_ROWS))
 }

@@ -1,0 +1,79 @@
+//! What calls take and answer.
+
+/// A normalization form.
+#[derive(Clone, Copy, Debug, PartialEq, Eq)]
+pub enum Form {
+    /// Canonical decomposition.
+    Nfd,
+    /// Canonical decomposition, then canonical composition.
+    Nfc,
+    /// Compatibility decomposition.
+    Nfkd,
+    /// Compatibility decomposition, then canonical composition.
+    Nfkc,
+}
+
+impl Form {
+    pub(crate) fn letter(self) -> u8 {
+        match self {
+            Form::Nfd => b'D',
+            Form::Nfc => b'C',
+            Form::Nfkd => b'd',
+            Form::Nfkc => b'c',
+        }
+    }
+}
+
+/// What ends a line, and its answer.
+#[derive(Clone, Copy, Debug, PartialEq, Eq)]
+pub enum LineEnd {
+    /// LF. A CR before it is part of the line.
+    Lf,
+    /// NUL.
+    Nul,
+}
+
+impl LineEnd {
+    pub(crate) fn byte(self) -> u8 {
+        match self {
+            LineEnd::Lf => b'\n',
+            LineEnd::Nul => 0,
+        }
+    }
+}
+
+/// The answers to the lines of some bytes.
+#[derive(Clone, Debug, PartialEq, Eq)]
+pub struct Answers {
+    /// The answers in the order of the lines, each with the byte that ends it.
+    pub bytes: Vec<u8>,
+    /// Whether a line was refused.
+    pub any_refused: bool,
+}
+
+/// A kind of break. A code point that has several is told with the first in this order.
+#[derive(Clone, Copy, Debug, PartialEq, Eq)]
+#[non_exhaustive]
+pub enum BreakKind {
+    /// Assigned in the older version, not in the newer one.
+    Lost,
+    /// Assigned in both, with unlike combining classes.
+    ClassChanged,
+    /// Assigned in both, with unlike mappings.
+    MappingChanged,
+    /// A primary composite of the older version, not of the newer one.
+    NowExcluded,
+    /// A primary composite of the newer version alone, assigned in both, of parts that the older one assigns.
+    NowIncluded,
+    /// A primary composite of the newer version that the older one does not assign, of parts that it does.
+    NewComposite,
+}
+
+/// What a newer version breaks of an older one, at a code point.
+#[derive(Clone, Copy, Debug, PartialEq, Eq)]
+pub struct Break {
+    /// The kind of break.
+    pub kind: BreakKind,
+    /// The code point.
+    pub code: u32,
+}
