@@ -104,7 +104,7 @@ class Reader:
 def refusal(string, key, version):
     """Why an entry is refused for itself, or None."""
     if len(string) > LONGEST:
-        return "too long"
+        return "too long: more than 65,536 bytes"
     try:
         text = string.decode()
     except UnicodeDecodeError as fault:

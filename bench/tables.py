@@ -1,0 +1,48 @@
+"""What a run of bench/run printed, read again: the rows of the chart and of the README's table of speed."""
+
+import re
+from pathlib import Path
+
+RESULTS = Path(__file__).resolve().parent / "results"
+PEERS = ("npss", "icu", "crate")
+# The corpora that are shown, and what a reader calls each.
+SHOWN = {
+    "ascii": "ASCII",
+    "latin": "Latin, composed",
+    "latin-decomposed": "Latin, decomposed",
+    "korean": "Korean",
+    "korean-decomposed": "Korean, decomposed",
+    "japanese": "Japanese",
+    "non-starters": "Hebrew, Arabic, Indic, Thai",
+    "tests": "strings of NormalizationTest.txt",
+}
+ROW = re.compile(r"^\| (?P<corpus>[\w-]+) (?P<form>nfc|nfd) \| (?P<size>[\d.]+) \| (?P<took>[^|]*) \|", re.MULTILINE)
+
+
+def last_run():
+    """The file of the last run that was kept, or None."""
+    return max(RESULTS.glob("*.md"), default=None)
+
+
+def times(table):
+    """For each corpus and form the milliseconds of those that did it, by name."""
+    return {(match["corpus"], match["form"]): {name: float(took) for name, took in re.findall(r"(\w+) ([\d.]+)", match["took"])}
+            for match in ROW.finditer(table)}
+
+
+def size_of(table):
+    """The MiB of a corpus, or None where the run had none of those that are shown."""
+    return max((float(match["size"]) for match in ROW.finditer(table) if match["corpus"] in SHOWN), default=None)
+
+
+def cells(took):
+    """The milliseconds of npss, and how many times that its fastest peer takes."""
+    peers = [time for name, time in took.items() if name != "npss"]
+    return f"{took['npss']:.0f} ms | {min(peers) / took['npss']:.1f}" if peers and "npss" in took else "- | -"
+
+
+def readme_rows(table):
+    """The rows of the README's table of speed."""
+    took = times(table)
+    return [f"| {name} | {cells(took[corpus, 'nfc'])} | {cells(took[corpus, 'nfd'])} |"
+            for corpus, name in SHOWN.items() if (corpus, "nfc") in took and (corpus, "nfd") in took]
