@@ -9,6 +9,8 @@ mod code_points;
 #[cfg(test)]
 mod common;
 #[cfg(test)]
+mod error_texts;
+#[cfg(test)]
 mod forms;
 #[cfg(test)]
 mod jobs;
