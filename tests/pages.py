@@ -18,6 +18,7 @@ PAGES = {
     "docs/DECISIONS.md": (None, None),
     "docs/PROMISES.md": (None, None),
     "docs/NODES.md": (None, None),
+    "docs/BULK.md": (None, None),
     "docs/DOORS.md": (None, None),
     "docs/STANDARD.md": (None, None),
     "docs/FORMATS.md": (None, None),
