@@ -44,6 +44,11 @@ module _ (old new : VersionData) where
       let same : n + 1 ≡ suc n = omega arith in
       ap (breaks_below old new) same ∙ below-suc n ∙ ap (λ o. breaks_below old new n ++ break_list o n) some
 
+  pub nil_below : ((c : ℕ) → break_of old new c ≡ None) → (n : ℕ) → breaks_below old new n ≡ []
+  nil_below none zero = sym below-zero
+  nil_below none (suc n) =
+      below-suc n ∙ ap (λ o. breaks_below old new n ++ break_list o n) (none n) ∙ append-nil (breaks_below old new n) ∙ nil_below none n
+
   record AreBelow (n : ℕ) (breaks : List Break) : Type 0 where
     each : All (λ b. break_of old new b.code ≡ Some b.kind) breaks
     below : All (λ b. b.code < n) breaks

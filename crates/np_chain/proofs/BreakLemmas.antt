@@ -196,8 +196,22 @@ module _ (old new : VersionData) where
         new = λ h parts. primary-test old c (ext.new_composites c (primary-from new c h) parts);
       })
 
+  -- a code point that both versions have alike, as a primary composite or not in both
+  pub none_where_same : (c : ℕ) → is_assigned old c ≡ true → is_assigned new c ≡ true → class_of new c ≡ class_of old c → maps_alike old new c ≡ true → is_primary old c ≡ is_primary new c
+      → break_of old new c ≡ None
+  none_where_same c in_old in_new class alike same =
+      break_of-by old new c
+      ∙ none_from _ _ _ _ _ _ _ (test-assigned old c)
+      (record {
+        stays = λ _. in_new;
+        class = λ _. eq-eqb _ _ class;
+        maps = λ _. alike;
+        old = λ h. sym same ∙ h;
+        new = λ h _. same ∙ h;
+      })
+
   -- a break is at a code point that one of the versions assigns
-  unassigned-none : (c : ℕ) → is_assigned old c ≡ false → is_assigned new c ≡ false → break_of old new c ≡ None
+  pub unassigned-none : (c : ℕ) → is_assigned old c ≡ false → is_assigned new c ≡ false → break_of old new c ≡ None
   unassigned-none c in_old in_new =
       break_of-by old new c
       ∙ none_from _ _ _ _ _ _ _ (test-assigned old c)

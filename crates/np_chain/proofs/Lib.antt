@@ -5,6 +5,7 @@ pub mod BreakLemmas
 pub mod ChainLemmas
 pub mod CodePointLemmas
 pub mod ExampleLemmas
+pub mod KeptRowLemmas
 pub mod KindLemmas
 pub mod StabilityLemmas
 pub mod SyllableLemmas

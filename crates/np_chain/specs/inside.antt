@@ -1,2 +1,3 @@
 pub mod BreakLists
 pub mod BreakTests
+pub mod KeptRows

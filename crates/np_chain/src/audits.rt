@@ -10,6 +10,7 @@ ghost use Rattle.np_tables.specs.Versions.{class_of, has_hangul, is_assigned};
 ghost use Rattle.std.specs.List.{list_all};
 
 use crate::breaks::{Break, BreakKind};
+use crate::kept_rows::is_kept_by_rows;
 use np_code_points::Memory;
 use np_code_points::codes::CODE_POINTS;
 use np_code_points::hangul::is_syllable;
@@ -119,7 +120,7 @@ fn break_of_kept(old: &Version, new: &Version, code: u32) -> Option<BreakKind>
 }
 
 /// The break of a code point, if it has one.
-fn break_at(old: &Version, new: &Version, code: u32) -> Option<BreakKind>
+pub(crate) fn break_at(old: &Version, new: &Version, code: u32) -> Option<BreakKind>
     ensures { result ≡ break_of old.now new.now code }
 {
     if old.assigned_code(code) {
@@ -144,6 +145,9 @@ pub fn audit(alloc: Global, old: &Version, new: &Version) -> Result<Vec<Break>, 
     old.meets_conditions();
     new.meets_conditions();
     let mut breaks = Vec::new(alloc);
+    if is_kept_by_rows(old, new) {
+        return Ok(breaks);
+    }
     for code in 0..CODE_POINTS {
         if let Some(kind) = break_at(old, new, code) {
             breaks.push(Break { kind, code })?;
@@ -164,6 +168,9 @@ pub fn extends(old: &Version, new: &Version) -> Result<(), Break>
 {
     old.meets_conditions();
     new.meets_conditions();
+    if is_kept_by_rows(old, new) {
+        return Ok(());
+    }
     for code in 0..CODE_POINTS {
         if let Some(kind) = break_at(old, new, code) {
             return Err(Break { kind, code });

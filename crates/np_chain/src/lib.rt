@@ -4,6 +4,7 @@
 mod audits;
 mod breaks;
 mod chains;
+mod kept_rows;
 pub mod laws;
 
 pub use audits::{audit, extends};

@@ -2,7 +2,7 @@
 ghost use Rattle.std.specs.Prelude.{◌≡◌, ℕ, chars, length, encode_utf8_all, IfSome, IfNone};
 ghost use Rattle.np_forms.specs.Assigned.{IsAssigned, IsFirstUnassigned};
 
-use np_tables::NormTable;
+use np_tables::{NormTable, Version};
 
 /// The first code point that is not assigned, with its byte place, from 0; none where each is
 /// assigned. It is called, so that the loop that writes forms, which seldom asks, stays small.
@@ -18,6 +18,24 @@ pub fn first_lacking<T: NormTable>(table: &T, text: &str) -> Option<(usize, char
             return None;
         };
         if !table.assigned(c) {
+            return Some((text.len() - here.len(), c));
+        }
+    }
+}
+
+/// The first code point that a version does not assign, with its byte place, from 0; none where it
+/// assigns each. No table is needed for it.
+pub fn first_absent(version: &Version, text: &str) -> Option<(usize, char)>
+    ensures none { IfNone result (IsAssigned version.now (chars text.now)) }
+    ensures some { IfSome result (λ found. IsFirstUnassigned version.now (chars text.now) found.0 found.1) }
+{
+    let mut iter = text.chars();
+    'scan: loop {
+        let here = iter.as_str();
+        let Some(c) = iter.next() else {
+            return None;
+        };
+        if !version.assigned_code(u32::from(c)) {
             return Some((text.len() - here.len(), c));
         }
     }

@@ -40,7 +40,7 @@ mod syllable_texts;
 mod utf8_bytes;
 mod written;
 
-pub use assigned::{first_lacking, first_unassigned};
+pub use assigned::{first_absent, first_lacking, first_unassigned};
 pub use equivalence::equivalent;
 pub use forms::{form, is_form};
 pub use runs::{LIMIT, RunFault, run};

@@ -1,8 +1,7 @@
 //! The command `key` with `--check-under`: what a machine that lags behind has of a key.
-ghost use Rattle.std.specs.Prelude.{◌≡◌, ◌∷◌, [], false, IfNone, IfOk, IfErr, IfSome, chars, string_bytes};
+ghost use Rattle.std.specs.Prelude.{◌≡◌, ◌∷◌, [], false, IfOk, IfErr, chars, string_bytes};
 ghost use Rattle.np_chain.specs.Extension.{Extends};
 ghost use Rattle.np_code_points.specs.Watched.{has_failed};
-ghost use Rattle.np_forms.specs.Assigned.{IsAssigned, IsFirstUnassigned};
 ghost use Rattle.np_jobs.specs.Chains.{LacksOne, WereBuilt, readers_of};
 ghost use Rattle.np_jobs.specs.Keys.{LacksKey};
 ghost use Rattle.np_jobs.specs.KeysUnder.{IsKeyUnder, KeyUnderEnds, MakesUnder, RefusesPair, RefusesUnder, SaysOwn};
@@ -19,27 +18,10 @@ use crate::versions::{read_table, read_version};
 use np_chain::extends;
 use np_code_points::watched::Watched;
 use np_code_points::{Form, Memory};
+use np_forms::first_absent;
 use np_tables::{NormTable, PageTable, Version};
 use std::alloc::Global;
 use std::io::{Read, Write};
-
-/// The first code point of a text that a version does not assign, with its byte place, from 0; none
-/// where it assigns each.
-fn first_absent(version: &Version, text: &str) -> Option<(usize, char)>
-    ensures none { IfNone result (IsAssigned version.now (chars text.now)) }
-    ensures some { IfSome result (λ found. IsFirstUnassigned version.now (chars text.now) found.0 found.1) }
-{
-    let mut iter = text.chars();
-    'scan: loop {
-        let here = iter.as_str();
-        let Some(c) = iter.next() else {
-            return None;
-        };
-        if !version.assigned_code(u32::from(c)) {
-            return Some((text.len() - here.len(), c));
-        }
-    }
-}
 
 /// What is said of a key that is its own form under a version: which code point of it that version
 /// lacks, if it lacks one.

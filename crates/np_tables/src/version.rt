@@ -1,5 +1,5 @@
 //! Versions of the character tables (UAX #44).
-ghost use Rattle.std.specs.Prelude.{◌≡◌, ◌↔◌, ◌⊎◌, ℕ, IfOk, OnOk, IfErr, IfSome, IfNone, IsTrue};
+ghost use Rattle.std.specs.Prelude.{◌≡◌, ◌↔◌, ◌⊎◌, ℕ, length, option_map, slice_get, IfOk, OnOk, IfErr, IfSome, IfNone, IsTrue};
 ghost use Rattle.np_tables.specs.TableFaults.{IsFaultless, IsLeastFault};
 ghost use Rattle.np_tables.specs.declared.faults.TableFault.TheVariants.{Memory as OutOfMemory};
 ghost use Rattle.np_tables.specs.Composites.{IsCompositeOf, IsPrimary};
@@ -8,7 +8,8 @@ ghost use Rattle.np_tables.specs.inside.Primaries.{is_primary};
 ghost use Rattle.np_tables.specs.Conditions.{IsSound};
 ghost use Rattle.np_tables.specs.inside.Pairs.{AreOfFile};
 ghost use Rattle.np_tables.specs.Counts.{assigned_count};
-ghost use Rattle.np_tables.specs.Versions.{class_of, file_kind, file_mapping, has_hangul, is_assigned, is_excluded};
+ghost use Rattle.np_tables.specs.Versions.{class_of, entry_at, file_kind, file_mapping, has_hangul, is_assigned, is_excluded};
+ghost use Rattle.np_ucd.specs.RowValues.{entry_of};
 
 use crate::characters::CharacterData;
 use crate::counts::assigned_count as count_of;
@@ -16,7 +17,7 @@ use crate::faults::TableFault;
 use crate::first_faults::fault_of;
 use crate::pairs::Pairs;
 use crate::syllables::arithmetic_pair;
-use np_ucd::{Exclusions, MapKind, Rows};
+use np_ucd::{Exclusions, MapKind, Row, Rows};
 use std::alloc::Global;
 use std::marker::Model;
 
@@ -100,6 +101,27 @@ impl Version {
             Some(syllable) => Some(syllable),
             None => self.pairs.find(first, second),
         }
+    }
+
+    /// How many rows the data file has: a code point by itself or a range is one.
+    pub fn row_count(&self) -> usize
+        ensures { result ≡ length self.now.entries }
+    {
+        self.characters.len()
+    }
+
+    /// The row at a place, from 0 in the order of their code points.
+    pub fn row(&self, at: usize) -> Option<&Row>
+        ensures { option_map (λ r. entry_of r.now) result ≡ slice_get self.now.entries at }
+    {
+        self.characters.row(at)
+    }
+
+    /// The row in which a code point lies.
+    pub fn row_at(&self, code: u32) -> Option<&Row>
+        ensures { option_map (λ r. entry_of r.now) result ≡ entry_at self.now.entries code }
+    {
+        self.characters.row_at(code)
     }
 
     /// Whether a code point is assigned: listed, alone or inside a range.

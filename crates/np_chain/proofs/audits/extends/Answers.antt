@@ -1,6 +1,6 @@
 use Rattle.std.proofs.Common.{refl, sym, arith}
 use Rattle.np_chain.proofs.AuditLemmas.{Extends-end, first_is}
-use Rattle.np_chain.proofs.BreakLemmas.{none_from_Extends}
+use Rattle.np_chain.proofs.BreakLemmas.{Extends-from_none, none_from_Extends}
 use Rattle.np_chain.proofs.audits.extends.Goals as goal
 
 pub returns-in-Some-clause-extends : goal.returns-in-Some-clause-extends
@@ -16,3 +16,9 @@ returns-clause-extends c = (
 pub returns-in-Some-clause-first : goal.returns-in-Some-clause-first
 returns-in-Some-clause-first c =
     first_is c.args.old.now c.args.new.now c.loop-code.code c.in-Some.kind c.loop-code.invariant (sym c.in-Some.ensures)
+
+pub returns-then-is_kept_by_rows-clause-extends : goal.returns-then-is_kept_by_rows-clause-extends
+returns-then-is_kept_by_rows-clause-extends c = (
+  λ _. Extends-from_none c.args.old.now c.args.new.now (c.is_kept_by_rows.ensures c.if-is_kept_by_rows.true),
+  λ _. refl,
+)

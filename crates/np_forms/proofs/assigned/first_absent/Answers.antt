@@ -1,22 +1,22 @@
 use Rattle.std.proofs.Common.{◌≡◌, true, false, sym, subst, ◌∙◌}
 use Rattle.std.specs.Str.Iter.{chars_rest}
 use Rattle.np_tables.specs.Versions.{is_assigned}
-use Rattle.np_jobs.proofs.UnderLemmas.{all_passed, one_passed, stopped_at}
-use Rattle.np_jobs.proofs.key_under.first_absent.Goals as goal
+use Rattle.np_forms.proofs.TextLemmas.{IsReadAssigned-next, IsReadAssigned-end, IsReadAssigned-stop}
+use Rattle.np_forms.proofs.assigned.first_absent.Goals as goal
 
 pub returns-in_default-clause-none : goal.returns-in_default-clause-none
-returns-in_default-clause-none c = all_passed c.args.version.now c.args.text.now (chars_rest c.scan.iter) c.scan.invariant c.in_default.ensures.steps.0.0
+returns-in_default-clause-none c = IsReadAssigned-end c.args.version.now c.args.text.now (chars_rest c.scan.iter) c.scan.invariant c.in_default.ensures.steps.0.0
 
 pub returns-then-not-assigned_code-clause-some : goal.returns-then-not-assigned_code-clause-some
 returns-then-not-assigned_code-clause-some c =
     let v = c.args.version.now in
     let here = c.as_str-here.ensures in
     let lacks = subst (λ n. is_assigned v n ≡ false) c.from.ensures (sym c.assigned_code.ensures ∙ c.if-not-assigned_code.true) in
-    let stop = stopped_at v c.args.text.now (chars_rest c.scan.iter) c.in-Some.c (chars_rest c.next.new.self) c.scan.invariant c.in-Some.ensures.steps.0 lacks in
+    let stop = IsReadAssigned-stop v c.args.text.now (chars_rest c.scan.iter) c.in-Some.c (chars_rest c.next.new.self) c.scan.invariant c.in-Some.ensures.steps.0 lacks in
     rw here stop
 
 pub scan-preserved : goal.scan-preserved
 scan-preserved c =
     let v = c.args.version.now in
     let has = subst (λ n. is_assigned v n ≡ true) c.from.ensures (sym c.assigned_code.ensures ∙ c.if-not-assigned_code.false) in
-    one_passed v c.args.text.now (chars_rest c.scan.iter) c.in-Some.c (chars_rest c.next.new.self) c.scan.invariant c.in-Some.ensures.steps.0 has
+    IsReadAssigned-next v c.args.text.now (chars_rest c.scan.iter) c.in-Some.c (chars_rest c.next.new.self) c.scan.invariant c.in-Some.ensures.steps.0 has

@@ -1,0 +1,13 @@
+-- What holds of a row where no code point in it has a break.
+use Rattle.std.specs.Prelude.{◌≡◌, ℕ, false, Some, None, slice_get}
+use Rattle.np_chain.specs.inside.BreakTests.{break_of}
+use Rattle.np_tables.specs.Versions.{VersionData, entry_at, is_assigned}
+use Rattle.np_ucd.specs.Entries.{Entry}
+
+-- no code point in this row of the old version has a break
+abbrev pub IsKept : VersionData → VersionData → ℕ → Type 0
+IsKept old new at = (c : ℕ) (e : Entry) → slice_get old.entries at ≡ Some e → entry_at old.entries c ≡ Some e → break_of old new c ≡ None
+
+-- no code point in this row of the new version, which the old one lacks, has a break
+abbrev pub AddsNone : VersionData → VersionData → ℕ → Type 0
+AddsNone old new at = (c : ℕ) (e : Entry) → slice_get new.entries at ≡ Some e → entry_at new.entries c ≡ Some e → is_assigned old c ≡ false → break_of old new c ≡ None
