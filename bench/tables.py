@@ -20,8 +20,9 @@ ROW = re.compile(r"^\| (?P<corpus>[\w-]+) (?P<form>nfc|nfd) \| (?P<size>[\d.]+) 
 
 
 def last_run():
-    """The file of the last run that was kept, or None."""
-    return max(RESULTS.glob("*.md"), default=None)
+    """The file of the last run that has all that is shown, or None."""
+    whole = (path for path in RESULTS.glob("*.md") if len(readme_rows(path.read_text(encoding="utf-8"))) == len(SHOWN))
+    return max(whole, default=None)
 
 
 def times(table):
