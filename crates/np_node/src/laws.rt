@@ -13,8 +13,8 @@ pub fn messages()
     ensures some { SpellsOrHasFault IsMessage IsMessageFault }
 {}
 
-/// The same of images, over both layouts: bytes spell one image and have no fault place, or they
-/// spell none and have one, and no spelling of either layout is a proper prefix of another.
+/// Over both layouts bytes spell one image and have no fault place, or they spell none and have one.
+/// No spelling of either layout is a proper prefix of another.
 pub fn images()
     ensures one { SpellsOne IsImage }
     ensures fault { HasOneFault IsImage IsImageFault }

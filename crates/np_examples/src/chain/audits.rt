@@ -42,7 +42,7 @@ fn wants_after(
     wants_breaks(alloc, old, &new, breaks, "the breaks behind it")
 }
 
-/// The same, from the version of the two files.
+/// Fails unless a version breaks so much of that of the two files.
 fn wants_before(
     alloc: Global,
     files: Files<'_>,
