@@ -88,7 +88,7 @@ fn faults_of_versions_are_told(rt: HostRuntime) -> Result<(), Fail> {
 }
 
 /// Why a text is not answered, or a schedule not replayed.
-const TEXTS: [(TextFault, &str); 3] = [
+const TEXTS: [(TextFault, &str); 6] = [
     (
         TextFault::Input {
             fault: InputFault::TooLarge,
@@ -101,7 +101,22 @@ const TEXTS: [(TextFault, &str); 3] = [
         },
         "input: read failed",
     ),
+    (
+        TextFault::NotUtf8 { at: 16777215 },
+        "input: not UTF-8 at byte 16777215",
+    ),
     (TextFault::TwoLinesWanted, "input: two lines wanted"),
+    (
+        TextFault::FirstUnassigned {
+            at: 1,
+            code: '\u{16D67}',
+        },
+        "first: unassigned 16D67 at byte 1",
+    ),
+    (
+        TextFault::SecondUnassigned { at: 0, code: '\n' },
+        "second: unassigned 000A at byte 0",
+    ),
 ];
 
 const REPLAYS: [(ReplayFault, &str); 3] = [
@@ -122,7 +137,7 @@ fn faults_of_texts_and_schedules_are_told(rt: HostRuntime) -> Result<(), Fail> {
 }
 
 /// Why a job is refused: each kind in the words of the fault that it holds.
-const JOBS: [(JobFault, &str); 5] = [
+const JOBS: [(JobFault, &str); 6] = [
     (
         JobFault::Version {
             fault: VersionFault::Data {
@@ -143,6 +158,16 @@ const JOBS: [(JobFault, &str); 5] = [
             fault: ReplayFault::Line { line: 1 },
         },
         "schedule: line 1",
+    ),
+    (
+        JobFault::NotExtension {
+            version: 12,
+            brk: Break {
+                kind: BreakKind::NewComposite,
+                code: 0xC1,
+            },
+        },
+        "not an extension: version 12 NewComposite 00C1",
     ),
     (JobFault::WriteFailed, "output: write failed"),
     (JobFault::Memory, "out of memory"),
