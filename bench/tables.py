@@ -16,7 +16,8 @@ SHOWN = {
     "non-starters": "Hebrew, Arabic, Indic, Thai",
     "tests": "strings of NormalizationTest.txt",
 }
-ROW = re.compile(r"^\| (?P<corpus>[\w-]+) (?P<form>nfc|nfd) \| (?P<size>[\d.]+) \| (?P<took>[^|]*) \|", re.MULTILINE)
+ROW = re.compile(r"^\| (?P<corpus>[\w-]+) (?P<form>nfc|nfd) \| (?P<size>[\d.]+) \| (?P<took>[^|]*) \| [^|]* \| (?P<beside>[\d.]+) \|",
+                 re.MULTILINE)
 
 
 def last_run():
@@ -36,14 +37,9 @@ def size_of(table):
     return max((float(match["size"]) for match in ROW.finditer(table) if match["corpus"] in SHOWN), default=None)
 
 
-def cells(took):
-    """The milliseconds of npss, and how many times that its fastest peer takes."""
-    peers = [time for name, time in took.items() if name != "npss"]
-    return f"{took['npss']:.0f} ms | {min(peers) / took['npss']:.1f}" if peers and "npss" in took else "- | -"
-
-
 def readme_rows(table):
-    """The rows of the README's table of speed."""
+    """The rows of the README's table of speed: milliseconds of npss, and how many times that its fastest peer takes."""
     took = times(table)
-    return [f"| {name} | {cells(took[corpus, 'nfc'])} | {cells(took[corpus, 'nfd'])} |"
+    beside = {(match["corpus"], match["form"]): float(match["beside"]) for match in ROW.finditer(table)}
+    return [" ".join([f"| {name} |", *(f"{took[corpus, form]['npss']:.0f} ms | {beside[corpus, form]:.1f} |" for form in ("nfc", "nfd"))])
             for corpus, name in SHOWN.items() if (corpus, "nfc") in took and (corpus, "nfd") in took]
