@@ -21,7 +21,7 @@ pub fn images()
     ensures some { SpellsOrHasFault IsImage IsImageFault }
 {}
 
-/// A string that is assigned in two versions of a chain has one key under both, so what `accept`
+/// A string that is assigned in two versions of a chain has one key under both. So what `accept`
 /// gave under one of them is taken fairly under each: never with `KeyDiffers`, and with
 /// `Unassigned` only where the receiver's version lacks a code point.
 pub fn exchange()
