@@ -57,7 +57,9 @@ enum npss_status {
     /* A file has more than 16,777,216 bytes: the data file where `fault` is 1, the exclusions where it is 2. */
     NPSS_TOO_LARGE = 10,
     /* Of a question: no. Of npss_extends, `fault` is an `npss_break`, and `code` the code point that has it. */
-    NPSS_DIFFERENT = 11
+    NPSS_DIFFERENT = 11,
+    /* The byte that is to end lines is neither 10 nor 0. */
+    NPSS_NO_END = 12
 };
 
 /* Faults of a file; docs/FORMATS.md tells when each comes. */
@@ -99,7 +101,8 @@ enum npss_form { NPSS_NFD = 'D', NPSS_NFC = 'C', NPSS_NFKD = 'd', NPSS_NFKC = 'c
 /* How a call ended. What a status has no use for is 0. */
 typedef struct npss_answer {
     uint32_t status; /* an npss_status */
-    uint32_t fault;  /* the number of a fault or a break, or which of two files or texts is meant, from 1 */
+    uint32_t fault;  /* the number of a fault or a break, which of two files or texts is meant, from 1, or 1 where a line
+                      * was refused */
     uint32_t code;   /* a code point */
     uint64_t place;  /* a byte place from 0, or a line from 1 */
     uint64_t length; /* bytes that were written or have no room, or code points that are assigned */
@@ -110,6 +113,12 @@ typedef struct npss_handle {
     uint8_t is_open; /* 1 or 0; to be read alone */
     void *held;      /* none of the caller's */
 } npss_handle;
+
+/* What npss_answers is asked of each line. */
+typedef struct npss_asked {
+    uint8_t form; /* an npss_form: that of the keys */
+    uint8_t end;  /* the byte that ends lines and answers: 10 or 0 */
+} npss_asked;
 
 /* Closes the handle, and opens it on the version that the bytes of UnicodeData.txt and CompositionExclusions.txt
  * make. Where they make none it stays closed. Takes some 10 ms and 6 MB for the published files.
@@ -130,6 +139,14 @@ npss_answer npss_key(npss_handle *handle, uint8_t form, const uint8_t *text, siz
  * DONE, NOT_UTF8, NO_ROOM, MEMORY, CLOSED, NO_FORM. */
 npss_answer npss_normalize(npss_handle *handle, uint8_t form, const uint8_t *text, size_t text_length,
                            uint8_t *room, size_t room_length);
+
+/* Writes the answers to the lines of a text to the front of the room, each with the byte that ends it: `=` and the key
+ * of the line, or `!` and why it has none, as docs/FORMATS.md tells. A last line without that byte is a line; an empty
+ * text has none. The text needn't be UTF-8. `fault` is 1 where a line was refused, else 0; `length` tells how many bytes
+ * the answers have. Takes the memory of the answers once more.
+ * DONE, NO_ROOM, MEMORY, CLOSED, NO_FORM, NO_END. */
+npss_answer npss_answers(npss_handle *handle, const npss_asked *asked, const uint8_t *text, size_t text_length,
+                         uint8_t *room, size_t room_length);
 
 /* Whether a text is its own normal form. DONE (it is), DIFFERENT, NOT_UTF8, MEMORY, CLOSED, NO_FORM. */
 npss_answer npss_is_form(npss_handle *handle, uint8_t form, const uint8_t *text, size_t text_length);

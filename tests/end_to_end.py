@@ -22,6 +22,7 @@ sys.dont_write_bytecode = True
 
 from cases import DEVICE, USAGE, WRONG_WORDS, all_cases, text
 from harness import ROOT, Tally, built_program, run, shown
+from large import check_large
 from launching import check_building
 from limits import check_memory, check_usage
 from replays import replay, replay_cases, schedules
@@ -124,6 +125,7 @@ def main():
         check_words(tally, program, folder)
         check_vanishing(tally, program, folder)
         check_memory(tally, program, folder)
+        check_large(tally, program, folder)
         if len(sys.argv) > 2:
             check_launcher(tally, Path(sys.argv[2]).resolve(), folder)
             check_building(tally, Path(sys.argv[2]).resolve(), Path(name))

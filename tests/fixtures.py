@@ -128,6 +128,24 @@ def check_manual(tally, usage):
         tally.check(f"docs/npss.1: {limit}", limit in manual and (limit in formats or limit == "4,294,967,295"), "it is not there")
 
 
+def check_lines_manual(tally):
+    """docs/FORMATS.md has the usage text of the stored run of npss_lines, and its manual page has that, the answers and
+    the statuses."""
+    manual = plain((ROOT / "docs" / "npss_lines.1").read_text(encoding="utf-8"))
+    formats = (ROOT / "docs" / "FORMATS.md").read_text(encoding="utf-8")
+    usage = (ROOT / "crates" / "npss_lines" / "stdout").read_text(encoding="utf-8")
+    tally.check("docs/FORMATS.md has the usage text of npss_lines", f"\n```\n{usage}```\n" in formats, "it has not")
+    words = usage.removeprefix("usage:").strip()
+    tally.check(f"docs/npss_lines.1 has: {words}", f"\n{words}\n" in manual, "it has not")
+    section = formats.partition("## Answers to lines")[2].partition("\n## ")[0]
+    for answer in re.findall(r"^\| `(![^`]+)` \|", section, re.MULTILINE):
+        told = all(word in manual for word in re.findall(r"[!A-Za-z0-9-]{2,}", answer))
+        tally.check(f"docs/npss_lines.1: {answer}", told, "it is not there")
+    for numbers in re.findall(r"^\| ([\d, ]+) \|", section, re.MULTILINE):
+        for number in numbers.split(", "):
+            tally.check(f"docs/npss_lines.1: status {number}", f"\n{number}\n" in manual, "it is not there")
+
+
 def main():
     tally = Tally()
     check_model(tally)
@@ -141,6 +159,7 @@ def main():
                 f"\n```\n{usage}```\n" in (ROOT / "docs" / "FORMATS.md").read_text(encoding="utf-8"))
     tally.check("there are fixtures", got, "fixtures/ has no file")
     check_manual(tally, usage)
+    check_lines_manual(tally)
     forged_images.check(tally)
     check_example(tally)
     tally.finish()

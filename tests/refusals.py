@@ -244,18 +244,26 @@ def is_test_end(name, got):
     return status in (0, FAILED, -signal.SIGABRT)
 
 
+def built_shim(folder):
+    """What refuses, compiled into the folder; None where there is no C compiler."""
+    compiler = shutil.which("cc") or shutil.which("gcc")
+    if compiler is None:
+        return None
+    shim = folder / "refuse.so"
+    subprocess.run([compiler, "-O2", "-shared", "-fPIC", "-o", shim, ROOT / "tests/refusals/refuse.c"], check=True)
+    return shim
+
+
 def main():
     tally = Tally()
-    compiler = shutil.which("cc") or shutil.which("gcc")
     with tempfile.TemporaryDirectory() as name:
         folder = Path(name) / "files"
         shutil.copytree(FIXTURES, folder)
         write_all(folder)
-        shim = Path(name) / "refuse.so"
-        if not compiler:
+        shim = built_shim(Path(name))
+        if shim is None:
             print("skipped: refused allocations, reads and writes: there is no C compiler")
             tally.finish()
-        subprocess.run([compiler, "-O2", "-shared", "-fPIC", "-o", shim, ROOT / "tests/refusals/refuse.c"], check=True)
         refusals = Refusals(shim, folder)
         program = Path(sys.argv[1]).resolve()
         refused = dict.fromkeys(COMMANDS, 0)

@@ -24,6 +24,8 @@ static void check_closed(void) {
     uint8_t room[8];
     CHECK("key of a closed handle", is(npss_key(&closed, NPSS_NFC, TEXT("a"), room, 8), NPSS_CLOSED, 0, 0, 0, 0));
     CHECK("form of a closed handle", npss_normalize(&closed, NPSS_NFC, TEXT("a"), room, 8).status == NPSS_CLOSED);
+    const npss_asked lines = {NPSS_NFC, '\n'};
+    CHECK("lines to a closed handle", is(npss_answers(&closed, &lines, TEXT("a"), room, 8), NPSS_CLOSED, 0, 0, 0, 0));
     CHECK("question to a closed handle", npss_is_form(&closed, 'x', TEXT("a")).status == NPSS_CLOSED);
     CHECK("two texts to a closed handle", npss_equivalent(&closed, false, TEXT("a"), TEXT("a")).status == NPSS_CLOSED);
     CHECK("two closed handles", npss_extends(&closed, &other).status == NPSS_CLOSED);
@@ -112,6 +114,55 @@ static void check_texts(npss_handle *h) {
     CHECK("no text", is(npss_is_form(h, NPSS_NFC, TEXT("\x80")), NPSS_NOT_UTF8, 0, 0, 0, 0));
 }
 
+/* The answers to lines, which the room holds to the byte; each shorter room has none of them. */
+static void check_lines(npss_handle *h, char form, char end, const char *text, size_t length, const char *made,
+                        size_t made_length, uint32_t refused) {
+    const npss_asked asked = {(uint8_t)form, (uint8_t)end};
+    uint8_t room[128];
+    for (size_t size = 0; size <= made_length; size++) {
+        memset(room, '.', sizeof room);
+        npss_answer a = npss_answers(h, &asked, (const uint8_t *)text, length, room, size);
+        if (size < made_length) {
+            CHECK("no room for the answers",
+                  is(a, NPSS_NO_ROOM, refused, 0, 0, made_length) && room[0] == '.' && room[made_length] == '.');
+        } else {
+            CHECK(made, is(a, NPSS_DONE, refused, 0, 0, made_length) && !memcmp(room, made, made_length) &&
+                            room[made_length] == '.');
+        }
+    }
+}
+
+#define LINES(h, form, end, text, made, refused)                                                                       \
+    check_lines(h, form, end, text, sizeof(text) - 1, made, sizeof(made) - 1, refused)
+
+static void check_answers(npss_handle *h) {
+    uint8_t room[8] = "........";
+    LINES(h, NPSS_NFC, '\n', "", "", 0);
+    LINES(h, NPSS_NFC, '\n', "\n", "=\n", 0);
+    LINES(h, NPSS_NFC, '\n', "a\n" MARKED, "=a\n=" MARKED_NFC "\n", 0);
+    LINES(h, NPSS_NFD, '\n', MARKED "\n\n", "=" MARKED_NFD "\n=\n", 0);
+    LINES(h, NPSS_NFKC, '\n', LIGATURE "\nA" LATER "\nA", "=fi\n!unassigned 16D67 at byte 1\n=A\n", 1);
+    LINES(h, NPSS_NFC, '\n', "A\nAi\xff", "=A\n!not UTF-8 at byte 2\n", 1);
+    LINES(h, NPSS_NFC, '\n', "a\0A", "!unassigned 0000 at byte 1\n", 1);
+    LINES(h, NPSS_NFC, '\0', "a\0" MARKED "\0", "=a\0=" MARKED_NFC "\0", 0);
+    const npss_asked other_form = {'x', 'x'}, other_end = {NPSS_NFC, ';'}, lines = {NPSS_NFC, '\n'};
+    CHECK("no form of lines", is(npss_answers(h, &other_form, TEXT("a"), room, 8), NPSS_NO_FORM, 0, 0, 0, 0));
+    CHECK("no end of lines", is(npss_answers(h, &other_end, TEXT("a"), room, 8), NPSS_NO_END, 0, 0, 0, 0));
+    CHECK("the room of no lines is as it was", !memcmp(room, "........", 8));
+    const size_t count = 1000000;
+    uint8_t *text = malloc(2 * count), *many = malloc(3 * count);
+    for (size_t i = 0; i < count; i++) memcpy(text + 2 * i, "a\n", 2);
+    npss_answer a = npss_answers(h, &lines, text, 2 * count, many, 3 * count);
+    CHECK("a million lines", is(a, NPSS_DONE, 0, 0, 0, 3 * count) && !memcmp(many + 3 * count - 3, "=a\n", 3));
+    memset(text, 'a', 65537);
+    a = npss_answers(h, &lines, text, 65537, many, 3 * count);
+    CHECK("a line of a byte too many", is(a, NPSS_DONE, 1, 0, 0, 10) && !memcmp(many, "!too long\n", 10));
+    a = npss_answers(h, &lines, text, 65536, many, 3 * count);
+    CHECK("a line as long as may be", is(a, NPSS_DONE, 0, 0, 0, 65538) && !memcmp(many, "=aaa", 4));
+    free(text);
+    free(many);
+}
+
 static void check_questions(npss_handle *h) {
     CHECK("equivalent", is(npss_equivalent(h, false, TEXT(MARKED), TEXT(MARKED_NFC)), NPSS_DONE, 0, 0, 0, 0));
     CHECK("different", is(npss_equivalent(h, false, TEXT(LIGATURE), TEXT("fi")), NPSS_DIFFERENT, 0, 0, 0, 0));
@@ -122,13 +173,13 @@ static void check_questions(npss_handle *h) {
     CHECK("the second is no text", is(npss_equivalent(h, false, TEXT("a"), TEXT("\xff")), NPSS_NOT_UTF8, 2, 0, 0, 0));
 }
 
-/* A text of 16 MiB. */
+/* A text of 40 MB. */
 static void check_large(npss_handle *h) {
-    const size_t times = 16777216 / 5, length = 5 * times;
+    const size_t times = 8000000, length = 5 * times;
     uint8_t *text = malloc(length), *room = malloc(length);
     for (size_t i = 0; i < times; i++) memcpy(text + 5 * i, MARKED, 5);
     npss_answer a = npss_key(h, NPSS_NFC, text, length, room, length);
-    CHECK("key of 16 MiB", is(a, NPSS_DONE, 0, 0, 0, 3 * times) && !memcmp(room + 3 * times - 3, MARKED_NFC, 3));
+    CHECK("key of a text of 40 MB", is(a, NPSS_DONE, 0, 0, 0, 3 * times) && !memcmp(room + 3 * times - 3, MARKED_NFC, 3));
     CHECK("the two are equivalent", npss_equivalent(h, false, text, length, room, 3 * times).status == NPSS_DONE);
     a = npss_key(h, NPSS_NFC, text, length, room, 3 * times - 1);
     CHECK("a byte too little", is(a, NPSS_NO_ROOM, 0, 0, 0, 3 * times));
@@ -147,6 +198,7 @@ int main(int argc, char **argv) {
     CHECK("open", open_files(&first, argv[1], argv[2]).status == NPSS_DONE && first.is_open);
     CHECK("count", is(npss_count(&first), NPSS_DONE, 0, 0, 0, 17660));
     check_texts(&first);
+    check_answers(&first);
     check_questions(&first);
     check_large(&first);
     CHECK("one open handle", npss_extends(&first, &second).status == NPSS_CLOSED);

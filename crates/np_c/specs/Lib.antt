@@ -1,5 +1,6 @@
 pub mod Answers
 pub mod Files
+pub mod Lines
 pub mod Texts
 pub mod Versions
 pub mod inside

@@ -25,6 +25,8 @@ pub const TABLES: u32 = 9;
 pub const TOO_LARGE: u32 = 10;
 /// Of a question: no.
 pub const DIFFERENT: u32 = 11;
+/// The byte that is to end lines is neither 10 nor 0.
+pub const NO_END: u32 = 12;
 
 /// How a call ended. What a status has no use for is 0.
 #[repr(C)]
@@ -32,7 +34,8 @@ pub const DIFFERENT: u32 = 11;
 pub struct Answer {
     /// One of the numbers above.
     pub status: u32,
-    /// The number of a fault or of a break, or which of two files or texts is meant, from 1.
+    /// The number of a fault or of a break, or which of two files or texts is meant, from 1; or 1 where a line was
+    /// refused.
     pub fault: u32,
     /// A code point.
     pub code: u32,

@@ -2,12 +2,14 @@
 ghost use Rattle.std.specs.Prelude.{◌≡◌, false, None, IfSome};
 ghost use Rattle.np_tables.specs.Counts.{assigned_count};
 ghost use Rattle.np_c.specs.Answers.{IsEquivalentAnswer, IsExtensionAnswer, IsFormAnswer, IsKeyAnswer, IsOpenAnswer, IsOwnFormAnswer, IsShareAnswer};
+ghost use Rattle.np_c.specs.Lines.{IsAnswersAnswer};
 ghost use Rattle.np_c.specs.Versions.{version_of};
 
 use crate::answers::{Answer, CLOSED, DONE, MEMORY};
 use crate::comparing::{tell_equivalent, tell_extension, tell_form};
 use crate::handles::Handle;
 use crate::keys::{write_form, write_key};
+use crate::lines::{Asked, write_answers};
 use crate::opening::shared_of;
 use np_tables::NormTable;
 use std::alloc::Global;
@@ -106,6 +108,29 @@ pub extern "C" fn npss_normalize(
     }
 }
 
+/// Writes the answers to the lines of a text into the room: `=` and the key of the line, or `!` and why it has none.
+#[unsafe(no_mangle)]
+pub extern "C" fn npss_answers(
+    alloc: Global,
+    handle: &mut Handle,
+    asked: &Asked,
+    text: &[u8],
+    room: &mut [u8],
+) -> Answer
+    ensures same { version_of handle.new ≡ version_of handle.old }
+    ensures made { IfSome (version_of handle.old) (λ v. IsAnswersAnswer v asked.now text.now room.old room.new result) }
+    ensures closed { handle.old.is_open ≡ false → (result.status ≡ 5) × (room.new ≡ room.old) }
+{
+    match handle.take(alloc) {
+        None => Answer::of(CLOSED),
+        Some(shared) => {
+            let answer = write_answers(alloc, &*shared.table, asked, text, room);
+            *handle = Handle::open(shared);
+            answer
+        }
+    }
+}
+
 /// Whether a text is its own normal form.
 #[unsafe(no_mangle)]
 pub extern "C" fn npss_is_form(alloc: Global, handle: &mut Handle, form: u8, text: &[u8]) -> Answer
@@ -197,5 +222,6 @@ pub extern "C" fn npss_count(alloc: Global, handle: &mut Handle) -> Answer
 pub extern "C" fn npss_close(alloc: Global, handle: &mut Handle)
     ensures { handle.new.is_open ≡ false }
 {
-    drop(handle.take(alloc));
+    let shared = handle.take(alloc);
+    drop(shared);
 }

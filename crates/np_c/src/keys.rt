@@ -1,34 +1,37 @@
 //! Keys and normal forms of bytes, into room that the caller lends.
-ghost use Rattle.std.specs.Prelude.{◌≡◌, List, ℕ, string_bytes, IfOk, IfErr};
-ghost use Rattle.np_c.specs.Answers.{IsFormAnswer, IsKeyAnswer, IsPut};
+ghost use Rattle.std.specs.Prelude.{string_bytes, IfOk, IfErr};
+ghost use Rattle.std.specs.Cow.{cow_str_bytes};
+ghost use Rattle.np_c.specs.Answers.{IsFormAnswer, IsKeyAnswer};
 ghost use Rattle.np_c.specs.Texts.{IsFormOf, IsKeyOf, IsNoForm, IsNoKey};
 
-use crate::answers::{Answer, DONE, MEMORY, NO_FORM, NO_ROOM, UNASSIGNED};
+use crate::answers::{Answer, MEMORY, NO_FORM, UNASSIGNED};
+use crate::room::put;
 use crate::texts::{form_in, text_in};
 use np_code_points::Form;
-use np_forms::{NpssFault, form as form_of, npss};
+use np_forms::{NpssFault, form as form_of, lend_npss};
 use np_tables::NormTable;
 use std::alloc::Global;
+use std::borrow::CowStr;
 
-/// The key of bytes.
+/// The key of bytes: they themselves where they are known to be their key, which takes no memory.
 ///
 /// # Errors
 ///
 /// The answer that tells why there is none.
-fn key_of<T: NormTable>(
+fn key_of<'a, T: NormTable>(
     alloc: Global,
     table: &T,
     form: Form,
-    bytes: &[u8],
-) -> Result<String, Answer>
-    ensures key { IfOk result (λ key. IsKeyOf (T.model table.now) form bytes.now (string_bytes key)) }
+    bytes: &'a [u8],
+) -> Result<CowStr<'a>, Answer>
+    ensures key { IfOk result (λ key. IsKeyOf (T.model table.now) form bytes.now (cow_str_bytes key)) }
     ensures refused { IfErr result (IsNoKey (T.model table.now) bytes.now) }
 {
     let text = match text_in(0, bytes) {
         Ok(text) => text,
         Err(answer) => return Err(answer),
     };
-    match npss(alloc, table, form, text) {
+    match lend_npss(alloc, table, form, text) {
         Ok(key) => Ok(key),
         Err(NpssFault::Unassigned { at, code }) => Err(Answer {
             code: u32::from(code),
@@ -63,24 +66,6 @@ fn normal_form_of<T: NormTable>(
     }
 }
 
-/// Puts bytes to the front of the room, where they fit.
-fn put(bytes: &[u8], room: &mut [u8]) -> Answer
-    ensures { IsPut bytes.now room.old room.new result }
-{
-    let length = bytes.len();
-    if length > room.len() {
-        return Answer {
-            length: length as u64,
-            ..Answer::of(NO_ROOM)
-        };
-    }
-    room[..length].copy_from_slice(bytes);
-    Answer {
-        length: length as u64,
-        ..Answer::of(DONE)
-    }
-}
-
 /// Writes the key of bytes into the room.
 pub fn write_key<T: NormTable>(
     alloc: Global,
@@ -95,7 +80,7 @@ pub fn write_key<T: NormTable>(
         return Answer::of(NO_FORM);
     };
     match key_of(alloc, table, form, bytes) {
-        Ok(key) => put(key.as_bytes(), room),
+        Ok(key) => put(key.as_str().as_bytes(), room),
         Err(answer) => answer,
     }
 }

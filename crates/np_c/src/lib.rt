@@ -9,6 +9,8 @@ mod exports;
 mod handles;
 mod held;
 mod keys;
+mod lines;
 mod opening;
+mod room;
 mod shared;
 mod texts;

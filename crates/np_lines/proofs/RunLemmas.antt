@@ -7,6 +7,7 @@ use Rattle.np_forms.specs.RunEnds.{Ends}
 use Rattle.np_tables.specs.Versions.{VersionData}
 use Rattle.np_lines.specs.Answers.{Wanted}
 use Rattle.np_lines.specs.Runs.{IsRunCut, IsRunWhole, RunEnds}
+use Rattle.np_lines.specs.Whole.{IsAllAnswered}
 use Rattle.np_lines.specs.declared.pending.Pending.{Pending}
 use Rattle.np_lines.specs.declared.runs.LinesFault.{LinesFault}
 use Rattle.np_lines.specs.declared.runs.LinesFault.TheVariants.{ReadFailed, WriteFailed, Memory}
@@ -136,7 +137,7 @@ module _ (v : VersionData) (wanted : Wanted) where
           lines_are = a.lines_are;
           answers = a.answers;
           answers_are = a.answers_are;
-          written = subst (Appends o₀ o₂) a.done_is (Appends-trans o₀ o₁ o₂ b.done r.more b.written r.written);
+          written = subst (Appends o₀ o₂) a.made_is (Appends-trans o₀ o₁ o₂ b.done r.more b.written r.written);
           told = a.told;
         }
 
@@ -154,7 +155,7 @@ module _ (v : VersionData) (wanted : Wanted) where
             answers = a.answers;
             answers_are = a.answers_are;
             more = drop f.count f.more;
-            split = sym a.done_is ∙ front_split b.done f.more f.count;
+            split = sym a.made_is ∙ front_split b.done f.more f.count;
           };
         }
 
@@ -162,6 +163,14 @@ module _ (v : VersionData) (wanted : Wanted) where
     cut_rest o₂ ReadFailed end c = absurd c
     cut_rest o₂ WriteFailed end c = cut_rest_front o₂ end c
     cut_rest o₂ Memory end c = cut_memory i₁ o₂ [] (Consumes-nil i₁) c
+
+-- ---- bytes that are all here
+
+-- nothing came before them, and nothing comes behind
+pub all_answered : (v : VersionData) (wanted : Wanted) (p q r : Pending) (bytes : List ℕ) → IsNew p → Goes v wanted p q bytes → Finishes v wanted q r → IsAllAnswered v wanted bytes r.out.items r.any_refused
+all_answered v wanted p q r bytes new g f =
+    let out = f.out_is ∙ ap (λ l. l ++ f.more) (g.out_is ∙ ap (λ l. l ++ g.more) new.out) in
+    subst (λ l. IsAllAnswered v wanted bytes l r.any_refused) (sym out) (f.whole bytes g.more (g.carries [] [] (answered-new v wanted p new)))
 
 -- ---- the whole of a run
 

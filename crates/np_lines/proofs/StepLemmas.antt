@@ -141,7 +141,7 @@ finishes-some v wanted p q some e = record {
     };
     answers = a.answers ++ e.answer ∷ [];
     answers_are = AllZip-push (IsAnswer v wanted) a.lines a.answers a.rest e.answer a.answers_are (subst (λ l. IsAnswer v wanted l e.answer) (append-nil a.rest) (e.is a.rest a.begun));
-    done_is = ap (λ l. l ++ (e.answer ++ byte_of wanted.end ∷ [])) a.done_is ∙ sym (ended-push wanted.end a.answers e.answer);
+    made_is = ap (λ l. l ++ (e.answer ++ byte_of wanted.end ∷ [])) a.done_is ∙ sym (ended-push wanted.end a.answers e.answer);
     told = one_more_told p.any_refused q.any_refused a.answers e.answer e.told a.told;
   };
 }

@@ -12,7 +12,9 @@ pub mod laws;
 mod lines;
 mod pending;
 mod runs;
+mod whole;
 
 pub use answers::LIMIT;
 pub use lines::{LineEnd, Wanted};
 pub use runs::{LinesFault, answer_lines};
+pub use whole::{Answers, answer_bytes};

@@ -4,6 +4,7 @@ ghost use Rattle.np_lines.specs.inside.Steps.{Finishes, Goes, HasBegun, IsAnswer
 
 use crate::answers::{LIMIT, push_answer, push_refusal};
 use crate::lines::Wanted;
+use crate::whole::Answers;
 use np_code_points::Memory;
 use np_code_points::lines::cut;
 use np_tables::NormTable;
@@ -54,6 +55,17 @@ impl Pending {
         ensures { result ≡ self.now.any_refused }
     {
         self.any_refused
+    }
+
+    /// The answers that were made, and whether a line was refused.
+    pub(crate) fn into_answers(self) -> Answers
+        ensures bytes { result.bytes.items ≡ self.out.items }
+        ensures refused { result.any_refused ≡ self.any_refused }
+    {
+        Answers {
+            bytes: self.out,
+            any_refused: self.any_refused,
+        }
     }
 
     /// Whether a byte came of a line whose end did not.

@@ -5,7 +5,8 @@ use Rattle.std.specs.List.{list_any}
 use Rattle.np_forms.specs.RunEnds.{Ends}
 use Rattle.np_tables.specs.Versions.{VersionData}
 use Rattle.np_lines.specs.Answers.{Wanted, AreAnswers, IsAnswer, is_refusal, most_bytes}
-use Rattle.np_lines.specs.Lines.{AreLines, IsCut, byte_of, ended}
+use Rattle.np_lines.specs.Lines.{IsCut, byte_of, ended}
+use Rattle.np_lines.specs.Whole.{IsAllAnswered}
 use Rattle.np_lines.specs.declared.pending.Pending.{Pending}
 use Rattle.np_lines.specs.declared.runs.LinesFault.{LinesFault}
 use Rattle.np_lines.specs.declared.runs.LinesFault.TheVariants.{ReadFailed, WriteFailed, Memory}
@@ -57,15 +58,6 @@ pub record IsEnded (v : VersionData) (wanted : Wanted) (old new : Pending) (byte
   pub out_is : new.out.items ≡ old.out.items ++ (answer ++ byte_of wanted.end ∷ [])
   pub begins : HasBegun new []
   pub told : new.any_refused ≡ (old.any_refused || is_refusal answer)
-
--- all lines of what came were answered by these bytes
-pub record IsAllAnswered (v : VersionData) (wanted : Wanted) (came done : List ℕ) (any_refused : Bool) : Type 0 where
-  pub lines : List (List ℕ)
-  pub lines_are : AreLines wanted.end came lines
-  pub answers : List (List ℕ)
-  pub answers_are : AreAnswers v wanted lines answers
-  pub done_is : done ≡ ended wanted.end answers
-  pub told : any_refused ≡ list_any is_refusal answers
 
 -- no more comes, whatever came before
 pub record Finishes (v : VersionData) (wanted : Wanted) (old new : Pending) : Type 0 where

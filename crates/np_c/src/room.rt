@@ -1,0 +1,22 @@
+//! Room that the caller lends.
+ghost use Rattle.np_c.specs.Answers.{IsPut};
+
+use crate::answers::{Answer, DONE, NO_ROOM};
+
+/// Puts bytes to the front of the room, where they fit.
+pub fn put(bytes: &[u8], room: &mut [u8]) -> Answer
+    ensures { IsPut bytes.now room.old room.new result }
+{
+    let length = bytes.len();
+    if length > room.len() {
+        return Answer {
+            length: length as u64,
+            ..Answer::of(NO_ROOM)
+        };
+    }
+    room[..length].copy_from_slice(bytes);
+    Answer {
+        length: length as u64,
+        ..Answer::of(DONE)
+    }
+}

@@ -1,0 +1,3 @@
+pub mod LineCommands
+pub mod LineKeys
+pub mod LineWords

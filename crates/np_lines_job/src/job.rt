@@ -1,0 +1,113 @@
+//! The two files of a version are read, and then the lines of an input are answered as they are read.
+ghost use Rattle.std.specs.Prelude.{◌≡◌, Bool, Ok, IfErr, IfOk};
+ghost use Rattle.np_jobs.specs.Streams.{stream_of};
+ghost use Rattle.np_lines_job.specs.LineKeys.{IsStopped, LinesEnd, WasAnswered, lines_status, told_as};
+
+use np_code_points::input::InputFault;
+use np_code_points::watched::Watched;
+use np_jobs::{DONE, JobFault, TextFault, read_table, refuse};
+use np_lines::{LinesFault, Wanted, answer_lines};
+use std::alloc::Global;
+use std::io::{Read, Write};
+
+/// The status of a run in which a line was refused, where that is asked for.
+pub const REFUSED: u8 = 3;
+
+/// What is asked of a run.
+#[derive(Clone, Copy, Debug, PartialEq, Eq)]
+pub struct Asked {
+    /// What is asked of each line.
+    pub wanted: Wanted,
+    /// Whether the status tells that a line was refused.
+    pub is_strict: bool,
+}
+
+/// How a fault of a run is told.
+fn told(fault: LinesFault) -> JobFault
+    ensures { result ≡ told_as fault }
+{
+    let fault = match fault {
+        LinesFault::WriteFailed => return JobFault::WriteFailed,
+        LinesFault::ReadFailed => TextFault::Input {
+            fault: InputFault::ReadFailed,
+        },
+        LinesFault::Memory => TextFault::Memory,
+    };
+    JobFault::Text { fault }
+}
+
+/// The status of a run that answered each line.
+fn status_of_run(is_strict: bool, any_refused: bool) -> u8
+    ensures { result ≡ lines_status is_strict any_refused }
+{
+    if is_strict && any_refused {
+        REFUSED
+    } else {
+        DONE
+    }
+}
+
+/// Reads the two files of a version, and answers the lines of the input. Answers whether one was refused.
+fn answered<F: Read, I: Read, O: Write>(
+    alloc: Global,
+    wanted: Wanted,
+    data_file: &mut Watched<F>,
+    exclusions_file: &mut Watched<F>,
+    input: &mut Watched<I>,
+    output: &mut Watched<O>,
+) -> Result<bool, JobFault>
+    ensures done { IfOk result (λ any_refused. WasAnswered wanted (record {
+      data_file = stream_of F.remaining data_file.old data_file.new;
+      exclusions_file = stream_of F.remaining exclusions_file.old exclusions_file.new;
+      input = stream_of I.remaining input.old input.new;
+    }) (stream_of O.contents output.old output.new) (Ok any_refused)) }
+    ensures stopped { IfErr result (IsStopped wanted (record {
+      data_file = stream_of F.remaining data_file.old data_file.new;
+      exclusions_file = stream_of F.remaining exclusions_file.old exclusions_file.new;
+      input = stream_of I.remaining input.old input.new;
+    }) (stream_of O.contents output.old output.new)) }
+{
+    input.clear();
+    output.clear();
+    let table = read_table(alloc, 0, data_file, exclusions_file)?;
+    match answer_lines(alloc, &table, wanted, input, output) {
+        Ok(any_refused) => Ok(any_refused),
+        Err(fault) => Err(told(fault)),
+    }
+}
+
+/// Writes the answer to each line of the input as it is read: `=` and the line's key, or `!` and why it
+/// has none (see [`answer_lines`](np_lines::answer_lines)), and the byte that ends lines. Answers the
+/// status: 0 where the input was read to its end and each line has its answer, whether or not a line was
+/// refused; 3 in place of it where a line was refused and the status is to tell that. A refusal of the
+/// whole run is told in a line on `error`, with its status. After a fault of a file of the version nothing
+/// is written; after one of the input exactly the answers to its whole lines; after one of the output some
+/// first bytes of the answers; after want of memory the answers to some first lines.
+pub fn lines_job<F: Read, I: Read, O: Write, E: Write>(
+    alloc: Global,
+    asked: Asked,
+    data_file: &mut Watched<F>,
+    exclusions_file: &mut Watched<F>,
+    input: &mut Watched<I>,
+    output: &mut Watched<O>,
+    error: &mut Watched<E>,
+) -> u8
+    ensures { LinesEnd asked (record {
+      data_file = stream_of F.remaining data_file.old data_file.new;
+      exclusions_file = stream_of F.remaining exclusions_file.old exclusions_file.new;
+      input = stream_of I.remaining input.old input.new;
+    }) (stream_of O.contents output.old output.new) (stream_of E.contents error.old error.new) result }
+{
+    error.clear();
+    match answered(
+        alloc,
+        asked.wanted,
+        data_file,
+        exclusions_file,
+        input,
+        output,
+    ) {
+        Ok(any_refused) => status_of_run(asked.is_strict, any_refused),
+        Err(fault) => refuse(alloc, error, &fault),
+    }
+}

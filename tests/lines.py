@@ -1,0 +1,322 @@
+#!/usr/bin/env python3
+"""Runs `npss_lines` end to end: tests/lines.py PROGRAM KEYS, where KEYS is the program npss.
+
+Each line of an input has one line of answer: `=` and its key, or `!` and why it has none (docs/FORMATS.md). The rows
+below are by that page; keys of published strings are compared with `npss key`, one by one. Then come long lines,
+closed streams, devices that fail, a pipe that nobody reads, a bound on memory, and GNU parallel where it is there.
+Ends in a line 'N passed, M failed'.
+"""
+
+import itertools
+import os
+import pty
+import resource
+import shutil
+import subprocess
+import sys
+import tempfile
+import threading
+from concurrent.futures import ThreadPoolExecutor
+from pathlib import Path
+
+# Nothing is written into the tree.
+sys.dont_write_bytecode = True
+
+from cases import DEVICE, WRONG_WORDS, text
+from harness import FORMS, ROOT, Tally, run, shown
+from refusals import MEMORY as WANT, WAYS, Refusals, built_shim, each, is_last_call
+from ucd import DATA, EXCLUSIONS, each_test_string, package_files
+from versions import V1, V2, record, with_records, write_all
+
+FIXTURES = ROOT / "fixtures"
+USAGE = (ROOT / "crates" / "npss_lines" / "stdout").read_bytes()
+# The status of a run in which a line was refused, where `--strict` asks for it.
+REFUSED = 3
+# The most bytes of a line.
+LIMIT = 65_536
+# The most memory of a run, in kB.
+MEMORY = 8 * 1024
+# A long line, in pieces of 1 MiB.
+LONG = 300
+
+# Lines under the first version, NFC, and their answers.
+ROWS = [
+    (b"", b"="),
+    (b"abc", b"=abc"),
+    (text("0061 0302 0323"), b"=" + text("1EAD")),
+    (text("1111 1171 11B6"), b"=" + text("D4DB")),
+    (b"a\r", b"=a\r"),
+    (b"=a", b"==a"),
+    (b"!a", b"=!a"),
+    (b"a\0b", b"=a\0b"),
+    (b"a" + text("16D67"), b"!unassigned 16D67 at byte 1"),
+    (text("FFFE"), b"!unassigned FFFE at byte 0"),
+    (b"abc\xff", b"!not UTF-8 at byte 3"),
+    (b"\xed\xa0\x80", b"!not UTF-8 at byte 0"),
+    (b"a" * LIMIT, b"=" + b"a" * LIMIT),
+    (b"a" * (LIMIT - 1), b"=" + b"a" * (LIMIT - 1)),
+    (b"a" * (LIMIT + 1), b"!too long"),
+    (b"\xff" * (LIMIT + 1), b"!too long"),
+]
+
+# Words that ask for nothing that there is.
+WRONG = [
+    ["--form", "nfc", "D"],
+    ["--form", "nfc", "D", "E", "F"],
+    ["D", "E"],
+    ["--form", "NFC", "D", "E"],
+    ["--form", "nfc", "--form", "nfc", "D", "E"],
+    ["--null", "--null", "--form", "nfc", "D", "E"],
+    ["--nul", "--form", "nfc", "D", "E"],
+    ["--strict=true", "--form", "nfc", "D", "E"],
+    ["--help"],
+    ["--form", "nfc", "--help", "D", "E"],
+    ["key", "--form", "nfc", "D", "E"],
+]
+
+
+def asks(*flags, form="nfc", files=V1):
+    """The words of a run."""
+    return [*flags, "--form", form, *files]
+
+
+def check_rows(tally, program, folder):
+    """Each row by itself, with and without the byte that ends it, and all of them in one run."""
+    for line, answer in ROWS:
+        for flags, end in (((), b"\n"), (("--null",), b"\0")):
+            if end in line:
+                continue
+            tally.same(f"{shown(line, 40)} {flags}", run(program, asks(*flags), line + end, folder), (0, answer + end, b""))
+            # an empty input has no line
+            got = run(program, asks(*flags), line, folder)
+            tally.same(f"{shown(line, 40)} {flags} unended", got, (0, answer + end if line else b"", b""))
+    given = b"".join(line + b"\n" for line, _ in ROWS)
+    wanted = b"".join(answer + b"\n" for _, answer in ROWS)
+    tally.same("all rows in one run", run(program, asks(), given, folder), (0, wanted, b""))
+    tally.same("all rows, strictly", run(program, asks("--strict"), given, folder), (REFUSED, wanted, b""))
+    tally.same("lines that all have keys, strictly", run(program, asks("--strict"), b"a\nb\n", folder), (0, b"=a\n=b\n", b""))
+    tally.same("lines end with NUL", run(program, asks("--null"), b"a\nb\0c", folder), (0, b"=a\nb\0=c\0", b""))
+    tally.same("a NUL is part of a line", run(program, asks(), b"a\0b\nc", folder), (0, b"=a\0b\n=c\n", b""))
+    tally.same("progress is told to terminals alone", run(program, asks("--progress"), b"a\n", folder), (0, b"=a\n", b""))
+
+
+def check_words(tally, program, folder):
+    """The usage text, wrong words, files that don't open, bad files, and flags at each place."""
+    tally.same("no words", run(program, [], b"", folder), (0, USAGE, b""))
+    for words in WRONG:
+        tally.same(" ".join(words), run(program, words, b"a\n", folder), (WRONG_WORDS, b"", USAGE))
+    tally.same("a word that is no text", run(program, [b"--form", b"nfc", b"d\xff", b"e"], b"", folder), (WRONG_WORDS, b"", USAGE))
+    for files, name in ((("nothing", V1[1]), "nothing"), ((V1[0], "no thing "), "no thing "), (("", V1[1]), "")):
+        tally.same(f"cannot open {name}", run(program, asks(files=files), b"a\n", folder),
+                   (DEVICE, b"", f"cannot open {name}\n".encode()))
+    tally.same("the data file is no data", run(program, asks(files=(V1[1], V1[1])), b"a\n", folder),
+               (4, b"", b"version 0 data: line 1: FieldCount\n"))
+    flags = ["--null", "--strict", "--progress", "--form=nfd"]
+    for order in itertools.permutations(flags):
+        for words in ([*order, *V1], [*V1, *order], [order[0], V1[0], *order[1:3], V1[1], order[3]]):
+            got = run(program, words, text("00E2") + b"\0\xff", folder)
+            tally.same(" ".join(words), got, (REFUSED, b"=" + text("0061 0302") + b"\0!not UTF-8 at byte 0\0", b""))
+
+
+def check_line_ends(tally, program, folder):
+    """A version that maps to the byte that ends lines."""
+    (folder / "line-end.data").write_text(with_records((folder / V1[0]).read_text(encoding="ascii"),
+                                                       record("000A", "Cc"), record("0000", "Cc"),
+                                                       record("2028", "Zl", 0, "<compat> 000A"),
+                                                       record("2400", "So", 0, "<compat> 0000")), encoding="ascii")
+    files = ("line-end.data", V1[1])
+    for code, flags, end, other in (("2028", (), b"\n", b"\0"), ("2400", ("--null",), b"\0", b"\n")):
+        got = run(program, asks(*flags, form="nfkc", files=files), text(code) + end + text("0061"), folder)
+        tally.same(f"{code} maps to the byte that ends lines", got, (0, b"!line end in key" + end + b"=a" + end, b""))
+        flags = ("--null",) if not flags else ()
+        got = run(program, asks(*flags, form="nfkc", files=files), text(code) + other, folder)
+        tally.same(f"{code} maps to another byte", got, (0, b"=" + end + other, b""))
+    (folder / "line-end.data").unlink()
+
+
+def fed(program, words, pieces, folder):
+    """The run over an input that comes in these pieces: status, output, error, and the most memory in kB."""
+    with subprocess.Popen([program, *words], cwd=folder, stdin=subprocess.PIPE, stdout=subprocess.PIPE,
+                          stderr=subprocess.PIPE) as running:
+        def feed():
+            for piece in pieces:
+                running.stdin.write(piece)
+                running.stdin.flush()
+            running.stdin.close()
+        feeder = threading.Thread(target=feed)
+        feeder.start()
+        out, err = running.stdout.read(), running.stderr.read()
+        feeder.join()
+        _, status, used = os.wait4(running.pid, 0)
+        running.returncode = os.waitstatus_to_exitcode(status)
+        return (running.returncode, out, err), used.ru_maxrss
+
+
+def check_long(tally, program, folder):
+    """Pieces of one and of seven bytes, a line of 300 MB between two others, and many lines: in constant memory."""
+    given = b"".join(line + b"\n" for line, _ in ROWS[:12])
+    wanted = b"".join(answer + b"\n" for _, answer in ROWS[:12])
+    for size in (1, 7):
+        pieces = (given[at:at + size] for at in range(0, len(given), size))
+        got, _ = fed(program, asks(), pieces, folder)
+        tally.same(f"pieces of {size}", got, (0, wanted, b""))
+    pieces = itertools.chain([b"a\n"], (b"a" * (1 << 20) for _ in range(LONG)), [b"\nb"])
+    got, used = fed(program, asks(), pieces, folder)
+    tally.same("a line of 300 MiB", got, (0, b"=a\n!too long\n=b\n", b""))
+    tally.check("a line of 300 MiB in constant memory", used <= MEMORY, f"{used} kB")
+    piece, answers = b"a" * 9 + b"\n", b"=" + b"a" * 9 + b"\n"
+    got, used = fed(program, asks(), (piece * 100_000 for _ in range(10)), folder)
+    tally.check("1,000,000 lines", got == (0, answers * 1_000_000, b""), shown(got))
+    tally.check("1,000,000 lines in constant memory", used <= MEMORY, f"{used} kB")
+
+
+def check_devices(tally, program, folder):
+    """Closed streams, a full device, a folder to read, and a pipe that nobody reads."""
+    for closed, wanted in (("<&-", (DEVICE, b"", b"input: ReadFailed\n")), (">&-", (DEVICE, b"", b"output: WriteFailed\n")),
+                           ("2>&-", (0, b"=a\n", b"")), ("<&- 2>&-", (DEVICE, b"", b"")), (">&- 2>&-", (DEVICE, b"", b""))):
+        got = run("sh", ["-c", f'exec "$0" "$@" {closed}', str(program), *asks()], b"a\n", folder)
+        tally.same(f"with {closed}", got, wanted)
+    with open("/dev/full", "wb") as full:
+        tally.same("into a full device", run(program, asks(), b"a\n", folder, stdout=full), (DEVICE, b"", b"output: WriteFailed\n"))
+        tally.same("the usage into a full device", run(program, [], b"", folder, stdout=full), (DEVICE, b"", b"output: WriteFailed\n"))
+    reader, writer = os.pipe()
+    os.close(reader)
+    tally.same("into a pipe that nobody reads", run(program, asks(), b"a\n", folder, stdout=writer), (DEVICE, b"", b"output: WriteFailed\n"))
+    os.close(writer)
+    handle = os.open(folder, os.O_RDONLY)
+    tally.same("from a folder", run(program, asks(), handle, folder), (DEVICE, b"", b"input: ReadFailed\n"))
+    os.close(handle)
+
+
+def bound():
+    """So little memory that a table is not to be had."""
+    resource.setrlimit(resource.RLIMIT_AS, (3 << 20, 3 << 20))
+
+
+def check_memory(tally, program, folder):
+    """Under a bound on its memory a run is told that, or can't be started."""
+    status, out, err = run(program, asks(), b"a\n", folder, preexec_fn=bound)
+    tally.check("under a bound on memory", (status, out, err) == (6, b"", b"out of memory\n") or status in (127, -9, -11, -6), f"{status} {out} {err}")
+
+
+def are_first_answers(out, ample):
+    """Whether these are the answers to some first lines."""
+    return ample.startswith(out) and (not out or out.endswith(b"\n"))
+
+
+def is_refused_end(kind, got, ample):
+    """Whether a run ends well in which a call was refused: told in its line, with the answers to some first lines, or,
+    where a write failed, some first bytes of them."""
+    status, out, err = got
+    if kind == "memory":
+        return (status, err) == (WANT[0], WANT[2]) and are_first_answers(out, ample[1])
+    if kind == "read":
+        return status == DEVICE and err.endswith(b": ReadFailed\n") and are_first_answers(out, ample[1])
+    return status == DEVICE and err == b"output: WriteFailed\n" and ample[1].startswith(out)
+
+
+def check_refusals(tally, program, folder):
+    """Each allocation, read and write refused in turn."""
+    shim = built_shim(folder.parent)
+    if shim is None:
+        print("skipped: lines with refused allocations, reads and writes: there is no C compiler")
+        return
+    refusals = Refusals(shim, folder)
+    given = b"".join(line + b"\n" for line, _ in ROWS)
+    ample, counts = refusals.counted(program, asks(), given)
+    tally.same("calls are counted", ample, run(program, asks(), given, folder))
+    for kind, ways in (("memory", ("", "rest")), *WAYS.items()):
+        for way in ways:
+            ends = refusals.ends(program, asks(), given, each(kind, counts[kind], way))
+            wrong = [(asked, got) for asked, got, _ in ends
+                     if not (is_refused_end(kind, got, ample) or (kind == "memory" and got == ample))]
+            tally.check(f"each of {counts[kind]} calls, {kind} {way}", ends and not wrong, shown(wrong[:1]))
+            late = [asked for asked, got, calls in ends if kind != "memory" and not is_last_call(kind, asked, calls, ample)]
+            tally.check(f"no call behind it, {kind} {way}", not late, shown(late[:1]))
+    for kind in WAYS:
+        tally.same(f"{kind}s of one byte", refusals.run(program, asks(), given, REFUSE=f"{kind}:0:one"), ample)
+
+
+def check_progress(tally, program, folder):
+    """To a terminal the lines and bytes done are told on one line, which ends when the run does."""
+    master, slave = pty.openpty()
+    got = run(program, asks("--progress"), b"a\nb\nc", folder, stderr=slave)
+    os.close(slave)
+    told = os.read(master, 4096)
+    os.close(master)
+    tally.same("answers beside progress", got, (0, b"=a\n=b\n=c\n", b""))
+    tally.check("progress is told", told.endswith(b"3 lines, 5 bytes\r\n"), shown(told))
+    master, slave = pty.openpty()
+    got = run(program, asks(), b"a\n", folder, stderr=slave)
+    os.set_blocking(master, False)
+    try:
+        told = os.read(master, 4096)
+    except BlockingIOError:
+        told = b""
+    os.close(slave)
+    os.close(master)
+    tally.same("nothing is told unasked", (got, told), ((0, b"=a\n", b""), b""))
+
+
+def check_published(tally, program, keys, folder):
+    """The strings of NormalizationTest.txt, answered in one run, against `npss key`, one by one."""
+    files, why = package_files()
+    if files is None or each_test_string(files) is None:
+        print(f"skipped: lines of published strings: {why or 'NormalizationTest.txt is not there'}")
+        return
+    strings = sorted(set(each_test_string(files)))
+    version = [str(files[name]) for name in (DATA, EXCLUSIONS)]
+    given = "".join(f"{string}\0" for string in strings).encode()
+    for form in FORMS:
+        status, out, err = run(program, asks("--null", form=form, files=version), given, folder)
+        answers = out.split(b"\0")[:-1]
+        tally.same(f"published strings, {form}", (status, len(answers), err), (0, len(strings), b""))
+        form_of_all = run(keys, ["normalize", "--form", form, *version], given, folder)[1]
+        tally.check(f"published strings, {form}, against npss normalize", b"".join(a[1:] + b"\0" for a in answers) == form_of_all, form)
+        # one process a string: a part of them for each form, and each of them for one form or another
+        part = range(FORMS.index(form), len(strings), len(FORMS))
+        with ThreadPoolExecutor(os.cpu_count()) as pool:
+            wanted = pool.map(lambda at, form=form: run(keys, ["key", "--form", form, *version], strings[at].encode(), folder), part)
+            wrong = [(strings[at], answers[at], key) for at, key in zip(part, wanted) if key != (0, answers[at][1:], b"") or answers[at][:1] != b"="]
+        tally.check(f"published strings, {form}, against npss key", not wrong, shown(wrong[:1]))
+
+
+def check_parallel(tally, program, folder):
+    """GNU parallel over pieces of the input: the same bytes as one process."""
+    parallel = shutil.which("parallel")
+    if parallel is None:
+        print("skipped: GNU parallel is not there")
+        return
+    path = folder.parent / "names"
+    path.write_bytes(b"".join(line + b"\n" for line, _ in ROWS[:12]) * 20_000)
+    command = " ".join([str(program), *asks()])
+    _, wanted, _ = run(program, asks(), path.read_bytes(), folder)
+    for name, words, stdin in (("--pipepart", ["--pipepart", "-k", "-a", str(path), "--block", "300k", command], b""),
+                               ("--pipe", ["--pipe", "-k", "--block", "300k", command], path.read_bytes())):
+        status, out, _ = run(parallel, ["--will-cite", *words], stdin, folder)
+        tally.check(f"GNU parallel {name}", (status, out) == (0, wanted), f"{status} {len(out)} of {len(wanted)}")
+    path.unlink()
+
+
+def main():
+    program, keys = (Path(word).resolve() for word in sys.argv[1:3])
+    tally = Tally()
+    with tempfile.TemporaryDirectory() as name:
+        folder = Path(name) / "files"
+        shutil.copytree(FIXTURES, folder)
+        write_all(folder)
+        check_rows(tally, program, folder)
+        check_words(tally, program, folder)
+        check_line_ends(tally, program, folder)
+        check_long(tally, program, folder)
+        check_devices(tally, program, folder)
+        check_memory(tally, program, folder)
+        check_refusals(tally, program, folder)
+        check_progress(tally, program, folder)
+        check_parallel(tally, program, folder)
+        check_published(tally, program, keys, folder)
+    tally.finish()
+
+
+if __name__ == "__main__":
+    main()
