@@ -26,7 +26,7 @@ from large import check_large
 from launching import check_building
 from limits import check_memory, check_usage
 from replays import replay, replay_cases, schedules
-from streams import check_closed, check_words
+from streams import check_closed, check_closed_input, check_words
 from vanishing import check_vanishing
 from versions import V1, write_all
 
@@ -122,6 +122,7 @@ def main():
         check_devices(tally, program, folder)
         check_usage(tally, program, folder)
         check_closed(tally, program, folder)
+        check_closed_input(tally, program, folder)
         check_words(tally, program, folder)
         check_vanishing(tally, program, folder)
         check_memory(tally, program, folder)

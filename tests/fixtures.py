@@ -8,7 +8,7 @@ and scripts/exchange.report. Each has to have the other. The reports of the scri
 of history_model.py, the usage text of docs/FORMATS.md with that of the stored run, the forged images of a unit
 test and their answers with those of forged_images.py, and the Rust example of the README and of two crates with the
 unit test that runs it. The manual page is compared with docs/FORMATS.md, and the README's table of speed with the last
-run of bench/run. Ends in a line 'N passed, M failed'.
+run of bench/run. Each text of a fault is looked for in the unit tests (error_texts.py). Ends in a line 'N passed, M failed'.
 """
 
 import re
@@ -21,6 +21,7 @@ sys.dont_write_bytecode = True
 ROOT = Path(__file__).resolve().parent.parent
 sys.path.append(str(ROOT / "bench"))
 
+import error_texts
 import forged_images
 import history_model
 import tables
@@ -150,6 +151,7 @@ def main():
     tally = Tally()
     check_model(tally)
     check_speed(tally)
+    error_texts.check_texts(tally)
     wanted = constants()
     got = files(wanted)
     for name in sorted(wanted.keys() | got.keys()):

@@ -37,8 +37,8 @@ MEMORY = (6, b"", b"out of memory\n")
 # The status of a unit test that failed by its result.
 FAILED = 101
 
-# The calls that can answer that memory ran out, by the modules of their tests: those of `np_examples` have the
-# crates' names. Each has one test whose name begins with `a_refused_` and the call's name: it makes the call a
+# The calls that can answer that memory ran out, by the modules of their tests: in the crates of examples these have
+# the libraries' names. Each has one test whose name begins with `a_refused_` and the call's name: it makes the call a
 # second time where memory was refused to the first.
 CALLS = {
     "code_points": ("chars_of", "string_of", "write_code"),
@@ -46,10 +46,11 @@ CALLS = {
     "tables": ("build", "row_table", "page_table"),
     "forms": ("form", "npss", "lend_npss", "into_npss", "is_form", "equivalent", "feed", "finish", "run"),
     "chain": ("audit",),
-    "lines": ("answer_lines",),
+    "lines": ("answer_lines", "answer_bytes"),
     "node": ("accept", "take", "image", "restore"),
     "world": ("read_schedule", "replay", "report_text"),
-    "words": ("parse",),
+    "jobs": ("parse",),
+    "lines_job": ("parse_lines",),
 }
 # The commands of the program, each of which is one call of the crate; with its flag `key` is another call.
 FLAG = "--check-under"

@@ -54,6 +54,15 @@ def check_closed(tally, program, folder):
             tally.same(f"{' '.join(words)} with {closed} closed", got, wanted(words, out, status, closed))
 
 
+def check_closed_input(tally, program, folder):
+    """A closed input takes no descriptor and names no file: where one file alone can be opened, the second word that
+    names one is told."""
+    words = ["key", "--form", "nfc", *V1]
+    line = 'ulimit -n 3 && exec "$0" "$@" <&-'
+    got = run("sh", ["-c", line, str(program), *words], b"", folder)
+    tally.same("key with its input closed and one descriptor free", got, (DEVICE, b"", f"cannot open {V1[1]}\n".encode()))
+
+
 def check_words(tally, program, folder):
     """A word that is no UTF-8 asks for nothing that there is."""
     for words in ([b"key", b"--form", b"nfc", b"d\xff", b"e"], [b"\xff"], [b"key\xc3"]):

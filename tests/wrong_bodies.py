@@ -22,7 +22,7 @@ sys.dont_write_bytecode = True
 from harness import ROOT, Tally
 
 
-# The crate of the unit tests, and the modules that those of each library need.
+# The crates of the unit tests begin so; each library's tests are a module of one of them.
 EXAMPLES = "np_examples"
 HEAD = "//! Some of the examples.\n#![tactic(auto)]\n"
 
@@ -64,7 +64,7 @@ CALLS = [
     Call("read_schedule", "np_world", "reading.rt", "Err(ScheduleFault::Memory)", "a_refused_read_schedule_"),
     Call("replay", "np_world", "replays.rt", "Err(Memory)", "a_refused_replay_"),
     Call("report_text", "np_world", "report_texts.rt", "Err(Memory)", "a_refused_report_text_"),
-    Call("parse", "npss", "words.rt", "Err(WordsFault::Memory)", "a_refused_parse_"),
+    Call("parse", "np_jobs", "words.rt", "Err(WordsFault::Memory)", "a_refused_parse_"),
     Call("normalize_job", "np_jobs", "normalize.rt", "6", "normalize_answers_the_worked_examples"),
     Call("key_job", "np_jobs", "key.rt", "6", "key_answers_the_worked_examples"),
     Call("compare_job", "np_jobs", "compare.rt", "6", "compare_answers_the_worked_examples"),
@@ -88,17 +88,15 @@ def failure_of(out, test):
 
 
 def leave_examples(folder, crate):
-    """Leaves of the unit tests those of one library; where the crate has its own, they are all that runs."""
-    if crate == "npss":
-        return folder / "crates" / crate
-    wanted = ("common", crate.removeprefix("np_"))
-    examples = folder / "crates" / EXAMPLES
+    """Leaves of the unit tests those of one library."""
+    module = crate.removeprefix("np_")
+    tests = next((ROOT / "crates").glob(f"{EXAMPLES}*/src/{module}.rt")).parent
+    examples = folder / "crates" / tests.parent.name
     shutil.rmtree(examples / "src")
     # a file that no module names is refused
-    shutil.copytree(ROOT / "crates" / EXAMPLES / "src", examples / "src",
-                    ignore=lambda at, names: [it for it in names if Path(at).name == "src" and Path(it).stem not in wanted])
-    modules = "".join(f"#[cfg(test)]\nmod {module};\n" for module in sorted(wanted))
-    (examples / "src" / "lib.rt").write_text(HEAD + modules, encoding="utf-8")
+    shutil.copytree(tests, examples / "src",
+                    ignore=lambda at, names: [it for it in names if Path(at).name == "src" and Path(it).stem != module])
+    (examples / "src" / "lib.rt").write_text(f"{HEAD}#[cfg(test)]\nmod {module};\n", encoding="utf-8")
     return examples
 
 

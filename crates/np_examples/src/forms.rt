@@ -1,14 +1,16 @@
 //! Worked examples over the fixtures.
 mod example;
 mod examples;
+mod guests;
+mod lagging;
 mod laws;
 mod refused;
 mod runs;
 mod safety;
 mod streams;
 
-use crate::common::want;
 use np_code_points::Form;
+use np_examples_shared::want;
 use np_forms::form;
 use np_tables::NormTable;
 use std::alloc::Global;

@@ -1,9 +1,9 @@
 //! Keys of the lines of whole inputs on worked examples, over devices that give and take in pieces and fail.
-use crate::common::{Example, FAILURES, Files, LETTERS, Made, V1, holds_over_each, want};
 use np_code_points::Form;
 use np_code_points::devices::{Failure, Room, Trickle};
 use np_code_points::told::want_told;
 use np_code_points::watched::Watched;
+use np_examples_shared::{Example, FAILURES, Files, LETTERS, Made, V1, holds_over_each, want};
 use np_lines::{LineEnd, LinesFault, Wanted, answer_lines};
 use np_tables::NormTable;
 use std::alloc::Global;

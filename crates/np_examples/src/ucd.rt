@@ -1,11 +1,11 @@
 //! Worked examples, and files that are not what they should be.
 mod refused;
 
-use crate::common::{mended, want};
 use np_code_points::devices::{Endless, Failure, Trickle};
 use np_code_points::fixtures::{V1_DATA, V1_EXCLUSIONS};
 use np_code_points::told::want_told;
 use np_code_points::watched::Watched;
+use np_examples_shared::{mended, want};
 use np_ucd::{Exclusions, MapKind, Rows, UcdFault, read_exclusions, read_rows};
 use std::alloc::Global;
 use std::test::Fail;

@@ -2,7 +2,7 @@
 use Rattle.std.proofs.Common.{◌≡◌, ℕ, inl, inr, Bool, false, List, Option, Result, Ok, Err, IfOk, IfErr, string_bytes, ap, subst}
 use Rattle.np_code_points.specs.Watched.{device_of, has_failed}
 use Rattle.np_code_points.specs.declared.channels.watched.Watched.{Watched}
-use Rattle.np_jobs.specs.Ends.{Ends}
+use Rattle.np_jobs.specs.Ends.{JobEnds}
 use Rattle.np_jobs.specs.Streams.{IsUntouched, Stream, stream_of}
 use Rattle.np_jobs.specs.inside.Endings.{EndsWith}
 use Rattle.np_jobs.specs.declared.ending.Made.{Made}
@@ -24,6 +24,6 @@ untouched tells old new device clear = record { same = ap tells device; clear = 
 
 -- the end of a job that makes this, or is refused for this
 pub ends : (Makes : Bool → List ℕ → Type 0) (Refuses : JobFault → Type 0) (made : Result Made JobFault) (output error : Stream) (status : ℕ)
-    → IfOk made (λ (m : Made). Makes m.is_yes (string_bytes m.text)) → IfErr made Refuses → EndsWith made output error status → Ends Makes Refuses output error status
+    → IfOk made (λ (m : Made). Makes m.is_yes (string_bytes m.text)) → IfErr made Refuses → EndsWith made output error status → JobEnds Makes Refuses output error status
 ends Makes Refuses (Ok m) output error status makes refuses end = inl (m.is_yes, string_bytes m.text, makes, end)
 ends Makes Refuses (Err fault) output error status makes refuses end = inr (fault, refuses, end.0, end.1)

@@ -4,7 +4,7 @@ use Rattle.np_chain.specs.Breaks.{AreBreaks}
 use Rattle.np_chain.specs.declared.breaks.Break.{Break}
 use Rattle.np_tables.specs.Versions.{VersionData}
 use Rattle.np_jobs.specs.Chains.{LacksOne, VersionReaders, WereBuilt}
-use Rattle.np_jobs.specs.Ends.{Ends}
+use Rattle.np_jobs.specs.Ends.{JobEnds}
 use Rattle.np_jobs.specs.Streams.{Stream}
 use Rattle.np_jobs.specs.Tellings.{break_line}
 use Rattle.np_jobs.specs.Wraps.{Wraps}
@@ -36,4 +36,4 @@ RefusesAudit readers fault = Wraps Version (LacksOne readers) fault ⊎ ((fault 
 
 -- `audit`: what the new version breaks of the old one
 abbrev pub AuditEnds : List VersionReaders → Stream → Stream → ℕ → Type 0
-AuditEnds readers output error status = Ends (MakesAudit readers) (RefusesAudit readers) output error status
+AuditEnds readers output error status = JobEnds (MakesAudit readers) (RefusesAudit readers) output error status

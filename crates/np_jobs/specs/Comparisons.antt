@@ -6,7 +6,7 @@ use Rattle.np_code_points.specs.declared.forms.Form.{Form}
 use Rattle.np_forms.specs.Assigned.{IsAssigned, IsFirstUnassigned}
 use Rattle.np_forms.specs.Forms.{IsEquivalent}
 use Rattle.np_tables.specs.Versions.{VersionData}
-use Rattle.np_jobs.specs.Ends.{Ends}
+use Rattle.np_jobs.specs.Ends.{JobEnds}
 use Rattle.np_jobs.specs.Streams.{Stream}
 use Rattle.np_jobs.specs.Texts.{TextReaders, MakesOfText, RefusesText}
 use Rattle.np_jobs.specs.declared.faults.TextFault.{TextFault}
@@ -40,7 +40,7 @@ LacksComparison v first second fault =
     ⊎ ((fault ≡ Memory) × IsAssigned v (chars first) × IsAssigned v (chars second)))
 
 -- the comparison of the two lines of a text
-pub record IsAnswer (form : Form) (v : VersionData) (text : List ℕ) (is_yes : Bool) (bytes : List ℕ) : Type 0 where
+pub record IsCompareOutput (form : Form) (v : VersionData) (text : List ℕ) (is_yes : Bool) (bytes : List ℕ) : Type 0 where
   pub first : List ℕ
   pub second : List ℕ
   pub lines : AreTwoLines text first second
@@ -48,11 +48,11 @@ pub record IsAnswer (form : Form) (v : VersionData) (text : List ℕ) (is_yes : 
   pub bytes_are : bytes ≡ answer_text is_yes
 
 -- the text has no LF, or its two lines can't be compared
-abbrev pub LacksAnswer : VersionData → List ℕ → TextFault → Type 0
-LacksAnswer v text fault =
+abbrev pub LacksCompareOutput : VersionData → List ℕ → TextFault → Type 0
+LacksCompareOutput v text fault =
     ((fault ≡ TwoLinesWanted) × HasNo 10 text)
     ⊎ ((first : List ℕ) × (second : List ℕ) × AreTwoLines text first second × LacksComparison v first second fault)
 
 -- `compare`: whether the two lines of the input are equivalent
 abbrev pub CompareEnds : Form → TextReaders → Stream → Stream → ℕ → Type 0
-CompareEnds form readers output error status = Ends (MakesOfText (IsAnswer form) readers) (RefusesText LacksAnswer readers) output error status
+CompareEnds form readers output error status = JobEnds (MakesOfText (IsCompareOutput form) readers) (RefusesText LacksCompareOutput readers) output error status

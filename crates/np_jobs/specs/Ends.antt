@@ -14,19 +14,19 @@ abbrev pub IsTold : Stream → List ℕ → Type 0
 IsTold error line = WasWritten error line ⊎ WasCutShort error line
 
 -- a refusal is told in its line, with its status; where memory lacks for the line, as want of memory
-abbrev pub IsRefused : JobFault → Stream → ℕ → Type 0
-IsRefused fault error status =
+abbrev pub TellsRefusal : JobFault → Stream → ℕ → Type 0
+TellsRefusal fault error status =
     (IsTold error (telling_of fault).line × (status ≡ (telling_of fault).status))
     ⊎ (IsTold error memory_line × (status ≡ 6) × ((telling_of fault).is_fixed ≡ false))
 
 -- the output was written, and nothing is told; or the output failed, which is told
-abbrev pub Writes : Bool → List ℕ → Stream → Stream → ℕ → Type 0
-Writes is_yes bytes output error status =
+abbrev pub WritesAnswer : Bool → List ℕ → Stream → Stream → ℕ → Type 0
+WritesAnswer is_yes bytes output error status =
     (WasWritten output bytes × IsUntouched error × (status ≡ answer_status is_yes))
-    ⊎ (WasCutShort output bytes × IsRefused WriteFailed error status)
+    ⊎ (WasCutShort output bytes × TellsRefusal WriteFailed error status)
 
 -- a job that makes this answer and output, and writes it; or is refused for this, and writes nothing
-abbrev pub Ends : (Bool → List ℕ → Type 0) → (JobFault → Type 0) → Stream → Stream → ℕ → Type 0
-Ends Makes Refuses output error status =
-    ((is_yes : Bool) × (bytes : List ℕ) × Makes is_yes bytes × Writes is_yes bytes output error status)
-    ⊎ ((fault : JobFault) × Refuses fault × IsUntouched output × IsRefused fault error status)
+abbrev pub JobEnds : (Bool → List ℕ → Type 0) → (JobFault → Type 0) → Stream → Stream → ℕ → Type 0
+JobEnds Makes Refuses output error status =
+    ((is_yes : Bool) × (bytes : List ℕ) × Makes is_yes bytes × WritesAnswer is_yes bytes output error status)
+    ⊎ ((fault : JobFault) × Refuses fault × IsUntouched output × TellsRefusal fault error status)

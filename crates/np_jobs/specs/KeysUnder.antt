@@ -8,8 +8,8 @@ use Rattle.np_forms.specs.Assigned.{IsAssigned, IsFirstUnassigned}
 use Rattle.np_forms.specs.Forms.{IsNormalForm}
 use Rattle.np_tables.specs.Versions.{VersionData}
 use Rattle.np_jobs.specs.Chains.{LacksOne, VersionReaders, WereBuilt}
-use Rattle.np_jobs.specs.Ends.{Ends}
-use Rattle.np_jobs.specs.Keys.{LacksKey}
+use Rattle.np_jobs.specs.Ends.{JobEnds}
+use Rattle.np_jobs.specs.Keys.{LacksKeyOutput}
 use Rattle.np_jobs.specs.Streams.{Stream, IsUntouched}
 use Rattle.np_jobs.specs.Tellings.{unassigned_line}
 use Rattle.np_jobs.specs.Texts.{IsMadeOfText, IsTextFault}
@@ -50,7 +50,7 @@ pub record MakesUnder (form : Form) (readers : UnderReaders) (is_yes : Bool) (by
 abbrev pub RefusesPair : VersionData → VersionData → Stream → JobFault → Type 0
 RefusesPair old new input fault =
     ((brk : Break) × (fault ≡ NotExtension 1 brk) × IsFirstBreak old new brk × IsUntouched input)
-    ⊎ (Extends old new × Wraps Text (IsTextFault (LacksKey new) input) fault)
+    ⊎ (Extends old new × Wraps Text (IsTextFault (LacksKeyOutput new) input) fault)
 
 -- a version was refused, and the input not looked at; or both were built, and the pair or the input is refused
 abbrev pub RefusesUnder : UnderReaders → JobFault → Type 0
@@ -60,4 +60,4 @@ RefusesUnder readers fault =
 
 -- `key --check-under`: what an earlier version has of the stabilized string of the input
 abbrev pub KeyUnderEnds : Form → UnderReaders → Stream → Stream → ℕ → Type 0
-KeyUnderEnds form readers output error status = Ends (MakesUnder form readers) (RefusesUnder readers) output error status
+KeyUnderEnds form readers output error status = JobEnds (MakesUnder form readers) (RefusesUnder readers) output error status

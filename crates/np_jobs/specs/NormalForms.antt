@@ -6,7 +6,7 @@ use Rattle.np_forms.specs.RunEnds.{Ends as RunDevices, RunEnds}
 use Rattle.np_forms.specs.declared.runs.RunFault.{RunFault}
 use Rattle.np_forms.specs.declared.runs.RunFault.TheVariants as Runs
 use Rattle.np_tables.specs.Versions.{VersionData}
-use Rattle.np_jobs.specs.Ends.{IsRefused}
+use Rattle.np_jobs.specs.Ends.{TellsRefusal}
 use Rattle.np_jobs.specs.Streams.{Stream, IsUntouched}
 use Rattle.np_jobs.specs.Texts.{TextReaders, LacksVersion}
 use Rattle.np_jobs.specs.Versions.{WasBuilt}
@@ -44,4 +44,4 @@ IsStopped form readers output fault =
 abbrev pub NormalizeEnds : Form → TextReaders → Stream → Stream → ℕ → Type 0
 NormalizeEnds form readers output error status =
     (((count : ℕ) × WasRun form readers output (Ok count)) × IsUntouched error × (status ≡ 0))
-    ⊎ ((fault : JobFault) × IsStopped form readers output fault × IsRefused fault error status)
+    ⊎ ((fault : JobFault) × IsStopped form readers output fault × TellsRefusal fault error status)

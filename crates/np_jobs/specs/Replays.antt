@@ -13,7 +13,7 @@ use Rattle.np_world.specs.ScheduleFiles.{IsFaultyLine, SaysSchedule}
 use Rattle.np_world.specs.World.{IsRun, MachineNode, Setting, World, start}
 use Rattle.np_world.specs.declared.replies.Reply.{Reply}
 use Rattle.np_jobs.specs.Chains.{LacksOne, VersionReaders, WereBuilt}
-use Rattle.np_jobs.specs.Ends.{Ends}
+use Rattle.np_jobs.specs.Ends.{JobEnds}
 use Rattle.np_jobs.specs.Streams.{Stream, IsUntouched, WasNotRead, WasRead}
 use Rattle.np_jobs.specs.Wraps.{Wraps}
 use Rattle.np_jobs.specs.declared.faults.JobFault.{JobFault}
@@ -88,4 +88,4 @@ RefusesReplay readers fault =
 
 -- `replay`: the machine's run over the schedule, as text
 abbrev pub ReplayEnds : Form → ReplayReaders → Stream → Stream → ℕ → Type 0
-ReplayEnds form readers output error status = Ends (MakesReplay form readers) (RefusesReplay readers) output error status
+ReplayEnds form readers output error status = JobEnds (MakesReplay form readers) (RefusesReplay readers) output error status

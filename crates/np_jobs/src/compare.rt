@@ -1,7 +1,7 @@
 //! The command `compare`: whether two strings are equivalent.
 ghost use Rattle.std.specs.Prelude.{◌≡◌, IfNone, IfOk, IfErr, IfSome, string_bytes};
 ghost use Rattle.np_code_points.specs.Lines.{HasNo};
-ghost use Rattle.np_jobs.specs.Comparisons.{AreTwoLines, CompareEnds, IsAnswer, IsComparison, LacksAnswer, LacksComparison, answer_text};
+ghost use Rattle.np_jobs.specs.Comparisons.{AreTwoLines, CompareEnds, IsCompareOutput, IsComparison, LacksCompareOutput, LacksComparison, answer_text};
 ghost use Rattle.np_jobs.specs.Streams.{stream_of};
 
 use crate::ending::{Made, finish};
@@ -66,8 +66,8 @@ pub(super) fn make_comparison<T: NormTable>(
     table: &T,
     text: &str,
 ) -> Result<Made, TextFault>
-    ensures answer { IfOk result (λ m. IsAnswer form (T.model table.now) text.now m.is_yes (string_bytes m.text)) }
-    ensures refused { IfErr result (LacksAnswer (T.model table.now) text.now) }
+    ensures answer { IfOk result (λ m. IsCompareOutput form (T.model table.now) text.now m.is_yes (string_bytes m.text)) }
+    ensures refused { IfErr result (LacksCompareOutput (T.model table.now) text.now) }
 {
     let Some((first, second)) = two_lines(text) else {
         return Err(TextFault::TwoLinesWanted);

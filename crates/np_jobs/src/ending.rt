@@ -1,6 +1,6 @@
 //! How a job ends: what it writes, what it tells, and its status.
 ghost use Rattle.std.specs.Prelude.{◌≡◌, string_bytes};
-ghost use Rattle.np_jobs.specs.Ends.{IsRefused, IsTold, answer_status};
+ghost use Rattle.np_jobs.specs.Ends.{TellsRefusal, IsTold, answer_status};
 ghost use Rattle.np_jobs.specs.Streams.{stream_of};
 ghost use Rattle.np_jobs.specs.inside.Endings.{EndsWith};
 
@@ -37,7 +37,7 @@ pub fn tell<E: Write>(error: &mut Watched<E>, line: &str)
 /// Tells a refusal in its line, and answers its status; as want of memory where there is none for
 /// the line.
 pub fn refuse<E: Write>(alloc: Global, error: &mut Watched<E>, fault: &JobFault) -> u8
-    ensures { IsRefused fault.now (stream_of E.contents error.old error.new) result }
+    ensures { TellsRefusal fault.now (stream_of E.contents error.old error.new) result }
 {
     match line_of(alloc, fault) {
         Ok(line) => {

@@ -1,7 +1,7 @@
 //! The command `key`: stabilized strings (UAX #15 section 12).
 ghost use Rattle.std.specs.Prelude.{◌≡◌, IfOk, IfErr, chars, string_bytes, true};
 ghost use Rattle.np_forms.specs.Forms.{IsNormalForm};
-ghost use Rattle.np_jobs.specs.Keys.{IsKey, KeyEnds, LacksKey};
+ghost use Rattle.np_jobs.specs.Keys.{IsKeyOutput, KeyEnds, LacksKeyOutput};
 ghost use Rattle.np_jobs.specs.Streams.{stream_of};
 
 use crate::ending::{Made, finish};
@@ -21,9 +21,9 @@ pub(super) fn key_of<T: NormTable>(
     table: &T,
     text: String,
 ) -> Result<String, TextFault>
-    ensures key { IfOk result (λ key. IsKey form (T.model table.now) (string_bytes text) true (string_bytes key)) }
+    ensures key { IfOk result (λ key. IsKeyOutput form (T.model table.now) (string_bytes text) true (string_bytes key)) }
     ensures normal { IfOk result (λ key. IsNormalForm (T.model table.now) form (chars (string_bytes text)) (chars (string_bytes key))) }
-    ensures refused { IfErr result (LacksKey (T.model table.now) (string_bytes text)) }
+    ensures refused { IfErr result (LacksKeyOutput (T.model table.now) (string_bytes text)) }
 {
     match into_npss(alloc, table, form, text) {
         Ok(key) => Ok(key),
@@ -39,8 +39,8 @@ pub(super) fn make_key<T: NormTable>(
     table: &T,
     text: String,
 ) -> Result<Made, TextFault>
-    ensures key { IfOk result (λ m. IsKey form (T.model table.now) (string_bytes text) m.is_yes (string_bytes m.text)) }
-    ensures refused { IfErr result (LacksKey (T.model table.now) (string_bytes text)) }
+    ensures key { IfOk result (λ m. IsKeyOutput form (T.model table.now) (string_bytes text) m.is_yes (string_bytes m.text)) }
+    ensures refused { IfErr result (LacksKeyOutput (T.model table.now) (string_bytes text)) }
 {
     let text = key_of(alloc, form, table, text)?;
     Ok(Made { text, is_yes: true })

@@ -3,7 +3,7 @@ ghost use Rattle.std.specs.Prelude.{◌≡◌, ◌∷◌, [], false, IfOk, IfErr
 ghost use Rattle.np_chain.specs.Extension.{Extends};
 ghost use Rattle.np_code_points.specs.Watched.{has_failed};
 ghost use Rattle.np_jobs.specs.Chains.{LacksOne, WereBuilt, readers_of};
-ghost use Rattle.np_jobs.specs.Keys.{LacksKey};
+ghost use Rattle.np_jobs.specs.Keys.{LacksKeyOutput};
 ghost use Rattle.np_jobs.specs.KeysUnder.{IsKeyUnder, KeyUnderEnds, MakesUnder, RefusesPair, RefusesUnder, SaysOwn};
 ghost use Rattle.np_jobs.specs.Streams.{stream_of};
 ghost use Rattle.np_jobs.specs.Texts.{IsMadeOfText, IsTextFault};
@@ -44,7 +44,7 @@ fn make_own<T: NormTable>(
 ) -> Result<Made, TextFault>
     requires { Extends old.now (T.model table.now) }
     ensures own { IfOk result (λ m. IsKeyUnder form old.now (T.model table.now) (string_bytes text) m.is_yes (string_bytes m.text)) }
-    ensures refused { IfErr result (LacksKey (T.model table.now) (string_bytes text)) }
+    ensures refused { IfErr result (LacksKeyOutput (T.model table.now) (string_bytes text)) }
 {
     old.meets_conditions();
     table.meets_conditions();
@@ -68,7 +68,7 @@ fn made_of_input<T: NormTable, I: Read>(
     requires { Extends old.now (T.model table.now) }
     ensures made { IfOk result (λ m. IsMadeOfText (IsKeyUnder form old.now (T.model table.now))
         (stream_of I.remaining input.old input.new) m.is_yes (string_bytes m.text)) }
-    ensures refused { IfErr result (IsTextFault (LacksKey (T.model table.now)) (stream_of I.remaining input.old input.new)) }
+    ensures refused { IfErr result (IsTextFault (LacksKeyOutput (T.model table.now)) (stream_of I.remaining input.old input.new)) }
 {
     let bytes = read_input(alloc, input)?;
     let text = text_in(bytes)?;

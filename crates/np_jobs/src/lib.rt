@@ -1,5 +1,6 @@
 //! What each command of the program does, over any readers and writers: its output, its status, and
-//! the line in which a refusal is told.
+//! the line in which a refusal is told. Beside that what a program over these jobs needs: the words of
+//! the command line, the opening of files, the standard streams.
 #![tactic(auto)]
 
 mod audit;
@@ -11,10 +12,15 @@ mod key;
 mod key_under;
 mod lines;
 mod normalize;
+mod openers;
+mod opening;
 mod replay;
+mod standard;
 mod statuses;
 mod texts;
+mod usage;
 mod versions;
+mod words;
 
 pub use audit::audit_job;
 pub use compare::compare_job;
@@ -23,5 +29,11 @@ pub use faults::{JobFault, ReplayFault, TextFault, VersionFault};
 pub use key::key_job;
 pub use key_under::key_under_job;
 pub use normalize::normalize_job;
+pub use openers::{Opener, SystemFiles};
+pub use opening::{open_file, open_version, open_versions};
 pub use replay::replay_job;
+pub use standard::{Standard, StandardInput, take_standard};
 pub use statuses::{DONE, FAILED};
+pub use usage::{refuse_words, show_usage, tell_usage};
+pub use versions::read_table;
+pub use words::{Job, VersionFiles, WordsFault, command_on_text, form_and_files, parse};

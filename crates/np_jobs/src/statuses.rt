@@ -1,10 +1,13 @@
-//! The statuses of the jobs. 2 is left to a caller, for words that ask for none of them.
+//! The statuses of the jobs, and of words that ask for none of them.
 
 /// A job that is done, and whose answer is yes where it has one.
 pub const DONE: u8 = 0;
 
 /// A job whose answer is no, and versions that do not extend one another.
 pub const DIFFERENT: u8 = 1;
+
+/// Words that ask for nothing that there is.
+pub const USAGE: u8 = 2;
 
 /// A code point that is not assigned.
 pub const UNASSIGNED: u8 = 3;

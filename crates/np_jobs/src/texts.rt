@@ -2,9 +2,9 @@
 //! answered.
 ghost use Rattle.std.specs.Prelude.{◌≡◌, IfOk, IfErr, IsUtf8, string_bytes};
 ghost use Rattle.np_jobs.specs.Streams.{WasNotRead, WasRead, stream_of};
-ghost use Rattle.np_jobs.specs.Texts.{IsMadeOfText, IsNoText, IsTextFault, MakesOfText, RefusesText};
+ghost use Rattle.np_jobs.specs.Texts.{IsMadeOfText, IsNotUtf8, IsTextFault, MakesOfText, RefusesText};
 ghost use Rattle.np_jobs.specs.Wraps.{Wraps};
-ghost use Rattle.np_jobs.specs.inside.TextJobs.{Makes, Refuses};
+ghost use Rattle.np_jobs.specs.inside.TextJobs.{JobMakes, JobRefuses};
 
 use crate::compare::make_comparison;
 use crate::ending::Made;
@@ -34,8 +34,8 @@ fn make<T: NormTable>(
     table: &T,
     text: String,
 ) -> Result<Made, TextFault>
-    ensures made { IfOk result (λ m. Makes job form (T.model table.now) (string_bytes text) m.is_yes (string_bytes m.text)) }
-    ensures refused { IfErr result (Refuses job (T.model table.now) (string_bytes text)) }
+    ensures made { IfOk result (λ m. JobMakes job form (T.model table.now) (string_bytes text) m.is_yes (string_bytes m.text)) }
+    ensures refused { IfErr result (JobRefuses job (T.model table.now) (string_bytes text)) }
 {
     match job {
         TextJob::Key => make_key(alloc, form, table, text),
@@ -61,7 +61,7 @@ pub(super) fn read_input<R: Read>(
 pub(super) fn text_in(bytes: Vec<u8>) -> Result<String, TextFault>
     ensures text { IfOk result (λ text. string_bytes text ≡ bytes.items) }
     ensures valid { IfOk result (λ text. IsUtf8 bytes.items) }
-    ensures refused { IfErr result (IsNoText bytes.items) }
+    ensures refused { IfErr result (IsNotUtf8 bytes.items) }
 {
     match text_of(bytes.as_slice()) {
         Ok(_same) => Ok(unsafe { String::from_utf8_unchecked(bytes) }),
@@ -77,8 +77,8 @@ fn made_under<T: NormTable, I: Read>(
     table: &T,
     input: &mut Watched<I>,
 ) -> Result<Made, TextFault>
-    ensures made { IfOk result (λ m. IsMadeOfText (Makes job form (T.model table.now)) (stream_of I.remaining input.old input.new) m.is_yes (string_bytes m.text)) }
-    ensures refused { IfErr result (IsTextFault (Refuses job (T.model table.now)) (stream_of I.remaining input.old input.new)) }
+    ensures made { IfOk result (λ m. IsMadeOfText (JobMakes job form (T.model table.now)) (stream_of I.remaining input.old input.new) m.is_yes (string_bytes m.text)) }
+    ensures refused { IfErr result (IsTextFault (JobRefuses job (T.model table.now)) (stream_of I.remaining input.old input.new)) }
 {
     let bytes = read_input(alloc, input)?;
     let text = text_in(bytes)?;
@@ -99,12 +99,12 @@ pub fn made_of_text<F: Read, I: Read>(
     exclusions_file: &mut Watched<F>,
     input: &mut Watched<I>,
 ) -> Result<Made, JobFault>
-    ensures made { IfOk result (λ m. MakesOfText (Makes job form) (record {
+    ensures made { IfOk result (λ m. MakesOfText (JobMakes job form) (record {
       data_file = stream_of F.remaining data_file.old data_file.new;
       exclusions_file = stream_of F.remaining exclusions_file.old exclusions_file.new;
       input = stream_of I.remaining input.old input.new;
     }) m.is_yes (string_bytes m.text)) }
-    ensures refused { IfErr result (RefusesText (Refuses job) (record {
+    ensures refused { IfErr result (RefusesText (JobRefuses job) (record {
       data_file = stream_of F.remaining data_file.old data_file.new;
       exclusions_file = stream_of F.remaining exclusions_file.old exclusions_file.new;
       input = stream_of I.remaining input.old input.new;

@@ -1,5 +1,3 @@
-pub mod Commands
 pub mod Program
 pub mod Usage
-pub mod Words
 pub mod inside

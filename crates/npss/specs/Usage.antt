@@ -1,11 +1,11 @@
--- What is told where a file does not open.
-use Rattle.std.specs.Prelude.{◌≡◌, ◌⊎◌, ◌++◌, ℕ, List, Contains, codes}
-use Rattle.np_jobs.specs.Ends.{IsRefused, IsTold}
-use Rattle.np_jobs.specs.Streams.{Stream}
-use Rattle.np_jobs.specs.declared.faults.JobFault.TheVariants.{Memory}
+-- How the program is used.
+use Rattle.std.specs.Prelude.{ℕ, List, ◌++◌, codes}
 
--- one of these files can't be opened; or memory ran out, for its line or for the files
-abbrev pub IsUnopened : List (List ℕ) → Stream → ℕ → Type 0
-IsUnopened names error status =
-    ((name : List ℕ) × Contains names name × IsTold error (codes "cannot open " ++ (name ++ codes "\n")) × (status ≡ 5))
-    ⊎ IsRefused Memory error status
+-- how the program is used, a line per command
+abbrev pub usage_lines : List ℕ
+usage_lines =
+    codes "usage: npss normalize --form FORM DATA EXCL\n" ++
+    (codes "       npss key --form FORM DATA EXCL\n" ++
+    (codes "       npss key --form FORM --check-under OLDDATA OLDEXCL DATA EXCL\n" ++
+    (codes "       npss compare --form FORM DATA EXCL\n" ++
+    (codes "       npss audit OLDDATA OLDEXCL NEWDATA NEWEXCL\n" ++ codes "       npss replay --form FORM SCHEDULE FILES..\n"))))

@@ -1,16 +1,14 @@
 //! Stabilized Unicode strings over tables that are read from files: the program.
 #![tactic(auto)]
 
-mod opening;
 mod program;
-mod standard;
-mod words;
+mod usage;
 
-use np_jobs::{JobFault, refuse};
-use program::{refuse_words, run_words};
-use standard::take_standard;
+use np_jobs::{JobFault, SystemFiles, refuse, refuse_words, take_standard};
+use program::run_words;
 use std::alloc::Global;
 use std::process::ExitCode;
+use usage::usage_text;
 
 /// A little more than the text of a data file takes, in bytes: its list grows by doubling to 2 MiB.
 const LARGE: usize = 2_162_688;
@@ -27,17 +25,17 @@ fn keep_freed(alloc: Global) {
 fn main(rt: HostRuntime) -> ExitCode {
     let alloc = rt.alloc();
     keep_freed(alloc);
-    let mut streams = match take_standard(&rt) {
-        Ok(streams) => streams,
-        Err(status) => return ExitCode::from(status),
-    };
+    let mut streams = take_standard(&rt);
     let words = match std::env::args(&rt) {
         Ok(words) => words,
-        Err(why) => return ExitCode::from(refuse_words(alloc, &mut streams.error, &why)),
+        Err(why) => {
+            let status = refuse_words(alloc, &mut streams.error, usage_text(), &why);
+            return ExitCode::from(status);
+        }
     };
     match words.skip(1).collect::<Vec<String>>(alloc) {
         Ok(words) => ExitCode::from(run_words(
-            &rt,
+            &SystemFiles::new(&rt),
             alloc,
             words.as_slice(),
             &mut streams.input,

@@ -1,28 +1,22 @@
 -- What the program does for its words, over any opener of files: by which contents a file of a name may have, and which names may not open.
-use Rattle.std.specs.Prelude.{◌≡◌, ◌⊎◌, ◌∷◌, [], ℕ, true, None, Some, List, Option}
+use Rattle.std.specs.Prelude.{◌≡◌, ◌⊎◌, ℕ, true, None, Some, List, Option}
 use Rattle.clap.specs.Words.{Text}
 use Rattle.np_jobs.specs.Ends.{IsTold, TellsRefusal, WritesAnswer}
-use Rattle.np_jobs.specs.Opening.{IsUnopened, WereOpened}
+use Rattle.np_jobs.specs.Opening.{AreTextReaders, IsUnopened}
 use Rattle.np_jobs.specs.Streams.{Stream}
 use Rattle.np_jobs.specs.Texts.{TextReaders}
 use Rattle.np_jobs.specs.Words.{names_of}
 use Rattle.np_jobs.specs.declared.faults.JobFault.TheVariants.{Memory}
-use Rattle.np_jobs.specs.declared.words.files.VersionFiles.{VersionFiles}
 use Rattle.np_lines_job.specs.LineKeys.{LinesEnd}
 use Rattle.np_lines_job.specs.LineWords.{asked_by, asked_of, lines_usage}
 use Rattle.np_lines_job.specs.declared.words.LinesJob.{LinesJob}
 use Rattle.np_lines_job.specs.declared.words.LinesJob.TheVariants.{Help, Answer}
 
--- the readers of a run: the two files of the version were opened by their names, and the input is the program's
-pub record AreLineReaders (Gives : Text → Option (List ℕ) → Type 0) (files : VersionFiles) (input : Stream) (readers : TextReaders) : Type 0 where
-  pub opened : WereOpened Gives (names_of files) (readers.data_file ∷ (readers.exclusions_file ∷ []))
-  pub input_is : readers.input ≡ input
-
 -- the usage text is written; or the lines are answered over the files that the names opened, or the first name that doesn't open is told and nothing is written
 abbrev pub IsRun : (Text → Option (List ℕ) → Type 0) → (Text → Type 0) → LinesJob → Stream → Stream → Stream → ℕ → Type 0
 IsRun Gives Lacks Help input output error status = WritesAnswer true lines_usage output error status
 IsRun Gives Lacks (Answer asked shows_progress files) input output error status =
-    ((readers : TextReaders) × AreLineReaders Gives files input readers × LinesEnd asked readers output error status)
+    ((readers : TextReaders) × AreTextReaders Gives files input readers × LinesEnd asked readers output error status)
     ⊎ (IsUnopened Gives Lacks (names_of files) error status × (output.after ≡ output.before))
 
 -- no job is asked for: the words ask for nothing that there is, or memory ran out

@@ -20,11 +20,13 @@ fn end_where_shown(rt: &HostRuntime, alloc: Global, words: &[String]) -> Option<
         return None;
     }
     match parse_lines(alloc, words) {
-        Ok(LinesJob::Answer {
-            asked,
-            shows_progress,
-            files: _,
-        }) => shows_progress.then_some(asked.wanted.end),
+        Ok(
+            LinesJob::Answer {
+                asked,
+                shows_progress,
+                files: _,
+            },
+        ) => shows_progress.then_some(asked.wanted.end),
         Ok(LinesJob::Help) | Err(WordsFault::Usage | WordsFault::Memory) => None,
     }
 }

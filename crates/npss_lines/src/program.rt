@@ -1,13 +1,13 @@
 //! What the program does for its words, over any opener of files and any streams.
 ghost use Rattle.std.specs.Prelude.{◌≡◌, map, string_bytes, true, Err, IfOk, IfErr};
 ghost use Rattle.np_jobs.specs.Ends.{IsTold, TellsRefusal, WritesAnswer};
-ghost use Rattle.np_jobs.specs.Opening.{IsUnopened};
+ghost use Rattle.np_jobs.specs.Opening.{AreTextReaders, IsUnopened};
 ghost use Rattle.np_jobs.specs.Streams.{stream_of};
 ghost use Rattle.np_jobs.specs.Texts.{TextReaders};
 ghost use Rattle.np_jobs.specs.Words.{names_of};
 ghost use Rattle.np_lines_job.specs.LineKeys.{LinesEnd};
 ghost use Rattle.np_lines_job.specs.LineWords.{lines_usage};
-ghost use Rattle.npss_lines.specs.LinesProgram.{AreLineReaders, IsRun, ProgramEnds};
+ghost use Rattle.npss_lines.specs.LinesProgram.{IsRun, ProgramEnds};
 
 use np_code_points::watched::Watched;
 use np_jobs::{
@@ -32,7 +32,7 @@ fn run_on_lines<P: Opener, I: Read, O: Write, E: Write>(
     error: &mut Watched<E>,
 ) -> Result<u8, u8>
     ensures done { IfOk result (λ status. (readers : TextReaders)
-        × AreLineReaders (P.gives opener.now) files.now (stream_of I.remaining input.old input.new) readers
+        × AreTextReaders (P.gives opener.now) files.now (stream_of I.remaining input.old input.new) readers
         × LinesEnd asked readers (stream_of O.contents output.old output.new) (stream_of E.contents error.old error.new) status) }
     ensures unopened { IfErr result (IsUnopened (P.gives opener.now) (P.lacks opener.now) (names_of files.now) (stream_of E.contents error.old error.new)) }
     ensures unwritten { IfErr result (λ status. output.new ≡ output.old) }
@@ -66,11 +66,13 @@ fn run_found<P: Opener, I: Read, O: Write, E: Write>(
 {
     match found {
         Ok(LinesJob::Help) => show_usage(alloc, output, error, lines_usage_text()),
-        Ok(LinesJob::Answer {
-            asked,
-            shows_progress: _,
-            files,
-        }) => match run_on_lines(opener, alloc, *asked, files, input, output, error) {
+        Ok(
+            LinesJob::Answer {
+                asked,
+                shows_progress: _,
+                files,
+            },
+        ) => match run_on_lines(opener, alloc, *asked, files, input, output, error) {
             Ok(status) => status,
             Err(status) => status,
         },

@@ -1,14 +1,14 @@
 //! Versions in a row.
-use crate::common::{Files, S, V1, V2, tables_of, want};
 use np_chain::{Break, BreakKind, Chain, ChainFault};
 use np_code_points::Form;
 use np_code_points::told::want_told;
+use np_examples_shared::{Files, GuestTable, S, V1, V2, made_of, tables_of, want};
 use np_forms::{first_unassigned, npss};
 use np_tables::{NormTable, RowTable};
 use std::alloc::Global;
 use std::test::Fail;
 
-fn is_a_chain(tables: &[RowTable]) -> Result<(), Fail> {
+fn is_a_chain<T: NormTable>(tables: &[T]) -> Result<(), Fail> {
     let chain = Chain::check(tables)?;
     want(chain.len() == 2, "of two versions")?;
     want(chain.at(0).version().count() == 17_660, "the first")?;
@@ -19,6 +19,12 @@ fn is_a_chain(tables: &[RowTable]) -> Result<(), Fail> {
 #[test]
 fn a_chain_extends_at_each_step(rt: HostRuntime) -> Result<(), Fail> {
     let tables = tables_of(rt.alloc(), &[V1, V2])?;
+    is_a_chain(tables.as_slice())
+}
+
+#[test]
+fn tables_of_somebody_else_make_a_chain(rt: HostRuntime) -> Result<(), Fail> {
+    let tables = made_of::<GuestTable>(rt.alloc(), &[V1, V2])?;
     is_a_chain(tables.as_slice())
 }
 

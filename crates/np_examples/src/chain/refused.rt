@@ -1,9 +1,8 @@
 //! An audit that was refused for want of memory, and lists the breaks after all.
 use super::audits::LOST;
-use crate::common::{V1, V2, version_of, want};
-use crate::refused::again;
 use np_chain::audit;
 use np_code_points::Memory;
+use np_examples_shared::{V1, V2, again, version_of, want};
 use np_tables::Version;
 use std::alloc::Global;
 use std::test::Fail;

@@ -1,9 +1,9 @@
 //! Whole inputs: their end, their limit, and what a failure leaves.
-use crate::common::{FAILURES, mended};
 use np_code_points::devices::{Endless, Failure, Trickle};
 use np_code_points::input::{InputFault, LIMIT, read_whole};
 use np_code_points::told::want_told;
 use np_code_points::watched::Watched;
+use np_examples_shared::{FAILURES, mended};
 use std::alloc::Global;
 use std::io::Read;
 use std::test::Fail;

@@ -1,6 +1,6 @@
 //! Worked examples of lines.
-use crate::common::want;
 use np_code_points::lines::{DataLines, cut};
+use np_examples_shared::want;
 use std::test::Fail;
 
 /// Fails unless these data lines come, with their numbers, and no more, of so many lines.

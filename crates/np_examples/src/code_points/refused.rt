@@ -1,10 +1,9 @@
 //! Calls that were refused for want of memory: what they were lent is as it was, and the same call succeeds
 //! after all.
-use crate::common::want;
-use crate::refused::again;
 use np_code_points::Memory;
 use np_code_points::codes::write_code;
 use np_code_points::text::{chars_of, string_of};
+use np_examples_shared::{again, want};
 use std::test::Fail;
 
 #[test]

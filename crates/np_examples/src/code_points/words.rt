@@ -1,6 +1,6 @@
 //! Worked examples of words.
-use crate::common::want;
 use np_code_points::words::{Dividers, Words, after_dividers};
+use np_examples_shared::want;
 use std::test::Fail;
 
 /// Fails unless the first words are these.

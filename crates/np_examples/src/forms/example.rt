@@ -1,8 +1,8 @@
 //! The example of the README and of the crate's head: from two files to a key.
-use crate::common::want;
 use np_code_points::Form;
 use np_code_points::fixtures::{V1_DATA, V1_EXCLUSIONS};
 use np_code_points::watched::Watched;
+use np_examples_shared::want;
 use np_forms::npss;
 use np_tables::{PageTable, Version};
 use np_ucd::{read_exclusions, read_rows};

@@ -1,8 +1,10 @@
 //! What each call answers on worked examples.
 use super::wants_form;
-use crate::common::{Example, LETTERS, Made, S, V1, V2, amid, holds_over_each, table_of, want};
 use np_code_points::told::want_told;
 use np_code_points::{Form, Memory};
+use np_examples_shared::{
+    Example, LETTERS, Made, S, V1, V2, amid, holds_over_each, table_of, want,
+};
 use np_forms::{
     NpssFault, equivalent, first_unassigned, into_npss, is_form, is_stream_safe, lend_npss, npss,
 };
@@ -390,7 +392,7 @@ fn amid_long_texts<T: NormTable>(alloc: Global, table: &T) -> Result<(), Fail> {
 
 /// What forms show.
 #[derive(Clone, Copy)]
-enum Shown {
+pub(super) enum Shown {
     Canonical,
     ToldFromOthers,
     Prefixes,

@@ -1,7 +1,7 @@
 //! The laws on worked examples: a form is its own form, and a later version keeps it.
 use super::wants_form;
-use crate::common::{Example, Made, S, V1, V2, holds_over_each, table_of};
 use np_code_points::Form;
+use np_examples_shared::{Example, Made, S, V1, V2, holds_over_each, table_of};
 use np_forms::form;
 use np_tables::NormTable;
 use std::alloc::Global;

@@ -1,9 +1,9 @@
 //! Runs over whole inputs on worked examples.
-use crate::common::{Example, FAILURES, Made, V1, holds_over_each, want};
 use np_code_points::Form;
 use np_code_points::devices::{Failure, Room, Trickle};
 use np_code_points::told::want_told;
 use np_code_points::watched::Watched;
+use np_examples_shared::{Example, FAILURES, Made, V1, holds_over_each, want};
 use np_forms::{RunFault, run};
 use np_tables::NormTable;
 use std::alloc::Global;

@@ -1,6 +1,6 @@
 //! Which worked examples are stream-safe.
 use super::examples::repeated;
-use crate::common::{Example, Made, V1, holds_over_each, want};
+use np_examples_shared::{Example, Made, V1, holds_over_each, want};
 use np_forms::is_stream_safe;
 use np_tables::NormTable;
 use std::alloc::Global;

@@ -1,7 +1,7 @@
 //! Streams on worked examples.
-use crate::common::{Example, Made, V1, V2, holds_over_each, want};
 use np_code_points::Form;
 use np_code_points::text::string_of;
+use np_examples_shared::{Example, Made, V1, V2, holds_over_each, want};
 use np_forms::Stream;
 use np_tables::NormTable;
 use std::alloc::Global;

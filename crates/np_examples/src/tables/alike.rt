@@ -1,7 +1,7 @@
 //! The plain table and the table of pages beside each other.
 use super::LAST;
-use crate::common::{Files, S, V1, V2, table_of, want};
 use np_code_points::hangul::is_syllable;
+use np_examples_shared::{Files, S, V1, V2, table_of, want};
 use np_tables::{NormTable, PageTable, RowTable};
 use std::alloc::Global;
 use std::test::Fail;

@@ -1,6 +1,6 @@
 //! What stands in long texts, where the table of pages looks at many bytes at a time.
-use crate::common::{LETTERS, amid, table_of, want};
 use np_code_points::Form;
+use np_examples_shared::{LETTERS, amid, table_of, want};
 use np_tables::{NormTable, PageTable};
 use std::alloc::Global;
 use std::test::Fail;

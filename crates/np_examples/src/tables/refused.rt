@@ -1,8 +1,8 @@
 //! Versions and tables that were refused for want of memory, and are made of the same files after all.
-use crate::common::{Made, V1, table_of, version_of, want};
 use np_code_points::Memory;
 use np_code_points::fixtures::{V1_DATA, V1_EXCLUSIONS};
 use np_code_points::watched::Watched;
+use np_examples_shared::{Made, V1, table_of, version_of, want};
 use np_tables::{NormTable, PageTable, RowTable, TableFault, Version};
 use np_ucd::{read_exclusions, read_rows};
 use std::alloc::Global;

@@ -1,8 +1,8 @@
 //! Both tables over the fixtures.
 use super::LAST;
-use crate::common::{Example, Files, Made, S, V1, holds_over_each, table_of, want};
 use np_code_points::Form;
 use np_code_points::codes::write_code;
+use np_examples_shared::{Example, Files, Made, S, V1, holds_over_each, table_of, want};
 use np_tables::{NormTable, PageTable, RowTable};
 use std::alloc::Global;
 use std::test::Fail;

@@ -1,10 +1,10 @@
 //! Versions: what they tell of their files, and the faults of files that give none.
 use super::version;
-use crate::common::want;
 use np_code_points::fixtures::{
     S_DATA, S_EXCLUSIONS, V1_DATA, V1_EXCLUSIONS, V2_DATA, V2_EXCLUSIONS,
 };
 use np_code_points::told::want_told;
+use np_examples_shared::want;
 use np_tables::{TableFault, Version};
 use np_ucd::MapKind;
 use std::alloc::{AllocError, Global};

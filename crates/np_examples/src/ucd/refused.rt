@@ -1,7 +1,7 @@
 //! Reads that were refused for want of memory, and succeed over the same bytes after all.
 use super::{has_two_rows, lists};
-use crate::refused::again;
 use np_code_points::watched::Watched;
+use np_examples_shared::again;
 use np_ucd::{UcdFault, read_exclusions, read_rows};
 use std::test::Fail;
 

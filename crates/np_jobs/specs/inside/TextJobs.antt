@@ -2,16 +2,16 @@
 use Rattle.std.specs.Prelude.{ℕ, Bool, List}
 use Rattle.np_code_points.specs.declared.forms.Form.{Form}
 use Rattle.np_tables.specs.Versions.{VersionData}
-use Rattle.np_jobs.specs.Comparisons.{IsAnswer, LacksAnswer}
-use Rattle.np_jobs.specs.Keys.{IsKey, LacksKey}
+use Rattle.np_jobs.specs.Comparisons.{IsCompareOutput, LacksCompareOutput}
+use Rattle.np_jobs.specs.Keys.{IsKeyOutput, LacksKeyOutput}
 use Rattle.np_jobs.specs.declared.faults.TextFault.{TextFault}
 use Rattle.np_jobs.specs.declared.texts.TextJob.{TextJob}
 use Rattle.np_jobs.specs.declared.texts.TextJob.TheVariants.{Key, Compare}
 
-abbrev pub Makes : TextJob → Form → VersionData → List ℕ → Bool → List ℕ → Type 0
-Makes Key = IsKey
-Makes Compare = IsAnswer
+abbrev pub JobMakes : TextJob → Form → VersionData → List ℕ → Bool → List ℕ → Type 0
+JobMakes Key = IsKeyOutput
+JobMakes Compare = IsCompareOutput
 
-abbrev pub Refuses : TextJob → VersionData → List ℕ → TextFault → Type 0
-Refuses Key = LacksKey
-Refuses Compare = LacksAnswer
+abbrev pub JobRefuses : TextJob → VersionData → List ℕ → TextFault → Type 0
+JobRefuses Key = LacksKeyOutput
+JobRefuses Compare = LacksCompareOutput

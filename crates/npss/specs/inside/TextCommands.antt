@@ -9,7 +9,7 @@ use Rattle.np_jobs.specs.Texts.{TextReaders}
 use Rattle.npss.specs.declared.program.TextCommand.{TextCommand}
 use Rattle.npss.specs.declared.program.TextCommand.TheVariants.{Normalize, Key, Compare}
 
-abbrev pub EndsAs : TextCommand → Form → TextReaders → Stream → Stream → ℕ → Type 0
-EndsAs Normalize = NormalizeEnds
-EndsAs Key = KeyEnds
-EndsAs Compare = CompareEnds
+abbrev pub TextCommandEnds : TextCommand → Form → TextReaders → Stream → Stream → ℕ → Type 0
+TextCommandEnds Normalize = NormalizeEnds
+TextCommandEnds Key = KeyEnds
+TextCommandEnds Compare = CompareEnds

@@ -1,8 +1,8 @@
-use Rattle.np_jobs.specs.Keys.{IsKey, LacksKey}
+use Rattle.np_jobs.specs.Keys.{IsKeyOutput, LacksKeyOutput}
 use Rattle.np_jobs.specs.Texts.{MakesOfText, RefusesText}
 use Rattle.np_jobs.proofs.EndLemmas.{ends}
 use Rattle.np_jobs.proofs.key.key_job.Goals as goal
 
 pub returns : goal.returns
 returns g c =
-    ends (MakesOfText (IsKey c.args.form) _) (RefusesText LacksKey _) c.made_of_text-made.result _ _ c.finish.result c.made_of_text-made.ensures.made c.made_of_text-made.ensures.refused c.finish.ensures
+    ends (MakesOfText (IsKeyOutput c.args.form) _) (RefusesText LacksKeyOutput _) c.made_of_text-made.result _ _ c.finish.result c.made_of_text-made.ensures.made c.made_of_text-made.ensures.refused c.finish.ensures

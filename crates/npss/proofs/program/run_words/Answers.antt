@@ -2,37 +2,37 @@ use Rattle.std.proofs.Common.{◌≡◌, ◌⊎◌, ℕ, List, None, Option, Som
 use Rattle.clap.specs.Words.{Text}
 use Rattle.np_code_points.specs.declared.channels.watched.Watched.{Watched}
 use Rattle.np_code_points.specs.Watched.{device_of}
-use Rattle.np_jobs.specs.Ends.{IsRefused, IsTold}
+use Rattle.np_jobs.specs.Ends.{TellsRefusal, IsTold}
 use Rattle.np_jobs.specs.Streams.{Stream, stream_of}
 use Rattle.np_jobs.specs.declared.faults.JobFault.TheVariants.{Memory}
-use Rattle.npss.specs.Program.{JobEnds, ProgramEnds}
-use Rattle.npss.specs.Usage.{IsUnopened}
-use Rattle.npss.specs.Words.{asked_by, asked_of, usage_lines}
-use Rattle.npss.specs.declared.words.Job.{Job}
-use Rattle.npss.specs.declared.words.WordsFault.{WordsFault}
-use Rattle.npss.specs.declared.words.WordsFault.TheVariants as faults
+use Rattle.np_jobs.specs.Words.{asked_by, asked_of}
+use Rattle.np_jobs.specs.declared.words.Job.{Job}
+use Rattle.np_jobs.specs.declared.words.faults.WordsFault.{WordsFault}
+use Rattle.np_jobs.specs.declared.words.faults.WordsFault.TheVariants as faults
+use Rattle.npss.specs.Program.{IsRun, ProgramEnds}
+use Rattle.npss.specs.Usage.{usage_lines}
 use Rattle.npss.proofs.program.run_words.Goals as goal
 
 -- what was found in the words says how the program ends
-ended : {D : Type 0} (tells : D → Option (List ℕ)) (words : List Text) (found : Result Job WordsFault) (input error : Stream) (old new : Watched D) (status : ℕ)
+ended : {D : Type 0} (Gives : Text → Option (List ℕ) → Type 0) (Lacks : Text → Type 0) (tells : D → Option (List ℕ)) (words : List Text) (found : Result Job WordsFault)
+    (input error : Stream) (old new : Watched D) (status : ℕ)
     → IfOk found (λ job. asked_by words ≡ Some (asked_of job))
     → (found ≡ Err faults.Usage → asked_by words ≡ None)
-    → IfOk found (λ job. JobEnds job input (stream_of tells old new) error status ⊎ (IsUnopened (asked_of job).files error status × (new ≡ old)))
+    → IfOk found (λ job. IsRun Gives Lacks job input (stream_of tells old new) error status)
     → (found ≡ Err faults.Usage → IsTold error usage_lines × (status ≡ 2))
-    → (found ≡ Err faults.Memory → IsRefused Memory error status)
+    → (found ≡ Err faults.Memory → TellsRefusal Memory error status)
     → IfErr found (λ _. new ≡ old)
-    → ProgramEnds words input (stream_of tells old new) error status
-ended tells words (Ok job) input error old new status asked none (inl done) usage memory silent = inl (job, asked, inl done)
-ended tells words (Ok job) input error old new status asked none (inr (unopened, same)) usage memory silent =
-    inl (job, asked, inr (unopened, ap (λ d. tells (device_of d)) same))
-ended tells words (Err faults.Usage) input error old new status asked none done usage memory same =
+    → ProgramEnds Gives Lacks words input (stream_of tells old new) error status
+ended Gives Lacks tells words (Ok job) input error old new status asked none run usage memory silent = inl (job, asked, run)
+ended Gives Lacks tells words (Err faults.Usage) input error old new status asked none run usage memory same =
     inr (inl (none refl, (usage refl).0, (usage refl).1), ap (λ d. tells (device_of d)) same)
-ended tells words (Err faults.Memory) input error old new status asked none done usage memory same =
+ended Gives Lacks tells words (Err faults.Memory) input error old new status asked none run usage memory same =
     inr (inr (memory refl), ap (λ d. tells (device_of d)) same)
 
 pub returns : goal.returns
 returns g c =
-    ended g.O.Write.contents (map string_bytes c.args.words.now) c.parse-found.result
+    let opener = c.args.opener.now in
+    ended (g.P.Opener.gives opener) (g.P.Opener.lacks opener) g.O.Write.contents (map string_bytes c.args.words.now) c.parse-found.result
     (stream_of g.I.Read.remaining c.args.input.now c.run_found.new.input) (stream_of g.E.Write.contents c.args.error.now c.run_found.new.error)
     c.args.output.now c.run_found.new.output c.run_found.result
     c.parse-found.ensures.ok c.parse-found.ensures.usage

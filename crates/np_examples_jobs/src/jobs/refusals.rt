@@ -1,0 +1,322 @@
+//! The line and the status of each refusal, as docs/FORMATS.md has them.
+use np_chain::{Break, BreakKind};
+use np_code_points::input::InputFault;
+use np_code_points::watched::Watched;
+use np_examples_shared::want;
+use np_jobs::{JobFault, ReplayFault, TextFault, VersionFault, refuse};
+use np_tables::TableFault;
+use np_ucd::UcdFault;
+use std::alloc::Global;
+use std::test::Fail;
+
+/// Whether the refusal is told so.
+fn is_told(alloc: Global, fault: &JobFault, status: u8, line: &str) -> bool {
+    let mut error = Watched::new(Vec::new(alloc));
+    let answered = refuse(alloc, &mut error, fault);
+    let told: Vec<u8> = error.into_inner();
+    answered == status && told.as_slice() == line.as_bytes()
+}
+
+/// Fails unless the refusal for each of these faults has that status and that line.
+fn are_told<F: Copy, J: Fn(F) -> JobFault>(
+    alloc: Global,
+    rows: &[(F, u8, &str)],
+    job_fault: &J,
+) -> Result<(), Fail>
+    requires { J.IsAlwaysCallable job_fault.now }
+{
+    for (fault, status, line) in rows {
+        want(is_told(alloc, &job_fault(*fault), *status, line), line)?;
+    }
+    Ok(())
+}
+
+fn data(fault: UcdFault) -> JobFault {
+    JobFault::from(VersionFault::Data { version: 0, fault })
+}
+
+fn exclusions(fault: UcdFault) -> JobFault {
+    JobFault::from(VersionFault::Exclusions { version: 1, fault })
+}
+
+fn tables(fault: TableFault) -> JobFault {
+    JobFault::from(VersionFault::Tables { version: 1, fault })
+}
+
+fn input(fault: InputFault) -> JobFault {
+    JobFault::from(TextFault::Input { fault })
+}
+
+fn text(fault: TextFault) -> JobFault {
+    JobFault::from(fault)
+}
+
+fn schedule(fault: InputFault) -> JobFault {
+    JobFault::from(ReplayFault::Schedule { fault })
+}
+
+fn replay(fault: ReplayFault) -> JobFault {
+    JobFault::from(fault)
+}
+
+fn itself(fault: JobFault) -> JobFault {
+    fault
+}
+
+/// Faults of a data file's records.
+const RECORDS: [(UcdFault, u8, &str); 6] = [
+    (
+        UcdFault::FieldCount { line: 1 },
+        4,
+        "version 0 data: line 1: FieldCount\n",
+    ),
+    (
+        UcdFault::BadCode { line: 2 },
+        4,
+        "version 0 data: line 2: BadCode\n",
+    ),
+    (
+        UcdFault::OutOfOrder { line: 3 },
+        4,
+        "version 0 data: line 3: OutOfOrder\n",
+    ),
+    (
+        UcdFault::BadCategory { line: 40 },
+        4,
+        "version 0 data: line 40: BadCategory\n",
+    ),
+    (
+        UcdFault::BadClass { line: 5 },
+        4,
+        "version 0 data: line 5: BadClass\n",
+    ),
+    (
+        UcdFault::BadMapping { line: 16777217 },
+        4,
+        "version 0 data: line 16777217: BadMapping\n",
+    ),
+];
+
+#[test]
+fn faults_of_records_have_lines(rt: HostRuntime) -> Result<(), Fail> {
+    are_told(rt.alloc(), &RECORDS, &data)
+}
+
+/// Faults of its ranges.
+const RANGES: [(UcdFault, u8, &str); 4] = [
+    (
+        UcdFault::RangeOpen { line: 7 },
+        4,
+        "version 0 data: line 7: RangeOpen\n",
+    ),
+    (
+        UcdFault::RangeLone { line: 8 },
+        4,
+        "version 0 data: line 8: RangeLone\n",
+    ),
+    (
+        UcdFault::RangeDiffers { line: 9 },
+        4,
+        "version 0 data: line 9: RangeDiffers\n",
+    ),
+    (
+        UcdFault::RangeMaps { line: 10 },
+        4,
+        "version 0 data: line 10: RangeMaps\n",
+    ),
+];
+
+#[test]
+fn faults_of_ranges_have_lines(rt: HostRuntime) -> Result<(), Fail> {
+    are_told(rt.alloc(), &RANGES, &data)
+}
+
+/// Faults of the whole data file.
+const DATA_FILES: [(UcdFault, u8, &str); 3] = [
+    (UcdFault::TooLarge, 4, "version 0 data: TooLarge\n"),
+    (UcdFault::ReadFailed, 5, "version 0 data: ReadFailed\n"),
+    (UcdFault::Memory, 6, "out of memory\n"),
+];
+
+/// Faults of the exclusions file.
+const EXCLUSIONS_FILES: [(UcdFault, u8, &str); 4] = [
+    (
+        UcdFault::BadCode { line: 1 },
+        4,
+        "version 1 exclusions: line 1: BadCode\n",
+    ),
+    (UcdFault::TooLarge, 4, "version 1 exclusions: TooLarge\n"),
+    (
+        UcdFault::ReadFailed,
+        5,
+        "version 1 exclusions: ReadFailed\n",
+    ),
+    (UcdFault::Memory, 6, "out of memory\n"),
+];
+
+#[test]
+fn faults_of_whole_files_have_lines(rt: HostRuntime) -> Result<(), Fail> {
+    are_told(rt.alloc(), &DATA_FILES, &data)?;
+    are_told(rt.alloc(), &EXCLUSIONS_FILES, &exclusions)
+}
+
+/// Faults of the tables that two files make.
+const TABLE_FAULTS: [(TableFault, u8, &str); 6] = [
+    (
+        TableFault::MapsToUnassigned { code: 0xC5 },
+        4,
+        "version 1 tables: MapsToUnassigned 00C5\n",
+    ),
+    (
+        TableFault::TooDeep { code: 0x41 },
+        4,
+        "version 1 tables: TooDeep 0041\n",
+    ),
+    (
+        TableFault::TooLong { code: 0x16D67 },
+        4,
+        "version 1 tables: TooLong 16D67\n",
+    ),
+    (
+        TableFault::AmbiguousPair { code: 0x10FFFF },
+        4,
+        "version 1 tables: AmbiguousPair 10FFFF\n",
+    ),
+    (
+        TableFault::HangulWrong { code: 0x1101 },
+        4,
+        "version 1 tables: HangulWrong 1101\n",
+    ),
+    (TableFault::Memory, 6, "out of memory\n"),
+];
+
+#[test]
+fn faults_of_tables_have_lines(rt: HostRuntime) -> Result<(), Fail> {
+    are_told(rt.alloc(), &TABLE_FAULTS, &tables)
+}
+
+/// Faults of a text's input.
+const INPUTS: [(InputFault, u8, &str); 3] = [
+    (InputFault::TooLarge, 4, "input: TooLarge\n"),
+    (InputFault::ReadFailed, 5, "input: ReadFailed\n"),
+    (InputFault::Memory, 6, "out of memory\n"),
+];
+
+#[test]
+fn faults_of_inputs_have_lines(rt: HostRuntime) -> Result<(), Fail> {
+    are_told(rt.alloc(), &INPUTS, &input)
+}
+
+/// Faults of a text that was read.
+const TEXTS: [(TextFault, u8, &str); 6] = [
+    (
+        TextFault::NotUtf8 { at: 16777215 },
+        4,
+        "input: not UTF-8 at byte 16777215\n",
+    ),
+    (TextFault::TwoLinesWanted, 4, "input: two lines wanted\n"),
+    (
+        TextFault::Unassigned {
+            at: 1,
+            code: '\u{16D67}',
+        },
+        3,
+        "unassigned 16D67 at byte 1\n",
+    ),
+    (
+        TextFault::FirstUnassigned {
+            at: 1,
+            code: '\u{16D67}',
+        },
+        3,
+        "first: unassigned 16D67 at byte 1\n",
+    ),
+    (
+        TextFault::SecondUnassigned { at: 0, code: '\n' },
+        3,
+        "second: unassigned 000A at byte 0\n",
+    ),
+    (TextFault::Memory, 6, "out of memory\n"),
+];
+
+/// Fails unless the fault as text is its line without the line end.
+fn wants_text(alloc: Global, fault: &JobFault, line: &str) -> Result<(), Fail> {
+    let text = format!(in alloc; "{fault}\n")?;
+    want(text.as_str() == line, line)
+}
+
+#[test]
+fn faults_of_texts_have_lines(rt: HostRuntime) -> Result<(), Fail> {
+    for (fault, _, line) in &TEXTS {
+        wants_text(rt.alloc(), &text(*fault), line)?;
+    }
+    are_told(rt.alloc(), &TEXTS, &text)
+}
+
+/// Faults of a schedule's input.
+const SCHEDULES: [(InputFault, u8, &str); 3] = [
+    (InputFault::TooLarge, 4, "schedule: TooLarge\n"),
+    (InputFault::ReadFailed, 5, "schedule: ReadFailed\n"),
+    (InputFault::Memory, 6, "out of memory\n"),
+];
+
+/// Faults of a schedule that was read.
+const LINES: [(ReplayFault, u8, &str); 2] = [
+    (
+        ReplayFault::Line { line: 16777217 },
+        4,
+        "schedule: line 16777217\n",
+    ),
+    (ReplayFault::Memory, 6, "out of memory\n"),
+];
+
+#[test]
+fn faults_of_schedules_have_lines(rt: HostRuntime) -> Result<(), Fail> {
+    are_told(rt.alloc(), &SCHEDULES, &schedule)?;
+    are_told(rt.alloc(), &LINES, &replay)
+}
+
+/// Versions that are no chain.
+const CHAINS: [(JobFault, u8, &str); 2] = [
+    (
+        JobFault::NotExtension {
+            version: 1,
+            brk: Break {
+                kind: BreakKind::Lost,
+                code: 0x1DFA,
+            },
+        },
+        1,
+        "not an extension: version 1 Lost 1DFA\n",
+    ),
+    (
+        JobFault::NotExtension {
+            version: 12,
+            brk: Break {
+                kind: BreakKind::NewComposite,
+                code: 0xC1,
+            },
+        },
+        1,
+        "not an extension: version 12 NewComposite 00C1\n",
+    ),
+];
+
+#[test]
+fn versions_that_are_no_chain_have_lines(rt: HostRuntime) -> Result<(), Fail> {
+    for (fault, _, line) in &CHAINS {
+        wants_text(rt.alloc(), fault, line)?;
+    }
+    are_told(rt.alloc(), &CHAINS, &itself)
+}
+
+/// Faults of no input.
+const OTHERS: [(JobFault, u8, &str); 2] = [
+    (JobFault::WriteFailed, 5, "output: WriteFailed\n"),
+    (JobFault::Memory, 6, "out of memory\n"),
+];
+
+#[test]
+fn a_failed_output_and_want_of_memory_have_lines(rt: HostRuntime) -> Result<(), Fail> {
+    are_told(rt.alloc(), &OTHERS, &itself)
+}

@@ -1,0 +1,288 @@
+//! What a node answers to strings.
+use super::{letters, wants_kept, wants_known, wants_no_node, wants_refused, wants_taken};
+use np_chain::{Break, BreakKind};
+use np_code_points::told::want_told;
+use np_code_points::{Form, Memory};
+use np_examples_shared::{Example, Made, V1, V2, holds_over_each, table_of, want};
+use np_node::{Accepted, ImageFault, Node, NodeFault, Taken};
+use np_tables::NormTable;
+use std::alloc::Global;
+use std::test::Fail;
+
+fn empty_string<T: NormTable>(alloc: Global, table: &T) -> Result<(), Fail> {
+    let mut node = Node::new(alloc, table, Form::Nfc, 4);
+    wants_kept(&mut node, b"", b"C\0\0\0\0\0\0\0\0", "the empty string")?;
+    wants_known(&mut node, b"", "the empty string again")?;
+    want(node.entry(0) == Some(("", "")), "its entry")?;
+    want(node.entry(1).is_none(), "no other entry")
+}
+
+fn no_room<T: NormTable>(alloc: Global, table: &T) -> Result<(), Fail> {
+    let mut node = Node::new(alloc, table, Form::Nfc, 0);
+    wants_refused(
+        &mut node,
+        b"",
+        NodeFault::Full,
+        "no room for the empty string",
+    )?;
+    wants_refused(
+        &mut node,
+        b"\xff",
+        NodeFault::NotUtf8 { at: 0 },
+        "before the room",
+    )?;
+    want(node.is_empty() && node.room() == 0, "nothing is kept")
+}
+
+fn little_room<T: NormTable>(alloc: Global, table: &T) -> Result<(), Fail> {
+    let mut node = Node::new(alloc, table, Form::Nfc, 1);
+    wants_kept(&mut node, b"a", b"C\0\0\0\x01a\0\0\0\x01a", "a")?;
+    wants_refused(&mut node, b"A", NodeFault::Full, "A by accept")?;
+    wants_taken(
+        &mut node,
+        b"C\0\0\0\x01A\0\0\0\x01A",
+        Err(NodeFault::Full),
+        "A by take",
+    )?;
+    wants_known(&mut node, b"a", "a again")?;
+    wants_taken(
+        &mut node,
+        b"C\0\0\0\x01a\0\0\0\x01a",
+        Ok(Taken::Known),
+        "its own message",
+    )?;
+    want(node.len() == 1 && node.form() == Form::Nfc, "one entry")?;
+    wants_shown(alloc, &node)
+}
+
+/// No string is shown where a node or what it answers is printed.
+fn wants_shown<T: NormTable>(alloc: Global, node: &Node<'_, T>) -> Result<(), Fail> {
+    let kept = Accepted::Kept(letters(alloc, 13)?);
+    let known = Accepted::Known;
+    let shown = format!(in alloc; "{node:?}, {kept:?}, {known:?}")?;
+    want(
+        shown.as_str() == "Node { form: Nfc, room: 1, len: 1, .. }, Kept { len: 13, .. }, Known",
+        "as it is shown",
+    )
+}
+
+/// These bytes, and behind them a string of 65,537 bytes and itself as key.
+fn behind(alloc: Global, front: &[u8], string: &[u8]) -> Result<Vec<u8>, Memory> {
+    let mut bytes = Vec::new(alloc);
+    bytes.extend_from_slice(front)?;
+    bytes.extend_from_slice(b"\0\x01\0\x01")?;
+    bytes.extend_from_slice(string)?;
+    bytes.extend_from_slice(b"\0\x01\0\x01")?;
+    bytes.extend_from_slice(string)?;
+    Ok(bytes)
+}
+
+/// A string that is too long is refused by each call.
+fn too_long<T: NormTable>(alloc: Global, table: &T) -> Result<(), Fail> {
+    let mut node = Node::new(alloc, table, Form::Nfc, 4);
+    let over = letters(alloc, 65_537)?;
+    wants_refused(&mut node, &over, NodeFault::TooLong, "65,537 bytes")?;
+    let message = behind(alloc, b"C", &over)?;
+    wants_taken(&mut node, &message, Err(NodeFault::TooLong), "told")?;
+    let image = behind(alloc, b"NPS1C\0\0\0\x01", &over)?;
+    let wanted = ImageFault {
+        entry: Some(0),
+        fault: NodeFault::TooLong,
+    };
+    wants_no_node(alloc, table, 4, &image, wanted, "saved")
+}
+
+fn longest<T: NormTable>(alloc: Global, table: &T) -> Result<(), Fail> {
+    let mut node = Node::new(alloc, table, Form::Nfc, 4);
+    let most = letters(alloc, 65_536)?;
+    match node.accept(&most)? {
+        Accepted::Kept(message) => {
+            let mut other = Node::new(alloc, table, Form::Nfc, 4);
+            wants_taken(&mut other, &message, Ok(Taken::Kept), "65,536 bytes told")?;
+        }
+        Accepted::Known => return Err(Fail::new("known before it is kept")),
+    }
+    wants_known(&mut node, &most, "65,536 bytes again")?;
+    longest_restored(alloc, &node)
+}
+
+/// A node's longest string stands in its image.
+fn longest_restored<T: NormTable>(alloc: Global, node: &Node<'_, T>) -> Result<(), Fail> {
+    let image = node.image()?;
+    want(image.len() == 65_554, "an image of 65,554 bytes")?;
+    let again = Node::restore(alloc, node.table(), Form::Nfc, 4, &image)?;
+    want(again.entry(0) == node.entry(0), "the same entry")
+}
+
+fn unlike_strings<T: NormTable>(alloc: Global, table: &T) -> Result<(), Fail> {
+    let mut node = Node::new(alloc, table, Form::Nfc, 4);
+    for string in ["\u{212B}", "\u{C5}", "a"] {
+        want(node.accept(string.as_bytes()).is_ok(), string)?;
+    }
+    wants_unlike(&node)
+}
+
+/// The sign, the letter that it is equivalent to, and `a` are three strings.
+fn wants_unlike<T: NormTable>(node: &Node<'_, T>) -> Result<(), Fail> {
+    let angstrom = "\u{212B}";
+    let letter = "\u{C5}";
+    want(node.len() == 3, "equivalent and unlike: two entries")?;
+    want(
+        node.entry(0) == Some((angstrom, letter)),
+        "the sign's entry",
+    )?;
+    want(node.key_of(angstrom) == Some(letter), "the sign's key")?;
+    want(node.key_of("b").is_none(), "no key of what is not kept")?;
+    want(node.same(angstrom, letter) == Some(true), "equivalent")?;
+    want(node.same(angstrom, "a") == Some(false), "not equivalent")?;
+    want(node.same(angstrom, "b").is_none(), "not kept")
+}
+
+fn kept_once<T: NormTable>(alloc: Global, table: &T) -> Result<(), Fail> {
+    empty_string(alloc, table)?;
+    no_room(alloc, table)?;
+    little_room(alloc, table)?;
+    too_long(alloc, table)?;
+    longest(alloc, table)?;
+    unlike_strings(alloc, table)
+}
+
+/// A noncharacter is unassigned in each version, and a letter of private use is not.
+fn wants_private<T: NormTable>(node: &mut Node<'_, T>) -> Result<(), Fail> {
+    let none = NodeFault::Unassigned {
+        at: 0,
+        code: '\u{FFFE}',
+    };
+    wants_refused(node, "\u{FFFE}".as_bytes(), none, "a noncharacter")?;
+    want(
+        node.accept("\u{E000}".as_bytes()).is_ok(),
+        "a private letter",
+    )
+}
+
+fn lacking<T: NormTable>(alloc: Global, table: &T) -> Result<(), Fail> {
+    let mut node = Node::new(alloc, table, Form::Nfc, 4);
+    let fault = NodeFault::Unassigned {
+        at: 1,
+        code: '\u{16D67}',
+    };
+    wants_refused(&mut node, "A\u{16D67}".as_bytes(), fault, "a later letter")?;
+    wants_private(&mut node)
+}
+
+fn later_letter<T: NormTable>(alloc: Global, table: &T) -> Result<(), Fail> {
+    let mut node = Node::new(alloc, table, Form::Nfc, 4);
+    want(
+        node.accept("A\u{16D67}".as_bytes()).is_ok(),
+        "a later letter",
+    )?;
+    want(
+        node.entry(0) == Some(("A\u{16D67}", "A\u{16D67}")),
+        "itself as key",
+    )?;
+    wants_private(&mut node)
+}
+
+/// A node goes on to a later version and to its own, and not back.
+fn upgrades<'t, T: NormTable>(alloc: Global, first: &'t T, second: &'t T) -> Result<(), Fail> {
+    let mut node = Node::new(alloc, first, Form::Nfc, 4);
+    want(node.accept(b"a").is_ok(), "a")?;
+    wants_upgrades(&mut node, first, second)
+}
+
+fn wants_upgrades<'t, T: NormTable>(
+    node: &mut Node<'t, T>,
+    first: &'t T,
+    second: &'t T,
+) -> Result<(), Fail> {
+    want(node.upgrade(first).is_ok(), "the same version")?;
+    want(node.upgrade(second).is_ok(), "the later version")?;
+    want(node.table().version().count() == 17_666, "the later table")?;
+    let lost = Break {
+        kind: BreakKind::Lost,
+        code: 0x1DFA,
+    };
+    want(node.upgrade(first) == Err(lost), "backwards")?;
+    want(node.table().version().count() == 17_666, "the table stays")?;
+    want(
+        node.len() == 1 && node.entry(0) == Some(("a", "a")),
+        "the entries stay",
+    )
+}
+
+/// What answers show.
+#[derive(Clone, Copy)]
+enum Shown {
+    KeptOnce,
+    Lacking,
+    LaterLetter,
+    Upgrades,
+}
+
+impl Example for Shown {
+    fn holds<T: Made>(&self, alloc: Global, table: &T) -> Result<(), Fail> {
+        match self {
+            Shown::KeptOnce => kept_once(alloc, table),
+            Shown::Lacking => lacking(alloc, table),
+            Shown::LaterLetter => later_letter(alloc, table),
+            Shown::Upgrades => {
+                let second: T = table_of(alloc, V2)?;
+                upgrades(alloc, table, &second)
+            }
+        }
+    }
+}
+
+#[test]
+fn strings_are_kept_once(rt: HostRuntime) -> Result<(), Fail> {
+    holds_over_each(rt.alloc(), V1, &Shown::KeptOnce)
+}
+
+#[test]
+fn unassigned_code_points_are_refused(rt: HostRuntime) -> Result<(), Fail> {
+    holds_over_each(rt.alloc(), V1, &Shown::Lacking)
+}
+
+#[test]
+fn later_letters_are_kept(rt: HostRuntime) -> Result<(), Fail> {
+    holds_over_each(rt.alloc(), V2, &Shown::LaterLetter)
+}
+
+#[test]
+fn upgrades_go_forward_alone(rt: HostRuntime) -> Result<(), Fail> {
+    holds_over_each(rt.alloc(), V1, &Shown::Upgrades)
+}
+
+/// Each fault, and how it is told; a code point in four hex digits at least.
+const TOLD: [(NodeFault, &str); 10] = [
+    (NodeFault::Malformed { at: 5 }, "malformed at byte 5"),
+    (NodeFault::OtherForm, "another form"),
+    (NodeFault::TooLong, "too long: more than 65,536 bytes"),
+    (NodeFault::NotUtf8 { at: 17 }, "not UTF-8 at byte 17"),
+    (
+        NodeFault::Unassigned {
+            at: 1,
+            code: '\u{16D67}',
+        },
+        "unassigned 16D67 at byte 1",
+    ),
+    (
+        NodeFault::Unassigned { at: 0, code: 'b' },
+        "unassigned 0062 at byte 0",
+    ),
+    (NodeFault::KeyDiffers, "key differs"),
+    (NodeFault::Full, "full"),
+    (NodeFault::Memory, "out of memory"),
+    (
+        NodeFault::OlderTables {
+            need: 17_666,
+            have: 17_660,
+        },
+        "older tables: need 17666 code points, have 17660",
+    ),
+];
+
+#[test]
+fn faults_are_told_in_words(rt: HostRuntime) -> Result<(), Fail> {
+    want_told(rt.alloc(), &TOLD)
+}

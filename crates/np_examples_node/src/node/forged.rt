@@ -1,0 +1,130 @@
+//! Cut and forged images: each is refused by name at its place, or restored as a node with the image that is told.
+use super::forged_answers::{FIRST, FIRST_ANSWERS, SECOND, SECOND_ANSWERS};
+use np_code_points::Form;
+use np_code_points::codes::hex_value;
+use np_examples_shared::{Example, Made, V1, holds_over_each, want};
+use np_node::Node;
+use np_tables::NormTable;
+use std::alloc::Global;
+use std::test::Fail;
+
+/// The value of two hex digits.
+fn byte_of(high: u8, low: u8) -> Option<u8> {
+    let value = hex_value(high)?
+        .wrapping_mul(16)
+        .wrapping_add(hex_value(low)?);
+    u8::try_from(value).ok()
+}
+
+/// Appends the bytes of these hex digits; `-` is none.
+fn push_bytes(bytes: &mut Vec<u8>, digits: &str) -> Result<(), Fail> {
+    let mut high = None;
+    for digit in digits.bytes() {
+        match high {
+            Some(first) => {
+                bytes.push(byte_of(first, digit).ok_or("two hex digits")?)?;
+                high = None;
+            }
+            None => high = Some(digit),
+        }
+    }
+    want(high.is_none() || digits == "-", digits)
+}
+
+/// The image with these bytes in the place of so many from `at` on.
+fn changed(
+    alloc: Global,
+    image: &[u8],
+    at: usize,
+    gone: usize,
+    put: &str,
+) -> Result<Vec<u8>, Fail> {
+    let (before, rest) = image.split_at_checked(at).ok_or("a place")?;
+    let (_, behind) = rest.split_at_checked(gone).ok_or("so many bytes")?;
+    let mut made = Vec::new(alloc);
+    made.extend_from_slice(before)?;
+    push_bytes(&mut made, put)?;
+    made.extend_from_slice(behind)?;
+    Ok(made)
+}
+
+/// The node's image has these hex digits.
+fn wants_image<T: NormTable>(alloc: Global, node: &Node<'_, T>, digits: &str) -> Result<(), Fail> {
+    let mut wanted = Vec::new(alloc);
+    push_bytes(&mut wanted, digits)?;
+    let image = node.image()?;
+    want(
+        image.as_slice() == wanted.as_slice(),
+        "the image of what was restored",
+    )
+}
+
+/// Restoring the image answers this, in words; what is restored has the image behind `restored`.
+fn wants_answer<T: NormTable>(
+    alloc: Global,
+    table: &T,
+    image: &[u8],
+    told: &str,
+) -> Result<(), Fail> {
+    match Node::restore(alloc, table, Form::Nfc, 5, image) {
+        Ok(node) => {
+            let digits = told.strip_prefix("restored ").ok_or(told)?;
+            wants_image(alloc, &node, digits)
+        }
+        Err(fault) => {
+            let answer = format!(in alloc; "{fault}")?;
+            want(answer.as_str() == told, told)
+        }
+    }
+}
+
+/// The image changed as a line has it, in each of its ways, is answered as the line tells.
+fn wants_line<T: NormTable>(
+    alloc: Global,
+    table: &T,
+    image: &[u8],
+    line: &str,
+) -> Result<(), Fail> {
+    let (at, rest) = line.split_once(" ").ok_or("a place")?;
+    let (gone, rest) = rest.split_once(" ").ok_or("so many bytes")?;
+    let (puts, told) = rest.split_once(" ").ok_or("what comes")?;
+    let (at, gone) = (
+        usize::from_str_radix(at, 10)?,
+        usize::from_str_radix(gone, 10)?,
+    );
+    for put in puts.split(',') {
+        let made = changed(alloc, image, at, gone, put)?;
+        wants_answer(alloc, table, &made, told)?;
+    }
+    Ok(())
+}
+
+/// The image in these hex digits is answered, changed as each line has it, as the line tells.
+fn wants_lines<T: NormTable>(
+    alloc: Global,
+    table: &T,
+    digits: &str,
+    lines: &str,
+) -> Result<(), Fail> {
+    let mut image = Vec::new(alloc);
+    push_bytes(&mut image, digits)?;
+    for line in lines.lines() {
+        wants_line(alloc, table, &image, line)?;
+    }
+    Ok(())
+}
+
+/// What restoring answers to each changed image.
+struct Answers;
+
+impl Example for Answers {
+    fn holds<T: Made>(&self, alloc: Global, table: &T) -> Result<(), Fail> {
+        wants_lines(alloc, table, FIRST, FIRST_ANSWERS)?;
+        wants_lines(alloc, table, SECOND, SECOND_ANSWERS)
+    }
+}
+
+#[test]
+fn each_cut_and_forged_image_is_told(rt: HostRuntime) -> Result<(), Fail> {
+    holds_over_each(rt.alloc(), V1, &Answers)
+}

@@ -1,0 +1,229 @@
+//! A node whose call was refused for want of memory is as it was, and the same call succeeds after all; what is
+//! refused for itself takes no memory.
+ghost use Rattle.std.specs.Prelude.{◌≤◌};
+
+use super::{
+    NoImage, Told, letters, wants_all_taken, wants_kept, wants_known, wants_no_nodes, wants_refused,
+};
+use np_code_points::Form;
+use np_examples_shared::{Example, Made, V1, holds_over_each, want};
+use np_node::{Accepted, Node, NodeFault, Taken};
+use np_tables::NormTable;
+use std::alloc::Global;
+use std::test::Fail;
+
+const STRING: &[u8] = b"a\xcc\x82";
+
+const MESSAGE: &[u8] = b"C\0\0\0\x03a\xcc\x82\0\0\0\x02\xc3\xa2";
+
+/// The image in the first layout.
+const FIRST: &[u8] = b"NPS1C\0\0\0\x02\0\0\0\x01A\0\0\0\x01A\0\0\0\x03a\xcc\x82\0\0\0\x02\xc3\xa2";
+
+const IMAGE: &[u8] =
+    b"NPS2C\0\0\x44\xfc\0\0\0\x02\0\0\0\x01A\0\0\0\0\x03a\xcc\x82\x01\0\0\0\x02\xc3\xa2";
+
+/// The calls that can want memory, and those that take none.
+#[derive(Clone, Copy)]
+enum Call {
+    Accept,
+    Take,
+    Image,
+    Restore,
+    Refusals,
+}
+
+/// A node that keeps `A`.
+fn one_kept<T: NormTable>(alloc: Global, table: &T, room: u32) -> Result<Node<'_, T>, Fail>
+    requires { room ≤ 65536 }
+{
+    let mut node = Node::new(alloc, table, Form::Nfc, room);
+    wants_kept(&mut node, b"A", b"C\0\0\0\x01A\0\0\0\x01A", "A")?;
+    Ok(node)
+}
+
+/// Whether the node keeps `A` and nothing else.
+fn keeps_one<T: NormTable>(node: &Node<'_, T>) -> bool {
+    node.len() == 1 && node.entry(0) == Some(("A", "A")) && node.key_of("a\u{302}").is_none()
+}
+
+/// Whether the node keeps the string behind `A`.
+fn keeps_both<T: NormTable>(node: &Node<'_, T>) -> bool {
+    node.len() == 2
+        && node.entry(0) == Some(("A", "A"))
+        && node.entry(1) == Some(("a\u{302}", "\u{E2}"))
+}
+
+fn accepts<T: NormTable>(alloc: Global, table: &T) -> Result<(), Fail> {
+    let mut node = one_kept(alloc, table, 4)?;
+    match node.accept(STRING) {
+        Ok(Accepted::Kept(found)) => want(found.as_slice() == MESSAGE, "the message")?,
+        Ok(Accepted::Known) => return Err(Fail::new("known before it is kept")),
+        Err(fault) => {
+            want(fault == NodeFault::Memory, "no other refusal of a string")?;
+            want(keeps_one(&node), "a refused string changes nothing")?;
+            wants_kept(&mut node, STRING, MESSAGE, "the string after all")?;
+        }
+    }
+    want(keeps_both(&node), "the string is kept")
+}
+
+fn takes<T: NormTable>(alloc: Global, table: &T) -> Result<(), Fail> {
+    let mut node = one_kept(alloc, table, 4)?;
+    if let Err(fault) = node.take(MESSAGE) {
+        want(fault == NodeFault::Memory, "no other refusal of a message")?;
+        want(keeps_one(&node), "a refused message changes nothing")?;
+        want(node.take(MESSAGE)? == Taken::Kept, "the message after all")?;
+    }
+    want(keeps_both(&node), "what it tells is kept")
+}
+
+fn saves<T: NormTable>(alloc: Global, table: &T) -> Result<(), Fail> {
+    let mut node = one_kept(alloc, table, 4)?;
+    wants_kept(&mut node, STRING, MESSAGE, "the string")?;
+    if node.image().is_err() {
+        want(keeps_both(&node), "a refused image changes nothing")?;
+    }
+    want(node.image()?.as_slice() == IMAGE, "the image after all")
+}
+
+fn restores<T: NormTable>(alloc: Global, table: &T) -> Result<(), Fail> {
+    restores_image(alloc, table, FIRST)?;
+    restores_image(alloc, table, IMAGE)
+}
+
+fn restores_image<T: NormTable>(alloc: Global, table: &T, image: &[u8]) -> Result<(), Fail> {
+    let node = match Node::restore(alloc, table, Form::Nfc, 4, image) {
+        Ok(node) => node,
+        Err(refused) => {
+            want(
+                refused.entry.is_none() && refused.fault == NodeFault::Memory,
+                "no other refusal of an image",
+            )?;
+            Node::restore(alloc, table, Form::Nfc, 4, image)?
+        }
+    };
+    want(keeps_both(&node), "the image's entries")
+}
+
+/// Strings, and why a full node refuses them.
+const REFUSED: [(&[u8], NodeFault); 3] = [
+    (b"a\xcc", NodeFault::NotUtf8 { at: 1 }),
+    (
+        b"\xef\xbf\xbe",
+        NodeFault::Unassigned {
+            at: 0,
+            code: '\u{FFFE}',
+        },
+    ),
+    (b"a", NodeFault::Full),
+];
+
+/// Messages to a node that keeps `A`, and its answers.
+const TOLD: [Told; 6] = [
+    (
+        b"C\xff\xff\xff\xff",
+        Err(NodeFault::Malformed { at: 5 }),
+        "a great length",
+    ),
+    (
+        b"D\0\0\0\x01A\0\0\0\x01A",
+        Err(NodeFault::OtherForm),
+        "another form",
+    ),
+    (
+        b"C\0\0\0\x01\xff\0\0\0\0",
+        Err(NodeFault::NotUtf8 { at: 0 }),
+        "a string that is not UTF-8",
+    ),
+    (
+        b"C\0\0\0\x01b\0\0\0\x01b",
+        Err(NodeFault::Unassigned { at: 0, code: 'b' }),
+        "an unassigned letter",
+    ),
+    (
+        b"C\0\0\0\x01A\0\0\0\x01a",
+        Err(NodeFault::KeyDiffers),
+        "another key",
+    ),
+    (b"C\0\0\0\x01A\0\0\0\x01A", Ok(Taken::Known), "what is kept"),
+];
+
+/// Images of no node of a room of one.
+const NO_IMAGES: [NoImage; 5] = [
+    (
+        b"NPS2C\0\0\0\0\xff\xff\xff\xff",
+        None,
+        NodeFault::Malformed { at: 13 },
+        "a great count in the second layout",
+    ),
+    (
+        b"NPS2C\xff\xff\xff\xff\0\0\0\0",
+        None,
+        NodeFault::OlderTables {
+            need: 4_294_967_295,
+            have: 17_660,
+        },
+        "older tables",
+    ),
+    (
+        b"NPS1C\xff\xff\xff\xff",
+        None,
+        NodeFault::Malformed { at: 9 },
+        "a great count",
+    ),
+    (b"NPS1D\0\0\0\0", None, NodeFault::OtherForm, "another form"),
+    (IMAGE, None, NodeFault::Full, "too little room"),
+];
+
+/// What a full node refuses for itself, and what it knows: it has none of it refused for want of memory.
+fn refuses<T: NormTable>(alloc: Global, table: &T) -> Result<(), Fail> {
+    let mut node = one_kept(alloc, table, 1)?;
+    let long = letters(alloc, 65_537)?;
+    wants_refused(&mut node, &long, NodeFault::TooLong, "a long string")?;
+    for (string, fault) in &REFUSED {
+        wants_refused(&mut node, string, *fault, "a string")?;
+    }
+    wants_all_taken(&mut node, &TOLD)?;
+    wants_known(&mut node, b"A", "what is kept")?;
+    want(keeps_one(&node), "nothing changes")?;
+    wants_no_nodes(alloc, table, 1, &NO_IMAGES)?;
+    want(!node.forget("a") && node.forget("A"), "A is forgotten")?;
+    want(node.is_empty(), "nothing is kept")
+}
+
+impl Example for Call {
+    fn holds<T: Made>(&self, alloc: Global, table: &T) -> Result<(), Fail> {
+        match self {
+            Call::Accept => accepts(alloc, table),
+            Call::Take => takes(alloc, table),
+            Call::Image => saves(alloc, table),
+            Call::Restore => restores(alloc, table),
+            Call::Refusals => refuses(alloc, table),
+        }
+    }
+}
+
+#[test]
+fn a_refused_accept_succeeds_after_all(rt: HostRuntime) -> Result<(), Fail> {
+    holds_over_each(rt.alloc(), V1, &Call::Accept)
+}
+
+#[test]
+fn a_refused_take_succeeds_after_all(rt: HostRuntime) -> Result<(), Fail> {
+    holds_over_each(rt.alloc(), V1, &Call::Take)
+}
+
+#[test]
+fn a_refused_image_succeeds_after_all(rt: HostRuntime) -> Result<(), Fail> {
+    holds_over_each(rt.alloc(), V1, &Call::Image)
+}
+
+#[test]
+fn a_refused_restore_succeeds_after_all(rt: HostRuntime) -> Result<(), Fail> {
+    holds_over_each(rt.alloc(), V1, &Call::Restore)
+}
+
+#[test]
+fn a_refused_allocation_is_none_of_a_refusal(rt: HostRuntime) -> Result<(), Fail> {
+    holds_over_each(rt.alloc(), V1, &Call::Refusals)
+}

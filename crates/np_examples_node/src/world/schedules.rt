@@ -1,0 +1,142 @@
+//! Worked examples of schedules, and of lines that can't stand.
+use np_code_points::Memory;
+use np_code_points::told::want_told;
+use np_examples_shared::want;
+use np_world::{ScheduleFault, read_schedule};
+use std::alloc::Global;
+use std::test::Fail;
+
+/// The line that can't stand; none where the text is a schedule over two versions.
+fn faulty_line(alloc: Global, text: &str) -> Result<Option<u64>, Fail> {
+    match read_schedule(alloc, text.as_bytes(), 2) {
+        Ok(_) => Ok(None),
+        Err(ScheduleFault::Line { line }) => Ok(Some(line)),
+        Err(ScheduleFault::Memory) => Err(Fail::new("memory ran out")),
+    }
+}
+
+/// Each text has this faulty line.
+fn want_faults(alloc: Global, rows: &[(&str, u64)]) -> Result<(), Fail> {
+    for (text, line) in rows {
+        want(faulty_line(alloc, text)? == Some(*line), text)?;
+    }
+    Ok(())
+}
+
+/// Each text is a schedule.
+fn want_schedules(alloc: Global, texts: &[&str]) -> Result<(), Fail> {
+    for text in texts {
+        want(faulty_line(alloc, text)?.is_none(), text)?;
+    }
+    Ok(())
+}
+
+/// Beginnings that can't stand, and their faulty lines.
+const BEGINNINGS: [(&str, u64); 13] = [
+    ("", 1),
+    ("# no line of data\n\n", 3),
+    ("room 4\n", 2),
+    ("room 4", 2),
+    ("room 4\n\n# and nothing", 4),
+    ("room 70000\n", 1),
+    ("room 65537\nnodes 0\n", 1),
+    ("room\nnodes 0\n", 1),
+    ("room 4 4\nnodes 0\n", 1),
+    ("nodes 0\nroom 4\n", 1),
+    ("room 4\nnodes\n", 2),
+    ("room 4\nnodes 2\n", 2),
+    ("room 4\nsave 0\n", 2),
+];
+
+#[test]
+fn a_schedule_begins_with_its_room_and_its_nodes(rt: HostRuntime) -> Result<(), Fail> {
+    want_faults(rt.alloc(), &BEGINNINGS)
+}
+
+/// Lines behind the beginning that are no events.
+const NO_EVENTS: [(&str, u64); 20] = [
+    ("room 4\nnodes 0\nask 0 0061\n", 3),
+    ("room 4\nnodes 0\nask 0 0061 / 0061 / 0061\n", 3),
+    ("room 4\nnodes 0\naccept 0 D800\n", 3),
+    ("room 4\nnodes 0\naccept 0 061\n", 3),
+    ("room 4\nnodes 0\naccept 0 0061 /\n", 3),
+    ("room 4\nnodes 0\naccept 0 0061 0061,\n", 3),
+    ("room 4\nnodes 0\nask 0 0061/0062\n", 3),
+    ("room 4\nnodes 0\naccept 1 0061\n", 3),
+    ("room 4\nnodes 0\ndeliver 0 1234567890\n", 3),
+    ("room 4\nnodes 0\nforge 0 abc\n", 3),
+    ("room 4\nnodes 0\nforge 0 ab cd\n", 3),
+    ("room 4\nnodes 0\nforge 0 0g\n", 3),
+    ("room 4\nnodes 0\nsave 0 0\n", 3),
+    ("room 4\nnodes 0\nrestart 0 2\n", 3),
+    ("room 4\nnodes 0\nrestart 0 0 0\n", 3),
+    ("room 4\nnodes 0\nrestart 1 0\n", 3),
+    ("room 4\nnodes 0\nrestart 0 -\n", 3),
+    ("room 4\nnodes 0\nSave 0\n", 3),
+    ("room 4\nnodes 0\nnodes 0\n", 3),
+    ("room 4\nnodes 0\nsave 0\nsave 1\nsave 2\n", 4),
+];
+
+#[test]
+fn the_third_line_is_named_where_it_is_no_event(rt: HostRuntime) -> Result<(), Fail> {
+    want_faults(rt.alloc(), &NO_EVENTS)
+}
+
+#[test]
+fn comments_blank_lines_and_carriage_returns_are_passed_over(rt: HostRuntime) -> Result<(), Fail> {
+    want_faults(
+        rt.alloc(),
+        &[("# room\r\n\r\nroom 4\r\n \t\nnodes 0\r\n#\r\nsave 1\r\n", 7)],
+    )
+}
+
+/// Texts that are schedules.
+const SCHEDULES: [&str; 6] = [
+    "room 4\nnodes 0",
+    "room 0\r\nnodes 0\t1\r\n",
+    " room\t65536 \nnodes 0 1\n\taccept  0\t0061 \n",
+    "room 000000004\nnodes 000000001\ndeliver 0 999999999\n",
+    "room 4\nnodes 0\nrestart 0\nrestart 0 1\nrestart\t0 00 \nforget 0\n",
+    "room 4\nnodes 0\naccept 0\nask 0 /\nask 0 0061 /\nforge 0\nforge 0 aBcD\n",
+];
+
+#[test]
+fn words_stand_apart_by_blanks(rt: HostRuntime) -> Result<(), Fail> {
+    want_schedules(rt.alloc(), &SCHEDULES)
+}
+
+/// Whether a schedule of so many nodes stands; its faulty line where it doesn't.
+fn line_of_nodes(alloc: Global, count: usize) -> Result<Option<u64>, Fail> {
+    let text = with_nodes(alloc, count)?;
+    faulty_line(alloc, text.as_str())
+}
+
+/// A schedule of so many nodes and without events.
+fn with_nodes(alloc: Global, count: usize) -> Result<String, Memory> {
+    let mut text = String::new(alloc);
+    text.push_str("room 4\nnodes")?;
+    for _ in 0..count {
+        text.push_str(" 1")?;
+    }
+    Ok(text)
+}
+
+#[test]
+fn nodes_are_64_at_most(rt: HostRuntime) -> Result<(), Fail> {
+    want(line_of_nodes(rt.alloc(), 64)?.is_none(), "64 nodes")?;
+    want(line_of_nodes(rt.alloc(), 65)? == Some(2), "65 nodes")
+}
+
+/// Each fault, and how it is told.
+const TOLD: [(ScheduleFault, &str); 2] = [
+    (
+        ScheduleFault::Line { line: 12 },
+        "line 12: malformed, or not allowed there",
+    ),
+    (ScheduleFault::Memory, "out of memory"),
+];
+
+#[test]
+fn a_fault_is_told_in_words(rt: HostRuntime) -> Result<(), Fail> {
+    want_told(rt.alloc(), &TOLD)
+}

@@ -1,0 +1,123 @@
+//! The files of a job are opened before any of them is read.
+ghost use Rattle.std.specs.Prelude.{◌≡◌, ◌∷◌, ◌++◌, [], flat_map, map, IfOk, IfErr, OnOk};
+ghost use Rattle.std.specs.List.{AllZip};
+ghost use Rattle.np_code_points.specs.Watched.{device_of};
+ghost use Rattle.np_jobs.specs.Ends.{TellsRefusal};
+ghost use Rattle.np_jobs.specs.Opening.{IsUnopened};
+ghost use Rattle.np_jobs.specs.Streams.{stream_of};
+ghost use Rattle.np_jobs.specs.Words.{names_of};
+
+use crate::ending::{refuse, tell};
+use crate::faults::JobFault;
+use crate::openers::Opener;
+use crate::statuses::FAILED;
+use crate::words::VersionFiles;
+use np_code_points::watched::Watched;
+use std::alloc::Global;
+use std::io::Write;
+
+/// Says that a file can't be opened.
+fn refuse_file<O: Opener, E: Write>(
+    opener: &O,
+    alloc: Global,
+    error: &mut Watched<E>,
+    name: &str,
+) -> u8
+    requires lacks { O.lacks opener.now name.now }
+    ensures { IsUnopened (O.gives opener.now) (O.lacks opener.now) (name.now ∷ []) (stream_of E.contents error.old error.new) result }
+{
+    match format!(in alloc; "cannot open {name}\n") {
+        Ok(line) => {
+            tell(error, line.as_str());
+            FAILED
+        }
+        Err(_) => refuse(alloc, error, &JobFault::Memory),
+    }
+}
+
+/// Opens a file by its name, as it stands.
+///
+/// # Errors
+///
+/// The status that was told: 5 in the line `cannot open NAME`, or 6 where memory ran out for it.
+pub fn open_file<O: Opener, E: Write>(
+    opener: &O,
+    alloc: Global,
+    error: &mut Watched<E>,
+    name: &str,
+) -> Result<Watched<O::File>, u8>
+    ensures file { IfOk result (λ file. O.gives opener.now name.now (O.File.remaining (device_of file))) }
+    ensures silent { OnOk result (error.new ≡ error.old) }
+    ensures told { IfErr result (IsUnopened (O.gives opener.now) (O.lacks opener.now) (name.now ∷ []) (stream_of E.contents error.old error.new)) }
+{
+    match opener.open(name) {
+        Ok(file) => Ok(Watched::new(file)),
+        Err(_) => Err(refuse_file(opener, alloc, error, name)),
+    }
+}
+
+/// Opens the two files of a version, the data first.
+///
+/// # Errors
+///
+/// The status that was told, of the first that can't be opened.
+pub fn open_version<O: Opener, E: Write>(
+    opener: &O,
+    alloc: Global,
+    error: &mut Watched<E>,
+    files: &VersionFiles,
+) -> Result<(Watched<O::File>, Watched<O::File>), u8>
+    ensures files { IfOk result (λ both. AllZip (O.gives opener.now) (names_of files.now)
+        (O.File.remaining (device_of both.0) ∷ (O.File.remaining (device_of both.1) ∷ []))) }
+    ensures silent { OnOk result (error.new ≡ error.old) }
+    ensures told { IfErr result (IsUnopened (O.gives opener.now) (O.lacks opener.now) (names_of files.now) (stream_of E.contents error.old error.new)) }
+{
+    let data = open_file(opener, alloc, error, files.data_file.as_str())?;
+    let exclusions = open_file(opener, alloc, error, files.exclusions_file.as_str())?;
+    Ok((data, exclusions))
+}
+
+/// Puts an opened file behind others.
+///
+/// # Errors
+///
+/// The status that was told, where memory ran out.
+fn keep_file<F: Drop, E: Write>(
+    alloc: Global,
+    error: &mut Watched<E>,
+    files: &mut Vec<Watched<F>>,
+    file: Watched<F>,
+) -> Result<(), u8>
+    ensures one { OnOk result (files.new.items ≡ files.old.items ++ (file ∷ [])) }
+    ensures silent { OnOk result (error.new ≡ error.old) }
+    ensures told { IfErr result (TellsRefusal JobFault.Memory (stream_of E.contents error.old error.new)) }
+{
+    match files.push(file) {
+        Ok(()) => Ok(()),
+        Err(_) => Err(refuse(alloc, error, &JobFault::Memory)),
+    }
+}
+
+/// Opens the files of versions in their order, two for each.
+///
+/// # Errors
+///
+/// The status that was told, of the first that can't be opened, or where memory ran out.
+pub fn open_versions<O: Opener, E: Write>(
+    opener: &O,
+    alloc: Global,
+    error: &mut Watched<E>,
+    versions: &[VersionFiles],
+) -> Result<Vec<Watched<O::File>>, u8>
+    ensures files { IfOk result (λ files. AllZip (O.gives opener.now) (flat_map names_of versions.now) (map (λ file. O.File.remaining (device_of file)) files.items)) }
+    ensures silent { OnOk result (error.new ≡ error.old) }
+    ensures told { IfErr result (IsUnopened (O.gives opener.now) (O.lacks opener.now) (flat_map names_of versions.now) (stream_of E.contents error.old error.new)) }
+{
+    let mut files = Vec::new(alloc);
+    for version in versions {
+        let (data, exclusions) = open_version(opener, alloc, error, version)?;
+        keep_file(alloc, error, &mut files, data)?;
+        keep_file(alloc, error, &mut files, exclusions)?;
+    }
+    Ok(files)
+}

@@ -1,0 +1,71 @@
+//! The standard streams, whichever of them a program was started with.
+ghost use Rattle.std.specs.Prelude.{◌≡◌, false, None, IsErr};
+ghost use Rattle.std.specs.Io.{ReadsAtMost};
+ghost use Rattle.np_code_points.specs.Watched.{has_failed};
+
+use np_code_points::watched::Watched;
+use std::io::{Error, Read, Result, Stderr, Stdin, Stdout};
+use std::os::fd::AsFd;
+
+/// What the system says of a descriptor that is not open (`EBADF`).
+const NOT_OPEN: i32 = 9;
+
+/// Standard input, whether or not the program was started with it. The system gives the descriptor of
+/// one that is closed to the file that is opened next, so a closed one is never read.
+#[derive(Drop)]
+pub enum StandardInput {
+    /// It was open.
+    Open(Stdin),
+    /// It was closed: each read fails.
+    Closed,
+}
+
+impl Read for StandardInput {
+    ghost remaining = { λ _. None };
+
+    fn read(&mut self, buf: &mut [u8]) -> Result<usize>
+        ensures bound { ReadsAtMost result buf.new }
+        ensures closed { self.old ≡ StandardInput.Closed → IsErr result }
+    {
+        match self {
+            StandardInput::Open(stream) => stream.read(buf),
+            StandardInput::Closed => Err(Error::from_raw_os_error(NOT_OPEN)),
+        }
+    }
+}
+
+/// The standard streams. A named file may have the descriptor of an output that was closed at the start;
+/// it is opened for reading alone, so each write fails then as it does on a closed stream.
+#[derive(Drop)]
+pub struct Standard {
+    pub input: Watched<StandardInput>,
+    pub output: Watched<Stdout>,
+    pub error: Watched<Stderr>,
+}
+
+/// Whether the program was started with a stream open.
+fn is_open<S: AsFd>(stream: &S) -> bool {
+    match stream.as_fd().try_clone_to_owned() {
+        Ok(_) => true,
+        Err(why) => why.raw_os_error() != Some(NOT_OPEN),
+    }
+}
+
+/// The standard streams, to be taken before any file is opened.
+pub fn take_standard(rt: &HostRuntime) -> Standard
+    ensures input { has_failed result.input ≡ false }
+    ensures output { has_failed result.output ≡ false }
+    ensures error { has_failed result.error ≡ false }
+{
+    let stream = rt.stdin();
+    let input = if is_open(&stream) {
+        StandardInput::Open(stream)
+    } else {
+        StandardInput::Closed
+    };
+    Standard {
+        input: Watched::new(input),
+        output: Watched::new(rt.stdout()),
+        error: Watched::new(rt.stderr()),
+    }
+}
