@@ -1,5 +1,5 @@
 //! The files of a job are opened before any of them is read.
-ghost use Rattle.std.specs.Prelude.{◌≡◌, ◌∷◌, ◌++◌, [], flat_map, map, IfOk, IfErr, OnOk};
+ghost use Rattle.std.specs.Prelude.{◌≡◌, ◌∷◌, ◌++◌, ◌+◌, ◌*◌, [], flat_map, length, map, vec_len, IfOk, IfErr, OnOk};
 ghost use Rattle.std.specs.List.{AllZip};
 ghost use Rattle.np_code_points.specs.Watched.{device_of};
 ghost use Rattle.np_jobs.specs.Ends.{TellsRefusal};
@@ -89,6 +89,7 @@ fn keep_file<F: Drop, E: Write>(
     file: Watched<F>,
 ) -> Result<(), u8>
     ensures one { OnOk result (files.new.items ≡ files.old.items ++ (file ∷ [])) }
+    ensures count { OnOk result (vec_len files.new ≡ vec_len files.old + 1) }
     ensures silent { OnOk result (error.new ≡ error.old) }
     ensures told { IfErr result (TellsRefusal JobFault.Memory (stream_of E.contents error.old error.new)) }
 {
@@ -109,9 +110,12 @@ pub fn open_versions<O: Opener, E: Write>(
     error: &mut Watched<E>,
     versions: &[VersionFiles],
 ) -> Result<Vec<Watched<O::File>>, u8>
-    ensures files { IfOk result (λ files. AllZip (O.gives opener.now) (flat_map names_of versions.now) (map (λ file. O.File.remaining (device_of file)) files.items)) }
+    ensures files { IfOk result (λ files. AllZip (O.gives opener.now) (flat_map names_of versions.now)
+        (map (λ file. O.File.remaining (device_of file)) files.items)) }
+    ensures count { IfOk result (λ files. vec_len files ≡ 2 * length versions.now) }
     ensures silent { OnOk result (error.new ≡ error.old) }
-    ensures told { IfErr result (IsUnopened (O.gives opener.now) (O.lacks opener.now) (flat_map names_of versions.now) (stream_of E.contents error.old error.new)) }
+    ensures told { IfErr result (IsUnopened (O.gives opener.now) (O.lacks opener.now) (flat_map names_of versions.now)
+        (stream_of E.contents error.old error.new)) }
 {
     let mut files = Vec::new(alloc);
     for version in versions {

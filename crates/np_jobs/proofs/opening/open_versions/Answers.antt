@@ -1,4 +1,4 @@
-use Rattle.std.proofs.Common.{flat_map, take, drop, suc, sym, ◌∙◌}
+use Rattle.std.proofs.Common.{flat_map, take, drop, suc, sym, ◌∙◌, arith}
 use Rattle.std.proofs.lemmas.Result.{err_from_is_err_and}
 use Rattle.np_jobs.proofs.OpeningLemmas.{names_at, opened_more, unopened_among}
 use Rattle.np_jobs.specs.Words.{names_of}
@@ -23,5 +23,6 @@ loop-version-preserved g c =
           c.loop-version.files.items c.keep_file.new.files.items c.keep_file-in-loop-version.new.files.items c.in_ok-data.data c.in_ok-data.exclusions
           c.loop-version-test.true (sym c.version-item.is) c.loop-version.invariant.files c.in_ok-data.ensures.files
           c.in_ok-keep_file.ensures.one c.in_ok-keep_file-2.ensures.one;
+      count = omega (arith, c.in_ok-keep_file-2.ensures.count, c.in_ok-keep_file.ensures.count, c.loop-version.invariant.count);
       silent = c.in_ok-keep_file-2.ensures.silent ∙ c.in_ok-keep_file.ensures.silent ∙ c.in_ok-data.ensures.silent ∙ c.loop-version.invariant.silent;
     }

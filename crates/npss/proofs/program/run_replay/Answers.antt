@@ -1,4 +1,6 @@
-use Rattle.std.proofs.Common.{◌≡◌, ◌*◌, [], ◌∷◌, ◌∙◌, ap, append-nil, arith, flat_map, length, refl, sym}
+use Rattle.std.proofs.Common.{◌≡◌, ◌*◌, [], ◌∷◌, ◌∙◌, ap, append-nil, arith, flat_map, length, map, refl, subst, sym}
+use Rattle.std.specs.List.{AllZip}
+use Rattle.np_code_points.specs.Watched.{device_of}
 use Rattle.std.proofs.lemmas.Result.{err_from_is_err_and}
 use Rattle.np_jobs.proofs.OpeningLemmas.{befores, ends_before, unopened_among}
 use Rattle.np_jobs.specs.Chains.{readers_of}
@@ -36,9 +38,12 @@ returns-clause-done g c =
     let old = c.as_mut_slice.result.now in
     let new = c.replay_job.new.files in
     let readers : ReplayReaders = record { schedule_file = stream_of tells c.in_ok-schedule.schedule c.replay_job.new.schedule_file; versions = readers_of tells old new } in
+    let size : length old ≡ 2 * count = omega (arith, c.as_mut_slice.ensures.len, c.in_ok-files.ensures.count) in
+    let kept : length new ≡ 2 * count = omega (arith, size, c.replay_job.auto.files) in
+    let same = befores tells count old new size kept ∙ ap (map (λ file. tells (device_of file))) c.as_mut_slice.ensures.value in
     let output = stream_of g.O.Write.contents c.args.output.now c.replay_job.new.output in (
       readers,
-      (c.in_ok-schedule.ensures.file, ?),
+      (c.in_ok-schedule.ensures.file, subst (AllZip gives names) (sym same) c.in_ok-files.ensures.files),
       ends_before g.E.Write.contents (λ error. ReplayEnds c.args.form readers output error c.replay_job.result)
           c.args.error.now c.open_versions.new.error c.replay_job.new.error (c.in_ok-files.ensures.silent ∙ c.in_ok-schedule.ensures.silent) c.replay_job.ensures,
     )
