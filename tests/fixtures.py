@@ -7,7 +7,8 @@ v1/CompositionExclusions.txt, EXCHANGE_SCHEDULE and EXCHANGE_REPORT with scripts
 and scripts/exchange.report. Each has to have the other. The reports of the scripts are compared with those
 of history_model.py, the usage text of docs/FORMATS.md with that of the stored run, the forged images of a unit
 test and their answers with those of forged_images.py, and the Rust example of the README and of two crates with the
-unit test that runs it. The manual page is compared with docs/FORMATS.md. Ends in a line 'N passed, M failed'.
+unit test that runs it. The manual page is compared with docs/FORMATS.md, and the README's table of speed with the last
+run of bench/run. Each text of a fault is looked for in the unit tests (error_texts.py). Ends in a line 'N passed, M failed'.
 """
 
 import re
@@ -17,14 +18,17 @@ from pathlib import Path
 
 # Nothing is written into the tree.
 sys.dont_write_bytecode = True
+ROOT = Path(__file__).resolve().parent.parent
+sys.path.append(str(ROOT / "bench"))
 
+import error_texts
 import forged_images
 import history_model
+import tables
 import ucd
 from harness import Tally
 from replays import SCRIPTS
 
-ROOT = Path(__file__).resolve().parent.parent
 CRATES = ROOT / "crates"
 FILES = {
     "DATA": "{}/UnicodeData.txt",
@@ -94,6 +98,14 @@ def check_example(tally):
         tally.check(f"{page.relative_to(ROOT)} has the tested example", lines and not missing, f"{missing} in example.rt")
 
 
+def check_speed(tally):
+    """The README's table of speed is that of the last whole run of bench/run that was kept."""
+    run, page = tables.last_run(), (ROOT / "README.md").read_text(encoding="utf-8")
+    rows = page.partition("\n| Text | NFC | | NFD | |\n|---|---|---|---|---|\n")[2].partition("\n\n")[0].splitlines()
+    wanted = tables.readme_rows(run.read_text(encoding="utf-8")) if run else []
+    tally.check("README.md: the table of speed", rows and rows == wanted, "run bench/chart")
+
+
 def plain(roff):
     """The text of a manual page without its marks."""
     text = re.sub(r"^\.(TP|PP|RS|RE|nf|fi)$", "", roff, flags=re.MULTILINE)
@@ -138,6 +150,8 @@ def check_lines_manual(tally):
 def main():
     tally = Tally()
     check_model(tally)
+    check_speed(tally)
+    error_texts.check_texts(tally)
     wanted = constants()
     got = files(wanted)
     for name in sorted(wanted.keys() | got.keys()):

@@ -104,7 +104,7 @@ class Reader:
 def refusal(string, key, version):
     """Why an entry is refused for itself, or None."""
     if len(string) > LONGEST:
-        return "too long"
+        return "too long: more than 65,536 bytes"
     try:
         text = string.decode()
     except UnicodeDecodeError as fault:
@@ -218,7 +218,7 @@ def text():
 pub const FIRST: &str =
     "{whole(None).hex()}";
 
-/// The same in the second layout, under the first fixture's version.
+/// Those entries in the second layout, under the first fixture's version.
 pub const SECOND: &str =
     "{whole(count).hex()}";
 
@@ -229,7 +229,7 @@ pub const FIRST_ANSWERS: &str = "\\
 {first}
 ";
 
-/// The same of the second image.
+/// A line for each change of the second image.
 pub const SECOND_ANSWERS: &str = "\\
 {second}
 ";

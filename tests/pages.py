@@ -18,6 +18,7 @@ PAGES = {
     "docs/DECISIONS.md": (None, None),
     "docs/PROMISES.md": (None, None),
     "docs/NODES.md": (None, None),
+    "docs/BULK.md": (None, None),
     "docs/DOORS.md": (None, None),
     "docs/STANDARD.md": (None, None),
     "docs/FORMATS.md": (None, None),
@@ -27,12 +28,16 @@ PAGES = {
 KEPT = "from one chain"
 
 
-def sentences(text):
+# Where a sentence ends. In doc comments, which tell shapes and units in lists, a part behind `:` or `;` counts for itself.
+ENDS = {"page": r"(?<=[.?!])\s+", "comment": r"(?<=[.?!:;])\s+"}
+
+
+def sentences(text, marks="page"):
     """The sentences of a page: without code blocks, tables and heads."""
     text = re.sub(r"```.*?```", "", text, flags=re.DOTALL)
     lines = [line for line in text.split("\n") if not line.lstrip().startswith(("|", "#"))]
     text = re.sub(r"\n\s*(?:[-*]|\d+\.) ", ". ", "\n".join(lines)).replace("\n\n", ". ")
-    for sentence in re.split(r"(?<=[.?!:;])\s+", text):
+    for sentence in re.split(ENDS[marks], text):
         words = [word for word in sentence.split() if re.search(r"\w", word)]
         if words and KEPT not in sentence:
             yield words
@@ -71,7 +76,7 @@ def check_comments(tally):
     """No sentence of a doc comment is too long, nor are they on average."""
     counts, long = [], []
     for path, line, text in doc_comments():
-        for words in sentences(text):
+        for words in sentences(text, "comment"):
             counts.append(len(words))
             if len(words) > LONGEST:
                 long.append(f"{path}:{line}")

@@ -2,6 +2,8 @@
 #![tactic(auto)]
 
 #[cfg(test)]
+mod error_texts;
+#[cfg(test)]
 mod jobs;
 #[cfg(test)]
 mod lines_job;

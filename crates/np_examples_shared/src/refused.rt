@@ -13,7 +13,7 @@ pub fn again<V: Drop, E: PartialEq + Drop, F: Fn() -> Result<V, E>>(
     again_where(true, memory, call)
 }
 
-/// The same, where that is asked for.
+/// What the call answers; only where `asked` it is made again after memory ran out.
 pub fn again_where<V: Drop, E: PartialEq + Drop, F: Fn() -> Result<V, E>>(
     asked: bool,
     memory: &E,

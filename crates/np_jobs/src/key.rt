@@ -32,7 +32,7 @@ pub(super) fn key_of<T: NormTable>(
     }
 }
 
-/// The same as what the job writes.
+/// The key of the text, as the job writes it.
 pub(super) fn make_key<T: NormTable>(
     alloc: Global,
     form: Form,

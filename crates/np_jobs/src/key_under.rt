@@ -150,11 +150,11 @@ fn made_of_versions<F: Read, I: Read>(
 }
 
 /// Makes the stabilized string of the input, a text, under the version of the last two files, and
-/// writes a line on it under the earlier version of the first two: `own form`, since there it is its
-/// own normal form; and where that version does not assign each code point of it, the first that it
-/// lacks, with its byte place in the stabilized string, from 0. Answers the status, 1 where the
-/// later version does not extend the earlier one, and then the input is not read; a refusal is told
-/// in a line on `error`, and leaves the output as it was.
+/// writes a line on it under the earlier version of the first two. The line is `own form`, since
+/// there it is its own normal form. Where that version does not assign each code point of it, the
+/// line also tells the first that it lacks, with its byte place in the stabilized string, from 0.
+/// Answers the status: 1 where the later version does not extend the earlier one, and then the input
+/// is not read. A refusal is told in a line on `error`, and leaves the output as it was.
 pub fn key_under_job<F: Read, I: Read, O: Write, E: Write>(
     alloc: Global,
     form: Form,

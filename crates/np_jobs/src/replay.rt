@@ -138,9 +138,9 @@ fn made_of_files<F: Read>(
 }
 
 /// Writes what nodes reply to the events of a schedule and what they keep at the end, over a chain
-/// of versions that the files make, two for each: a line for each event, then for each node and
-/// each string that it keeps. Answers the status, 1 where a version does not extend the one before;
-/// a refusal is told in a line on `error`, and leaves the output as it was.
+/// of versions that the files make, two for each. That is a line for each event, then one for each
+/// node and for each string that it keeps. Answers the status, 1 where a version does not extend the
+/// one before. A refusal is told in a line on `error`, and leaves the output as it was.
 pub fn replay_job<F: Read, O: Write, E: Write>(
     alloc: Global,
     form: Form,

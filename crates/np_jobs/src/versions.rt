@@ -58,7 +58,7 @@ pub fn read_version<R: Read>(
     version_of(alloc, version, rows, exclusions)
 }
 
-/// The same, with the table over the version.
+/// Reads the two files of a version, builds it, and makes the table over it.
 ///
 /// # Errors
 ///

@@ -18,7 +18,7 @@ pub enum NodeFault {
     #[error("another form")]
     OtherForm,
     /// The string has more than 65,536 bytes.
-    #[error("too long")]
+    #[error("too long: more than 65,536 bytes")]
     TooLong,
     /// The string is not UTF-8: its longest prefix that is has `at` bytes.
     #[error("not UTF-8 at byte {at}")]

@@ -13,15 +13,15 @@ pub fn messages()
     ensures some { SpellsOrHasFault IsMessage IsMessageFault }
 {}
 
-/// The same of images, over both layouts: bytes spell one image and have no fault place, or they
-/// spell none and have one, and no spelling of either layout is a proper prefix of another.
+/// Over both layouts bytes spell one image and have no fault place, or they spell none and have one.
+/// No spelling of either layout is a proper prefix of another.
 pub fn images()
     ensures one { SpellsOne IsImage }
     ensures fault { HasOneFault IsImage IsImageFault }
     ensures some { SpellsOrHasFault IsImage IsImageFault }
 {}
 
-/// A string that is assigned in two versions of a chain has one key under both, so what `accept`
+/// A string that is assigned in two versions of a chain has one key under both. So what `accept`
 /// gave under one of them is taken fairly under each: never with `KeyDiffers`, and with
 /// `Unassigned` only where the receiver's version lacks a code point.
 pub fn exchange()

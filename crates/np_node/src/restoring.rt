@@ -47,9 +47,9 @@ impl<'t, T: NormTable> Node<'t, T> {
     ///
     /// # Errors
     ///
-    /// In this order, with no entry's number: `Malformed` where the bytes are no image;
-    /// `OtherForm`; `OlderTables` where an image of the second layout was saved under a version
-    /// with more assigned code points than the table's; `Full` where there are more entries than
+    /// In this order, with no entry's number: `Malformed` where the bytes are no image, and
+    /// `OtherForm`. `OlderTables` where an image of the second layout was saved under a version
+    /// with more assigned code points than the table's. `Full` where there are more entries than
     /// the room. Then for the first entry that is wrong, with its number from 0: `TooLong`,
     /// `NotUtf8`, `Unassigned`, `KeyDiffers`, and `Malformed` at the entry's first byte where an
     /// earlier entry has the string. `Memory` has no entry's number, and can come in place of

@@ -28,7 +28,7 @@ const MOST_EVENTS: usize = 1_000_000;
 pub enum ScheduleFault {
     /// The first line, from 1, that can't stand after the lines before it; where the file ends
     /// before its line of nodes, the line behind the last one.
-    #[error("line {line}: not what stands there in a schedule")]
+    #[error("line {line}: malformed, or not allowed there")]
     Line { line: u64 },
     /// Memory ran out.
     #[error("out of memory")]

@@ -42,7 +42,7 @@ fn wants_after(
     wants_breaks(alloc, old, &new, breaks, "the breaks behind it")
 }
 
-/// The same, from the version of the two files.
+/// Fails unless these are the breaks from the version of the two files to the other.
 fn wants_before(
     alloc: Global,
     files: Files<'_>,

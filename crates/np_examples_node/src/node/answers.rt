@@ -257,7 +257,7 @@ fn upgrades_go_forward_alone(rt: HostRuntime) -> Result<(), Fail> {
 const TOLD: [(NodeFault, &str); 10] = [
     (NodeFault::Malformed { at: 5 }, "malformed at byte 5"),
     (NodeFault::OtherForm, "another form"),
-    (NodeFault::TooLong, "too long"),
+    (NodeFault::TooLong, "too long: more than 65,536 bytes"),
     (NodeFault::NotUtf8 { at: 17 }, "not UTF-8 at byte 17"),
     (
         NodeFault::Unassigned {

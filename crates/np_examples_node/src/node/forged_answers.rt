@@ -5,7 +5,7 @@
 pub const FIRST: &str =
     "4e505331430000000400000000000000000000000361cc8200000002c3a200000003e284ab00000002c38500000001410000000141";
 
-/// The same in the second layout, under the first fixture's version.
+/// Those entries in the second layout, under the first fixture's version.
 pub const SECOND: &str =
     "4e50533243000044fc0000000400000000000000000361cc820100000002c3a200000003e284ab0100000002c385000000014100";
 
@@ -262,7 +262,7 @@ pub const FIRST_ANSWERS: &str = "\
 0 53 4e505331430000000400000000000000000000000361cc8200000002c3a200000003e284ab00000002c385000000014100000001410000000141000000014100000001410000000141 malformed at byte 53
 ";
 
-/// The same of the second image.
+/// A line for each change of the second image.
 pub const SECOND_ANSWERS: &str = "\
 0 52 - malformed at byte 0
 0 1 00,01,4d,4f,7f,80,ff malformed at byte 0

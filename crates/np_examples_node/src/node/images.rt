@@ -12,11 +12,11 @@ use std::test::Fail;
 const FIRST: &[u8] =
     b"NPS1C\0\0\0\x02\0\0\0\x03a\xcc\x82\0\0\0\x02\xc3\xa2\0\0\0\x03\xe2\x84\xab\0\0\0\x02\xc3\x85";
 
-/// The same in the second layout, under the first fixture's version.
+/// Those entries in the second layout, under the first fixture's version.
 const SECOND: &[u8] =
     b"NPS2C\0\0\x44\xfc\0\0\0\x02\0\0\0\x03a\xcc\x82\x01\0\0\0\x02\xc3\xa2\0\0\0\x03\xe2\x84\xab\x01\0\0\0\x02\xc3\x85";
 
-/// The same under the second fixture's version.
+/// Those entries in the second layout, under the second fixture's version.
 const UPGRADED: &[u8] =
     b"NPS2C\0\0\x45\x02\0\0\0\x02\0\0\0\x03a\xcc\x82\x01\0\0\0\x02\xc3\xa2\0\0\0\x03\xe2\x84\xab\x01\0\0\0\x02\xc3\x85";
 

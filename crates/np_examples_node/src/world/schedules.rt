@@ -131,7 +131,7 @@ fn nodes_are_64_at_most(rt: HostRuntime) -> Result<(), Fail> {
 const TOLD: [(ScheduleFault, &str); 2] = [
     (
         ScheduleFault::Line { line: 12 },
-        "line 12: not what stands there in a schedule",
+        "line 12: malformed, or not allowed there",
     ),
     (ScheduleFault::Memory, "out of memory"),
 ];

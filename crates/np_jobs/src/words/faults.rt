@@ -10,7 +10,7 @@ use thiserror::Error;
 #[derive(Clone, Copy, Debug, PartialEq, Eq, Drop, Error)]
 pub enum WordsFault {
     /// The words ask for nothing that there is, or for help.
-    #[error("the words ask for nothing that there is")]
+    #[error("bad command line")]
     Usage,
     /// Memory ran out.
     #[error("out of memory")]
