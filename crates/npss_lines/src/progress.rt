@@ -8,8 +8,8 @@ use std::io::{Read, Result};
 use std::rt::Runtime;
 use std::time::{Duration, Instant};
 
-/// How often it is told.
-const PAUSE: Duration = Duration::from_secs(1);
+/// How often it is told, in seconds.
+const PAUSE: u64 = 1;
 
 /// How far an input was read, and when that was told.
 #[derive(Clone, Copy, Drop)]
@@ -50,7 +50,7 @@ impl Done {
     /// Whether it is time to tell it again.
     fn is_due<R: Runtime>(&self, rt: &R) -> bool {
         match (self.told, Instant::now(rt)) {
-            (Some(told), Ok(now)) => now.duration_since(told) >= PAUSE,
+            (Some(told), Ok(now)) => now.duration_since(told) >= Duration::from_secs(PAUSE),
             (None, Ok(_)) => true,
             // where there is no clock nothing is told but the end
             (_, Err(_)) => false,
