@@ -1,5 +1,7 @@
 """Runs of the program with standard streams closed, and with words that are no text."""
 
+import os
+import resource
 from itertools import combinations
 
 from cases import DEVICE, DIFFERENT, USAGE, WRONG_WORDS, text
@@ -54,12 +56,16 @@ def check_closed(tally, program, folder):
             tally.same(f"{' '.join(words)} with {closed} closed", got, wanted(words, out, status, closed))
 
 
+def close_input():
+    """In the program's process, before it begins: its input is closed, and one descriptor more may be opened."""
+    os.close(0)
+    resource.setrlimit(resource.RLIMIT_NOFILE, (3, 3))
+
+
 def check_closed_input(tally, program, folder):
     """A closed input takes no descriptor and names no file: where one file alone can be opened, the second word that
     names one is told."""
-    words = ["key", "--form", "nfc", *V1]
-    line = 'ulimit -n 3 && exec "$0" "$@" <&-'
-    got = run("sh", ["-c", line, str(program), *words], b"", folder)
+    got = run(program, ["key", "--form", "nfc", *V1], b"", folder, preexec_fn=close_input)
     tally.same("key with its input closed and one descriptor free", got, (DEVICE, b"", f"cannot open {V1[1]}\n".encode()))
 
 
