@@ -1,30 +1,33 @@
 -- What the program does for its words, over any opener of files: by which contents a file of a name may have, and which names may not open.
 use Rattle.std.specs.Prelude.{◌≡◌, ◌⊎◌, ℕ, true, None, Some, List, Option}
-use Rattle.clap.specs.Words.{Text}
 use Rattle.np_jobs.specs.Ends.{IsTold, TellsRefusal, WritesAnswer}
 use Rattle.np_jobs.specs.Opening.{AreTextReaders, IsUnopened}
 use Rattle.np_jobs.specs.Streams.{Stream}
 use Rattle.np_jobs.specs.Texts.{TextReaders}
-use Rattle.np_jobs.specs.Words.{names_of}
 use Rattle.np_jobs.specs.declared.faults.JobFault.TheVariants.{Memory}
 use Rattle.np_lines_job.specs.LineKeys.{LinesEnd}
 use Rattle.np_lines_job.specs.LineWords.{asked_by, asked_of, lines_usage}
 use Rattle.np_lines_job.specs.declared.words.LinesJob.{LinesJob}
 use Rattle.np_lines_job.specs.declared.words.LinesJob.TheVariants.{Help, Answer}
 
--- the usage text is written; or the lines are answered over the files that the names opened, or the first name that doesn't open is told and nothing is written
-abbrev pub IsRun : (Text → Option (List ℕ) → Type 0) → (Text → Type 0) → LinesJob → Stream → Stream → Stream → ℕ → Type 0
-IsRun Gives Lacks Help input output error status = WritesAnswer true lines_usage output error status
-IsRun Gives Lacks (Answer asked shows_progress files) input output error status =
-    ((readers : TextReaders) × AreTextReaders Gives files input readers × LinesEnd asked readers output error status)
-    ⊎ (IsUnopened Gives Lacks (names_of files) error status × (output.after ≡ output.before))
+-- how a job ends, over the files that its names opened
+abbrev pub EndsOverFiles : (List ℕ → Option (List ℕ) → Type 0) → LinesJob → Stream → Stream → Stream → ℕ → Type 0
+EndsOverFiles Gives Help input output error status = WritesAnswer true lines_usage output error status
+EndsOverFiles Gives (Answer asked shows_progress files) input output error status =
+    (readers : TextReaders) × AreTextReaders Gives files input readers × LinesEnd asked readers output error status
 
 -- no job is asked for: the words ask for nothing that there is, or memory ran out
-abbrev pub IsNotAsked : List Text → Stream → ℕ → Type 0
+abbrev pub IsNotAsked : List (List ℕ) → Stream → ℕ → Type 0
 IsNotAsked words error status = ((asked_by words ≡ None) × IsTold error lines_usage × (status ≡ 2)) ⊎ TellsRefusal Memory error status
 
+-- the job is run over its files; or the first of them that doesn't open is told, and nothing is written
+abbrev pub IsRun : (List ℕ → Option (List ℕ) → Type 0) → (List ℕ → Type 0) → LinesJob → Stream → Stream → Stream → ℕ → Type 0
+IsRun Gives Lacks job input output error status =
+    EndsOverFiles Gives job input output error status
+    ⊎ (IsUnopened Gives Lacks (asked_of job).files error status × (output.after ≡ output.before))
+
 -- the job is run that the words ask for; or none is asked for, and nothing is written
-abbrev pub ProgramEnds : (Text → Option (List ℕ) → Type 0) → (Text → Type 0) → List Text → Stream → Stream → Stream → ℕ → Type 0
+abbrev pub ProgramEnds : (List ℕ → Option (List ℕ) → Type 0) → (List ℕ → Type 0) → List (List ℕ) → Stream → Stream → Stream → ℕ → Type 0
 ProgramEnds Gives Lacks words input output error status =
     ((job : LinesJob) × (asked_by words ≡ Some (asked_of job)) × IsRun Gives Lacks job input output error status)
     ⊎ (IsNotAsked words error status × (output.after ≡ output.before))

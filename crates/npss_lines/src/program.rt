@@ -1,13 +1,13 @@
 //! What the program does for its words, over any opener of files and any streams.
-ghost use Rattle.std.specs.Prelude.{◌≡◌, map, string_bytes, true, Err, IfOk, IfErr};
-ghost use Rattle.np_jobs.specs.Ends.{IsTold, TellsRefusal, WritesAnswer};
+ghost use Rattle.std.specs.Prelude.{◌≡◌, map, string_bytes, Err, IfOk, IfErr};
+ghost use Rattle.np_jobs.specs.Ends.{IsTold, TellsRefusal};
 ghost use Rattle.np_jobs.specs.Opening.{AreTextReaders, IsUnopened};
 ghost use Rattle.np_jobs.specs.Streams.{stream_of};
 ghost use Rattle.np_jobs.specs.Texts.{TextReaders};
 ghost use Rattle.np_jobs.specs.Words.{names_of};
 ghost use Rattle.np_lines_job.specs.LineKeys.{LinesEnd};
-ghost use Rattle.np_lines_job.specs.LineWords.{lines_usage};
-ghost use Rattle.npss_lines.specs.LinesProgram.{IsRun, ProgramEnds};
+ghost use Rattle.np_lines_job.specs.LineWords.{asked_of, lines_usage};
+ghost use Rattle.npss_lines.specs.LinesProgram.{EndsOverFiles, IsRun, ProgramEnds};
 
 use np_code_points::watched::Watched;
 use np_jobs::{
@@ -49,6 +49,34 @@ fn run_on_lines<P: Opener, I: Read, O: Write, E: Write>(
     ))
 }
 
+/// Runs a job.
+///
+/// # Errors
+///
+/// The status that was told, where a file can't be opened.
+fn run<P: Opener, I: Read, O: Write, E: Write>(
+    opener: &P,
+    alloc: Global,
+    job: &LinesJob,
+    input: &mut Watched<I>,
+    output: &mut Watched<O>,
+    error: &mut Watched<E>,
+) -> Result<u8, u8>
+    ensures done { IfOk result (EndsOverFiles (P.gives opener.now) job.now
+        (stream_of I.remaining input.old input.new) (stream_of O.contents output.old output.new) (stream_of E.contents error.old error.new)) }
+    ensures unopened { IfErr result (IsUnopened (P.gives opener.now) (P.lacks opener.now) (asked_of job.now).files (stream_of E.contents error.old error.new)) }
+    ensures unwritten { IfErr result (λ status. output.new ≡ output.old) }
+{
+    match job {
+        LinesJob::Help => Ok(show_usage(alloc, output, error, lines_usage_text())),
+        LinesJob::Answer {
+            asked,
+            shows_progress: _,
+            files,
+        } => run_on_lines(opener, alloc, *asked, files, input, output, error),
+    }
+}
+
 /// Runs the job that was found in the words, or tells why there is none.
 fn run_found<P: Opener, I: Read, O: Write, E: Write>(
     opener: &P,
@@ -65,14 +93,7 @@ fn run_found<P: Opener, I: Read, O: Write, E: Write>(
     ensures unwritten { IfErr found.now (λ _. output.new ≡ output.old) }
 {
     match found {
-        Ok(LinesJob::Help) => show_usage(alloc, output, error, lines_usage_text()),
-        Ok(
-            LinesJob::Answer {
-                asked,
-                shows_progress: _,
-                files,
-            },
-        ) => match run_on_lines(opener, alloc, *asked, files, input, output, error) {
+        Ok(job) => match run(opener, alloc, job, input, output, error) {
             Ok(status) => status,
             Err(status) => status,
         },

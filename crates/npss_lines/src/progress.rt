@@ -93,7 +93,9 @@ impl<'a, R: Runtime, I: Read> Progress<'a, R, I> {
     }
 
     /// Takes in what was read, and tells it where that is due; at the end of the input for the last time.
-    fn pass(&mut self, piece: &[u8]) {
+    fn pass(&mut self, piece: &[u8])
+        ensures { self.new.input ≡ self.old.input }
+    {
         let Some(done) = &mut self.done else {
             return;
         };

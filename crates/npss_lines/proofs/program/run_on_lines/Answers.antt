@@ -7,7 +7,7 @@ use Rattle.npss_lines.proofs.program.run_on_lines.Goals as goal
 
 pub returns-clause-done : goal.returns-clause-done
 returns-clause-done g c =
-    let tells = g.P.Opener.File.Read.remaining in
+    let tells = g.P.File.Read.remaining in
     let readers : TextReaders = record {
       data_file = stream_of tells c.in_ok-data.data c.lines_job.new.data_file;
       exclusions_file = stream_of tells c.in_ok-data.exclusions c.lines_job.new.exclusions_file;

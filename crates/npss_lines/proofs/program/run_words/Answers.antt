@@ -1,5 +1,4 @@
-use Rattle.std.proofs.Common.{◌≡◌, ◌⊎◌, ℕ, List, None, Option, Some, Ok, Err, Result, IfErr, IfOk, ap, inl, inr, map, refl, string_bytes}
-use Rattle.clap.specs.Words.{Text}
+use Rattle.std.proofs.Common.{◌≡◌, ℕ, List, None, Option, Some, Ok, Err, Result, IfErr, IfOk, ap, inl, inr, map, refl, string_bytes}
 use Rattle.np_code_points.specs.declared.channels.watched.Watched.{Watched}
 use Rattle.np_code_points.specs.Watched.{device_of}
 use Rattle.np_jobs.specs.Ends.{TellsRefusal, IsTold}
@@ -13,7 +12,7 @@ use Rattle.npss_lines.specs.LinesProgram.{IsRun, ProgramEnds}
 use Rattle.npss_lines.proofs.program.run_words.Goals as goal
 
 -- what was found in the words says how the program ends
-ended : {D : Type 0} (Gives : Text → Option (List ℕ) → Type 0) (Lacks : Text → Type 0) (tells : D → Option (List ℕ)) (words : List Text) (found : Result LinesJob WordsFault)
+ended : {D : Type 0} (Gives : List ℕ → Option (List ℕ) → Type 0) (Lacks : List ℕ → Type 0) (tells : D → Option (List ℕ)) (words : List (List ℕ)) (found : Result LinesJob WordsFault)
     (input error : Stream) (old new : Watched D) (status : ℕ)
     → IfOk found (λ job. asked_by words ≡ Some (asked_of job))
     → (found ≡ Err faults.Usage → asked_by words ≡ None)
