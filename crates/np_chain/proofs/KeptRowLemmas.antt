@@ -1,11 +1,11 @@
 -- Rows of two versions in which no code point has a break.
-use Rattle.std.proofs.Common.{◌≡◌, ◌≢◌, ℕ, zero, suc, ◌<◌, ◌≤◌, ◌⊎◌, Bool, true, false, not, ◌&&◌, IsTrue, List, [], ◌∷◌, length, Option, Some, None, is_some, refl, sym, ap, ◌∙◌, arith, inl, inr}
+use Rattle.std.proofs.Common.{◌≡◌, ◌≢◌, ℕ, zero, suc, ◌<◌, ◌⊎◌, Bool, true, false, not, ◌&&◌, IsTrue, List, [], ◌∷◌, length, Option, Some, None, is_some, refl, sym, ap, ◌∙◌, arith, inl, inr}
 use Rattle.std.specs.List.{slice_get}
 use Rattle.std.proofs.lemmas.Bool.{cases_Bool, and_from, and_left, and_right, both_ways, false_from_ne_true}
 use Rattle.std.proofs.lemmas.Option.{none-some, same_Some}
 use Rattle.np_chain.specs.inside.BreakTests.{break_of, maps_alike, has_old_parts}
 use Rattle.np_chain.specs.declared.breaks.BreakKind.{BreakKind}
-use Rattle.np_chain.specs.inside.KeptRows.{AddsNone, IsKept}
+use Rattle.np_chain.specs.inside.KeptRows.{AddsNone, IsKept, LiesBare}
 use Rattle.np_chain.proofs.BreakLemmas.{break-neither, unassigned-none, none_where_same}
 use Rattle.np_chain.proofs.SyllableLemmas.{alike-listed, alike-syllable, old_parts-syllable}
 use Rattle.np_code_points.specs.Hangul.{is_syllable}
@@ -45,15 +45,19 @@ pub record IsBare (v : VersionData) (c : ℕ) : Type 0 where
   pub kind : file_kind v c ≡ Plain
   pub mapping : file_mapping v c ≡ []
 
-pub bare_in : (v : VersionData) (c : ℕ) (e : Entry) → IsSound v → entry_at v.entries c ≡ Some e → e.first < e.last → IsBare v c
-bare_in v c e sound at lt =
+bare_of : (v : VersionData) (c : ℕ) (e : Entry) → IsSound v → entry_at v.entries c ≡ Some e → e.mapping ≡ [] → IsBare v c
+bare_of v c e sound at nil =
     let row = entry_at-row v.entries c e sound.rows at in
-    let nil = nil_unless e.mapping e.first e.last row.alone lt in
     record {
       assigned = is_assigned-at v c ∙ ap is_some at;
       kind = file_kind-found v c e at ∙ plain_from e.kind (length e.mapping) row.fits (ap length nil);
       mapping = file_mapping-found v c e at ∙ nil;
     }
+
+bare_in : (v : VersionData) (c : ℕ) (e : Entry) → IsSound v → entry_at v.entries c ≡ Some e → e.first < e.last → IsBare v c
+bare_in v c e sound at lt =
+    let row = entry_at-row v.entries c e sound.rows at in
+    bare_of v c e sound at (nil_unless e.mapping e.first e.last row.alone lt)
 
 -- such a code point is a primary composite exactly where it is a syllable
 bare_primary : (v : VersionData) (c : ℕ) → IsSound v → IsBare v c → is_primary v c ≡ is_syllable c
@@ -97,19 +101,19 @@ module _ (old new : VersionData) (sound_old : IsSound old) (sound_new : IsSound 
       let low : e.first ≡ c = (let f = ap (λ (x : Entry). x.first) same in let l = ap (λ (x : Entry). x.last) same in let a = within.0 in let b = within.1 in omega arith) in
       sym (ap (break_of old new) (ap (λ (x : Entry). x.first) same ∙ low)) ∙ none
 
-  pub kept-wide : (at : ℕ) (r w : Entry) → slice_get old.entries at ≡ Some r → r.first ≢ r.last → entry_at new.entries r.first ≡ Some w → r.last ≤ w.last → w.class ≡ r.class → IsKept old new at
-  kept-wide at r w is wide found past class c e is_e at_c =
+  pub kept-bare : (at : ℕ) (r : Entry) → slice_get old.entries at ≡ Some r → LiesBare new r → IsKept old new at
+  kept-bare at r is lies c e is_e at_c =
       let same = same_Some r e (sym is ∙ is_e) in
       let at_r : entry_at old.entries c ≡ Some r = at_c ∙ ap Some (sym same) in
       let within = entry_at-within old.entries c r at_r in
-      let row = entry_at-row old.entries c r sound_old.rows at_r in
-      let begins = entry_at-within new.entries r.first w found in
-      let place = place_of_entry new.entries r.first w found in
+      let w = lies.wide in
+      let begins = entry_at-within new.entries r.first w lies.found in
+      let place = place_of_entry new.entries r.first w lies.found in
+      let past = lies.within.last in
       let at_w : entry_at new.entries c ≡ Some w =
       sym (at-found new.entries place.0 c w sound_new.rows place.2 (let a = within.0 in let b = begins.0 in omega arith) (let a = within.1 in omega arith)) ∙ place.2 in
-      bare_none c (bare_in old c r sound_old at_r (let a = row.rises in omega arith))
-      (bare_in new c w sound_new at_w (let a = row.rises in let b = begins.0 in omega arith))
-      (sym (class_of-at new c (Some w) (sym at_w)) ∙ class ∙ class_of-at old c (Some r) (sym at_r))
+      bare_none c (bare_of old c r sound_old at_r lies.within.mapping) (bare_of new c w sound_new at_w lies.within.other_mapping)
+      (sym (class_of-at new c (Some w) (sym at_w)) ∙ lies.within.class ∙ class_of-at old c (Some r) (sym at_r))
 
   -- ---- a row of the new version
 

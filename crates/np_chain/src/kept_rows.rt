@@ -2,13 +2,36 @@
 //! most pairs have. There are some 40,000 rows, and 1,114,112 code points.
 ghost use Rattle.std.specs.Prelude.{◌≡◌, ℕ, IsTrue, None};
 ghost use Rattle.np_chain.specs.inside.BreakTests.{break_of};
-ghost use Rattle.np_chain.specs.inside.KeptRows.{AddsNone, IsKept};
+ghost use Rattle.np_chain.specs.inside.KeptRows.{AddsNone, IsBareWithin, IsKept, LiesBare};
+ghost use Rattle.np_ucd.specs.RowValues.{entry_of};
 
 use crate::audits::break_at;
 use np_tables::Version;
+use np_ucd::Row;
+
+/// Whether a row without a mapping lies within another without one, which has its class. Most rows are such.
+fn is_bare_within(row: &Row, wide: &Row) -> bool
+    ensures { IsTrue result → IsBareWithin (entry_of row.now) (entry_of wide.now) }
+{
+    row.mapping.is_empty()
+        && wide.mapping.is_empty()
+        && row.last <= wide.last
+        && wide.class == row.class
+}
+
+/// Whether a row of an old version without a mapping lies within one of the new version's, which has its
+/// class and no mapping.
+fn lies_bare(new: &Version, row: &Row) -> bool
+    ensures { IsTrue result → LiesBare new.now (entry_of row.now) }
+{
+    match new.row_at(row.first) {
+        Some(wide) => is_bare_within(row, wide),
+        None => false,
+    }
+}
 
 /// Whether the row of the old version at a place is kept by the new one: `true` only where no code
-/// point in it has a break. A range has to lie within a range of the new version.
+/// point in it has a break.
 fn keeps_row(old: &Version, new: &Version, at: usize) -> bool
     ensures { IsTrue result → IsKept old.now new.now at }
 {
@@ -17,13 +40,13 @@ fn keeps_row(old: &Version, new: &Version, at: usize) -> bool
     let Some(row) = old.row(at) else {
         return true;
     };
-    if row.first == row.last {
-        return break_at(old, new, row.first).is_none();
+    if lies_bare(new, row) {
+        return true;
     }
-    match new.row_at(row.first) {
-        Some(wide) => row.last <= wide.last && wide.class == row.class,
-        None => false,
+    if row.first != row.last {
+        return false;
     }
+    break_at(old, new, row.first).is_none()
 }
 
 /// Whether the row of the new version at a place adds no composite to what the old one assigns:
