@@ -106,3 +106,20 @@ def corpus(name, size, test_strings):
                 found.append(line)
                 total += len(line)
     return b"".join(found)
+
+
+# How many names are answered, and how many unlike ones there are among them.
+NAMES_COUNT, UNLIKE = 1_000_000, 50_000
+
+
+def names():
+    """Lines with a name each: two words of one script, which changes from line to line."""
+    source = random.Random(SEED)
+    makers = (ascii_word, latin_word, korean_word, japanese_word)
+    unlike = []
+    for number in range(UNLIKE):
+        word = makers[number % len(makers)]
+        name = f"{word(source)} {word(source)}"
+        # some are decomposed
+        unlike.append(unicodedata.normalize("NFD", name) if number % 10 == 0 else name)
+    return "".join(f"{source.choice(unlike)}\n" for _ in range(NAMES_COUNT)).encode()

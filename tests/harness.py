@@ -9,10 +9,10 @@ ROOT = Path(__file__).resolve().parent.parent
 FORMS = ("nfd", "nfc", "nfkd", "nfkc")
 
 
-def built_program():
+def built_program(name="npss"):
     """The built program; the launcher builds it where it is missing or old. None where that fails."""
-    done = subprocess.run([ROOT / "npss"], stdin=subprocess.DEVNULL, stdout=subprocess.DEVNULL)
-    return ROOT / "crates" / "npss" / "out" / "npss" if done.returncode == 0 else None
+    done = subprocess.run([ROOT / name], stdin=subprocess.DEVNULL, stdout=subprocess.DEVNULL)
+    return ROOT / "crates" / name / "out" / name if done.returncode == 0 else None
 
 
 def run(program, words, stdin=b"", folder=None, **options):
