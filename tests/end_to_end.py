@@ -86,16 +86,16 @@ def check_launcher(tally, launcher, folder):
     link.unlink()
 
 
-def check_readme(tally):
-    """Each command of the README, by a plain shell, prints what stands below it."""
-    text = (ROOT / "README.md").read_text(encoding="utf-8")
+def check_page(tally, page):
+    """Each command of a page, by a plain shell, prints what stands below it."""
+    text = (ROOT / page).read_text(encoding="utf-8")
     for block in re.findall(r"^```\n(\$ .*?)^```$", text, re.DOTALL | re.MULTILINE):
         for command, wanted in re.findall(r"^\$ (.*)\n((?:(?!\$ ).*\n)*)", block, re.MULTILINE):
             if "/usr/share/unicode/" in command and not Path("/usr/share/unicode/UnicodeData.txt").exists():
                 print(f"skipped: {command}: the published files are not there")
                 continue
             done = subprocess.run(["sh", "-c", command], cwd=ROOT, capture_output=True, text=True, check=False)
-            tally.same(f"README: {command}", done.stdout + done.stderr, wanted)
+            tally.same(f"{page}: {command}", done.stdout + done.stderr, wanted)
 
 
 def state_of(folder):
@@ -130,7 +130,8 @@ def main():
         if len(sys.argv) > 2:
             check_launcher(tally, Path(sys.argv[2]).resolve(), folder)
             check_building(tally, Path(sys.argv[2]).resolve(), Path(name))
-            check_readme(tally)
+            check_page(tally, "README.md")
+            check_page(tally, "docs/BULK.md")
         tally.check("files are as they were", state_of(folder) == before, "a file changed")
     tally.finish()
 
