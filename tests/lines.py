@@ -23,6 +23,7 @@ from pathlib import Path
 sys.dont_write_bytecode = True
 
 from cases import DEVICE, WRONG_WORDS, text
+from endurance import resident
 from harness import FORMS, ROOT, Tally, run, shown
 from refusals import MEMORY as WANT, WAYS, Refusals, built_shim, each, is_last_call
 from ucd import DATA, EXCLUSIONS, each_test_string, package_files
@@ -34,12 +35,15 @@ USAGE = (ROOT / "crates" / "npss_lines" / "stdout").read_bytes()
 REFUSED = 3
 # The most bytes of a line.
 LIMIT = 65_536
-# The most memory of a run, in kB.
-MEMORY = 8 * 1024
+# The most memory of a run, in MiB.
+MEMORY = 8
 # A long line, in pieces of 1 MiB.
 LONG = 300
 
-# Lines under the first version, NFC, and their answers.
+# The first version with all of ASCII.
+ASCII = ("ascii.data", V1[1])
+
+# Lines under that version, NFC, and their answers.
 ROWS = [
     (b"", b"="),
     (b"abc", b"=abc"),
@@ -75,7 +79,7 @@ WRONG = [
 ]
 
 
-def asks(*flags, form="nfc", files=V1):
+def asks(*flags, form="nfc", files=ASCII):
     """The words of a run."""
     return [*flags, "--form", form, *files]
 
@@ -113,15 +117,14 @@ def check_words(tally, program, folder):
                (4, b"", b"version 0 data: line 1: FieldCount\n"))
     flags = ["--null", "--strict", "--progress", "--form=nfd"]
     for order in itertools.permutations(flags):
-        for words in ([*order, *V1], [*V1, *order], [order[0], V1[0], *order[1:3], V1[1], order[3]]):
+        for words in ([*order, *ASCII], [*ASCII, *order], [order[0], ASCII[0], *order[1:3], ASCII[1], order[3]]):
             got = run(program, words, text("00E2") + b"\0\xff", folder)
             tally.same(" ".join(words), got, (REFUSED, b"=" + text("0061 0302") + b"\0!not UTF-8 at byte 0\0", b""))
 
 
 def check_line_ends(tally, program, folder):
     """A version that maps to the byte that ends lines."""
-    (folder / "line-end.data").write_text(with_records((folder / V1[0]).read_text(encoding="ascii"),
-                                                       record("000A", "Cc"), record("0000", "Cc"),
+    (folder / "line-end.data").write_text(with_records((folder / ASCII[0]).read_text(encoding="ascii"),
                                                        record("2028", "Zl", 0, "<compat> 000A"),
                                                        record("2400", "So", 0, "<compat> 0000")), encoding="ascii")
     files = ("line-end.data", V1[1])
@@ -135,21 +138,23 @@ def check_line_ends(tally, program, folder):
 
 
 def fed(program, words, pieces, folder):
-    """The run over an input that comes in these pieces: status, output, error, and the most memory in kB."""
+    """The run over an input that comes in these pieces: status, output, error, and the most memory in MiB, looked at behind
+    each piece."""
     with subprocess.Popen([program, *words], cwd=folder, stdin=subprocess.PIPE, stdout=subprocess.PIPE,
                           stderr=subprocess.PIPE) as running:
+        peaks = [0.0]
+
         def feed():
             for piece in pieces:
                 running.stdin.write(piece)
                 running.stdin.flush()
+                peaks.append(resident(running.pid))
             running.stdin.close()
         feeder = threading.Thread(target=feed)
         feeder.start()
         out, err = running.stdout.read(), running.stderr.read()
         feeder.join()
-        _, status, used = os.wait4(running.pid, 0)
-        running.returncode = os.waitstatus_to_exitcode(status)
-        return (running.returncode, out, err), used.ru_maxrss
+        return (running.wait(), out, err), max(peaks)
 
 
 def check_long(tally, program, folder):
@@ -163,11 +168,11 @@ def check_long(tally, program, folder):
     pieces = itertools.chain([b"a\n"], (b"a" * (1 << 20) for _ in range(LONG)), [b"\nb"])
     got, used = fed(program, asks(), pieces, folder)
     tally.same("a line of 300 MiB", got, (0, b"=a\n!too long\n=b\n", b""))
-    tally.check("a line of 300 MiB in constant memory", used <= MEMORY, f"{used} kB")
+    tally.check("a line of 300 MiB in constant memory", 0 < used <= MEMORY, f"{used} MiB")
     piece, answers = b"a" * 9 + b"\n", b"=" + b"a" * 9 + b"\n"
     got, used = fed(program, asks(), (piece * 100_000 for _ in range(10)), folder)
     tally.check("1,000,000 lines", got == (0, answers * 1_000_000, b""), shown(got))
-    tally.check("1,000,000 lines in constant memory", used <= MEMORY, f"{used} kB")
+    tally.check("1,000,000 lines in constant memory", 0 < used <= MEMORY, f"{used} MiB")
 
 
 def check_devices(tally, program, folder):
@@ -305,6 +310,8 @@ def main():
         folder = Path(name) / "files"
         shutil.copytree(FIXTURES, folder)
         write_all(folder)
+        letters = (record(f"{code:04X}") for code in range(0x80))
+        (folder / ASCII[0]).write_text(with_records((folder / V1[0]).read_text(encoding="ascii"), *letters), encoding="ascii")
         check_rows(tally, program, folder)
         check_words(tally, program, folder)
         check_line_ends(tally, program, folder)
