@@ -18,6 +18,8 @@ import sys
 import tempfile
 from pathlib import Path
 
+# How often five bytes stand in a large text.
+LARGE = 8_000_000
 # Nothing is written into the tree but crates/*/out and out/c.
 sys.dont_write_bytecode = True
 
@@ -112,11 +114,11 @@ def check_c(tally, prefix, folder):
     for shared in (False, True):
         program = compiled(tally, prefix, folder, "calls", shared)
         if program:
-            counted(tally, program.name, [program, *files])
+            counted(tally, program.name, [program, *files, LARGE])
     program = folder / "calls"
     if program.exists() and wanted("valgrind"):
         counted(tally, "the calls under valgrind", ["valgrind", "-q", "--error-exitcode=9", "--leak-check=full",
-                                                    "--show-leak-kinds=all", program, *files])
+                                                    "--show-leak-kinds=all", program, *files, LARGE // 100])
     program = compiled(tally, prefix, folder, "threads")
     if program:
         counted(tally, "threads", [program, *V1, KEYS])

@@ -173,13 +173,13 @@ static void check_questions(npss_handle *h) {
     CHECK("the second is no text", is(npss_equivalent(h, false, TEXT("a"), TEXT("\xff")), NPSS_NOT_UTF8, 2, 0, 0, 0));
 }
 
-/* A text of 40 MB. */
-static void check_large(npss_handle *h) {
-    const size_t times = 8000000, length = 5 * times;
+/* A text of so many times five bytes: 40 MB, or less where each byte costs a hundred times as much. */
+static void check_large(npss_handle *h, size_t times) {
+    const size_t length = 5 * times;
     uint8_t *text = malloc(length), *room = malloc(length);
     for (size_t i = 0; i < times; i++) memcpy(text + 5 * i, MARKED, 5);
     npss_answer a = npss_key(h, NPSS_NFC, text, length, room, length);
-    CHECK("key of a text of 40 MB", is(a, NPSS_DONE, 0, 0, 0, 3 * times) && !memcmp(room + 3 * times - 3, MARKED_NFC, 3));
+    CHECK("key of a large text", is(a, NPSS_DONE, 0, 0, 0, 3 * times) && !memcmp(room + 3 * times - 3, MARKED_NFC, 3));
     CHECK("the two are equivalent", npss_equivalent(h, false, text, length, room, 3 * times).status == NPSS_DONE);
     a = npss_key(h, NPSS_NFC, text, length, room, 3 * times - 1);
     CHECK("a byte too little", is(a, NPSS_NO_ROOM, 0, 0, 0, 3 * times));
@@ -188,7 +188,7 @@ static void check_large(npss_handle *h) {
 }
 
 int main(int argc, char **argv) {
-    if (argc != 5) return 2;
+    if (argc != 6) return 2;
     file data = read_file(argv[1]), exclusions = read_file(argv[2]);
     npss_handle first = {0}, second = {0}, shared = {0};
     check_closed();
@@ -200,7 +200,7 @@ int main(int argc, char **argv) {
     check_texts(&first);
     check_answers(&first);
     check_questions(&first);
-    check_large(&first);
+    check_large(&first, strtoul(argv[5], NULL, 10));
     CHECK("one open handle", npss_extends(&first, &second).status == NPSS_CLOSED);
     CHECK("the other open handle", npss_extends(&second, &first).status == NPSS_CLOSED);
     CHECK("open the second", open_files(&second, argv[3], argv[4]).status == NPSS_DONE);
