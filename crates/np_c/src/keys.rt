@@ -32,7 +32,11 @@ fn key_of<'a, T: NormTable>(
         Err(answer) => return Err(answer),
     };
     match lend_npss(alloc, table, form, text) {
-        Ok(key) => Ok(key),
+        Ok(key) => {
+            // that its bytes are a text, which the prover sees where they are lent
+            let _text = key.as_str();
+            Ok(key)
+        }
         Err(NpssFault::Unassigned { at, code }) => Err(Answer {
             code: u32::from(code),
             place: at as u64,

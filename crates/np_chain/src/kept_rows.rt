@@ -1,5 +1,5 @@
 //! Whether a version breaks nothing of another, asked row by row: a quick way to the answer that
-//! most pairs have. There are some 40,000 rows, and 1,114,112 code points.
+//! most pairs have. A published version has some 35,000 rows, and there are 1,114,112 code points.
 ghost use Rattle.std.specs.Prelude.{◌≡◌, ℕ, IsTrue, None};
 ghost use Rattle.np_chain.specs.inside.BreakTests.{break_of};
 ghost use Rattle.np_chain.specs.inside.KeptRows.{AddsNone, IsBareWithin, IsKept, LiesBare};

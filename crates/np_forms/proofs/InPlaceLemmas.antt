@@ -78,11 +78,3 @@ module _ (v : VersionData) (whole : List ℕ) (list : List CodeAndClass) (kept a
   -- the code point is kept, and is the last starter where it is one
   pub in_place_stays : (place : Option ℕ) → (x.class ≡ 0 × place ≡ Some kept) ⊎ (0 < x.class × place ≡ starter) → (x.class ≡ class_of v x.code → pair_with_last v done starter last x.code ≡ None) → IsInPlace v whole (at + 1) (set list kept x) (kept + 1) place x.class
   in_place_stays place stands none = record { rest = next.ds; left = left kept x behind; composing = in_place_composes place stands (none class_is) }
-
--- a list in canonical order that begins with a starter, of which that was read
-pub in_place_begins : (v : VersionData) (s : ℕ) (ms : List ℕ) (list : List CodeAndClass) → class_of v s ≡ 0 → list ≡ with_classes v (s ∷ ms) → is_ordered (class_of v) (s ∷ ms) ≡ true → IsInPlace v (s ∷ ms) 1 list 1 (Some 0) 0
-unfolding pair_with_last
-in_place_begins v s ms list zero is ordered =
-    let begun = push_starts v (s ∷ ms) [] None 0 s ms refl zero (IsComposing-start v (s ∷ ms) ordered) in
-    let shown : codes_of (take 1 list) ≡ s ∷ [] = ap (λ l. codes_of (take 1 l)) is in
-    record { rest = ms; left = ap (drop 1) is; composing = subst (λ l. IsComposing v (s ∷ ms) l (Some 0) 0 ms) (sym shown) begun }

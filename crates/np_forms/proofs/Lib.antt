@@ -15,11 +15,11 @@ pub mod InPlaceLemmas
 pub mod KeptLemmas
 pub mod LengthLemmas
 pub mod MachineLemmas
-pub mod MarkedLemmas
 pub mod MatchLemmas
 pub mod OrderLaws
 pub mod OrderLemmas
 pub mod OutTextLemmas
+pub mod PartLemmas
 pub mod PendingLemmas
 pub mod PieceLemmas
 pub mod PushLemmas
@@ -38,6 +38,4 @@ pub mod SyllableFrontLemmas
 pub mod SyllableLemmas
 pub mod SyllableTextLemmas
 pub mod TextLemmas
-pub mod Utf8ReadLemmas
-pub mod Utf8WordLemmas
 pub mod WrittenLemmas

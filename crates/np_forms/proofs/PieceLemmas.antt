@@ -145,6 +145,25 @@ module _ (v : VersionData) (form : Form) (first second : Pieces) {whole other : 
             is ∙ and_from _ _ (ap (λ l. eqb (length l) 0) (front_nil (front_of first) one.0 (sym one.1 ∙ all.0))) (ap (λ l. eqb (length l) 0) (front_nil (front_of second) two.0 (sym two.1 ∙ all.1))),
       )
 
+-- ---- a form beside bytes
+
+module _ (v : VersionData) (form : Form) (pieces : Pieces) {whole other left : List ℕ} (p : ArePassed whole other (left_of v form pieces) left) where
+  all_alike : whole ≡ other → left_of v form pieces ≡ left
+  all_alike same = append_cancel_left p.passed (left_of v form pieces) left (sym p.whole_is ∙ same ∙ p.other_is)
+
+  -- the bytes don't go on as the form does
+  pub ArePassed-parts : ((r : List ℕ) → left ≢ front_of pieces ++ r) → IsTrue false ↔ (whole ≡ other)
+  ArePassed-parts differ =
+      let begins = left_begins pieces.stays.now (drop pieces.taken pieces.made) (form_bytes v form pieces.rest.now) in
+      (λ yes. absurd (false≢true yes), λ same. absurd (differ begins.0 (sym (all_alike same) ∙ begins.1)))
+
+  -- nothing is left of the form
+  pub ArePassed-all : {b : Bool} → left_of v form pieces ≡ [] → b ≡ eqb (length left) 0 → IsTrue b ↔ (whole ≡ other)
+  ArePassed-all none is = (
+    λ yes. p.whole_is ∙ ap (λ l. p.passed ++ l) (none ∙ sym (nil_from_length left (eqb-true (length left) 0 (sym is ∙ yes)))) ∙ sym p.other_is,
+    λ same. is ∙ ap (λ l. eqb (length l) 0) (sym (all_alike same) ∙ none),
+  )
+
 -- ---- equivalence by the bytes of forms
 
 module _ (v : VersionData) (sound : IsSound v) where

@@ -247,6 +247,10 @@ module _ (v : VersionData) (sound : IsSound v) where
     walk_ended true on before last cs end walk = walk_composed on before last cs end walk
     walk_ended false off before last cs end walk = walk_plain off before last cs end walk
 
-pub standing_form : (v : VersionData) (sound : IsSound v) (form : Form) (cs : List ℕ) (end : ℕ) → Walks (MayFollow v form) None 0 cs end → normal_form v form cs ≡ cs
+-- what may follow one another is its own form, wherever it begins
+pub walked_form : (v : VersionData) (sound : IsSound v) (form : Form) (before : Option ℕ) (last : ℕ) (cs : List ℕ) (end : ℕ) → Walks (MayFollow v form) before last cs end → normal_form v form cs ≡ cs
 unfolding normal_form decomposed
-standing_form v sound form cs end walk = walk_ended v sound form (composes form) refl None 0 cs end walk
+walked_form v sound form before last cs end walk = walk_ended v sound form (composes form) refl before last cs end walk
+
+pub standing_form : (v : VersionData) (sound : IsSound v) (form : Form) (cs : List ℕ) (end : ℕ) → Walks (MayFollow v form) None 0 cs end → normal_form v form cs ≡ cs
+standing_form v sound form cs end walk = walked_form v sound form None 0 cs end walk

@@ -10,11 +10,11 @@ use Rattle.np_forms.specs.inside.Copies.{IsEndOf}
 use Rattle.np_forms.specs.inside.Readings.{IsRead, IsReadAssigned}
 use Rattle.np_tables.proofs.MappingLemmas.{list_all-append}
 
-list_all-front : (p : ℕ → Bool) (xs ys : List ℕ) → list_all p (xs ++ ys) ≡ true → list_all p xs ≡ true
+pub list_all-front : (p : ℕ → Bool) (xs ys : List ℕ) → list_all p (xs ++ ys) ≡ true → list_all p xs ≡ true
 list_all-front p [] ys all = refl
 list_all-front p (x ∷ xs) ys all = let halves = and_parts (p x) (list_all p (xs ++ ys)) all in and_from _ _ halves.0 (list_all-front p xs ys halves.1)
 
-list_all-back : (p : ℕ → Bool) (xs ys : List ℕ) → list_all p (xs ++ ys) ≡ true → list_all p ys ≡ true
+pub list_all-back : (p : ℕ → Bool) (xs ys : List ℕ) → list_all p (xs ++ ys) ≡ true → list_all p ys ≡ true
 list_all-back p [] ys all = all
 list_all-back p (x ∷ xs) ys all = list_all-back p xs ys (and_parts (p x) (list_all p (xs ++ ys)) all).1
 

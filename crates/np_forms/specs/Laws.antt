@@ -1,5 +1,5 @@
 -- The laws of the forms, over the definitions alone.
-use Rattle.std.specs.Prelude.{◌≡◌, ℕ, true, List, ◌↔◌}
+use Rattle.std.specs.Prelude.{◌≡◌, ℕ, ◌*◌, ◌≤◌, true, List, length, chars, IsUtf8, ◌↔◌}
 use Rattle.np_tables.specs.Composites.{IsCompositeOf}
 use Rattle.np_tables.specs.Conditions.{IsSound}
 use Rattle.np_code_points.specs.declared.forms.Form.{Form}
@@ -29,6 +29,16 @@ abbrev pub SameForms : Type 0
 SameForms =
     (v : VersionData) (form : Form) (xs ys ks ls : List ℕ) → IsSound v → IsNormalForm v form xs ks → IsNormalForm v form ys ls →
     (ks ≡ ls) ↔ IsEquivalent v (is_compat form) xs ys
+
+-- a normal form has at most 64 code points for each of its text, since no full decomposition is longer
+abbrev pub FewCodePoints : Type 0
+FewCodePoints = (v : VersionData) (form : Form) (xs ys : List ℕ) → IsSound v → IsNormalForm v form xs ys → length ys ≤ 64 * length xs
+
+-- and at most 256 bytes for each byte of its text, since a code point has one to four
+abbrev pub FewBytes : Type 0
+FewBytes =
+    (v : VersionData) (form : Form) (string key : List ℕ) → IsSound v → IsUtf8 string → IsUtf8 key → IsNormalForm v form (chars string) (chars key) →
+    length key ≤ 256 * length string
 
 -- the premise of these laws on a version is met: by the version of empty files; by one of three rows, a starter, a
 -- non-starter of class 230 and their primary composite; and by one with the Hangul arithmetic on

@@ -5,6 +5,7 @@ pub mod Faults
 pub mod Forms
 pub mod Laws
 pub mod Order
+pub mod Parts
 pub mod RunEnds
 pub mod Starters
 pub mod StreamSafe

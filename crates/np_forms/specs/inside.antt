@@ -5,7 +5,6 @@ pub mod Composing
 pub mod Copies
 pub mod Held
 pub mod InPlace
-pub mod Marked
 pub mod NormalForms
 pub mod Pieces
 pub mod Readings

@@ -9,6 +9,7 @@ ghost use Rattle.np_tables.specs.inside.FullDecompositions.{full_of};
 
 use crate::classes::Classed;
 use crate::copying::write_next;
+use crate::lookups::{composite_of, lent};
 use crate::ordering::may_follow;
 use crate::out_texts::OutText;
 use crate::plain_texts::split_plain;
@@ -48,7 +49,7 @@ fn fold_next<T: NormTable>(table: &T, folded: Folded, d: char) -> Option<Folded>
     if !may_follow(folded.read, class) {
         return None;
     }
-    let code = table.pair(folded.code, d)?;
+    let code = composite_of(table, folded.code, d)?;
     Some(Folded { code, read: class })
 }
 
@@ -70,7 +71,7 @@ fn fold_first<T: NormTable>(table: &T, compat: bool, c: char) -> Option<Folded>
     requires { IsSound (T.model table.now) }
     ensures { IfSome result (λ new. (done : List ℕ) → IsComposedOf (T.model table.now) done [] None 0 0 → IsFoldedOf (T.model table.now) (done ++ full_of (T.model table.now) compat c) new) }
 {
-    match table.full(c, compat) {
+    match lent(table, c, compat) {
         [first, rest @ ..] => {
             let begun = fold_start(table, *first)?;
             fold_all(table, begun, rest)
@@ -90,7 +91,7 @@ fn fold_full<T: NormTable>(table: &T, compat: bool, folded: Folded, c: char) -> 
     requires { IsSound (T.model table.now) }
     ensures { IfSome result (λ new. (done : List ℕ) → IsFoldedOf (T.model table.now) done folded → IsFoldedOf (T.model table.now) (done ++ full_of (T.model table.now) compat c) new) }
 {
-    let full = table.full(c, compat);
+    let full = lent(table, c, compat);
     if !full.is_empty() {
         return fold_all(table, folded, full);
     }

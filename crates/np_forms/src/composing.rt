@@ -9,6 +9,7 @@ ghost use Rattle.np_forms.specs.Order.{is_ordered};
 ghost use Rattle.np_tables.specs.Versions.{class_of};
 
 use crate::classes::Classed;
+use crate::lookups::composite_of;
 use np_tables::NormTable;
 
 /// A composition inside its own list. The first `kept` places hold what was composed so far, beside
@@ -44,7 +45,7 @@ pub(crate) fn pair_with_last<T: NormTable>(
 {
     let q = starter?;
     if last == 0 || last < class {
-        let p = table.pair(list[q].code(), c)?;
+        let p = composite_of(table, list[q].code(), c)?;
         Some((q, p))
     } else {
         None
@@ -104,56 +105,4 @@ pub(crate) fn compose<T: NormTable>(table: &T, text: Vec<Classed>) -> Vec<Classe
     let Composer { mut list, kept, .. } = composer;
     list.truncate(kept);
     list
-}
-
-/// Takes in the code point at `at` where a starter was kept. Answers how many are kept then, the place of the
-/// last starter, and the class of the last code point that was kept behind it.
-#[inline(always)]
-fn take_behind<T: NormTable>(
-    table: &T,
-    list: &mut [Classed],
-    at: usize,
-    kept: usize,
-    starter: usize,
-    last: u8,
-) -> (usize, usize, u8)
-    requires kept { kept ≤ at }
-    requires place { at < length list.old }
-    requires starter { starter < kept }
-    ensures composing { (whole : List ℕ) → IsInPlace (T.model table.now) whole at list.old kept (Some starter) last → IsInPlace (T.model table.now) whole (at + 1) list.new result.0 (Some result.1) result.2 }
-    ensures kept { result.0 ≤ at + 1 }
-    ensures starter { result.1 < result.0 }
-    ensures length { length list.new ≡ length list.old }
-{
-    let c = list[at];
-    let class = c.class();
-    let done = &list[..kept];
-    let found = pair_with_last(table, done, Some(starter), last, c.code(), class);
-    if let Some((q, p)) = found {
-        list[q] = Classed::new(p, 0);
-        return (kept, starter, last);
-    }
-    list[kept] = c;
-    let place = if class == 0 { kept } else { starter };
-    (kept + 1, place, class)
-}
-
-/// The composition of a list in canonical order that begins with a starter, in its own places: answers how
-/// many code points that has. Their classes are of no account.
-pub(crate) fn compose_behind<T: NormTable>(table: &T, list: &mut [Classed]) -> usize
-    requires { 0 < length list.old }
-    ensures bound { result ≤ length list.new }
-    ensures composed { (s : ℕ) (ms : List ℕ) → class_of (T.model table.now) s ≡ 0 → list.old ≡ with_classes (T.model table.now) (s ∷ ms) → is_ordered (class_of (T.model table.now)) (s ∷ ms) ≡ true →
-        codes_of (take result list.new) ≡ compose_of (T.model table.now) (s ∷ ms) }
-{
-    let mut kept = 1;
-    let mut starter = 0;
-    let mut last = 0;
-    for at in 1..list.len() {
-        let (count, place, class) = take_behind(table, list, at, kept, starter, last);
-        kept = count;
-        starter = place;
-        last = class;
-    }
-    kept
 }

@@ -8,8 +8,7 @@
 //! 3. A starter and two non-starters in the wrong order are exchanged (`exchanged_texts.rt`).
 //! 4. A segment that composes to one code point is composed as it is decomposed (`composed_texts.rt`).
 //! 5. A segment that the form leaves as it is, though its code points might compose, is copied (`plain_texts.rt`).
-//! 6. A starter and non-starters without mappings are sorted and composed in place (`marked_texts.rt`).
-//! 7. Any other is decomposed into a list, sorted and composed.
+//! 6. Any other is decomposed into a list, sorted and composed.
 //!
 //! What is written goes into bytes of a fixed length, made before and grown by doubling: std's `String` calls
 //! `memmove` for each run, and a function for each character beyond ASCII.
@@ -25,7 +24,6 @@ use crate::classes::Classed;
 use crate::decomposing::decompose_first;
 use crate::fronts::write_front;
 use crate::held::settle;
-use crate::marked_texts::write_marked;
 use crate::out_texts::OutText;
 use np_code_points::{Form, Memory};
 use np_tables::NormTable;
@@ -121,7 +119,7 @@ pub(crate) fn split_tail<'a, T: NormTable>(
 
 /// Appends the form of the first segment of a text, whatever that is, and answers what follows it. The list
 /// is room that is used again.
-fn write_listed<'a, T: NormTable>(
+pub(crate) fn write_next<'a, T: NormTable>(
     alloc: Global,
     table: &T,
     form: Form,
@@ -137,26 +135,6 @@ fn write_listed<'a, T: NormTable>(
     settle(alloc, table, form.composes(), list)?;
     out.append_codes(list)?;
     Ok(later)
-}
-
-/// Writes the form of the first segment of a text, and answers what follows. Most segments have a way of their
-/// own. It is made part of what calls it, as the cut is.
-#[inline(always)]
-pub(crate) fn write_next<'a, T: NormTable>(
-    alloc: Global,
-    table: &T,
-    form: Form,
-    text: &'a str,
-    list: &mut Vec<Classed>,
-    out: &mut OutText,
-) -> Result<&'a str, Memory>
-    ensures goes { IfOk result (λ rest. GoesOn (T.model table.now) form text.now rest.now out.old out.new) }
-    ensures shorter { IfOk result (λ rest. 0 < length text.now → length rest.now < length text.now) }
-{
-    if let Some(rest) = write_marked(alloc, table, form, text, list, out)? {
-        return Ok(rest);
-    }
-    write_listed(alloc, table, form, text, list, out)
 }
 
 /// Whether the form may go on behind a front. Where assigned code points are asked for, those of the front

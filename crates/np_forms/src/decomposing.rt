@@ -10,6 +10,7 @@ ghost use Rattle.np_tables.specs.inside.FullDecompositions.{full_of};
 ghost use Rattle.np_tables.specs.Versions.{has_hangul};
 
 use crate::classes::{Classed, push_classed, with_class};
+use crate::lookups::lent;
 use np_code_points::hangul::{hangul_parts, is_syllable};
 use np_code_points::{Form, Memory};
 use np_tables::NormTable;
@@ -23,7 +24,7 @@ pub(crate) fn is_own<T: NormTable>(table: &T, compat: bool, c: char) -> bool
     if is_syllable(c as u32) {
         return false;
     }
-    table.full(c, compat).is_empty()
+    lent(table, c, compat).is_empty()
 }
 
 /// Appends the full decomposition of a syllable by arithmetic.
@@ -54,7 +55,7 @@ pub(crate) fn append<T: NormTable>(
     requires hangul { hangul ≡ has_hangul (T.model table.now) }
     ensures { OnOk result (list.new.items ≡ list.old.items ++ with_classes (T.model table.now) (full_of (T.model table.now) compat c)) }
 {
-    let full = table.full(c, compat);
+    let full = lent(table, c, compat);
     if !full.is_empty() {
         return push_classed(table, full, list);
     }

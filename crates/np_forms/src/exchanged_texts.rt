@@ -10,6 +10,7 @@ ghost use Rattle.np_tables.specs.Versions.{class_of};
 
 use crate::copying::begins_at_boundary;
 use crate::decomposing::is_own;
+use crate::lookups::composite_of;
 use crate::out_texts::OutText;
 use np_code_points::{Form, Memory};
 use np_tables::NormTable;
@@ -31,7 +32,7 @@ fn goes_into<T: NormTable>(table: &T, form: Form, starter: char, c: char) -> boo
     if !form.composes() {
         return false;
     }
-    match table.pair(starter, c) {
+    match composite_of(table, starter, c) {
         Some(_composite) => true,
         None => false,
     }

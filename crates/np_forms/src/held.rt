@@ -11,6 +11,7 @@ ghost use Rattle.np_tables.specs.inside.CompositeSearch.{composite};
 use crate::classes::{Classed, push_codes, with_class};
 use crate::composing::compose;
 use crate::decomposing::is_own;
+use crate::lookups::composite_of;
 use crate::ordering::order;
 use np_code_points::Memory;
 use np_tables::NormTable;
@@ -79,7 +80,7 @@ fn joined<T: NormTable>(table: &T, composes: bool, settled: &[Classed], d: char)
         return None;
     }
     match settled {
-        [head] => table.pair(head.code(), d),
+        [head] => composite_of(table, head.code(), d),
         [..] => None,
     }
 }

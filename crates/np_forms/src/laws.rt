@@ -1,8 +1,7 @@
 //! The laws of the forms, over the definitions alone.
 ghost use Rattle.np_forms.specs.Boundaries.{Parting, Staying};
-ghost use Rattle.np_forms.specs.Laws.{OneForm, OneOrderedForm, PremisesAreMet};
+ghost use Rattle.np_forms.specs.Laws.{FewBytes, FewCodePoints, OneForm, OneOrderedForm, PremisesAreMet};
 ghost use Rattle.np_forms.specs.StreamLaws.{OneMore};
-ghost use Rattle.np_forms.specs.inside.NormalForms.{GivesNormalForm};
 
 /// Whatever gives the combining classes, a list has exactly one ordered form (The Unicode Standard,
 /// D109).
@@ -15,7 +14,6 @@ pub fn ordered_form()
 /// with the Hangul arithmetic on.
 pub fn one_form()
     ensures only { OneForm }
-    ensures value { GivesNormalForm }
     ensures met { PremisesAreMet }
 {}
 
@@ -30,4 +28,11 @@ pub fn one_more()
 pub fn boundary()
     ensures parts { Parting }
     ensures stays { Staying }
+{}
+
+/// A normal form has at most 64 code points for each code point of its text, and at most 256 bytes for each byte:
+/// so much room is enough for a key.
+pub fn length()
+    ensures code_points { FewCodePoints }
+    ensures bytes { FewBytes }
 {}

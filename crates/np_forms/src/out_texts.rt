@@ -4,7 +4,7 @@ ghost use Rattle.std.specs.Prelude.{◌≡◌, ◌+◌, ◌*◌, ◌≤◌, ◌<
 ghost use Rattle.np_forms.specs.inside.Classes.{codes_of};
 
 use crate::classes::Classed;
-use crate::utf8_bytes::{bytes_and_size, four_bytes, three_bytes, two_bytes};
+use crate::utf8_bytes::{four_bytes, three_bytes, two_bytes};
 use np_code_points::Memory;
 use std::alloc::Global;
 use std::marker::Model;
@@ -153,21 +153,6 @@ fn write_char(room: &mut Vec<u8>, at: usize, c: char) -> usize
     put_char(room, at, c)
 }
 
-/// Puts a character without a jump by how many bytes it has: in a list of code points of any size that jump
-/// would be guessed wrongly. Four bytes are put, and the place is behind those of the character.
-#[inline(always)]
-fn put_any(room: &mut [u8], at: usize, c: char) -> usize
-    requires { at + 4 ≤ length room.old }
-    ensures bytes { take result room.new ≡ take at room.old ++ encode_utf8 c }
-    ensures utf8 { IsUtf8 (encode_utf8 c) }
-    ensures place { result ≤ at + 4 }
-    ensures length { length room.new ≡ length room.old }
-{
-    let (bytes, size) = bytes_and_size(c as u32);
-    let _end = put_run(room, at, &bytes);
-    at + size
-}
-
 /// Puts the code points of a list where four bytes have room for each, and answers the place behind them.
 fn put_codes(room: &mut [u8], at: usize, list: &[Classed]) -> usize
     requires { at + 4 * length list.now ≤ length room.old }
@@ -178,7 +163,7 @@ fn put_codes(room: &mut [u8], at: usize, list: &[Classed]) -> usize
 {
     let mut end = at;
     for c in list {
-        end = put_any(room, end, c.code());
+        end = put_char(room, end, c.code());
     }
     end
 }

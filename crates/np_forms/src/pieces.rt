@@ -1,6 +1,7 @@
 //! The normal form of a text, piece by piece, so that two forms are compared and neither is kept.
 ghost use Rattle.std.specs.Prelude.{◌≡◌, ◌↔◌, ◌<◌, ◌≤◌, ◌==◌, ◌&&◌, ◌++◌, [], length, take, IsTrue, IfOk, OnOk};
 ghost use Rattle.np_code_points.specs.declared.forms.Form.{Form};
+ghost use Rattle.np_forms.specs.inside.Copies.{IsBehind};
 ghost use Rattle.np_forms.specs.inside.Pieces.{form_bytes, front_of, left_of};
 ghost use Rattle.np_tables.specs.Versions.{VersionData};
 
@@ -136,5 +137,40 @@ pub(crate) fn have_same_form<T: NormTable>(
         }
         first.pass(count);
         second.pass(count);
+    }
+}
+
+/// What follows a front, where the bytes begin with it.
+fn behind<'a>(bytes: &'a [u8], front: &[u8]) -> Option<&'a [u8]>
+    ensures { IsBehind bytes.now front.now result }
+{
+    bytes.strip_prefix(front)
+}
+
+/// Whether these bytes are the normal form of a text. The form is made piece by piece, and no further than to the
+/// first piece that differs.
+pub(crate) fn has_form<T: NormTable>(
+    alloc: Global,
+    table: &T,
+    form: Form,
+    text: &str,
+    bytes: &[u8],
+) -> Result<bool, Memory>
+    ensures { IfOk result (λ b. IsTrue b ↔ (form_bytes (T.model table.now) form text.now ≡ bytes.now)) }
+{
+    let mut pieces = Pieces::new(alloc, text);
+    let mut left = bytes;
+    'pieces: loop {
+        pieces.fill(alloc, table, form)?;
+        let here = pieces.front();
+        let count = here.len();
+        if count == 0 {
+            return Ok(left.is_empty());
+        }
+        let Some(past) = behind(left, here) else {
+            return Ok(false);
+        };
+        left = past;
+        pieces.pass(count);
     }
 }

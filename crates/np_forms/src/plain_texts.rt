@@ -8,6 +8,7 @@ ghost use Rattle.np_forms.specs.inside.Segments.{IsPlainOf};
 ghost use Rattle.np_tables.specs.Versions.{class_of};
 
 use crate::decomposing::is_own;
+use crate::lookups::composite_of;
 use crate::ordering::may_follow;
 use np_code_points::Form;
 use np_tables::NormTable;
@@ -44,7 +45,7 @@ fn joins<T: NormTable>(table: &T, plain: Plain, d: char, class: u8) -> bool
     if plain.last != 0 && plain.last >= class {
         return false;
     }
-    match table.pair(plain.starter, d) {
+    match composite_of(table, plain.starter, d) {
         Some(_composite) => true,
         None => false,
     }

@@ -40,7 +40,7 @@ pub enum RunFault {
     #[error("write failed")]
     WriteFailed,
     /// One byte more than `LIMIT` was read.
-    #[error("too large")]
+    #[error("more than 4,294,967,295 bytes")]
     TooLarge,
     /// Memory ran out.
     #[error("out of memory")]

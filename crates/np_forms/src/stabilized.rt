@@ -95,8 +95,6 @@ pub fn npss<T: NormTable>(
     text: &str,
 ) -> Result<String, NpssFault>
     ensures normal { IfOk result (λ t. IsNormalForm (T.model table.now) wanted (chars text.now) (chars (string_bytes t))) }
-    ensures value { IfOk result (λ t. chars (string_bytes t) ≡ normal_form (T.model table.now) wanted (chars text.now)) }
-    ensures bytes { IfOk result (λ t. string_bytes t ≡ encode_utf8_all (normal_form (T.model table.now) wanted (chars text.now))) }
     ensures assigned { OnOk result (IsAssigned (T.model table.now) (chars text.now)) }
     ensures fault { IfErr result (IsNpssFault (T.model table.now) (chars text.now)) }
 {
@@ -119,8 +117,6 @@ pub fn into_npss<T: NormTable>(
     text: String,
 ) -> Result<String, NpssFault>
     ensures normal { IfOk result (λ t. IsNormalForm (T.model table.now) wanted (chars (string_bytes text)) (chars (string_bytes t))) }
-    ensures value { IfOk result (λ t. chars (string_bytes t) ≡ normal_form (T.model table.now) wanted (chars (string_bytes text))) }
-    ensures bytes { IfOk result (λ t. string_bytes t ≡ encode_utf8_all (normal_form (T.model table.now) wanted (chars (string_bytes text)))) }
     ensures assigned { OnOk result (IsAssigned (T.model table.now) (chars (string_bytes text))) }
     ensures fault { IfErr result (IsNpssFault (T.model table.now) (chars (string_bytes text))) }
 {
@@ -147,8 +143,6 @@ pub fn lend_npss<'a, T: NormTable>(
     text: &'a str,
 ) -> Result<CowStr<'a>, NpssFault>
     ensures normal { IfOk result (λ t. IsNormalForm (T.model table.now) wanted (chars text.now) (chars (cow_str_bytes t))) }
-    ensures value { IfOk result (λ t. chars (cow_str_bytes t) ≡ normal_form (T.model table.now) wanted (chars text.now)) }
-    ensures bytes { IfOk result (λ t. cow_str_bytes t ≡ encode_utf8_all (normal_form (T.model table.now) wanted (chars text.now))) }
     ensures assigned { OnOk result (IsAssigned (T.model table.now) (chars text.now)) }
     ensures fault { IfErr result (IsNpssFault (T.model table.now) (chars text.now)) }
 {

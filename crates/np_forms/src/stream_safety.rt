@@ -8,6 +8,7 @@ ghost use Rattle.np_tables.specs.Conditions.{IsSound};
 ghost use Rattle.np_tables.specs.Versions.{class_of, has_hangul};
 ghost use Rattle.np_tables.specs.inside.FullDecompositions.{full_of};
 
+use crate::lookups::lent;
 use np_code_points::Memory;
 use np_code_points::hangul::{hangul_parts, is_syllable};
 use np_tables::NormTable;
@@ -72,7 +73,7 @@ fn run_past_full<T: NormTable>(table: &T, hangul: bool, run: usize, c: char) -> 
     ensures few { result ≤ 31 }
     ensures over { (rest : List ℕ) → runs_over (class_of (T.model table.now)) result rest ≡ runs_over (class_of (T.model table.now)) run (full_of (T.model table.now) true c ++ rest) }
 {
-    let full = table.full(c, true);
+    let full = lent(table, c, true);
     if !full.is_empty() {
         return run_past_all(table, run, full);
     }

@@ -36,4 +36,6 @@ pub use standard::{Standard, StandardInput, take_standard};
 pub use statuses::{DONE, FAILED};
 pub use usage::{refuse_words, show_usage, tell_usage};
 pub use versions::read_table;
-pub use words::{Job, VersionFiles, WordsFault, command_on_text, form_and_files, parse};
+pub use words::{
+    Job, VersionFiles, WordsFault, command_on_text, fault_from, form_and_files, parse,
+};

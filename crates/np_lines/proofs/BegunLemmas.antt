@@ -1,5 +1,5 @@
 -- A line that comes piece by piece, and its answer.
-use Rattle.std.proofs.Common.{◌≡◌, ℕ, Bool, false, List, [], ◌∷◌, ◌++◌, Bor, Option, None, Some, option_map, sym, ap, subst, ◌∙◌, inl, inr, append_assoc}
+use Rattle.std.proofs.Common.{◌≡◌, ℕ, Bool, false, List, [], ◌∷◌, ◌++◌, Bor, Option, None, Some, option_map, sym, ap, subst, ◌∙◌, inl, inr, append_assoc, append-nil}
 use Rattle.std.proofs.lemmas.Bool.{both_ways}
 use Rattle.np_code_points.specs.Lines.{HasNo}
 use Rattle.np_code_points.specs.inside.LineCuts.{before_byte, after_byte}
@@ -69,3 +69,8 @@ module _ (v : VersionData) (wanted : Wanted) where
       → ((rest : List ℕ) → HasBegun q rest → HasBegun r (rest ++ line)) → Goes v wanted p r piece
   taken-last p q r piece rest line t is free out told begun =
       subst (Goes v wanted p r) (sym (t.split ∙ ap (λ l. t.front ++ l) is)) (goes-joined v wanted p q r t.front line t.goes (goes-on v wanted q r line free out told begun))
+
+  -- bytes without an end
+  pub taken-all : (p q : Pending) (bytes line : List ℕ) → bytes ≡ line → HasNo (byte_of wanted.end) line → q.out.items ≡ p.out.items → q.any_refused ≡ p.any_refused
+      → ((rest : List ℕ) → HasBegun p rest → HasBegun q (rest ++ line)) → HasTaken v wanted p q bytes []
+  taken-all p q bytes line is free out told begun = record { front = line; split = is ∙ sym (append-nil line); goes = goes-on v wanted p q line free out told begun }

@@ -14,7 +14,7 @@ use Rattle.np_lines.specs.Lines.{LineEnd, AreLines, IsCut, byte_of, ended, last_
 pub ended-push : (end : LineEnd) (lines : List (List ℕ)) (line : List ℕ) → ended end (lines ++ line ∷ []) ≡ ended end lines ++ (line ++ byte_of end ∷ [])
 ended-push end lines line = sym (flat_map_more (λ (l : List ℕ). l ++ byte_of end ∷ []) [] lines line)
 
-ended-cons : (end : LineEnd) (line : List ℕ) (lines : List (List ℕ)) (rest : List ℕ) → ended end (line ∷ lines) ++ rest ≡ line ++ byte_of end ∷ (ended end lines ++ rest)
+pub ended-cons : (end : LineEnd) (line : List ℕ) (lines : List (List ℕ)) (rest : List ℕ) → ended end (line ∷ lines) ++ rest ≡ line ++ byte_of end ∷ (ended end lines ++ rest)
 ended-cons end line lines rest =
     append_assoc (line ++ byte_of end ∷ []) (ended end lines) rest ∙ append_assoc line (byte_of end ∷ []) (ended end lines ++ rest)
 

@@ -1,6 +1,10 @@
 pub mod CutLemmas
 pub mod AnswerLemmas
+pub mod EndLemmas
+pub mod KeyedLemmas
+pub mod StableLemmas
 pub mod StepLemmas
+pub mod TextCutLemmas
 pub mod BegunLemmas
 pub mod RunLemmas
 pub mod LawLemmas

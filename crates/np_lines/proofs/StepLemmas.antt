@@ -94,7 +94,7 @@ goes-on v wanted p q bytes free out told begun = record {
   };
 }
 
-or-false : (b : Bool) → (b || false) ≡ b
+pub or-false : (b : Bool) → (b || false) ≡ b
 or-false true = refl
 or-false false = refl
 

@@ -73,8 +73,8 @@ fn unassigned_text(alloc: Global, at: usize, code: char) -> Result<String, Memor
     Ok(format!(in alloc; "unassigned {digits} at byte {at}")?)
 }
 
-/// Appends the answer to a line that is a text. Answers whether it is refused.
-fn push_text_answer<T: NormTable>(
+/// Appends the answer to a line that is a text within the limit. Answers whether it is refused.
+pub(crate) fn push_text_answer<T: NormTable>(
     alloc: Global,
     table: &T,
     wanted: Wanted,

@@ -8,6 +8,8 @@
 #![tactic(auto)]
 
 mod answers;
+mod cuts;
+mod keyed;
 pub mod laws;
 mod lines;
 mod pending;

@@ -1,7 +1,9 @@
 //! Bytes that are all here, answered line by line at once.
-ghost use Rattle.std.specs.Prelude.{IfOk};
+ghost use Rattle.std.specs.Prelude.{IfOk, OnOk};
 ghost use Rattle.np_lines.specs.Whole.{IsAllAnswered};
+ghost use Rattle.np_lines.specs.inside.Steps.{Goes};
 
+use crate::answers::LIMIT;
 use crate::lines::Wanted;
 use crate::pending::Pending;
 use np_code_points::Memory;
@@ -15,6 +17,25 @@ pub struct Answers {
     pub bytes: Vec<u8>,
     /// Whether a line was refused.
     pub any_refused: bool,
+}
+
+/// Takes bytes in, so few at a time that a line which is too long lies whole in no piece: nothing is looked at once for
+/// each such line.
+fn take_all<T: NormTable>(
+    pending: &mut Pending,
+    table: &T,
+    wanted: Wanted,
+    bytes: &[u8],
+) -> Result<(), Memory>
+    ensures { OnOk result (Goes (T.model table.now) wanted pending.old pending.new bytes.now) }
+{
+    let mut rest = bytes;
+    'pieces: while !rest.is_empty() {
+        let (piece, behind) = rest.split_at(rest.len().min(LIMIT));
+        pending.take_piece(table, wanted, piece)?;
+        rest = behind;
+    }
+    Ok(())
 }
 
 /// Answers each line of bytes that are all here, as `answer_lines` does those of an input: `=` and the key of the
@@ -34,7 +55,7 @@ pub fn answer_bytes<T: NormTable>(
     ensures { IfOk result (λ made. IsAllAnswered (T.model table.now) wanted bytes.now made.bytes.items made.any_refused) }
 {
     let mut pending = Pending::new(alloc);
-    pending.take_piece(table, wanted, bytes)?;
+    take_all(&mut pending, table, wanted, bytes)?;
     pending.finish(table, wanted)?;
     Ok(pending.into_answers())
 }

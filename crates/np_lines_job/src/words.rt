@@ -1,16 +1,15 @@
 //! What the command line of `npss_lines` asks for.
 ghost use Rattle.std.specs.Prelude.{◌≡◌, ◌≢◌, [], IfOk, Ok, Some, None, Err, map, string_bytes};
-ghost use Rattle.clap.specs.Words.{found_of, kind_of, rows_of};
+ghost use Rattle.clap.specs.Words.{found_of, rows_of};
 ghost use Rattle.np_lines_job.specs.LineWords.{asked_among, asked_by, asked_in, asked_of, asked_unless, ends_with_nul, has_flag};
 
 mod command;
 mod usage;
 
 use crate::job::Asked;
-use clap::error::ErrorKind;
-use clap::{ArgMatches, Error as ClapError};
+use clap::ArgMatches;
 use command::matches_in;
-use np_jobs::{VersionFiles, WordsFault, form_and_files};
+use np_jobs::{VersionFiles, WordsFault, fault_from, form_and_files};
 use np_lines::{LineEnd, Wanted};
 use std::alloc::Global;
 pub use usage::lines_usage_text;
@@ -26,17 +25,6 @@ pub enum LinesJob {
         shows_progress: bool,
         files: VersionFiles,
     },
-}
-
-/// The fault of the words that `clap` refuses so.
-fn fault_from(error: &ClapError) -> WordsFault
-    ensures { result ≡ WordsFault.Usage → kind_of error.now ≢ ErrorKind.OutOfMemory }
-{
-    if error.kind() == ErrorKind::OutOfMemory {
-        WordsFault::Memory
-    } else {
-        WordsFault::Usage
-    }
 }
 
 /// What `clap` finds in the words, or why it refuses them.

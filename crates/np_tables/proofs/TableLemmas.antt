@@ -16,7 +16,7 @@ use Rattle.np_tables.specs.declared.pairs.Composite.{Composite}
 use Rattle.np_tables.specs.inside.Pairs.{Lists, AreOfFile}
 use Rattle.np_tables.specs.inside.FullLists.{FullLists, of_kind, row_full, AreFulls}
 use Rattle.np_tables.proofs.RowLemmas.{at-row, entry_at-within}
-use Rattle.np_tables.proofs.MappingLemmas.{IsFullDecomposition-full_of, is_empty-false}
+use Rattle.np_tables.proofs.MappingLemmas.{IsFullDecomposition-full_of, full_of-only, is_empty-false}
 use Rattle.np_tables.proofs.CompositeLemmas.{cases_Option, composite-some, composite_from}
 use Rattle.np_tables.proofs.PrimaryLemmas.{primary-syllable}
 use Rattle.np_tables.proofs.FileRowLemmas.{first-at, file_mapping-found}
@@ -120,3 +120,17 @@ full-nothing v w compat c d same code none = full-none w compat d none ∙ ap (�
 
 pub lent-by_value : (v : VersionData) (compat : Bool) (c : ℕ) (lent : List ℕ) → IsSound v → lent ≡ table_full v compat c → IsLent v compat c lent
 lent-by_value v compat c lent sound is = subst (IsLent v compat c) (sym is) (IsLent-table_full v compat c sound)
+
+-- there is one such list
+pub lent-value : (v : VersionData) (compat : Bool) (c : ℕ) (lent : List ℕ) → IsSound v → IsLent v compat c lent → lent ≡ table_full v compat c
+unfolding table_full
+lent-value v compat c lent sound is =
+    let by_hangul : Bool = has_hangul v && is_syllable c in
+    elim (cases_Bool (is_final v compat c)) [
+      | inl final ↦ is.final final ∙ sym (cond-true _ _ _ (or_left (is_final v compat c) by_hangul final))
+      | inr mapped ↦
+          elim (cases_Bool by_hangul) [
+            | inl whole ↦ is.syllable whole ∙ sym (cond-true _ _ _ (or_right (is_final v compat c) by_hangul whole))
+            | inr plain ↦ full_of-only v compat sound.shallow c lent (is.full mapped plain) ∙ sym (cond-false _ _ _ (or_from (is_final v compat c) by_hangul mapped plain))
+          ]
+    ]

@@ -4,11 +4,9 @@ ghost use Rattle.std.specs.Prelude.{◌≡◌, ◌<◌, ◌≤◌, ℕ, true, fa
 ghost use Rattle.np_code_points.specs.declared.forms.Form.{Form};
 ghost use Rattle.np_tables.specs.Boundaries.{BeginsAtBoundary, IsBoundary, IsYesStarter};
 ghost use Rattle.np_tables.specs.Composites.{IsCompositeOf};
-ghost use Rattle.np_tables.specs.inside.CompositeSearch.{composite};
 ghost use Rattle.np_tables.specs.Conditions.{IsSound};
 ghost use Rattle.np_tables.specs.Mappings.{IsLent};
 ghost use Rattle.np_tables.specs.Standing.{AreStanding};
-ghost use Rattle.np_tables.specs.inside.FullDecompositions.{table_full};
 ghost use Rattle.np_tables.specs.inside.Spelled.{IsSpelled};
 ghost use Rattle.np_tables.specs.Versions.{VersionData, class_of, has_hangul, is_assigned};
 
@@ -61,14 +59,12 @@ pub trait NormTable {
     /// The primary composite with this pair, syllables too.
     fn pair(&self, a: char, b: char) -> Option<char>
         ensures some { IfSome result (IsCompositeOf (model self.now) a b) }
-        ensures none { IfNone result ((c : ℕ) → ¬ (IsCompositeOf (model self.now) a b c)) }
-        ensures value { result ≡ composite (model self.now) a b };
+        ensures none { IfNone result ((c : ℕ) → ¬ (IsCompositeOf (model self.now) a b c)) };
 
     /// The full decomposition, empty where the code point has no mapping of that kind or is a
     /// syllable of the arithmetic.
     fn full(&self, c: char, compat: bool) -> &[char]
-        ensures lent { IsLent (model self.now) compat c result.now }
-        ensures value { result.now ≡ table_full (model self.now) compat c };
+        ensures { IsLent (model self.now) compat c result.now };
 
     /// The form of a code point by itself, where the table keeps it as UTF-8: bytes, and how many of them at
     /// the front it has. A table may answer none.

@@ -3,8 +3,6 @@ use Rattle.std.specs.Prelude.{ℕ, Bool, true, false, List, flat_map}
 use Rattle.np_forms.specs.inside.Composing.{compose_of}
 use Rattle.np_code_points.specs.declared.forms.Form.{Form}
 use Rattle.np_code_points.specs.Forms.{is_compat, composes}
-use Rattle.np_forms.specs.Forms.{IsNormalForm}
-use Rattle.np_tables.specs.Conditions.{IsSound}
 use Rattle.np_tables.specs.inside.FullDecompositions.{full_of}
 use Rattle.np_forms.specs.inside.CanonicalOrder.{canonical_order}
 use Rattle.np_tables.specs.Versions.{VersionData, class_of}
@@ -18,7 +16,3 @@ ended v false xs = xs
 
 unfoldable pub normal_form : VersionData → Form → List ℕ → List ℕ
 normal_form v form xs = ended v (composes form) (decomposed v (is_compat form) xs)
-
--- the function gives the normal form
-abbrev pub GivesNormalForm : Type 0
-GivesNormalForm = (v : VersionData) (form : Form) (xs : List ℕ) → IsSound v → IsNormalForm v form xs (normal_form v form xs)

@@ -17,8 +17,8 @@ pub enum WordsFault {
     Memory,
 }
 
-/// The fault of the words that `clap` refuses so.
-pub(super) fn fault_from(error: &ClapError) -> WordsFault
+/// The fault of words that `clap` refuses with this error: `Memory` where it tells that memory ran out, else `Usage`.
+pub fn fault_from(error: &ClapError) -> WordsFault
     ensures { result ≡ WordsFault.Usage → kind_of error.now ≢ ErrorKind.OutOfMemory }
 {
     if error.kind() == ErrorKind::OutOfMemory {

@@ -8,7 +8,7 @@ use Rattle.np_forms.proofs.decomposing.is_own.Goals as goal
 pub returns : goal.returns
 returns g c = λ empty.
     let v = g.T.NormTable.model c.args.table.now in
-    let lent = c.full.result.now in
+    let lent = c.lent.result.now in
     let none : length lent ≡ 0 = eqb-true (length lent) 0 (sym c.is_empty.ensures ∙ empty) in
     let plain : (has_hangul v && is_syllable c.args.c) ≡ false = and_right (has_hangul v) _ (sym c.is_syllable.ensures ∙ c.if-is_syllable.false) in
-    lent_none v c.args.compat c.requires c.args.c lent c.full.ensures.value none plain
+    lent_none v c.args.compat c.requires c.args.c lent c.lent.ensures none plain

@@ -1,25 +1,14 @@
 use Rattle.std.proofs.Common.{chars, string_bytes, ◌∙◌}
 use Rattle.std.proofs.lemmas.Str.{IsUtf8-string_bytes}
-use Rattle.np_forms.proofs.WrittenLemmas.{IsWrittenForm-made, written_bytes, written_chars, written_form}
+use Rattle.np_forms.proofs.WrittenLemmas.{IsWrittenForm-made, written_form}
 use Rattle.np_forms.proofs.forms.form.Goals as goal
 
-pub returns-clause-normal : goal.returns-clause-normal
-returns-clause-normal g c =
+pub returns : goal.returns
+returns g c =
     let v = g.T.NormTable.model c.args.table.now in
     let text = c.into_text.result in
-    written_form v c.args.form (chars c.args.text.now) (string_bytes text) (IsUtf8-string_bytes text)
-    (IsWrittenForm-made v c.meets_conditions.ensures c.args.form (chars c.args.text.now) _ _ c.in_ok-out.ensures (c.into_text.ensures ∙ c.in_ok-write_form.ensures))
-
-pub returns-clause-value : goal.returns-clause-value
-returns-clause-value g c =
-    let v = g.T.NormTable.model c.args.table.now in
-    let text = c.into_text.result in
-    written_chars v c.meets_conditions.ensures c.args.form (chars c.args.text.now) (string_bytes text) (IsUtf8-string_bytes text)
-    (IsWrittenForm-made v c.meets_conditions.ensures c.args.form (chars c.args.text.now) _ _ c.in_ok-out.ensures (c.into_text.ensures ∙ c.in_ok-write_form.ensures))
-
-pub returns-clause-bytes : goal.returns-clause-bytes
-returns-clause-bytes g c =
-    let v = g.T.NormTable.model c.args.table.now in
-    let text = c.into_text.result in
-    written_bytes v c.meets_conditions.ensures c.args.form (chars c.args.text.now) (string_bytes text)
-    (IsWrittenForm-made v c.meets_conditions.ensures c.args.form (chars c.args.text.now) _ _ c.in_ok-out.ensures (c.into_text.ensures ∙ c.in_ok-write_form.ensures))
+    record {
+      normal =
+          written_form v c.args.form (chars c.args.text.now) (string_bytes text) (IsUtf8-string_bytes text)
+          (IsWrittenForm-made v c.meets_conditions.ensures c.args.form (chars c.args.text.now) _ _ c.in_ok-out.ensures (c.into_text.ensures ∙ c.in_ok-write_form.ensures));
+    }

@@ -15,8 +15,8 @@ loop-c-preserved c =
     let grown : encode_utf8_all before ++ encode_utf8 c.code.result ≡ encode_utf8_all (codes_of (take (i + 1) list)) =
     ap (λ d. encode_utf8_all before ++ encode_utf8 d) c.code.ensures ∙ ap (λ l. encode_utf8_all before ++ l) (sym (append-nil (encode_utf8 x.code))) ∙ sym (encodes-append before (x.code ∷ [])) ∙ ap encode_utf8_all (sym more) in
     record {
-      bytes = c.put_any-end.ensures.bytes ∙ ap (λ l. l ++ encode_utf8 c.code.result) c.loop-c.invariant.bytes ∙ append_assoc front (encode_utf8_all before) (encode_utf8 c.code.result) ∙ ap (λ l. front ++ l) grown;
-      utf8 = subst IsUtf8 grown (IsUtf8-append (encode_utf8_all before) (encode_utf8 c.code.result) c.loop-c.invariant.utf8 c.put_any-end.ensures.utf8);
-      place = omega (arith, c.put_any-end.ensures.place, c.loop-c.invariant.place);
-      same = c.put_any-end.ensures.length ∙ c.loop-c.invariant.same;
+      bytes = c.put_char-end.ensures.bytes ∙ ap (λ l. l ++ encode_utf8 c.code.result) c.loop-c.invariant.bytes ∙ append_assoc front (encode_utf8_all before) (encode_utf8 c.code.result) ∙ ap (λ l. front ++ l) grown;
+      utf8 = subst IsUtf8 grown (IsUtf8-append (encode_utf8_all before) (encode_utf8 c.code.result) c.loop-c.invariant.utf8 c.put_char-end.ensures.utf8);
+      place = omega (arith, c.put_char-end.ensures.place, c.loop-c.invariant.place);
+      same = c.put_char-end.ensures.length ∙ c.loop-c.invariant.same;
     }

@@ -7,4 +7,4 @@ returns-then-plain-class g c = λ _ is list q starter.
     pair-blocked (g.T.NormTable.model c.args.table.now) list q c.args.plain.last c.args.d (omega (arith, c.if-plain-ne0.true)) (omega (arith, is, c.if-plain-class.true))
 
 pub returns-in-None : goal.returns-in-None
-returns-in-None g c = λ _ is list q starter. pair-apart (g.T.NormTable.model c.args.table.now) list q c.args.plain.last c.args.d c.args.plain.starter starter (sym c.pair.ensures.value ∙ c.in-None.is)
+returns-in-None g c = λ _ is list q starter. pair-apart (g.T.NormTable.model c.args.table.now) list q c.args.plain.last c.args.d c.args.plain.starter starter (sym c.composite_of.ensures ∙ c.in-None.is)

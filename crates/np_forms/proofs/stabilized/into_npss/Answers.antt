@@ -2,32 +2,18 @@ use Rattle.std.proofs.Common.{◌≡◌, encode_utf8_all, rules, chars, string_b
 use Rattle.std.proofs.lemmas.Str.{IsUtf8-string_bytes}
 use Rattle.np_forms.specs.inside.NormalForms.{normal_form}
 use Rattle.np_forms.proofs.CopyLemmas.{IsCopied-own}
-use Rattle.np_forms.proofs.WrittenLemmas.{made_chars, made_form}
+use Rattle.np_forms.proofs.WrittenLemmas.{made_form}
 use Rattle.np_forms.proofs.stabilized.into_npss.Goals as goal
-
-pub returns-then-is_empty-clause-bytes : goal.returns-then-is_empty-clause-bytes
-returns-then-is_empty-clause-bytes g c =
-    let v = g.T.NormTable.model c.args.table.now in
-    subst (λ l. l ≡ encode_utf8_all (normal_form v c.args.wanted (chars l))) c.as_str-whole.ensures.value
-    (IsCopied-own v c.args.wanted c.as_str-whole.result.now c.split_standing-stood.result.0.now c.split_standing-stood.result.1.now c.split_standing-stood.ensures.copied (search rules))
 
 pub returns-then-is_empty-clause-normal : goal.returns-then-is_empty-clause-normal
 returns-then-is_empty-clause-normal g c =
-    made_form (g.T.NormTable.model c.args.table.now) c.meets_conditions.ensures c.args.wanted (chars (string_bytes c.args.text)) (string_bytes c.args.text) (IsUtf8-string_bytes c.args.text) (returns-then-is_empty-clause-bytes g c)
-
-pub returns-then-is_empty-clause-value : goal.returns-then-is_empty-clause-value
-returns-then-is_empty-clause-value g c =
-    made_chars (g.T.NormTable.model c.args.table.now) c.meets_conditions.ensures c.args.wanted (chars (string_bytes c.args.text)) (string_bytes c.args.text) (IsUtf8-string_bytes c.args.text) (returns-then-is_empty-clause-bytes g c)
-
-pub returns-clause-bytes : goal.returns-clause-bytes
-returns-clause-bytes g c =
     let v = g.T.NormTable.model c.args.table.now in
-    c.in_ok-key.ensures.bytes ∙ ap (λ l. encode_utf8_all (normal_form v c.args.wanted (chars l))) c.as_str-whole.ensures.value
+    made_form v c.meets_conditions.ensures c.args.wanted (chars (string_bytes c.args.text)) (string_bytes c.args.text) (IsUtf8-string_bytes c.args.text)
+    (subst (λ l. l ≡ encode_utf8_all (normal_form v c.args.wanted (chars l))) c.as_str-whole.ensures.value
+    (IsCopied-own v c.args.wanted c.as_str-whole.result.now c.split_standing-stood.result.0.now c.split_standing-stood.result.1.now c.split_standing-stood.ensures.copied (search rules)))
 
 pub returns-clause-normal : goal.returns-clause-normal
 returns-clause-normal g c =
-    made_form (g.T.NormTable.model c.args.table.now) c.meets_conditions.ensures c.args.wanted (chars (string_bytes c.args.text)) (string_bytes c.in_ok-key.key) (IsUtf8-string_bytes c.in_ok-key.key) (returns-clause-bytes g c)
-
-pub returns-clause-value : goal.returns-clause-value
-returns-clause-value g c =
-    made_chars (g.T.NormTable.model c.args.table.now) c.meets_conditions.ensures c.args.wanted (chars (string_bytes c.args.text)) (string_bytes c.in_ok-key.key) (IsUtf8-string_bytes c.in_ok-key.key) (returns-clause-bytes g c)
+    let v = g.T.NormTable.model c.args.table.now in
+    made_form v c.meets_conditions.ensures c.args.wanted (chars (string_bytes c.args.text)) (string_bytes c.in_ok-key.key) (IsUtf8-string_bytes c.in_ok-key.key)
+    (c.in_ok-key.ensures.bytes ∙ ap (λ l. encode_utf8_all (normal_form v c.args.wanted (chars l))) c.as_str-whole.ensures.value)

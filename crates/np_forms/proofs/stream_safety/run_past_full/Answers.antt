@@ -10,9 +10,9 @@ use Rattle.np_forms.proofs.stream_safety.run_past_full.Goals.{else-hangul-via-th
 pub returns-then-not-is_empty-clause-over : goal.returns-then-not-is_empty-clause-over
 returns-then-not-is_empty-clause-over g c = λ rest.
     let v = g.T.NormTable.model c.args.table.now in
-    let lent = c.full-full.result.now in
+    let lent = c.lent-full.result.now in
     let some : 0 < length lent = omega (arith, eqb-false (length lent) 0 (sym c.is_empty.ensures ∙ c.if-not-is_empty.true)) in
-    c.run_past_all.ensures.over rest ∙ ap (λ x. runs_over (class_of v) c.args.run (x ++ rest)) (lent_some v true c.args.c lent c.full-full.ensures.value some)
+    c.run_past_all.ensures.over rest ∙ ap (λ x. runs_over (class_of v) c.args.run (x ++ rest)) (lent_some v true c.args.c lent c.lent-full.ensures some)
 
 pub returns-then-is_syllable-clause-over : goal.returns-then-is_syllable-clause-over
 returns-then-is_syllable-clause-over g c = λ rest.
@@ -24,11 +24,11 @@ returns-then-is_syllable-clause-over g c = λ rest.
 pub returns-clause-over : goal.returns-clause-over
 returns-clause-over g c = λ rest.
     let v = g.T.NormTable.model c.args.table.now in
-    let lent = c.full-full.result.now in
+    let lent = c.lent-full.result.now in
     let none : length lent ≡ 0 = eqb-true (length lent) 0 (sym c.is_empty.ensures ∙ c.if-not-is_empty.false) in
     let plain : (has_hangul v && is_syllable c.args.c) ≡ false =
     elim c.else-hangul.branch [
       | else-hangul-via-then-hangul+else-is_syllable w ↦ and_right (has_hangul v) (is_syllable c.args.c) (sym w.is_syllable.ensures ∙ w.if-is_syllable.false)
       | else-hangul-via-else-hangul w ↦ and_left (has_hangul v) (is_syllable c.args.c) (sym c.requires.hangul ∙ w.if-hangul.false)
     ] in
-    c.run_past.ensures.over rest ∙ ap (λ x. runs_over (class_of v) c.args.run (x ++ rest)) (sym (lent_none v true c.requires.sound c.args.c lent c.full-full.ensures.value none plain))
+    c.run_past.ensures.over rest ∙ ap (λ x. runs_over (class_of v) c.args.run (x ++ rest)) (sym (lent_none v true c.requires.sound c.args.c lent c.lent-full.ensures none plain))

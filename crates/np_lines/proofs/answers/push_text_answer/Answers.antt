@@ -1,7 +1,7 @@
-use Rattle.std.proofs.Common.{chars, subst, ◌∙◌}
+use Rattle.std.proofs.Common.{chars, sym, subst}
 use Rattle.std.proofs.lemmas.Result.{IfOk-weaker}
+use Rattle.std.proofs.lemmas.Str.{encodes-chars}
 use Rattle.np_forms.specs.Forms.{IsNormalForm}
-use Rattle.np_forms.specs.inside.NormalForms.{normal_form}
 use Rattle.np_lines.specs.Answers.{IsAnswerWithin, IsKey, IsToldKey}
 use Rattle.np_lines.specs.inside.Steps.{IsTold}
 use Rattle.np_lines.proofs.AnswerLemmas.{told_of_key}
@@ -16,9 +16,9 @@ returns-in-Ok g c =
     let is : IsKey v w.form text key = record {
       valid = c.utf8.text;
       assigned = c.in-Ok.ensures.assigned;
-      list = normal_form v w.form (chars text);
-      is = subst (IsNormalForm v w.form (chars text)) c.in-Ok.ensures.value c.in-Ok.ensures.normal;
-      key_is = c.as_str.ensures.value ∙ c.in-Ok.ensures.bytes;
+      list = chars key;
+      is = subst (λ l. IsNormalForm v w.form (chars text) (chars l)) (sym c.as_str.ensures.value) c.in-Ok.ensures.normal;
+      key_is = sym (encodes-chars key c.as_str.utf8);
     } in
     IfOk-weaker c.push_told_key.result (IsTold (IsToldKey w.end key) c.args.out.now.items c.push_told_key.new.out.items)
     (IsTold (IsAnswerWithin v w text) c.args.out.now.items c.push_told_key.new.out.items)

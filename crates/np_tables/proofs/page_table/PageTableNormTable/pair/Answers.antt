@@ -1,8 +1,6 @@
-use Rattle.std.proofs.Common.{◌∙◌, ap, subst, get_or, None, arith}
-use Rattle.np_tables.specs.Conditions.{IsSound}
+use Rattle.std.proofs.Common.{◌∙◌, ap, get_or, arith}
 use Rattle.np_tables.specs.inside.Pages.{word_place}
 use Rattle.np_tables.specs.inside.PageWords.{no_word}
-use Rattle.np_tables.proofs.TableLemmas.{pair-value}
 use Rattle.np_tables.proofs.PageWordLemmas.{pair-apart}
 use Rattle.np_tables.proofs.page_table.PageTableNormTable.pair.Goals as goal
 
@@ -12,7 +10,3 @@ returns-then-word_of-clause-none c =
     pair-apart c.args.self.now fields.version c.self.view_is fields.fulls fields.index.items fields.words.items c.self.invariant.pages c.args.a c.args.b (omega arith) c.word_of.result
     (c.word_of.ensures ∙ ap (λ w. get_or w (word_place c.deref.result.now c.args.b) no_word) c.deref-2.ensures.value ∙ ap (λ i. get_or fields.words.items (word_place i c.args.b) no_word) c.deref.ensures.value)
     c.if-word_of.true
-
-pub returns-then-word_of-clause-value : goal.returns-then-word_of-clause-value
-returns-then-word_of-clause-value c =
-    pair-value c.args.self.now (subst IsSound c.self.view_is c.self.invariant.pages.sound) c.args.a c.args.b None tt (returns-then-word_of-clause-none c)

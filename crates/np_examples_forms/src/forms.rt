@@ -1,0 +1,30 @@
+//! Worked examples over the fixtures.
+mod example;
+mod examples;
+mod guests;
+mod lagging;
+mod laws;
+mod refused;
+mod runs;
+mod safety;
+mod spans;
+mod streams;
+
+use np_code_points::Form;
+use np_examples_shared::want;
+use np_forms::form;
+use np_tables::NormTable;
+use std::alloc::Global;
+use std::test::Fail;
+
+/// Fails unless `text` has this form.
+fn wants_form<T: NormTable>(
+    alloc: Global,
+    table: &T,
+    wanted: Form,
+    text: &str,
+    normal: &str,
+) -> Result<(), Fail> {
+    let made = form(alloc, table, wanted, text)?;
+    want(made.as_str() == normal, text)
+}
