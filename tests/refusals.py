@@ -99,8 +99,12 @@ class Refusals:
         self.folder = folder
 
     def run(self, program, words, stdin, **calls):
-        """The run with the shim loaded, which is told what to do by these variables."""
-        return run(program, words, stdin, self.folder, env={**os.environ, "LD_PRELOAD": str(self.shim), **calls})
+        """The run with the shim loaded, which is told what to do by these variables. Its input stands in a file: how
+        many reads a pipe takes would go by who is quicker."""
+        with tempfile.TemporaryFile() as given:
+            given.write(stdin)
+            given.seek(0)
+            return run(program, words, given, self.folder, env={**os.environ, "LD_PRELOAD": str(self.shim), **calls})
 
     def counted(self, program, words, stdin, asked=""):
         """The run with what is asked refused, and its numbers of allocations, reads and writes."""
