@@ -123,7 +123,7 @@ module _ (v : VersionData) (sound : IsSound v) where
     streams_behind s = IsStreaming-held v sound form (pre ++ c ∷ cs) (normal_form v form pre ++ mt) pending (IsHeld-behind (held_streaming v sound form (c ∷ cs) mt pending s))
 
 -- a first part and what begins at a boundary, or is empty, have their forms each for itself
-parts_of : (v : VersionData) (sound : IsSound v) (form : Form) (xs ys : List ℕ) → BeginsAtBoundary v form ys → normal_form v form (xs ++ ys) ≡ normal_form v form xs ++ normal_form v form ys
+pub parts_of : (v : VersionData) (sound : IsSound v) (form : Form) (xs ys : List ℕ) → BeginsAtBoundary v form ys → normal_form v form (xs ++ ys) ≡ normal_form v form xs ++ normal_form v form ys
 parts_of v sound form xs [] at = ap (normal_form v form) (append-nil xs) ∙ sym (append-nil (normal_form v form xs)) ∙ ap (λ l. normal_form v form xs ++ l) (sym (normal_form-nil v form))
 parts_of v sound form xs (c ∷ cs) at = normal_form-parts v sound form xs c cs at
 

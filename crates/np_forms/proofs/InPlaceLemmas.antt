@@ -1,13 +1,12 @@
 -- The steps of a composition in its own list: what was composed stands in front, what is still to be read from a later place on.
-use Rattle.std.proofs.Common.{◌≡◌, ℕ, true, suc, ◌+◌, ◌<◌, ◌≤◌, List, ◌∷◌, ◌++◌, [], length, get_or, set, take, drop, Option, Some, None, ◌⊎◌, inl, inr, refl, sym, subst, ap, ◌∙◌, arith}
+use Rattle.std.proofs.Common.{◌≡◌, ℕ, suc, ◌+◌, ◌<◌, ◌≤◌, List, ◌∷◌, ◌++◌, [], length, get_or, set, take, drop, Option, Some, None, ◌⊎◌, inl, inr, refl, sym, subst, ap, ◌∙◌, arith}
 use Rattle.std.proofs.Math.Seq.{drop-cons, take-set-lt}
 use Rattle.std.proofs.lemmas.List.{take_more_set, drop-set-lt, length-take-le, length-map, map-set, map_push}
 use Rattle.np_tables.specs.Versions.{VersionData, class_of}
 use Rattle.np_forms.specs.inside.Classes.{CodeAndClass, codes_of, with_class, with_classes}
 use Rattle.np_forms.specs.inside.Composers.{IsAfterStarter, IsComposing, pair_with_last}
 use Rattle.np_forms.specs.inside.InPlace.{IsInPlace}
-use Rattle.np_forms.specs.Order.{is_ordered}
-use Rattle.np_forms.proofs.ComposerLemmas.{IsComposing-start, push_joins, push_starts, push_keeps}
+use Rattle.np_forms.proofs.ComposerLemmas.{push_joins, push_starts, push_keeps}
 
 -- the first of what is left
 record Next (v : VersionData) (rest : List ℕ) (x : CodeAndClass) (tail : List CodeAndClass) : Type 0 where

@@ -2,6 +2,7 @@ pub mod AnswerLemmas
 pub mod BoundaryLemmas
 pub mod ChunkLemmas
 pub mod ClassLemmas
+pub mod ClosingLemmas
 pub mod ComposeLemmas
 pub mod ComposerLemmas
 pub mod CopyLemmas

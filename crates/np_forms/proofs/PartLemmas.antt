@@ -1,15 +1,18 @@
--- What stands is its own form in each of its parts.
-use Rattle.std.proofs.Common.{◌≡◌, ℕ, List, [], ◌∷◌, ◌++◌, Option, None, Some, take, chars, IsUtf8, encode_utf8_all, refl, sym, ap, subst, ◌∙◌}
-use Rattle.std.proofs.lemmas.Str.{chars_from_encodes}
+-- What stands is its own form in each of its parts, and what a table spells is the form.
+use Rattle.std.proofs.Common.{◌≡◌, ℕ, List, [], ◌∷◌, ◌++◌, Option, None, Some, take, chars, IsUtf8, refl, sym, subst, ◌∙◌}
+use Rattle.std.proofs.lemmas.Str.{chars_from_encodes, IsUtf8-take}
 use Rattle.np_code_points.specs.declared.forms.Form.{Form}
 use Rattle.np_tables.specs.Conditions.{IsSound}
+use Rattle.np_tables.specs.Spelled.{IsSpelled}
 use Rattle.np_tables.specs.Standing.{AreStanding, MayFollow, Walks}
 use Rattle.np_tables.specs.Versions.{VersionData, is_assigned}
 use Rattle.np_forms.specs.Assigned.{IsAssigned}
+use Rattle.np_forms.specs.Forms.{IsNormalForm}
 use Rattle.np_forms.specs.Parts.{IsEachPartStable}
 use Rattle.np_forms.proofs.AnswerLemmas.{IsNormalForm-value}
-use Rattle.np_forms.proofs.CopyLemmas.{cut_at-front}
-use Rattle.np_forms.proofs.StandingLemmas.{walked_form}
+use Rattle.np_forms.proofs.CopyLemmas.{cut_at-front, cut_boundary}
+use Rattle.np_forms.proofs.SpelledLemmas.{spelled-form}
+use Rattle.np_forms.proofs.StandingLemmas.{standing_form, walked_form}
 use Rattle.np_forms.proofs.TextLemmas.{list_all-back, list_all-front}
 
 -- ---- parts of a walk
@@ -50,3 +53,16 @@ pub stable_parts : (v : VersionData) (sound : IsSound v) (form : Form) (text : L
 stable_parts v sound form text n h front of_front utf8 all =
     let same : h.front ≡ chars front = chars_from_encodes h.front front utf8 (sym (of_front ∙ cut_at-front v form text n h)) in
     subst (IsEachPartStable v form) same (parts_are_forms v sound form h.front h.end h.walk (subst (IsAssigned v) (sym same) all))
+
+-- the whole of it is its own form
+pub standing_front : (v : VersionData) (sound : IsSound v) (form : Form) (text : List ℕ) (n : ℕ) → IsUtf8 text → AreStanding v form text n → IsNormalForm v form (chars (take n text)) (chars (take n text))
+standing_front v sound form text n utf8 h =
+    let same : h.front ≡ chars (take n text) = chars_from_encodes h.front (take n text) (IsUtf8-take text n utf8 (cut_boundary v form text n h)) (sym (cut_at-front v form text n h)) in
+    subst (λ l. IsNormalForm v form l l) same (IsNormalForm-value v sound form h.front h.front (sym (standing_form v sound form h.front h.end h.walk)))
+
+-- ---- what a table spells
+
+pub spelled_is_form : (v : VersionData) (sound : IsSound v) (form : Form) (c : ℕ) (bytes : List ℕ) (count : ℕ) → IsSpelled v form c bytes count → IsNormalForm v form (c ∷ []) (chars (take count bytes))
+spelled_is_form v sound form c bytes count h =
+    let same : h.list ≡ chars (take count bytes) = chars_from_encodes h.list (take count bytes) h.utf8 (sym h.is) in
+    subst (IsNormalForm v form (c ∷ [])) same (IsNormalForm-value v sound form (c ∷ []) h.list (sym (spelled-form v sound form c bytes count h)))

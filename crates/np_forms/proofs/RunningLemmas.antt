@@ -4,7 +4,7 @@ use Rattle.std.proofs.KnownBytes.{Appends-trans, Consumes-trans}
 use Rattle.std.proofs.lemmas.Grind.{flat_map-append}
 use Rattle.std.proofs.lemmas.List.{nil_from_length, take_all, take-append-drop, drop_at, drop-drop}
 use Rattle.std.proofs.lemmas.Str.{chars-nil, chars-append, IsUtf8-nil, encodes-append, IsUtf8-append}
-use Rattle.std.specs.Io.KnownBytes.{Appends, Consumes, IsAtEnd}
+use Rattle.std.specs.Io.KnownBytes.{Appends, Consumes, IsAtEnd, Keeps}
 use Rattle.std.specs.Str.Lossy.{utf8_valid_len, utf8_error_len}
 use Rattle.np_code_points.specs.Forms.{is_compat, composes}
 use Rattle.np_code_points.specs.Text.{IsLongestValidPrefix}
@@ -26,6 +26,13 @@ use Rattle.np_forms.proofs.RunTextLemmas.{take_past, prefix_past, prefix_left, o
 
 abbrev pub ends_of : Option (List ℕ) → Option (List ℕ) → Option (List ℕ) → Option (List ℕ) → Ends
 ends_of i₀ i₁ o₀ o₁ = record { in_before = i₀; in_after = i₁; out_before = o₀; out_after = o₁ }
+
+-- known bytes that grew stay as they are
+pub appended : (o₁ o₂ o₃ : Option (List ℕ)) (bytes : List ℕ) → Appends o₁ o₂ bytes → Keeps o₂ o₃ → Appends o₁ o₃ bytes
+appended None o₂ o₃ bytes a k = tt
+appended (Some xs) None o₃ bytes a k = absurd a
+appended (Some xs) (Some ys) None bytes a k = absurd k
+appended (Some xs) (Some ys) (Some zs) bytes a k = k ∙ a
 
 Consumes-nothing : (i : Option (List ℕ)) → Consumes i i []
 Consumes-nothing None = tt

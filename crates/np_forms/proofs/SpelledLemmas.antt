@@ -15,12 +15,14 @@ use Rattle.np_forms.proofs.SegmentLemmas.{composed-joins, composed-start, compos
 use Rattle.np_forms.proofs.SyllableLemmas.{lent_some}
 use Rattle.np_tables.specs.Boundaries.{BeginsAtBoundary, NeverFalls}
 use Rattle.np_tables.specs.Conditions.{IsSound}
-use Rattle.np_tables.proofs.TableLemmas.{full-none}
+use Rattle.np_tables.proofs.TableLemmas.{full-none, lent-value, pair-value}
 use Rattle.np_tables.specs.Versions.{VersionData, class_of, entry_at, is_assigned}
 use Rattle.np_ucd.specs.Entries.{Entry}
 use Rattle.np_tables.specs.inside.CompositeSearch.{composite}
-use Rattle.np_tables.specs.inside.FullDecompositions.{full_of, table_full}
-use Rattle.np_tables.specs.inside.Spelled.{IsSpelled}
+use Rattle.np_tables.specs.inside.FullDecompositions.{full_of}
+use Rattle.np_tables.specs.Spelled as public
+use Rattle.np_tables.specs.Spelled.{IsSpelled}
+use Rattle.np_tables.proofs.CompositeLemmas.{composite_from}
 use Rattle.np_tables.specs.inside.Spellings.{Composes, ComposesOn}
 
 cases_entry : (o : Option Entry) → (o ≡ None) ⊎ ((e : Entry) × (o ≡ Some e))
@@ -75,6 +77,22 @@ module _ (v : VersionData) where
   composes-composed [] list none = absurd none
   composes-composed (c ∷ cs) list (starter, is) = held-composes (c ∷ []) [] c 0 cs list (folded-starts v [] c starter (composed-start v)) is
 
+  -- ---- what the relations say is so by the functions
+
+  module _ (sound : IsSound v) where
+    composes_on : (held last : ℕ) (ds list : List ℕ) → public.ComposesOn v held last ds list → ComposesOn v held last ds list
+    composes_on held last [] list is = is
+    composes_on held last (d ∷ ds) list (inl (p, found, up, later)) = inl (p, composite_from v sound held d p found, up, composes_on p (class_of v d) ds list later)
+    composes_on held last (d ∷ ds) list (inr (later, starter, none, same, is)) = inr (later, starter, sym (pair-value v sound held d None tt none), same, composes_on d 0 ds later is)
+
+    composes_of : (full list : List ℕ) → public.Composes v full list → Composes v full list
+    composes_of [] list none = none
+    composes_of (c ∷ cs) list (starter, is) = (starter, composes_on c 0 cs list is)
+
+    settles_of : (b : Bool) (full list : List ℕ) → MatchBool b (public.Composes v full list) (NeverFalls (class_of v) full × (list ≡ full)) → MatchBool b (Composes v full list) (NeverFalls (class_of v) full × (list ≡ full))
+    settles_of true full list is = composes_of full list is
+    settles_of false full list is = is
+
   module _ (sound : IsSound v) (form : Form) where
     -- ---- what a full decomposition settles to is the form
 
@@ -92,18 +110,23 @@ module _ (v : VersionData) where
     unfolding is_assigned
     spelled-assigned c bytes count spelled =
         elim (cases_entry (entry_at v.entries c)) [
-          | inl none ↦ absurd (omega (arith, spelled.some, ap length (full-none v (is_compat form) c none)))
+          | inl none ↦ absurd (omega (arith, spelled.some, ap length (lent-value v (is_compat form) c spelled.full sound spelled.lent), ap length (full-none v (is_compat form) c none)))
           | inr some ↦ ap is_some some.1
         ]
 
+    -- and what is spelled is its form
+    pub spelled-form : (c : ℕ) (bytes : List ℕ) (count : ℕ) (spelled : IsSpelled v form c bytes count) → normal_form v form (c ∷ []) ≡ spelled.list
+    spelled-form c bytes count spelled =
+        let lent = lent-value v (is_compat form) c spelled.full sound spelled.lent in
+        let full : spelled.full ≡ flat_map (full_of v (is_compat form)) (c ∷ []) = lent_some v (is_compat form) c spelled.full lent spelled.some ∙ sym (append-nil (full_of v (is_compat form) c)) in
+        settled-form (composes form) c spelled.full spelled.list refl full (settles_of sound (composes form) spelled.full spelled.list spelled.settles)
+
     pub first-spelled : (text later : List ℕ) (c : ℕ) → IsUtf8 text → text ≡ encode_utf8 c ++ later → BeginsAtBoundary v form (chars later) → (bytes : List ℕ) (count : ℕ) → IsSpelled v form c bytes count → IsFirstSpelled v form text later bytes count
     first-spelled text later c utf8 begins at bytes count spelled =
-        let lent = table_full v (is_compat form) c in
-        let full : lent ≡ flat_map (full_of v (is_compat form)) (c ∷ []) = lent_some v (is_compat form) c lent refl spelled.some ∙ sym (append-nil (full_of v (is_compat form) c)) in
         let made : IsFirstMade v form text later spelled.list =
         record {
           end = record { front = encode_utf8 c; parts = begins; utf8 = IsUtf8-past_char text later c utf8 begins };
           made = ap (normal_form v form) (chars_past_char text later c utf8 begins) ∙ parts-at v sound form (c ∷ []) (chars later) at
-              ∙ ap (λ l. l ++ normal_form v form (chars later)) (settled-form (composes form) c lent spelled.list refl full spelled.settles);
+              ∙ ap (λ l. l ++ normal_form v form (chars later)) (spelled-form c bytes count spelled);
         } in
         record { list = spelled.list; made = made; fits = spelled.fits; utf8 = spelled.utf8; is = spelled.is }

@@ -1,7 +1,6 @@
 -- Code points that stay, one behind the other.
-use Rattle.std.proofs.Common.{◌≡◌, ℕ, ◌<◌, ◌≤◌, suc, Bool, true, List, [], ◌∷◌, ◌++◌, Option, Some, None, All, length, length-append, get_or, take, take_at, ◌-◌, chars, IsUtf8, encode_utf8, encode_utf8_all, refl, sym, ap, subst, ◌∙◌, arith, inl, append_assoc, append-nil}
+use Rattle.std.proofs.Common.{◌≡◌, ℕ, ◌<◌, suc, Bool, true, List, [], ◌∷◌, ◌++◌, Option, Some, None, All, length, length-append, get_or, take, take_at, ◌-◌, chars, encode_utf8_all, refl, sym, ap, ◌∙◌, arith, inl}
 use Rattle.std.proofs.lemmas.Bool.{and_from}
-use Rattle.std.specs.List.{list_all}
 use Rattle.np_code_points.specs.declared.forms.Form.{Form}
 use Rattle.np_forms.specs.Assigned.{IsAssigned}
 use Rattle.np_forms.specs.inside.Copies.{AreStaying, AsciiStays, IsCopied, IsStaying}
@@ -10,7 +9,7 @@ use Rattle.np_forms.proofs.CopyLemmas.{IsCopied-at}
 use Rattle.np_tables.specs.Boundaries.{BeginsAtBoundary}
 use Rattle.np_tables.specs.Conditions.{IsSound}
 use Rattle.np_tables.specs.Standing.{MayFollow, Walks}
-use Rattle.np_tables.specs.Versions.{VersionData, is_assigned}
+use Rattle.np_tables.specs.Versions.{VersionData}
 use Rattle.np_tables.specs.inside.PageWords.{IsPast}
 
 module _ (v : VersionData) (form : Form) where

@@ -1,5 +1,5 @@
 -- The laws of the forms, over the definitions alone.
-use Rattle.std.specs.Prelude.{◌≡◌, ℕ, ◌*◌, ◌≤◌, true, List, length, chars, IsUtf8, ◌↔◌}
+use Rattle.std.specs.Prelude.{◌≡◌, ℕ, ◌*◌, ◌≤◌, true, List, [], ◌∷◌, length, take, chars, IsUtf8, ◌↔◌}
 use Rattle.np_tables.specs.Composites.{IsCompositeOf}
 use Rattle.np_tables.specs.Conditions.{IsSound}
 use Rattle.np_code_points.specs.declared.forms.Form.{Form}
@@ -8,6 +8,8 @@ use Rattle.np_code_points.specs.One.{HasOne}
 use Rattle.np_forms.specs.Forms.{IsDecomposed, IsNormalForm, IsEquivalent}
 use Rattle.np_forms.specs.Order.{IsOrderedForm}
 use Rattle.np_tables.specs.Examples.{without_rows, with_rows, with_hangul}
+use Rattle.np_tables.specs.Spelled.{IsSpelled}
+use Rattle.np_tables.specs.Standing.{AreStanding}
 use Rattle.np_tables.specs.Versions.{VersionData, class_of, has_hangul}
 
 -- a list has exactly one ordered form, whatever gives the combining classes
@@ -39,6 +41,16 @@ abbrev pub FewBytes : Type 0
 FewBytes =
     (v : VersionData) (form : Form) (string key : List ℕ) → IsSound v → IsUtf8 string → IsUtf8 key → IsNormalForm v form (chars string) (chars key) →
     length key ≤ 256 * length string
+
+-- what stands, as a table's scan over a text tells it, is its own normal form
+abbrev pub StandingForm : Type 0
+StandingForm =
+    (v : VersionData) (form : Form) (text : List ℕ) (n : ℕ) → IsSound v → IsUtf8 text → AreStanding v form text n → IsNormalForm v form (chars (take n text)) (chars (take n text))
+
+-- what a table spells for a code point is its normal form
+abbrev pub SpelledForm : Type 0
+SpelledForm =
+    (v : VersionData) (form : Form) (c : ℕ) (bytes : List ℕ) (count : ℕ) → IsSound v → IsSpelled v form c bytes count → IsNormalForm v form (c ∷ []) (chars (take count bytes))
 
 -- the premise of these laws on a version is met: by the version of empty files; by one of three rows, a starter, a
 -- non-starter of class 230 and their primary composite; and by one with the Hangul arithmetic on

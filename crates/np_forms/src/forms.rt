@@ -2,9 +2,10 @@
 ghost use Rattle.std.specs.Prelude.{◌↔◌, IsTrue, chars, string_bytes, IfOk};
 ghost use Rattle.np_forms.specs.Forms.{IsNormalForm};
 
-use crate::copying::write_form;
 use crate::out_texts::OutText;
 use crate::pieces::has_form;
+use crate::streams::Stream;
+use crate::written::close_text;
 use np_code_points::{Form, Memory};
 use np_tables::NormTable;
 use std::alloc::Global;
@@ -24,7 +25,8 @@ pub fn form<T: NormTable>(
 {
     table.meets_conditions();
     let mut out = OutText::with_room(alloc, text.len())?;
-    write_form(alloc, table, form, text, &mut out)?;
+    let mut stream = Stream::new(alloc, table, form);
+    close_text(&mut stream, &mut out, text)?;
     Ok(out.into_text())
 }
 

@@ -1,6 +1,6 @@
 //! The laws of the forms, over the definitions alone.
 ghost use Rattle.np_forms.specs.Boundaries.{Parting, Staying};
-ghost use Rattle.np_forms.specs.Laws.{FewBytes, FewCodePoints, OneForm, OneOrderedForm, PremisesAreMet};
+ghost use Rattle.np_forms.specs.Laws.{FewBytes, FewCodePoints, OneForm, OneOrderedForm, PremisesAreMet, SpelledForm, StandingForm};
 ghost use Rattle.np_forms.specs.StreamLaws.{OneMore};
 
 /// Whatever gives the combining classes, a list has exactly one ordered form (The Unicode Standard,
@@ -35,4 +35,11 @@ pub fn boundary()
 pub fn length()
     ensures code_points { FewCodePoints }
     ensures bytes { FewBytes }
+{}
+
+/// What a table tells of texts at once is so by the normal forms: a front that its scan passes is its own form (UAX #15,
+/// section 9), and what it spells for a code point is that code point's form.
+pub fn told()
+    ensures standing { StandingForm }
+    ensures spelled { SpelledForm }
 {}

@@ -8,7 +8,7 @@ ghost use Rattle.np_forms.specs.inside.Running.{IsBetweenReads, MayBegin, MayNot
 
 use crate::out_texts::OutText;
 use crate::streams::Stream;
-use crate::written::write_text;
+use crate::written::{close_text, feed_text};
 use np_code_points::output::{flush_once, write_whole};
 use np_code_points::watched::Watched;
 use np_code_points::{Form, Memory};
@@ -230,7 +230,7 @@ fn write_piece<W: Write, T: NormTable>(
     ensures failed { result ≡ Err RunFault.WriteFailed ↔ (has_failed target.new ≡ true) }
     ensures fault { IfErr result (λ fault. (fault ≡ RunFault.WriteFailed) ⊎ (fault ≡ RunFault.Memory)) }
 {
-    let Ok(()) = write_text(stream, &mut output.text, text) else {
+    let Ok(()) = feed_text(stream, &mut output.text, text) else {
         return Err(RunFault::Memory);
     };
     write_text_out(output, target)
@@ -250,7 +250,7 @@ fn write_rest<W: Write, T: NormTable>(
     ensures failed { result ≡ Err RunFault.WriteFailed ↔ (has_failed target.new ≡ true) }
     ensures fault { IfErr result (λ fault. (fault ≡ RunFault.WriteFailed) ⊎ (fault ≡ RunFault.Memory)) }
 {
-    let Ok(()) = stream.finish_into(&mut output.text) else {
+    let Ok(()) = close_text(stream, &mut output.text, "") else {
         return Err(RunFault::Memory);
     };
     write_text_out(output, target)?;

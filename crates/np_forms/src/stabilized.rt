@@ -8,8 +8,10 @@ ghost use Rattle.np_forms.specs.inside.Copies.{IsCopied};
 ghost use Rattle.np_forms.specs.inside.NormalForms.{normal_form};
 
 use crate::assigned::first_lacking;
-use crate::copying::{split_standing, write_fronts};
+use crate::copying::split_standing;
 use crate::out_texts::OutText;
+use crate::streams::Stream;
+use crate::written::close_assigned;
 use np_code_points::{Form, Memory};
 use np_tables::NormTable;
 use std::alloc::Global;
@@ -48,9 +50,11 @@ fn assigned_form<T: NormTable>(
     ensures assigned { IfOk result (λ made. IfSome made (λ _. IsAssigned (T.model table.now) (chars text.now))) }
     ensures lacking { IfOk result (λ made. IfNone made (¬ IsAssigned (T.model table.now) (chars text.now))) }
 {
+    table.meets_conditions();
     let mut out = OutText::with_room(alloc, text.len())?;
     out.append_front(text, stays)?;
-    if write_fronts(alloc, table, wanted, true, behind, &mut out)? {
+    let mut stream = Stream::new(alloc, table, wanted);
+    if close_assigned(&mut stream, &mut out, behind)? {
         Ok(Some(out.into_text()))
     } else {
         Ok(None)

@@ -1,8 +1,10 @@
 //! Texts written as a stream gives them.
-ghost use Rattle.std.specs.Prelude.{◌≡◌, ◌++◌, ◌∷◌, [], chars as chars_in, encode_utf8_all, OnOk};
-ghost use Rattle.np_forms.specs.inside.Written.{Writes};
+ghost use Rattle.std.specs.Prelude.{◌≡◌, ◌++◌, ◌∷◌, [], false, chars as chars_in, encode_utf8_all, IfOk, IsTrue, OnOk};
+ghost use Rattle.np_forms.specs.Assigned.{IsAssigned};
+ghost use Rattle.np_forms.specs.inside.Written.{Closes, Writes};
 
-use crate::copying::{split_head, split_tail, write_form};
+use crate::assigned::first_lacking;
+use crate::copying::{split_head, split_tail, write_form, write_fronts};
 use crate::out_texts::OutText;
 use crate::streams::Stream;
 use np_code_points::Memory;
@@ -51,9 +53,9 @@ fn write_chars<T: NormTable>(
     }
 }
 
-/// Takes a text in, and writes what became ready. The stream takes what stands before the first
+/// Takes a piece of a text in, and writes what became ready. The stream takes what stands before the first
 /// boundary and what begins at the last one; what lies between has its form for itself.
-pub(crate) fn write_text<T: NormTable>(
+pub(crate) fn feed_text<T: NormTable>(
     stream: &mut Stream<'_, T>,
     out: &mut OutText,
     text: &str,
@@ -73,4 +75,51 @@ pub(crate) fn write_text<T: NormTable>(
     stream.finish_into(out)?;
     write_form(alloc, table, form, middle, out)?;
     write_chars(stream, out, tail)
+}
+
+/// Takes the last piece of a text in, which may be the whole, and writes the rest of its form. Where nothing is
+/// held back, nothing goes through the stream.
+pub(crate) fn close_text<T: NormTable>(
+    stream: &mut Stream<'_, T>,
+    out: &mut OutText,
+    text: &str,
+) -> Result<(), Memory>
+    requires { stream.old.ready ≡ [] }
+    ensures { OnOk result (Closes stream.old out.old out.new (chars_in text.now)) }
+{
+    let (alloc, table, form) = stream.rules();
+    table.meets_conditions();
+    if stream.pending_len() == 0 {
+        return write_form(alloc, table, form, text, out);
+    }
+    let rest = stream.take_front(text)?;
+    let (head, body) = split_head(table, form, rest);
+    write_chars(stream, out, head)?;
+    stream.finish_into(out)?;
+    write_form(alloc, table, form, body, out)
+}
+
+/// Takes the last piece of a text in, and writes the rest of its form, as `close_text` does, and tells whether each
+/// code point of the piece is assigned. Where one is not, the form may be cut short.
+pub(crate) fn close_assigned<T: NormTable>(
+    stream: &mut Stream<'_, T>,
+    out: &mut OutText,
+    text: &str,
+) -> Result<bool, Memory>
+    requires { stream.old.ready ≡ [] }
+    ensures form { IfOk result (λ all. IsTrue all → Closes stream.old out.old out.new (chars_in text.now)) }
+    ensures assigned { IfOk result (λ all. IsTrue all → IsAssigned stream.old.version (chars_in text.now)) }
+    ensures lacking { IfOk result (λ all. all ≡ false → ¬ IsAssigned stream.old.version (chars_in text.now)) }
+{
+    let (alloc, table, form) = stream.rules();
+    table.meets_conditions();
+    if stream.pending_len() == 0 {
+        let all = write_fronts(alloc, table, form, true, text, out)?;
+        return Ok(all);
+    }
+    if first_lacking(table, text).is_some() {
+        return Ok(false);
+    }
+    close_text(stream, out, text)?;
+    Ok(true)
 }

@@ -4,6 +4,7 @@ ghost use Rattle.std.specs.Io.{ReadsAtMost};
 ghost use Rattle.np_code_points.specs.Watched.{has_failed};
 
 use np_code_points::watched::Watched;
+use std::alloc::Global;
 use std::io::{Error, Read, Result, Stderr, Stdin, Stdout};
 use std::os::fd::AsFd;
 
@@ -51,12 +52,26 @@ fn is_open<S: AsFd>(stream: &S) -> bool {
     }
 }
 
-/// The standard streams, to be taken before any file is opened.
+/// A little more than the text of a data file takes, in bytes: its list grows by doubling to 2 MiB.
+const LARGE: usize = 2_162_688;
+
+/// Takes a large piece of memory and gives it back untouched. From then on the C library keeps pieces
+/// up to that size for what is wanted next, where it else hands each back to the system: tables stand
+/// where the text of the data file stood, and a start has a quarter fewer page faults. A larger piece
+/// would make a long input leave its first list behind.
+fn keep_freed(alloc: Global) {
+    // where so much isn't there nothing is lost
+    let _: Result<Vec<u8>, _> = Vec::with_capacity(alloc, LARGE);
+}
+
+/// The standard streams, to be taken before any file is opened. From then on the program keeps the memory that a data
+/// file gives back.
 pub fn take_standard(rt: &HostRuntime) -> Standard
     ensures input { has_failed result.input ≡ false }
     ensures output { has_failed result.output ≡ false }
     ensures error { has_failed result.error ≡ false }
 {
+    keep_freed(rt.alloc());
     let stream = rt.stdin();
     let input = if is_open(&stream) {
         StandardInput::Open(stream)

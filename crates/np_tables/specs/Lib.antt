@@ -6,6 +6,7 @@ pub mod Examples
 pub mod Faults
 pub mod Laws
 pub mod Mappings
+pub mod Spelled
 pub mod Standing
 pub mod TableFaults
 pub mod Versions

@@ -7,7 +7,7 @@ ghost use Rattle.np_tables.specs.Composites.{IsCompositeOf};
 ghost use Rattle.np_tables.specs.Conditions.{IsSound};
 ghost use Rattle.np_tables.specs.Mappings.{IsLent};
 ghost use Rattle.np_tables.specs.Standing.{AreStanding};
-ghost use Rattle.np_tables.specs.inside.Spelled.{IsSpelled};
+ghost use Rattle.np_tables.specs.Spelled.{IsSpelled};
 ghost use Rattle.np_tables.specs.Versions.{VersionData, class_of, has_hangul, is_assigned};
 
 use crate::version::Version;

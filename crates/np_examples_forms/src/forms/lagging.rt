@@ -3,6 +3,7 @@ use np_code_points::Form;
 use np_examples_shared::{V1, V2, table_of, want};
 use np_forms::{is_form, npss};
 use np_tables::PageTable;
+use std::alloc::Global;
 use std::test::Fail;
 
 /// Texts, and their keys under the second fixture: some code points of keys are not assigned in the first one.
@@ -13,22 +14,25 @@ const KEYS: [(&str, &str); 4] = [
     ("a\u{302}\u{16D67}", "\u{E2}\u{16D67}"),
 ];
 
-#[test]
-fn a_key_is_its_own_form_under_both_versions(rt: HostRuntime) -> Result<(), Fail> {
-    let alloc = rt.alloc();
-    let old: PageTable = table_of(alloc, V1)?;
-    let new: PageTable = table_of(alloc, V2)?;
+fn keys_under_both(alloc: Global, old: &PageTable, new: &PageTable) -> Result<(), Fail> {
     for (text, wanted) in &KEYS {
-        let key = npss(alloc, &new, Form::Nfc, text)?;
+        let key = npss(alloc, new, Form::Nfc, text)?;
         want(key.as_str() == *wanted, text)?;
-        want(
-            is_form(alloc, &old, Form::Nfc, key.as_str())?,
-            "under the first fixture",
-        )?;
-        want(
-            is_form(alloc, &new, Form::Nfc, key.as_str())?,
-            "under the second fixture",
-        )?;
+        let under_old = is_form(alloc, old, Form::Nfc, key.as_str())?;
+        want(under_old, "under the first fixture")?;
+        let under_new = is_form(alloc, new, Form::Nfc, key.as_str())?;
+        want(under_new, "under the second fixture")?;
     }
     Ok(())
+}
+
+fn keys_of_a_later_version(alloc: Global, old: &PageTable) -> Result<(), Fail> {
+    let new: PageTable = table_of(alloc, V2)?;
+    keys_under_both(alloc, old, &new)
+}
+
+#[test]
+fn a_key_is_its_own_form_under_both_versions(rt: HostRuntime) -> Result<(), Fail> {
+    let old: PageTable = table_of(rt.alloc(), V1)?;
+    keys_of_a_later_version(rt.alloc(), &old)
 }

@@ -28,6 +28,12 @@ pub record WritesEnd (old : StreamState) (before after : List ℕ) : Type 0 wher
   pub written : after ≡ before ++ encode_utf8_all more
   pub whole : (fed out : List ℕ) → IsStreaming old.version old.form fed out old.pending → IsNormalForm old.version old.form fed (out ++ more)
 
+-- the last of the text came, and the rest of its normal form was written
+pub record Closes (old : StreamState) (before after text : List ℕ) : Type 0 where
+  pub more : List ℕ
+  pub written : after ≡ before ++ encode_utf8_all more
+  pub whole : (fed out : List ℕ) → IsStreaming old.version old.form fed out old.pending → IsNormalForm old.version old.form (fed ++ text) (out ++ more)
+
 -- the text ended, the rest of its normal form was written, and what comes is a new text
 pub record Breaks (old new : StreamState) (before after : List ℕ) : Type 0 where
   pub ends : WritesEnd old before after

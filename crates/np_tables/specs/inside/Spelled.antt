@@ -22,8 +22,8 @@ AreSpelled v lists s = (form : Form) → AreSpellings v form (of_kind (is_compat
 
 -- ---- what a table answers
 
--- the first `count` bytes are the form of c by itself, made of its full decomposition
-pub record IsSpelled (v : VersionData) (form : Form) (c : ℕ) (bytes : List ℕ) (count : ℕ) : Type 0 where
+-- the first `count` bytes are the form of c by itself, made of its full decomposition, by the functions; `specs/Spelled` says it in relations
+pub record IsSpelledOf (v : VersionData) (form : Form) (c : ℕ) (bytes : List ℕ) (count : ℕ) : Type 0 where
   pub list : List ℕ
   pub settles : Settles v form (table_full v (is_compat form) c) list
   pub some : 0 < length (table_full v (is_compat form) c)

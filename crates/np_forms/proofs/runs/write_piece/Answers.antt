@@ -9,6 +9,6 @@ returns-clause-err g c =
     (λ e. record {
       out = e.0;
       written = e.1.2;
-      front = inr (w.more, (e.1.0, sym (w.written ∙ ap (λ l. l ++ encode_utf8_all w.more) c.requires.empty) ∙ e.1.1, λ fed done s. (c.write_text.new.stream.pending, w.carries fed done s)));
+      front = inr (w.more, (e.1.0, sym (w.written ∙ ap (λ l. l ++ encode_utf8_all w.more) c.requires.empty) ∙ e.1.1, λ fed done s. (c.feed_text.new.stream.pending, w.carries fed done s)));
     })
     c.write_text_out.ensures.err
