@@ -61,7 +61,7 @@ const LARGE: usize = 2_162_688;
 /// would make a long input leave its first list behind.
 fn keep_freed(alloc: Global) {
     // where so much isn't there nothing is lost
-    let _: Result<Vec<u8>, _> = Vec::with_capacity(alloc, LARGE);
+    let _given_back: Option<Vec<u8>> = Vec::with_capacity(alloc, LARGE).ok();
 }
 
 /// The standard streams, to be taken before any file is opened. From then on the program keeps the memory that a data
