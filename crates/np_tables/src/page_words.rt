@@ -1,4 +1,14 @@
 //! One small word for each code point, of which most answers of a table are read.
+//!
+//! | Bits | Field | What it says |
+//! |---|---|---|
+//! | 32 | `fulls` | where its full decompositions stand, and its forms; 0: it has no mapping |
+//! | 8 | `class` | its combining class |
+//! | 8 | `assigned` | 1: a row has it |
+//! | 8 | `apart` | 1: no code point of its row is the second part of a primary composite |
+//! | 8 | `hints` | under which forms it stays or parts: `page_hints` tells which bit |
+//!
+//! Beside it stands a step of 8 bits for each form, which are made of the word: `steps` has their values.
 ghost use Rattle.std.specs.Prelude.{◌≡◌, ℕ, ◌+◌, ◌<◌, length, slice_get, slice_index_or, false, IfOk, Some};
 ghost use Rattle.np_tables.specs.inside.PageWords.{AreRowWords, AreSeconds, AreSlots, no_word, paged_words, row_word};
 ghost use Rattle.np_tables.specs.inside.Pages.{AreWithin, word_place};
