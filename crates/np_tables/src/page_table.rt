@@ -11,8 +11,8 @@ use crate::leads::are_leads_parting;
 use crate::page_hints::parts_place;
 use crate::page_slots::slots_of;
 use crate::page_words::{Word, page_words, row_words, second_rows, word_of};
+use crate::scans::Scan;
 use crate::spelled::Spelled;
-use crate::standing_runs::standing_front;
 use crate::steps::{all_steps, is_ascii_staying, least_step};
 use crate::tables::NormTable;
 use crate::version::Version;
@@ -170,15 +170,16 @@ impl NormTable for PageTable {
     }
 
     fn standing(&self, form: Form, assigned: bool, text: &str) -> (usize, bool) {
-        standing_front(
-            &self.version,
-            &self.index,
-            &self.words,
-            &self.steps,
-            self.ascii,
-            least_step(assigned),
+        let scan = Scan {
+            version: &self.version,
+            index: &self.index,
+            words: &self.words,
+            steps: &self.steps,
+            ascii: self.ascii,
+            least: least_step(assigned),
             form,
-            text,
-        )
+        };
+        let front = scan.standing_front(text);
+        (front.count, front.parts)
     }
 }

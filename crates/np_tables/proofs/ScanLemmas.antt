@@ -1,0 +1,61 @@
+-- How far a scan comes by the steps of code points.
+use Rattle.std.proofs.Common.{◌≡◌, ℕ, ◌<◌, ◌≤◌, true, List, Option, ◌++◌, length, length-append, get_or, drop, encode_utf8, encode_utf8_all, ap, arith, inl, IsUtf8}
+use Rattle.std.proofs.lemmas.List.{length-drop}
+use Rattle.std.proofs.lemmas.Str.{IsUtf8-past_char}
+use Rattle.np_tables.specs.Versions.{VersionData}
+use Rattle.np_tables.specs.declared.scans.Scan.{Scan}
+use Rattle.np_tables.specs.inside.PageWords.{Follows, IsPast}
+use Rattle.np_tables.specs.inside.Scans.{GoesOn, PassesCode}
+use Rattle.np_tables.proofs.LeadRunLemmas.{WalksOn-at}
+use Rattle.np_tables.proofs.StandingLemmas.{IsWalkedTo-next, IsWalkedTo-past, WalksOn-both, WalksOn-start, ascii_follows}
+
+module _ (s : Scan) where
+  abbrev Step : VersionData → Option ℕ → ℕ → ℕ → ℕ → Type 0
+  Step v = Follows v s.least s.index.now s.steps.now s.form
+
+  pub goes-start : (text : List ℕ) (low : ℕ) → s.least ≤ low → IsUtf8 text → GoesOn s text low text low
+  goes-start text low le utf8 = record { least = le; walks = λ v. WalksOn-start (Step v) text low; front = omega arith; utf8 = utf8 }
+
+  -- what goes on from there goes on from here
+  pub goes-both : (text here rest : List ℕ) (low middle next : ℕ) → GoesOn s text low here middle → GoesOn s here middle rest next → GoesOn s text low rest next
+  goes-both text here rest low middle next one two =
+      record {
+        least = two.least;
+        walks = λ v. WalksOn-both (Step v) text here rest low middle next (one.walks v) (two.walks v);
+        front = omega (arith, one.front, two.front);
+        utf8 = two.utf8;
+      }
+
+  -- over a character
+  pub goes-past : (text : List ℕ) (low c : ℕ) (rest : List ℕ) (next : ℕ) → IsUtf8 text → s.least ≤ next → PassesCode s low c next → text ≡ encode_utf8 c ++ rest → GoesOn s text low rest next
+  goes-past text low c rest next utf8 least passes parts =
+      record {
+        least = least;
+        walks = λ v t last behind walked. (let on = passes last behind in (on.0, (on.1.0, IsWalkedTo-next (Step v) t text last c rest on.0 walked parts (inl on.1.1))));
+        front = omega (arith, ap length parts, length-append (encode_utf8 c) rest);
+        utf8 = IsUtf8-past_char text rest c utf8 parts;
+      }
+
+  -- over ASCII
+  pub goes-ascii : (text : List ℕ) (low c : ℕ) (next rest : List ℕ) → s.ascii ≡ true → s.least ≤ low → low ≤ 255 → c < 128 → text ≡ encode_utf8 c ++ next → IsPast (λ d. d < 128) next rest → GoesOn s text low rest s.least
+  goes-ascii text low c next rest on le top low_c parts past =
+      let follows = ascii_follows s.least s.index.now s.steps.now s.form (omega arith) (s.ascii_stays on) in
+      record {
+        least = omega arith;
+        walks = λ v t last behind walked.
+            (let first = IsWalkedTo-next (Step v) t text last c next 0 walked parts (inl (follows last c low_c)) in
+            (0, (omega arith, IsWalkedTo-past (Step v) (λ d. d < 128) (λ before d lt. inl (follows 0 d lt)) t next rest first past)));
+        front = omega (arith, ap length parts, length-append (encode_utf8 c) next, ap length past.split, length-append (encode_utf8_all past.front) rest);
+        utf8 = past.utf8;
+      }
+
+  -- from `end`, behind which nothing begins a character of several bytes up to `at`
+  pub goes-at : (text here : List ℕ) (end at low now behind : ℕ) → s.ascii ≡ true → low ≤ 255 → s.least ≤ low → end ≤ at → at ≤ length text → here ≡ drop at text → ((k : ℕ) → end ≤ k → k < at → get_or text k 0 < 192)
+      → s.least ≤ behind → (end < at → behind ≡ s.least) → (at ≤ end → behind ≡ now) → IsUtf8 here → GoesOn s text low (drop end text) now → GoesOn s text low here behind
+  goes-at text here end at low now behind on top some before within is none least ascii_is same_is utf8 goes =
+      record {
+        least = least;
+        walks = λ v. WalksOn-at s.least s.index.now s.steps.now s.form (omega arith) (s.ascii_stays on) v text here end at low now behind before within goes.utf8 is none ascii_is same_is (goes.walks v);
+        front = omega (arith, ap length is, length-drop at text);
+        utf8 = utf8;
+      }
