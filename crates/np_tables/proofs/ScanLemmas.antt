@@ -5,7 +5,7 @@ use Rattle.std.proofs.lemmas.Str.{IsUtf8-past_char}
 use Rattle.np_tables.specs.Versions.{VersionData}
 use Rattle.np_tables.specs.declared.scans.Scan.{Scan}
 use Rattle.np_tables.specs.inside.PageWords.{Follows, IsPast}
-use Rattle.np_tables.specs.inside.Scans.{GoesOn, PassesCode}
+use Rattle.np_tables.specs.inside.Scans.{ScansOn, PassesCode}
 use Rattle.np_tables.proofs.LeadRunLemmas.{WalksOn-at}
 use Rattle.np_tables.proofs.StandingLemmas.{IsWalkedTo-next, IsWalkedTo-past, WalksOn-both, WalksOn-start, ascii_follows}
 
@@ -13,11 +13,11 @@ module _ (s : Scan) where
   abbrev Step : VersionData → Option ℕ → ℕ → ℕ → ℕ → Type 0
   Step v = Follows v s.least s.index.now s.steps.now s.form
 
-  pub goes-start : (text : List ℕ) (low : ℕ) → s.least ≤ low → IsUtf8 text → GoesOn s text low text low
+  pub goes-start : (text : List ℕ) (low : ℕ) → s.least ≤ low → IsUtf8 text → ScansOn s text low text low
   goes-start text low le utf8 = record { least = le; walks = λ v. WalksOn-start (Step v) text low; front = omega arith; utf8 = utf8 }
 
   -- what goes on from there goes on from here
-  pub goes-both : (text here rest : List ℕ) (low middle next : ℕ) → GoesOn s text low here middle → GoesOn s here middle rest next → GoesOn s text low rest next
+  pub goes-both : (text here rest : List ℕ) (low middle next : ℕ) → ScansOn s text low here middle → ScansOn s here middle rest next → ScansOn s text low rest next
   goes-both text here rest low middle next one two =
       record {
         least = two.least;
@@ -27,7 +27,7 @@ module _ (s : Scan) where
       }
 
   -- over a character
-  pub goes-past : (text : List ℕ) (low c : ℕ) (rest : List ℕ) (next : ℕ) → IsUtf8 text → s.least ≤ next → PassesCode s low c next → text ≡ encode_utf8 c ++ rest → GoesOn s text low rest next
+  pub goes-past : (text : List ℕ) (low c : ℕ) (rest : List ℕ) (next : ℕ) → IsUtf8 text → s.least ≤ next → PassesCode s low c next → text ≡ encode_utf8 c ++ rest → ScansOn s text low rest next
   goes-past text low c rest next utf8 least passes parts =
       record {
         least = least;
@@ -37,7 +37,7 @@ module _ (s : Scan) where
       }
 
   -- over ASCII
-  pub goes-ascii : (text : List ℕ) (low c : ℕ) (next rest : List ℕ) → s.ascii ≡ true → s.least ≤ low → low ≤ 255 → c < 128 → text ≡ encode_utf8 c ++ next → IsPast (λ d. d < 128) next rest → GoesOn s text low rest s.least
+  pub goes-ascii : (text : List ℕ) (low c : ℕ) (next rest : List ℕ) → s.ascii ≡ true → s.least ≤ low → low ≤ 255 → c < 128 → text ≡ encode_utf8 c ++ next → IsPast (λ d. d < 128) next rest → ScansOn s text low rest s.least
   goes-ascii text low c next rest on le top low_c parts past =
       let follows = ascii_follows s.least s.index.now s.steps.now s.form (omega arith) (s.ascii_stays on) in
       record {
@@ -51,7 +51,7 @@ module _ (s : Scan) where
 
   -- from `end`, behind which nothing begins a character of several bytes up to `at`
   pub goes-at : (text here : List ℕ) (end at low now behind : ℕ) → s.ascii ≡ true → low ≤ 255 → s.least ≤ low → end ≤ at → at ≤ length text → here ≡ drop at text → ((k : ℕ) → end ≤ k → k < at → get_or text k 0 < 192)
-      → s.least ≤ behind → (end < at → behind ≡ s.least) → (at ≤ end → behind ≡ now) → IsUtf8 here → GoesOn s text low (drop end text) now → GoesOn s text low here behind
+      → s.least ≤ behind → (end < at → behind ≡ s.least) → (at ≤ end → behind ≡ now) → IsUtf8 here → ScansOn s text low (drop end text) now → ScansOn s text low here behind
   goes-at text here end at low now behind on top some before within is none least ascii_is same_is utf8 goes =
       record {
         least = least;

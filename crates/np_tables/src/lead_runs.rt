@@ -3,7 +3,7 @@
 ghost use Rattle.std.specs.Prelude.{◌≡◌, ◌<◌, ◌≤◌, ℕ, length, map, slice_index, true, false, IfSome};
 ghost use lib.Lanes.{chunk, mask_l};
 ghost use Rattle.np_tables.specs.inside.LeadBytes.{BeginsWithChar, is_lead};
-ghost use Rattle.np_tables.specs.inside.Scans.{GoesOn, PassesCode};
+ghost use Rattle.np_tables.specs.inside.Scans.{ScansOn, PassesCode};
 
 use crate::scans::{Passed, Scan, Stretch};
 use crate::utf8_fronts::few_at;
@@ -80,7 +80,7 @@ impl<'t> Scan<'t> {
         requires low { self.now.least ≤ low }
         requires ascii { self.now.ascii ≡ true }
         requires long { 67 ≤ length text.now }
-        ensures goes_on { GoesOn self.now text.now low result.passed.rest.now result.passed.low }
+        ensures goes_on { ScansOn self.now text.now low result.passed.rest.now result.passed.low }
         ensures shorter { result.ended ≡ false → length result.passed.rest.now < length text.now }
     {
         let mut left = leads_in_step(text.as_bytes());
@@ -129,7 +129,7 @@ impl<'t> Scan<'t> {
     #[inline(always)]
     pub(crate) fn pass_leads<'a>(&self, low: u8, text: &'a str) -> Passed<'a>
         requires { self.now.least ≤ low }
-        ensures { GoesOn self.now text.now low result.rest.now result.low }
+        ensures { ScansOn self.now text.now low result.rest.now result.low }
     {
         let mut passed = Passed { low, rest: text };
         'steps: while self.ascii && passed.rest.len() >= WHOLE {

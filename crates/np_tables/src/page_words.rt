@@ -15,7 +15,7 @@ ghost use Rattle.np_tables.specs.inside.Pages.{AreWithin, word_place};
 ghost use Rattle.np_ucd.specs.Entries.{Entry};
 
 use crate::fulls::Fulls;
-use crate::page_bits::{is_row_apart, row_bits};
+use crate::page_bits::{Known, is_row_apart, row_bits};
 use crate::page_hints::are_leads_apart;
 use crate::row_places::row_in;
 use crate::version::Version;
@@ -94,10 +94,15 @@ pub(crate) fn row_words(
 {
     let count = version.characters().len();
     let leads_apart = are_leads_apart(version, seconds);
+    let known = Known {
+        version,
+        fulls,
+        seconds,
+    };
     let mut words = Vec::with_capacity(alloc, count + 1)?;
     words.push(NO_WORD)?;
     for at in 0..count {
-        let hints = row_bits(version, fulls, seconds, at, slots[at], leads_apart);
+        let hints = row_bits(&known, at, slots[at], leads_apart);
         words.push(word_of_row(version, at, slots[at], seconds[at], hints))?;
     }
     Ok(words)

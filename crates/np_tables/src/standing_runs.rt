@@ -11,7 +11,7 @@ ghost use Rattle.np_tables.specs.Boundaries.{BeginsAtBoundary};
 ghost use Rattle.np_tables.specs.inside.FullLists.{FullLists};
 ghost use Rattle.np_tables.specs.inside.PageWords.{AreFollowing, ArePages, IsPast, no_word};
 ghost use Rattle.np_tables.specs.inside.Pages.{word_place};
-ghost use Rattle.np_tables.specs.inside.Scans.{GoesOn};
+ghost use Rattle.np_tables.specs.inside.Scans.{ScansOn};
 
 use crate::ascii_runs::ascii_front;
 use crate::page_hints::parts_place;
@@ -58,7 +58,7 @@ impl<'t> Scan<'t> {
     #[inline(always)]
     fn pass_first<'a>(&self, low: u8, first: First<'a>) -> Option<Passed<'a>>
         requires { self.now.least ≤ low }
-        ensures goes_on { IfSome result (λ passed. (text : List ℕ) → IsUtf8 text → text ≡ encode_utf8 first.entry.c ++ first.entry.rest.now → GoesOn self.now text low passed.rest.now passed.low) }
+        ensures goes_on { IfSome result (λ passed. (text : List ℕ) → IsUtf8 text → text ≡ encode_utf8 first.entry.c ++ first.entry.rest.now → ScansOn self.now text low passed.rest.now passed.low) }
         ensures rest { IfSome result (λ passed. passed.rest.now ≡ first.entry.rest.now) }
     {
         let next = self.low_past(low, first.c)?;
@@ -73,7 +73,7 @@ impl<'t> Scan<'t> {
     #[inline(always)]
     fn pass_next<'a>(&self, low: u8, text: &'a str) -> Option<Passed<'a>>
         requires { self.now.least ≤ low }
-        ensures goes_on { IfSome result (λ passed. GoesOn self.now text.now low passed.rest.now passed.low) }
+        ensures goes_on { IfSome result (λ passed. ScansOn self.now text.now low passed.rest.now passed.low) }
         ensures shorter { IfSome result (λ passed. length passed.rest.now < length text.now) }
     {
         if let Some(first) = split_three(text) {
@@ -99,7 +99,7 @@ impl<'t> Scan<'t> {
     #[inline(always)]
     fn pass_few<'a>(&self, low: u8, text: &'a str) -> Stretch<'a>
         requires { self.now.least ≤ low }
-        ensures goes_on { GoesOn self.now text.now low result.passed.rest.now result.passed.low }
+        ensures goes_on { ScansOn self.now text.now low result.passed.rest.now result.passed.low }
         ensures shorter { result.ended ≡ false → length result.passed.rest.now < length text.now }
     {
         // it is some end of the text, so that one comparison tells that there is a next one too
@@ -125,7 +125,7 @@ impl<'t> Scan<'t> {
     #[inline(always)]
     fn pass_by_steps<'a>(&self, low: u8, text: &'a str) -> Passed<'a>
         requires { self.now.least ≤ low }
-        ensures { GoesOn self.now text.now low result.rest.now result.low }
+        ensures { ScansOn self.now text.now low result.rest.now result.low }
     {
         let mut passed = Passed { low, rest: text };
         'scan: loop {

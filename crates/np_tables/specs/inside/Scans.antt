@@ -9,7 +9,7 @@ abbrev pub PassesCode : Scan → ℕ → ℕ → ℕ → Type 0
 PassesCode s low c next = (last : ℕ) → last ≤ low → (n : ℕ) × ((n ≤ next) × FollowsByStep s.least s.index.now s.steps.now s.form last c n)
 
 -- behind a step of `low` a scan goes on from a text to what is left of it, behind which no less than `next` may follow
-pub record GoesOn (s : Scan) (text : List ℕ) (low : ℕ) (rest : List ℕ) (next : ℕ) : Type 0 where
+pub record ScansOn (s : Scan) (text : List ℕ) (low : ℕ) (rest : List ℕ) (next : ℕ) : Type 0 where
   pub least : s.least ≤ next
   pub walks : (v : VersionData) → WalksOn (Follows v s.least s.index.now s.steps.now s.form) text rest low next
   pub front : length rest ≤ length text

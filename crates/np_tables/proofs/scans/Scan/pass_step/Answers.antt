@@ -3,7 +3,7 @@ use Rattle.std.proofs.lemmas.List.{drop-drop, get_or-drop}
 use lib.Count.{count_trailing_zeros}
 use lib.Lanes.{chunk, mask_l}
 use Rattle.np_tables.specs.inside.LeadBytes.{is_lead}
-use Rattle.np_tables.specs.inside.Scans.{GoesOn}
+use Rattle.np_tables.specs.inside.Scans.{ScansOn}
 use Rattle.np_tables.proofs.LeadByteLemmas.{found_behind, found_first, found_gone, found_lead, found_within, none_left}
 use Rattle.np_tables.proofs.LeadRunLemmas.{boundary_at, inside_low}
 use Rattle.np_tables.proofs.ScanLemmas.{goes-at, goes-both, goes-past, goes-start}
@@ -93,7 +93,7 @@ leads-preserved c =
       within = omega (arith, begins.long, begins.some, c.range_from-here.ensures.len);
       goes_on =
           goes-both c.args.self.now text here (drop (at + count) text) c.args.low c.low_at-behind.result c.in-Some.lead.low to_here
-          (subst (λ l. GoesOn c.args.self.now here c.low_at-behind.result l c.in-Some.lead.low) past
+          (subst (λ l. ScansOn c.args.self.now here c.low_at-behind.result l c.in-Some.lead.low) past
           (goes-past c.args.self.now here c.low_at-behind.result passes.0 (drop count here) c.in-Some.lead.low c.range_from-here.utf8 c.in-Some.ensures.least passes.2 begins.parts));
       none = λ k ge lt.
           (let inside = inside_low here passes.0 count begins (k - at) (omega (arith, ge)) (omega (arith, ge, lt)) in
