@@ -1,27 +1,25 @@
 -- How far a scan comes by the steps of code points.
-use Rattle.std.proofs.Common.{◌≡◌, ℕ, ◌<◌, ◌≤◌, true, List, Option, ◌++◌, length, length-append, get_or, drop, encode_utf8, encode_utf8_all, ap, arith, inl, IsUtf8}
-use Rattle.std.proofs.lemmas.List.{length-drop}
+use Rattle.std.proofs.Common.{◌≡◌, ℕ, ◌<◌, ◌≤◌, true, List, Option, ◌++◌, length, length-append, encode_utf8, encode_utf8_all, ap, arith, inl, IsUtf8}
 use Rattle.std.proofs.lemmas.Str.{IsUtf8-past_char}
 use Rattle.np_tables.specs.Versions.{VersionData}
 use Rattle.np_tables.specs.declared.scans.Scan.{Scan}
 use Rattle.np_tables.specs.inside.PageWords.{Follows, IsPast}
 use Rattle.np_tables.specs.inside.Scans.{ScansOn, PassesCode}
-use Rattle.np_tables.proofs.LeadRunLemmas.{WalksOn-at}
-use Rattle.np_tables.proofs.StandingLemmas.{IsWalkedTo-next, IsWalkedTo-past, WalksOn-both, WalksOn-start, ascii_follows}
+use Rattle.np_tables.proofs.StandingLemmas.{IsWalkedTo-next, IsWalkedTo-past, ascii_follows}
 
 module _ (s : Scan) where
   abbrev Step : VersionData → Option ℕ → ℕ → ℕ → ℕ → Type 0
   Step v = Follows v s.least s.index.now s.steps.now s.form
 
   pub goes-start : (text : List ℕ) (low : ℕ) → s.least ≤ low → IsUtf8 text → ScansOn s text low text low
-  goes-start text low le utf8 = record { least = le; walks = λ v. WalksOn-start (Step v) text low; front = omega arith; utf8 = utf8 }
+  goes-start text low le utf8 = record { least = le; walks = λ v t last behind walked. (last, (behind, walked)); front = omega arith; utf8 = utf8 }
 
   -- what goes on from there goes on from here
   pub goes-both : (text here rest : List ℕ) (low middle next : ℕ) → ScansOn s text low here middle → ScansOn s here middle rest next → ScansOn s text low rest next
   goes-both text here rest low middle next one two =
       record {
         least = two.least;
-        walks = λ v. WalksOn-both (Step v) text here rest low middle next (one.walks v) (two.walks v);
+        walks = λ v t last behind walked. (let on = one.walks v t last behind walked in two.walks v t on.0 on.1.0 on.1.1);
         front = omega (arith, one.front, two.front);
         utf8 = two.utf8;
       }
@@ -47,15 +45,4 @@ module _ (s : Scan) where
             (0, (omega arith, IsWalkedTo-past (Step v) (λ d. d < 128) (λ before d lt. inl (follows 0 d lt)) t next rest first past)));
         front = omega (arith, ap length parts, length-append (encode_utf8 c) next, ap length past.split, length-append (encode_utf8_all past.front) rest);
         utf8 = past.utf8;
-      }
-
-  -- from `end`, behind which nothing begins a character of several bytes up to `at`
-  pub goes-at : (text here : List ℕ) (end at low now behind : ℕ) → s.ascii ≡ true → low ≤ 255 → s.least ≤ low → end ≤ at → at ≤ length text → here ≡ drop at text → ((k : ℕ) → end ≤ k → k < at → get_or text k 0 < 192)
-      → s.least ≤ behind → (end < at → behind ≡ s.least) → (at ≤ end → behind ≡ now) → IsUtf8 here → ScansOn s text low (drop end text) now → ScansOn s text low here behind
-  goes-at text here end at low now behind on top some before within is none least ascii_is same_is utf8 goes =
-      record {
-        least = least;
-        walks = λ v. WalksOn-at s.least s.index.now s.steps.now s.form (omega arith) (s.ascii_stays on) v text here end at low now behind before within goes.utf8 is none ascii_is same_is (goes.walks v);
-        front = omega (arith, ap length is, length-drop at text);
-        utf8 = utf8;
       }

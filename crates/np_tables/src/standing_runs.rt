@@ -6,12 +6,12 @@
 //! that canonical ordering puts behind it still go into the starter. One that may compose backward is not taken
 //! to follow a composite or a syllable, since it may go into a part of that (00E0 0323). What is copied ends
 //! before a boundary or with the text; where neither follows, what begins at the last boundary is made anew.
-ghost use Rattle.std.specs.Prelude.{◌≡◌, ◌++◌, ◌<◌, ◌≤◌, ℕ, chars, drop, encode_utf8, length, slice_index_or, false, IfSome, IsTrue, IsUtf8, List};
+ghost use Rattle.std.specs.Prelude.{◌≡◌, ◌<◌, ◌≤◌, ℕ, chars, drop, length, slice_index_or, false, IfSome, IsTrue};
 ghost use Rattle.np_tables.specs.Boundaries.{BeginsAtBoundary};
 ghost use Rattle.np_tables.specs.inside.FullLists.{FullLists};
 ghost use Rattle.np_tables.specs.inside.PageWords.{AreFollowing, ArePages, IsPast, no_word};
 ghost use Rattle.np_tables.specs.inside.Pages.{word_place};
-ghost use Rattle.np_tables.specs.inside.Scans.{ScansOn};
+ghost use Rattle.np_tables.specs.inside.Scans.{ScansOn, ScansPast};
 
 use crate::ascii_runs::ascii_front;
 use crate::page_hints::parts_place;
@@ -58,7 +58,7 @@ impl<'t> Scan<'t> {
     #[inline(always)]
     fn pass_first<'a>(&self, low: u8, first: First<'a>) -> Option<Passed<'a>>
         requires { self.now.least ≤ low }
-        ensures goes_on { IfSome result (λ passed. (text : List ℕ) → IsUtf8 text → text ≡ encode_utf8 first.entry.c ++ first.entry.rest.now → ScansOn self.now text low passed.rest.now passed.low) }
+        ensures goes_on { IfSome result (λ passed. ScansPast self.now low first.entry.c first.entry.rest.now passed.rest.now passed.low) }
         ensures rest { IfSome result (λ passed. passed.rest.now ≡ first.entry.rest.now) }
     {
         let next = self.low_past(low, first.c)?;
@@ -149,6 +149,7 @@ impl<'t> Scan<'t> {
 
     /// The code points at the front of a text that may follow one another as they are. Each has a step that is no
     /// less than the least, or goes into nothing behind the one before.
+    #[inline(always)]
     pub(crate) fn standing_front(&self, text: &str) -> Front
         requires { (lists : FullLists) × ArePages self.now.version.now lists self.now.index.now self.now.words.now }
         ensures following { AreFollowing self.now.version.now self.now.least self.now.index.now self.now.steps.now self.now.form text.now result.count }

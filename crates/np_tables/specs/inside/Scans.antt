@@ -1,5 +1,5 @@
 -- How far a scan comes by the steps of code points.
-use Rattle.std.specs.Prelude.{ℕ, ◌≤◌, List, length, IsUtf8}
+use Rattle.std.specs.Prelude.{◌≡◌, ℕ, ◌≤◌, List, ◌++◌, length, encode_utf8, IsUtf8}
 use Rattle.np_tables.specs.Versions.{VersionData}
 use Rattle.np_tables.specs.declared.scans.Scan.{Scan}
 use Rattle.np_tables.specs.inside.PageWords.{Follows, FollowsByStep, WalksOn}
@@ -14,3 +14,7 @@ pub record ScansOn (s : Scan) (text : List ℕ) (low : ℕ) (rest : List ℕ) (n
   pub walks : (v : VersionData) → WalksOn (Follows v s.least s.index.now s.steps.now s.form) text rest low next
   pub front : length rest ≤ length text
   pub utf8 : IsUtf8 rest
+
+-- so it goes on from each text that is the character c and what is behind it
+abbrev pub ScansPast : Scan → ℕ → ℕ → List ℕ → List ℕ → ℕ → Type 0
+ScansPast s low c behind rest next = (text : List ℕ) → IsUtf8 text → text ≡ encode_utf8 c ++ behind → ScansOn s text low rest next

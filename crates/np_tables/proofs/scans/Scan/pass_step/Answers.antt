@@ -5,8 +5,8 @@ use lib.Lanes.{chunk, mask_l}
 use Rattle.np_tables.specs.inside.LeadBytes.{is_lead}
 use Rattle.np_tables.specs.inside.Scans.{ScansOn}
 use Rattle.np_tables.proofs.LeadByteLemmas.{found_behind, found_first, found_gone, found_lead, found_within, none_left}
-use Rattle.np_tables.proofs.LeadRunLemmas.{boundary_at, inside_low}
-use Rattle.np_tables.proofs.ScanLemmas.{goes-at, goes-both, goes-past, goes-start}
+use Rattle.np_tables.proofs.LeadRunLemmas.{boundary_at, goes-at, inside_low}
+use Rattle.np_tables.proofs.ScanLemmas.{goes-both, goes-past, goes-start}
 use Rattle.np_tables.proofs.scans.Scan.pass_step.Goals as goal
 
 pub returns-then-left-gt-MANY-clause-goes_on : goal.returns-then-left-gt-MANY-clause-goes_on
@@ -61,7 +61,7 @@ returns-in_default-clause-goes_on c =
     let skip = count_trailing_zeros 64 left in
     let long : 64 ≤ length text = omega (arith, c.requires.long) in
     let inv = c.leads.invariant in
-    goes-at c.args.self.now text c.range_from-here.result.now c.leads.end (from + skip) c.args.low c.leads.now c.low_at-behind.result c.requires.ascii (omega arith) c.requires.low
+    goes-at c.args.self.now c.requires.ascii (omega arith) text c.range_from-here.result.now c.leads.end (from + skip) c.args.low c.leads.now c.low_at-behind.result
     (found_behind text from left skip long inv.inside inv.bits c.leads-test.true refl c.leads.end inv.none)
     (omega (arith, c.requires.long, found_within text from left skip long inv.inside inv.bits c.leads-test.true refl)) c.range_from-here.ensures.value
     (λ k ge lt. found_first text from left skip long inv.inside inv.bits c.leads-test.true refl k (omega (arith, ge, inv.behind)) lt)
@@ -83,7 +83,7 @@ leads-preserved c =
     let begins = passes.1 in
     let past : drop count here ≡ drop (at + count) text = ap (drop count) c.range_from-here.ensures.value ∙ drop-drop count at text in
     let to_here =
-    goes-at c.args.self.now text here c.leads.end at c.args.low c.leads.now c.low_at-behind.result c.requires.ascii (omega arith) c.requires.low
+    goes-at c.args.self.now c.requires.ascii (omega arith) text here c.leads.end at c.args.low c.leads.now c.low_at-behind.result
     (found_behind text from left skip long inv.inside inv.bits c.leads-test.true refl c.leads.end inv.none) (omega (arith, c.requires.long, within)) c.range_from-here.ensures.value
     (λ k ge lt. found_first text from left skip long inv.inside inv.bits c.leads-test.true refl k (omega (arith, ge, inv.behind)) lt)
     c.low_at-behind.ensures.least c.low_at-behind.ensures.ascii c.low_at-behind.ensures.same c.range_from-here.utf8 inv.goes_on in
@@ -114,7 +114,7 @@ pub returns-clause-goes_on : goal.returns-clause-goes_on
 returns-clause-goes_on c =
     let text = c.args.text.now in
     let inv = c.leads.invariant in
-    goes-at c.args.self.now text c.range_from.result.now c.leads.end c.max-stop.result c.args.low c.leads.now c.low_at.result c.requires.ascii (omega arith) c.requires.low
+    goes-at c.args.self.now c.requires.ascii (omega arith) text c.range_from.result.now c.leads.end c.max-stop.result c.args.low c.leads.now c.low_at.result
     (omega (arith, c.max-stop.ensures)) (omega (arith, c.max-stop.ensures, inv.within, c.requires.long)) c.range_from.ensures.value
     (λ k ge lt. none_left text c.leads.from c.leads.left 0 (omega (arith, c.requires.long)) inv.inside inv.bits c.leads-test.false k (omega (arith, ge, inv.behind)) (omega (arith, lt, ge, c.max-stop.ensures)))
     c.low_at.ensures.least c.low_at.ensures.ascii c.low_at.ensures.same c.range_from.utf8 inv.goes_on
