@@ -66,28 +66,36 @@ pub(crate) fn split_three(text: &str) -> Option<First<'_>>
     Some(First { c, rest })
 }
 
+/// The code of a character, and how many bytes it has.
+#[derive(Clone, Copy)]
+struct Code {
+    code: u32,
+    count: usize,
+}
+
 /// The code of a character of two or three bytes, by its first byte and six bits of each of the two that follow.
-/// Both are made, and no jump is taken by which it is.
+/// Both are made, so that little is left to do where it is known which it is.
 #[inline(always)]
-fn code_of_few(lead: u32, second: u32, third: u32) -> u32
+fn code_of_few(lead: u32, second: u32, third: u32) -> Code
     requires lead { lead < 240 }
     requires second { second < 64 }
     requires third { third < 64 }
-    ensures two { lead < 224 → result ≡ lead % 32 * 64 + second }
-    ensures three { 224 ≤ lead → result ≡ lead % 16 * 4096 + second * 64 + third }
+    ensures two { lead < 224 → (result.code ≡ lead % 32 * 64 + second) × (result.count ≡ 2) }
+    ensures three { 224 ≤ lead → (result.code ≡ lead % 16 * 4096 + second * 64 + third) × (result.count ≡ 3) }
 {
     let two = lead % 32 * 64 + second;
     let three = lead % 16 * 4096 + second * 64 + third;
-    if lead < 0xE0 { two } else { three }
-}
-
-/// How many bytes a character of two or three has, by its first byte.
-#[inline(always)]
-fn count_of_few(lead: u32) -> usize
-    ensures two { lead < 224 → result ≡ 2 }
-    ensures three { 224 ≤ lead → result ≡ 3 }
-{
-    if lead < 0xE0 { 2 } else { 3 }
+    if lead < 0xE0 {
+        Code {
+            code: two,
+            count: 2,
+        }
+    } else {
+        Code {
+            code: three,
+            count: 3,
+        }
+    }
 }
 
 /// The first character of a text, where it has two or three bytes.
@@ -102,8 +110,10 @@ pub(crate) fn few_at(text: &str) -> Few
     let lead = u32::from(bytes[0]);
     let second = u32::from(bytes[1] % 64);
     let third = u32::from(bytes[2] % 64);
-    let code = code_of_few(lead, second, third);
-    let count = count_of_few(lead);
-    let c = unsafe { char::from_u32_unchecked(code) };
-    Few { c, count }
+    let read = code_of_few(lead, second, third);
+    let c = unsafe { char::from_u32_unchecked(read.code) };
+    Few {
+        c,
+        count: read.count,
+    }
 }
