@@ -2,7 +2,7 @@
 //!
 //! It is read in three ways, since what costs time is a jump that the processor guesses wrong. `split_two` and
 //! `split_three` ask one comparison whether it has so many bytes, which is guessed well where most have as many.
-//! `few_at` takes two bytes or three, and no jump by which, for texts where both are mixed. `split_any` takes all.
+//! `few_at` is told that a character of two bytes or three begins, and asks only which. `split_any` takes all.
 ghost use Rattle.std.specs.Prelude.{◌≡◌, ◌+◌, ◌*◌, ◌%◌, ◌++◌, ◌<◌, ◌≤◌, length, encode_utf8, slice_index, IfSome};
 ghost use Rattle.np_tables.specs.inside.LeadBytes.{BeginsWithChar};
 
@@ -74,7 +74,7 @@ struct Code {
 }
 
 /// The code of a character of two or three bytes, by its first byte and six bits of each of the two that follow.
-/// Both are made, so that little is left to do where it is known which it is.
+/// Both are made and one is chosen, so that a compiler needs no jump for it.
 #[inline(always)]
 fn code_of_few(lead: u32, second: u32, third: u32) -> Code
     requires lead { lead < 240 }
