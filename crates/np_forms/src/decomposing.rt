@@ -35,13 +35,7 @@ pub(crate) fn single_of<T: NormTable>(table: &T, compat: bool, c: char) -> Optio
 {
     match lent(table, c, compat) {
         [single] => Some(*single),
-        [] => {
-            if is_syllable(c as u32) {
-                None
-            } else {
-                Some(c)
-            }
-        }
+        [] => { if is_syllable(c as u32) { None } else { Some(c) } }
         [..] => None,
     }
 }
