@@ -8,7 +8,6 @@ pub mod ComposerLemmas
 pub mod CopyLemmas
 pub mod CutLemmas
 pub mod DecomposedLemmas
-pub mod ExchangedLemmas
 pub mod FormLemmas
 pub mod FrontLemmas
 pub mod HeldLemmas
@@ -28,6 +27,7 @@ pub mod RunLemmas
 pub mod RunTextLemmas
 pub mod RunningLemmas
 pub mod SegmentLemmas
+pub mod ShortLemmas
 pub mod SlideLemmas
 pub mod SortLemmas
 pub mod SpelledLemmas

@@ -5,10 +5,9 @@
 //!
 //! 1. A table spells its one code point, and a boundary follows: those bytes are written (`fronts.rt`).
 //! 2. Syllables, precomposed or as jamo, are made by arithmetic (`syllable_texts.rt`).
-//! 3. A starter and two non-starters in the wrong order are exchanged (`exchanged_texts.rt`).
-//! 4. A segment that composes to one code point is composed as it is decomposed (`composed_texts.rt`).
-//! 5. A segment that the form leaves as it is, though its code points might compose, is copied (`plain_texts.rt`).
-//! 6. Any other is decomposed into a list, sorted and composed.
+//! 3. A starter and one or two code points behind it, each of which decomposes to a single one, are put in order
+//!    by one comparison and composed by at most two look-ups (`segments.rt`).
+//! 4. Any other is decomposed into a list, sorted and composed.
 //!
 //! What is written goes into bytes of a fixed length, made before and grown by doubling: std's `String` calls
 //! `memmove` for each run, and a function for each character beyond ASCII.

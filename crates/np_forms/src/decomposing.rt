@@ -1,5 +1,5 @@
 //! Full decompositions (The Unicode Standard, D68 and D65), each code point beside its class.
-ghost use Rattle.std.specs.Prelude.{◌≡◌, ◌<◌, ◌++◌, ◌∷◌, [], length, true, chars, flat_map, IfOk, OnOk};
+ghost use Rattle.std.specs.Prelude.{◌≡◌, ◌<◌, ◌++◌, ◌∷◌, [], length, true, chars, flat_map, IfOk, IfSome, OnOk};
 ghost use Rattle.np_code_points.specs.Hangul.{is_syllable as in_block};
 ghost use Rattle.np_forms.specs.inside.Classes.{with_classes};
 ghost use Rattle.np_tables.specs.Boundaries.{BeginsAtBoundary};
@@ -25,6 +25,19 @@ pub(crate) fn is_own<T: NormTable>(table: &T, compat: bool, c: char) -> bool
         return false;
     }
     lent(table, c, compat).is_empty()
+}
+
+/// The full decomposition of a code point, where that is a single one; none of a syllable.
+#[inline(always)]
+pub(crate) fn single_of<T: NormTable>(table: &T, compat: bool, c: char) -> Option<char>
+    requires { IsSound (T.model table.now) }
+    ensures { IfSome result (λ d. full_of (T.model table.now) compat c ≡ d ∷ []) }
+{
+    match lent(table, c, compat) {
+        [single] => Some(*single),
+        [] => { if is_syllable(c as u32) { None } else { Some(c) } }
+        [..] => None,
+    }
 }
 
 /// Appends the full decomposition of a syllable by arithmetic.

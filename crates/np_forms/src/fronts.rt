@@ -6,12 +6,11 @@ ghost use Rattle.np_forms.specs.inside.Readings.{IsReadAssigned};
 ghost use Rattle.np_forms.specs.inside.Segments.{IsFirstSpelled};
 
 use crate::classes::Classed;
-use crate::composed_texts::{is_first_all_of, write_first};
 use crate::copying::{begins_at_boundary, split_standing, write_next};
-use crate::exchanged_texts::write_exchanged;
 use crate::out_texts::OutText;
+use crate::segments::write_short;
 use crate::spelled_texts::{goes_on_as_word, write_spelled};
-use crate::syllable_texts::{begins_as_jamo, join_syllables, write_syllables};
+use crate::syllable_texts::{begins_as_jamo, join_syllables, part_syllables};
 use np_code_points::{Form, Memory};
 use np_tables::NormTable;
 use std::alloc::Global;
@@ -46,15 +45,13 @@ fn split_spelled<'t, 'a, T: NormTable>(
 }
 
 /// Appends the form of the syllables at the front of a text, or of those that jamo spell there, or else of
-/// its first segment, of which so many bytes stand as they are if a boundary follows them. Answers what
-/// follows the code points that are known to be assigned by that, and what follows all. The list is room
-/// that is used again.
+/// its first segment. Answers what follows the code points that are known to be assigned by that, and what
+/// follows all. The list is room that is used again.
 fn write_changed<'a, T: NormTable>(
     alloc: Global,
     table: &T,
     form: Form,
     text: &'a str,
-    stood: usize,
     list: &mut Vec<Classed>,
     out: &mut OutText,
 ) -> Result<(&'a str, &'a str), Memory>
@@ -66,23 +63,15 @@ fn write_changed<'a, T: NormTable>(
     let after = if form.composes() {
         join_syllables(table, form, text, out)?
     } else {
-        write_syllables(table, form, text, out)?
+        part_syllables(table, form, text, out)?
     };
     if after.len() < text.len() {
         return Ok((after, after));
     }
-    let single = is_first_all_of(after, stood);
-    if !single {
-        // a second one stands, and mostly the third is out of order
-        if let Some(later) = write_exchanged(table, form, after, out)? {
-            return Ok((after, later));
-        }
+    if let Some(later) = write_short(table, form, after, out)? {
+        return Ok((after, later));
     }
-    let later = if form.composes() {
-        write_first(alloc, table, form, after, single, list, out)?
-    } else {
-        write_next(alloc, table, form, after, list, out)?
-    };
+    let later = write_next(alloc, table, form, after, list, out)?;
     Ok((after, later))
 }
 
@@ -133,6 +122,6 @@ pub(crate) fn write_front<'a, T: NormTable>(
     if behind.is_empty() {
         return Ok((behind, behind));
     }
-    let (after, later) = write_changed(alloc, table, form, behind, stood, list, out)?;
+    let (after, later) = write_changed(alloc, table, form, behind, list, out)?;
     Ok((after, later))
 }

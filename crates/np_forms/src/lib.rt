@@ -15,12 +15,10 @@
 
 mod assigned;
 mod classes;
-mod composed_texts;
 mod composing;
 mod copying;
 mod decomposing;
 mod equivalence;
-mod exchanged_texts;
 mod forms;
 mod fronts;
 mod held;
@@ -30,9 +28,9 @@ mod lookups;
 mod ordering;
 mod out_texts;
 mod pieces;
-mod plain_texts;
 mod quick_check;
 mod runs;
+mod segments;
 mod spelled_texts;
 mod stabilized;
 mod stream_safety;

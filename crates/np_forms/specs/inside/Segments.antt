@@ -1,9 +1,8 @@
--- Segments that are composed code point by code point.
-use Rattle.std.specs.Prelude.{◌≡◌, ℕ, ◌<◌, ◌≤◌, ◌⊎◌, ⊤, true, List, [], ◌∷◌, ◌++◌, Option, Some, length, slice_index, take, chars, flat_map, encode_utf8_all, IsUtf8}
+-- Segments whose forms are made code point by code point.
+use Rattle.std.specs.Prelude.{◌≡◌, ℕ, ◌<◌, ◌≤◌, ◌⊎◌, ⊤, true, List, [], ◌∷◌, ◌++◌, Option, length, take, chars, flat_map, encode_utf8_all, IsUtf8}
 use Rattle.np_code_points.specs.Forms.{is_compat}
 use Rattle.np_code_points.specs.declared.forms.Form.{Form}
-use Rattle.np_forms.specs.declared.composed_texts.Folded.{Folded}
-use Rattle.np_forms.specs.declared.plain_texts.Plain.{Plain}
+use Rattle.np_forms.specs.declared.segments.Marked.{Marked}
 use Rattle.np_forms.specs.Order.{is_ordered}
 use Rattle.np_forms.specs.inside.Classes.{CodeAndClass, with_classes}
 use Rattle.np_forms.specs.inside.Composers.{IsComposing}
@@ -24,15 +23,11 @@ pub record IsComposedOf (v : VersionData) (done list : List ℕ) (starter : Opti
   pub rises : (later : List ℕ) → Rises (class_of v) read later → Rises (class_of v) 0 (done ++ later)
   pub composing : (rest : List ℕ) → is_ordered (class_of v) (done ++ rest) ≡ true → IsComposing v (done ++ rest) list starter kept rest
 
--- the same, where they compose to a single code point, which is a starter
-abbrev pub IsFoldedOf : VersionData → List ℕ → Folded → Type 0
-IsFoldedOf v done f = IsComposedOf v done (f.code ∷ []) (Some 0) 0 f.read
-
--- a front of a text was read, and `list` is what its full decomposition composes to
-pub record IsReadUpTo (v : VersionData) (form : Form) (text rest list : List ℕ) (starter : Option ℕ) (kept read : ℕ) : Type 0 where
+-- a front of a text was read, and `full` is its full decomposition
+pub record IsFullUpTo (v : VersionData) (form : Form) (text rest full : List ℕ) : Type 0 where
   pub front : List ℕ
   pub reads : IsRead text rest front
-  pub composed : IsComposedOf v (flat_map (full_of v (is_compat form)) front) list starter kept read
+  pub is : flat_map (full_of v (is_compat form)) front ≡ full
 
 -- a front of a text was read, and `list` is its full decomposition, each code point beside its class
 pub record IsDecomposedUpTo (v : VersionData) (form : Form) (text rest : List ℕ) (list : List CodeAndClass) : Type 0 where
@@ -53,17 +48,12 @@ pub record IsFirstSpelled (v : VersionData) (form : Form) (text rest bytes : Lis
   pub utf8 : IsUtf8 (take count bytes)
   pub is : take count bytes ≡ encode_utf8_all list
 
--- the code points `front` compose to themselves: behind the last starter, which stands at `place`, the last one has the class
--- `last`, 0 where none stands there
-pub record IsPlainOf (v : VersionData) (front : List ℕ) (p : Plain) : Type 0 where
-  pub place : ℕ
-  pub inside : place < length front
-  pub starter : slice_index front place ≡ p.starter
-  pub composed : IsComposedOf v front front (Some place) p.last p.last
+-- a starter and two non-starters, of which the second has no lower class than the first
+pub record IsMarked (v : VersionData) (m : Marked) : Type 0 where
+  pub starter : class_of v m.starter ≡ 0
+  pub some : 0 < class_of v m.first
+  pub rises : class_of v m.first ≤ class_of v m.second
 
--- a front of a text was read, each code point of which is its own full decomposition
-pub record IsPlainUpTo (v : VersionData) (form : Form) (text rest : List ℕ) (p : Plain) : Type 0 where
-  pub front : List ℕ
-  pub reads : IsRead text rest front
-  pub full : flat_map (full_of v (is_compat form)) front ≡ front
-  pub plain : IsPlainOf v front p
+-- the three
+abbrev pub listed : Marked → List ℕ
+listed m = m.starter ∷ m.first ∷ m.second ∷ []

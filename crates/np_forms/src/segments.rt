@@ -1,0 +1,191 @@
+//! Segments of two or three code points, each of which decomposes to a single one: a starter, and one or two behind
+//! it. Their form is made without a list, by one comparison of classes and at most two look-ups of a composite.
+ghost use Rattle.std.specs.Prelude.{◌≡◌, ◌<◌, ◌++◌, ◌∷◌, [], Some, None, length, true, chars, encode_utf8_all, IfNone, IfOk, IfSome, OnOk};
+ghost use Rattle.np_code_points.specs.Forms.{composes};
+ghost use Rattle.np_forms.specs.inside.CanonicalOrder.{canonical_order};
+ghost use Rattle.np_forms.specs.inside.Copies.{GoesOn};
+ghost use Rattle.np_forms.specs.inside.NormalForms.{ended};
+ghost use Rattle.np_forms.specs.inside.Segments.{IsFullUpTo, IsMarked, listed};
+ghost use Rattle.np_tables.specs.Conditions.{IsSound};
+ghost use Rattle.np_tables.specs.Versions.{class_of};
+ghost use Rattle.np_tables.specs.inside.CompositeSearch.{composite};
+
+use crate::copying::begins_at_boundary;
+use crate::decomposing::single_of;
+use crate::lookups::composite_of;
+use crate::out_texts::OutText;
+use np_code_points::{Form, Memory};
+use np_tables::NormTable;
+
+/// A starter and two non-starters behind it, in canonical order.
+#[derive(Clone, Copy)]
+struct Marked {
+    starter: char,
+    first: char,
+    second: char,
+}
+
+/// The composite of a starter and another code point, where the form composes.
+#[inline(always)]
+fn joined<T: NormTable>(table: &T, form: Form, starter: char, c: char) -> Option<char>
+    ensures some { IfSome result (λ p. (composes form ≡ true) × (composite (T.model table.now) starter c ≡ Some p)) }
+    ensures none { IfNone result (composes form ≡ true → composite (T.model table.now) starter c ≡ None) }
+{
+    if form.composes() {
+        composite_of(table, starter, c)
+    } else {
+        None
+    }
+}
+
+/// Appends the form of a starter and another code point.
+#[inline(always)]
+fn write_pair<T: NormTable>(
+    table: &T,
+    form: Form,
+    starter: char,
+    second: char,
+    out: &mut OutText,
+) -> Result<(), Memory>
+    requires { class_of (T.model table.now) starter ≡ 0 }
+    ensures { OnOk result (out.new ≡ out.old ++ encode_utf8_all (ended (T.model table.now) (composes form) (starter ∷ second ∷ []))) }
+{
+    match joined(table, form, starter, second) {
+        Some(p) => out.append_char(p),
+        None => {
+            out.append_char(starter)?;
+            out.append_char(second)
+        }
+    }
+}
+
+/// The composite of a starter and the second of two non-starters. A code point is blocked from the last starter where
+/// one between them has at least its class (The Unicode Standard, D115); so one of equal class blocks it.
+#[inline(always)]
+fn joined_past<T: NormTable>(table: &T, form: Form, marked: Marked) -> Option<char>
+    ensures some { IfSome result (λ p. (composes form ≡ true) × ((class_of (T.model table.now) marked.first < class_of (T.model table.now) marked.second) × (composite (T.model table.now) marked.starter marked.second ≡ Some p))) }
+    ensures none { IfNone result (composes form ≡ true → class_of (T.model table.now) marked.first < class_of (T.model table.now) marked.second → composite (T.model table.now) marked.starter marked.second ≡ None) }
+{
+    if table.class(marked.first) < table.class(marked.second) {
+        joined(table, form, marked.starter, marked.second)
+    } else {
+        None
+    }
+}
+
+/// Appends the form of a starter and two non-starters.
+#[inline(always)]
+fn write_marked<T: NormTable>(
+    table: &T,
+    form: Form,
+    marked: Marked,
+    out: &mut OutText,
+) -> Result<(), Memory>
+    requires { IsMarked (T.model table.now) marked }
+    ensures { OnOk result (out.new ≡ out.old ++ encode_utf8_all (ended (T.model table.now) (composes form) (listed marked))) }
+{
+    table.meets_conditions();
+    if let Some(p) = joined(table, form, marked.starter, marked.first) {
+        return write_pair(table, form, p, marked.second, out);
+    }
+    if let Some(p) = joined_past(table, form, marked) {
+        out.append_char(p)?;
+        return out.append_char(marked.first);
+    }
+    out.append_char(marked.starter)?;
+    out.append_char(marked.first)?;
+    out.append_char(marked.second)
+}
+
+/// A starter and two non-starters, put in canonical order; none where one of the two is a starter.
+#[inline(always)]
+fn in_order<T: NormTable>(table: &T, starter: char, second: char, third: char) -> Option<Marked>
+    requires { class_of (T.model table.now) starter ≡ 0 }
+    ensures order { IfSome result (λ m. canonical_order (class_of (T.model table.now)) (starter ∷ second ∷ third ∷ []) ≡ listed m) }
+    ensures marked { IfSome result (IsMarked (T.model table.now)) }
+{
+    let class = table.class(second);
+    let later = table.class(third);
+    if class == 0 || later == 0 {
+        return None;
+    }
+    if later < class {
+        Some(Marked {
+            starter,
+            first: third,
+            second,
+        })
+    } else {
+        Some(Marked {
+            starter,
+            first: second,
+            second: third,
+        })
+    }
+}
+
+/// The single code point to which the first one of a text decomposes, and what follows that.
+#[inline(always)]
+fn split_single<'a, T: NormTable>(table: &T, form: Form, text: &'a str) -> Option<(char, &'a str)>
+    requires { IsSound (T.model table.now) }
+    ensures full { IfSome result (λ cut. IsFullUpTo (T.model table.now) form text.now cut.1.now (cut.0 ∷ [])) }
+    ensures shorter { IfSome result (λ cut. length cut.1.now < length text.now) }
+{
+    let mut iter = text.chars();
+    let c = iter.next()?;
+    let single = single_of(table, form.compat(), c)?;
+    Some((single, iter.as_str()))
+}
+
+/// The full decomposition of the first two code points of a text, where that is a starter and one more, and what
+/// follows the two.
+#[inline(always)]
+fn split_two<'a, T: NormTable>(
+    table: &T,
+    form: Form,
+    text: &'a str,
+) -> Option<(char, char, &'a str)>
+    requires { IsSound (T.model table.now) }
+    ensures full { IfSome result (λ cut. IsFullUpTo (T.model table.now) form text.now cut.2.now (cut.0 ∷ cut.1 ∷ [])) }
+    ensures starter { IfSome result (λ cut. class_of (T.model table.now) cut.0 ≡ 0) }
+    ensures shorter { IfSome result (λ cut. length cut.2.now < length text.now) }
+{
+    let (starter, one) = split_single(table, form, text)?;
+    if table.class(starter) != 0 {
+        return None;
+    }
+    let (second, two) = split_single(table, form, one)?;
+    Some((starter, second, two))
+}
+
+/// Appends the form of the first segment of a text, where that is found to be such a one, and answers what follows it.
+pub(crate) fn write_short<'a, T: NormTable>(
+    table: &T,
+    form: Form,
+    text: &'a str,
+    out: &mut OutText,
+) -> Result<Option<&'a str>, Memory>
+    ensures goes { IfOk result (λ found. IfSome found (λ rest. GoesOn (T.model table.now) form text.now rest.now out.old out.new)) }
+    ensures none { IfOk result (λ found. IfNone found (out.new ≡ out.old)) }
+    ensures shorter { IfOk result (λ found. IfSome found (λ rest. length rest.now < length text.now)) }
+{
+    table.meets_conditions();
+    let Some((starter, second, two)) = split_two(table, form, text) else {
+        return Ok(None);
+    };
+    if begins_at_boundary(table, form, two) {
+        write_pair(table, form, starter, second, out)?;
+        return Ok(Some(two));
+    }
+    let Some((third, three)) = split_single(table, form, two) else {
+        return Ok(None);
+    };
+    if !begins_at_boundary(table, form, three) {
+        return Ok(None);
+    }
+    let Some(marked) = in_order(table, starter, second, third) else {
+        return Ok(None);
+    };
+    write_marked(table, form, marked, out)?;
+    Ok(Some(three))
+}
