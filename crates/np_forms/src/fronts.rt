@@ -10,7 +10,7 @@ use crate::copying::{begins_at_boundary, split_standing, write_next};
 use crate::out_texts::OutText;
 use crate::segments::write_short;
 use crate::spelled_texts::{goes_on_as_word, write_spelled};
-use crate::syllable_texts::{begins_as_jamo, join_syllables, part_syllables};
+use crate::syllable_texts::{begins_as_jamo, join_syllables, write_syllables};
 use np_code_points::{Form, Memory};
 use np_tables::NormTable;
 use std::alloc::Global;
@@ -63,7 +63,7 @@ fn write_changed<'a, T: NormTable>(
     let after = if form.composes() {
         join_syllables(table, form, text, out)?
     } else {
-        part_syllables(table, form, text, out)?
+        write_syllables(table, form, text, out)?
     };
     if after.len() < text.len() {
         return Ok((after, after));

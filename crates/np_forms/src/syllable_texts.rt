@@ -224,10 +224,8 @@ fn write_space<'a, T: NormTable>(
 }
 
 /// Appends the full decompositions of the syllables at the front of a text, of which single ASCII
-/// characters may stand between two, where the arithmetic is on, and answers what follows them. It is called,
-/// so that the loop has the registers for itself.
-#[inline(never)]
-fn write_syllables<'a, T: NormTable>(
+/// characters may stand between two, where the arithmetic is on, and answers what follows them.
+pub(crate) fn write_syllables<'a, T: NormTable>(
     table: &T,
     form: Form,
     text: &'a str,
@@ -260,25 +258,6 @@ fn write_syllables<'a, T: NormTable>(
         syllable = next;
         later = behind;
     }
-}
-
-/// Appends the full decompositions of the precomposed syllables at the front of a text, and answers what
-/// follows them. It is made part of what calls it, so that any other text costs one comparison.
-#[inline(always)]
-pub(crate) fn part_syllables<'a, T: NormTable>(
-    table: &T,
-    form: Form,
-    text: &'a str,
-    out: &mut OutText,
-) -> Result<&'a str, Memory>
-    requires { composes form ≡ false }
-    ensures goes { IfOk result (λ rest. GoesOn (T.model table.now) form text.now rest.now out.old out.new) }
-    ensures read { IfOk result (λ rest. IsReadAssigned (T.model table.now) text.now rest.now) }
-{
-    if begins_as_syllable(text) {
-        return write_syllables(table, form, text, out);
-    }
-    Ok(text)
 }
 
 /// Whether the form is known to part before a text, of which it is told where it begins with an ASCII
