@@ -1,6 +1,6 @@
 //! The primary composites of a data file, by the pairs that they compose.
-ghost use Rattle.std.specs.Prelude.{◌≡◌, ◌↔◌, ℕ, ◌≤◌, ◌<◌, true, length, vec_len, flat_map, option_to_list, slice_get, IfOk, IfSome, IfNone, IsTrue, Some};
-ghost use Rattle.std.specs.List.{All, AllWithin};
+ghost use Rattle.std.specs.Prelude.{◌≡◌, ◌↔◌, ℕ, ◌<◌, true, length, vec_len, flat_map, option_to_list, slice_get, IfOk, IfSome, IfNone, IsTrue, Some};
+ghost use Rattle.std.specs.List.{All};
 ghost use Rattle.std.specs.List.Sorted.{IsPermutation};
 ghost use Rattle.np_ucd.specs.Entries.{IsRow};
 ghost use Rattle.np_ucd.specs.RowValues.{entry_of};

@@ -6,7 +6,7 @@
 //! that canonical ordering puts behind it still go into the starter. One that may compose backward is not taken
 //! to follow a composite or a syllable, since it may go into a part of that (00E0 0323). What is copied ends
 //! before a boundary or with the text; where neither follows, what begins at the last boundary is made anew.
-ghost use Rattle.std.specs.Prelude.{◌≡◌, ◌<◌, ◌≤◌, ℕ, chars, drop, length, slice_index_or, false, IfSome, IsTrue};
+ghost use Rattle.std.specs.Prelude.{◌≡◌, ◌<◌, ◌≤◌, chars, drop, length, slice_index_or, false, IfSome, IsTrue};
 ghost use Rattle.np_tables.specs.Boundaries.{BeginsAtBoundary};
 ghost use Rattle.np_tables.specs.inside.FullLists.{FullLists};
 ghost use Rattle.np_tables.specs.inside.PageWords.{AreFollowing, ArePages, IsPast, no_word};
