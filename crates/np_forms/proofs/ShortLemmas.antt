@@ -41,10 +41,10 @@ module _ (v : VersionData) (s : ℕ) (starter : class_of v s ≡ 0) where
       compose-starter ccc join s (a ∷ []) (omega (arith, starter)) ∙ compose_after-joined ccc join s [] a p [] (joined-free ccc join s [] a refl ∙ found) ∙ compose_after-nil ccc join p []
   pair-joined false a p on found = cc
 
-  pub pair-apart : (form : Bool) (a : ℕ) → (form ≡ true → composite v s a ≡ None) → ended v form (s ∷ a ∷ []) ≡ s ∷ a ∷ []
+  pub pair-kept : (form : Bool) (a : ℕ) → (form ≡ true → composite v s a ≡ None) → ended v form (s ∷ a ∷ []) ≡ s ∷ a ∷ []
   unfolding compose_of
-  pair-apart false a none = refl
-  pair-apart true a none =
+  pair-kept false a none = refl
+  pair-kept true a none =
       let apart = joined-none ccc join s [] a (none refl) in
       compose-starter ccc join s (a ∷ []) (omega (arith, starter))
       ∙ elim (cases_lt 0 (ccc a)) [
@@ -71,20 +71,20 @@ module _ (v : VersionData) (s : ℕ) (starter : class_of v s ≡ 0) where
     second-joined false p on none up found = cc
 
     -- the second is blocked, or has no composite
-    second-apart : (ccc a < ccc b → composite v s b ≡ None) → joined ccc join s (a ∷ []) b ≡ None
-    second-apart none =
+    second-kept : (ccc a < ccc b → composite v s b ≡ None) → joined ccc join s (a ∷ []) b ≡ None
+    second-kept none =
         elim (cases_lt (ccc a) (ccc b)) [
           | inl up ↦ joined-none ccc join s (a ∷ []) b (none up)
           | inr low ↦ joined-blocked ccc join s (a ∷ []) b (and_left _ _ (not_reorderable_rising ccc b a low))
         ]
 
     -- none goes in
-    pub both-apart : (form : Bool) → (form ≡ true → composite v s a ≡ None) → (form ≡ true → ccc a < ccc b → composite v s b ≡ None) → ended v form (s ∷ a ∷ b ∷ []) ≡ s ∷ a ∷ b ∷ []
+    pub both-kept : (form : Bool) → (form ≡ true → composite v s a ≡ None) → (form ≡ true → ccc a < ccc b → composite v s b ≡ None) → ended v form (s ∷ a ∷ b ∷ []) ≡ s ∷ a ∷ b ∷ []
     unfolding compose_of
-    both-apart false first second = refl
-    both-apart true first second =
+    both-kept false first second = refl
+    both-kept true first second =
         compose-starter ccc join s (a ∷ b ∷ []) (omega (arith, starter)) ∙ compose_after-kept ccc join s [] a (b ∷ []) (joined-none ccc join s [] a (first refl)) some
-        ∙ compose_after-kept ccc join s (a ∷ []) b [] (second-apart (second refl)) (omega (arith, some, rises)) ∙ compose_after-nil ccc join s (a ∷ b ∷ [])
+        ∙ compose_after-kept ccc join s (a ∷ []) b [] (second-kept (second refl)) (omega (arith, some, rises)) ∙ compose_after-nil ccc join s (a ∷ b ∷ [])
 
 -- ---- the bytes of two or three that were written
 

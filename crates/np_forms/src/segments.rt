@@ -63,8 +63,11 @@ fn write_pair<T: NormTable>(
 /// one between them has at least its class (The Unicode Standard, D115); so one of equal class blocks it.
 #[inline(always)]
 fn joined_past<T: NormTable>(table: &T, form: Form, marked: Marked) -> Option<char>
-    ensures some { IfSome result (λ p. (composes form ≡ true) × ((class_of (T.model table.now) marked.first < class_of (T.model table.now) marked.second) × (composite (T.model table.now) marked.starter marked.second ≡ Some p))) }
-    ensures none { IfNone result (composes form ≡ true → class_of (T.model table.now) marked.first < class_of (T.model table.now) marked.second → composite (T.model table.now) marked.starter marked.second ≡ None) }
+    ensures form { IfSome result (λ p. composes form ≡ true) }
+    ensures free { IfSome result (λ p. class_of (T.model table.now) marked.first < class_of (T.model table.now) marked.second) }
+    ensures pair { IfSome result (λ p. composite (T.model table.now) marked.starter marked.second ≡ Some p) }
+    ensures none { IfNone result (composes form ≡ true → class_of (T.model table.now) marked.first < class_of (T.model table.now) marked.second →
+        composite (T.model table.now) marked.starter marked.second ≡ None) }
 {
     if table.class(marked.first) < table.class(marked.second) {
         joined(table, form, marked.starter, marked.second)

@@ -1,7 +1,7 @@
 use Rattle.std.proofs.Common.{◌≡◌, List, ℕ, ◌++◌, OnOk, encode_utf8_all, sym, ap, subst, ◌∙◌}
 use Rattle.np_code_points.specs.Forms.{composes}
 use Rattle.np_tables.proofs.CompositeLemmas.{composite-starter}
-use Rattle.np_forms.proofs.ShortLemmas.{both-apart, first-joined, second-joined, three-written, two-written}
+use Rattle.np_forms.proofs.ShortLemmas.{both-kept, first-joined, second-joined, three-written, two-written}
 use Rattle.np_forms.proofs.segments.write_marked.Goals as goal
 
 pub write_pair-requires : goal.write_pair-requires
@@ -17,15 +17,14 @@ pub returns-in-Some-joined_past : goal.returns-in-Some-joined_past
 returns-in-Some-joined_past g c =
     let m = c.args.marked in
     let found = c.in-Some-joined_past in
-    let some = found.ensures.some in
     let last = c.append_char-in-Some-joined_past in
-    let made = second-joined (g.T.NormTable.model c.args.table.now) m.starter c.requires.starter m.first m.second c.requires.some c.requires.rises (composes c.args.form) found.p some.0 (c.in_default.ensures.none some.0) some.1.0 some.1.1 in
+    let made = second-joined (g.T.NormTable.model c.args.table.now) m.starter c.requires.starter m.first m.second c.requires.some c.requires.rises (composes c.args.form) found.p found.ensures.form (c.in_default.ensures.none found.ensures.form) found.ensures.free found.ensures.pair in
     subst (λ (l : List ℕ). OnOk last.result (last.new.self ≡ l)) (two-written c.args.out.now c.append_char.new.self found.p m.first c.in_ok-append_char.ensures ∙ ap (λ l. c.args.out.now ++ encode_utf8_all l) (sym made)) last.ensures
 
 pub returns : goal.returns
 returns g c =
     let m = c.args.marked in
     let last = c.append_char-4 in
-    let made = both-apart (g.T.NormTable.model c.args.table.now) m.starter c.requires.starter m.first m.second c.requires.some c.requires.rises (composes c.args.form) c.in_default.ensures.none c.in_default-joined_past.ensures.none in
+    let made = both-kept (g.T.NormTable.model c.args.table.now) m.starter c.requires.starter m.first m.second c.requires.some c.requires.rises (composes c.args.form) c.in_default.ensures.none c.in_default-joined_past.ensures.none in
     subst (λ (l : List ℕ). OnOk last.result (last.new.self ≡ l))
     (three-written c.args.out.now c.append_char-2.new.self c.append_char-3.new.self m.starter m.first m.second c.in_ok-append_char-2.ensures c.in_ok-append_char-3.ensures ∙ ap (λ l. c.args.out.now ++ encode_utf8_all l) (sym made)) last.ensures
