@@ -1,5 +1,6 @@
 //! Worked examples.
 mod alike;
+mod hints;
 mod long_texts;
 mod refused;
 mod tables;

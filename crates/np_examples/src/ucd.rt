@@ -144,12 +144,11 @@ fn each_fault_of_a_range_has_its_line(rt: HostRuntime) -> Result<(), Fail> {
 }
 
 #[test]
-fn faults_have_names_and_lines(rt: HostRuntime) -> Result<(), Fail> {
+fn faults_have_names_and_lines(_rt: HostRuntime) -> Result<(), Fail> {
     let fault = UcdFault::RangeMaps { line: 7 };
-    assert_eq!(rt; fault.name(), "RangeMaps");
-    assert_eq!(rt; fault.line(), Some(7));
-    assert_eq!(rt; UcdFault::TooLarge.line(), None);
-    Ok(())
+    want(fault.name() == "RangeMaps", "a name")?;
+    want(fault.line() == Some(7), "a line")?;
+    want(UcdFault::TooLarge.line().is_none(), "no line")
 }
 
 /// Each fault, and how it is told.
@@ -314,14 +313,22 @@ fn a_failed_read_is_no_end_and_is_the_last(rt: HostRuntime) -> Result<(), Fail> 
     Ok(())
 }
 
+fn reads_mended_rows(alloc: Global) -> Result<(), Fail> {
+    let mut data = mended(V1_DATA.as_bytes())?;
+    let fault = read_rows(alloc, &mut data).err();
+    want(fault.is_none() && !data.failed(), "rows")
+}
+
+fn reads_mended_exclusions(alloc: Global) -> Result<(), Fail> {
+    let mut listed = mended(V1_EXCLUSIONS.as_bytes())?;
+    let fault = read_exclusions(alloc, &mut listed).err();
+    want(fault.is_none() && !listed.failed(), "exclusions")
+}
+
 #[test]
 fn an_old_failure_is_no_failure_of_this_file(rt: HostRuntime) -> Result<(), Fail> {
-    let mut data = mended(V1_DATA.as_bytes())?;
-    let fault = read_rows(rt.alloc(), &mut data).err();
-    want(fault.is_none() && !data.failed(), "rows")?;
-    let mut listed = mended(V1_EXCLUSIONS.as_bytes())?;
-    let fault = read_exclusions(rt.alloc(), &mut listed).err();
-    want(fault.is_none() && !listed.failed(), "exclusions")
+    reads_mended_rows(rt.alloc())?;
+    reads_mended_exclusions(rt.alloc())
 }
 
 #[test]

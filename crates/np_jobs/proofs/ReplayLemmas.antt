@@ -1,6 +1,6 @@
 -- From what a replay's clauses say to the machine's run as text.
 use Rattle.std.proofs.Common.{◌≡◌, ℕ, zero, suc, ◌-◌, ◌<◌, List, [], ◌∷◌, length, map, slice_get, Option, Some, inr, refl, ap, subst, ◌∙◌, arith}
-use Rattle.std.proofs.lemmas.List.{length-map, map-id}
+use Rattle.std.proofs.lemmas.List.{length-map}
 use Rattle.std.specs.List.{AllZip}
 use Rattle.std.specs.Option.{option_map}
 use Rattle.std.specs.Prelude.{IfSome}
@@ -65,10 +65,9 @@ told_whole model tables form schedule report text some run replies indices strin
     }
 
 -- what is refused over versions that were built, behind a schedule whose mark was taken away
-pub refused_of_files : {D : Type 0} (tells : D → Option (List ℕ)) (cleared old new : Watched D) (readers : List VersionReaders) (tables slice : List VersionData) (fault : JobFault)
-    → device_of cleared ≡ device_of old → slice ≡ tables → WereBuilt readers tables → LacksReport (stream_of tells cleared new) (map (λ t. t) slice) fault
+pub refused_of_files : {D T : Type 0} (tells : D → Option (List ℕ)) (model : T → VersionData) (cleared old new : Watched D) (readers : List VersionReaders) (tables slice : List T) (fault : JobFault)
+    → device_of cleared ≡ device_of old → slice ≡ tables → WereBuilt readers (map model tables) → LacksReport (stream_of tells cleared new) (map model slice) fault
     → RefusesReplay (record { schedule_file = stream_of tells old new; versions = readers }) fault
-refused_of_files tells cleared old new readers tables slice fault device same built lacks =
-    let versions : map (λ (t : VersionData). t) slice ≡ tables = map-id slice ∙ same in
-    let half = subst (λ vs. LacksReport (stream_of tells cleared new) vs fault) versions lacks in
-    inr (tables, built, subst (λ s. LacksReport s tables fault) (same_stream tells cleared old new device) half)
+refused_of_files tells model cleared old new readers tables slice fault device same built lacks =
+    let half = subst (λ vs. LacksReport (stream_of tells cleared new) (map model vs) fault) same lacks in
+    inr (map model tables, built, subst (λ s. LacksReport s (map model tables) fault) (same_stream tells cleared old new device) half)

@@ -1,13 +1,13 @@
 //! The files of a chain's versions, read and built.
-ghost use Rattle.std.specs.Prelude.{◌≡◌, ◌+◌, ◌*◌, ◌<◌, length, IfOk, IfErr};
+ghost use Rattle.std.specs.Prelude.{◌≡◌, ◌+◌, ◌*◌, ◌<◌, length, map, IfOk, IfErr};
 ghost use Rattle.np_jobs.specs.Chains.{LacksOne, WereBuilt, readers_of};
 ghost use Rattle.np_jobs.specs.Versions.{IsVersionFault, WasBuilt};
 ghost use Rattle.np_jobs.specs.inside.ChainSteps.{AreClear, AreClearedUpTo, IsReadAt};
 
 use crate::faults::VersionFault;
-use crate::versions::read_table;
+use crate::versions::{MadeTable, read_table_of};
 use np_code_points::watched::Watched;
-use np_tables::{PageTable, TableFault};
+use np_tables::TableFault;
 use std::alloc::Global;
 use std::io::Read;
 
@@ -21,17 +21,17 @@ fn clear_all<F>(files: &mut [Watched<F>])
 }
 
 /// Reads the two files of the version of this number, and builds it.
-fn read_at<F: Read>(
+fn read_at<T: MadeTable, F: Read>(
     alloc: Global,
     number: usize,
     files: &mut [Watched<F>],
-) -> Result<PageTable, VersionFault>
+) -> Result<T, VersionFault>
     requires { 2 * number + 1 < length files.old }
-    ensures built { IfOk result (λ table. IsReadAt F.remaining (λ data_file exclusions_file. WasBuilt data_file exclusions_file table) number files.old files.new) }
+    ensures built { IfOk result (λ table. IsReadAt F.remaining (λ data_file exclusions_file. WasBuilt data_file exclusions_file (T.model table)) number files.old files.new) }
     ensures refused { IfErr result (λ fault. IsReadAt F.remaining (λ data_file exclusions_file. IsVersionFault number data_file exclusions_file fault) number files.old files.new) }
 {
     let (front, behind) = files.split_at_mut(2 * number + 1);
-    read_table(alloc, number, &mut front[2 * number], &mut behind[0])
+    read_table_of(alloc, number, &mut front[2 * number], &mut behind[0])
 }
 
 /// Want of memory for the table of the version of this number.
@@ -45,12 +45,12 @@ fn want_of_memory(number: usize) -> VersionFault
 }
 
 /// Reads the files of all versions, none of which has failed.
-fn read_each<F: Read>(
+fn read_each<T: MadeTable, F: Read>(
     alloc: Global,
     files: &mut [Watched<F>],
-) -> Result<Vec<PageTable>, VersionFault>
+) -> Result<Vec<T>, VersionFault>
     requires { AreClear files.old }
-    ensures built { IfOk result (λ tables. WereBuilt (readers_of F.remaining files.old files.new) tables.items) }
+    ensures built { IfOk result (λ tables. WereBuilt (readers_of F.remaining files.old files.new) (map T.model tables.items)) }
     ensures refused { IfErr result (LacksOne (readers_of F.remaining files.old files.new)) }
 {
     let mut tables = Vec::new(alloc);
@@ -69,13 +69,13 @@ fn read_each<F: Read>(
 ///
 /// # Errors
 ///
-/// As `read_table`, of the first version that is refused; the files behind it are not looked at.
+/// As `read_version`, of the first version that is refused; the files behind it are not looked at.
 /// Want of memory for a table is a fault of the tables.
-pub fn read_tables<F: Read>(
+pub(crate) fn read_tables<T: MadeTable, F: Read>(
     alloc: Global,
     files: &mut [Watched<F>],
-) -> Result<Vec<PageTable>, VersionFault>
-    ensures built { IfOk result (λ tables. WereBuilt (readers_of F.remaining files.old files.new) tables.items) }
+) -> Result<Vec<T>, VersionFault>
+    ensures built { IfOk result (λ tables. WereBuilt (readers_of F.remaining files.old files.new) (map T.model tables.items)) }
     ensures refused { IfErr result (LacksOne (readers_of F.remaining files.old files.new)) }
 {
     clear_all(files);

@@ -7,6 +7,7 @@ ghost use Rattle.np_jobs.specs.Streams.{stream_of};
 use crate::ending::{Made, finish};
 use crate::faults::TextFault;
 use crate::texts::{TextJob, made_of_text};
+use crate::versions::JobTable;
 use np_code_points::Form;
 use np_code_points::watched::Watched;
 use np_forms::{equivalent, first_lacking};
@@ -98,7 +99,7 @@ pub fn compare_job<F: Read, I: Read, O: Write, E: Write>(
       input = stream_of I.remaining input.old input.new;
     }) (stream_of O.contents output.old output.new) (stream_of E.contents error.old error.new) result }
 {
-    let made = made_of_text(
+    let made = made_of_text::<JobTable, F, I>(
         alloc,
         TextJob::Compare,
         form,

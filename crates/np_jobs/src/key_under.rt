@@ -14,12 +14,12 @@ use crate::faults::{JobFault, TextFault, VersionFault};
 use crate::key::key_of;
 use crate::lines::unassigned_text;
 use crate::texts::{read_input, text_in};
-use crate::versions::{read_table, read_version};
+use crate::versions::{JobTable, MadeTable, read_table_of, read_version};
 use np_chain::extends;
 use np_code_points::watched::Watched;
 use np_code_points::{Form, Memory};
 use np_forms::first_absent;
-use np_tables::{NormTable, PageTable, Version};
+use np_tables::{NormTable, Version};
 use std::alloc::Global;
 use std::io::{Read, Write};
 
@@ -94,16 +94,16 @@ fn made_of_pair<T: NormTable, I: Read>(
 }
 
 /// Reads the files of both versions, the old one's first. Of the old one there is no table.
-fn read_both<F: Read>(
+fn read_both<T: MadeTable, F: Read>(
     alloc: Global,
     old_data_file: &mut Watched<F>,
     old_exclusions_file: &mut Watched<F>,
     data_file: &mut Watched<F>,
     exclusions_file: &mut Watched<F>,
-) -> Result<(Version, PageTable), VersionFault>
+) -> Result<(Version, T), VersionFault>
     ensures built { IfOk result (λ both. WereBuilt (readers_of F.remaining
         (old_data_file.old ∷ old_exclusions_file.old ∷ data_file.old ∷ exclusions_file.old ∷ [])
-        (old_data_file.new ∷ old_exclusions_file.new ∷ data_file.new ∷ exclusions_file.new ∷ [])) (both.0 ∷ both.1 ∷ [])) }
+        (old_data_file.new ∷ old_exclusions_file.new ∷ data_file.new ∷ exclusions_file.new ∷ [])) (both.0 ∷ T.model both.1 ∷ [])) }
     ensures refused { IfErr result (LacksOne (readers_of F.remaining
         (old_data_file.old ∷ old_exclusions_file.old ∷ data_file.old ∷ exclusions_file.old ∷ [])
         (old_data_file.new ∷ old_exclusions_file.new ∷ data_file.new ∷ exclusions_file.new ∷ []))) }
@@ -111,12 +111,12 @@ fn read_both<F: Read>(
     data_file.clear();
     exclusions_file.clear();
     let old = read_version(alloc, 0, old_data_file, old_exclusions_file)?;
-    let table = read_table(alloc, 1, data_file, exclusions_file)?;
+    let table: T = read_table_of(alloc, 1, data_file, exclusions_file)?;
     Ok((old, table))
 }
 
 /// Reads both versions, and answers the input.
-fn made_of_versions<F: Read, I: Read>(
+fn made_of_versions<T: MadeTable, F: Read, I: Read>(
     alloc: Global,
     form: Form,
     old_data_file: &mut Watched<F>,
@@ -139,7 +139,7 @@ fn made_of_versions<F: Read, I: Read>(
     })) }
 {
     input.clear();
-    let (old, table) = read_both(
+    let (old, table) = read_both::<T, F>(
         alloc,
         old_data_file,
         old_exclusions_file,
@@ -173,7 +173,7 @@ pub fn key_under_job<F: Read, I: Read, O: Write, E: Write>(
       input = stream_of I.remaining input.old input.new;
     }) (stream_of O.contents output.old output.new) (stream_of E.contents error.old error.new) result }
 {
-    let made = made_of_versions(
+    let made = made_of_versions::<JobTable, F, I>(
         alloc,
         form,
         old_data_file,

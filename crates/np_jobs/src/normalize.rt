@@ -6,7 +6,7 @@ ghost use Rattle.np_jobs.specs.Streams.{stream_of};
 use crate::ending::refuse;
 use crate::faults::{JobFault, TextFault};
 use crate::statuses::DONE;
-use crate::versions::read_table;
+use crate::versions::{JobTable, MadeTable, read_table_of};
 use np_code_points::Form;
 use np_code_points::input::InputFault;
 use np_code_points::watched::Watched;
@@ -33,7 +33,7 @@ fn told(fault: RunFault) -> JobFault
 }
 
 /// Reads the two files of a version, and writes the normal form of the input.
-fn normalized<F: Read, I: Read, O: Write>(
+fn normalized<T: MadeTable, F: Read, I: Read, O: Write>(
     alloc: Global,
     form: Form,
     data_file: &mut Watched<F>,
@@ -54,7 +54,7 @@ fn normalized<F: Read, I: Read, O: Write>(
 {
     input.clear();
     output.clear();
-    let table = read_table(alloc, 0, data_file, exclusions_file)?;
+    let table: T = read_table_of(alloc, 0, data_file, exclusions_file)?;
     match run(alloc, &table, form, input, output) {
         Ok(_) => Ok(()),
         Err(fault) => Err(told(fault)),
@@ -81,7 +81,7 @@ pub fn normalize_job<F: Read, I: Read, O: Write, E: Write>(
     }) (stream_of O.contents output.old output.new) (stream_of E.contents error.old error.new) result }
 {
     error.clear();
-    match normalized(alloc, form, data_file, exclusions_file, input, output) {
+    match normalized::<JobTable, F, I, O>(alloc, form, data_file, exclusions_file, input, output) {
         Ok(()) => DONE,
         Err(fault) => refuse(alloc, error, &fault),
     }

@@ -12,6 +12,7 @@ ghost use Rattle.np_jobs.specs.inside.ReplaySteps.{MakesOverChain};
 use crate::chains::read_tables;
 use crate::ending::{Made, finish};
 use crate::faults::{JobFault, ReplayFault};
+use crate::versions::{JobTable, MadeTable};
 use np_chain::{Chain, ChainFault};
 use np_code_points::input::read_whole;
 use np_code_points::watched::Watched;
@@ -116,7 +117,7 @@ fn made_over<T: NormTable, F: Read>(
 }
 
 /// Reads the versions and the schedule, and replays it over their chain.
-fn made_of_files<F: Read>(
+fn made_of_files<T: MadeTable, F: Read>(
     alloc: Global,
     form: Form,
     schedule_file: &mut Watched<F>,
@@ -133,7 +134,7 @@ fn made_of_files<F: Read>(
     })) }
 {
     schedule_file.clear();
-    let tables = read_tables(alloc, files)?;
+    let tables: Vec<T> = read_tables(alloc, files)?;
     made_over(alloc, form, tables.as_slice(), schedule_file)
 }
 
@@ -156,6 +157,6 @@ pub fn replay_job<F: Read, O: Write, E: Write>(
       versions = readers_of F.remaining files.old files.new;
     }) (stream_of O.contents output.old output.new) (stream_of E.contents error.old error.new) result }
 {
-    let made = made_of_files(alloc, form, schedule_file, files);
+    let made = made_of_files::<JobTable, F>(alloc, form, schedule_file, files);
     finish(alloc, output, error, made)
 }

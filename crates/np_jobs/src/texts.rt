@@ -10,7 +10,7 @@ use crate::compare::make_comparison;
 use crate::ending::Made;
 use crate::faults::{JobFault, TextFault};
 use crate::key::make_key;
-use crate::versions::read_table;
+use crate::versions::{MadeTable, read_table_of};
 use np_code_points::Form;
 use np_code_points::input::read_whole;
 use np_code_points::text::text_of;
@@ -91,7 +91,7 @@ fn made_under<T: NormTable, I: Read>(
 ///
 /// `Version` where there is no version, and then the input is not looked at; else `Text` where the
 /// input was not read whole, is no UTF-8, or is not answered by the job.
-pub fn made_of_text<F: Read, I: Read>(
+pub(crate) fn made_of_text<T: MadeTable, F: Read, I: Read>(
     alloc: Global,
     job: TextJob,
     form: Form,
@@ -111,6 +111,6 @@ pub fn made_of_text<F: Read, I: Read>(
     })) }
 {
     input.clear();
-    let table = read_table(alloc, 0, data_file, exclusions_file)?;
+    let table: T = read_table_of(alloc, 0, data_file, exclusions_file)?;
     Ok(made_under(alloc, job, form, &table, input)?)
 }

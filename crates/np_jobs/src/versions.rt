@@ -6,8 +6,9 @@ ghost use Rattle.np_jobs.specs.Wraps.{Wraps};
 ghost use Rattle.np_tables.specs.TableFaults.{IsFaultless};
 
 use crate::faults::VersionFault;
+use np_code_points::Memory;
 use np_code_points::watched::Watched;
-use np_tables::{PageTable, TableFault, Version};
+use np_tables::{NormTable, PageTable, TableFault, Version};
 use np_ucd::{Exclusions, Rows, read_exclusions, read_rows};
 use std::alloc::Global;
 use std::io::Read;
@@ -58,6 +59,44 @@ pub fn read_version<R: Read>(
     version_of(alloc, version, rows, exclusions)
 }
 
+/// A table that is made of a version. The jobs own their table by this bound alone: a proof of what owns a table of
+/// pages looks at each of its parts, and takes many times as long.
+pub(crate) trait MadeTable: NormTable + Drop {
+    /// The table of the version.
+    fn of(alloc: Global, version: Version) -> Result<Self, Memory>
+        ensures { IfOk result (λ table. Self.model table ≡ version) };
+}
+
+/// The table of the jobs.
+pub(crate) type JobTable = PageTable;
+
+impl MadeTable for PageTable {
+    fn of(alloc: Global, version: Version) -> Result<PageTable, Memory> {
+        PageTable::new(alloc, version)
+    }
+}
+
+/// Reads the two files of a version, builds it, and makes a table over it.
+pub(crate) fn read_table_of<T: MadeTable, R: Read>(
+    alloc: Global,
+    version: usize,
+    data_file: &mut Watched<R>,
+    exclusions_file: &mut Watched<R>,
+) -> Result<T, VersionFault>
+    ensures built { IfOk result (λ table. WasBuilt
+        (stream_of R.remaining data_file.old data_file.new) (stream_of R.remaining exclusions_file.old exclusions_file.new) (T.model table)) }
+    ensures refused { IfErr result (IsVersionFault version (stream_of R.remaining data_file.old data_file.new) (stream_of R.remaining exclusions_file.old exclusions_file.new)) }
+{
+    let built = read_version(alloc, version, data_file, exclusions_file)?;
+    match T::of(alloc, built) {
+        Ok(table) => Ok(table),
+        Err(_) => Err(VersionFault::Tables {
+            version,
+            fault: TableFault::Memory,
+        }),
+    }
+}
+
 /// Reads the two files of a version, builds it, and makes the table over it.
 ///
 /// # Errors
@@ -72,12 +111,5 @@ pub fn read_table<R: Read>(
     ensures built { IfOk result (WasBuilt (stream_of R.remaining data_file.old data_file.new) (stream_of R.remaining exclusions_file.old exclusions_file.new)) }
     ensures refused { IfErr result (IsVersionFault version (stream_of R.remaining data_file.old data_file.new) (stream_of R.remaining exclusions_file.old exclusions_file.new)) }
 {
-    let built = read_version(alloc, version, data_file, exclusions_file)?;
-    match PageTable::new(alloc, built) {
-        Ok(table) => Ok(table),
-        Err(_) => Err(VersionFault::Tables {
-            version,
-            fault: TableFault::Memory,
-        }),
-    }
+    read_table_of::<PageTable, R>(alloc, version, data_file, exclusions_file)
 }

@@ -220,11 +220,15 @@ const MANY: &str = "\
 9FFFF;<R, Last>;Lo;0;L;;;;;N;;;;;
 ";
 
+fn wants_many_breaks(alloc: Global, many: &Version, none: &Version) -> Result<(), Fail> {
+    let breaks = audit(alloc, many, none)?;
+    want(breaks.len() == 524_288, "as many as there are")
+}
+
 /// Fails unless all of these are lost to an empty version.
 fn all_lost(alloc: Global, many: &Version) -> Result<(), Fail> {
     let none = version_of(alloc, ("", ""))?;
-    let breaks = audit(alloc, many, &none)?;
-    want(breaks.len() == 524_288, "as many as there are")
+    wants_many_breaks(alloc, many, &none)
 }
 
 #[test]

@@ -3,7 +3,7 @@ use np_code_points::devices::{Endless, Failure, Trickle};
 use np_code_points::input::{InputFault, LIMIT, read_whole};
 use np_code_points::told::want_told;
 use np_code_points::watched::Watched;
-use np_examples_shared::{FAILURES, mended};
+use np_examples_shared::{FAILURES, mended, want};
 use std::alloc::Global;
 use std::io::Read;
 use std::test::Fail;
@@ -17,38 +17,53 @@ fn ends(alloc: Global, call: u64, failure: Failure) -> (Option<InputFault>, bool
     (fault, failed, source.into_inner().calls())
 }
 
+/// Fails unless the source is read whole, as `abc`, and has no mark.
+fn gives_all(alloc: Global, source: &mut Watched<Trickle<'_>>) -> Result<(), Fail> {
+    let bytes = read_whole(alloc, source)?;
+    want(bytes.as_slice() == b"abc".as_slice(), "the whole input")?;
+    want(!source.failed(), "no mark")
+}
+
 #[test]
 fn a_reader_is_read_to_its_end_or_its_failure(rt: HostRuntime) -> Result<(), Fail> {
     let mut whole = Watched::new(Trickle::new(b"abc".as_slice(), 2));
-    let bytes = read_whole(rt.alloc(), &mut whole)?;
-    assert_eq!(rt; bytes.as_slice(), b"abc".as_slice());
-    assert!(rt; !whole.failed());
-    // two pieces and the end, and nothing behind it
-    assert_eq!(rt; whole.into_inner().calls(), 3);
-    Ok(())
+    gives_all(rt.alloc(), &mut whole)?;
+    want(
+        whole.into_inner().calls() == 3,
+        "two pieces and the end, and nothing behind it",
+    )
+}
+
+fn wants_one_more(alloc: Global, call: u64, failure: Failure) -> Result<(), Fail> {
+    let (fault, failed, calls) = ends(alloc, call, failure);
+    want(fault == Some(InputFault::ReadFailed), "a failed read")?;
+    want(failed, "the mark")?;
+    want(calls == call.saturating_add(1), "nothing behind it")
 }
 
 #[test]
 fn nothing_is_read_behind_a_failure(rt: HostRuntime) -> Result<(), Fail> {
     for failure in FAILURES {
         for call in 0..3 {
-            let (fault, failed, calls) = ends(rt.alloc(), call, failure);
-            assert_eq!(rt; fault, Some(InputFault::ReadFailed));
-            assert!(rt; failed);
-            assert_eq!(rt; calls, call + 1);
+            wants_one_more(rt.alloc(), call, failure)?;
         }
     }
     Ok(())
 }
 
-#[test]
-fn a_failed_read_is_tried_once(rt: HostRuntime) -> Result<(), Fail> {
+fn wants_one_read(failure: Failure) -> Result<(), Fail> {
     let mut piece = [0u8; 4];
+    let device = Trickle::new(b"abc".as_slice(), 2).failing_at(0, failure);
+    let mut source = Watched::new(device);
+    let fails = source.read(&mut piece).is_err() && source.failed();
+    want(fails, "a failed read")?;
+    want(source.into_inner().calls() == 1, "tried once")
+}
+
+#[test]
+fn a_failed_read_is_tried_once(_rt: HostRuntime) -> Result<(), Fail> {
     for failure in FAILURES {
-        let device = Trickle::new(b"abc".as_slice(), 2).failing_at(0, failure);
-        let mut source = Watched::new(device);
-        assert!(rt; source.read(&mut piece).is_err() && source.failed());
-        assert_eq!(rt; source.into_inner().calls(), 1);
+        wants_one_read(failure)?;
     }
     Ok(())
 }
@@ -56,25 +71,27 @@ fn a_failed_read_is_tried_once(rt: HostRuntime) -> Result<(), Fail> {
 #[test]
 fn an_old_failure_is_no_failure_of_this_input(rt: HostRuntime) -> Result<(), Fail> {
     let mut source = mended(b"abc")?;
-    let bytes = read_whole(rt.alloc(), &mut source)?;
-    assert_eq!(rt; bytes.as_slice(), b"abc".as_slice());
-    assert!(rt; !source.failed());
-    Ok(())
+    gives_all(rt.alloc(), &mut source)
+}
+
+/// How an endless reader ends an input: why, whether it is marked, and after how many reads.
+fn ends_of(alloc: Global, device: Endless) -> (Option<InputFault>, bool, u64) {
+    let mut source = Watched::new(device);
+    let fault = read_whole(alloc, &mut source).err();
+    let failed = source.failed();
+    (fault, failed, source.into_inner().calls())
 }
 
 #[test]
 fn an_endless_reader_is_too_large(rt: HostRuntime) -> Result<(), Fail> {
-    let mut source = Watched::new(Endless::new());
-    let fault = read_whole(rt.alloc(), &mut source).err();
-    assert_eq!(rt; fault, Some(InputFault::TooLarge));
-    assert!(rt; !source.failed() && LIMIT == 16_777_216);
-    // 256 pieces of 64 KiB, and one byte
-    assert_eq!(rt; source.into_inner().calls(), 257);
-    let mut broken = Watched::new(Endless::new().failing_at(200, Failure::Interrupted));
-    let fault = read_whole(rt.alloc(), &mut broken).err();
-    assert_eq!(rt; fault, Some(InputFault::ReadFailed));
-    assert_eq!(rt; broken.into_inner().calls(), 201);
-    Ok(())
+    let (fault, failed, calls) = ends_of(rt.alloc(), Endless::new());
+    want(fault == Some(InputFault::TooLarge), "too large")?;
+    want(!failed && LIMIT == 16_777_216, "no mark")?;
+    want(calls == 257, "256 pieces of 64 KiB, and one byte")?;
+    let broken = Endless::new().failing_at(200, Failure::Interrupted);
+    let (fault, _, calls) = ends_of(rt.alloc(), broken);
+    want(fault == Some(InputFault::ReadFailed), "a failed read")?;
+    want(calls == 201, "nothing behind it")
 }
 
 /// Each fault, and how it is told.

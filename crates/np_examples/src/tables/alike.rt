@@ -1,7 +1,7 @@
 //! The plain table and the table of pages beside each other.
 use super::LAST;
 use np_code_points::hangul::is_syllable;
-use np_examples_shared::{Files, S, V1, V2, table_of, want};
+use np_examples_shared::{Example, Files, Made, S, V1, V2, holds_over, want};
 use np_tables::{NormTable, PageTable, RowTable};
 use std::alloc::Global;
 use std::test::Fail;
@@ -99,20 +99,34 @@ fn answer_alike<T: NormTable, U: NormTable>(one: &T, two: &U) -> Result<(), Fail
     Ok(())
 }
 
-fn answers_like<U: NormTable>(alloc: Global, files: Files<'_>, other: &U) -> Result<(), Fail> {
-    let table: RowTable = table_of(alloc, files)?;
-    answer_alike(&table, other)
+/// The plain table answers as another one does.
+#[derive(Drop)]
+struct Like<'t, U> {
+    other: &'t U,
 }
 
-fn alike_over(alloc: Global, files: Files<'_>) -> Result<(), Fail> {
-    let table: PageTable = table_of(alloc, files)?;
-    answers_like(alloc, files, &table)
+impl<'t, U: NormTable> Example for Like<'t, U> {
+    fn holds<T: Made>(&self, _alloc: Global, table: &T) -> Result<(), Fail> {
+        answer_alike(table, self.other)
+    }
+}
+
+/// A table answers as the plain one of the same files does.
+#[derive(Drop)]
+struct LikePlain<'t> {
+    files: Files<'t>,
+}
+
+impl<'t> Example for LikePlain<'t> {
+    fn holds<T: Made>(&self, alloc: Global, table: &T) -> Result<(), Fail> {
+        holds_over::<RowTable, Like<'_, T>>(alloc, self.files, &Like { other: table })
+    }
 }
 
 #[test]
 fn both_tables_answer_alike_for_every_code_point(rt: HostRuntime) -> Result<(), Fail> {
     for files in [V1, V2, S, (LAST, "")] {
-        alike_over(rt.alloc(), files)?;
+        holds_over::<PageTable, LikePlain<'_>>(rt.alloc(), files, &LikePlain { files })?;
     }
     Ok(())
 }

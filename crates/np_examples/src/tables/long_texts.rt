@@ -1,6 +1,6 @@
 //! What stands in long texts, where the table of pages looks at many bytes at a time.
 use np_code_points::Form;
-use np_examples_shared::{LETTERS, amid, table_of, want};
+use np_examples_shared::{Example, LETTERS, Made, amid, holds_over, want};
 use np_tables::{NormTable, PageTable};
 use std::alloc::Global;
 use std::test::Fail;
@@ -57,8 +57,16 @@ fn tells_what_stands_amid<T: NormTable>(alloc: Global, table: &T) -> Result<(), 
     Ok(())
 }
 
+/// What stands in the midst of long texts.
+struct Amid;
+
+impl Example for Amid {
+    fn holds<T: Made>(&self, alloc: Global, table: &T) -> Result<(), Fail> {
+        tells_what_stands_amid(alloc, table)
+    }
+}
+
 #[test]
 fn long_texts_stand_up_to_what_tells(rt: HostRuntime) -> Result<(), Fail> {
-    let table: PageTable = table_of(rt.alloc(), LETTERS)?;
-    tells_what_stands_amid(rt.alloc(), &table)
+    holds_over::<PageTable, Amid>(rt.alloc(), LETTERS, &Amid)
 }

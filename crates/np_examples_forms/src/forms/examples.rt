@@ -3,7 +3,7 @@ use super::wants_form;
 use np_code_points::told::want_told;
 use np_code_points::{Form, Memory};
 use np_examples_shared::{
-    Example, LETTERS, Made, S, V1, V2, amid, holds_over_each, table_of, want,
+    Example, LETTERS, Made, S, V1, V2, amid, holds_over, holds_over_each, want,
 };
 use np_forms::{
     NpssFault, equivalent, first_unassigned, into_npss, is_form, is_stream_safe, lend_npss, npss,
@@ -189,15 +189,9 @@ fn canonical<T: NormTable>(
 }
 
 /// A table that knows of a text that it is its own form lets it be lent.
-fn lent(alloc: Global, table: &PageTable) -> Result<(), Fail> {
+fn lent<T: NormTable>(alloc: Global, table: &T) -> Result<(), Fail> {
     let lent = lend_npss(alloc, table, Form::Nfc, "\u{1EAD}")?;
     want(matches!(lent, CowStr::Borrowed(_)), "is lent")
-}
-
-#[test]
-fn a_text_that_is_its_own_form_is_lent(rt: HostRuntime) -> Result<(), Fail> {
-    let table: PageTable = table_of(rt.alloc(), V1)?;
-    lent(rt.alloc(), &table)
 }
 
 fn told_from_others<T: NormTable>(alloc: Global, table: &T) -> Result<(), Fail> {
@@ -394,6 +388,7 @@ fn amid_long_texts<T: NormTable>(alloc: Global, table: &T) -> Result<(), Fail> {
 #[derive(Clone, Copy)]
 pub(super) enum Shown {
     Canonical,
+    Lent,
     ToldFromOthers,
     Prefixes,
     Ligature,
@@ -409,6 +404,7 @@ impl Example for Shown {
     fn holds<T: Made>(&self, alloc: Global, table: &T) -> Result<(), Fail> {
         match self {
             Shown::Canonical => canonical(alloc, table, &CANONICAL),
+            Shown::Lent => lent(alloc, table),
             Shown::ToldFromOthers => told_from_others(alloc, table),
             Shown::Prefixes => prefixes(alloc, table),
             Shown::Ligature => ligature(alloc, table),
@@ -435,6 +431,11 @@ fn a_text_is_told_from_others_of_its_length(rt: HostRuntime) -> Result<(), Fail>
 #[test]
 fn a_text_is_not_equivalent_with_its_prefix(rt: HostRuntime) -> Result<(), Fail> {
     holds_over_each(rt.alloc(), V1, &Shown::Prefixes)
+}
+
+#[test]
+fn a_text_that_is_its_own_form_is_lent(rt: HostRuntime) -> Result<(), Fail> {
+    holds_over::<PageTable, Shown>(rt.alloc(), V1, &Shown::Lent)
 }
 
 #[test]

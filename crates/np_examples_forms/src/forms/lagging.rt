@@ -1,8 +1,8 @@
 //! Keys of a later version on machines that lag behind.
 use np_code_points::Form;
-use np_examples_shared::{V1, V2, table_of, want};
+use np_examples_shared::{Example, Made, V1, V2, holds_over, table_of, want};
 use np_forms::{is_form, npss};
-use np_tables::PageTable;
+use np_tables::{NormTable, PageTable};
 use std::alloc::Global;
 use std::test::Fail;
 
@@ -14,7 +14,7 @@ const KEYS: [(&str, &str); 4] = [
     ("a\u{302}\u{16D67}", "\u{E2}\u{16D67}"),
 ];
 
-fn keys_under_both(alloc: Global, old: &PageTable, new: &PageTable) -> Result<(), Fail> {
+fn keys_under_both<T: NormTable>(alloc: Global, old: &T, new: &T) -> Result<(), Fail> {
     for (text, wanted) in &KEYS {
         let key = npss(alloc, new, Form::Nfc, text)?;
         want(key.as_str() == *wanted, text)?;
@@ -26,13 +26,17 @@ fn keys_under_both(alloc: Global, old: &PageTable, new: &PageTable) -> Result<()
     Ok(())
 }
 
-fn keys_of_a_later_version(alloc: Global, old: &PageTable) -> Result<(), Fail> {
-    let new: PageTable = table_of(alloc, V2)?;
-    keys_under_both(alloc, old, &new)
+/// Keys under the second fixture, over a table of the first.
+struct Lagging;
+
+impl Example for Lagging {
+    fn holds<T: Made>(&self, alloc: Global, old: &T) -> Result<(), Fail> {
+        let new: T = table_of(alloc, V2)?;
+        keys_under_both(alloc, old, &new)
+    }
 }
 
 #[test]
 fn a_key_is_its_own_form_under_both_versions(rt: HostRuntime) -> Result<(), Fail> {
-    let old: PageTable = table_of(rt.alloc(), V1)?;
-    keys_of_a_later_version(rt.alloc(), &old)
+    holds_over::<PageTable, Lagging>(rt.alloc(), V1, &Lagging)
 }

@@ -1,8 +1,9 @@
 //! Fronts of texts that pass the quick check.
 use np_code_points::Form;
-use np_examples_shared::{LETTERS, table_of, want};
+use np_examples_shared::{Example, LETTERS, Made, holds_over, want};
 use np_forms::quick_check_span;
-use np_tables::{PageTable, RowTable};
+use np_tables::{NormTable, PageTable, RowTable};
+use std::alloc::Global;
 use std::test::Fail;
 
 /// Texts, and how many bytes of them pass under NFC: what follows does not, since it composes backward, has another
@@ -15,25 +16,39 @@ const SPANS: [(&str, usize); 5] = [
     ("a\u{316}\u{4E00}", 6),
 ];
 
-fn wants_spans(table: &PageTable) -> Result<(), Fail> {
+fn wants_spans<T: NormTable>(table: &T) -> Result<(), Fail> {
     for (text, wanted) in &SPANS {
         want(quick_check_span(table, Form::Nfc, text) == *wanted, text)?;
     }
     Ok(())
 }
 
-#[test]
-fn fronts_pass_the_quick_check(rt: HostRuntime) -> Result<(), Fail> {
-    let table: PageTable = table_of(rt.alloc(), LETTERS)?;
-    wants_spans(&table)
+fn wants_none<T: NormTable>(table: &T) -> Result<(), Fail> {
+    want(quick_check_span(table, Form::Nfc, "ab") == 0, "ab")
 }
 
-fn wants_none(table: &RowTable) -> Result<(), Fail> {
-    want(quick_check_span(table, Form::Nfc, "ab") == 0, "ab")
+/// What a table tells of fronts that pass.
+#[derive(Clone, Copy)]
+enum Shown {
+    Spans,
+    Nothing,
+}
+
+impl Example for Shown {
+    fn holds<T: Made>(&self, _alloc: Global, table: &T) -> Result<(), Fail> {
+        match self {
+            Shown::Spans => wants_spans(table),
+            Shown::Nothing => wants_none(table),
+        }
+    }
+}
+
+#[test]
+fn fronts_pass_the_quick_check(rt: HostRuntime) -> Result<(), Fail> {
+    holds_over::<PageTable, Shown>(rt.alloc(), LETTERS, &Shown::Spans)
 }
 
 #[test]
 fn a_table_may_tell_nothing(rt: HostRuntime) -> Result<(), Fail> {
-    let table: RowTable = table_of(rt.alloc(), LETTERS)?;
-    wants_none(&table)
+    holds_over::<RowTable, Shown>(rt.alloc(), LETTERS, &Shown::Nothing)
 }

@@ -11,8 +11,8 @@ returns g c =
     let counts = parts.back_len in
     let some : 0 < length c.split_at_mut-front.result.1.now = omega (arith, needs, counts) in
     let at = at_cut g.F.Read.remaining c.args.number c.args.files.now c.split_at_mut-front.result.0.now c.split_at_mut-front.result.1.now c.index-front-number.result c.index-behind-0.result
-    c.read_table.new.data_file c.read_table.new.exclusions_file parts.value parts.front_len some in
+    c.read_table_of.new.data_file c.read_table_of.new.exclusions_file parts.value parts.front_len some in
     record {
-      built = IfOk-weaker c.read_table.result _ _ (λ v holds. at (λ d e. WasBuilt d e v) holds) c.read_table.ensures.built;
-      refused = IfErr-weaker c.read_table.result _ _ (λ f holds. at (λ d e. IsVersionFault c.args.number d e f) holds) c.read_table.ensures.refused;
+      built = IfOk-weaker c.read_table_of.result _ _ (λ table holds. at (λ d e. WasBuilt d e (g.T.NormTable.model table)) holds) c.read_table_of.ensures.built;
+      refused = IfErr-weaker c.read_table_of.result _ _ (λ f holds. at (λ d e. IsVersionFault c.args.number d e f) holds) c.read_table_of.ensures.refused;
     }

@@ -20,9 +20,9 @@ pub returns-in_err-table-clause-refused : goal.returns-in_err-table-clause-refus
 returns-in_err-table-clause-refused g c =
     let files = g.F.Read.remaining in
     let old_files : VersionReaders = record { data_file = stream_of files c.args.old_data_file.now c.read_version.new.data_file; exclusions_file = stream_of files c.args.old_exclusions_file.now c.read_version.new.exclusions_file } in
-    let new_files : VersionReaders = record { data_file = stream_of files c.args.data_file.now c.read_table.new.data_file; exclusions_file = stream_of files c.args.exclusions_file.now c.read_table.new.exclusions_file } in
+    let new_files : VersionReaders = record { data_file = stream_of files c.args.data_file.now c.read_table_of.new.data_file; exclusions_file = stream_of files c.args.exclusions_file.now c.read_table_of.new.exclusions_file } in
     let fault = c.in_err-table.field-0.0 in
-    let refused = on_same files c.clear.new.self c.args.data_file.now c.read_table.new.data_file c.clear-2.new.self c.args.exclusions_file.now c.read_table.new.exclusions_file c.clear.ensures.device
+    let refused = on_same files c.clear.new.self c.args.data_file.now c.read_table_of.new.data_file c.clear-2.new.self c.args.exclusions_file.now c.read_table_of.new.exclusions_file c.clear.ensures.device
     c.clear-2.ensures.device (λ d e. IsVersionFault 1 d e fault) c.in_err-table.ensures.refused in
     let p = err_from_is_err_and c.from_residual-in_err-table.result c.from_residual-in_err-table.ensures.1 in
     rw (p.1, p.2) (lacks_new old_files new_files c.in_ok-old.old fault c.in_ok-old.ensures.built refused)

@@ -1,0 +1,310 @@
+//! What a table of pages tells beforehand: what stands in a form, where forms part, and what single code points are.
+use np_code_points::Form;
+use np_examples_shared::{Example, Files, Made, V1, holds_over, want};
+use np_tables::{NormTable, PageTable, RowTable};
+use std::alloc::Global;
+use std::test::Fail;
+
+// How many bytes at the front of a text stand in a form as they are: composites and syllables come
+// back, singletons and excluded ones don't, nor what has a mapping that counts. Non-starters follow
+// where no class is less than the one before and, where the form composes, they are no second parts. A
+// second part follows a code point that blocks it, or one without a mapping with which it has no composite.
+// A leading consonant is not taken to stand where the form composes.
+const STANDING: [(Form, &str, usize); 29] = [
+    (Form::Nfc, "\u{915}\u{302}", 5),
+    (Form::Nfkc, "\u{915}\u{302}\u{30A}\u{1161}", 10),
+    (Form::Nfc, "\u{915}\u{323}\u{302}", 5),
+    (Form::Nfc, "\u{915}\u{302}\u{323}", 5),
+    (Form::Nfc, "\u{AC01}\u{11A8}", 3),
+    (Form::Nfc, "A\u{E2}\u{1EAD}\u{AC01}\u{D7A3}", 12),
+    (Form::Nfkc, "A\u{E2}\u{1EAD}\u{AC01}\u{D7A3}", 12),
+    (Form::Nfd, "A\u{E2}", 1),
+    (Form::Nfkd, "A\u{AC00}", 1),
+    (Form::Nfc, "\u{E2}\u{302}", 2),
+    (Form::Nfc, "A\u{212B}", 1),
+    (Form::Nfc, "\u{958}", 0),
+    (Form::Nfc, "\u{FB01}", 3),
+    (Form::Nfkc, "\u{FB01}", 0),
+    (Form::Nfc, "\u{AC00}\u{11A8}", 3),
+    (Form::Nfd, "a\u{323}\u{302}", 5),
+    (Form::Nfd, "a\u{302}\u{323}", 3),
+    (Form::Nfd, "\u{302}a\u{327}\u{302}", 7),
+    (Form::Nfd, "a\u{327}\u{344}", 3),
+    (Form::Nfd, "f\u{302}\u{FB01}", 6),
+    (Form::Nfkd, "f\u{302}\u{FB01}", 3),
+    (Form::Nfc, "A\u{327}\u{323}", 3),
+    (Form::Nfc, "\u{E2}\u{327}", 4),
+    (Form::Nfd, "\u{1112}\u{1175}\u{11C2} \u{1100}\u{1161}", 16),
+    (Form::Nfc, "\u{D788}A\u{AC00}\u{AC01}\u{1100}\u{1161}", 10),
+    (Form::Nfkc, "\u{D788}A\u{1112}\u{1175}", 4),
+    (Form::Nfd, "afifififififififififififififififia\u{212B}", 34),
+    (
+        Form::Nfd,
+        "afififififififi\u{323}fififififififia\u{212B}",
+        32,
+    ),
+    (Form::Nfkc, "", 0),
+];
+
+// What is not assigned stands too, but where assigned code points are asked for.
+const LACKING: [(Form, &str, usize, usize); 6] = [
+    (Form::Nfd, "A\u{16D67}A", 6, 1),
+    (Form::Nfc, "A\u{16D67}A", 6, 1),
+    (Form::Nfkd, "\u{10FFFF}", 4, 0),
+    (Form::Nfd, "\u{16D67}\u{302}", 6, 0),
+    (Form::Nfc, "A\u{E2}\u{AC01}", 6, 6),
+    (Form::Nfc, "\u{D788} A", 5, 3),
+];
+
+// Pointed Hebrew: a letter, three points, and three presentation forms, which are excluded.
+const HEBREW: Files = (
+    "\
+05B7;X;Mn;17;R;;;;;N;;;;;
+05BC;X;Mn;21;R;;;;;N;;;;;
+05C1;X;Mn;24;R;;;;;N;;;;;
+05E9;X;Lo;0;R;;;;;N;;;;;
+FB2A;X;Lo;0;R;05E9 05C1;;;;N;;;;;
+FB2C;X;Lo;0;R;FB49 05C1;;;;N;;;;;
+FB49;X;Lo;0;R;05E9 05BC;;;;N;;;;;
+",
+    "FB2A\nFB2C\nFB49\n",
+);
+
+// The same of pointed Hebrew.
+const HEBREW_STANDING: [(Form, &str, usize); 5] = [
+    (Form::Nfc, "\u{5E9}\u{5B7}\u{5BC}\u{5C1}\u{5E9}", 10),
+    (Form::Nfd, "\u{5E9}\u{5B7}\u{5BC}\u{5C1}\u{5E9}", 10),
+    (Form::Nfc, "\u{5E9}\u{5BC}\u{5B7}", 4),
+    (Form::Nfd, "\u{5E9}\u{5C1}\u{5BC}", 4),
+    (Form::Nfc, "\u{5E9}\u{FB2C}", 2),
+];
+
+// Two composites of a letter, and non-starters: 0300 and 0323 are their second parts, and 05AE has a class
+// between those of the two.
+const ACCENTS: Files = (
+    "\
+0061;X;Ll;0;L;;;;;N;;;;;
+00E0;X;Ll;0;L;0061 0300;;;;N;;;;;
+0300;X;Mn;230;NSM;;;;;N;;;;;
+0301;X;Mn;230;NSM;;;;;N;;;;;
+0315;X;Mn;232;NSM;;;;;N;;;;;
+0323;X;Mn;220;NSM;;;;;N;;;;;
+05AE;X;Mn;228;NSM;;;;;N;;;;;
+1EA1;X;Ll;0;L;0061 0323;;;;N;;;;;
+",
+    "",
+);
+
+// The same behind a composite: what goes into nothing follows, be its class below that of a part or not. What
+// goes into a part doesn't, though it has no composite with the whole.
+const ACCENTS_STANDING: [(Form, &str, usize); 11] = [
+    (Form::Nfc, "\u{E0}\u{5AE}", 4),
+    (Form::Nfkc, "\u{E0}\u{5AE}", 4),
+    (Form::Nfd, "\u{E0}\u{5AE}", 0),
+    (Form::Nfc, "\u{E0}\u{5AE}\u{315}", 6),
+    (Form::Nfc, "\u{E0}\u{5AE}\u{301}\u{300}a", 9),
+    (Form::Nfc, "\u{E0}\u{315}\u{5AE}", 4),
+    (Form::Nfc, "\u{E0}\u{315}\u{1EA1}\u{5AE}", 9),
+    (Form::Nfc, "\u{E0}\u{323}", 2),
+    (Form::Nfc, "\u{E0}\u{300}", 2),
+    (Form::Nfc, "\u{E0}\u{5AE}\u{323}", 4),
+    (Form::Nfc, "\u{E0}\u{5AE}\u{300}", 4),
+];
+
+// Whether a form parts before a code point.
+const PARTING: [(Form, char, bool); 8] = [
+    (Form::Nfd, '\u{E2}', true),
+    (Form::Nfc, '\u{E2}', true),
+    (Form::Nfkd, '\u{AC01}', true),
+    (Form::Nfd, '\u{1161}', true),
+    (Form::Nfc, '\u{1161}', false),
+    (Form::Nfc, '\u{1100}', true),
+    (Form::Nfd, '\u{302}', false),
+    (Form::Nfkc, '\u{344}', false),
+];
+
+fn tells_what_stands<T: NormTable>(table: &T, rows: &[(Form, &str, usize)]) -> Result<(), Fail> {
+    for (form, text, count) in rows {
+        let (stands, _parts) = table.standing(*form, false, text);
+        want(stands == *count, text)?;
+    }
+    Ok(())
+}
+
+// Whether a form is told to part behind what stands at the front of a text.
+const ENDING: [(Form, &str, bool); 4] = [
+    (Form::Nfd, "A\u{E2}", true),
+    (Form::Nfc, "A\u{302}", false),
+    (Form::Nfkc, "A\u{1100}\u{1161}", true),
+    (Form::Nfc, "A", true),
+];
+
+fn tells_where_runs_end<T: NormTable>(table: &T, rows: &[(Form, &str, bool)]) -> Result<(), Fail> {
+    for (form, text, parts) in rows {
+        let (_stands, ended) = table.standing(*form, false, text);
+        want(ended == *parts, text)?;
+    }
+    Ok(())
+}
+
+fn tells_what_stands_assigned<T: NormTable>(
+    table: &T,
+    rows: &[(Form, &str, usize, usize)],
+) -> Result<(), Fail> {
+    for (form, text, any, assigned) in rows {
+        let (stands, _parts) = table.standing(*form, false, text);
+        want(stands == *any, text)?;
+        let (stands, _parts) = table.standing(*form, true, text);
+        want(stands == *assigned, text)?;
+    }
+    Ok(())
+}
+
+fn tells_where_forms_part<T: NormTable>(
+    table: &T,
+    rows: &[(Form, char, bool)],
+) -> Result<(), Fail> {
+    for (form, c, parts) in rows {
+        want(table.is_boundary(*form, *c) == *parts, "parts")?;
+    }
+    Ok(())
+}
+
+fn tells_what_forms_leave<T: NormTable>(table: &T) -> Result<(), Fail> {
+    tells_what_stands(table, &STANDING)?;
+    tells_what_stands_assigned(table, &LACKING)?;
+    tells_where_runs_end(table, &ENDING)?;
+    tells_where_forms_part(table, &PARTING)
+}
+
+// The form of a code point by itself: none is told where it has no mapping of the kind, or where its full
+// decomposition begins with no starter and the form composes.
+const SPELLED: [(Form, char, &str); 12] = [
+    (Form::Nfd, '\u{E2}', "a\u{302}"),
+    (Form::Nfd, '\u{1EAD}', "a\u{323}\u{302}"),
+    (Form::Nfd, '\u{344}', "\u{308}\u{301}"),
+    (Form::Nfkd, '\u{212B}', "A\u{30A}"),
+    (Form::Nfkd, '\u{FB01}', "fi"),
+    (Form::Nfkc, '\u{FB01}', "fi"),
+    (Form::Nfc, '\u{FB01}', ""),
+    (Form::Nfd, 'A', ""),
+    (Form::Nfd, '\u{AC00}', ""),
+    (Form::Nfc, '\u{E2}', "\u{E2}"),
+    (Form::Nfc, '\u{212B}', "\u{C5}"),
+    (Form::Nfkc, '\u{344}', ""),
+];
+
+/// Whether a table spells the form of a code point so; the empty text stands for none.
+fn spells<T: NormTable>(table: &T, form: Form, c: char, text: &str) -> bool {
+    match table.spelled(form, c) {
+        Some((bytes, count)) => count == text.len() && bytes.starts_with(text.as_bytes()),
+        None => text.is_empty(),
+    }
+}
+
+fn spells_each<T: NormTable>(table: &T) -> Result<(), Fail> {
+    for (form, c, text) in &SPELLED {
+        want(spells(&table, *form, *c, text), text)?;
+    }
+    Ok(())
+}
+
+fn spells_none<T: NormTable>(table: &T) -> Result<(), Fail> {
+    for (form, c, text) in &SPELLED {
+        want(spells(table, *form, *c, ""), text)?;
+    }
+    Ok(())
+}
+
+// All of ASCII, as one range.
+const ASCII: Files = (
+    "\
+0000;<ASCII, First>;Lu;0;L;;;;;N;;;;;
+007F;<ASCII, Last>;Lu;0;L;;;;;N;;;;;
+",
+    "",
+);
+
+const FORMS: [Form; 4] = [Form::Nfd, Form::Nfc, Form::Nfkd, Form::Nfkc];
+
+/// Whether a table tells of each form that it parts before leading consonants, and that ASCII stands, as
+/// it is wanted.
+fn tells_once<T: NormTable>(table: &T, leads: bool, ascii: bool) -> bool {
+    for form in &FORMS {
+        if table.parts_before_leads(*form) != leads || table.ascii_stands(*form) != ascii {
+            return false;
+        }
+    }
+    true
+}
+
+/// What a table of pages tells beforehand, and a plain table doesn't.
+#[derive(Clone, Copy)]
+enum Hint {
+    Standing,
+    Points,
+    Accents,
+    Spelled,
+    LeadsPart,
+    AsciiStands,
+    NoneSpelled,
+    Neither,
+}
+
+impl Example for Hint {
+    fn holds<T: Made>(&self, _alloc: Global, table: &T) -> Result<(), Fail> {
+        match self {
+            Hint::Standing => tells_what_forms_leave(table),
+            Hint::Points => tells_what_stands(table, &HEBREW_STANDING),
+            Hint::Accents => tells_what_stands(table, &ACCENTS_STANDING),
+            Hint::Spelled => spells_each(table),
+            Hint::LeadsPart => want(tells_once(&table, true, false), "leading consonants part"),
+            Hint::AsciiStands => want(tells_once(table, true, true), "ASCII stands"),
+            Hint::NoneSpelled => spells_none(table),
+            Hint::Neither => want(
+                tells_once(table, false, false),
+                "a plain table tells neither",
+            ),
+        }
+    }
+}
+
+#[test]
+fn forms_leave_what_stands_and_part_before_starters(rt: HostRuntime) -> Result<(), Fail> {
+    holds_over::<PageTable, Hint>(rt.alloc(), V1, &Hint::Standing)
+}
+
+#[test]
+fn points_stand_in_their_canonical_order(rt: HostRuntime) -> Result<(), Fail> {
+    holds_over::<PageTable, Hint>(rt.alloc(), HEBREW, &Hint::Points)
+}
+
+#[test]
+fn accents_stand_behind_composites(rt: HostRuntime) -> Result<(), Fail> {
+    holds_over::<PageTable, Hint>(rt.alloc(), ACCENTS, &Hint::Accents)
+}
+
+#[test]
+fn forms_of_single_code_points_are_spelled(rt: HostRuntime) -> Result<(), Fail> {
+    holds_over::<PageTable, Hint>(rt.alloc(), V1, &Hint::Spelled)
+}
+
+#[test]
+fn a_plain_table_spells_nothing(rt: HostRuntime) -> Result<(), Fail> {
+    holds_over::<RowTable, Hint>(rt.alloc(), V1, &Hint::NoneSpelled)
+}
+
+#[test]
+fn where_leading_consonants_part_is_told_once(rt: HostRuntime) -> Result<(), Fail> {
+    holds_over::<PageTable, Hint>(rt.alloc(), V1, &Hint::LeadsPart)
+}
+
+#[test]
+fn that_ascii_stands_is_told_once(rt: HostRuntime) -> Result<(), Fail> {
+    holds_over::<PageTable, Hint>(rt.alloc(), ASCII, &Hint::AsciiStands)
+}
+
+#[test]
+fn a_plain_table_tells_neither(rt: HostRuntime) -> Result<(), Fail> {
+    holds_over::<RowTable, Hint>(rt.alloc(), ASCII, &Hint::Neither)
+}
