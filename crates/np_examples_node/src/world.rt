@@ -10,7 +10,7 @@ use np_world::fixtures::{
     EXCHANGE_REPORT, EXCHANGE_SCHEDULE, FORGED_REPORT, FORGED_SCHEDULE, FORGETTING_REPORT,
     FORGETTING_SCHEDULE, OLDER_REPORT, OLDER_SCHEDULE, RESTART_REPORT, RESTART_SCHEDULE,
 };
-use np_world::{Report, read_schedule, replay, report_text};
+use np_world::{Report, Schedule, read_schedule, replay, report_text};
 use std::alloc::Global;
 use std::test::Fail;
 
@@ -107,8 +107,7 @@ const IMAGE: &[u8] =
     b"NPS2C\0\0\x44\xfc\0\0\0\x02\0\0\0\x03a\xcc\x82\x01\0\0\0\x02\xc3\xa2\0\0\0\x03\xe2\x84\xab\x01\0\0\0\x02\xc3\x85";
 
 /// What the report of the restart lends.
-fn wants_lent(alloc: Global, tables: &[RowTable]) -> Result<(), Fail> {
-    let report = replayed(alloc, tables, RESTART_SCHEDULE)?;
+fn lends(report: &Report<'_, RowTable>) -> Result<(), Fail> {
     want(report.sent(0) == Some(MESSAGE), "the first message")?;
     want(report.sent(3).is_none(), "three messages")?;
     want(report.saved(0) == Some(IMAGE), "the image")?;
@@ -116,6 +115,11 @@ fn wants_lent(alloc: Global, tables: &[RowTable]) -> Result<(), Fail> {
         report.saved(1).is_none() && report.node(1).is_none(),
         "one node",
     )
+}
+
+fn wants_lent(alloc: Global, tables: &[RowTable]) -> Result<(), Fail> {
+    let report = replayed(alloc, tables, RESTART_SCHEDULE)?;
+    lends(&report)
 }
 
 #[test]
@@ -134,17 +138,31 @@ fn with_letters(alloc: Global, count: usize) -> Result<String, Fail> {
     Ok(text)
 }
 
-/// The longest string that is kept, and one that is longer by a byte.
-fn wants_limit(alloc: Global, tables: &[RowTable]) -> Result<(), Fail> {
-    let longest = with_letters(alloc, 65_536)?;
-    let report = replayed(alloc, tables, longest.as_str())?;
+/// The message of 65,536 bytes is in the report.
+fn tells_longest(report: &Report<'_, RowTable>) -> Result<(), Fail> {
     let Some(message) = report.sent(0) else {
         return Err(Fail::new("65,536 bytes are kept"));
     };
-    want(message.len() == 131_081, "the message of 65,536 bytes")?;
+    want(message.len() == 131_081, "the message of 65,536 bytes")
+}
+
+/// The longest string that is kept.
+fn wants_longest(alloc: Global, tables: &[RowTable]) -> Result<(), Fail> {
+    let longest = with_letters(alloc, 65_536)?;
+    let report = replayed(alloc, tables, longest.as_str())?;
+    tells_longest(&report)
+}
+
+/// One that is longer by a byte is not.
+fn wants_too_long(alloc: Global, tables: &[RowTable]) -> Result<(), Fail> {
     let longer = with_letters(alloc, 65_537)?;
     let wanted = "0 too long\nnode 0 version 0 entries 0\n";
     wants_text(alloc, tables, longer.as_str(), wanted)
+}
+
+fn wants_limit(alloc: Global, tables: &[RowTable]) -> Result<(), Fail> {
+    wants_longest(alloc, tables)?;
+    wants_too_long(alloc, tables)
 }
 
 #[test]
@@ -154,15 +172,23 @@ fn strings_have_65_536_bytes_at_most(rt: HostRuntime) -> Result<(), Fail> {
 }
 
 /// A schedule and a report show how much there is in them, and none of the strings.
-fn shows_counts(alloc: Global, tables: &[RowTable]) -> Result<(), Fail> {
-    let schedule = read_schedule(alloc, EXCHANGE_SCHEDULE.as_bytes(), tables.len())?;
-    let report = replayed(alloc, tables, EXCHANGE_SCHEDULE)?;
+fn show_counts(
+    alloc: Global,
+    schedule: &Schedule,
+    report: &Report<'_, RowTable>,
+) -> Result<(), Fail> {
     let text = format!(in alloc; "{schedule:?}, {report:?}")?;
     want(
         text.as_str()
             == "Schedule { versions: 2, room: 4, nodes: 2, events: 12, .. }, Report { replies: 12, sent: 2, nodes: 2, .. }",
         "what a schedule and a report show",
     )
+}
+
+fn shows_counts(alloc: Global, tables: &[RowTable]) -> Result<(), Fail> {
+    let schedule = read_schedule(alloc, EXCHANGE_SCHEDULE.as_bytes(), tables.len())?;
+    let report = replayed(alloc, tables, EXCHANGE_SCHEDULE)?;
+    show_counts(alloc, &schedule, &report)
 }
 
 #[test]

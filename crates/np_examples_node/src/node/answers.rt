@@ -9,24 +9,22 @@ use np_tables::NormTable;
 use std::alloc::Global;
 use std::test::Fail;
 
-fn empty_string<T: NormTable>(alloc: Global, table: &T) -> Result<(), Fail> {
-    let mut node = Node::new(alloc, table, Form::Nfc, 4);
-    wants_kept(&mut node, b"", b"C\0\0\0\0\0\0\0\0", "the empty string")?;
-    wants_known(&mut node, b"", "the empty string again")?;
+fn keeps_empty<T: NormTable>(node: &mut Node<'_, T>) -> Result<(), Fail> {
+    wants_kept(node, b"", b"C\0\0\0\0\0\0\0\0", "the empty string")?;
+    wants_known(node, b"", "the empty string again")?;
     want(node.entry(0) == Some(("", "")), "its entry")?;
     want(node.entry(1).is_none(), "no other entry")
 }
 
-fn no_room<T: NormTable>(alloc: Global, table: &T) -> Result<(), Fail> {
-    let mut node = Node::new(alloc, table, Form::Nfc, 0);
+fn empty_string<T: NormTable>(alloc: Global, table: &T) -> Result<(), Fail> {
+    let mut node = Node::new(alloc, table, Form::Nfc, 4);
+    keeps_empty(&mut node)
+}
+
+fn keeps_nothing<T: NormTable>(node: &mut Node<'_, T>) -> Result<(), Fail> {
+    wants_refused(node, b"", NodeFault::Full, "no room for the empty string")?;
     wants_refused(
-        &mut node,
-        b"",
-        NodeFault::Full,
-        "no room for the empty string",
-    )?;
-    wants_refused(
-        &mut node,
+        node,
         b"\xff",
         NodeFault::NotUtf8 { at: 0 },
         "before the room",
@@ -34,25 +32,34 @@ fn no_room<T: NormTable>(alloc: Global, table: &T) -> Result<(), Fail> {
     want(node.is_empty() && node.room() == 0, "nothing is kept")
 }
 
-fn little_room<T: NormTable>(alloc: Global, table: &T) -> Result<(), Fail> {
-    let mut node = Node::new(alloc, table, Form::Nfc, 1);
-    wants_kept(&mut node, b"a", b"C\0\0\0\x01a\0\0\0\x01a", "a")?;
-    wants_refused(&mut node, b"A", NodeFault::Full, "A by accept")?;
+fn no_room<T: NormTable>(alloc: Global, table: &T) -> Result<(), Fail> {
+    let mut node = Node::new(alloc, table, Form::Nfc, 0);
+    keeps_nothing(&mut node)
+}
+
+fn keeps_one<T: NormTable>(alloc: Global, node: &mut Node<'_, T>) -> Result<(), Fail> {
+    wants_kept(node, b"a", b"C\0\0\0\x01a\0\0\0\x01a", "a")?;
+    wants_refused(node, b"A", NodeFault::Full, "A by accept")?;
     wants_taken(
-        &mut node,
+        node,
         b"C\0\0\0\x01A\0\0\0\x01A",
         Err(NodeFault::Full),
         "A by take",
     )?;
-    wants_known(&mut node, b"a", "a again")?;
+    wants_known(node, b"a", "a again")?;
     wants_taken(
-        &mut node,
+        node,
         b"C\0\0\0\x01a\0\0\0\x01a",
         Ok(Taken::Known),
         "its own message",
     )?;
     want(node.len() == 1 && node.form() == Form::Nfc, "one entry")?;
-    wants_shown(alloc, &node)
+    wants_shown(alloc, node)
+}
+
+fn little_room<T: NormTable>(alloc: Global, table: &T) -> Result<(), Fail> {
+    let mut node = Node::new(alloc, table, Form::Nfc, 1);
+    keeps_one(alloc, &mut node)
 }
 
 /// No string is shown where a node or what it answers is printed.
@@ -77,14 +84,19 @@ fn behind(alloc: Global, front: &[u8], string: &[u8]) -> Result<Vec<u8>, Memory>
     Ok(bytes)
 }
 
-/// A string that is too long is refused by each call.
-fn too_long<T: NormTable>(alloc: Global, table: &T) -> Result<(), Fail> {
-    let mut node = Node::new(alloc, table, Form::Nfc, 4);
-    let over = letters(alloc, 65_537)?;
-    wants_refused(&mut node, &over, NodeFault::TooLong, "65,537 bytes")?;
-    let message = behind(alloc, b"C", &over)?;
-    wants_taken(&mut node, &message, Err(NodeFault::TooLong), "told")?;
-    let image = behind(alloc, b"NPS1C\0\0\0\x01", &over)?;
+/// A string that is too long is refused in a message.
+fn told_too_long<T: NormTable>(
+    alloc: Global,
+    node: &mut Node<'_, T>,
+    over: &[u8],
+) -> Result<(), Fail> {
+    let message = behind(alloc, b"C", over)?;
+    wants_taken(node, &message, Err(NodeFault::TooLong), "told")
+}
+
+/// A string that is too long is refused in an image.
+fn saved_too_long<T: NormTable>(alloc: Global, table: &T, over: &[u8]) -> Result<(), Fail> {
+    let image = behind(alloc, b"NPS1C\0\0\0\x01", over)?;
     let wanted = ImageFault {
         entry: Some(0),
         fault: NodeFault::TooLong,
@@ -92,18 +104,46 @@ fn too_long<T: NormTable>(alloc: Global, table: &T) -> Result<(), Fail> {
     wants_no_node(alloc, table, 4, &image, wanted, "saved")
 }
 
-fn longest<T: NormTable>(alloc: Global, table: &T) -> Result<(), Fail> {
+/// A string that is too long is refused by each call.
+fn refuses_too_long<T: NormTable>(
+    alloc: Global,
+    node: &mut Node<'_, T>,
+    over: &[u8],
+) -> Result<(), Fail> {
+    wants_refused(node, over, NodeFault::TooLong, "65,537 bytes")?;
+    told_too_long(alloc, node, over)?;
+    saved_too_long(alloc, node.table(), over)
+}
+
+fn too_long<T: NormTable>(alloc: Global, table: &T) -> Result<(), Fail> {
+    let over = letters(alloc, 65_537)?;
     let mut node = Node::new(alloc, table, Form::Nfc, 4);
-    let most = letters(alloc, 65_536)?;
-    match node.accept(&most)? {
-        Accepted::Kept(message) => {
-            let mut other = Node::new(alloc, table, Form::Nfc, 4);
-            wants_taken(&mut other, &message, Ok(Taken::Kept), "65,536 bytes told")?;
-        }
+    refuses_too_long(alloc, &mut node, &over)
+}
+
+/// The message of a node's longest string is taken by another one.
+fn longest_told<T: NormTable>(alloc: Global, table: &T, message: &[u8]) -> Result<(), Fail> {
+    let mut other = Node::new(alloc, table, Form::Nfc, 4);
+    wants_taken(&mut other, message, Ok(Taken::Kept), "65,536 bytes told")
+}
+
+fn keeps_longest<T: NormTable>(
+    alloc: Global,
+    node: &mut Node<'_, T>,
+    most: &[u8],
+) -> Result<(), Fail> {
+    match node.accept(most)? {
+        Accepted::Kept(message) => longest_told(alloc, node.table(), &message)?,
         Accepted::Known => return Err(Fail::new("known before it is kept")),
     }
-    wants_known(&mut node, &most, "65,536 bytes again")?;
-    longest_restored(alloc, &node)
+    wants_known(node, most, "65,536 bytes again")?;
+    longest_restored(alloc, node)
+}
+
+fn longest<T: NormTable>(alloc: Global, table: &T) -> Result<(), Fail> {
+    let most = letters(alloc, 65_536)?;
+    let mut node = Node::new(alloc, table, Form::Nfc, 4);
+    keeps_longest(alloc, &mut node, &most)
 }
 
 /// A node's longest string stands in its image.
@@ -114,12 +154,16 @@ fn longest_restored<T: NormTable>(alloc: Global, node: &Node<'_, T>) -> Result<(
     want(again.entry(0) == node.entry(0), "the same entry")
 }
 
-fn unlike_strings<T: NormTable>(alloc: Global, table: &T) -> Result<(), Fail> {
-    let mut node = Node::new(alloc, table, Form::Nfc, 4);
+fn keeps_unlike<T: NormTable>(node: &mut Node<'_, T>) -> Result<(), Fail> {
     for string in ["\u{212B}", "\u{C5}", "a"] {
         want(node.accept(string.as_bytes()).is_ok(), string)?;
     }
-    wants_unlike(&node)
+    wants_unlike(node)
+}
+
+fn unlike_strings<T: NormTable>(alloc: Global, table: &T) -> Result<(), Fail> {
+    let mut node = Node::new(alloc, table, Form::Nfc, 4);
+    keeps_unlike(&mut node)
 }
 
 /// The sign, the letter that it is equivalent to, and `a` are three strings.
@@ -160,18 +204,21 @@ fn wants_private<T: NormTable>(node: &mut Node<'_, T>) -> Result<(), Fail> {
     )
 }
 
-fn lacking<T: NormTable>(alloc: Global, table: &T) -> Result<(), Fail> {
-    let mut node = Node::new(alloc, table, Form::Nfc, 4);
+fn lacks_later_letter<T: NormTable>(node: &mut Node<'_, T>) -> Result<(), Fail> {
     let fault = NodeFault::Unassigned {
         at: 1,
         code: '\u{16D67}',
     };
-    wants_refused(&mut node, "A\u{16D67}".as_bytes(), fault, "a later letter")?;
-    wants_private(&mut node)
+    wants_refused(node, "A\u{16D67}".as_bytes(), fault, "a later letter")?;
+    wants_private(node)
 }
 
-fn later_letter<T: NormTable>(alloc: Global, table: &T) -> Result<(), Fail> {
+fn lacking<T: NormTable>(alloc: Global, table: &T) -> Result<(), Fail> {
     let mut node = Node::new(alloc, table, Form::Nfc, 4);
+    lacks_later_letter(&mut node)
+}
+
+fn keeps_later_letter<T: NormTable>(node: &mut Node<'_, T>) -> Result<(), Fail> {
     want(
         node.accept("A\u{16D67}".as_bytes()).is_ok(),
         "a later letter",
@@ -180,21 +227,21 @@ fn later_letter<T: NormTable>(alloc: Global, table: &T) -> Result<(), Fail> {
         node.entry(0) == Some(("A\u{16D67}", "A\u{16D67}")),
         "itself as key",
     )?;
-    wants_private(&mut node)
+    wants_private(node)
+}
+
+fn later_letter<T: NormTable>(alloc: Global, table: &T) -> Result<(), Fail> {
+    let mut node = Node::new(alloc, table, Form::Nfc, 4);
+    keeps_later_letter(&mut node)
 }
 
 /// A node goes on to a later version and to its own, and not back.
-fn upgrades<'t, T: NormTable>(alloc: Global, first: &'t T, second: &'t T) -> Result<(), Fail> {
-    let mut node = Node::new(alloc, first, Form::Nfc, 4);
-    want(node.accept(b"a").is_ok(), "a")?;
-    wants_upgrades(&mut node, first, second)
-}
-
 fn wants_upgrades<'t, T: NormTable>(
     node: &mut Node<'t, T>,
     first: &'t T,
     second: &'t T,
 ) -> Result<(), Fail> {
+    want(node.accept(b"a").is_ok(), "a")?;
     want(node.upgrade(first).is_ok(), "the same version")?;
     want(node.upgrade(second).is_ok(), "the later version")?;
     want(node.table().version().count() == 17_666, "the later table")?;
@@ -208,6 +255,16 @@ fn wants_upgrades<'t, T: NormTable>(
         node.len() == 1 && node.entry(0) == Some(("a", "a")),
         "the entries stay",
     )
+}
+
+fn upgrades<'t, T: NormTable>(alloc: Global, first: &'t T, second: &'t T) -> Result<(), Fail> {
+    let mut node = Node::new(alloc, first, Form::Nfc, 4);
+    wants_upgrades(&mut node, first, second)
+}
+
+fn upgrades_from<T: Made>(alloc: Global, first: &T) -> Result<(), Fail> {
+    let second: T = table_of(alloc, V2)?;
+    upgrades(alloc, first, &second)
 }
 
 /// What answers show.
@@ -225,10 +282,7 @@ impl Example for Shown {
             Shown::KeptOnce => kept_once(alloc, table),
             Shown::Lacking => lacking(alloc, table),
             Shown::LaterLetter => later_letter(alloc, table),
-            Shown::Upgrades => {
-                let second: T = table_of(alloc, V2)?;
-                upgrades(alloc, table, &second)
-            }
+            Shown::Upgrades => upgrades_from(alloc, table),
         }
     }
 }

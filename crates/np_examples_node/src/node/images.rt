@@ -42,8 +42,7 @@ const LATER: &[u8] = b"NPS1C\0\0\0\x01\0\0\0\x04\xf0\x96\xb5\xa7\0\0\0\x04\xf0\x
 /// The one entry FFFE, a noncharacter, beside itself as key.
 const NONE: &[u8] = b"NPS1C\0\0\0\x01\0\0\0\x03\xef\xbf\xbe\0\0\0\x03\xef\xbf\xbe";
 
-fn made<T: NormTable>(alloc: Global, table: &T) -> Result<(), Fail> {
-    let mut node = Node::new(alloc, table, Form::Nfc, 4);
+fn makes_its_image<T: NormTable>(node: &mut Node<'_, T>) -> Result<(), Fail> {
     want(
         node.accept("a\u{302}".as_bytes()).is_ok(),
         "the first string",
@@ -56,6 +55,11 @@ fn made<T: NormTable>(alloc: Global, table: &T) -> Result<(), Fail> {
     want(image.as_slice() == SECOND, "the image")
 }
 
+fn made<T: NormTable>(alloc: Global, table: &T) -> Result<(), Fail> {
+    let mut node = Node::new(alloc, table, Form::Nfc, 4);
+    makes_its_image(&mut node)
+}
+
 /// A key that is its string isn't repeated.
 fn short<T: NormTable>(alloc: Global, table: &T) -> Result<(), Fail> {
     let mut node = Node::new(alloc, table, Form::Nfc, 4);
@@ -64,14 +68,18 @@ fn short<T: NormTable>(alloc: Global, table: &T) -> Result<(), Fail> {
     want(image.as_slice() == ONE, "an image with a short key")
 }
 
-/// An image gives a node with its two entries, whose own image this is.
-fn restored<T: NormTable>(alloc: Global, table: &T, from: &[u8], again: &[u8]) -> Result<(), Fail> {
-    let node = Node::restore(alloc, table, Form::Nfc, 4, from)?;
+fn is_restored<T: NormTable>(node: &Node<'_, T>, again: &[u8]) -> Result<(), Fail> {
     want(node.len() == 2 && node.room() == 4, "two entries")?;
     want(node.entry(0) == Some(("a\u{302}", "\u{E2}")), "the first")?;
     want(node.entry(1) == Some(("\u{212B}", "\u{C5}")), "the second")?;
     let image = node.image()?;
     want(image.as_slice() == again, "its own image")
+}
+
+/// An image gives a node with its two entries, whose own image this is.
+fn restored<T: NormTable>(alloc: Global, table: &T, from: &[u8], again: &[u8]) -> Result<(), Fail> {
+    let node = Node::restore(alloc, table, Form::Nfc, 4, from)?;
+    is_restored(&node, again)
 }
 
 /// Both layouts are restored under the later version, and an image of that version is.

@@ -28,14 +28,18 @@ const KEYS: [Told; 5] = [
     (OTHER, Err(NodeFault::OtherForm), "another form"),
 ];
 
-fn keys_are_checked<T: NormTable>(alloc: Global, table: &T) -> Result<(), Fail> {
-    let mut node = Node::new(alloc, table, Form::Nfc, 4);
-    wants_all_taken(&mut node, &KEYS)?;
+fn checks_keys<T: NormTable>(node: &mut Node<'_, T>) -> Result<(), Fail> {
+    wants_all_taken(node, &KEYS)?;
     want(node.len() == 1, "one entry")?;
     want(
         node.entry(0) == Some(("a\u{302}", "\u{E2}")),
         "with its own key",
     )
+}
+
+fn keys_are_checked<T: NormTable>(alloc: Global, table: &T) -> Result<(), Fail> {
+    let mut node = Node::new(alloc, table, Form::Nfc, 4);
+    checks_keys(&mut node)
 }
 
 /// Messages that an empty node refuses.
@@ -71,9 +75,8 @@ const REFUSED: [Told; 6] = [
     ),
 ];
 
-fn messages_are_checked<T: NormTable>(alloc: Global, table: &T) -> Result<(), Fail> {
-    let mut node = Node::new(alloc, table, Form::Nfc, 4);
-    wants_all_taken(&mut node, &REFUSED)?;
+fn checks_messages<T: NormTable>(node: &mut Node<'_, T>) -> Result<(), Fail> {
+    wants_all_taken(node, &REFUSED)?;
     for length in 0..RIGHT.len() {
         let at = match length {
             0 => 0,
@@ -83,7 +86,7 @@ fn messages_are_checked<T: NormTable>(alloc: Global, table: &T) -> Result<(), Fa
             _ => 12,
         };
         wants_taken(
-            &mut node,
+            node,
             &RIGHT[..length],
             Err(NodeFault::Malformed { at }),
             "cut",
@@ -92,15 +95,24 @@ fn messages_are_checked<T: NormTable>(alloc: Global, table: &T) -> Result<(), Fa
     want(node.is_empty(), "nothing is kept")
 }
 
-fn told_to_its_sender<T: NormTable>(alloc: Global, table: &T) -> Result<(), Fail> {
+fn messages_are_checked<T: NormTable>(alloc: Global, table: &T) -> Result<(), Fail> {
     let mut node = Node::new(alloc, table, Form::Nfc, 4);
+    checks_messages(&mut node)
+}
+
+fn knows_its_message<T: NormTable>(node: &mut Node<'_, T>) -> Result<(), Fail> {
     match node.accept("a\u{302}".as_bytes())? {
         Accepted::Kept(message) => {
             want(message.as_slice() == RIGHT, "its message")?;
-            wants_taken(&mut node, &message, Ok(Taken::Known), "told to its sender")
+            wants_taken(node, &message, Ok(Taken::Known), "told to its sender")
         }
         Accepted::Known => Err(Fail::new("kept")),
     }
+}
+
+fn told_to_its_sender<T: NormTable>(alloc: Global, table: &T) -> Result<(), Fail> {
+    let mut node = Node::new(alloc, table, Form::Nfc, 4);
+    knows_its_message(&mut node)
 }
 
 /// What messages show.

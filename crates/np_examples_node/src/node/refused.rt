@@ -1,7 +1,5 @@
 //! A node whose call was refused for want of memory is as it was, and the same call succeeds after all; what is
 //! refused for itself takes no memory.
-ghost use Rattle.std.specs.Prelude.{◌≤◌};
-
 use super::{
     NoImage, Told, letters, wants_all_taken, wants_kept, wants_known, wants_no_nodes, wants_refused,
 };
@@ -32,13 +30,9 @@ enum Call {
     Refusals,
 }
 
-/// A node that keeps `A`.
-fn one_kept<T: NormTable>(alloc: Global, table: &T, room: u32) -> Result<Node<'_, T>, Fail>
-    requires { room ≤ 65536 }
-{
-    let mut node = Node::new(alloc, table, Form::Nfc, room);
-    wants_kept(&mut node, b"A", b"C\0\0\0\x01A\0\0\0\x01A", "A")?;
-    Ok(node)
+/// The node keeps `A`.
+fn keep_one<T: NormTable>(node: &mut Node<'_, T>) -> Result<(), Fail> {
+    wants_kept(node, b"A", b"C\0\0\0\x01A\0\0\0\x01A", "A")
 }
 
 /// Whether the node keeps `A` and nothing else.
@@ -53,35 +47,35 @@ fn keeps_both<T: NormTable>(node: &Node<'_, T>) -> bool {
         && node.entry(1) == Some(("a\u{302}", "\u{E2}"))
 }
 
-fn accepts<T: NormTable>(alloc: Global, table: &T) -> Result<(), Fail> {
-    let mut node = one_kept(alloc, table, 4)?;
+fn accepts<T: NormTable>(node: &mut Node<'_, T>) -> Result<(), Fail> {
+    keep_one(node)?;
     match node.accept(STRING) {
         Ok(Accepted::Kept(found)) => want(found.as_slice() == MESSAGE, "the message")?,
         Ok(Accepted::Known) => return Err(Fail::new("known before it is kept")),
         Err(fault) => {
             want(fault == NodeFault::Memory, "no other refusal of a string")?;
-            want(keeps_one(&node), "a refused string changes nothing")?;
-            wants_kept(&mut node, STRING, MESSAGE, "the string after all")?;
+            want(keeps_one(node), "a refused string changes nothing")?;
+            wants_kept(node, STRING, MESSAGE, "the string after all")?;
         }
     }
-    want(keeps_both(&node), "the string is kept")
+    want(keeps_both(node), "the string is kept")
 }
 
-fn takes<T: NormTable>(alloc: Global, table: &T) -> Result<(), Fail> {
-    let mut node = one_kept(alloc, table, 4)?;
+fn takes<T: NormTable>(node: &mut Node<'_, T>) -> Result<(), Fail> {
+    keep_one(node)?;
     if let Err(fault) = node.take(MESSAGE) {
         want(fault == NodeFault::Memory, "no other refusal of a message")?;
-        want(keeps_one(&node), "a refused message changes nothing")?;
+        want(keeps_one(node), "a refused message changes nothing")?;
         want(node.take(MESSAGE)? == Taken::Kept, "the message after all")?;
     }
-    want(keeps_both(&node), "what it tells is kept")
+    want(keeps_both(node), "what it tells is kept")
 }
 
-fn saves<T: NormTable>(alloc: Global, table: &T) -> Result<(), Fail> {
-    let mut node = one_kept(alloc, table, 4)?;
-    wants_kept(&mut node, STRING, MESSAGE, "the string")?;
+fn saves<T: NormTable>(node: &mut Node<'_, T>) -> Result<(), Fail> {
+    keep_one(node)?;
+    wants_kept(node, STRING, MESSAGE, "the string")?;
     if node.image().is_err() {
-        want(keeps_both(&node), "a refused image changes nothing")?;
+        want(keeps_both(node), "a refused image changes nothing")?;
     }
     want(node.image()?.as_slice() == IMAGE, "the image after all")
 }
@@ -91,17 +85,26 @@ fn restores<T: NormTable>(alloc: Global, table: &T) -> Result<(), Fail> {
     restores_image(alloc, table, IMAGE)
 }
 
-fn restores_image<T: NormTable>(alloc: Global, table: &T, image: &[u8]) -> Result<(), Fail> {
-    let node = match Node::restore(alloc, table, Form::Nfc, 4, image) {
-        Ok(node) => node,
+/// The node of an image, which is restored a second time where memory was refused for it.
+fn node_of<'t, T: NormTable>(
+    alloc: Global,
+    table: &'t T,
+    image: &[u8],
+) -> Result<Node<'t, T>, Fail> {
+    match Node::restore(alloc, table, Form::Nfc, 4, image) {
+        Ok(node) => Ok(node),
         Err(refused) => {
             want(
                 refused.entry.is_none() && refused.fault == NodeFault::Memory,
                 "no other refusal of an image",
             )?;
-            Node::restore(alloc, table, Form::Nfc, 4, image)?
+            Ok(Node::restore(alloc, table, Form::Nfc, 4, image)?)
         }
-    };
+    }
+}
+
+fn restores_image<T: NormTable>(alloc: Global, table: &T, image: &[u8]) -> Result<(), Fail> {
+    let node = node_of(alloc, table, image)?;
     want(keeps_both(&node), "the image's entries")
 }
 
@@ -176,29 +179,49 @@ const NO_IMAGES: [NoImage; 5] = [
 ];
 
 /// What a full node refuses for itself, and what it knows: it has none of it refused for want of memory.
-fn refuses<T: NormTable>(alloc: Global, table: &T) -> Result<(), Fail> {
-    let mut node = one_kept(alloc, table, 1)?;
-    let long = letters(alloc, 65_537)?;
-    wants_refused(&mut node, &long, NodeFault::TooLong, "a long string")?;
+fn refuses<T: NormTable>(alloc: Global, node: &mut Node<'_, T>, long: &[u8]) -> Result<(), Fail> {
+    keep_one(node)?;
+    wants_refused(node, long, NodeFault::TooLong, "a long string")?;
     for (string, fault) in &REFUSED {
-        wants_refused(&mut node, string, *fault, "a string")?;
+        wants_refused(node, string, *fault, "a string")?;
     }
-    wants_all_taken(&mut node, &TOLD)?;
-    wants_known(&mut node, b"A", "what is kept")?;
-    want(keeps_one(&node), "nothing changes")?;
-    wants_no_nodes(alloc, table, 1, &NO_IMAGES)?;
+    wants_all_taken(node, &TOLD)?;
+    wants_known(node, b"A", "what is kept")?;
+    want(keeps_one(node), "nothing changes")?;
+    wants_no_nodes(alloc, node.table(), 1, &NO_IMAGES)?;
     want(!node.forget("a") && node.forget("A"), "A is forgotten")?;
     want(node.is_empty(), "nothing is kept")
+}
+
+fn accepted<T: NormTable>(alloc: Global, table: &T) -> Result<(), Fail> {
+    let mut node = Node::new(alloc, table, Form::Nfc, 4);
+    accepts(&mut node)
+}
+
+fn taken<T: NormTable>(alloc: Global, table: &T) -> Result<(), Fail> {
+    let mut node = Node::new(alloc, table, Form::Nfc, 4);
+    takes(&mut node)
+}
+
+fn saved<T: NormTable>(alloc: Global, table: &T) -> Result<(), Fail> {
+    let mut node = Node::new(alloc, table, Form::Nfc, 4);
+    saves(&mut node)
+}
+
+fn refused<T: NormTable>(alloc: Global, table: &T) -> Result<(), Fail> {
+    let long = letters(alloc, 65_537)?;
+    let mut node = Node::new(alloc, table, Form::Nfc, 1);
+    refuses(alloc, &mut node, &long)
 }
 
 impl Example for Call {
     fn holds<T: Made>(&self, alloc: Global, table: &T) -> Result<(), Fail> {
         match self {
-            Call::Accept => accepts(alloc, table),
-            Call::Take => takes(alloc, table),
-            Call::Image => saves(alloc, table),
+            Call::Accept => accepted(alloc, table),
+            Call::Take => taken(alloc, table),
+            Call::Image => saved(alloc, table),
             Call::Restore => restores(alloc, table),
-            Call::Refusals => refuses(alloc, table),
+            Call::Refusals => refused(alloc, table),
         }
     }
 }

@@ -56,6 +56,31 @@ fn text_of(alloc: Global, report: &Report<'_, RowTable>, again: bool) -> Result<
     again_where(again, &Memory, &|| report_text(alloc, report))
 }
 
+/// The report's text.
+fn tells(
+    alloc: Global,
+    report: &Report<'_, RowTable>,
+    wanted: &str,
+    call: Call,
+) -> Result<(), Fail> {
+    let text = text_of(alloc, report, call == Call::ReportText)?;
+    want(text.as_str() == wanted, wanted)
+}
+
+/// The report on a schedule.
+fn reports_on(
+    alloc: Global,
+    chain: &Chain<'_, RowTable>,
+    schedule: &Schedule,
+    wanted: &str,
+    call: Call,
+) -> Result<(), Fail>
+    requires { schedule.now.versions ≡ length chain.now }
+{
+    let report = report_of(alloc, chain, schedule, call == Call::Replay)?;
+    tells(alloc, &report, wanted, call)
+}
+
 fn reports(
     alloc: Global,
     tables: &[RowTable],
@@ -65,9 +90,7 @@ fn reports(
 ) -> Result<(), Fail> {
     let chain = Chain::check(tables)?;
     let schedule = schedule_of(alloc, script, chain.len(), call == Call::ReadSchedule)?;
-    let report = report_of(alloc, &chain, &schedule, call == Call::Replay)?;
-    let text = text_of(alloc, &report, call == Call::ReportText)?;
-    want(text.as_str() == wanted, script)
+    reports_on(alloc, &chain, &schedule, wanted, call)
 }
 
 /// The call over two scripts.
