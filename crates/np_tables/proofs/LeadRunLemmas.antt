@@ -1,11 +1,12 @@
 -- What stands between two characters of several bytes, and behind the bytes that begin them.
-use Rattle.std.proofs.Common.{◌≡◌, zero, suc, ℕ, ◌+◌, ◌-◌, ◌<◌, ◌≤◌, List, [], ◌∷◌, ◌++◌, Option, All, append_assoc, chars, length, length-append, take, drop, get_or, encode_utf8, encode_utf8_all, refl, sym, ap, subst, ◌∙◌, arith, inl, inr, IsUtf8}
+use Rattle.std.proofs.Common.{◌≡◌, zero, suc, true, ℕ, ◌+◌, ◌-◌, ◌<◌, ◌≤◌, List, [], ◌∷◌, ◌++◌, Option, All, append_assoc, chars, length, length-append, take, drop, get_or, encode_utf8, encode_utf8_all, refl, sym, ap, subst, ◌∙◌, arith, inl, inr, IsUtf8}
 use Rattle.std.proofs.lemmas.Bool.{cases_lt}
 use Rattle.std.proofs.lemmas.List.{drop-drop, get_or-drop, length-drop}
 use Rattle.std.proofs.lemmas.Str.{IsCharBoundary-from_rest, chars_past_char}
-use Rattle.np_code_points.specs.declared.forms.Form.{Form}
 use Rattle.np_tables.specs.Versions.{VersionData}
-use Rattle.np_tables.specs.inside.PageWords.{Follows, FollowsByStep, IsAsciiStaying, IsPast, IsWalkedTo, WalksOn}
+use Rattle.np_tables.specs.inside.PageWords.{Follows, FollowsByStep, IsPast, IsWalkedTo}
+use Rattle.np_tables.specs.declared.scans.Scan.{Scan}
+use Rattle.np_tables.specs.inside.Scans.{ScansOn}
 use Rattle.np_tables.proofs.StandingLemmas.{IsPast-ascii, past_boundary, IsWalkedTo-next, IsWalkedTo-past, ascii_follows}
 use Rattle.std.specs.Str.{IsAscii, IsCharBoundary}
 use Rattle.np_tables.specs.inside.LeadBytes.{BeginsWithChar}
@@ -92,27 +93,27 @@ boundary_at text end at before within utf8 none =
     (past_boundary (drop end text) m utf8 (omega (arith, length-drop end text, within, before))
     (no_leads_ascii (drop end text) m utf8 (λ k lt. subst (λ n. n < 192) (sym (get_or-drop end text k 0)) (none (end + k) (omega arith) (omega (arith, lt, before)))))))
 
--- ---- what was passed of a text is a walk
+-- ---- what a scan passed of a text is a walk
 
-module _ (least : ℕ) (blocks steps : List ℕ) (form : Form) (le : least ≤ 255) (ascii : IsAsciiStaying blocks steps) (v : VersionData) where
-  abbrev Step : Option ℕ → ℕ → ℕ → ℕ → Type 0
-  Step = Follows v least blocks steps form
+module _ (s : Scan) (on : s.ascii ≡ true) (le : s.least ≤ 255) where
+  abbrev Step : VersionData → Option ℕ → ℕ → ℕ → ℕ → Type 0
+  Step v = Follows v s.least s.index.now s.steps.now s.form
 
   -- some ASCII, and it leads to 0
-  past_some : (s rest later : List ℕ) (last : ℕ) → IsWalkedTo Step s rest last → (past : IsPast (λ c. c < 128) rest later) → length later < length rest → IsWalkedTo Step s later 0
-  past_some s rest later last walked past less = of past.front past.split past.text_is past.passed
+  past_some : (v : VersionData) (t rest later : List ℕ) (last : ℕ) → IsWalkedTo (Step v) t rest last → (past : IsPast (λ c. c < 128) rest later) → length later < length rest → IsWalkedTo (Step v) t later 0
+  past_some v t rest later last walked past less = of past.front past.split past.text_is past.passed
     where
-      follows : (last c : ℕ) → c < 128 → FollowsByStep least blocks steps form last c 0
-      follows last c lt = ascii_follows least blocks steps form le ascii last c lt
+      follows : (last c : ℕ) → c < 128 → FollowsByStep s.least s.index.now s.steps.now s.form last c 0
+      follows last c lt = ascii_follows s.least s.index.now s.steps.now s.form le (s.ascii_stays on) last c lt
 
-      of : (front : List ℕ) → rest ≡ encode_utf8_all front ++ later → chars rest ≡ front ++ chars later → All (λ c. c < 128) front → IsWalkedTo Step s later 0
+      of : (front : List ℕ) → rest ≡ encode_utf8_all front ++ later → chars rest ≡ front ++ chars later → All (λ c. c < 128) front → IsWalkedTo (Step v) t later 0
       of [] e read all = absurd (omega (arith, less, ap length e))
       of (c ∷ cs) e read all =
           let low = all 0 c (omega arith) in
           let next = encode_utf8_all cs ++ later in
           let parts : rest ≡ encode_utf8 c ++ next = e ∙ append_assoc (encode_utf8 c) (encode_utf8_all cs) later in
-          let first = IsWalkedTo-next Step s rest last c next 0 walked parts (inl (follows last c low)) in
-          IsWalkedTo-past Step (λ d. d < 128) (λ before d lt. inl (follows 0 d lt)) s next later first
+          let first = IsWalkedTo-next (Step v) t rest last c next 0 walked parts (inl (follows last c low)) in
+          IsWalkedTo-past (Step v) (λ d. d < 128) (λ before d lt. inl (follows 0 d lt)) t next later first
           record {
             front = cs;
             split = refl;
@@ -122,22 +123,27 @@ module _ (least : ℕ) (blocks steps : List ℕ) (form : Form) (le : least ≤ 2
           }
 
   -- from `end`, behind which nothing begins a character of several bytes up to `at`
-  pub WalksOn-at : (text here : List ℕ) (end at low now behind : ℕ) → end ≤ at → at ≤ length text → IsUtf8 (drop end text) → here ≡ drop at text → ((k : ℕ) → end ≤ k → k < at → get_or text k 0 < 192)
-      → (end < at → behind ≡ least) → (at ≤ end → behind ≡ now) → WalksOn Step text (drop end text) low now → WalksOn Step text here low behind
-  WalksOn-at text here end at low now behind before within utf8 is none ascii_is same_is walks =
-      elim (cases_lt end at) [
-        | inl less ↦ λ s last under walked.
-            (let one = walks s last under walked in (0, (omega arith, past_some s (drop end text) here one.0 one.1.1 (past less) (omega (arith, ap length is, length-drop at text, length-drop end text, less, within)))))
-        | inr more ↦ λ s last under walked.
-            (let one = walks s last under walked in
-            let same : end ≡ at = omega (arith, before, more) in
-            (one.0, (omega (arith, one.1.0, same_is more), subst (λ l. IsWalkedTo Step s l one.0) (ap (λ k. drop k text) same ∙ sym is) one.1.1)))
-      ]
+  pub goes-at : (text here : List ℕ) (end at low now behind : ℕ) → end ≤ at → at ≤ length text → here ≡ drop at text → ((k : ℕ) → end ≤ k → k < at → get_or text k 0 < 192)
+      → s.least ≤ behind → (end < at → behind ≡ s.least) → (at ≤ end → behind ≡ now) → IsUtf8 here → ScansOn s text low (drop end text) now → ScansOn s text low here behind
+  goes-at text here end at low now behind before within is none least ascii_is same_is utf8 goes =
+      record {
+        least = least;
+        walks = elim (cases_lt end at) [
+          | inl less ↦ λ v t last under walked.
+              (let one = goes.walks v t last under walked in (0, (omega arith, past_some v t (drop end text) here one.0 one.1.1 (past less) (omega (arith, ap length is, length-drop at text, length-drop end text, less, within)))))
+          | inr more ↦ λ v t last under walked.
+              (let one = goes.walks v t last under walked in
+              let same : end ≡ at = omega (arith, before, more) in
+              (one.0, (omega (arith, one.1.0, same_is more), subst (λ l. IsWalkedTo (Step v) t l one.0) (ap (λ k. drop k text) same ∙ sym is) one.1.1)))
+        ];
+        front = omega (arith, ap length is, length-drop at text);
+        utf8 = utf8;
+      }
     where
       past : end < at → IsPast (λ c. c < 128) (drop end text) here
       past less =
           let m = at - end in
           let whole : end + m ≡ at = omega (arith, less) in
-          IsPast-ascii (drop end text) m utf8 (omega (arith, length-drop end text, within, less))
-          (no_leads_ascii (drop end text) m utf8 (λ k lt. subst (λ n. n < 192) (sym (get_or-drop end text k 0)) (none (end + k) (omega arith) (omega (arith, lt, less)))))
+          IsPast-ascii (drop end text) m goes.utf8 (omega (arith, length-drop end text, within, less))
+          (no_leads_ascii (drop end text) m goes.utf8 (λ k lt. subst (λ n. n < 192) (sym (get_or-drop end text k 0)) (none (end + k) (omega arith) (omega (arith, lt, less)))))
           (λ c. c < 128) here (is ∙ ap (λ k. drop k text) (sym whole) ∙ sym (drop-drop m end text)) (λ c lt. lt)

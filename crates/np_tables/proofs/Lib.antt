@@ -33,6 +33,7 @@ pub mod RightLemmas
 pub mod RoundLemmas
 pub mod RowLemmas
 pub mod RowPageLemmas
+pub mod ScanLemmas
 pub mod SpelledLemmas
 pub mod SpellingLemmas
 pub mod StandingLemmas

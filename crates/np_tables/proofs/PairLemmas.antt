@@ -1,8 +1,9 @@
 -- Composites in the order of their pairs.
-use Rattle.std.proofs.Common.{◌≡◌, ℕ, ◌+◌, ◌<◌, ◌≤◌, ◌⊎◌, true, false, nat_lt, nat_eq, List, length, get_or, sym, ap, subst, ◌∙◌, arith, inl, inr}
+use Rattle.std.proofs.Common.{◌≡◌, ℕ, ◌+◌, ◌<◌, ◌≤◌, ◌⊎◌, true, false, nat_lt, nat_eq, List, length, get_or, Some, sym, ap, subst, ◌∙◌, arith, inl, inr}
 use Rattle.std.proofs.lemmas.Bool.{cases_order, cases_lt, cond-true, cond-false, lt-ltb, le-ltb, eq-eqb}
 use Rattle.std.proofs.lemmas.Bool.Decides.{nat_tests}
 use Rattle.std.proofs.lemmas.List.{get_or_default}
+use Rattle.std.proofs.lemmas.Option.{slice_get-get_or}
 use Rattle.std.proofs.lemmas.List.Sorted.{IsNonDecreasingBy-from_all_adjacent, All-permutation}
 use Rattle.std.specs.Ordering.{is_lt, ordering_then, nat_cmp}
 use Rattle.std.specs.declared.cmp.Ordering.{Ordering}
@@ -10,7 +11,7 @@ use Rattle.std.specs.declared.cmp.Ordering.TheVariants.{Less, Equal}
 use Rattle.std.specs.List.{All, AllWithin}
 use Rattle.std.specs.List.Sorted.{IsPermutation, IsSorted}
 use Rattle.np_tables.specs.declared.pairs.Composite.{Composite}
-use Rattle.np_tables.specs.inside.Pairs.{HaveNumbers, Lists, pair_rank, rank, slot_at, IsInRange, AreOrdered}
+use Rattle.np_tables.specs.inside.Pairs.{HaveNumbers, Lists, StandsAt, pair_rank, rank, slot_at, IsInRange, AreOrdered}
 
 -- the order of the fields, one after another
 abbrev cmp : Composite → Composite → Ordering
@@ -90,19 +91,21 @@ module _ (cs : List Composite) (order : AreOrdered cs) where
       let up = pairs_rise at k d low high in
       omega arith
 
-  pub lists-other : (a b at : ℕ) (x : Composite) → a < 0x110000 → b < 0x110000 → AllWithin (λ c. pair_rank c.first c.second < pair_rank a b) cs 0 at → AllWithin (λ c. pair_rank a b ≤ pair_rank c.first c.second) cs at (length cs) → at < length cs → x ≡ get_or cs at x → ((x.first ≡ a) → ¬ (x.second ≡ b)) → (code : ℕ) → ¬ Lists cs a b code
-  lists-other a b at x in_a in_b below above lt is other code has =
+  -- where a pair stands anywhere, it stands at the first place with no earlier pair
+  pub lists-place : (a b at : ℕ) → a < 0x110000 → b < 0x110000 → AllWithin (λ c. pair_rank c.first c.second < pair_rank a b) cs 0 at → AllWithin (λ c. pair_rank a b ≤ pair_rank c.first c.second) cs at (length cs) → (code : ℕ) → Lists cs a b code → (own : ℕ) × StandsAt cs at a b own
+  lists-place a b at in_a in_b below above code has =
       let d : Composite = record { first = a; second = b; code = code } in
       let same = ap (λ (c : Composite). pair_rank c.first c.second) has.2 in
       elim (cases_lt has.0 at) [
-        | inl early ↦ let less = below has.0 d (omega arith) early in omega arith
+        | inl early ↦ let less = below has.0 d (omega arith) early in absurd (omega arith)
         | inr late ↦
-            let up = pairs_rise at has.0 x late has.1 in
-            let here = ap (λ (c : Composite). pair_rank c.first c.second) is in
-            let there = ap (λ (c : Composite). pair_rank c.first c.second) (get_or_default cs has.0 x d has.1) in
-            let least = above at x (omega arith) lt in
-            let range = order.range at x lt in
-            let range_first = ap (λ (c : Composite). c.first) is in
-            let range_second = ap (λ (c : Composite). c.second) is in
-            other (omega arith) (omega arith)
+            let x = get_or cs at d in
+            let lt : at < length cs = omega (arith, late, has.1) in
+            let up = pairs_rise at has.0 d late has.1 in
+            let least = above at d (omega arith) lt in
+            let range = order.range at d lt in
+            let first : x.first ≡ a = omega arith in
+            let second : x.second ≡ b = omega arith in
+            let of : ℕ → ℕ → Composite = λ f s. record { first = f; second = s; code = x.code } in
+            (x.code, slice_get-get_or cs at d lt ∙ ap (λ f. Some (of f x.second)) first ∙ ap (λ s. Some (of a s)) second)
       ]

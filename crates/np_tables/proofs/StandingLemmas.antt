@@ -16,7 +16,7 @@ use Rattle.np_tables.specs.declared.page_words.Word.{Word}
 use Rattle.np_tables.specs.inside.FullDecompositions.{full_of, table_full}
 use Rattle.np_tables.specs.inside.FullLists.{FullLists, of_kind}
 use Rattle.np_tables.specs.inside.Pages.{word_place}
-use Rattle.np_tables.specs.inside.PageWords.{AreFollowing, ArePages, Follows, FollowsApart, FollowsByStep, IsAsciiStaying, IsPast, IsWalkedTo, PassesApart, WalksOn, last_behind, no_word}
+use Rattle.np_tables.specs.inside.PageWords.{AreFollowing, ArePages, Follows, FollowsApart, FollowsByStep, IsAsciiStaying, IsPast, IsWalkedTo, PassesApart, last_behind, no_word}
 use Rattle.np_tables.specs.inside.Steps.{all_steps, step_in, step_of, steps_of}
 use Rattle.np_tables.proofs.HangulLemmas.{by_arithmetic, syllable_hangul}
 use Rattle.np_tables.proofs.MappingLemmas.{full_of-some}
@@ -74,15 +74,6 @@ module _ (Step : Option ℕ → ℕ → ℕ → ℕ → Type 0) where
         walk = Walks-append Step None 0 0 0 r.before past.front r.walk (walk_past P each (last_behind None r.before) past.front past.passed);
         utf8 = past.utf8;
       }
-
-  -- what goes on from there goes on from here
-  pub WalksOn-both : (text here rest : List ℕ) (low middle next : ℕ) → WalksOn Step text here low middle → WalksOn Step here rest middle next → WalksOn Step text rest low next
-  WalksOn-both text here rest low middle next first then s last behind walked =
-      let one = first s last behind walked in
-      then s one.0 one.1.0 one.1.1
-
-  pub WalksOn-start : (text : List ℕ) (low : ℕ) → WalksOn Step text text low low
-  WalksOn-start text low s last behind walked = (last, (behind, walked))
 
 -- ASCII that stays leads from any class to 0
 pub ascii_follows : (least : ℕ) (blocks steps : List ℕ) (form : Form) → least ≤ 255 → IsAsciiStaying blocks steps → (last c : ℕ) → c < 128 → FollowsByStep least blocks steps form last c 0

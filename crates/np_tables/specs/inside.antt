@@ -16,6 +16,7 @@ pub mod Pairs
 pub mod Primaries
 pub mod RowPages
 pub mod RowPlaces
+pub mod Scans
 pub mod Spelled
 pub mod Spellings
 pub mod Steps

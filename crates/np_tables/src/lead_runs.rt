@@ -1,14 +1,12 @@
 //! Runs of characters that may follow one another as they are, found by the bytes that begin those of several
 //! bytes: 64 bytes are looked at in one step, and what stands between two characters found so is ASCII.
-ghost use Rattle.std.specs.Prelude.{◌≡◌, ◌<◌, ◌≤◌, ◌+◌, ◌*◌, ◌%◌, ℕ, drop, length, map, slice_index, true, IfSome, IsTrue, IsUtf8};
+ghost use Rattle.std.specs.Prelude.{◌≡◌, ◌<◌, ◌≤◌, ℕ, length, map, slice_index, true, false, IfSome};
 ghost use lib.Lanes.{chunk, mask_l};
-ghost use Rattle.np_tables.specs.Versions.{VersionData};
 ghost use Rattle.np_tables.specs.inside.LeadBytes.{BeginsWithChar, is_lead};
-ghost use Rattle.np_tables.specs.inside.PageWords.{Follows, IsAsciiStaying, WalksOn};
-ghost use Rattle.np_tables.specs.inside.Pages.{AreWithin};
+ghost use Rattle.np_tables.specs.inside.Scans.{ScansOn, PassesCode};
 
-use crate::standing_runs::low_past;
-use np_code_points::Form;
+use crate::scans::{Passed, Scan, Stretch};
+use crate::utf8_fronts::few_at;
 use std::simd::prelude::*;
 
 /// How many bytes are looked at in one step.
@@ -32,66 +30,6 @@ fn leads_in_step(bytes: &[u8]) -> u64
         .to_bitmask()
 }
 
-/// The code of a character, by its first byte and six bits of each of the two that follow, where it has two or
-/// three bytes; and how many it has. Both are made, and no jump is taken by which it is.
-#[inline(always)]
-fn code_of_few(lead: u32, second: u32, third: u32) -> (u32, usize)
-    requires lead { lead < 240 }
-    requires second { second < 64 }
-    requires third { third < 64 }
-    ensures two { lead < 224 → (result.0 ≡ lead % 32 * 64 + second) × (result.1 ≡ 2) }
-    ensures three { 224 ≤ lead → (result.0 ≡ lead % 16 * 4096 + second * 64 + third) × (result.1 ≡ 3) }
-{
-    let two = lead % 32 * 64 + second;
-    let three = lead % 16 * 4096 + second * 64 + third;
-    if lead < 0xE0 { (two, 2) } else { (three, 3) }
-}
-
-/// The first character of a text, where it has two or three bytes, and how many it has.
-#[inline(always)]
-fn first_of_few(text: &str) -> (char, usize)
-    requires long { 3 ≤ length text.now }
-    requires lead { 192 ≤ slice_index text.now 0 }
-    requires few { slice_index text.now 0 < 240 }
-    ensures { BeginsWithChar text.now result.0 result.1 }
-{
-    let bytes = text.as_bytes();
-    let lead = u32::from(bytes[0]);
-    let second = u32::from(bytes[1] % 64);
-    let third = u32::from(bytes[2] % 64);
-    let (code, count) = code_of_few(lead, second, third);
-    (unsafe { char::from_u32_unchecked(code) }, count)
-}
-
-/// The least step that may follow the first character of a text, which has two or three bytes, and how many it
-/// has: none where it may not follow a step of `low`.
-#[inline(always)]
-fn pass_lead(
-    blocks: &[u16],
-    steps: &[u32],
-    least: u8,
-    low: u8,
-    form: Form,
-    text: &str,
-) -> Option<(u8, usize)>
-    requires within { AreWithin 4352 blocks.now (length steps.now) }
-    requires some { 1 ≤ least }
-    requires low { least ≤ low }
-    requires long { 3 ≤ length text.now }
-    requires lead { 192 ≤ slice_index text.now 0 }
-    ensures least { IfSome result (λ cut. least ≤ cut.0) }
-    ensures walks { IfSome result (λ cut. (v : VersionData) → WalksOn (Follows v least blocks.now steps.now form) text.now (drop cut.1 text.now) low cut.0) }
-    ensures begins { IfSome result (λ cut. (c : ℕ) × BeginsWithChar text.now c cut.1) }
-{
-    // rare, and left to what reads any
-    if text.as_bytes()[0] >= 0xF0 {
-        return None;
-    }
-    let (c, count) = first_of_few(text);
-    let next = low_past(blocks, steps, least, low, form, c)?;
-    Some((next, count))
-}
-
 /// The least step that may stand at a place behind which nothing but ASCII stands up to `end`, behind which that
 /// is `now`.
 #[inline(always)]
@@ -104,84 +42,103 @@ fn low_at(least: u8, now: u8, end: usize, at: usize) -> u8
     if end < at { least } else { now }
 }
 
-/// Passes the characters that begin in the first `STEP` bytes of a text, the first of them behind a step of `low`.
-/// Answers the least step that may follow, what stands behind them, and whether all of them were passed: none is
-/// where there are many.
-#[inline(always)]
-fn pass_step<'a>(
-    blocks: &[u16],
-    steps: &[u32],
-    least: u8,
+/// A character that was passed.
+#[derive(Clone, Copy)]
+struct Lead {
+    /// The least step that may follow it.
     low: u8,
-    form: Form,
-    text: &'a str,
-) -> (u8, &'a str, bool)
-    requires within { AreWithin 4352 blocks.now (length steps.now) }
-    requires ascii { IsAsciiStaying blocks.now steps.now }
-    requires some { 1 ≤ least }
-    requires low { least ≤ low }
-    requires long { 67 ≤ length text.now }
-    ensures least { least ≤ result.0 }
-    ensures walks { (v : VersionData) → WalksOn (Follows v least blocks.now steps.now form) text.now result.1.now low result.0 }
-    ensures front { length result.1.now ≤ length text.now }
-    ensures shorter { IsTrue result.2 → length result.1.now < length text.now }
-    ensures utf8 { IsUtf8 result.1.now }
-{
-    let mut left = leads_in_step(text.as_bytes());
-    if left.count_ones() > MANY {
-        return (low, text, false);
-    }
-    let mut from = 0;
-    let mut end = 0;
-    let mut now = low;
-    'leads: while left != 0 {
-        let skip = left.trailing_zeros();
-        let at = from + skip as usize;
-        let here = &text[at..];
-        let behind = low_at(least, now, end, at);
-        let Some((next, count)) = pass_lead(blocks, steps, least, behind, form, here) else {
-            return (behind, here, false);
-        };
-        now = next;
-        end = at + count;
-        from = at + 1;
-        left = (left >> skip) >> 1;
-    }
-    let stop = end.max(STEP);
-    (low_at(least, now, end, stop), &text[stop..], true)
+    /// How many bytes it has.
+    count: usize,
 }
 
-/// Passes the characters at the front of a text that may follow one another as they are, the first of them behind a
-/// step of `low`, a step of bytes at a time. Answers the least step that may follow, and what stands behind them:
-/// less than a step, or what is not known to follow. Where `ascii` doesn't tell that all ASCII stays, that is all.
-#[inline(always)]
-pub(crate) fn pass_leads<'a>(
-    blocks: &[u16],
-    steps: &[u32],
-    ascii: bool,
-    least: u8,
-    low: u8,
-    form: Form,
-    text: &'a str,
-) -> (u8, &'a str)
-    requires within { AreWithin 4352 blocks.now (length steps.now) }
-    requires ascii { ascii ≡ true → IsAsciiStaying blocks.now steps.now }
-    requires some { 1 ≤ least }
-    requires low { least ≤ low }
-    ensures least { least ≤ result.0 }
-    ensures walks { (v : VersionData) → WalksOn (Follows v least blocks.now steps.now form) text.now result.1.now low result.0 }
-    ensures front { length result.1.now ≤ length text.now }
-    ensures utf8 { IsUtf8 result.1.now }
-{
-    let mut rest = text;
-    let mut now = low;
-    'steps: while ascii && rest.len() >= WHOLE {
-        let (next, later, whole) = pass_step(blocks, steps, least, now, form, rest);
-        now = next;
-        rest = later;
-        if !whole {
-            return (now, rest);
+impl<'t> Scan<'t> {
+    /// Passes the first character of a text, which has several bytes, where it may follow a step of `low`. Those of
+    /// four bytes are rare, and left to what reads any.
+    #[inline(always)]
+    fn pass_lead(&self, low: u8, text: &str) -> Option<Lead>
+        requires low { self.now.least ≤ low }
+        requires long { 3 ≤ length text.now }
+        requires lead { 192 ≤ slice_index text.now 0 }
+        ensures least { IfSome result (λ lead. self.now.least ≤ lead.low) }
+        ensures passes { IfSome result (λ lead. (c : ℕ) × BeginsWithChar text.now c lead.count × PassesCode self.now low c lead.low) }
+    {
+        if text.as_bytes()[0] >= 0xF0 {
+            return None;
+        }
+        let few = few_at(text);
+        let next = self.low_past(low, few.c)?;
+        Some(Lead {
+            low: next,
+            count: few.count,
+        })
+    }
+
+    /// Passes the characters that begin in the first `STEP` bytes of a text, the first of them behind a step of
+    /// `low`: none where there are many.
+    #[inline(always)]
+    fn pass_step<'a>(&self, low: u8, text: &'a str) -> Stretch<'a>
+        requires low { self.now.least ≤ low }
+        requires ascii { self.now.ascii ≡ true }
+        requires long { 67 ≤ length text.now }
+        ensures goes_on { ScansOn self.now text.now low result.passed.rest.now result.passed.low }
+        ensures shorter { result.ended ≡ false → length result.passed.rest.now < length text.now }
+    {
+        let mut left = leads_in_step(text.as_bytes());
+        if left.count_ones() > MANY {
+            return Stretch {
+                passed: Passed { low, rest: text },
+                ended: true,
+            };
+        }
+        let mut from = 0;
+        let mut end = 0;
+        let mut now = low;
+        'leads: while left != 0 {
+            let skip = left.trailing_zeros();
+            let at = from + skip as usize;
+            let here = &text[at..];
+            let behind = low_at(self.least, now, end, at);
+            let Some(lead) = self.pass_lead(behind, here) else {
+                return Stretch {
+                    passed: Passed {
+                        low: behind,
+                        rest: here,
+                    },
+                    ended: true,
+                };
+            };
+            now = lead.low;
+            end = at + lead.count;
+            from = at + 1;
+            left = (left >> skip) >> 1;
+        }
+        let stop = end.max(STEP);
+        let passed = Passed {
+            low: low_at(self.least, now, end, stop),
+            rest: &text[stop..],
+        };
+        Stretch {
+            passed,
+            ended: false,
         }
     }
-    (now, rest)
+
+    /// Passes the characters at the front of a text that may follow one another as they are, the first of them
+    /// behind a step of `low`, a step of bytes at a time. What is left is less than a step, or is not known to
+    /// follow. Where it isn't known that all ASCII stays, that is all.
+    #[inline(always)]
+    pub(crate) fn pass_leads<'a>(&self, low: u8, text: &'a str) -> Passed<'a>
+        requires { self.now.least ≤ low }
+        ensures { ScansOn self.now text.now low result.rest.now result.low }
+    {
+        let mut passed = Passed { low, rest: text };
+        'steps: while self.ascii && passed.rest.len() >= WHOLE {
+            let step = self.pass_step(passed.low, passed.rest);
+            passed = step.passed;
+            if step.ended {
+                return passed;
+            }
+        }
+        passed
+    }
 }

@@ -34,6 +34,7 @@ mod row_index;
 mod row_pages;
 mod row_places;
 mod row_table;
+mod scans;
 mod spelled;
 mod spellings;
 mod standing_apart;

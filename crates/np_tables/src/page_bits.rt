@@ -30,56 +30,45 @@ pub(crate) fn is_row_apart(row: &Row, second: bool) -> bool
     !second && !touches(row, 0x1161, 0x11C2)
 }
 
+/// What hints are made of.
+#[derive(Drop)]
+pub(crate) struct Known<'t> {
+    pub version: &'t Version,
+    pub fulls: &'t Fulls,
+    /// For each row whether one of its code points is the second part of a composite.
+    pub seconds: &'t [bool],
+    ghost are_seconds: { AreSeconds version.now seconds.now },
+}
+
 /// What is known of the code point of a row with a mapping, under a kind of decomposition.
-fn kind_hints(
-    version: &Version,
-    fulls: &Fulls,
-    seconds: &[bool],
-    row: &Row,
-    slot: u32,
-    own: Hints,
-    compat: bool,
-) -> Hints
-    requires seconds { AreSeconds version.now seconds.now }
+fn kind_hints(known: &Known<'_>, row: &Row, slot: u32, own: Hints, compat: bool) -> Hints
     requires row { IsRow (entry_of row.now) }
-    requires first { entry_at version.now.entries row.now.first ≡ Some (entry_of row.now) }
+    requires first { entry_at known.now.version.now.entries row.now.first ≡ Some (entry_of row.now) }
     requires mapped { row.now.mapping.items ≢ [] }
-    requires slot { IsSlot version.now fulls.now row.now.first slot }
-    requires own { is_final version.now compat row.now.first ≡ true → AreHints version.now compat row.now.first own }
-    ensures { AreHints version.now compat row.now.first result }
+    requires slot { IsSlot known.now.version.now known.now.fulls.now row.now.first slot }
+    requires own { is_final known.now.version.now compat row.now.first ≡ true → AreHints known.now.version.now compat row.now.first own }
+    ensures { AreHints known.now.version.now compat row.now.first result }
 {
-    version.meets_conditions();
+    known.version.meets_conditions();
     if is_lent(row, compat) {
-        list_hints(
-            version,
-            seconds,
-            fulls.lent(slot as usize, compat),
-            mapped_code(row),
-        )
+        let list = known.fulls.lent(slot as usize, compat);
+        list_hints(known.version, known.seconds, list, mapped_code(row))
     } else {
         own
     }
 }
 
 /// The bits of the code point of a row with a mapping.
-fn mapped_bits(
-    version: &Version,
-    fulls: &Fulls,
-    seconds: &[bool],
-    row: &Row,
-    slot: u32,
-    own: Hints,
-) -> u8
-    requires seconds { AreSeconds version.now seconds.now }
+fn mapped_bits(known: &Known<'_>, row: &Row, slot: u32, own: Hints) -> u8
     requires row { IsRow (entry_of row.now) }
-    requires first { entry_at version.now.entries row.now.first ≡ Some (entry_of row.now) }
+    requires first { entry_at known.now.version.now.entries row.now.first ≡ Some (entry_of row.now) }
     requires mapped { row.now.mapping.items ≢ [] }
-    requires slot { IsSlot version.now fulls.now row.now.first slot }
-    requires own { (compat : Bool) → is_final version.now compat row.now.first ≡ true → AreHints version.now compat row.now.first own }
-    ensures { AreRowBits version.now (entry_of row.now) result }
+    requires slot { IsSlot known.now.version.now known.now.fulls.now row.now.first slot }
+    requires own { (compat : Bool) → is_final known.now.version.now compat row.now.first ≡ true → AreHints known.now.version.now compat row.now.first own }
+    ensures { AreRowBits known.now.version.now (entry_of row.now) result }
 {
-    let canonical = kind_hints(version, fulls, seconds, row, slot, own, false);
-    let compatible = kind_hints(version, fulls, seconds, row, slot, own, true);
+    let canonical = kind_hints(known, row, slot, own, false);
+    let compatible = kind_hints(known, row, slot, own, true);
     eight_bits(canonical, compatible)
 }
 
@@ -104,26 +93,18 @@ fn bare_bits(version: &Version, row: &Row, own: Hints, leads_apart: bool) -> u8
 }
 
 /// The bits of the code points of the row at a place, from 0.
-pub(crate) fn row_bits(
-    version: &Version,
-    fulls: &Fulls,
-    seconds: &[bool],
-    at: usize,
-    slot: u32,
-    leads_apart: bool,
-) -> u8
-    requires place { at < length version.now.entries }
-    requires seconds { AreSeconds version.now seconds.now }
-    requires slot { (e : Entry) → slice_get version.now.entries at ≡ Some e → IsSlot version.now fulls.now e.first slot }
-    requires leads { IsTrue leads_apart → AreLeadsApart version.now }
-    ensures { (e : Entry) → slice_get version.now.entries at ≡ Some e → AreRowBits version.now e result }
+pub(crate) fn row_bits(known: &Known<'_>, at: usize, slot: u32, leads_apart: bool) -> u8
+    requires place { at < length known.now.version.now.entries }
+    requires slot { (e : Entry) → slice_get known.now.version.now.entries at ≡ Some e → IsSlot known.now.version.now known.now.fulls.now e.first slot }
+    requires leads { IsTrue leads_apart → AreLeadsApart known.now.version.now }
+    ensures { (e : Entry) → slice_get known.now.version.now.entries at ≡ Some e → AreRowBits known.now.version.now e result }
 {
-    version.meets_conditions();
-    let row = row_in(version.characters(), at);
-    let own = own_hints(row.class, is_row_apart(row, seconds[at]));
+    known.version.meets_conditions();
+    let row = row_in(known.version.characters(), at);
+    let own = own_hints(row.class, is_row_apart(row, known.seconds[at]));
     if row.mapping.is_empty() {
-        bare_bits(version, row, own, leads_apart)
+        bare_bits(known.version, row, own, leads_apart)
     } else {
-        mapped_bits(version, fulls, seconds, row, slot, own)
+        mapped_bits(known, row, slot, own)
     }
 }

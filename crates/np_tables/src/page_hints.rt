@@ -1,5 +1,10 @@
 //! What a table of pages keeps of each form for a code point: whether the form parts before it, and
-//! whether it leaves it as it is (UAX #15, section 9.1).
+//! whether it leaves it as it is (UAX #15, section 9.1). They are eight bits, of which 0 says that it isn't known:
+//!
+//! | Bit | 7 | 6 | 5 | 4 | 3 | 2 | 1 | 0 |
+//! |---|---|---|---|---|---|---|---|---|
+//! | Form | NFKC | NFKD | NFKC | NFKD | NFC | NFD | NFC | NFD |
+//! | 1 says | stays | stays | parts | parts | stays | stays | parts | parts |
 ghost use Rattle.std.specs.Prelude.{◌≡◌, ◌∷◌, ◌<◌, [], ℕ, Bool, true, false, IsTrue};
 ghost use Rattle.np_code_points.specs.declared.forms.Form.{Form};
 ghost use Rattle.np_tables.specs.Boundaries.{FoldsTo, NeverFalls};

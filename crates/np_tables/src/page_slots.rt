@@ -53,13 +53,17 @@ fn push_row(
     Ok(())
 }
 
-/// What a table lends for the code points of the rows that have a mapping, and for each row the
-/// slot where that stands: slot 0, which is empty, for those without a mapping.
-pub(crate) fn slots_of(
-    alloc: Global,
-    characters: &CharacterData,
-) -> Result<(Fulls, Vec<u32>), Memory>
-    ensures { IfOk result (λ r. AreSlots characters.now (length characters.now.entries) r.0 r.1.items) }
+/// What a table lends for the code points of the rows that have a mapping.
+#[derive(Drop)]
+pub(crate) struct Lent {
+    pub fulls: Fulls,
+    /// For each row the slot where that stands: slot 0, which is empty, for those without a mapping.
+    pub slots: Vec<u32>,
+}
+
+/// What a table lends for the code points of the rows that have a mapping.
+pub(crate) fn slots_of(alloc: Global, characters: &CharacterData) -> Result<Lent, Memory>
+    ensures { IfOk result (λ lent. AreSlots characters.now (length characters.now.entries) lent.fulls lent.slots.items) }
 {
     let none = Part { start: 0, end: 0 };
     let mut codes = Vec::new(alloc);
@@ -81,5 +85,5 @@ pub(crate) fn slots_of(
         canonical,
         compatible,
     };
-    Ok((fulls, slots))
+    Ok(Lent { fulls, slots })
 }

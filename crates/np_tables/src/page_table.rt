@@ -11,8 +11,8 @@ use crate::leads::are_leads_parting;
 use crate::page_hints::parts_place;
 use crate::page_slots::slots_of;
 use crate::page_words::{Word, page_words, row_words, second_rows, word_of};
+use crate::scans::Scan;
 use crate::spelled::Spelled;
-use crate::standing_runs::standing_front;
 use crate::steps::{all_steps, is_ascii_staying, least_step};
 use crate::tables::NormTable;
 use crate::version::Version;
@@ -62,24 +62,34 @@ impl Model for PageTable {
     ghost invariant = { λ a. ArePageTables a.version a.fulls a.index.items a.words.items a.spelled };
 }
 
-/// What a table keeps of a version that is lent: the blocks' numbers, their words, the full
-/// decompositions, and what is written of them.
-fn pages_of(
-    alloc: Global,
-    version: &Version,
-) -> Result<(Vec<u16>, Vec<Word>, Fulls, Spelled), Memory>
-    ensures pages { IfOk result (λ r. ArePages version.now r.2 r.0.items r.1.items) }
-    ensures spelled { IfOk result (λ r. AreSpelled version.now r.2 r.3) }
+/// What a table keeps of a version that is lent.
+#[derive(Drop)]
+struct Kept {
+    index: Vec<u16>,
+    words: Vec<Word>,
+    fulls: Fulls,
+    spelled: Spelled,
+}
+
+/// What a table keeps of a version that is lent.
+fn pages_of(alloc: Global, version: &Version) -> Result<Kept, Memory>
+    ensures pages { IfOk result (λ kept. ArePages version.now kept.fulls kept.index.items kept.words.items) }
+    ensures spelled { IfOk result (λ kept. AreSpelled version.now kept.fulls kept.spelled) }
 {
     let pages = version.characters().pages();
-    let (fulls, slots) = slots_of(alloc, version.characters())?;
+    let lent = slots_of(alloc, version.characters())?;
     let seconds = second_rows(alloc, version)?;
-    let rows = row_words(alloc, version, &fulls, &slots, &seconds)?;
+    let rows = row_words(alloc, version, &lent.fulls, &lent.slots, &seconds)?;
     let words = page_words(alloc, &rows, &pages.numbers)?;
     let mut index = Vec::with_capacity(alloc, pages.index.len())?;
     index.extend_from_slice(&pages.index)?;
-    let spelled = Spelled::new(alloc, version, &seconds, &fulls)?;
-    Ok((index, words, fulls, spelled))
+    let spelled = Spelled::new(alloc, version, &seconds, &lent.fulls)?;
+    Ok(Kept {
+        index,
+        words,
+        fulls: lent.fulls,
+        spelled,
+    })
 }
 
 impl PageTable {
@@ -91,7 +101,12 @@ impl PageTable {
     pub fn new(alloc: Global, version: Version) -> Result<PageTable, Memory>
         ensures { IfOk result (λ t. t ≡ version) }
     {
-        let (index, words, fulls, spelled) = pages_of(alloc, &version)?;
+        let Kept {
+            index,
+            words,
+            fulls,
+            spelled,
+        } = pages_of(alloc, &version)?;
         let steps = all_steps(alloc, &words)?;
         let ascii = is_ascii_staying(&index, &steps);
         let leads = are_leads_parting(&index, &words);
@@ -170,15 +185,16 @@ impl NormTable for PageTable {
     }
 
     fn standing(&self, form: Form, assigned: bool, text: &str) -> (usize, bool) {
-        standing_front(
-            &self.version,
-            &self.index,
-            &self.words,
-            &self.steps,
-            self.ascii,
-            least_step(assigned),
+        let scan = Scan {
+            version: &self.version,
+            index: &self.index,
+            words: &self.words,
+            steps: &self.steps,
+            ascii: self.ascii,
+            least: least_step(assigned),
             form,
-            text,
-        )
+        };
+        let front = scan.standing_front(text);
+        (front.count, front.parts)
     }
 }

@@ -1,11 +1,21 @@
 //! One small word for each code point, of which most answers of a table are read.
+//!
+//! | Bits | Field | What it says |
+//! |---|---|---|
+//! | 32 | `fulls` | where its full decompositions stand, and its forms; 0: it has no mapping |
+//! | 8 | `class` | its combining class |
+//! | 8 | `assigned` | 1: a row has it |
+//! | 8 | `apart` | 1: no code point of its row is the second part of a primary composite |
+//! | 8 | `hints` | under which forms it stays or parts: `page_hints` tells which bit |
+//!
+//! Beside it stands a step of 8 bits for each form, which are made of the word: `steps` has their values.
 ghost use Rattle.std.specs.Prelude.{◌≡◌, ℕ, ◌+◌, ◌<◌, length, slice_get, slice_index_or, false, IfOk, Some};
 ghost use Rattle.np_tables.specs.inside.PageWords.{AreRowWords, AreSeconds, AreSlots, no_word, paged_words, row_word};
 ghost use Rattle.np_tables.specs.inside.Pages.{AreWithin, word_place};
 ghost use Rattle.np_ucd.specs.Entries.{Entry};
 
 use crate::fulls::Fulls;
-use crate::page_bits::{is_row_apart, row_bits};
+use crate::page_bits::{Known, is_row_apart, row_bits};
 use crate::page_hints::are_leads_apart;
 use crate::row_places::row_in;
 use crate::version::Version;
@@ -84,10 +94,15 @@ pub(crate) fn row_words(
 {
     let count = version.characters().len();
     let leads_apart = are_leads_apart(version, seconds);
+    let known = Known {
+        version,
+        fulls,
+        seconds,
+    };
     let mut words = Vec::with_capacity(alloc, count + 1)?;
     words.push(NO_WORD)?;
     for at in 0..count {
-        let hints = row_bits(version, fulls, seconds, at, slots[at], leads_apart);
+        let hints = row_bits(&known, at, slots[at], leads_apart);
         words.push(word_of_row(version, at, slots[at], seconds[at], hints))?;
     }
     Ok(words)

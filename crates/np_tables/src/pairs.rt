@@ -1,10 +1,10 @@
 //! The primary composites of a data file, by the pairs that they compose.
-ghost use Rattle.std.specs.Prelude.{◌≡◌, ◌↔◌, ℕ, ◌≤◌, ◌<◌, true, length, vec_len, flat_map, option_to_list, slice_get, IfOk, IfSome, IfNone, IsTrue, Some};
-ghost use Rattle.std.specs.List.{All, AllWithin};
+ghost use Rattle.std.specs.Prelude.{◌≡◌, ◌↔◌, ℕ, ◌<◌, true, length, vec_len, flat_map, option_to_list, slice_get, IfOk, IfSome, IfNone, IsTrue, Some};
+ghost use Rattle.std.specs.List.{All};
 ghost use Rattle.std.specs.List.Sorted.{IsPermutation};
 ghost use Rattle.np_ucd.specs.Entries.{IsRow};
 ghost use Rattle.np_ucd.specs.RowValues.{entry_of};
-ghost use Rattle.np_tables.specs.inside.Pairs.{AreOfFile, AreOrdered, HaveNumbers, IsInRange, Lists, composites_in, pair_rank, slot_at};
+ghost use Rattle.np_tables.specs.inside.Pairs.{AreOfFile, AreOrdered, HaveNumbers, IsInRange, Lists, StandsAt, composites_in, pair_rank, slot_at};
 
 use crate::characters::CharacterData;
 use crate::row_places::{mapped_code, row_in};
@@ -156,11 +156,9 @@ impl Pairs {
         self.composites[place]
     }
 
-    /// How many places have a pair that comes before this one.
+    /// How many places have a pair that comes before this one: where some have this pair, it stands behind those.
     fn place(&self, first: char, second: char) -> usize
-        ensures fits { result ≤ length self.now }
-        ensures below { AllWithin (λ c. pair_rank c.first c.second < pair_rank first second) self.now 0 result }
-        ensures above { AllWithin (λ c. pair_rank first second ≤ pair_rank c.first c.second) self.now result (length self.now) }
+        ensures { (code : ℕ) → Lists self.now first second code → (own : ℕ) × StandsAt self.now result first second own }
     {
         let mut low = 0;
         let mut high = self.len();
@@ -178,7 +176,8 @@ impl Pairs {
     /// The composite at a place, from 0, if it has this pair.
     #[inline(always)]
     fn found_at(&self, place: usize, first: char, second: char) -> Option<char>
-        ensures { IfSome result (Lists self.now first second) }
+        ensures some { IfSome result (Lists self.now first second) }
+        ensures none { IfNone result ((code : ℕ) → ¬ (StandsAt self.now place first second code)) }
     {
         if place >= self.len() {
             return None;
@@ -211,14 +210,7 @@ impl Pairs {
         ensures some { IfSome result (Lists self.now first second) }
         ensures none { IfNone result ((code : ℕ) → ¬ (Lists self.now first second code)) }
     {
-        let place = self.place(first, second);
-        if place < self.len() {
-            let here = self.at(place);
-            if here.is_of(first, second) {
-                return Some(here.code);
-            }
-        }
-        None
+        self.found_at(self.place(first, second), first, second)
     }
 }
 

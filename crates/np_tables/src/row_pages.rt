@@ -29,18 +29,32 @@ pub(crate) struct RowPages {
     pub numbers: Vec<u32>,
 }
 
-/// The row number of a code point, and whether its row ends there.
-fn number_at(rows: &Rows, at: usize, code: u32) -> (u32, bool)
+/// The row number of a code point.
+#[derive(Clone, Copy)]
+struct Numbered {
+    number: u32,
+    /// Whether its row ends there.
+    ends: bool,
+}
+
+/// The row number of a code point, by the place of the next row.
+fn number_at(rows: &Rows, at: usize, code: u32) -> Numbered
     requires rows { AreRows rows.now }
     requires next { IsNextRow rows.now at code }
-    ensures number { IsRowNumber rows.now code result.0 }
-    ensures bound { result.1 ≡ true → at < 0x110000 }
-    ensures ends { result.1 ≡ true → IsNextRow rows.now (at + 1) (code + 1) }
-    ensures goes_on { result.1 ≡ false → IsNextRow rows.now at (code + 1) }
+    ensures number { IsRowNumber rows.now code result.number }
+    ensures bound { result.ends ≡ true → at < 0x110000 }
+    ensures ends { result.ends ≡ true → IsNextRow rows.now (at + 1) (code + 1) }
+    ensures goes_on { result.ends ≡ false → IsNextRow rows.now at (code + 1) }
 {
     match rows.get(at) {
-        Some(row) if row.first <= code => (at as u32 + 1, row.last == code),
-        _ => (0, false),
+        Some(row) if row.first <= code => Numbered {
+            number: at as u32 + 1,
+            ends: row.last == code,
+        },
+        _ => Numbered {
+            number: 0,
+            ends: false,
+        },
     }
 }
 
@@ -54,13 +68,13 @@ fn push_block(rows: &Rows, from: usize, first: u32, numbers: &mut Vec<u32>) -> R
 {
     let mut at = from;
     for low in 0..BLOCK as u32 {
-        let (number, ends) = number_at(rows, at, first + low);
+        let here = number_at(rows, at, first + low);
         // in two arms, so that a processor guesses the next row, and does not wait for this one
-        if ends {
-            numbers.push(number)?;
+        if here.ends {
+            numbers.push(here.number)?;
             at += 1;
         } else {
-            numbers.push(number)?;
+            numbers.push(here.number)?;
         }
     }
     Ok(at)

@@ -57,43 +57,51 @@ fn composite_of(version: &Version, seconds: &[bool], first: char, second: char) 
     version.composite_of(first, second)
 }
 
-/// Appends what a starter that is held and the code points behind it compose to, where each of them
-/// goes into what is held or is a starter that is held in its place. `last` is the class of what went
-/// in last, 0 where nothing did. False where they do not compose so: then what was appended is no form.
+/// A starter that is held, since what follows may go into it.
+#[derive(Clone, Copy)]
+struct Held {
+    c: char,
+    /// The class of what went in last, 0 where nothing did.
+    last: u8,
+}
+
+/// Appends what a starter that is held and the code points behind it compose to, where each of them goes into what
+/// is held or is a starter that is held in its place. False where they do not: then what was appended is no form.
 fn write_composed(
     version: &Version,
     seconds: &[bool],
-    held: char,
-    last: u8,
+    held: Held,
     rest: &[char],
     text: &mut String,
 ) -> Result<bool, Memory>
     requires { AreSeconds version.now seconds.now }
-    ensures { IfOk result (λ known. IsTrue known → Writes (ComposesOn version.now held last rest.now) (string_bytes text.old) (string_bytes text.new)) }
+    ensures { IfOk result (λ known. IsTrue known → Writes (ComposesOn version.now held.c held.last rest.now) (string_bytes text.old) (string_bytes text.new)) }
 {
     match rest {
         [next, later @ ..] => {
             let class = version.class_of(u32::from(*next));
-            match composite_of(version, seconds, held, *next) {
-                Some(composite) => {
+            match composite_of(version, seconds, held.c, *next) {
+                Some(c) => {
                     // Classes that fall are put in order before anything composes.
-                    if class != 0 && class < last {
+                    if class != 0 && class < held.last {
                         return Ok(false);
                     }
-                    write_composed(version, seconds, composite, class, later, text)
+                    let composite = Held { c, last: class };
+                    write_composed(version, seconds, composite, later, text)
                 }
                 None => {
                     // What stays behind a starter may keep the next ones from it.
                     if class != 0 {
                         return Ok(false);
                     }
-                    text.push(held)?;
-                    write_composed(version, seconds, *next, 0, later, text)
+                    text.push(held.c)?;
+                    let starter = Held { c: *next, last: 0 };
+                    write_composed(version, seconds, starter, later, text)
                 }
             }
         }
         [] => {
-            text.push(held)?;
+            text.push(held.c)?;
             Ok(true)
         }
     }
@@ -115,7 +123,8 @@ fn write_composition(
             if version.class_of(u32::from(*first)) != 0 {
                 return Ok(false);
             }
-            write_composed(version, seconds, *first, 0, rest, text)
+            let held = Held { c: *first, last: 0 };
+            write_composed(version, seconds, held, rest, text)
         }
         [] => Ok(false),
     }

@@ -6,8 +6,8 @@ ghost use Rattle.np_tables.specs.inside.PageWords.{ArePages, IsKeptApart, Passes
 ghost use Rattle.np_tables.specs.inside.Pages.{word_place};
 
 use crate::page_words::{Word, word_of};
+use crate::scans::Scan;
 use crate::version::Version;
-use np_code_points::Form;
 use np_code_points::hangul::is_syllable;
 
 /// The last code point of a text, but of ASCII, with which most that compose at all have a composite.
@@ -57,39 +57,31 @@ fn is_kept_apart(version: &Version, kept: char, before: Word, c: char, class: u8
     }
 }
 
-/// The least step that may follow a code point, where it may be a second part of composites, but goes into
-/// nothing behind the text `front`: none where that is not found. A step of `low` may follow that text.
-#[inline(always)]
-pub(crate) fn pass_apart(
-    version: &Version,
-    blocks: &[u16],
-    words: &[Word],
-    least: u8,
-    low: u8,
-    form: Form,
-    front: &str,
-    c: char,
-    word: Word,
-) -> Option<u8>
-    requires pages { (lists : FullLists) × ArePages version.now lists blocks.now words.now }
-    requires word { word ≡ slice_index_or words.now (word_place blocks.now c) no_word }
-    requires low { least ≤ low }
-    ensures least { IfSome result (λ next. least ≤ next) }
-    ensures apart { IfSome result (λ next. PassesApart version.now form (chars front.now) c low next) }
-{
-    // else the steps have told all
-    if word.apart || word.fulls != 0 || !form.composes() {
-        return None;
-    }
-    let kept = last_beyond_ascii(front)?;
-    if !word.assigned || is_syllable(c as u32) {
-        return None;
-    }
-    let next = low_behind_class(least, low, word.class)?;
-    let before = word_of(blocks, words, kept);
-    if is_kept_apart(version, kept, before, c, word.class) {
-        Some(next)
-    } else {
-        None
+impl<'t> Scan<'t> {
+    /// The least step that may follow a code point, where it may be a second part of composites, but goes into
+    /// nothing behind the text `front`: none where that is not found. A step of `low` may follow that text.
+    #[inline(always)]
+    pub(crate) fn pass_apart(&self, low: u8, front: &str, c: char, word: Word) -> Option<u8>
+        requires pages { (lists : FullLists) × ArePages self.now.version.now lists self.now.index.now self.now.words.now }
+        requires word { word ≡ slice_index_or self.now.words.now (word_place self.now.index.now c) no_word }
+        requires low { self.now.least ≤ low }
+        ensures least { IfSome result (λ next. self.now.least ≤ next) }
+        ensures apart { IfSome result (λ next. PassesApart self.now.version.now self.now.form (chars front.now) c low next) }
+    {
+        // else the steps have told all
+        if word.apart || word.fulls != 0 || !self.form.composes() {
+            return None;
+        }
+        let kept = last_beyond_ascii(front)?;
+        if !word.assigned || is_syllable(c as u32) {
+            return None;
+        }
+        let next = low_behind_class(self.least, low, word.class)?;
+        let before = word_of(self.index, self.words, kept);
+        if is_kept_apart(self.version, kept, before, c, word.class) {
+            Some(next)
+        } else {
+            None
+        }
     }
 }

@@ -6,23 +6,19 @@
 //! that canonical ordering puts behind it still go into the starter. One that may compose backward is not taken
 //! to follow a composite or a syllable, since it may go into a part of that (00E0 0323). What is copied ends
 //! before a boundary or with the text; where neither follows, what begins at the last boundary is made anew.
-ghost use Rattle.std.specs.Prelude.{◌≡◌, ◌<◌, ◌≤◌, ℕ, chars, drop, length, slice_index_or, true, false, IfSome, IsTrue, IsUtf8};
+ghost use Rattle.std.specs.Prelude.{◌≡◌, ◌<◌, ◌≤◌, chars, drop, length, slice_index_or, false, IfSome, IsTrue};
 ghost use Rattle.np_tables.specs.Boundaries.{BeginsAtBoundary};
-ghost use Rattle.np_tables.specs.Versions.{VersionData};
 ghost use Rattle.np_tables.specs.inside.FullLists.{FullLists};
-ghost use Rattle.np_tables.specs.inside.PageWords.{AreFollowing, ArePages, Follows, FollowsByStep, IsAsciiStaying, IsPast, WalksOn, no_word};
-ghost use Rattle.np_tables.specs.inside.Pages.{AreWithin, word_place};
+ghost use Rattle.np_tables.specs.inside.PageWords.{AreFollowing, ArePages, IsPast, no_word};
+ghost use Rattle.np_tables.specs.inside.Pages.{word_place};
+ghost use Rattle.np_tables.specs.inside.Scans.{ScansOn, ScansPast};
 
 use crate::ascii_runs::ascii_front;
-use crate::lead_runs::pass_leads;
 use crate::page_hints::parts_place;
 use crate::page_words::{Word, word_of};
-use crate::standing_apart::pass_apart;
-use crate::steps::{low_behind, step_at, step_place};
-use crate::utf8_fronts::{split_three, split_two};
-use crate::version::Version;
+use crate::scans::{Passed, Scan, Stretch};
+use crate::utf8_fronts::{First, split_any, split_three, split_two};
 use crate::word_bits::has_bit;
-use np_code_points::Form;
 
 /// Whether a text begins with ASCII. On this no answer depends.
 #[inline(always)]
@@ -45,195 +41,142 @@ fn behind_ascii(text: &str) -> &str
     &text[ascii_front(text.as_bytes())..]
 }
 
-/// The least step that may follow a code point, where it may follow a step of `low`: none where it may not.
-#[inline(always)]
-pub(crate) fn low_past(
-    blocks: &[u16],
-    steps: &[u32],
-    least: u8,
-    low: u8,
-    form: Form,
-    c: char,
-) -> Option<u8>
-    requires within { AreWithin 4352 blocks.now (length steps.now) }
-    requires some { 1 ≤ least }
-    requires low { least ≤ low }
-    ensures least { IfSome result (λ next. least ≤ next) }
-    ensures follows { IfSome result (λ next. (last : ℕ) → last ≤ low → (n : ℕ) × ((n ≤ next) × FollowsByStep least blocks.now steps.now form last c n)) }
-{
-    let step = step_at(blocks, steps, step_place(form), c);
-    if step < low {
-        return None;
-    }
-    Some(low_behind(least, step))
-}
-
-/// The least step that may follow the first code point of a text, or the ASCII that it begins with, and
-/// what stands behind that: none where it may not follow a step of `low`, and at the end of the text.
-#[inline(always)]
-fn pass_next<'a>(
-    blocks: &[u16],
-    steps: &[u32],
-    ascii: bool,
-    least: u8,
-    low: u8,
-    form: Form,
-    text: &'a str,
-) -> Option<(u8, &'a str)>
-    requires within { AreWithin 4352 blocks.now (length steps.now) }
-    requires ascii { ascii ≡ true → IsAsciiStaying blocks.now steps.now }
-    requires some { 1 ≤ least }
-    requires low { least ≤ low }
-    ensures least { IfSome result (λ cut. least ≤ cut.0) }
-    ensures walks { IfSome result (λ cut. (v : VersionData) → WalksOn (Follows v least blocks.now steps.now form) text.now cut.1.now low cut.0) }
-    ensures shorter { IfSome result (λ cut. length cut.1.now < length text.now) }
-    ensures utf8 { IfSome result (λ cut. IsUtf8 cut.1.now) }
-{
-    if let Some((c, later)) = split_three(text) {
-        let next = low_past(blocks, steps, least, low, form, c)?;
-        return Some((next, later));
-    }
-    if ascii && begins_with_ascii(text) {
-        let mut iter = text.chars();
-        let c = iter.next()?;
-        if c.is_ascii() {
-            return Some((least, behind_ascii(iter.as_str())));
-        }
-    }
-    if let Some((c, later)) = split_two(text) {
-        let next = low_past(blocks, steps, least, low, form, c)?;
-        return Some((next, later));
-    }
-    let mut iter = text.chars();
-    let c = iter.next()?;
-    let next = low_past(blocks, steps, least, low, form, c)?;
-    Some((next, iter.as_str()))
-}
-
 /// How many bytes are passed one code point, or run of ASCII, after the other before several are at once: where a
 /// form changes much, what stands between is shorter.
 const FEW: usize = 256;
 
-/// Passes code points and runs of ASCII at the front of a text, as far as `FEW` bytes go, that by their steps may
-/// follow one another as they are, the first of them behind a step of `low`. Answers the least step that may follow,
-/// what stands behind them, and whether it ends there.
-#[inline(always)]
-fn pass_few<'a>(
-    blocks: &[u16],
-    steps: &[u32],
-    ascii: bool,
-    least: u8,
-    low: u8,
-    form: Form,
-    text: &'a str,
-) -> (u8, &'a str, bool)
-    requires within { AreWithin 4352 blocks.now (length steps.now) }
-    requires ascii { ascii ≡ true → IsAsciiStaying blocks.now steps.now }
-    requires some { 1 ≤ least }
-    requires low { least ≤ low }
-    ensures least { least ≤ result.0 }
-    ensures walks { (v : VersionData) → WalksOn (Follows v least blocks.now steps.now form) text.now result.1.now low result.0 }
-    ensures front { length result.1.now ≤ length text.now }
-    ensures shorter { result.2 ≡ false → length result.1.now < length text.now }
-    ensures utf8 { IsUtf8 result.1.now }
-{
-    // it is some end of the text, so that one comparison tells that there is a next one too
-    let stop = text.len().saturating_sub(FEW);
-    let mut rest = text;
-    let mut now = low;
-    'few: while rest.len() > stop {
-        let Some((next, later)) = pass_next(blocks, steps, ascii, least, now, form, rest) else {
-            return (now, rest, true);
-        };
-        now = next;
-        rest = later;
+/// How many bytes at the front of a text are code points that may follow one another as they are.
+#[derive(Clone, Copy)]
+pub(crate) struct Front {
+    pub count: usize,
+    /// Whether the form is known to part before what follows them.
+    pub parts: bool,
+}
+
+impl<'t> Scan<'t> {
+    /// Passes the first character of a text, where it may follow a step of `low`.
+    #[inline(always)]
+    fn pass_first<'a>(&self, low: u8, first: First<'a>) -> Option<Passed<'a>>
+        requires { self.now.least ≤ low }
+        ensures goes_on { IfSome result (λ passed. ScansPast self.now low first.entry.c first.entry.rest.now passed.rest.now passed.low) }
+        ensures rest { IfSome result (λ passed. passed.rest.now ≡ first.entry.rest.now) }
+    {
+        let next = self.low_past(low, first.c)?;
+        Some(Passed {
+            low: next,
+            rest: first.rest,
+        })
     }
-    (now, rest, rest.is_empty())
-}
 
-/// Passes the code points at the front of a text that by their steps may follow one another as they are, the
-/// first of them behind a step of `low`. Answers the least step that may follow, and what stands behind them.
-/// `ascii` tells that all ASCII stays, which is then passed in steps, and what stands between as well.
-#[inline(always)]
-fn pass_by_steps<'a>(
-    blocks: &[u16],
-    steps: &[u32],
-    ascii: bool,
-    least: u8,
-    low: u8,
-    form: Form,
-    text: &'a str,
-) -> (u8, &'a str)
-    requires within { AreWithin 4352 blocks.now (length steps.now) }
-    requires ascii { ascii ≡ true → IsAsciiStaying blocks.now steps.now }
-    requires some { 1 ≤ least }
-    requires low { least ≤ low }
-    ensures least { least ≤ result.0 }
-    ensures walks { (v : VersionData) → WalksOn (Follows v least blocks.now steps.now form) text.now result.1.now low result.0 }
-    ensures front { length result.1.now ≤ length text.now }
-{
-    let mut rest = text;
-    let mut now = low;
-    'scan: loop {
-        let (next, later, ended) = pass_few(blocks, steps, ascii, least, now, form, rest);
-        if ended {
-            return (next, later);
+    /// Passes the first character of a text, or the ASCII that it begins with, where that may follow a step of
+    /// `low`: none where it may not, and at the end of the text.
+    #[inline(always)]
+    fn pass_next<'a>(&self, low: u8, text: &'a str) -> Option<Passed<'a>>
+        requires { self.now.least ≤ low }
+        ensures goes_on { IfSome result (λ passed. ScansOn self.now text.now low passed.rest.now passed.low) }
+        ensures shorter { IfSome result (λ passed. length passed.rest.now < length text.now) }
+    {
+        if let Some(first) = split_three(text) {
+            return self.pass_first(low, first);
         }
-        let (onward, behind) = pass_leads(blocks, steps, ascii, least, next, form, later);
-        now = onward;
-        rest = behind;
+        if self.ascii && begins_with_ascii(text) {
+            let first = split_any(text)?;
+            if first.c.is_ascii() {
+                return Some(Passed {
+                    low: self.least,
+                    rest: behind_ascii(first.rest),
+                });
+            }
+        }
+        if let Some(first) = split_two(text) {
+            return self.pass_first(low, first);
+        }
+        self.pass_first(low, split_any(text)?)
     }
-}
 
-/// The word of the code point at which a run ends.
-#[inline(always)]
-fn word_behind(blocks: &[u16], words: &[Word], c: char) -> Word
-    requires { AreWithin 4352 blocks.now (length words.now) }
-    ensures word { result ≡ slice_index_or words.now (word_place blocks.now c) no_word }
-    ensures scalar { c < 0x110000 }
-{
-    word_of(blocks, words, c)
-}
-
-/// How many bytes at the front of a text are code points that may follow one another as they are. Each has a
-/// step that is no less than `least`, or goes into nothing behind the one before. The second answer tells
-/// whether the form is known to part before what follows them.
-pub(crate) fn standing_front(
-    version: &Version,
-    blocks: &[u16],
-    words: &[Word],
-    steps: &[u32],
-    ascii: bool,
-    least: u8,
-    form: Form,
-    text: &str,
-) -> (usize, bool)
-    requires pages { (lists : FullLists) × ArePages version.now lists blocks.now words.now }
-    requires within { AreWithin 4352 blocks.now (length steps.now) }
-    requires ascii { ascii ≡ true → IsAsciiStaying blocks.now steps.now }
-    requires some { 1 ≤ least }
-    ensures following { AreFollowing version.now least blocks.now steps.now form text.now result.0 }
-    ensures parts { IsTrue result.1 → BeginsAtBoundary version.now form (chars (drop result.0 text.now)) }
-{
-    let mut rest = text;
-    // the least step that may follow
-    let mut low = least;
-    'scan: loop {
-        let (next, here) = pass_by_steps(blocks, steps, ascii, least, low, form, rest);
-        let front = &text[..text.len() - here.len()];
-        let mut iter = here.chars();
-        let Some(c) = iter.next() else {
-            return (front.len(), true);
-        };
-        let word = word_behind(blocks, words, c);
-        if has_bit(word.hints, parts_place(form)) {
-            return (front.len(), true);
+    /// Passes code points and runs of ASCII at the front of a text, as far as `FEW` bytes go, that by their steps
+    /// may follow one another as they are, the first of them behind a step of `low`.
+    #[inline(always)]
+    fn pass_few<'a>(&self, low: u8, text: &'a str) -> Stretch<'a>
+        requires { self.now.least ≤ low }
+        ensures goes_on { ScansOn self.now text.now low result.passed.rest.now result.passed.low }
+        ensures shorter { result.ended ≡ false → length result.passed.rest.now < length text.now }
+    {
+        // it is some end of the text, so that one comparison tells that there is a next one too
+        let stop = text.len().saturating_sub(FEW);
+        let mut passed = Passed { low, rest: text };
+        'few: while passed.rest.len() > stop {
+            let Some(next) = self.pass_next(passed.low, passed.rest) else {
+                return Stretch {
+                    passed,
+                    ended: true,
+                };
+            };
+            passed = next;
         }
-        let Some(behind) = pass_apart(version, blocks, words, least, next, form, front, c, word)
-        else {
-            return (front.len(), false);
-        };
-        low = behind;
-        rest = iter.as_str();
+        Stretch {
+            passed,
+            ended: passed.rest.is_empty(),
+        }
+    }
+
+    /// Passes the code points at the front of a text that by their steps may follow one another as they are, the
+    /// first of them behind a step of `low`.
+    #[inline(always)]
+    fn pass_by_steps<'a>(&self, low: u8, text: &'a str) -> Passed<'a>
+        requires { self.now.least ≤ low }
+        ensures { ScansOn self.now text.now low result.rest.now result.low }
+    {
+        let mut passed = Passed { low, rest: text };
+        'scan: loop {
+            let few = self.pass_few(passed.low, passed.rest);
+            if few.ended {
+                return few.passed;
+            }
+            passed = self.pass_leads(few.passed.low, few.passed.rest);
+        }
+    }
+
+    /// The word of the code point at which a run ends.
+    #[inline(always)]
+    fn word_at(&self, c: char) -> Word
+        requires pages { (lists : FullLists) × ArePages self.now.version.now lists self.now.index.now self.now.words.now }
+        ensures word { result ≡ slice_index_or self.now.words.now (word_place self.now.index.now c) no_word }
+        ensures scalar { c < 0x110000 }
+    {
+        word_of(self.index, self.words, c)
+    }
+
+    /// The code points at the front of a text that may follow one another as they are. Each has a step that is no
+    /// less than the least, or goes into nothing behind the one before.
+    #[inline(always)]
+    pub(crate) fn standing_front(&self, text: &str) -> Front
+        requires { (lists : FullLists) × ArePages self.now.version.now lists self.now.index.now self.now.words.now }
+        ensures following { AreFollowing self.now.version.now self.now.least self.now.index.now self.now.steps.now self.now.form text.now result.count }
+        ensures parts { IsTrue result.parts → BeginsAtBoundary self.now.version.now self.now.form (chars (drop result.count text.now)) }
+    {
+        let mut low = self.least;
+        let mut rest = text;
+        'scan: loop {
+            let passed = self.pass_by_steps(low, rest);
+            let front = &text[..text.len() - passed.rest.len()];
+            let count = front.len();
+            let mut iter = passed.rest.chars();
+            let Some(c) = iter.next() else {
+                return Front { count, parts: true };
+            };
+            let word = self.word_at(c);
+            if has_bit(word.hints, parts_place(self.form)) {
+                return Front { count, parts: true };
+            }
+            let Some(behind) = self.pass_apart(passed.low, front, c, word) else {
+                return Front {
+                    count,
+                    parts: false,
+                };
+            };
+            low = behind;
+            rest = iter.as_str();
+        }
     }
 }

@@ -1,5 +1,16 @@
 //! What a scan asks of a code point under each form, in one byte: a word is told by several branches that
 //! can't be foretold in texts with non-starters, a byte by one.
+//!
+//! | Bits | 31 to 24 | 23 to 16 | 15 to 8 | 7 to 0 |
+//! |---|---|---|---|---|
+//! | Form | NFKC | NFKD | NFC | NFD |
+//!
+//! | Step | What the code point is |
+//! |---|---|
+//! | 255 | it stays, and anything may follow |
+//! | 1 to 254 | a non-starter of this class without a mapping, which goes into nothing where the form composes |
+//! | 1 | one that is not assigned too, which stays |
+//! | 0 | none of these: its word tells more |
 ghost use Rattle.std.specs.Prelude.{◌≡◌, ◌/◌, ◌%◌, ◌^◌, ◌<◌, length, slice_index_or, IfOk, IsTrue};
 ghost use Rattle.np_tables.specs.inside.PageHints.{has_bit as spec_has_bit, stays_place as spec_stays_place};
 ghost use Rattle.np_tables.specs.inside.PageWords.{IsAsciiStaying};

@@ -1,5 +1,5 @@
 -- A list of primary composites in the order of their pairs.
-use Rattle.std.specs.Prelude.{◌≡◌, ℕ, ◌+◌, ◌*◌, ◌%◌, ◌<◌, Bool, false, ◌&&◌, List, [], ◌∷◌, slice_index, cond}
+use Rattle.std.specs.Prelude.{◌≡◌, ℕ, ◌+◌, ◌*◌, ◌%◌, ◌<◌, Bool, false, ◌&&◌, List, [], ◌∷◌, Some, slice_get, slice_index, cond}
 use Rattle.std.specs.List.{All, Contains}
 use Rattle.std.specs.List.Sorted.{IsNonDecreasingBy}
 use Rattle.np_ucd.specs.Entries.{Entry}
@@ -12,6 +12,10 @@ use Rattle.np_tables.specs.declared.pairs.Composite.{Composite}
 -- the list has this composite with this pair
 abbrev pub Lists : List Composite → ℕ → ℕ → ℕ → Type 0
 Lists cs first second code = Contains cs (record { first = first; second = second; code = code })
+
+-- this composite stands at a place, from 0
+abbrev pub StandsAt : List Composite → ℕ → ℕ → ℕ → ℕ → Type 0
+StandsAt cs place first second code = slice_get cs place ≡ Some (record { first = first; second = second; code = code })
 
 -- where a pair stands among all pairs of code points
 abbrev pub pair_rank : ℕ → ℕ → ℕ

@@ -7,7 +7,7 @@ use Rattle.np_tables.proofs.SpellingLemmas.{composes-end, composes-starts}
 use Rattle.np_tables.proofs.spellings.+write_composed.Goals as goal
 
 pub returns-in_ok-push-in-empty : goal.returns-in_ok-push-in-empty
-returns-in_ok-push-in-empty t c = λ _. composes-end c.args.version.now c.args.held c.args.last c.args.rest.now _ _ c.in-empty.len_below c.in_ok-push-in-empty.ensures.bytes
+returns-in_ok-push-in-empty t c = λ _. composes-end c.args.version.now c.args.held.c c.args.held.last c.args.rest.now _ _ c.in-empty.len_below c.in_ok-push-in-empty.ensures.bytes
 
 pub returns-in_ok-push-in-None : goal.returns-in_ok-push-in-None
 returns-in_ok-push-in-None t c =
@@ -17,6 +17,6 @@ returns-in_ok-push-in-None t c =
     let starter = sym (c.class_of-class.ensures ∙ ap (class_of v) c.from.ensures) ∙ c.if-class-ne0-2.false in
     IfOk-weaker c.write_composed-in-None.result
     (λ known. IsTrue known → Writes (ComposesOn v next 0 (slice_range rest 1 (length rest))) (string_bytes c.push-in-None.new.self) (string_bytes c.write_composed-in-None.new.text))
-    (λ known. IsTrue known → Writes (ComposesOn v c.args.held c.args.last rest) (string_bytes c.args.text.now) (string_bytes c.write_composed-in-None.new.text))
-    (λ known later is. composes-starts v c.args.held c.args.last next rest _ _ _ c.in-len1-up.len_at_least c.next-item.is starter (sym c.composite_of.ensures ∙ c.in-None.is) c.in_ok-push-in-None.ensures.bytes (later is))
+    (λ known. IsTrue known → Writes (ComposesOn v c.args.held.c c.args.held.last rest) (string_bytes c.args.text.now) (string_bytes c.write_composed-in-None.new.text))
+    (λ known later is. composes-starts v c.args.held.c c.args.held.last next rest _ _ _ c.in-len1-up.len_at_least c.next-item.is starter (sym c.composite_of.ensures ∙ c.in-None.is) c.in_ok-push-in-None.ensures.bytes (later is))
     c.write_composed-in-None.ensures

@@ -16,8 +16,8 @@ from_u32_unchecked-c-requires c =
     let same : get_or bytes 0 0 % 32 * 64 + get_or bytes 1 0 % 64 ≡ c.from.result * 64 + c.from-2.result = omega (arith, c.from.ensures, c.from-2.ensures) in
     subst IsScalar same begins.scalar
 
-pub range_from-requires : goal.range_from-requires
-range_from-requires c = λ _.
+pub range_from-rest-requires : goal.range_from-rest-requires
+range_from-rest-requires c = λ _.
     let begins = begins_with_two c.as_bytes-bytes.result.now c.as_bytes-bytes.ensures.utf8 c.if-bytes-ne6.false in
     subst (λ l. IsCharBoundary l 2) c.as_bytes-bytes.ensures.value begins.cut
 
@@ -28,4 +28,4 @@ returns-clause-parts c =
     let begins = begins_with_two c.as_bytes-bytes.result.now c.as_bytes-bytes.ensures.utf8 c.if-bytes-ne6.false in
     let same : get_or bytes 0 0 % 32 * 64 + get_or bytes 1 0 % 64 ≡ code = omega (arith, c.from.ensures, c.from-2.ensures, c.from_u32_unchecked-c.ensures) in
     sym c.as_bytes-bytes.ensures.value ∙ begins.parts ∙ ap (λ k. encode_utf8 k ++ drop 2 bytes) same
-    ∙ ap (λ l. encode_utf8 code ++ l) (ap (drop 2) c.as_bytes-bytes.ensures.value ∙ sym c.range_from.ensures.value)
+    ∙ ap (λ l. encode_utf8 code ++ l) (ap (drop 2) c.as_bytes-bytes.ensures.value ∙ sym c.range_from-rest.ensures.value)

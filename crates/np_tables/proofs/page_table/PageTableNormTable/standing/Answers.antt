@@ -5,8 +5,8 @@ use Rattle.np_tables.specs.inside.PageWords.{AreFollowing, ArePages}
 use Rattle.np_tables.proofs.StandingLemmas.{following-assigned, following-standing}
 use Rattle.np_tables.proofs.page_table.PageTableNormTable.standing.Goals as goal
 
-pub standing_front-requires-clause-pages : goal.standing_front-requires-clause-pages
-standing_front-requires-clause-pages c =
+pub standing_front-front-requires : goal.standing_front-front-requires
+standing_front-front-requires c =
     let fields = c.self.inside in (
       fields.fulls,
       subst (λ i. ArePages fields.version fields.fulls i c.deref-2.result.now) (sym c.deref.ensures.value)
@@ -18,24 +18,24 @@ returns-clause-standing c =
     let fields = c.self.inside in
     let u = fields.version in
     let text = c.args.text.now in
-    let n = c.standing_front.result.0 in
+    let n = c.standing_front-front.result.count in
     following-standing c.args.self.now u c.self.view_is fields.fulls fields.index.items fields.words.items c.self.invariant.pages fields.steps.items fields.are_steps c.args.form c.least_step.result text n
     (subst (λ i. AreFollowing u c.least_step.result i fields.steps.items c.args.form text n) c.deref.ensures.value
-    (subst (λ w. AreFollowing u c.least_step.result c.deref.result.now w c.args.form text n) c.deref-3.ensures.value c.standing_front.ensures.following))
+    (subst (λ w. AreFollowing u c.least_step.result c.deref.result.now w c.args.form text n) c.deref-3.ensures.value c.standing_front-front.ensures.following))
 
 pub returns-clause-assigned : goal.returns-clause-assigned
 returns-clause-assigned c = λ on.
     let fields = c.self.inside in
     let u = fields.version in
     let text = c.args.text.now in
-    let n = c.standing_front.result.0 in
+    let n = c.standing_front-front.result.count in
     let two : c.least_step.result ≡ 2 = c.least_step.ensures ∙ cond-true _ _ _ on in
     following-assigned c.args.self.now u c.self.view_is fields.fulls fields.index.items fields.words.items c.self.invariant.pages fields.steps.items fields.are_steps c.args.form c.least_step.result text n (omega (arith, two)) c.utf8.text
     (subst (λ i. AreFollowing u c.least_step.result i fields.steps.items c.args.form text n) c.deref.ensures.value
-    (subst (λ w. AreFollowing u c.least_step.result c.deref.result.now w c.args.form text n) c.deref-3.ensures.value c.standing_front.ensures.following))
+    (subst (λ w. AreFollowing u c.least_step.result c.deref.result.now w c.args.form text n) c.deref-3.ensures.value c.standing_front-front.ensures.following))
 
 pub returns-clause-parts : goal.returns-clause-parts
 returns-clause-parts c = λ on.
     let text = c.args.text.now in
-    let n = c.standing_front.result.0 in
-    subst (λ x. BeginsAtBoundary x c.args.form (chars (drop n text))) c.self.view_is (c.standing_front.ensures.parts on)
+    let n = c.standing_front-front.result.count in
+    subst (λ x. BeginsAtBoundary x c.args.form (chars (drop n text))) c.self.view_is (c.standing_front-front.ensures.parts on)

@@ -1,8 +1,9 @@
-use Rattle.std.proofs.Common.{◌≡◌, ◌+◌, ◌-◌, ◌/◌, List, get_or, subst, arith, inl, inr}
+use Rattle.std.specs.List.{AllWithin}
+use Rattle.std.proofs.Common.{◌≡◌, ◌≤◌, length, ◌+◌, ◌-◌, ◌/◌, List, get_or, subst, arith, inl, inr}
 use Rattle.std.proofs.lemmas.Bool.{cases_lt, both_ways}
 use Rattle.np_tables.specs.declared.pairs.Composite.{Composite}
-use Rattle.np_tables.specs.inside.Pairs.{AreOrdered}
-use Rattle.np_tables.proofs.PairLemmas.{before_more, after_more}
+use Rattle.np_tables.specs.inside.Pairs.{AreOrdered, pair_rank}
+use Rattle.np_tables.proofs.PairLemmas.{before_more, after_more, lists-place}
 use Rattle.np_tables.proofs.pairs.Pairs.place.Goals as goal
 
 pub loop-low-preserved-then-is_before : goal.loop-low-preserved-then-is_before
@@ -32,3 +33,8 @@ loop-low-preserved c =
             | inr more ↦ more
           ]);
     }
+
+pub returns : goal.returns
+returns c =
+    let inv = c.loop-low.invariant in
+    lists-place c.args.self.now (subst (λ (xs : List Composite). AreOrdered xs) c.self.view_is c.self.invariant) c.args.first c.args.second c.loop-low.low (omega arith) (omega arith) inv.below (subst (λ k. AllWithin (λ x. pair_rank c.args.first c.args.second ≤ pair_rank x.first x.second) c.args.self.now k (length c.args.self.now)) (omega (arith, inv.order)) inv.above)

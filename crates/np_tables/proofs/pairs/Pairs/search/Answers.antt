@@ -1,12 +1,9 @@
-use Rattle.std.proofs.Common.{sym, arith}
-use Rattle.std.proofs.lemmas.Bool.{both_ways}
-use Rattle.std.proofs.lemmas.Option.{get_or_from_slice_get}
-use Rattle.np_tables.proofs.PairLemmas.{lists-other}
+use Rattle.std.proofs.Common.{ℕ, Option, Some, None, IfNone}
 use Rattle.np_tables.proofs.pairs.Pairs.search.Goals as goal
 
-pub returns-else-is_of-clause-none : goal.returns-else-is_of-clause-none
-returns-else-is_of-clause-none c =
-    let at = c.place-place.result in
-    let here = sym (get_or_from_slice_get c.args.self.now at c.at-here.result c.at-here.result c.at-here.ensures.place) in
-    lists-other c.args.self.now c.len.ensures.order c.args.first c.args.second at c.at-here.result (omega arith) (omega arith) c.place-place.ensures.below c.place-place.ensures.above (omega arith) here
-    (λ first second. both_ways _ c.if-is_of.false (c.is_of.ensures.1 (first, second)))
+none_then : (r : Option ℕ) (P Q : Type 0) → (P → Q) → IfNone r P → IfNone r Q
+none_then None P Q f none = f none
+none_then (Some x) P Q f none = tt
+
+pub returns-clause-none : goal.returns-clause-none
+returns-clause-none c = none_then c.found_at.result _ _ (λ none code has. (let own = c.place.ensures code has in none own.0 own.1)) c.found_at.ensures.none

@@ -1,0 +1,19 @@
+use Rattle.std.proofs.Common.{◌≡◌, ◌<◌, ◌≤◌, ◌-◌, ℕ, drop, get_or, length, map}
+use lib.Lanes.{chunk, mask_l}
+use Rattle.np_tables.specs.inside.LeadBytes.{is_lead}
+use Rattle.np_tables.specs.inside.Scans.{ScansOn}
+use Rattle.np_tables.proofs.scans.Scan.pass_step.Given as goal
+
+-- up to `end` all was passed; from `from` on the bits tell which bytes begin a character, and up to `end` none does
+abbrev pub invariant-leads : goal.invariant-leads
+invariant-leads l = record {
+  inside : l.from ≤ 64;
+  behind : l.from ≤ l.end;
+  within : l.end ≤ length l.text;
+  goes_on : ScansOn l.self l.text l.fn.low (drop l.end l.text) l.now;
+  none : (k : ℕ) → l.from ≤ k → k < l.end → get_or l.text k 0 < 192;
+  bits : l.left ≡ mask_l (map is_lead (chunk l.from (64 - l.from) l.text));
+}
+
+abbrev pub decreases-leads : goal.decreases-leads
+decreases-leads l = 64 - l.from
