@@ -26,7 +26,7 @@ struct Composer {
     ghost in_range: { ForSome starter (λ q. q < kept) },
 }
 
-/// The place of the last starter of a list and its composite with `c`, where `c` is not blocked from
+/// The place of the last starter of a list and its composite with a code point, where that is not blocked from
 /// it: the last code point that was kept behind the starter has the class `last`, 0 where there is
 /// none.
 #[inline(always)]
@@ -36,16 +36,15 @@ pub(crate) fn pair_with_last<T: NormTable>(
     list: &[Classed],
     starter: Option<usize>,
     last: u8,
-    c: char,
-    class: u8,
+    next: Classed,
 ) -> Option<(usize, char)>
     requires in_range { ForSome starter (λ q. q < length list.now) }
-    ensures pair { class ≡ class_of (T.model table.now) c → result ≡ pair_found (T.model table.now) (codes_of list.now) starter last c }
+    ensures pair { next.class ≡ class_of (T.model table.now) next.code → result ≡ pair_found (T.model table.now) (codes_of list.now) starter last next.code }
     ensures in_range { IfSome result (λ found. found.0 < length list.now) }
 {
     let q = starter?;
-    if last == 0 || last < class {
-        let p = composite_of(table, list[q].code(), c)?;
+    if last == 0 || last < next.class() {
+        let p = composite_of(table, list[q].code(), next.code())?;
         Some((q, p))
     } else {
         None
@@ -60,28 +59,21 @@ fn take_in<T: NormTable>(composer: &mut Composer, table: &T, at: usize)
     ensures kept { composer.new.kept ≤ at + 1 }
     ensures length { vec_len composer.new.list ≡ vec_len composer.old.list }
 {
-    let c = composer.list[at];
-    let class = c.class();
+    let next = composer.list[at];
     let done = &composer.list[..composer.kept];
-    let found = pair_with_last(
-        table,
-        done,
-        composer.starter,
-        composer.last,
-        c.code(),
-        class,
-    );
+    let found = pair_with_last(table, done, composer.starter, composer.last, next);
     if let Some((q, p)) = found {
         composer.list[q] = Classed::new(p, 0);
         return;
     }
     let place = composer.kept;
+    let class = next.class();
     let starter = if class == 0 {
         Some(place)
     } else {
         composer.starter
     };
-    composer.list[place] = c;
+    composer.list[place] = next;
     composer.kept = place + 1;
     composer.starter = starter;
     composer.last = class;

@@ -23,10 +23,10 @@ use crate::classes::Classed;
 use crate::decomposing::decompose_first;
 use crate::fronts::write_front;
 use crate::held::settle;
+use crate::normalizers::Normalizer;
 use crate::out_texts::OutText;
 use np_code_points::{Form, Memory};
 use np_tables::NormTable;
-use std::alloc::Global;
 
 /// Whether the form is known to part before a text: it is empty, or begins with a boundary.
 #[inline(always)]
@@ -119,19 +119,19 @@ pub(crate) fn split_tail<'a, T: NormTable>(
 /// Appends the form of the first segment of a text, whatever that is, and answers what follows it. The list
 /// is room that is used again.
 pub(crate) fn write_next<'a, T: NormTable>(
-    alloc: Global,
-    table: &T,
-    form: Form,
+    normalizer: &Normalizer<'_, T>,
     text: &'a str,
     list: &mut Vec<Classed>,
     out: &mut OutText,
 ) -> Result<&'a str, Memory>
-    ensures goes { IfOk result (λ rest. GoesOn (T.model table.now) form text.now rest.now out.old out.new) }
+    ensures goes { IfOk result (λ rest. GoesOn (T.model normalizer.now.table.now) normalizer.now.form text.now rest.now out.old out.new) }
     ensures shorter { IfOk result (λ rest. 0 < length text.now → length rest.now < length text.now) }
 {
+    let table = normalizer.table;
+    let form = normalizer.form;
     table.meets_conditions();
     let later = decompose_first(table, form, text, list)?;
-    settle(alloc, table, form.composes(), list)?;
+    settle(normalizer.alloc, table, form.composes(), list)?;
     out.append_codes(list)?;
     Ok(later)
 }
@@ -158,23 +158,21 @@ fn may_go_on<T: NormTable>(table: &T, assigned: bool, after: &str, later: &str) 
 /// left is made by itself. Where `assigned` is asked for, it tells whether each code point is, and where
 /// one is not, the form may be cut short; most are known to be by what was looked up to write them.
 pub(crate) fn write_fronts<T: NormTable>(
-    alloc: Global,
-    table: &T,
-    form: Form,
+    normalizer: &Normalizer<'_, T>,
     assigned: bool,
     text: &str,
     out: &mut OutText,
 ) -> Result<bool, Memory>
-    ensures form { IfOk result (λ all. IsTrue all → out.new ≡ out.old ++ encode_utf8_all (normal_form (T.model table.now) form (chars text.now))) }
-    ensures assigned { IfOk result (λ all. IsTrue assigned → IsTrue all → IsAssigned (T.model table.now) (chars text.now)) }
-    ensures lacking { IfOk result (λ all. all ≡ false → ¬ IsAssigned (T.model table.now) (chars text.now)) }
+    ensures form { IfOk result (λ all. IsTrue all → out.new ≡ out.old ++ encode_utf8_all (normal_form (T.model normalizer.now.table.now) normalizer.now.form (chars text.now))) }
+    ensures assigned { IfOk result (λ all. IsTrue assigned → IsTrue all → IsAssigned (T.model normalizer.now.table.now) (chars text.now)) }
+    ensures lacking { IfOk result (λ all. all ≡ false → ¬ IsAssigned (T.model normalizer.now.table.now) (chars text.now)) }
     ensures always { IfOk result (λ all. assigned ≡ false → IsTrue all) }
 {
-    let mut list = Vec::new(alloc);
+    let mut list = Vec::new(normalizer.alloc);
     let mut rest = text;
     'fronts: while !rest.is_empty() {
-        let (after, later) = write_front(alloc, table, form, assigned, rest, &mut list, out)?;
-        if !may_go_on(table, assigned, after, later) {
+        let (after, later) = write_front(normalizer, assigned, rest, &mut list, out)?;
+        if !may_go_on(normalizer.table, assigned, after, later) {
             return Ok(false);
         }
         rest = later;
@@ -184,15 +182,13 @@ pub(crate) fn write_fronts<T: NormTable>(
 
 /// Appends the form of a text.
 pub(crate) fn write_form<T: NormTable>(
-    alloc: Global,
-    table: &T,
-    form: Form,
+    normalizer: &Normalizer<'_, T>,
     text: &str,
     out: &mut OutText,
 ) -> Result<(), Memory>
-    ensures { OnOk result (out.new ≡ out.old ++ encode_utf8_all (normal_form (T.model table.now) form (chars text.now))) }
+    ensures { OnOk result (out.new ≡ out.old ++ encode_utf8_all (normal_form (T.model normalizer.now.table.now) normalizer.now.form (chars text.now))) }
 {
     // where nothing is asked of the code points, none ends it
-    let _all = write_fronts(alloc, table, form, false, text, out)?;
+    let _all = write_fronts(normalizer, false, text, out)?;
     Ok(())
 }

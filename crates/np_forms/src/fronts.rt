@@ -7,13 +7,13 @@ ghost use Rattle.np_forms.specs.inside.Segments.{IsFirstSpelled};
 
 use crate::classes::Classed;
 use crate::copying::{begins_at_boundary, split_standing, write_next};
+use crate::normalizers::Normalizer;
 use crate::out_texts::OutText;
 use crate::segments::write_short;
 use crate::spelled_texts::{goes_on_as_word, write_spelled};
 use crate::syllable_texts::{begins_as_jamo, join_syllables, write_syllables};
 use np_code_points::{Form, Memory};
 use np_tables::NormTable;
-use std::alloc::Global;
 
 /// The form of the first code point of a text, as bytes and how many of them it has, and what follows the
 /// code point: none where the table doesn't spell it, or no boundary follows. It isn't asked where some first
@@ -48,30 +48,28 @@ fn split_spelled<'t, 'a, T: NormTable>(
 /// its first segment. Answers what follows the code points that are known to be assigned by that, and what
 /// follows all. The list is room that is used again.
 fn write_changed<'a, T: NormTable>(
-    alloc: Global,
-    table: &T,
-    form: Form,
+    normalizer: &Normalizer<'_, T>,
     text: &'a str,
     list: &mut Vec<Classed>,
     out: &mut OutText,
 ) -> Result<(&'a str, &'a str), Memory>
-    ensures goes { IfOk result (λ cut. GoesOn (T.model table.now) form text.now cut.1.now out.old out.new) }
-    ensures read { IfOk result (λ cut. IsReadAssigned (T.model table.now) text.now cut.0.now) }
+    ensures goes { IfOk result (λ cut. GoesOn (T.model normalizer.now.table.now) normalizer.now.form text.now cut.1.now out.old out.new) }
+    ensures read { IfOk result (λ cut. IsReadAssigned (T.model normalizer.now.table.now) text.now cut.0.now) }
     ensures end { IfOk result (λ cut. IsEndOf cut.0.now cut.1.now) }
     ensures shorter { IfOk result (λ cut. 0 < length text.now → length cut.1.now < length text.now) }
 {
-    let after = if form.composes() {
-        join_syllables(table, form, text, out)?
+    let after = if normalizer.form.composes() {
+        join_syllables(normalizer, text, out)?
     } else {
-        write_syllables(table, form, text, out)?
+        write_syllables(normalizer, text, out)?
     };
     if after.len() < text.len() {
         return Ok((after, after));
     }
-    if let Some(later) = write_short(table, form, after, out)? {
+    if let Some(later) = write_short(normalizer.table, normalizer.form, after, out)? {
         return Ok((after, later));
     }
-    let later = write_next(alloc, table, form, after, list, out)?;
+    let later = write_next(normalizer, after, list, out)?;
     Ok((after, later))
 }
 
@@ -97,20 +95,20 @@ fn write_word<'a, T: NormTable>(
 /// of the code point behind what stands is asked before anything is written, and so once.
 #[inline(always)]
 pub(crate) fn write_front<'a, T: NormTable>(
-    alloc: Global,
-    table: &T,
-    form: Form,
+    normalizer: &Normalizer<'_, T>,
     assigned: bool,
     text: &'a str,
     list: &mut Vec<Classed>,
     out: &mut OutText,
 ) -> Result<(&'a str, &'a str), Memory>
     requires { 0 < length text.now }
-    ensures goes { IfOk result (λ cut. GoesOn (T.model table.now) form text.now cut.1.now out.old out.new) }
-    ensures read { IfOk result (λ cut. IsTrue assigned → IsReadAssigned (T.model table.now) text.now cut.0.now) }
+    ensures goes { IfOk result (λ cut. GoesOn (T.model normalizer.now.table.now) normalizer.now.form text.now cut.1.now out.old out.new) }
+    ensures read { IfOk result (λ cut. IsTrue assigned → IsReadAssigned (T.model normalizer.now.table.now) text.now cut.0.now) }
     ensures end { IfOk result (λ cut. IsEndOf cut.0.now cut.1.now) }
     ensures shorter { IfOk result (λ cut. length cut.1.now < length text.now) }
 {
+    let table = normalizer.table;
+    let form = normalizer.form;
     let (stays, behind, stood) = split_standing(table, form, assigned, text);
     let spelled = split_spelled(table, form, behind, stood);
     out.append_front(text, stays)?;
@@ -122,6 +120,6 @@ pub(crate) fn write_front<'a, T: NormTable>(
     if behind.is_empty() {
         return Ok((behind, behind));
     }
-    let (after, later) = write_changed(alloc, table, form, behind, list, out)?;
+    let (after, later) = write_changed(normalizer, behind, list, out)?;
     Ok((after, later))
 }

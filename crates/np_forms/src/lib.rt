@@ -25,6 +25,7 @@ mod held;
 mod jamo_bytes;
 pub mod laws;
 mod lookups;
+mod normalizers;
 mod ordering;
 mod out_texts;
 mod pieces;

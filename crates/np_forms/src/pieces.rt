@@ -7,6 +7,7 @@ ghost use Rattle.np_tables.specs.Versions.{VersionData};
 
 use crate::classes::Classed;
 use crate::copying::{split_standing, write_next};
+use crate::normalizers::Normalizer;
 use crate::out_texts::OutText;
 use np_code_points::{Form, Memory};
 use np_tables::NormTable;
@@ -78,7 +79,8 @@ impl<'a> Pieces<'a> {
         let (stays, after, _stood) = split_standing(table, form, false, self.rest);
         self.taken = 0;
         self.made.clear();
-        let later = write_next(alloc, table, form, after, &mut self.list, &mut self.made)?;
+        let normalizer = Normalizer { alloc, table, form };
+        let later = write_next(&normalizer, after, &mut self.list, &mut self.made)?;
         self.stays = stays.as_bytes();
         self.rest = later;
         Ok(())

@@ -9,6 +9,7 @@ ghost use Rattle.np_forms.specs.inside.NormalForms.{normal_form};
 
 use crate::assigned::first_lacking;
 use crate::copying::split_standing;
+use crate::normalizers::Normalizer;
 use crate::out_texts::OutText;
 use crate::streams::Stream;
 use crate::written::close_assigned;
@@ -37,23 +38,22 @@ pub enum NpssFault {
 /// The form of a text that was cut behind some assigned code points that stand in it; none where one of
 /// the others is not assigned.
 fn assigned_form<T: NormTable>(
-    alloc: Global,
-    table: &T,
-    wanted: Form,
+    normalizer: &Normalizer<'_, T>,
     text: &str,
     stays: &str,
     behind: &str,
 ) -> Result<Option<String>, Memory>
-    requires copied { IsCopied (T.model table.now) wanted text.now stays.now behind.now }
-    requires assigned { IsAssigned (T.model table.now) (chars stays.now) }
-    ensures form { IfOk result (λ made. IfSome made (λ t. string_bytes t ≡ encode_utf8_all (normal_form (T.model table.now) wanted (chars text.now)))) }
-    ensures assigned { IfOk result (λ made. IfSome made (λ _. IsAssigned (T.model table.now) (chars text.now))) }
-    ensures lacking { IfOk result (λ made. IfNone made (¬ IsAssigned (T.model table.now) (chars text.now))) }
+    requires copied { IsCopied (T.model normalizer.now.table.now) normalizer.now.form text.now stays.now behind.now }
+    requires assigned { IsAssigned (T.model normalizer.now.table.now) (chars stays.now) }
+    ensures form { IfOk result (λ made. IfSome made (λ t. string_bytes t ≡ encode_utf8_all (normal_form (T.model normalizer.now.table.now) normalizer.now.form (chars text.now)))) }
+    ensures assigned { IfOk result (λ made. IfSome made (λ _. IsAssigned (T.model normalizer.now.table.now) (chars text.now))) }
+    ensures lacking { IfOk result (λ made. IfNone made (¬ IsAssigned (T.model normalizer.now.table.now) (chars text.now))) }
 {
-    table.meets_conditions();
+    let alloc = normalizer.alloc;
+    normalizer.table.meets_conditions();
     let mut out = OutText::with_room(alloc, text.len())?;
     out.append_front(text, stays)?;
-    let mut stream = Stream::new(alloc, table, wanted);
+    let mut stream = Stream::new(alloc, normalizer.table, normalizer.form);
     if close_assigned(&mut stream, &mut out, behind)? {
         Ok(Some(out.into_text()))
     } else {
@@ -63,24 +63,22 @@ fn assigned_form<T: NormTable>(
 
 /// The stabilized form of a text that was cut behind some assigned code points that stand in it.
 fn stabilize<T: NormTable>(
-    alloc: Global,
-    table: &T,
-    wanted: Form,
+    normalizer: &Normalizer<'_, T>,
     text: &str,
     stays: &str,
     behind: &str,
 ) -> Result<String, NpssFault>
-    requires copied { IsCopied (T.model table.now) wanted text.now stays.now behind.now }
-    requires assigned { IsAssigned (T.model table.now) (chars stays.now) }
-    ensures bytes { IfOk result (λ t. string_bytes t ≡ encode_utf8_all (normal_form (T.model table.now) wanted (chars text.now))) }
-    ensures assigned { OnOk result (IsAssigned (T.model table.now) (chars text.now)) }
-    ensures fault { IfErr result (IsNpssFault (T.model table.now) (chars text.now)) }
+    requires copied { IsCopied (T.model normalizer.now.table.now) normalizer.now.form text.now stays.now behind.now }
+    requires assigned { IsAssigned (T.model normalizer.now.table.now) (chars stays.now) }
+    ensures bytes { IfOk result (λ t. string_bytes t ≡ encode_utf8_all (normal_form (T.model normalizer.now.table.now) normalizer.now.form (chars text.now))) }
+    ensures assigned { OnOk result (IsAssigned (T.model normalizer.now.table.now) (chars text.now)) }
+    ensures fault { IfErr result (IsNpssFault (T.model normalizer.now.table.now) (chars text.now)) }
 {
-    if let Ok(Some(key)) = assigned_form(alloc, table, wanted, text, stays, behind) {
+    if let Ok(Some(key)) = assigned_form(normalizer, text, stays, behind) {
         return Ok(key);
     }
     // either memory ran out, or a code point is not assigned, which takes no memory to tell
-    match first_lacking(table, text) {
+    match first_lacking(normalizer.table, text) {
         Some((at, code)) => Err(NpssFault::Unassigned { at, code }),
         None => Err(NpssFault::Memory),
     }
@@ -104,7 +102,12 @@ pub fn npss<T: NormTable>(
 {
     table.meets_conditions();
     let (stays, behind, _stood) = split_standing(table, wanted, true, text);
-    let key = stabilize(alloc, table, wanted, text, stays, behind)?;
+    let normalizer = Normalizer {
+        alloc,
+        table,
+        form: wanted,
+    };
+    let key = stabilize(&normalizer, text, stays, behind)?;
     Ok(key)
 }
 
@@ -130,7 +133,12 @@ pub fn into_npss<T: NormTable>(
     if behind.is_empty() {
         return Ok(text);
     }
-    let key = stabilize(alloc, table, wanted, whole, stays, behind)?;
+    let normalizer = Normalizer {
+        alloc,
+        table,
+        form: wanted,
+    };
+    let key = stabilize(&normalizer, whole, stays, behind)?;
     Ok(key)
 }
 
@@ -153,7 +161,12 @@ pub fn lend_npss<'a, T: NormTable>(
     table.meets_conditions();
     let (stays, behind, _stood) = split_standing(table, wanted, true, text);
     if !behind.is_empty() {
-        let key = stabilize(alloc, table, wanted, text, stays, behind)?;
+        let normalizer = Normalizer {
+            alloc,
+            table,
+            form: wanted,
+        };
+        let key = stabilize(&normalizer, text, stays, behind)?;
         return Ok(CowStr::Owned(key));
     }
     Ok(CowStr::Borrowed(text))

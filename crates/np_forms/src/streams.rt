@@ -7,6 +7,7 @@ ghost use Rattle.np_forms.specs.inside.Written.{Breaks, HoldsFront};
 use crate::classes::Classed;
 use crate::decomposing::{append, is_own};
 use crate::held::{Held, finish, hold_front, push_all, settle};
+use crate::normalizers::Normalizer;
 use crate::ordering::are_non_starters;
 use crate::out_texts::OutText;
 use np_code_points::{Form, Memory};
@@ -86,11 +87,15 @@ impl<'t, T: NormTable> Stream<'t, T> {
     }
 
     /// What the stream goes by, for those who write a part of the text beside it.
-    pub(crate) fn rules(&self) -> (Global, &'t T, Form)
-        ensures version { T.model result.1.now ≡ self.now.version }
-        ensures form { result.2 ≡ self.now.form }
+    pub(crate) fn normalizer(&self) -> Normalizer<'t, T>
+        ensures version { T.model result.table.now ≡ self.now.version }
+        ensures form { result.form ≡ self.now.form }
     {
-        (self.alloc, self.table, self.form)
+        Normalizer {
+            alloc: self.alloc,
+            table: self.table,
+            form: self.form,
+        }
     }
 
     /// Takes in the next code point of the text.

@@ -11,6 +11,7 @@ ghost use Rattle.np_tables.specs.Versions.{has_hangul};
 
 use crate::copying::begins_at_boundary;
 use crate::jamo_bytes::{THREE_JAMO, jamo_front};
+use crate::normalizers::Normalizer;
 use crate::out_texts::OutText;
 use crate::utf8_bytes::{last_byte, lead_byte, middle_byte, three_bytes};
 use np_code_points::hangul::{L_BASE, S_BASE, T_BASE, T_COUNT, V_BASE, V_COUNT, is_syllable};
@@ -196,23 +197,22 @@ fn space_front<'a, T: NormTable>(
 /// syllable does. Answers what follows the character, that syllable, and what follows it.
 #[inline(always)]
 fn write_space<'a, T: NormTable>(
-    table: &T,
-    form: Form,
+    normalizer: &Normalizer<'_, T>,
     joins: bool,
     text: &'a str,
     space: Option<(char, &'a str)>,
     out: &mut OutText,
 ) -> Result<Option<(&'a str, u32, &'a str)>, Memory>
-    requires on { has_hangul (T.model table.now) ≡ true }
-    requires leads { composes form ≡ true → PartsBeforeLeads (T.model table.now) form }
-    requires alone { IfSome space (λ cut. StandsAlone (T.model table.now) form cut.0) }
+    requires on { has_hangul (T.model normalizer.now.table.now) ≡ true }
+    requires leads { composes normalizer.now.form ≡ true → PartsBeforeLeads (T.model normalizer.now.table.now) normalizer.now.form }
+    requires alone { IfSome space (λ cut. StandsAlone (T.model normalizer.now.table.now) normalizer.now.form cut.0) }
     requires parts { IfSome space (λ cut. text.now ≡ encode_utf8 cut.0 ++ cut.1.now) }
-    ensures goes { IfOk result (λ cut. IfSome cut (λ next. GoesOn (T.model table.now) form text.now next.0.now out.old out.new)) }
-    ensures read { IfOk result (λ cut. IfSome cut (λ next. IsReadAssigned (T.model table.now) text.now next.0.now)) }
+    ensures goes { IfOk result (λ cut. IfSome cut (λ next. GoesOn (T.model normalizer.now.table.now) normalizer.now.form text.now next.0.now out.old out.new)) }
+    ensures read { IfOk result (λ cut. IfSome cut (λ next. IsReadAssigned (T.model normalizer.now.table.now) text.now next.0.now)) }
     ensures begins { IfOk result (λ cut. IfSome cut (λ next. BeginsWithSyllable next.0.now next.2.now next.1)) }
     ensures none { IfOk result (λ cut. IfNone cut (out.new ≡ out.old)) }
 {
-    table.meets_conditions();
+    normalizer.table.meets_conditions();
     let Some((c, later)) = space else {
         return Ok(None);
     };
@@ -226,15 +226,16 @@ fn write_space<'a, T: NormTable>(
 /// Appends the full decompositions of the syllables at the front of a text, of which single ASCII
 /// characters may stand between two, where the arithmetic is on, and answers what follows them.
 pub(crate) fn write_syllables<'a, T: NormTable>(
-    table: &T,
-    form: Form,
+    normalizer: &Normalizer<'_, T>,
     text: &'a str,
     out: &mut OutText,
 ) -> Result<&'a str, Memory>
-    requires { composes form ≡ false }
-    ensures goes { IfOk result (λ rest. GoesOn (T.model table.now) form text.now rest.now out.old out.new) }
-    ensures read { IfOk result (λ rest. IsReadAssigned (T.model table.now) text.now rest.now) }
+    requires { composes normalizer.now.form ≡ false }
+    ensures goes { IfOk result (λ rest. GoesOn (T.model normalizer.now.table.now) normalizer.now.form text.now rest.now out.old out.new) }
+    ensures read { IfOk result (λ rest. IsReadAssigned (T.model normalizer.now.table.now) text.now rest.now) }
 {
+    let table = normalizer.table;
+    let form = normalizer.form;
     table.meets_conditions();
     if !table.hangul() {
         return Ok(text);
@@ -251,8 +252,7 @@ pub(crate) fn write_syllables<'a, T: NormTable>(
             continue;
         }
         let space = space_front(table, form, ascii, later);
-        let Some((_begun, next, behind)) = write_space(table, form, false, later, space, out)?
-        else {
+        let Some((_begun, next, behind)) = write_space(normalizer, false, later, space, out)? else {
             return Ok(later);
         };
         syllable = next;
@@ -284,17 +284,18 @@ fn parts_before<T: NormTable>(
 /// whether the form parts there. It is called, so that the loop has the registers for itself.
 #[inline(never)]
 fn write_joined<'a, T: NormTable>(
-    table: &T,
-    form: Form,
+    normalizer: &Normalizer<'_, T>,
     text: &'a str,
     out: &mut OutText,
 ) -> Result<&'a str, Memory>
-    requires on { has_hangul (T.model table.now) ≡ true }
-    requires form { composes form ≡ true }
-    requires leads { PartsBeforeLeads (T.model table.now) form }
-    ensures goes { IfOk result (λ rest. GoesOn (T.model table.now) form text.now rest.now out.old out.new) }
-    ensures read { IfOk result (λ rest. IsReadAssigned (T.model table.now) text.now rest.now) }
+    requires on { has_hangul (T.model normalizer.now.table.now) ≡ true }
+    requires form { composes normalizer.now.form ≡ true }
+    requires leads { PartsBeforeLeads (T.model normalizer.now.table.now) normalizer.now.form }
+    ensures goes { IfOk result (λ rest. GoesOn (T.model normalizer.now.table.now) normalizer.now.form text.now rest.now out.old out.new) }
+    ensures read { IfOk result (λ rest. IsReadAssigned (T.model normalizer.now.table.now) text.now rest.now) }
 {
+    let table = normalizer.table;
+    let form = normalizer.form;
     table.meets_conditions();
     let Some((mut syllable, mut later)) = syllable_front(true, text) else {
         return Ok(text);
@@ -315,7 +316,7 @@ fn write_joined<'a, T: NormTable>(
             return Ok(rest);
         }
         push_joined(out, syllable)?;
-        let Some((begun, next, behind)) = write_space(table, form, true, later, space, out)? else {
+        let Some((begun, next, behind)) = write_space(normalizer, true, later, space, out)? else {
             return Ok(later);
         };
         rest = begun;
@@ -329,17 +330,18 @@ fn write_joined<'a, T: NormTable>(
 /// any other text costs one comparison.
 #[inline(always)]
 pub(crate) fn join_syllables<'a, T: NormTable>(
-    table: &T,
-    form: Form,
+    normalizer: &Normalizer<'_, T>,
     text: &'a str,
     out: &mut OutText,
 ) -> Result<&'a str, Memory>
-    requires { composes form ≡ true }
-    ensures goes { IfOk result (λ rest. GoesOn (T.model table.now) form text.now rest.now out.old out.new) }
-    ensures read { IfOk result (λ rest. IsReadAssigned (T.model table.now) text.now rest.now) }
+    requires { composes normalizer.now.form ≡ true }
+    ensures goes { IfOk result (λ rest. GoesOn (T.model normalizer.now.table.now) normalizer.now.form text.now rest.now out.old out.new) }
+    ensures read { IfOk result (λ rest. IsReadAssigned (T.model normalizer.now.table.now) text.now rest.now) }
 {
+    let table = normalizer.table;
+    let form = normalizer.form;
     if begins_as_jamo(text) && table.hangul() && table.parts_before_leads(form) {
-        return write_joined(table, form, text, out);
+        return write_joined(normalizer, text, out);
     }
     Ok(text)
 }

@@ -64,16 +64,16 @@ pub(crate) fn feed_text<T: NormTable>(
     ensures { OnOk result (Writes stream.old stream.new out.old out.new (chars_in text.now)) }
 {
     let rest = stream.take_front(text)?;
-    let (alloc, table, form) = stream.rules();
-    table.meets_conditions();
-    let (head, body) = split_head(table, form, rest);
+    let normalizer = stream.normalizer();
+    normalizer.table.meets_conditions();
+    let (head, body) = split_head(normalizer.table, normalizer.form, rest);
     write_chars(stream, out, head)?;
     if body.is_empty() {
         return Ok(());
     }
-    let (middle, tail) = split_tail(table, form, body);
+    let (middle, tail) = split_tail(normalizer.table, normalizer.form, body);
     stream.finish_into(out)?;
-    write_form(alloc, table, form, middle, out)?;
+    write_form(&normalizer, middle, out)?;
     write_chars(stream, out, tail)
 }
 
@@ -87,16 +87,16 @@ pub(crate) fn close_text<T: NormTable>(
     requires { stream.old.ready ≡ [] }
     ensures { OnOk result (Closes stream.old out.old out.new (chars_in text.now)) }
 {
-    let (alloc, table, form) = stream.rules();
-    table.meets_conditions();
+    let normalizer = stream.normalizer();
+    normalizer.table.meets_conditions();
     if stream.pending_len() == 0 {
-        return write_form(alloc, table, form, text, out);
+        return write_form(&normalizer, text, out);
     }
     let rest = stream.take_front(text)?;
-    let (head, body) = split_head(table, form, rest);
+    let (head, body) = split_head(normalizer.table, normalizer.form, rest);
     write_chars(stream, out, head)?;
     stream.finish_into(out)?;
-    write_form(alloc, table, form, body, out)
+    write_form(&normalizer, body, out)
 }
 
 /// Takes the last piece of a text in, and writes the rest of its form, as `close_text` does, and tells whether each
@@ -111,13 +111,13 @@ pub(crate) fn close_assigned<T: NormTable>(
     ensures assigned { IfOk result (λ all. IsTrue all → IsAssigned stream.old.version (chars_in text.now)) }
     ensures lacking { IfOk result (λ all. all ≡ false → ¬ IsAssigned stream.old.version (chars_in text.now)) }
 {
-    let (alloc, table, form) = stream.rules();
-    table.meets_conditions();
+    let normalizer = stream.normalizer();
+    normalizer.table.meets_conditions();
     if stream.pending_len() == 0 {
-        let all = write_fronts(alloc, table, form, true, text, out)?;
+        let all = write_fronts(&normalizer, true, text, out)?;
         return Ok(all);
     }
-    if first_lacking(table, text).is_some() {
+    if first_lacking(normalizer.table, text).is_some() {
         return Ok(false);
     }
     close_text(stream, out, text)?;

@@ -7,33 +7,33 @@ use Rattle.np_forms.proofs.copying.write_fronts.Goals as goal
 
 pub fronts-init : goal.fronts-init
 fronts-init g c =
-    let v = g.T.NormTable.model c.args.table.now in (
-      goes-start v c.args.form c.args.text.now c.args.out.now c.utf8.text,
+    let v = g.T.NormTable.model c.args.normalizer.now.table.now in (
+      goes-start v c.args.normalizer.now.form c.args.text.now c.args.out.now c.utf8.text,
       λ _. IsReadAssigned-start v c.args.text.now c.utf8.text,
     )
 
 pub fronts-preserved : goal.fronts-preserved
 fronts-preserved g c =
-    let v = g.T.NormTable.model c.args.table.now in
+    let v = g.T.NormTable.model c.args.normalizer.now.table.now in
     let text = c.args.text.now in
     let rest = c.fronts.rest.now in
     let after = c.in_ok-after.after.now in
     let later = c.in_ok-after.later.now in (
-      goes-both v c.args.form text rest later c.args.out.now c.fronts.out c.write_front.new.out c.fronts.invariant.0 c.in_ok-after.ensures.goes,
+      goes-both v c.args.normalizer.now.form text rest later c.args.out.now c.fronts.out c.write_front.new.out c.fronts.invariant.0 c.in_ok-after.ensures.goes,
       λ asked.
           IsReadAssigned-both v text rest later (c.fronts.invariant.1 asked)
           (IsReadAssigned-both v rest after later (c.in_ok-after.ensures.read asked) (c.may_go_on.ensures.read asked c.if-not-may_go_on.false)),
     )
 
 pub returns-clause-form : goal.returns-clause-form
-returns-clause-form g c = λ _. form-end (g.T.NormTable.model c.args.table.now) c.args.form _ c.fronts.out c.fronts.rest.now c.fronts.invariant.0.written (search rules)
+returns-clause-form g c = λ _. form-end (g.T.NormTable.model c.args.normalizer.now.table.now) c.args.normalizer.now.form _ c.fronts.out c.fronts.rest.now c.fronts.invariant.0.written (search rules)
 
 pub returns-clause-assigned : goal.returns-clause-assigned
-returns-clause-assigned g c = λ asked _. IsReadAssigned-end (g.T.NormTable.model c.args.table.now) c.args.text.now c.fronts.rest.now (c.fronts.invariant.1 asked) (search rules)
+returns-clause-assigned g c = λ asked _. IsReadAssigned-end (g.T.NormTable.model c.args.normalizer.now.table.now) c.args.text.now c.fronts.rest.now (c.fronts.invariant.1 asked) (search rules)
 
 pub returns-then-not-may_go_on-clause-lacking : goal.returns-then-not-may_go_on-clause-lacking
 returns-then-not-may_go_on-clause-lacking g c = λ _ all.
-    let v = g.T.NormTable.model c.args.table.now in
+    let v = g.T.NormTable.model c.args.normalizer.now.table.now in
     let text = c.args.text.now in
     let rest = c.fronts.rest.now in
     let after = c.in_ok-after.after.now in

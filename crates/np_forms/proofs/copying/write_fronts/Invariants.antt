@@ -5,8 +5,8 @@ use Rattle.np_forms.proofs.copying.write_fronts.Given as goal
 
 abbrev pub invariant-fronts : goal.invariant-fronts
 invariant-fronts g l =
-    let v = g.T.NormTable.model l.table in
-    GoesOn v l.form l.text l.rest l.fn.out l.out × (IsTrue l.assigned → IsReadAssigned v l.text l.rest)
+    let v = g.T.NormTable.model l.normalizer.table.now in
+    GoesOn v l.normalizer.form l.text l.rest l.fn.out l.out × (IsTrue l.assigned → IsReadAssigned v l.text l.rest)
 
 abbrev pub decreases-fronts : goal.decreases-fronts
 decreases-fronts g l = length l.rest

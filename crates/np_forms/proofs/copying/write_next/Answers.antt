@@ -6,8 +6,8 @@ use Rattle.np_forms.proofs.copying.write_next.Goals as goal
 
 pub returns-clause-goes : goal.returns-clause-goes
 returns-clause-goes g c =
-    let v = g.T.NormTable.model c.args.table.now in
-    let form = c.args.form in
+    let v = g.T.NormTable.model c.args.normalizer.now.table.now in
+    let form = c.args.normalizer.now.form in
     let text = c.args.text.now in
     let later = c.in_ok-later.later.now in
     let codes = codes_of c.settle.new.list.items in

@@ -9,8 +9,8 @@ use Rattle.np_forms.proofs.syllable_texts.write_joined.Goals as goal
 
 pub scan-preserved-in-Some-syllable_front : goal.scan-preserved-in-Some-syllable_front
 scan-preserved-in-Some-syllable_front g c =
-    let v = g.T.NormTable.model c.args.table.now in
-    let form = c.args.form in
+    let v = g.T.NormTable.model c.args.normalizer.now.table.now in
+    let form = c.args.normalizer.now.form in
     let text = c.args.text.now in
     let rest = c.scan.rest.now in
     let later = c.scan.later.now in
@@ -25,8 +25,8 @@ scan-preserved-in-Some-syllable_front g c =
 
 pub returns-in_default-2-clause-goes : goal.returns-in_default-2-clause-goes
 returns-in_default-2-clause-goes g c =
-    let v = g.T.NormTable.model c.args.table.now in
-    let form = c.args.form in
+    let v = g.T.NormTable.model c.args.normalizer.now.table.now in
+    let form = c.args.normalizer.now.form in
     let rest = c.scan.rest.now in
     let later = c.scan.later.now in
     let at = c.parts_before.ensures c.if-not-parts_before.false in
@@ -36,13 +36,13 @@ returns-in_default-2-clause-goes g c =
 
 pub returns-in_default-2-clause-read : goal.returns-in_default-2-clause-read
 returns-in_default-2-clause-read g c =
-    let v = g.T.NormTable.model c.args.table.now in
+    let v = g.T.NormTable.model c.args.normalizer.now.table.now in
     IsReadAssigned-both v c.args.text.now c.scan.rest.now c.scan.later.now c.scan.invariant.1 (syllable-read v c.requires.on c.scan.rest.now c.scan.later.now c.scan.syllable c.scan.invariant.2)
 
 pub scan-preserved : goal.scan-preserved
 scan-preserved g c =
-    let v = g.T.NormTable.model c.args.table.now in
-    let form = c.args.form in
+    let v = g.T.NormTable.model c.args.normalizer.now.table.now in
+    let form = c.args.normalizer.now.form in
     let text = c.args.text.now in
     let rest = c.scan.rest.now in
     let later = c.scan.later.now in

@@ -6,8 +6,8 @@ use Rattle.np_forms.proofs.syllable_texts.write_joined.Given as goal
 
 abbrev pub invariant-scan : goal.invariant-scan
 invariant-scan g l =
-    let v = g.T.NormTable.model l.table in
-    GoesOn v l.fn.form l.text l.rest l.fn.out l.out × IsReadAssigned v l.text l.rest × BeginsWithSyllable l.rest l.later l.syllable
+    let v = g.T.NormTable.model l.normalizer.table.now in
+    GoesOn v l.normalizer.form l.text l.rest l.fn.out l.out × IsReadAssigned v l.text l.rest × BeginsWithSyllable l.rest l.later l.syllable
 
 abbrev pub decreases-scan : goal.decreases-scan
 decreases-scan g l = length l.rest

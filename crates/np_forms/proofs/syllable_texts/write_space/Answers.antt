@@ -7,8 +7,8 @@ use Rattle.np_forms.proofs.syllable_texts.write_space.Goals as goal
 
 pub returns-clause-goes : goal.returns-clause-goes
 returns-clause-goes g c =
-    let v = g.T.NormTable.model c.args.table.now in
-    let form = c.args.form in
+    let v = g.T.NormTable.model c.args.normalizer.now.table.now in
+    let form = c.args.normalizer.now.form in
     let text = c.args.text.now in
     let later = c.in-Some.later.now in
     let begins = c.in-Some-syllable_front.ensures in
@@ -19,8 +19,8 @@ returns-clause-goes g c =
 
 pub returns-clause-read : goal.returns-clause-read
 returns-clause-read g c =
-    let v = g.T.NormTable.model c.args.table.now in
+    let v = g.T.NormTable.model c.args.normalizer.now.table.now in
     let text = c.args.text.now in
-    let alone = subst (λ j. IfSome j (λ cut. StandsAlone v c.args.form cut.0)) c.in-Some.is c.requires.alone in
+    let alone = subst (λ j. IfSome j (λ cut. StandsAlone v c.args.normalizer.now.form cut.0)) c.in-Some.is c.requires.alone in
     let parts = subst (λ j. IfSome j (λ cut. text ≡ encode_utf8 cut.0 ++ cut.1.now)) c.in-Some.is c.requires.parts in
     IsReadAssigned-next v text text c.in-Some.c c.in-Some.later.now (IsReadAssigned-start v text c.utf8.text) parts alone.assigned

@@ -10,14 +10,14 @@ use Rattle.np_forms.proofs.syllable_texts.write_syllables.Goals as goal
 
 pub scan-init : goal.scan-init
 scan-init g c =
-    let v = g.T.NormTable.model c.args.table.now in
+    let v = g.T.NormTable.model c.args.normalizer.now.table.now in
     let text = c.args.text.now in
-    (text, goes-start v c.args.form text c.args.out.now c.utf8.text, IsReadAssigned-start v text c.utf8.text, c.in-Some.ensures)
+    (text, goes-start v c.args.normalizer.now.form text c.args.out.now c.utf8.text, IsReadAssigned-start v text c.utf8.text, c.in-Some.ensures)
 
 pub scan-preserved-in-Some-syllable_front : goal.scan-preserved-in-Some-syllable_front
 scan-preserved-in-Some-syllable_front g c =
-    let v = g.T.NormTable.model c.args.table.now in
-    let form = c.args.form in
+    let v = g.T.NormTable.model c.args.normalizer.now.table.now in
+    let form = c.args.normalizer.now.form in
     let text = c.args.text.now in
     let rest = c.scan.invariant.0 in
     let later = c.scan.later.now in
@@ -32,8 +32,8 @@ scan-preserved-in-Some-syllable_front g c =
 
 pub returns-in_default-2-clause-goes : goal.returns-in_default-2-clause-goes
 returns-in_default-2-clause-goes g c =
-    let v = g.T.NormTable.model c.args.table.now in
-    let form = c.args.form in
+    let v = g.T.NormTable.model c.args.normalizer.now.table.now in
+    let form = c.args.normalizer.now.form in
     let rest = c.scan.invariant.0 in
     let later = c.scan.later.now in
     let on : has_hangul v ≡ true = sym c.hangul.ensures ∙ c.if-not-hangul.false in
@@ -43,14 +43,14 @@ returns-in_default-2-clause-goes g c =
 
 pub returns-in_default-2-clause-read : goal.returns-in_default-2-clause-read
 returns-in_default-2-clause-read g c =
-    let v = g.T.NormTable.model c.args.table.now in
+    let v = g.T.NormTable.model c.args.normalizer.now.table.now in
     let on : has_hangul v ≡ true = sym c.hangul.ensures ∙ c.if-not-hangul.false in
     IsReadAssigned-both v c.args.text.now c.scan.invariant.0 c.scan.later.now c.scan.invariant.2 (syllable-read v on c.scan.invariant.0 c.scan.later.now c.scan.syllable c.scan.invariant.3)
 
 pub scan-preserved : goal.scan-preserved
 scan-preserved g c =
-    let v = g.T.NormTable.model c.args.table.now in
-    let form = c.args.form in
+    let v = g.T.NormTable.model c.args.normalizer.now.table.now in
+    let form = c.args.normalizer.now.form in
     let text = c.args.text.now in
     let rest = c.scan.invariant.0 in
     let later = c.scan.later.now in

@@ -6,8 +6,8 @@ use Rattle.np_forms.proofs.syllable_texts.write_syllables.Given as goal
 
 abbrev pub invariant-scan : goal.invariant-scan
 invariant-scan g l =
-    let v = g.T.NormTable.model l.table in
-    (rest : List ℕ) × GoesOn v l.fn.form l.text rest l.fn.out l.out × IsReadAssigned v l.text rest × BeginsWithSyllable rest l.later l.syllable
+    let v = g.T.NormTable.model l.normalizer.table.now in
+    (rest : List ℕ) × GoesOn v l.normalizer.form l.text rest l.fn.out l.out × IsReadAssigned v l.text rest × BeginsWithSyllable rest l.later l.syllable
 
 abbrev pub decreases-scan : goal.decreases-scan
 decreases-scan g l = length l.later

@@ -8,18 +8,18 @@ pub returns-then-pending_len-eq0 : goal.returns-then-pending_len-eq0
 returns-then-pending_len-eq0 g c =
     on_ok_weaker c.write_form.result
     (λ made.
-    Closes-at_once (g.T.NormTable.model c.rules-form.result.1.now) c.meets_conditions.ensures c.rules-form.result.2 c.args.stream.now _ _ _
-    c.rules-form.ensures.version c.rules-form.ensures.form (nil_from_length _ (sym c.pending_len.ensures ∙ c.if-pending_len-eq0.true)) made)
+    Closes-at_once (g.T.NormTable.model c.normalizer-normalizer.result.table.now) c.meets_conditions.ensures c.normalizer-normalizer.result.form c.args.stream.now _ _ _
+    c.normalizer-normalizer.ensures.version c.normalizer-normalizer.ensures.form (nil_from_length _ (sym c.pending_len.ensures ∙ c.if-pending_len-eq0.true)) made)
     c.write_form.ensures
 
 pub returns : goal.returns
 returns g c =
     on_ok_weaker c.write_form-2.result
     (λ made.
-    Closes-held (g.T.NormTable.model c.rules-form.result.1.now) c.meets_conditions.ensures c.rules-form.result.2
+    Closes-held (g.T.NormTable.model c.normalizer-normalizer.result.table.now) c.meets_conditions.ensures c.normalizer-normalizer.result.form
     c.args.stream.now c.take_front.new.self c.write_chars.new.stream c.finish_into.new.self
     c.args.out.now c.write_chars.new.out c.finish_into.new.out c.write_form-2.new.out
     c.args.text.now c.in_ok-rest.rest.now c.split_head.result.0.now c.split_head.result.1.now
-    c.rules-form.ensures.version c.rules-form.ensures.form c.requires c.in_ok-rest.ensures c.split_head.ensures.parts c.split_head.ensures.front c.split_head.ensures.at
+    c.normalizer-normalizer.ensures.version c.normalizer-normalizer.ensures.form c.requires c.in_ok-rest.ensures c.split_head.ensures.parts c.split_head.ensures.front c.split_head.ensures.at
     c.in_ok-write_chars.ensures c.in_ok-finish_into.ensures made)
     c.write_form-2.ensures
