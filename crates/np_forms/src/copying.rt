@@ -163,7 +163,8 @@ pub(crate) fn write_fronts<T: NormTable>(
     text: &str,
     out: &mut OutText,
 ) -> Result<bool, Memory>
-    ensures form { IfOk result (λ all. IsTrue all → out.new ≡ out.old ++ encode_utf8_all (normal_form (T.model normalizer.now.table.now) normalizer.now.form (chars text.now))) }
+    ensures form { IfOk result (λ all. IsTrue all → out.new ≡ out.old ++
+        encode_utf8_all (normal_form (T.model normalizer.now.table.now) normalizer.now.form (chars text.now))) }
     ensures assigned { IfOk result (λ all. IsTrue assigned → IsTrue all → IsAssigned (T.model normalizer.now.table.now) (chars text.now)) }
     ensures lacking { IfOk result (λ all. all ≡ false → ¬ IsAssigned (T.model normalizer.now.table.now) (chars text.now)) }
     ensures always { IfOk result (λ all. assigned ≡ false → IsTrue all) }

@@ -45,7 +45,8 @@ fn assigned_form<T: NormTable>(
 ) -> Result<Option<String>, Memory>
     requires copied { IsCopied (T.model normalizer.now.table.now) normalizer.now.form text.now stays.now behind.now }
     requires assigned { IsAssigned (T.model normalizer.now.table.now) (chars stays.now) }
-    ensures form { IfOk result (λ made. IfSome made (λ t. string_bytes t ≡ encode_utf8_all (normal_form (T.model normalizer.now.table.now) normalizer.now.form (chars text.now)))) }
+    ensures form { IfOk result (λ made. IfSome made (λ t. string_bytes t ≡
+        encode_utf8_all (normal_form (T.model normalizer.now.table.now) normalizer.now.form (chars text.now)))) }
     ensures assigned { IfOk result (λ made. IfSome made (λ _. IsAssigned (T.model normalizer.now.table.now) (chars text.now))) }
     ensures lacking { IfOk result (λ made. IfNone made (¬ IsAssigned (T.model normalizer.now.table.now) (chars text.now))) }
 {
