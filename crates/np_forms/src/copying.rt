@@ -117,7 +117,8 @@ pub(crate) fn split_tail<'a, T: NormTable>(
 }
 
 /// Appends the form of the first segment of a text, whatever that is, and answers what follows it. The list
-/// is room that is used again.
+/// is room that is used again. As a part of its one caller it would take the registers of the loop over syllables.
+#[inline(never)]
 pub(crate) fn write_next<'a, T: NormTable>(
     normalizer: &Normalizer<'_, T>,
     text: &'a str,
