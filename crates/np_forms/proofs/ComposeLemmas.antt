@@ -1,12 +1,8 @@
 -- Composition of a list, from its last starter on.
 use Rattle.std.proofs.Common.{◌≡◌, ℕ, ◌<◌, ◌≤◌, Bool, true, false, List, [], ◌∷◌, ◌++◌, flat_map, Option, Some, None, refl, sym, ap, subst, ◌∙◌, arith, inl, inr, append_assoc, append-nil, eq-eqb}
-use Rattle.std.proofs.lemmas.Bool.{cases_Bool, cases_lt, cond-true, cond-false, and_parts, and_from, eqb-false, ne_eqb}
-use Rattle.std.proofs.lemmas.Grind.{flat_map-append}
-use Rattle.std.specs.List.{list_all}
-use Rattle.np_forms.specs.Order.{is_reorderable, is_ordered}
-use Rattle.np_forms.specs.inside.CanonicalOrder.{canonical_order}
-use Rattle.np_forms.specs.inside.Composing.{is_free, joined, compose_after, compose}
-use Rattle.np_forms.specs.Starters.{is_starter}
+use Rattle.np_forms.proofs.Words.{cases_Bool, cases_lt, cond-true, cond-false, and_parts, and_from, eqb-false, ne_eqb}
+use Rattle.np_forms.proofs.Words.{flat_map-append, list_all, is_reorderable, is_ordered, canonical_order, is_free}
+use Rattle.np_forms.proofs.Words.{joined, compose_after, compose, is_starter}
 use Rattle.np_tables.proofs.MappingLemmas.{list_all-append}
 use Rattle.np_tables.proofs.CompositeLemmas.{cases_Option}
 use Rattle.np_forms.proofs.OrderLemmas.{is_reorderable-true, is_ordered-tail, is_ordered-without_non_starter, canonical_order-behind, canonical_order-over}

@@ -1,28 +1,18 @@
 -- What stays is copied, and segments are made each for itself.
-use Rattle.std.proofs.Common.{◌≤◌, ◌≡◌, ◌≢◌, ℕ, ◌-◌, ◌<◌, ◌⊎◌, List, [], ◌∷◌, ◌++◌, None, length, chars, IsUtf8, encode_utf8, encode_utf8_all, refl, sym, ap, subst, ◌∙◌, arith, inl, inr, append_assoc, append-nil, length-append, take_at, drop_at, Bool, true, false, take, drop, slice_range, IsCharBoundary, flat_map}
-use Rattle.std.proofs.lemmas.List.{append_cancel_right, nil_from_length}
-use Rattle.std.proofs.lemmas.Bool.{cases_lt}
-use Rattle.std.proofs.lemmas.Str.{chars-nil, chars-append, chars_past_char, encodes-append, encodes-chars, IsCharBoundary-at_seam, IsCharBoundary-from_take, IsUtf8-drop, IsUtf8-take}
-use Rattle.np_code_points.specs.declared.forms.Form.{Form}
-use Rattle.np_forms.specs.Assigned.{IsAssigned}
-use Rattle.np_forms.specs.inside.CanonicalOrder.{canonical_order}
-use Rattle.np_forms.specs.inside.Composing.{compose_of}
-use Rattle.np_forms.specs.inside.Copies.{IsCopied}
-use Rattle.np_forms.specs.inside.NormalForms.{decomposed, ended, normal_form}
-use Rattle.np_forms.specs.inside.Readings.{IsReadAssigned}
-use Rattle.np_forms.proofs.BoundaryLemmas.{normal_form-parts}
+use Rattle.std.proofs.Common.{◌≡◌, ◌≢◌, ℕ, ◌-◌, ◌<◌, ◌⊎◌, List, [], ◌∷◌, ◌++◌, None, length, chars, IsUtf8, encode_utf8, encode_utf8_all, refl, sym, ap, subst, ◌∙◌, arith, inl, inr, append_assoc, append-nil, length-append, take_at, drop_at, Bool, true, false, take, drop, slice_range, IsCharBoundary, flat_map, suc, Option, Some, All, get_or}
+use Rattle.np_forms.proofs.Words.{append_cancel_right, nil_from_length, cases_lt, and_from, chars-nil, chars-append}
+use Rattle.np_forms.proofs.Words.{chars_past_char, encodes-append, encodes-chars, IsCharBoundary-at_seam}
+use Rattle.np_forms.proofs.Words.{IsCharBoundary-from_take, IsUtf8-drop, IsUtf8-take, Form, IsAssigned, canonical_order}
+use Rattle.np_forms.proofs.Words.{compose_of, IsCopied, AreStaying, AsciiStays, IsStaying, decomposed, ended}
+use Rattle.np_forms.proofs.Words.{normal_form, IsReadAssigned, BeginsAtBoundary, IsBoundary, IsSound, VersionData}
+use Rattle.np_forms.proofs.Words.{class_of, full_of, AreStanding, MayFollow, Walks, is_compat, composes, composite}
+use Rattle.np_tables.proofs.StandingLemmas.{Walks-front}
+use Rattle.np_tables.specs.inside.PageWords.{IsPast}
+use Rattle.np_forms.proofs.StreamLemmas.{normal_form-parts}
 use Rattle.np_forms.proofs.StandingLemmas.{standing_form}
 use Rattle.np_forms.proofs.TextLemmas.{IsReadAssigned-front}
-use Rattle.np_tables.specs.Boundaries.{BeginsAtBoundary, IsBoundary}
-use Rattle.np_tables.specs.Conditions.{IsSound}
-use Rattle.np_tables.specs.Versions.{VersionData, class_of}
-use Rattle.np_tables.specs.inside.FullDecompositions.{full_of}
-use Rattle.np_tables.specs.Standing.{AreStanding, MayFollow, Walks}
-use Rattle.np_tables.proofs.WalkLemmas.{Walks-front}
-use Rattle.np_code_points.specs.Forms.{is_compat, composes}
 use Rattle.np_forms.proofs.ComposeLemmas.{compose-nil}
 use Rattle.np_forms.proofs.OrderLemmas.{canonical_order-nil}
-use Rattle.np_tables.specs.inside.CompositeSearch.{composite}
 
 ended-nil : (v : VersionData) (b : Bool) → ended v b [] ≡ []
 unfolding compose_of
@@ -107,15 +97,6 @@ module _ (v : VersionData) (sound : IsSound v) (form : Form) (text : List ℕ) (
   pub IsCopied-cut : BeginsAtBoundary v form (chars back) → IsCopied v form text front back
   IsCopied-cut at =
       IsCopied-at v sound form text front back h.front h.end cut-parts (subst IsUtf8 (sym cut-back) h.utf8) cut-front (h.text ∙ ap (λ l. h.front ++ chars l) (sym cut-back)) h.walk at
-
--- a front that stands as a whole, before a boundary
-pub IsCopied-whole : (v : VersionData) (sound : IsSound v) (form : Form) (text front back : List ℕ) (n : ℕ) (h : AreStanding v form front n) → text ≡ front ++ back → length front ≤ n → IsUtf8 front → IsUtf8 back →
-    BeginsAtBoundary v form (chars back) → IsCopied v form text front back
-IsCopied-whole v sound form text front back n h parts all of_front of_back at =
-    let none : h.back ≡ [] = nil_from_length h.back (omega (arith, all, h.place, ap length h.split, length-append (encode_utf8_all h.front) h.back)) in
-    let spelled : front ≡ encode_utf8_all h.front = h.split ∙ ap (λ l. encode_utf8_all h.front ++ l) none ∙ append-nil _ in
-    let its : chars front ≡ h.front = h.text ∙ ap (λ l. h.front ++ chars l) none ∙ ap (λ l. h.front ++ l) chars-nil ∙ append-nil h.front in
-    IsCopied-at v sound form text front back h.front h.end parts of_back spelled (ap chars parts ∙ chars-append front back of_front ∙ ap (λ l. l ++ chars back) its) h.walk at
 
 some_list : (cs : List ℕ) → (cs ≢ []) → 0 < length cs
 some_list [] h = absurd (h refl)
@@ -210,3 +191,38 @@ begins_behind v form text front later c back e utf8 of_front is at =
     let rest = encode_utf8 c ++ back in
     let its : later ≡ rest = is ∙ ap (drop (length front)) e ∙ drop_at front rest (length front) refl in
     subst (BeginsAtBoundary v form) (sym (chars_past_char later back c (utf8_behind text front later rest e utf8 of_front is) its)) at
+
+-- ---- code points that stay, one behind the other
+
+module _ (v : VersionData) (form : Form) where
+  stays_walk : (before : Option ℕ) (cs : List ℕ) → All (IsStaying v form) cs → Walks (MayFollow v form) before 0 cs 0
+  stays_walk before [] all = refl
+  stays_walk before (c ∷ cs) all = (0, inl (all 0 c (omega arith)).0, stays_walk (Some c) cs (λ k d lt. all (suc k) d (omega arith)))
+
+  all_assigned : (cs : List ℕ) → All (IsStaying v form) cs → IsAssigned v cs
+  all_assigned [] all = refl
+  all_assigned (c ∷ cs) all = and_from _ _ (all 0 c (omega arith)).1 (all_assigned cs (λ k d lt. all (suc k) d (omega arith)))
+
+  -- ASCII does, where that is asked for
+  pub staying_ascii : (ascii : Bool) → (ascii ≡ true → AsciiStays v form) → (text rest : List ℕ) → IsPast (λ c. (ascii ≡ true) × (c < 128)) text rest → AreStaying v form text rest
+  staying_ascii ascii stays text rest past =
+      record {
+        front = past.front;
+        split = past.split;
+        text_is = past.text_is;
+        utf8 = past.utf8;
+        passed = λ k d lt. (let both = past.passed k d lt in stays both.0 (get_or past.front k d) both.1);
+      }
+
+  module _ (text rest : List ℕ) (past : AreStaying v form text rest) where
+    pub staying_read : IsReadAssigned v text rest
+    staying_read = record { before = past.front; bytes = past.split; text = past.text_is; assigned = all_assigned past.front past.passed; utf8 = past.utf8 }
+
+    pub staying_front : (n : ℕ) → n ≡ length text - length rest → take n text ≡ encode_utf8_all past.front
+    staying_front n is =
+        ap (take n) past.split ∙ take_at (encode_utf8_all past.front) rest n (omega (arith, is, ap length past.split, length-append (encode_utf8_all past.front) rest))
+
+    -- where the form parts behind them
+    pub staying_copied : (sound : IsSound v) (front : List ℕ) → front ≡ encode_utf8_all past.front → BeginsAtBoundary v form (chars rest) → IsCopied v form text front rest
+    staying_copied sound front is at =
+        IsCopied-at v sound form text front rest past.front 0 (past.split ∙ ap (λ l. l ++ rest) (sym is)) past.utf8 is past.text_is (stays_walk None past.front past.passed) at

@@ -1,22 +1,12 @@
 -- Non-starters at the front of a text, which are held back.
 use Rattle.std.proofs.Common.{◌≡◌, ℕ, Bool, true, List, [], ◌∷◌, ◌++◌, IsUtf8, encode_utf8, refl, sym, ap, ap₂, subst, ◌∙◌, append_assoc, append-nil}
-use Rattle.std.proofs.lemmas.Bool.{and_from}
-use Rattle.std.proofs.lemmas.Grind.{flat_map-append}
-use Rattle.std.proofs.lemmas.List.{map-append}
-use Rattle.np_forms.specs.Starters.{is_non_starter}
-use Rattle.np_forms.specs.Streams.{IsStreaming}
-use Rattle.np_forms.specs.inside.Classes.{AreClassed, CodeAndClass, codes_of, with_class, with_classes}
-use Rattle.np_forms.specs.inside.Held.{IsFrontHeld}
-use Rattle.np_forms.specs.inside.Written.{HoldsFront}
+use Rattle.np_forms.proofs.Words.{and_from, flat_map-append, map-append, is_non_starter, IsStreaming, AreClassed}
+use Rattle.np_forms.proofs.Words.{CodeAndClass, codes_of, with_class, with_classes, IsFrontHeld, HoldsFront, is_compat}
+use Rattle.np_forms.proofs.Words.{Form, IsSound, VersionData, full_of}
 use Rattle.np_forms.proofs.ClassLemmas.{AreClassed-append, AreClassed-with_classes, codes-append, codes-with_classes}
 use Rattle.np_forms.proofs.HeldLemmas.{holds_non_starters}
 use Rattle.np_forms.proofs.TextLemmas.{IsRead-start, IsRead-next}
-use Rattle.np_code_points.specs.Forms.{is_compat}
-use Rattle.np_code_points.specs.declared.forms.Form.{Form}
 use Rattle.np_tables.proofs.MappingLemmas.{list_all-append}
-use Rattle.np_tables.specs.Conditions.{IsSound}
-use Rattle.np_tables.specs.Versions.{VersionData}
-use Rattle.np_tables.specs.inside.FullDecompositions.{full_of}
 
 module _ (v : VersionData) (compat : Bool) (text : List ℕ) (old : List CodeAndClass) where
   pub IsFrontHeld-start : IsUtf8 text → IsFrontHeld v compat text text old old

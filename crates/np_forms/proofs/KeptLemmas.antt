@@ -1,18 +1,8 @@
 -- What a normal form keeps: its decomposition, and a property of each code point.
 use Rattle.std.proofs.Common.{◌≡◌, ℕ, Bool, true, false, List, sym, ap, subst, ◌∙◌}
-use Rattle.std.specs.List.{list_all}
-use Rattle.np_tables.specs.Versions.{VersionData, class_of}
-use Rattle.np_tables.specs.Mappings.{is_final}
-use Rattle.np_tables.specs.inside.FullDecompositions.{full_of}
-use Rattle.np_forms.specs.Order.{is_ordered}
-use Rattle.np_forms.specs.inside.CanonicalOrder.{canonical_order}
-use Rattle.np_tables.specs.inside.CompositeSearch.{composite}
-use Rattle.np_forms.specs.inside.Composing.{compose_of}
-use Rattle.np_tables.specs.Conditions.{IsSound}
-use Rattle.np_code_points.specs.declared.forms.Form.{Form}
-use Rattle.np_code_points.specs.Forms.{is_compat, composes}
-use Rattle.np_forms.specs.Forms.{IsDecomposed, IsNormalForm}
-use Rattle.np_forms.specs.inside.NormalForms.{decomposed, ended, normal_form}
+use Rattle.np_forms.proofs.Words.{list_all, VersionData, class_of, is_final, full_of, is_ordered, canonical_order}
+use Rattle.np_forms.proofs.Words.{composite, compose_of, IsSound, Form, is_compat, composes, IsDecomposed, IsNormalForm}
+use Rattle.np_forms.proofs.Words.{decomposed, ended, normal_form}
 use Rattle.np_forms.specs.Laws.{Idempotence, SameForms}
 use Rattle.np_forms.proofs.OrderLemmas.{canonical_order-ordered, is_ordered-canonical_order, list_all-canonical_order}
 use Rattle.np_forms.proofs.ComposeLemmas.{decomposed-compose}

@@ -1,23 +1,15 @@
 -- A normal form is at most so long: 64 code points for each code point of the text, and 256 bytes for each byte.
 use Rattle.std.proofs.Common.{◌≡◌, ◌≢◌, ℕ, zero, suc, ◌+◌, ◌*◌, ◌≤◌, Bool, true, false, List, [], ◌∷◌, ◌++◌, length, flat_map, Option, chars, IsUtf8, encode_utf8, encode_utf8_all, refl, sym, ap, ◌∙◌, inl, inr, arith, length-append, append-nil}
-use Rattle.std.proofs.lemmas.Bool.{cond-true, cond-false, cases_Bool}
-use Rattle.std.proofs.lemmas.Str.{encodes-chars, length-encode, len_utf8_bounds, length-le-encodes}
+use Rattle.np_forms.proofs.Words.{cond-true, cond-false, cases_Bool, encodes-chars, length-encode, len_utf8_bounds}
+use Rattle.np_forms.proofs.Words.{length-le-encodes, is_compat, composes, ReachesIn, Form, IsNormalForm, compose_after}
+use Rattle.np_forms.proofs.Words.{compose, compose_of, decomposed, ended, normal_form, composite, IsSound, counts}
+use Rattle.np_forms.proofs.Words.{parts, Rewrites, is_final, IsFullDecomposition, VersionData, class_of}
+use Rattle.np_forms.proofs.Words.{decomposition_kind, full, full_of}
 use Rattle.np_code_points.proofs.StepsLemmas.{join}
-use Rattle.np_code_points.specs.Forms.{is_compat, composes}
-use Rattle.np_code_points.specs.Steps.{ReachesIn}
-use Rattle.np_code_points.specs.declared.forms.Form.{Form}
 use Rattle.np_forms.proofs.ComposeLemmas.{compose_after-nil, compose_after-cases, compose-nil, compose-cases}
 use Rattle.np_forms.proofs.FormLemmas.{normal_form_is}
 use Rattle.np_forms.proofs.OrderLemmas.{length-canonical_order}
-use Rattle.np_forms.specs.Forms.{IsNormalForm}
-use Rattle.np_forms.specs.inside.Composing.{compose_after, compose, compose_of}
-use Rattle.np_forms.specs.inside.NormalForms.{decomposed, ended, normal_form}
 use Rattle.np_tables.proofs.MappingLemmas.{is_empty-false, full-final, full-mapped, IsFullDecomposition-flat_map, full_decomposition-flat_map}
-use Rattle.np_tables.specs.inside.CompositeSearch.{composite}
-use Rattle.np_tables.specs.Conditions.{IsSound}
-use Rattle.np_tables.specs.Mappings.{counts, parts, Rewrites, is_final, IsFullDecomposition}
-use Rattle.np_tables.specs.Versions.{VersionData, class_of, decomposition_kind}
-use Rattle.np_tables.specs.inside.FullDecompositions.{full, full_of}
 use Rattle.np_ucd.specs.declared.rows.MapKind.{MapKind}
 use Rattle.np_ucd.specs.declared.rows.MapKind.TheVariants.{Plain, Canonical, Compatibility}
 

@@ -1,17 +1,12 @@
 -- The machine of composition stops with one list, which `compose` computes.
 use Rattle.std.proofs.Common.{◌≡◌, ◌≢◌, ℕ, zero, suc, ◌+◌, ◌-◌, ◌<◌, ◌≤◌, ◌⊎◌, Bool, true, false, not, List, [], ◌∷◌, ◌++◌, length, get_or, drop, set, Option, Some, None, refl, sym, ap, ap₂, subst, ◌∙◌, arith, inl, inr, append_assoc, append-nil, length-append}
-use Rattle.std.proofs.lemmas.Bool.{cases_Bool, cases_lt, cases_order, and_parts, and_from, not-true, not_from_false, and_cases, eqb-false, both_ways}
-use Rattle.std.proofs.lemmas.List.{get_or-append-add, get_or_append_left, get_or_at, set_at, take_at}
+use Rattle.np_forms.proofs.Words.{cases_Bool, cases_lt, cases_order, and_parts, and_from, not-true, not_from_false}
+use Rattle.np_forms.proofs.Words.{and_cases, eqb-false, both_ways, get_or-append-add, get_or_append_left, get_or_at}
+use Rattle.np_forms.proofs.Words.{set_at, take_at, list_all, remove, Reaches, ReachesIn, VersionData, class_of}
+use Rattle.np_forms.proofs.Words.{is_reorderable, is_free, joined, compose_after, compose, compose_of, is_starter}
+use Rattle.np_forms.proofs.Words.{composite, IsSound}
 use Rattle.std.proofs.lemmas.List.Edits.{remove-append_right}
-use Rattle.std.specs.List.{list_all, remove}
-use Rattle.np_code_points.specs.Steps.{Reaches, ReachesIn}
-use Rattle.np_tables.specs.Versions.{VersionData, class_of}
-use Rattle.np_forms.specs.Order.{is_reorderable}
 use Rattle.np_forms.specs.Composition.{IsBlocked, IsLastStarter, Joins, Stage, ComposeStep, IsComposed}
-use Rattle.np_forms.specs.inside.Composing.{is_free, joined, compose_after, compose, compose_of}
-use Rattle.np_forms.specs.Starters.{is_starter}
-use Rattle.np_tables.specs.inside.CompositeSearch.{composite}
-use Rattle.np_tables.specs.Conditions.{IsSound}
 use Rattle.np_code_points.proofs.StepsLemmas.{stays, one_more}
 use Rattle.np_tables.proofs.MappingLemmas.{list_all-append}
 use Rattle.np_forms.proofs.OrderLemmas.{is_reorderable-false, not_reorderable_starter, not_reorderable_rising}

@@ -1,11 +1,9 @@
 -- Canonical ordering: sliding a code point into place, and what exchanges keep.
 use Rattle.std.proofs.Common.{◌≡◌, ℕ, ◌<◌, ◌≤◌, ◌⊎◌, Bool, true, false, not, ◌&&◌, nat_lt, List, [], ◌∷◌, ◌++◌, length, refl, sym, ap, ◌∙◌, arith, inl, inr, append_assoc, length-append}
-use Rattle.std.proofs.lemmas.Bool.{cases_Bool, and_parts, and_from, and_cases, and_left, and_right, not-true, not_from_false, ltb-true, ltb-false, lt-ltb, le-ltb}
+use Rattle.np_forms.proofs.Words.{cases_Bool, and_parts, and_from, and_cases, and_left, and_right, not-true}
+use Rattle.np_forms.proofs.Words.{not_from_false, ltb-true, ltb-false, lt-ltb, le-ltb, list_all, Reaches}
+use Rattle.np_forms.proofs.Words.{is_reorderable, is_ordered, Exchanges, slide, canonical_order}
 use Rattle.std.proofs.lemmas.List.Folds.{list_all-append}
-use Rattle.std.specs.List.{list_all}
-use Rattle.np_code_points.specs.Steps.{Reaches}
-use Rattle.np_forms.specs.Order.{is_reorderable, is_ordered, Exchanges}
-use Rattle.np_forms.specs.inside.CanonicalOrder.{slide, canonical_order}
 use Rattle.np_code_points.proofs.StepsLemmas.{stays_at, one_more, join, keeps, along}
 
 module _ (ccc : ℕ → ℕ) where

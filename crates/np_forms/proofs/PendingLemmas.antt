@@ -1,13 +1,7 @@
 -- What a stream holds back: the last starter, which may be a composite already, and the non-starters after it, not yet in order.
 use Rattle.std.proofs.Common.{◌≡◌, ℕ, ◌≤◌, true, List, [], ◌∷◌, ◌++◌, Option, Some, None, refl, sym, ap, ap₂, ◌∙◌, arith, inl, inr}
-use Rattle.std.proofs.lemmas.Bool.{and_parts, not-true}
-use Rattle.std.specs.List.{list_all}
-use Rattle.np_tables.specs.Versions.{VersionData, class_of}
-use Rattle.np_forms.specs.inside.CanonicalOrder.{canonical_order}
-use Rattle.np_tables.specs.inside.CompositeSearch.{composite}
-use Rattle.np_forms.specs.inside.Composing.{joined, compose_after, compose}
-use Rattle.np_tables.specs.Conditions.{IsSound}
-use Rattle.np_forms.specs.Starters.{is_non_starter}
+use Rattle.np_forms.proofs.Words.{and_parts, not-true, list_all, VersionData, class_of, canonical_order, composite}
+use Rattle.np_forms.proofs.Words.{joined, compose_after, compose, IsSound, is_non_starter}
 use Rattle.np_forms.proofs.OrderLemmas.{canonical_order-at_starter, canonical_order-nil, list_all-canonical_order}
 use Rattle.np_forms.proofs.ComposeLemmas.{is_starter-false, joined-free, compose_after-nil, compose_after-joined, compose_after-starter, compose_after-kept, compose-starter, compose-non_starter}
 use Rattle.np_tables.proofs.CompositeLemmas.{cases_Option, composite-starter}

@@ -1,19 +1,31 @@
 -- A form that is given piece by piece.
-use Rattle.std.proofs.Common.{◌≡◌, ◌≢◌, ℕ, ◌+◌, ◌≤◌, ◌↔◌, min, Bool, true, false, IsTrue, eqb, List, [], ◌∷◌, ◌++◌, length, take, drop, chars, encode_utf8_all, refl, sym, ap, ◌∙◌, append_assoc, ◌⊎◌, ⊎_elim, inl, inr, ◌&&◌, arith}
-use Rattle.std.proofs.lemmas.Bool.{false≢true, eqb-true, and_parts, and_from}
-use Rattle.std.proofs.lemmas.List.{append_cancel_left, nil_from_length, drop-drop, drop_min, take-append-drop, take-append-le}
-use Rattle.np_code_points.specs.declared.forms.Form.{Form}
-use Rattle.std.proofs.lemmas.Str.{encodes_same}
-use Rattle.np_code_points.specs.Forms.{composes, is_compat}
-use Rattle.np_tables.specs.Conditions.{IsSound}
-use Rattle.np_tables.specs.Versions.{VersionData}
-use Rattle.np_forms.specs.Forms.{IsEquivalent}
-use Rattle.np_forms.specs.inside.NormalForms.{decomposed, normal_form}
-use Rattle.np_forms.proofs.AnswerLemmas.{IsEquivalent-lists, normal_form-decomposed}
-use Rattle.np_forms.specs.inside.Copies.{IsCopied}
+use Rattle.std.proofs.Common.{◌≡◌, ◌≢◌, ℕ, ◌+◌, ◌≤◌, ◌↔◌, min, Bool, true, false, IsTrue, eqb, List, [], ◌∷◌, ◌++◌, length, take, drop, chars, encode_utf8_all, refl, sym, ap, ◌∙◌, append_assoc, ◌⊎◌, ⊎_elim, inl, inr, ◌&&◌, arith, IsUtf8}
+use Rattle.np_forms.proofs.Words.{false≢true, eqb-true, and_parts, and_from, append_cancel_left, nil_from_length}
+use Rattle.np_forms.proofs.Words.{drop-drop, drop_min, take-append-drop, take-append-le, Form, encodes_same, chars-nil}
+use Rattle.np_forms.proofs.Words.{chars_from_encodes, encodes-chars, composes, is_compat, IsSound, VersionData}
+use Rattle.np_forms.proofs.Words.{IsEquivalent, IsNormalForm, decomposed, normal_form, IsCopied, first_of, form_bytes}
+use Rattle.np_forms.proofs.Words.{front_of, left_of}
 use Rattle.np_forms.specs.declared.pieces.Pieces.{Pieces}
-use Rattle.np_forms.specs.inside.Pieces.{first_of, form_bytes, front_of, left_of}
-use Rattle.np_forms.proofs.MatchLemmas.{form_cut, rest_nil}
+use Rattle.np_forms.proofs.FormLemmas.{IsEquivalent-lists, normal_form-decomposed, normal_form_is, IsNormalForm-value}
+use Rattle.np_forms.proofs.CopyLemmas.{normal_form-nil}
+
+-- ---- a text beside its own normal form
+
+module _ (v : VersionData) (form : Form) where
+  -- the form of a text, of which a front stays and some bytes are made
+  pub form_cut : (rest stays after made later : List ℕ) → IsCopied v form rest stays after → made ++ form_bytes v form later ≡ form_bytes v form after → form_bytes v form rest ≡ stays ++ (made ++ form_bytes v form later)
+  form_cut rest stays after made later copied goes = copied.copied ∙ ap (λ l. stays ++ l) (sym goes)
+
+  -- nothing is left of the form
+  pub rest_nil : (rest : List ℕ) → length rest ≡ 0 → form_bytes v form rest ≡ []
+  rest_nil rest none = ap (λ l. encode_utf8_all (normal_form v form l)) (ap chars (nil_from_length rest none) ∙ chars-nil) ∙ ap encode_utf8_all (normal_form-nil v form)
+
+  -- a text is its own form exactly where its bytes are those of its form
+  pub own_form : (sound : IsSound v) (text : List ℕ) (b : Bool) → IsUtf8 text → (IsTrue b ↔ (form_bytes v form text ≡ text)) → IsTrue b ↔ IsNormalForm v form (chars text) (chars text)
+  own_form sound text b utf8 same = (
+    λ yes. IsNormalForm-value v sound form (chars text) (chars text) (sym (chars_from_encodes (normal_form v form (chars text)) text utf8 (same.0 yes))),
+    λ is. same.1 (ap encode_utf8_all (sym (normal_form_is v sound form (chars text) (chars text) is)) ∙ encodes-chars text utf8),
+  )
 
 -- nothing stands in front
 pub first_nil : (stays made : List ℕ) → first_of stays made ≡ [] → stays ≡ []

@@ -1,25 +1,17 @@
 -- A run over a whole input, chunk by chunk.
 use Rattle.std.proofs.Common.{◌≡◌, ℕ, ◌+◌, ◌<◌, ◌≤◌, ◌⊎◌, List, [], ◌++◌, length, take, drop, chars, encode_utf8_all, flat_map, IsUtf8, Option, None, Some, Result, refl, sym, ap, subst, ◌∙◌, arith, inl, inr, append_assoc, append-nil, length-append}
 use Rattle.std.proofs.KnownBytes.{Appends-trans, Consumes-trans}
-use Rattle.std.proofs.lemmas.Grind.{flat_map-append}
-use Rattle.std.proofs.lemmas.List.{nil_from_length, take_all, take-append-drop, drop_at, drop-drop}
-use Rattle.std.proofs.lemmas.Str.{chars-nil, chars-append, IsUtf8-nil, encodes-append, IsUtf8-append}
+use Rattle.np_forms.proofs.Words.{flat_map-append, nil_from_length, take_all, take-append-drop, drop_at, drop-drop}
+use Rattle.np_forms.proofs.Words.{chars-nil, chars-append, IsUtf8-nil, encodes-append, IsUtf8-append, utf8_valid_len}
+use Rattle.np_forms.proofs.Words.{utf8_error_len, is_compat, composes, Form, IsSound, VersionData, class_of, full_of}
+use Rattle.np_forms.proofs.Words.{IsNormalForm, IsStreaming, StreamState, canonical_order, decomposed, ended}
+use Rattle.np_forms.proofs.Words.{normal_form, IsRunning, MayBegin, MayNotBegin, IsNextChunk, IsInputFault}
+use Rattle.np_forms.proofs.Words.{IsPieceWritten, IsPieceCut, IsRestWritten, IsRestCut, Stops}
 use Rattle.std.specs.Io.KnownBytes.{Appends, Consumes, IsAtEnd, Keeps}
-use Rattle.std.specs.Str.Lossy.{utf8_valid_len, utf8_error_len}
-use Rattle.np_code_points.specs.Forms.{is_compat, composes}
 use Rattle.np_code_points.specs.Text.{IsLongestValidPrefix}
-use Rattle.np_code_points.specs.declared.forms.Form.{Form}
-use Rattle.np_tables.specs.Conditions.{IsSound}
-use Rattle.np_tables.specs.Versions.{VersionData, class_of}
-use Rattle.np_tables.specs.inside.FullDecompositions.{full_of}
-use Rattle.np_forms.specs.Forms.{IsNormalForm}
 use Rattle.np_forms.specs.RunEnds.{BeginsText, Ends, IsRunWhole, IsReadTo, IsCauseOf, IsFrontOfForm, IsWrittenOf, IsRunCut, RunEnds}
-use Rattle.np_forms.specs.Streams.{IsStreaming, StreamState}
 use Rattle.np_forms.specs.declared.runs.RunFault.{RunFault}
 use Rattle.np_forms.specs.declared.runs.RunFault.TheVariants.{NotUtf8, ReadFailed, WriteFailed, TooLarge, Memory}
-use Rattle.np_forms.specs.inside.CanonicalOrder.{canonical_order}
-use Rattle.np_forms.specs.inside.NormalForms.{decomposed, ended, normal_form}
-use Rattle.np_forms.specs.inside.Running.{IsRunning, MayBegin, MayNotBegin, IsNextChunk, IsInputFault, IsPieceWritten, IsPieceCut, IsRestWritten, IsRestCut, Stops}
 use Rattle.np_forms.proofs.FormLemmas.{IsNormalForm-normal_form, normal_form_is}
 use Rattle.np_forms.proofs.HeldLemmas.{held_streaming}
 use Rattle.np_forms.proofs.RunTextLemmas.{take_past, prefix_past, prefix_left, one_prefix, longest_prefix, whole_prefix}

@@ -1,14 +1,9 @@
 -- A starter and one or two code points behind it: their canonical order, and what they compose to.
 use Rattle.std.proofs.Common.{◌≡◌, ℕ, ◌<◌, ◌≤◌, Bool, true, false, List, [], ◌∷◌, ◌++◌, Option, Some, None, encode_utf8, encode_utf8_all, refl, sym, ap, ◌∙◌, arith, inl, inr, append_assoc, append-nil}
-use Rattle.std.proofs.lemmas.Bool.{and_from, and_left, cases_lt}
-use Rattle.np_forms.specs.inside.CanonicalOrder.{canonical_order}
-use Rattle.np_forms.specs.inside.Composing.{compose_of, is_free, joined}
-use Rattle.np_forms.specs.inside.NormalForms.{ended}
+use Rattle.np_forms.proofs.Words.{and_from, and_left, cases_lt, canonical_order, compose_of, is_free, joined, ended}
+use Rattle.np_forms.proofs.Words.{IsSound, VersionData, class_of, composite}
 use Rattle.np_forms.proofs.ComposeLemmas.{compose-starter, compose_after-joined, compose_after-kept, compose_after-nil, compose_after-starter, joined-blocked, joined-free, joined-none}
 use Rattle.np_forms.proofs.OrderLemmas.{canonical_order-exchange, canonical_order-ordered, is_ordered-cons, is_ordered-one, is_reorderable_from, not_reorderable_rising}
-use Rattle.np_tables.specs.Conditions.{IsSound}
-use Rattle.np_tables.specs.Versions.{VersionData, class_of}
-use Rattle.np_tables.specs.inside.CompositeSearch.{composite}
 use Rattle.np_tables.proofs.CompositeLemmas.{composite-starter}
 
 module _ (v : VersionData) (s : ℕ) (starter : class_of v s ≡ 0) where

@@ -1,17 +1,11 @@
 -- The longest run of non-starters, counted and as a relation.
 use Rattle.std.proofs.Common.{◌≡◌, ℕ, suc, ◌+◌, ◌<◌, ◌≤◌, ◌⊎◌, ◌↔◌, Bool, true, false, not, nat_lt, max, IsTrue, List, [], ◌∷◌, ◌++◌, length, flat_map, refl, sym, ap, subst, ◌∙◌, arith, inl, inr, eq-eqb}
-use Rattle.std.proofs.lemmas.Bool.{cases_Bool, cond-true, cond-false, and_parts, and_from, not-true, ltb-true, ltb-false, lt-ltb, le-ltb}
-use Rattle.std.specs.List.{list_all}
+use Rattle.np_forms.proofs.Words.{cases_Bool, cond-true, cond-false, and_parts, and_from, not-true, ltb-true, ltb-false}
+use Rattle.np_forms.proofs.Words.{lt-ltb, le-ltb, list_all, IsSound, VersionData, class_of, is_starter, is_non_starter}
+use Rattle.np_forms.proofs.Words.{decomposed, normal_form, canonical_order, longest_run, runs_over, is_reorderable}
+use Rattle.np_forms.proofs.Words.{full_of}
 use Rattle.np_code_points.specs.declared.forms.Form.TheVariants.{Nfkd}
-use Rattle.np_tables.specs.Conditions.{IsSound}
-use Rattle.np_tables.specs.Versions.{VersionData, class_of}
-use Rattle.np_forms.specs.Starters.{is_starter, is_non_starter}
-use Rattle.np_forms.specs.inside.NormalForms.{decomposed, normal_form}
 use Rattle.np_forms.specs.StreamSafe.{HasRunOver, IsStreamSafe}
-use Rattle.np_forms.specs.inside.CanonicalOrder.{canonical_order}
-use Rattle.np_forms.specs.inside.Runs.{longest_run, runs_over}
-use Rattle.np_forms.specs.Order.{is_reorderable}
-use Rattle.np_tables.specs.inside.FullDecompositions.{full_of}
 use Rattle.np_forms.proofs.OrderLemmas.{canonical_order-keeps, is_reorderable-true}
 use Rattle.np_forms.proofs.ComposeLemmas.{not_starter_from}
 use Rattle.np_forms.proofs.FormLemmas.{IsNormalForm-normal_form, normal_form_is}

@@ -1,35 +1,24 @@
 -- Texts that begin with a syllable, by its jamo or precomposed.
 use Rattle.std.proofs.Common.{◌≡◌, ℕ, ◌<◌, get_or, true, false, MatchBool, List, [], ◌∷◌, ◌++◌, length, chars, IsUtf8, encode_utf8_all, drop, encode_utf8, flat_map, inl, inr, refl, sym, ap, subst, ◌∙◌, arith, append-nil, length-append, length-drop}
-use Rattle.std.proofs.lemmas.Bool.{and_from}
-use Rattle.std.proofs.lemmas.Str.{chars-append, chars-encodes, chars_past_char, IsUtf8-drop, IsUtf8-past_char, length-le-encodes}
-use Rattle.std.specs.List.{list_all}
+use Rattle.np_forms.proofs.Words.{and_from, chars-append, chars-encodes, chars_past_char, IsUtf8-drop, IsUtf8-past_char}
+use Rattle.np_forms.proofs.Words.{length-le-encodes, list_all, is_compat, composes, is_among, is_syllable, Form}
+use Rattle.np_forms.proofs.Words.{IsAssigned, AsciiStandsAlone, GoesOn, IsCopied, PartsBeforeLeads, StandsAlone}
+use Rattle.np_forms.proofs.Words.{canonical_order, decomposed, ended, normal_form, IsReadAssigned, IsFirstMade}
+use Rattle.np_forms.proofs.Words.{BeginsWithJamo, BeginsWithSyllable, syllable_parts, BeginsAtBoundary, FoldsTo}
+use Rattle.np_forms.proofs.Words.{IsBoundary, IsYesStarter, IsSound, IsFullDecomposition, is_final, VersionData}
+use Rattle.np_forms.proofs.Words.{class_of, has_hangul, is_assigned, full_of}
 use lib.Utf8.{low_scalar}
-use Rattle.np_code_points.specs.Forms.{is_compat, composes}
-use Rattle.np_code_points.specs.Hangul.{is_among, is_syllable}
-use Rattle.np_code_points.specs.declared.forms.Form.{Form}
 use Rattle.np_code_points.proofs.HangulLemmas.{among_bounds}
-use Rattle.np_forms.specs.Assigned.{IsAssigned}
-use Rattle.np_forms.specs.inside.Copies.{AsciiStandsAlone, GoesOn, IsCopied, PartsBeforeLeads, StandsAlone}
-use Rattle.np_forms.specs.inside.CanonicalOrder.{canonical_order}
-use Rattle.np_forms.specs.inside.NormalForms.{decomposed, ended, normal_form}
-use Rattle.np_forms.specs.inside.Readings.{IsReadAssigned}
-use Rattle.np_forms.specs.inside.Segments.{IsFirstMade}
-use Rattle.np_forms.specs.inside.Syllables.{BeginsWithJamo, BeginsWithSyllable, syllable_parts}
-use Rattle.np_forms.proofs.BoundaryLemmas.{ended-folds, is_ordered-never_falls, rises_from}
+use Rattle.np_forms.proofs.StreamLemmas.{ended-folds, is_ordered-never_falls, rises_from}
 use Rattle.np_forms.proofs.CopyLemmas.{IsCopied-at, parts-at}
-use Rattle.np_forms.proofs.DecomposedLemmas.{form-closed, goes-made}
+use Rattle.np_forms.proofs.SegmentLemmas.{form-closed, goes-made}
 use Rattle.np_forms.proofs.OrderLemmas.{canonical_order-ordered}
 use Rattle.np_forms.proofs.SyllableLemmas.{full_of-jamo, full_of-syllable}
 use Rattle.np_forms.proofs.SyllableTextLemmas.{closed-parts, jamo-boundary, jamo-bytes, jamo-chars, jamo-starter, parts-assigned, syllable-assigned}
 use Rattle.np_tables.proofs.HangulLemmas.{leading_jamo}
 use Rattle.np_tables.proofs.MappingLemmas.{IsFullDecomposition-full_of, flat_map-final, full_of-only}
 use Rattle.np_tables.proofs.PageHintLemmas.{unfolds}
-use Rattle.np_tables.specs.Boundaries.{BeginsAtBoundary, FoldsTo, IsBoundary, IsYesStarter}
 use Rattle.np_tables.specs.Composites.{IsCompositeOf}
-use Rattle.np_tables.specs.Conditions.{IsSound}
-use Rattle.np_tables.specs.Mappings.{IsFullDecomposition, is_final}
-use Rattle.np_tables.specs.Versions.{VersionData, class_of, has_hangul, is_assigned}
-use Rattle.np_tables.specs.inside.FullDecompositions.{full_of}
 
 -- ---- what such a text is
 

@@ -1,15 +1,11 @@
 -- Full decompositions of code points, syllables by arithmetic included.
 use Rattle.std.proofs.Common.{◌≡◌, ℕ, ◌<◌, ◌⊎◌, Bool, true, false, ◌&&◌, List, [], ◌∷◌, ◌++◌, length, flat_map, refl, sym, ap, ◌∙◌, ◌||◌, arith, inl, inr}
-use Rattle.std.proofs.lemmas.Bool.{cases_Bool, cond-true, cond-false, or_from}
-use Rattle.np_code_points.specs.Hangul.{is_syllable, syllable_pair}
-use Rattle.np_tables.specs.Conditions.{IsSound}
-use Rattle.np_tables.specs.Mappings.{is_final}
-use Rattle.np_tables.specs.inside.FullDecompositions.{full_of, table_full}
-use Rattle.np_tables.specs.Versions.{VersionData, is_empty, has_hangul}
-use Rattle.np_tables.proofs.FullLemmas.{parts-syllable}
+use Rattle.np_forms.proofs.Words.{cases_Bool, cond-true, cond-false, or_from, is_syllable, syllable_pair, IsSound}
+use Rattle.np_forms.proofs.Words.{is_final, full_of, table_full, VersionData, is_empty, has_hangul, pair_or_self}
+use Rattle.np_forms.proofs.Words.{syllable_parts}
+use Rattle.np_tables.proofs.FullListLemmas.{parts-syllable}
 use Rattle.np_tables.proofs.HangulLemmas.{IsJamo, IsLv, jamo_bare, shape_of}
 use Rattle.np_tables.proofs.MappingLemmas.{parts-cases, full_of-final, full_of-mapped, full_of-some}
-use Rattle.np_forms.specs.inside.Syllables.{pair_or_self, syllable_parts}
 
 -- ---- what the arithmetic gives
 

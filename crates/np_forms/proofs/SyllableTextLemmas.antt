@@ -1,20 +1,14 @@
 -- Syllables written as the bytes of their jamo.
 use Rattle.std.proofs.Common.{◌≡◌, ℕ, ◌+◌, ◌-◌, ◌*◌, ◌/◌, ◌%◌, ◌<◌, ◌≤◌, ◌≢◌, true, List, [], ◌∷◌, ◌++◌, length, get_or, chars, IsCharBoundary, IsUtf8, encode_utf8_all, drop, encode_utf8, inl, inr, refl, suc, sym, take, ap, subst, ◌∙◌, arith}
-use Rattle.std.proofs.lemmas.Bool.{and_from, cases_eq, le-leb, lt-ltb}
-use Rattle.std.proofs.Math.Seq.{take-suc}
-use Rattle.std.proofs.lemmas.List.{take-append-drop}
-use Rattle.std.proofs.lemmas.Str.{chars-append, chars-encodes, IsCharBoundary-from_take}
-use Rattle.std.specs.List.{list_all}
+use Rattle.np_forms.proofs.Words.{and_from, cases_eq, le-leb, lt-ltb, take-suc, take-append-drop, chars-append}
+use Rattle.np_forms.proofs.Words.{chars-encodes, IsCharBoundary-from_take, list_all, is_syllable, IsAssigned}
+use Rattle.np_forms.proofs.Words.{BeginsWithJamo, syllable_parts, VersionData, class_of, has_hangul, is_assigned}
 use lib.Utf8.{low_scalar, scalar, scalars}
-use Rattle.np_code_points.specs.Hangul.{is_syllable}
 use Rattle.np_code_points.proofs.HangulLemmas.{among_bounds, pair_of_lv, pair_of_lvt}
-use Rattle.np_forms.specs.Assigned.{IsAssigned}
-use Rattle.np_forms.specs.inside.Syllables.{BeginsWithJamo, syllable_parts}
-use Rattle.np_forms.proofs.DecomposedLemmas.{IsClosed, closed-nil, closed-starter}
+use Rattle.np_forms.proofs.SegmentLemmas.{IsClosed, closed-nil, closed-starter}
 use Rattle.np_tables.proofs.Utf8Lemmas.{encode_three}
 use Rattle.np_forms.proofs.SyllableLemmas.{syllable_parts-two, syllable_parts-three}
 use Rattle.np_tables.proofs.HangulLemmas.{IsJamo, by_arithmetic, lv_shape, lvt_shape, syllable_hangul}
-use Rattle.np_tables.specs.Versions.{VersionData, class_of, has_hangul, is_assigned}
 
 -- ---- characters of three bytes
 

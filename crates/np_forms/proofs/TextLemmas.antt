@@ -1,13 +1,9 @@
 -- A text that was read up to some place.
-use Rattle.std.proofs.Common.{◌≡◌, ℕ, ◌-◌, Bool, true, false, List, [], ◌∷◌, ◌++◌, ◌≤◌, length, take, take_all, chars, IsUtf8, encode_utf8, encode_utf8_all, refl, sym, ap, ◌∙◌, arith, append_assoc, append-nil, length-append}
-use Rattle.std.proofs.lemmas.Bool.{and_from, and_parts, both_ways}
-use Rattle.std.proofs.lemmas.List.{nil_from_length}
-use Rattle.std.proofs.lemmas.Str.{chars-append, chars-nil, chars_past_char, encodes-append, encodes-chars, IsUtf8-past_char}
-use Rattle.std.specs.List.{list_all}
-use Rattle.np_tables.specs.Versions.{VersionData, is_assigned}
-use Rattle.np_forms.specs.Assigned.{IsAssigned, IsFirstUnassigned}
-use Rattle.np_forms.specs.inside.Copies.{IsEndOf}
-use Rattle.np_forms.specs.inside.Readings.{IsRead, IsReadAssigned}
+use Rattle.std.proofs.Common.{◌≡◌, ℕ, ◌-◌, Bool, true, false, List, [], ◌∷◌, ◌++◌, length, chars, IsUtf8, encode_utf8, encode_utf8_all, refl, sym, ap, ◌∙◌, arith, append_assoc, append-nil, length-append}
+use Rattle.np_forms.proofs.Words.{and_from, and_parts, both_ways, nil_from_length, chars-append, chars-nil}
+use Rattle.np_forms.proofs.Words.{chars_past_char, encodes-append, encodes-chars, IsUtf8-past_char, list_all}
+use Rattle.np_forms.proofs.Words.{VersionData, is_assigned, IsAssigned, IsFirstUnassigned, IsEndOf, IsRead}
+use Rattle.np_forms.proofs.Words.{IsReadAssigned}
 use Rattle.np_tables.proofs.MappingLemmas.{list_all-append}
 
 pub list_all-front : (p : ℕ → Bool) (xs ys : List ℕ) → list_all p (xs ++ ys) ≡ true → list_all p xs ≡ true
@@ -35,12 +31,6 @@ module _ (v : VersionData) (text front back : List ℕ) (utf8 : IsUtf8 front) (p
 
   pub assigned-both : IsAssigned v (chars front) → IsAssigned v (chars back) → IsAssigned v (chars text)
   assigned-both one two = ap (list_all (is_assigned v)) (ap chars parts ∙ chars-append front back utf8) ∙ list_all-append (is_assigned v) (chars front) (chars back) one two
-
--- a code point that is all of a text
-pub assigned-one : (v : VersionData) (text : List ℕ) (n c : ℕ) → IsUtf8 text → text ≡ encode_utf8 c → length text ≤ n → IsAssigned v (chars (take n text)) → is_assigned v c ≡ true
-assigned-one v text n c utf8 is all h =
-    let whole : chars (take n text) ≡ c ∷ [] = ap chars (take_all n text all) ∙ chars_past_char text [] c utf8 (is ∙ sym (append-nil (encode_utf8 c))) ∙ ap (λ l. c ∷ l) chars-nil in
-    (and_parts (is_assigned v c) true (sym (ap (list_all (is_assigned v)) whole) ∙ h)).0
 
 -- ---- texts that were read up to some place
 

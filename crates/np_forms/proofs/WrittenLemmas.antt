@@ -1,17 +1,10 @@
 -- A stream whose ready code points are moved to the end of a text.
 use Rattle.std.proofs.Common.{◌≡◌, ℕ, Bool, List, [], ◌∷◌, ◌++◌, IsUtf8, chars, encode_utf8_all, refl, sym, ap, subst, ◌∙◌, append_assoc, append-nil}
-use Rattle.std.proofs.lemmas.Str.{encodes-append, chars_from_encodes}
-use Rattle.np_code_points.specs.declared.forms.Form.{Form}
-use Rattle.np_tables.specs.Conditions.{IsSound}
-use Rattle.np_tables.specs.Versions.{VersionData, class_of}
-use Rattle.np_code_points.specs.Forms.{composes}
-use Rattle.np_forms.specs.Forms.{IsNormalForm}
-use Rattle.np_forms.specs.Streams.{IsStreaming, StreamState, TakesIn}
-use Rattle.np_forms.specs.inside.CanonicalOrder.{canonical_order}
-use Rattle.np_forms.specs.inside.NormalForms.{ended, normal_form}
-use Rattle.np_forms.specs.inside.Written.{Breaks, HoldsFront, Writes}
+use Rattle.np_forms.proofs.Words.{encodes-append, chars_from_encodes, Form, IsSound, VersionData, class_of, composes}
+use Rattle.np_forms.proofs.Words.{IsNormalForm, IsStreaming, StreamState, TakesIn, canonical_order, ended, normal_form}
+use Rattle.np_forms.proofs.Words.{Breaks, HoldsFront, Writes}
 use Rattle.np_forms.proofs.HeldLemmas.{IsStreaming-start, whole_streams}
-use Rattle.np_forms.proofs.FormLemmas.{IsNormalForm-normal_form, normal_form_is}
+use Rattle.np_forms.proofs.FormLemmas.{IsNormalForm-normal_form}
 
 -- a stream under the version and the form of another state
 pub same_streaming : (a b : StreamState) (fed out pending : List ℕ) → b.version ≡ a.version → b.form ≡ a.form → IsStreaming a.version a.form fed out pending → IsStreaming b.version b.form fed out pending
@@ -103,13 +96,6 @@ pub record IsWrittenForm (v : VersionData) (form : Form) (text bytes : List ℕ)
   pub is : IsNormalForm v form text list
   pub bytes_is : bytes ≡ encode_utf8_all list
 
--- by the function
-pub written_bytes : (v : VersionData) (sound : IsSound v) (form : Form) (text bytes : List ℕ) → IsWrittenForm v form text bytes → bytes ≡ encode_utf8_all (normal_form v form text)
-written_bytes v sound form text bytes w = w.bytes_is ∙ ap encode_utf8_all (normal_form_is v sound form text w.list w.is)
-
-pub written_chars : (v : VersionData) (sound : IsSound v) (form : Form) (text bytes : List ℕ) → IsUtf8 bytes → IsWrittenForm v form text bytes → chars bytes ≡ normal_form v form text
-written_chars v sound form text bytes utf8 w = sym (chars_from_encodes w.list bytes utf8 (sym w.bytes_is)) ∙ normal_form_is v sound form text w.list w.is
-
 pub written_form : (v : VersionData) (form : Form) (text bytes : List ℕ) → IsUtf8 bytes → IsWrittenForm v form text bytes → IsNormalForm v form text (chars bytes)
 written_form v form text bytes utf8 w = subst (IsNormalForm v form text) (chars_from_encodes w.list bytes utf8 (sym w.bytes_is)) w.is
 
@@ -126,6 +112,3 @@ IsWrittenForm-made v sound form text before after nothing written =
 module _ (v : VersionData) (sound : IsSound v) (form : Form) (text bytes : List ℕ) (utf8 : IsUtf8 bytes) (written : bytes ≡ encode_utf8_all (normal_form v form text)) where
   pub made_form : IsNormalForm v form text (chars bytes)
   made_form = written_form v form text bytes utf8 (IsWrittenForm-made v sound form text [] bytes refl written)
-
-  pub made_chars : chars bytes ≡ normal_form v form text
-  made_chars = written_chars v sound form text bytes utf8 (IsWrittenForm-made v sound form text [] bytes refl written)

@@ -1,10 +1,8 @@
 -- What is read of a row.
 use Rattle.std.proofs.Common.{◌≡◌, ℕ, ◌&&◌, ◌==◌, List, [], ◌∷◌, length, Option, is_some, refl, ap, arith, inl, inr, eqb-true}
-use Rattle.std.proofs.lemmas.Bool.{cases_Bool}
-use Rattle.np_ucd.specs.Entries.{Entry}
-use Rattle.np_ucd.specs.Listed.{is_listed}
-use Rattle.np_tables.specs.Versions.{VersionData, entry_at, class_in, kind_in, mapping_in, is_assigned, class_of, file_kind, file_mapping, is_canonical, is_excluded, is_empty, is_hangul_row}
-use Rattle.np_tables.specs.inside.HangulRows.{is_right_entry, is_right_at}
+use Rattle.np_tables.proofs.Words.{cases_Bool, Entry, is_listed, VersionData, entry_at, class_in, kind_in, mapping_in}
+use Rattle.np_tables.proofs.Words.{is_assigned, class_of, file_kind, file_mapping, is_canonical, is_excluded, is_empty}
+use Rattle.np_tables.proofs.Words.{is_hangul_row, is_right_entry, is_right_at}
 
 pub is_assigned-at : (v : VersionData) (c : ℕ) → is_assigned v c ≡ is_some (entry_at v.entries c)
 unfolding is_assigned

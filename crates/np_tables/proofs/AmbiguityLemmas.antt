@@ -1,19 +1,11 @@
 -- Pairs that two primary composites share.
 use Rattle.std.proofs.Common.{◌≡◌, ℕ, zero, suc, ◌+◌, ◌-◌, ◌<◌, ◌≤◌, max, min, true, ◌&&◌, List, [], ◌∷◌, length, get_or, Some, None, Option, IfSome, refl, sym, ap, subst, ◌∙◌, arith, inl, inr}
-use Rattle.std.specs.List.{slice_get}
-use Rattle.std.proofs.lemmas.Bool.{cases_Bool, cases_lt, cases_order, and_parts, both_ways}
-use Rattle.std.proofs.lemmas.Option.{same_Some, slice_get_within, get_or_from_slice_get, slice_get-get_or}
-use Rattle.std.proofs.lemmas.List.{get_or_default}
-use Rattle.np_ucd.specs.Entries.{AreRows}
-use Rattle.np_code_points.specs.Hangul.{is_syllable, syllable_pair}
+use Rattle.np_tables.proofs.Words.{slice_get, cases_Bool, cases_lt, cases_order, and_parts, both_ways, same_Some}
+use Rattle.np_tables.proofs.Words.{slice_get_within, get_or_from_slice_get, slice_get-get_or, get_or_default, AreRows}
+use Rattle.np_tables.proofs.Words.{is_syllable, syllable_pair, VersionData, has_hangul, IsCompositeOf, IsAmbiguous}
+use Rattle.np_tables.proofs.Words.{IsFirst, Composite, Lists, AreOfFile, AreOrdered, IsAtMost, least_of, HasSmallerTwin}
+use Rattle.np_tables.proofs.Words.{IsSuspect}
 use Rattle.np_code_points.proofs.HangulLemmas.{pair_injective}
-use Rattle.np_tables.specs.Versions.{VersionData, has_hangul}
-use Rattle.np_tables.specs.Composites.{IsCompositeOf}
-use Rattle.np_tables.specs.Faults.{IsAmbiguous}
-use Rattle.np_tables.specs.inside.FirstFaults.{IsFirst}
-use Rattle.np_tables.specs.declared.pairs.Composite.{Composite}
-use Rattle.np_tables.specs.inside.Pairs.{Lists, AreOfFile, AreOrdered}
-use Rattle.np_tables.specs.inside.Suspects.{IsAtMost, least_of, HasSmallerTwin, IsSuspect}
 use Rattle.np_tables.proofs.HangulLemmas.{decomposition_mapping-on}
 use Rattle.np_tables.proofs.PrimaryLemmas.{primary-syllable}
 

@@ -1,11 +1,8 @@
 -- The lowest bit of a mask of bytes that are not ASCII.
 use Rattle.std.proofs.Common.{◌≡◌, ◌≢◌, zero, suc, ℕ, ◌+◌, ◌<◌, ◌≤◌, ◌^◌, ◌%◌, Bool, false, cond, leb, List, [], ◌∷◌, length, map, replicate, take, get_or, refl, sym, ap, ◌∙◌, arith, inl, inr}
-use Rattle.std.specs.List.{prefix_len}
-use Rattle.std.proofs.lemmas.Bool.{cases_lt, leb-false}
-use Rattle.std.proofs.lemmas.List.{length-map}
-use Rattle.std.proofs.lemmas.Simd.{leading_from_mask_l, mask_l-mod, run_in_chunk_fails, run_in_chunk_le, tops_compared, trailing_mask_l}
-use lib.Count.{count_trailing_zeros}
-use lib.Lanes.{chunk, mask_l, top, zip2}
+use Rattle.np_tables.proofs.Words.{prefix_len, cases_lt, leb-false, length-map, leading_from_mask_l, mask_l-mod}
+use Rattle.np_tables.proofs.Words.{run_in_chunk_fails, run_in_chunk_le, tops_compared, trailing_mask_l}
+use Rattle.np_tables.proofs.Words.{count_trailing_zeros, chunk, mask_l, top, zip2}
 use mir.Syntax.{w8}
 use Rattle.np_tables.specs.inside.AsciiBytes.{is_ascii_byte}
 

@@ -1,19 +1,13 @@
 -- The composite of a pair, and what it decomposes to.
 use Rattle.std.proofs.Common.{◌≡◌, ℕ, zero, suc, ◌<◌, ◌⊎◌, Bool, true, false, not, ◌&&◌, ◌==◌, List, [], ◌∷◌, ◌++◌, flat_map, Option, Some, None, is_some, IsTrue, ◌↔◌, refl, sym, ap, ◌∙◌, arith, inl, inr, eqb-true, eq-eqb, append-nil}
-use Rattle.std.proofs.lemmas.Bool.{cond-true, cond-false, cases_Bool, cases_eq, and_parts, and_from, both_ways}
-use Rattle.np_tables.specs.Versions.{VersionData, entry_at, is_assigned, class_of, file_mapping, mapping_in, is_canonical, is_empty, is_excluded, decomposition_kind, decomposition_mapping, has_hangul}
-use Rattle.np_ucd.specs.Entries.{Entry}
-use Rattle.np_ucd.specs.declared.rows.MapKind.{MapKind}
-use Rattle.np_ucd.specs.declared.rows.MapKind.TheVariants.{Plain, Canonical, Compatibility}
-use Rattle.np_code_points.specs.Hangul.{is_syllable}
-use Rattle.np_tables.specs.Mappings.{counts, parts}
-use Rattle.np_tables.specs.inside.FullDecompositions.{full_of}
-use Rattle.np_tables.specs.Composites.{IsPrimary, IsCompositeOf}
+use Rattle.np_tables.proofs.Words.{cond-true, cond-false, cases_Bool, cases_eq, and_parts, and_from, both_ways}
+use Rattle.np_tables.proofs.Words.{VersionData, entry_at, is_assigned, class_of, file_mapping, mapping_in, is_canonical}
+use Rattle.np_tables.proofs.Words.{is_empty, is_excluded, decomposition_kind, decomposition_mapping, has_hangul, Entry}
+use Rattle.np_tables.proofs.Words.{MapKind, Plain, Canonical, Compatibility, is_syllable, counts, parts, full_of}
+use Rattle.np_tables.proofs.Words.{IsPrimary, IsCompositeOf, is_starter_pair, is_primary, or_this, least_below, is_pair}
+use Rattle.np_tables.proofs.Words.{composite, IsSound}
 use Rattle.np_tables.proofs.HangulLemmas.{hangul_parts, syllable_row}
 use Rattle.np_code_points.proofs.HangulLemmas.{first_same}
-use Rattle.np_tables.specs.inside.Primaries.{is_starter_pair, is_primary}
-use Rattle.np_tables.specs.inside.CompositeSearch.{or_this, least_below, is_pair, composite}
-use Rattle.np_tables.specs.Conditions.{IsSound}
 use Rattle.np_tables.proofs.MappingLemmas.{full_of-mapped}
 
 -- ---- the least number that passes

@@ -1,13 +1,9 @@
 -- The assigned code points are counted by the sizes of the rows.
 use Rattle.std.proofs.Common.{◌≡◌, ℕ, zero, suc, ◌+◌, ◌-◌, ◌<◌, ◌≤◌, ◌⊎◌, Bool, true, false, nat_le, List, [], ◌∷◌, length, drop, Some, None, is_some, refl, sym, ap, ◌∙◌, subst, arith, inl, inr, le-leb, if◌then◌else◌}
-use Rattle.std.specs.List.{slice_get}
-use Rattle.std.proofs.lemmas.Bool.{cases_Bool, cases_lt, and_parts, leb-true, and_from}
-use Rattle.std.proofs.lemmas.List.{drop_all}
-use Rattle.std.proofs.lemmas.Option.{none-some, same_Some}
-use Rattle.np_ucd.specs.Entries.{Entry, IsRow, IsBefore, AreRows}
+use Rattle.np_tables.proofs.Words.{slice_get, cases_Bool, cases_lt, and_parts, leb-true, and_from, drop_all, none-some}
+use Rattle.np_tables.proofs.Words.{same_Some, Entry, IsRow, IsBefore, AreRows, lies_in, VersionData, entry_at}
+use Rattle.np_tables.proofs.Words.{is_assigned}
 use Rattle.np_tables.specs.Counts.{count_below, assigned_count}
-use Rattle.np_tables.specs.inside.RowPlaces.{lies_in}
-use Rattle.np_tables.specs.Versions.{VersionData, entry_at, is_assigned}
 use Rattle.np_tables.proofs.RowLemmas.{entry_at-nil, entry_at-hit, entry_at-miss, out_of, below_out}
 
 abbrev one_if : Bool → ℕ

@@ -1,15 +1,10 @@
 -- Marks of code points, round by round.
 use Rattle.std.proofs.Common.{◌≡◌, ℕ, zero, suc, ◌<◌, ◌≤◌, Bool, true, false, ◌&&◌, min, List, [], ◌∷◌, map, flat_map, length, refl, sym, ap, subst, ◌∙◌, leb, inl, inr, arith}
-use Rattle.std.proofs.lemmas.Bool.{cond-true, cond-false, cases_Bool, cases_eq, both_ways, and_parts, and_from}
-use Rattle.std.specs.List.{list_all}
-use Rattle.np_ucd.specs.Entries.{Entry, AreRows, HasLength}
-use Rattle.np_ucd.specs.declared.rows.MapKind.{MapKind}
-use Rattle.np_ucd.specs.declared.rows.MapKind.TheVariants.{Plain, Canonical, Compatibility}
-use Rattle.np_code_points.specs.Hangul.{is_syllable}
-use Rattle.np_tables.specs.Versions.{VersionData, entry_at, kind_in, mapping_in, is_empty, file_kind, file_mapping, has_hangul, decomposition_kind, decomposition_mapping}
-use Rattle.np_tables.specs.Mappings.{counts, parts, has_depth}
-use Rattle.np_tables.specs.inside.FullDecompositions.{full}
-use Rattle.np_tables.specs.inside.Depths.{marked, mark, parts_mark, mapping_mark, row_marks}
+use Rattle.np_tables.proofs.Words.{cond-true, cond-false, cases_Bool, cases_eq, both_ways, and_parts, and_from}
+use Rattle.np_tables.proofs.Words.{list_all, Entry, AreRows, HasLength, MapKind, Plain, Canonical, Compatibility}
+use Rattle.np_tables.proofs.Words.{is_syllable, VersionData, entry_at, kind_in, mapping_in, is_empty, file_kind}
+use Rattle.np_tables.proofs.Words.{file_mapping, has_hangul, decomposition_kind, decomposition_mapping, counts, parts}
+use Rattle.np_tables.proofs.Words.{has_depth, full, marked, mark, parts_mark, mapping_mark, row_marks}
 use Rattle.np_tables.proofs.MappingLemmas.{full-final, full-mapped, full-more, full-some, flat_map-same}
 
 -- ---- the mapping that counts for the compatibility decomposition is the mapping of the file

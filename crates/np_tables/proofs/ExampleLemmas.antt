@@ -1,17 +1,13 @@
 -- Versions with a starter, a non-starter, their primary composite and further rows without mappings meet the conditions: one
 -- with these three alone, and one with the Hangul arithmetic on. So the laws speak of versions with rows too.
 use Rattle.std.proofs.Common.{◌≡◌, ℕ, ◌≤◌, true, false, ◌&&◌, ◌==◌, nat_le, List, [], ◌∷◌, ◌++◌, flat_map, length, Option, Some, is_some, refl, sym, ap, subst, ◌∙◌, arith, inl, inr}
-use Rattle.std.specs.List.{list_all, slice_get}
-use Rattle.std.proofs.lemmas.Bool.{cond-true, cond-false, cases_Bool, and_parts, and_right, and_from, leb-true, both_ways}
-use Rattle.np_ucd.specs.Entries.{Entry, IsRow, AreRows}
-use Rattle.np_ucd.specs.declared.rows.MapKind.TheVariants.{Plain, Canonical}
-use Rattle.np_code_points.specs.Hangul.{is_syllable, syllable_pair}
+use Rattle.np_tables.proofs.Words.{list_all, slice_get, cond-true, cond-false, cases_Bool, and_parts, and_right}
+use Rattle.np_tables.proofs.Words.{and_from, leb-true, both_ways, Entry, IsRow, AreRows, Plain, Canonical, is_syllable}
+use Rattle.np_tables.proofs.Words.{syllable_pair, VersionData, entry_at, is_assigned, class_of, class_in, file_kind}
+use Rattle.np_tables.proofs.Words.{file_mapping, mapping_in, is_empty, is_excluded, is_hangul, is_hangul_row}
+use Rattle.np_tables.proofs.Words.{has_hangul, decomposition_kind, decomposition_mapping, has_depth, full_of, IsPrimary}
+use Rattle.np_tables.proofs.Words.{IsCompositeOf, IsSound}
 use Rattle.np_code_points.proofs.HangulLemmas.{first_same, pair_injective}
-use Rattle.np_tables.specs.Versions.{VersionData, entry_at, is_assigned, class_of, class_in, file_kind, file_mapping, mapping_in, is_empty, is_excluded, is_hangul, is_hangul_row, has_hangul, decomposition_kind, decomposition_mapping}
-use Rattle.np_tables.specs.Mappings.{has_depth}
-use Rattle.np_tables.specs.inside.FullDecompositions.{full_of}
-use Rattle.np_tables.specs.Composites.{IsPrimary, IsCompositeOf}
-use Rattle.np_tables.specs.Conditions.{IsSound}
 use Rattle.np_tables.specs.Examples.{letter_with_ring, plain, with_hangul, with_rows}
 use Rattle.np_tables.proofs.CompositeLemmas.{composite_parts}
 use Rattle.np_tables.proofs.DepthLemmas.{bare_depth, mark-length, mark-more, suc_depth}

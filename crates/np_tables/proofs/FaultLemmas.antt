@@ -1,21 +1,14 @@
 -- The fault that is told, and the conditions where there is none.
 use Rattle.std.proofs.Common.{◌≡◌, ℕ, ◌+◌, ◌<◌, ◌≤◌, true, length, Option, Some, None, MatchOption, nat_lt, refl, sym, subst, ◌∙◌, arith, inl, inr}
 use Rattle.std.specs.Prelude.{option_map}
-use Rattle.std.specs.List.{list_all}
-use Rattle.std.proofs.lemmas.Bool.{cond-true, cond-false, cases_Bool, cases_lt, cases_order, lt-ltb, le-ltb}
-use Rattle.np_ucd.specs.Entries.{AreRows}
+use Rattle.np_tables.proofs.Words.{list_all, cond-true, cond-false, cases_Bool, cases_lt, cases_order, lt-ltb, le-ltb}
+use Rattle.np_tables.proofs.Words.{AreRows, IsCompositeOf, IsSound, IsMappedToUnassigned, IsTooDeep, IsTooLong}
+use Rattle.np_tables.proofs.Words.{IsAmbiguous, IsHangulWrong, IsFirst, IsLeastOf, AreFirsts, sooner, least_fault}
+use Rattle.np_tables.proofs.Words.{has_depth, VersionData, is_assigned, decomposition_mapping}
 use Rattle.np_tables.specs.declared.faults.FirstFaults.{FirstFaults}
 use Rattle.np_tables.specs.declared.faults.TableFault.{TableFault}
 use Rattle.np_tables.specs.declared.faults.TableFault.TheVariants.{MapsToUnassigned, TooDeep, TooLong, AmbiguousPair, HangulWrong, Memory}
-use Rattle.np_tables.specs.Composites.{IsCompositeOf}
-use Rattle.np_tables.specs.Conditions.{IsSound}
-use Rattle.np_tables.specs.Faults.{IsMappedToUnassigned, IsTooDeep, IsTooLong, IsAmbiguous, IsHangulWrong}
-use Rattle.np_tables.specs.inside.FirstFaults.{IsFirst, IsLeastOf}
 use Rattle.np_tables.specs.TableFaults.{place_of, number_of, HasFault, IsBeforeFault, IsLeastFault, IsFaultless}
-use Rattle.np_tables.specs.inside.FirstFaults.{AreFirsts}
-use Rattle.np_tables.specs.inside.FirstFaults.{sooner, least_fault}
-use Rattle.np_tables.specs.Mappings.{has_depth}
-use Rattle.np_tables.specs.Versions.{VersionData, is_assigned, decomposition_mapping}
 use Rattle.np_tables.proofs.FactLemmas.{sound-by}
 use Rattle.np_tables.proofs.HangulLemmas.{on_where_right}
 

@@ -1,21 +1,13 @@
 -- The composites that the rows of a file give.
-use Rattle.std.proofs.Common.{◌≡◌, ◌≢◌, ℕ, zero, suc, ◌+◌, ◌<◌, ◌≤◌, Bool, true, false, ◌&&◌, List, [], ◌∷◌, ◌++◌, length, flat_map, Some, None, Option, refl, sym, ap, subst, ◌∙◌, arith, inl, inr, slice_index_or, take, append-nil}
-use Rattle.std.specs.List.{Contains, slice_get}
+use Rattle.std.proofs.Common.{◌≡◌, ◌≢◌, ℕ, zero, suc, ◌+◌, ◌<◌, Bool, true, false, ◌&&◌, List, [], ◌∷◌, ◌++◌, flat_map, Some, None, Option, refl, sym, ap, subst, ◌∙◌, arith, inl, inr, slice_index_or, take, append-nil}
+use Rattle.np_tables.proofs.Words.{Contains, slice_get, cases_Bool, none-some, same_Some, slice_get_within}
+use Rattle.np_tables.proofs.Words.{get_or_from_slice_get, take_more, flat_map-append, Contains-append_cases}
+use Rattle.np_tables.proofs.Words.{Contains-append_left, Contains-append_right, Entry, AreRows, is_syllable}
+use Rattle.np_tables.proofs.Words.{VersionData, entry_at, file_mapping, decomposition_mapping, mapping_in, is_empty}
+use Rattle.np_tables.proofs.Words.{has_hangul, lies_in, IsCompositeOf, is_primary, Composite, Lists, AreOfFile, pair_in}
+use Rattle.np_tables.proofs.Words.{composites_in}
 use Rattle.std.specs.List.Sorted.{IsPermutation}
-use Rattle.std.proofs.lemmas.Bool.{cases_Bool}
-use Rattle.std.proofs.lemmas.Option.{none-some, same_Some, slice_get_within, get_or_from_slice_get}
-use Rattle.std.proofs.lemmas.List.{take_more, take_all}
-use Rattle.std.proofs.lemmas.Grind.{flat_map-append}
-use Rattle.std.proofs.lemmas.List.Elements.{Contains-append_cases, Contains-append_left, Contains-append_right}
 use Rattle.std.proofs.lemmas.List.Sorted.{IsPermutation-sym, Contains-permutation}
-use Rattle.np_ucd.specs.Entries.{Entry, AreRows}
-use Rattle.np_code_points.specs.Hangul.{is_syllable}
-use Rattle.np_tables.specs.Versions.{VersionData, entry_at, file_mapping, decomposition_mapping, mapping_in, is_empty, has_hangul}
-use Rattle.np_tables.specs.inside.RowPlaces.{lies_in}
-use Rattle.np_tables.specs.Composites.{IsCompositeOf}
-use Rattle.np_tables.specs.inside.Primaries.{is_primary}
-use Rattle.np_tables.specs.declared.pairs.Composite.{Composite}
-use Rattle.np_tables.specs.inside.Pairs.{Lists, AreOfFile, pair_in, composites_in}
 use Rattle.np_tables.proofs.CompositeLemmas.{primary-from, primary-test}
 use Rattle.np_tables.proofs.HangulLemmas.{decomposition_mapping-off}
 use Rattle.np_tables.proofs.RowLemmas.{entry_at-nil, entry_at-hit, entry_at-miss, at-row, entry_at-within}
@@ -144,6 +136,3 @@ flat_step f es at e old new piece found before grown is =
     let here : take (at + 1) es ≡ take at es ++ e ∷ [] = take_more es at e fits ∙ ap (λ (x : Entry). take at es ++ x ∷ []) (get_or_from_slice_get es at e e found) in
     grown ∙ ap (λ l. l ++ piece) before ∙ ap (λ l. flat_map f (take at es) ++ l) (is ∙ sym (append-nil (f e)))
     ∙ sym (ap (flat_map f) here ∙ flat_map-append f (take at es) (e ∷ []))
-
-pub flat_all : (f : Entry → List Composite) (es : List Entry) (at : ℕ) (old : List Composite) → length es ≤ at → old ≡ flat_map f (take at es) → old ≡ flat_map f es
-flat_all f es at old past before = before ∙ ap (flat_map f) (take_all at es past)

@@ -1,11 +1,8 @@
 -- A row of the file at its place.
 use Rattle.std.proofs.Common.{◌≡◌, ℕ, zero, suc, ◌<◌, false, ◌&&◌, List, [], ◌∷◌, Some, ap, subst, ◌∙◌, arith, inl, inr, le-leb, nat_le}
-use Rattle.std.specs.List.{slice_get}
-use Rattle.std.proofs.lemmas.Bool.{cases_Bool, and_from, and_parts, and_right, lt-leb, both_ways}
-use Rattle.std.proofs.lemmas.Option.{none-some, same_Some}
-use Rattle.np_ucd.specs.Entries.{Entry, AreRows}
-use Rattle.np_tables.specs.Versions.{VersionData, entry_at, file_kind, file_mapping, is_empty, has_hangul, kind_in, mapping_in}
-use Rattle.np_code_points.specs.Hangul.{is_syllable}
+use Rattle.np_tables.proofs.Words.{slice_get, cases_Bool, and_from, and_parts, and_right, lt-leb, both_ways, none-some}
+use Rattle.np_tables.proofs.Words.{same_Some, Entry, AreRows, VersionData, entry_at, file_kind, file_mapping, is_empty}
+use Rattle.np_tables.proofs.Words.{has_hangul, kind_in, mapping_in, is_syllable}
 use Rattle.np_tables.proofs.RowLemmas.{entry_at-hit, entry_at-miss}
 use Rattle.np_tables.proofs.HangulLemmas.{hangul_parts, syllable_row}
 

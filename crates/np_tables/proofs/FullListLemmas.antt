@@ -1,20 +1,81 @@
 -- What a table lends, row by row, in one flat list.
-use Rattle.std.proofs.Common.{◌≡◌, ℕ, ◌+◌, ◌-◌, ◌≤◌, Bool, true, false, not, ◌&&◌, List, [], ◌∷◌, ◌++◌, length, take, drop, map, Some, refl, sym, ap, subst, ◌∙◌, arith, inl, inr, append_assoc, append-nil}
-use Rattle.std.specs.List.{slice_get}
-use Rattle.std.proofs.lemmas.Bool.{cond-true, cond-false, cases_Bool, and_parts, and_cases, or_from, or_left, or_right, not-false, not-true}
-use Rattle.std.proofs.lemmas.List.{take-append-le, drop-append-le, drop_at, take_all, map_push, take_more, length-append, length-drop}
-use Rattle.std.proofs.lemmas.List.Elements.{All-head, All-tail, All-push, All-weaker}
-use Rattle.std.proofs.lemmas.Option.{slice_get_within, get_or_from_slice_get}
-use Rattle.np_ucd.specs.Entries.{Entry}
-use Rattle.np_code_points.specs.Hangul.{is_syllable}
-use Rattle.np_tables.specs.Versions.{VersionData, entry_at, is_empty, file_kind, file_mapping, has_hangul}
-use Rattle.np_tables.specs.Mappings.{counts, is_final}
-use Rattle.np_tables.specs.inside.FullDecompositions.{full, full_of, table_full}
-use Rattle.np_tables.specs.declared.fulls.Part.{Part}
-use Rattle.np_tables.specs.inside.FullParts.{part_of, IsPart, AreParts, IsGrown}
-use Rattle.np_tables.specs.inside.FullLists.{row_full}
-use Rattle.np_tables.proofs.FullLemmas.{parts-counted, parts-passed}
+use Rattle.std.proofs.Common.{◌≡◌, ℕ, ◌+◌, ◌-◌, ◌≤◌, Bool, true, false, not, ◌&&◌, List, [], ◌∷◌, ◌++◌, length, take, drop, map, Some, refl, sym, ap, subst, ◌∙◌, arith, inl, inr, append_assoc, append-nil, zero, suc, ◌≢◌, ◌<◌, ◌==◌, flat_map, if◌then◌else◌}
+use Rattle.np_tables.proofs.Words.{slice_get, cond-true, cond-false, cases_Bool, and_parts, and_cases, or_from, or_left}
+use Rattle.np_tables.proofs.Words.{or_right, not-false, not-true, and_from, eqb-true, take-append-le, drop-append-le}
+use Rattle.np_tables.proofs.Words.{drop_at, take_all, map_push, take_more, length-append, length-drop, All-head}
+use Rattle.np_tables.proofs.Words.{All-tail, All-push, All-weaker, slice_get_within, get_or_from_slice_get, Entry}
+use Rattle.np_tables.proofs.Words.{is_syllable, syllable_pair, VersionData, entry_at, is_empty, file_kind, file_mapping}
+use Rattle.np_tables.proofs.Words.{has_hangul, decomposition_kind, decomposition_mapping, counts, is_final, parts, full}
+use Rattle.np_tables.proofs.Words.{full_of, table_full, Part, part_of, IsPart, AreParts, IsGrown, row_full, Canonical}
 use Rattle.np_tables.proofs.FileRowLemmas.{file_mapping-found, file_kind-found, mapped-off}
+
+-- ---- full decompositions level by level
+
+module _ (v : VersionData) (compat : Bool) where
+  pub full-bottom : (n c : ℕ) → n ≡ 0 → full v compat n c ≡ c ∷ []
+  unfolding full
+  full-bottom zero c h = refl
+  full-bottom (suc n) c h = absurd (omega arith)
+
+  pub full-kept : (n c : ℕ) → parts v compat c ≡ [] → full v compat n c ≡ c ∷ []
+  unfolding full
+  full-kept zero c h = refl
+  full-kept (suc n) c h = cond-true _ _ _ (ap is_empty h)
+
+  pub full-level : (n c : ℕ) (xs : List ℕ) → 0 < n → parts v compat c ≡ xs → is_empty xs ≡ false → full v compat n c ≡ flat_map (full v compat (n - 1)) xs
+  unfolding full
+  full-level zero c xs lt h some = absurd (omega arith)
+  full-level (suc n) c xs lt h some =
+      let less : n ≡ suc n - 1 = omega arith in
+      cond-false _ _ _ (ap is_empty h ∙ some) ∙ ap (flat_map (full v compat n)) h ∙ ap (λ m. flat_map (full v compat m) xs) less
+
+  -- ---- the mapping that counts
+
+  pub parts-syllable : (c : ℕ) → has_hangul v ≡ true → is_syllable c ≡ true → parts v compat c ≡ syllable_pair c
+  unfolding parts decomposition_kind decomposition_mapping
+  parts-syllable c on h =
+      let both = and_from _ _ on h in
+      let kind : decomposition_kind v c ≡ Canonical = cond-true _ Canonical (file_kind v c) both in
+      let mapping : decomposition_mapping v c ≡ syllable_pair c = cond-true _ (syllable_pair c) (file_mapping v c) both in
+      ap (λ k. if counts compat k then decomposition_mapping v c else []) kind ∙ mapping
+
+  pub parts-file : (c : ℕ) → (has_hangul v && is_syllable c) ≡ false → parts v compat c ≡ (if counts compat (file_kind v c) then file_mapping v c else [])
+  unfolding parts decomposition_kind decomposition_mapping
+  parts-file c off =
+      let kind : decomposition_kind v c ≡ file_kind v c = cond-false _ Canonical (file_kind v c) off in
+      let mapping : decomposition_mapping v c ≡ file_mapping v c = cond-false _ (syllable_pair c) (file_mapping v c) off in
+      ap (λ k. if counts compat k then decomposition_mapping v c else []) kind ∙ ap (λ m. if counts compat (file_kind v c) then m else []) mapping
+
+  pub parts-counted : (c : ℕ) → (has_hangul v && is_syllable c) ≡ false → counts compat (file_kind v c) ≡ true → parts v compat c ≡ file_mapping v c
+  parts-counted c off on = parts-file c off ∙ cond-true _ _ _ on
+
+  pub parts-passed : (c : ℕ) → (has_hangul v && is_syllable c) ≡ false → counts compat (file_kind v c) ≡ false → parts v compat c ≡ []
+  parts-passed c off on = parts-file c off ∙ cond-false _ _ _ on
+
+-- ---- what `expand` appends
+
+-- all pieces
+pub append_all : (f : ℕ → List ℕ) (xs old now whole : List ℕ) (i : ℕ) → length xs ≤ i → now ≡ old ++ flat_map f (take i xs) → flat_map f xs ≡ whole → now ≡ old ++ whole
+append_all f xs old now whole i past before is = before ∙ ap (λ l. old ++ l) (ap (flat_map f) (take_all i xs past) ∙ is)
+
+-- two pieces
+pub append_two : (v : VersionData) (compat : Bool) (n c a b : ℕ) (old mid new : List ℕ) → n ≢ 0 → (has_hangul v && is_syllable c) ≡ true → syllable_pair c ≡ a ∷ b ∷ [] → mid ≡ old ++ full v compat (n - 1) a → new ≡ mid ++ full v compat (n - 1) b → new ≡ old ++ full v compat n c
+append_two v compat n c a b old mid new ne both pair one two =
+    let halves = and_parts (has_hangul v) (is_syllable c) both in
+    let f = full v compat (n - 1) in
+    let level : full v compat n c ≡ f a ++ (f b ++ []) = full-level v compat n c (a ∷ b ∷ []) (omega arith) (parts-syllable v compat c halves.0 halves.1 ∙ pair) refl in
+    two ∙ ap (λ l. l ++ f b) one ∙ append_assoc old (f a) (f b) ∙ ap (λ l. old ++ (f a ++ l)) (sym (append-nil (f b))) ∙ ap (λ l. old ++ l) (sym level)
+
+pub parts-counted_mapping : (v : VersionData) (compat : Bool) (c : ℕ) (xs : List ℕ) → (has_hangul v && is_syllable c) ≡ false → xs ≡ (if counts compat (file_kind v c) then file_mapping v c else []) → parts v compat c ≡ xs
+parts-counted_mapping v compat c xs off is = parts-file v compat c off ∙ sym is
+
+pub nil_from_test : (xs : List ℕ) (t : Bool) → t ≡ (length xs == 0) → t ≡ true → xs ≡ []
+nil_from_test [] t is h = refl
+nil_from_test (x ∷ xs) t is h = let e = eqb-true (suc (length xs)) 0 (sym is ∙ h) in absurd (omega arith)
+
+pub some_from_test : (xs : List ℕ) (t : Bool) → t ≡ (length xs == 0) → t ≡ false → is_empty xs ≡ false
+some_from_test [] t is h = cc
+some_from_test (x ∷ xs) t is h = refl
 
 -- ---- what is lent for a row
 
@@ -109,19 +170,8 @@ one_more v compat es at old new ps p e before found grown start end =
     ∙ sym (ap (map (row_full v compat)) here ∙ map_push (row_full v compat) (take at es) e) in
     subst (λ l. OneMore v compat es (at + 1) l (ps ++ p ∷ [])) (sym grown) (record { within = within; lists = lists })
 
-pub none_yet : (v : VersionData) (compat : Bool) (es : List Entry) (codes : List ℕ) (ps : List Part) → ps ≡ [] → OneMore v compat es 0 codes ps
-none_yet v compat es codes ps none =
-    subst (λ qs. OneMore v compat es 0 codes qs) (sym none) (record { within = λ k d lt. absurd (omega arith); lists = refl })
-
-pub grown_none : (old : List ℕ) → IsGrown old old
-grown_none old = ([], sym (append-nil old))
-
 pub grown_more : (old mid new more : List ℕ) → IsGrown old mid → new ≡ mid ++ more → IsGrown old new
 grown_more old mid new more one two = (one.0 ++ more, two ∙ ap (λ l. l ++ more) one.1 ∙ append_assoc old one.0 more)
-
--- the parts of every row
-pub all_lists : (v : VersionData) (compat : Bool) (es : List Entry) (at : ℕ) (codes : List ℕ) (ps : List Part) → OneMore v compat es at codes ps → length es ≤ at → map (part_of codes) ps ≡ map (row_full v compat) es
-all_lists v compat es at codes ps state past = state.lists ∙ ap (map (row_full v compat)) (take_all at es past)
 
 pub lists_grown : (v : VersionData) (compat : Bool) (es : List Entry) (old new : List ℕ) (ps : List Part) → IsGrown old new → AreParts old ps → map (part_of old) ps ≡ map (row_full v compat) es → map (part_of new) ps ≡ map (row_full v compat) es
 lists_grown v compat es old new ps grown within lists = ap (λ l. map (part_of l) ps) grown.1 ∙ parts-grown old grown.0 ps within ∙ lists

@@ -1,13 +1,11 @@
 -- The Hangul arithmetic: on exactly where each syllable and jamo is as it wants it, and what it then makes of each.
 use Rattle.std.proofs.Common.{◌≡◌, ◌≢◌, ℕ, zero, suc, ◌+◌, ◌-◌, ◌/◌, ◌%◌, ◌<◌, ◌≤◌, ◌⊎◌, Bool, true, false, not, ◌&&◌, ◌||◌, ◌==◌, [], ◌∷◌, refl, sym, ap, ◌∙◌, arith, inl, inr, eqb-true}
-use Rattle.std.specs.List.{list_all}
-use Rattle.std.proofs.lemmas.Bool.{cases_Bool, cases_eq, cond-true, cond-false, and_parts, and_from, and_right, or_left, or_right, both_ways}
-use Rattle.np_code_points.specs.Hangul.{is_among, is_syllable, syllable_pair}
+use Rattle.np_tables.proofs.Words.{list_all, cases_Bool, cases_eq, cond-true, cond-false, and_parts, and_from}
+use Rattle.np_tables.proofs.Words.{and_right, or_left, or_right, both_ways, is_among, is_syllable, syllable_pair}
+use Rattle.np_tables.proofs.Words.{Canonical, IsHangulWrong, HangulOn, HangulByArithmetic, VersionData, all_below}
+use Rattle.np_tables.proofs.Words.{class_of, decomposition_kind, decomposition_mapping, file_kind, file_mapping}
+use Rattle.np_tables.proofs.Words.{has_hangul, is_assigned, is_empty, is_hangul, is_hangul_row}
 use Rattle.np_code_points.proofs.HangulLemmas.{among_bounds, pair_exists, pair_kinds, pair_of_lv, pair_of_lvt}
-use Rattle.np_ucd.specs.declared.rows.MapKind.TheVariants.{Canonical}
-use Rattle.np_tables.specs.Faults.{IsHangulWrong}
-use Rattle.np_tables.specs.Laws.{HangulOn, HangulByArithmetic}
-use Rattle.np_tables.specs.Versions.{VersionData, all_below, class_of, decomposition_kind, decomposition_mapping, file_kind, file_mapping, has_hangul, is_assigned, is_empty, is_hangul, is_hangul_row}
 use Rattle.np_tables.proofs.HangulPlaces.{hangul_bound}
 use Rattle.np_tables.proofs.MappingLemmas.{is_empty-true}
 

@@ -1,12 +1,9 @@
 -- The syllables and jamo, counted from 0, and those that are wrong.
 use Rattle.std.proofs.Common.{◌≡◌, ℕ, ◌+◌, ◌-◌, ◌<◌, ◌≤◌, ◌⊎◌, Bool, true, false, ◌||◌, nat_lt, refl, sym, subst, ◌∙◌, arith, inl, inr, lt-ltb}
-use Rattle.std.proofs.lemmas.Bool.{cond-true, cond-false, cases_lt, le-ltb, both_ways}
+use Rattle.np_tables.proofs.Words.{cond-true, cond-false, cases_lt, le-ltb, both_ways, is_among, is_syllable}
+use Rattle.np_tables.proofs.Words.{IsHangulWrong, IsLeastOf, HasAssignedHangul, hangul_at, VersionData, is_assigned}
+use Rattle.np_tables.proofs.Words.{is_hangul, is_hangul_row}
 use Rattle.np_code_points.proofs.HangulLemmas.{among_bounds, among_from_bounds}
-use Rattle.np_code_points.specs.Hangul.{is_among, is_syllable}
-use Rattle.np_tables.specs.Faults.{IsHangulWrong}
-use Rattle.np_tables.specs.inside.FirstFaults.{IsLeastOf}
-use Rattle.np_tables.specs.inside.HangulRows.{HasAssignedHangul, hangul_at}
-use Rattle.np_tables.specs.Versions.{VersionData, is_assigned, is_hangul, is_hangul_row}
 
 -- the four runs of code points
 unfoldable pub Runs : ℕ → Type 0

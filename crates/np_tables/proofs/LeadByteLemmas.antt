@@ -1,16 +1,12 @@
 -- Characters of several bytes, found by the bytes that begin them.
 use Rattle.std.proofs.Common.{◌≡◌, ◌≢◌, zero, suc, ℕ, ◌+◌, ◌-◌, ◌*◌, ◌/◌, ◌<◌, ◌≤◌, ◌^◌, ◌%◌, Bool, true, false, not, cond, leb, List, [], ◌∷◌, ◌++◌, length, map, replicate, take, drop, get_or, encode_utf8, refl, sym, ap, subst, ◌∙◌, arith, inl, inr, IsUtf8}
-use Rattle.std.specs.Char.{IsScalar}
-use Rattle.std.specs.List.{prefix_len}
-use Rattle.std.proofs.Math.Nat.{div-div-eq-div-mul, div-one, zero-div}
-use Rattle.std.proofs.lemmas.Bool.{cases_lt, leb-false, leb-true}
-use Rattle.std.proofs.lemmas.List.{drop-drop, drop-map, drop-take, length-map}
+use Rattle.np_tables.proofs.Words.{IsScalar, prefix_len, div-div-eq-div-mul, div-one, zero-div, cases_lt, leb-false}
+use Rattle.np_tables.proofs.Words.{leb-true, drop-drop, drop-map, drop-take, length-map, length-chunk, mask_l-mod}
+use Rattle.np_tables.proofs.Words.{none_from_empty_mask, run_in_chunk_fails, run_in_chunk_le, run_in_chunk_stops}
+use Rattle.np_tables.proofs.Words.{tops_compared, trailing_mask_l, count_trailing_zeros, chunk, mask_l, top, zip2}
+use Rattle.np_tables.proofs.Words.{BeginsWithChar, is_lead}
 use Rattle.std.proofs.lemmas.List.Sums.{prefix_len-le-length}
-use Rattle.std.proofs.lemmas.Simd.{length-chunk, mask_l-mod, none_from_empty_mask, run_in_chunk_fails, run_in_chunk_le, run_in_chunk_stops, tops_compared, trailing_mask_l}
-use lib.Count.{count_trailing_zeros}
-use lib.Lanes.{chunk, mask_l, top, zip2}
 use mir.Syntax.{w8}
-use Rattle.np_tables.specs.inside.LeadBytes.{BeginsWithChar, is_lead}
 use Rattle.np_tables.proofs.AsciiLemmas.{zip2-splat}
 use Rattle.np_tables.proofs.Utf8Lemmas.{begins_with_three, begins_with_two}
 

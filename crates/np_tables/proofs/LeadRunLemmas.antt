@@ -1,15 +1,10 @@
 -- What stands between two characters of several bytes, and behind the bytes that begin them.
 use Rattle.std.proofs.Common.{◌≡◌, zero, suc, true, ℕ, ◌+◌, ◌-◌, ◌<◌, ◌≤◌, List, [], ◌∷◌, ◌++◌, Option, All, append_assoc, chars, length, length-append, take, drop, get_or, encode_utf8, encode_utf8_all, refl, sym, ap, subst, ◌∙◌, arith, inl, inr, IsUtf8}
-use Rattle.std.proofs.lemmas.Bool.{cases_lt}
-use Rattle.std.proofs.lemmas.List.{drop-drop, get_or-drop, length-drop}
-use Rattle.std.proofs.lemmas.Str.{IsCharBoundary-from_rest, chars_past_char}
-use Rattle.np_tables.specs.Versions.{VersionData}
-use Rattle.np_tables.specs.inside.PageWords.{Follows, FollowsByStep, IsPast, IsWalkedTo}
+use Rattle.np_tables.proofs.Words.{cases_lt, drop-drop, get_or-drop, length-drop, IsCharBoundary-from_rest}
+use Rattle.np_tables.proofs.Words.{chars_past_char, VersionData, Follows, FollowsByStep, IsPast, IsWalkedTo, ScansOn}
+use Rattle.np_tables.proofs.Words.{IsAscii, IsCharBoundary, BeginsWithChar}
 use Rattle.np_tables.specs.declared.scans.Scan.{Scan}
-use Rattle.np_tables.specs.inside.Scans.{ScansOn}
 use Rattle.np_tables.proofs.StandingLemmas.{IsPast-ascii, past_boundary, IsWalkedTo-next, IsWalkedTo-past, ascii_follows}
-use Rattle.std.specs.Str.{IsAscii, IsCharBoundary}
-use Rattle.np_tables.specs.inside.LeadBytes.{BeginsWithChar}
 use Rattle.np_tables.proofs.AsciiLemmas.{low_take}
 use Rattle.np_tables.proofs.Utf8Lemmas.{encode_four, encode_one, encode_three, encode_two}
 

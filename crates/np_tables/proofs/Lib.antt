@@ -1,9 +1,6 @@
 pub mod AccessLemmas
 pub mod AmbiguityLemmas
-pub mod AnswerLemmas
-pub mod ApartLemmas
 pub mod AsciiLemmas
-pub mod AsciiStandingLemmas
 pub mod CompositeLemmas
 pub mod CountLemmas
 pub mod DepthLemmas
@@ -13,17 +10,12 @@ pub mod FactLemmas
 pub mod FaultLemmas
 pub mod FileCompositeLemmas
 pub mod FileRowLemmas
-pub mod FirstLemmas
-pub mod FullLemmas
 pub mod FullListLemmas
 pub mod HangulLemmas
 pub mod HangulPlaces
 pub mod LeadByteLemmas
 pub mod LeadRunLemmas
-pub mod MappedLemmas
 pub mod MappingLemmas
-pub mod MarkCutLemmas
-pub mod PageApartLemmas
 pub mod PageHintLemmas
 pub mod PageSlotLemmas
 pub mod PageWordLemmas
@@ -34,7 +26,6 @@ pub mod RoundLemmas
 pub mod RowLemmas
 pub mod RowPageLemmas
 pub mod ScanLemmas
-pub mod SpelledLemmas
 pub mod SpellingLemmas
 pub mod StandingLemmas
 pub mod StepLemmas
@@ -42,4 +33,4 @@ pub mod SyllableLemmas
 pub mod TableLemmas
 pub mod UniqueLemmas
 pub mod Utf8Lemmas
-pub mod WalkLemmas
+pub mod Words

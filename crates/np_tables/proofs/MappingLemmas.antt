@@ -1,15 +1,12 @@
 -- Full decomposition: the function gives the one that there is.
 use Rattle.std.proofs.Common.{◌≡◌, ◌≢◌, ℕ, zero, suc, ◌<◌, Bool, true, false, List, [], ◌∷◌, ◌++◌, length, flat_map, refl, sym, ap, subst, ◌∙◌, inl, inr, arith, append_assoc, append-nil, length-append}
-use Rattle.std.proofs.lemmas.Bool.{cond-true, cond-false, cases_Bool, and_parts, and_from}
-use Rattle.std.specs.List.{list_all}
+use Rattle.np_tables.proofs.Words.{cond-true, cond-false, cases_Bool, and_parts, and_from, list_all, VersionData}
+use Rattle.np_tables.proofs.Words.{is_empty, decomposition_kind, decomposition_mapping, counts, parts, Rewrites}
+use Rattle.np_tables.proofs.Words.{is_final, IsFullDecomposition, has_depth, full, full_of, SomeDecomposition}
 use Rattle.np_code_points.specs.Steps.{Reaches}
-use Rattle.np_tables.specs.Versions.{VersionData, is_empty, decomposition_kind, decomposition_mapping}
-use Rattle.np_tables.specs.Mappings.{counts, parts, Rewrites, is_final, IsFullDecomposition, has_depth}
-use Rattle.np_tables.specs.inside.FullDecompositions.{full, full_of}
 use Rattle.np_code_points.proofs.StepsLemmas.{stays, stays_at, one_more, join, along}
 use Rattle.np_tables.proofs.UniqueLemmas.{at_most_one}
 pub use Rattle.np_tables.proofs.UniqueLemmas.{is_empty-true}
-use Rattle.np_tables.specs.Laws.{SomeDecomposition}
 
 pub list_all-append : (p : ℕ → Bool) (xs ys : List ℕ) → list_all p xs ≡ true → list_all p ys ≡ true → list_all p (xs ++ ys) ≡ true
 list_all-append p [] ys front back = back

@@ -1,30 +1,20 @@
 -- What a table of pages keeps of each form is so.
 use Rattle.std.proofs.Common.{◌≡◌, ℕ, ◌+◌, ◌*◌, ◌-◌, ◌/◌, ◌%◌, ◌≤◌, ◌==◌, ◌≢◌, Bool, true, false, not, ◌&&◌, Some, None, List, [], ◌∷◌, ◌++◌, flat_map, MatchBool, if◌then◌else◌, refl, sym, ap, subst, ◌∙◌, arith, inl, inr, eqb-true}
-use Rattle.std.proofs.lemmas.Bool.{and_cases, and_from, and_parts, and_right, cond-true, both_ways, not-false}
-use Rattle.np_code_points.specs.Hangul.{is_among, is_syllable, syllable_pair}
-use Rattle.np_code_points.specs.declared.forms.Form.{Form}
-use Rattle.np_code_points.specs.Forms.{is_compat, composes}
-use Rattle.np_code_points.specs.declared.forms.Form.TheVariants.{Nfd, Nfc, Nfkd, Nfkc}
+use Rattle.np_tables.proofs.Words.{and_cases, and_from, and_parts, and_right, cond-true, both_ways, not-false, is_among}
+use Rattle.np_tables.proofs.Words.{is_syllable, syllable_pair, Form, is_compat, composes, Nfd, Nfc, Nfkd, Nfkc}
+use Rattle.np_tables.proofs.Words.{IsBoundary, IsYesStarter, NeverFalls, FoldsTo, IsCompositeOf, IsSound, counts}
+use Rattle.np_tables.proofs.Words.{is_final, parts, IsFullDecomposition, Entry, IsRow, VersionData, class_of, entry_at}
+use Rattle.np_tables.proofs.Words.{has_hangul, is_empty, Composite, full_of, table_full, AreBits, AreHints}
+use Rattle.np_tables.proofs.Words.{AreLeadsApart, FoldsBy, IsApart, bit, eight_bits, four_bits, has_bit, own_hints}
+use Rattle.np_tables.proofs.Words.{parts_place, parts_under, stays_place, stays_under, syllable_hints, AreRowBits}
+use Rattle.np_tables.proofs.Words.{touches, AreOfFile}
 use Rattle.np_code_points.proofs.HangulLemmas.{among_bounds, among_from_bounds, pair_exists, pair_kinds}
-use Rattle.np_tables.specs.Boundaries.{IsBoundary, IsYesStarter, NeverFalls, FoldsTo}
-use Rattle.np_tables.specs.Composites.{IsCompositeOf}
-use Rattle.np_tables.specs.Conditions.{IsSound}
-use Rattle.np_tables.specs.Mappings.{counts, is_final, parts, IsFullDecomposition}
-use Rattle.np_ucd.specs.Entries.{Entry, IsRow}
-use Rattle.np_tables.specs.Versions.{VersionData, class_of, entry_at, has_hangul, is_empty}
 use Rattle.np_tables.specs.declared.page_hints.Hints.{Hints}
-use Rattle.np_tables.specs.declared.pairs.Composite.{Composite}
-use Rattle.np_tables.specs.inside.FullDecompositions.{full_of, table_full}
-use Rattle.np_tables.specs.inside.PageHints.{AreBits, AreHints, AreLeadsApart, FoldsBy, IsApart, bit, eight_bits, four_bits, has_bit, no_hints, own_hints, parting_hints, parts_place, parts_under, stays_place, stays_under, syllable_hints}
-use Rattle.np_tables.specs.inside.PageWords.{AreRowBits, touches}
-use Rattle.np_tables.specs.inside.Pairs.{AreOfFile}
 use Rattle.np_tables.proofs.FileRowLemmas.{file_kind-found, file_mapping-found, mapped-off}
-use Rattle.np_tables.proofs.FullLemmas.{parts-passed}
-use Rattle.np_tables.proofs.FullListLemmas.{empty_parts, row-lent}
+use Rattle.np_tables.proofs.FullListLemmas.{empty_parts, row-lent, parts-passed}
 use Rattle.np_tables.proofs.HangulLemmas.{IsJamo, IsLv, by_arithmetic, decomposition_kind-on, decomposition_mapping-on, jamo_bare, leading_jamo, lv_shape, trailing_jamo, vowel_jamo}
 use Rattle.np_tables.proofs.MappingLemmas.{IsFullDecomposition-full_of, full_of-final, full_of-mapped, is_empty_from, parts-cases}
-use Rattle.np_tables.proofs.PageApartLemmas.{apart-unlisted, no_syllable}
-use Rattle.np_tables.proofs.PrimaryLemmas.{primary-syllable}
+use Rattle.np_tables.proofs.PrimaryLemmas.{primary-syllable, apart-unlisted, no_syllable}
 use Rattle.np_tables.proofs.RowLemmas.{entry_at-within}
 
 -- ---- composites of a list are composites
@@ -59,11 +49,6 @@ module _ (v : VersionData) (compat : Bool) (c first : ℕ) (rest : List ℕ) (fu
     -- it begins with a starter; that is no second part where the form composes; and what is left goes into it
     pub hints-listed : AreHints v compat c h
     hints-listed = record { parts = λ form kind is. by_parts form kind (composes form) refl is; stays = λ form kind is. by_stays form kind (composes form) refl is }
-
-pub hints-parting : (v : VersionData) (compat : Bool) (c first : ℕ) (rest : List ℕ) → IsFullDecomposition v compat (c ∷ []) (first ∷ rest) → class_of v first ≡ 0 → AreHints v compat c parting_hints
-hints-parting v compat c first rest full starter =
-    hints-listed v compat c first rest full parting_hints refl (λ _. starter) (λ is. absurd (both_ways _ refl is)) (λ is. absurd (both_ways _ refl is)) (λ is. absurd (both_ways _ refl is)) (λ is. absurd (both_ways _ refl is))
-    (λ is. absurd (both_ways _ refl is))
 
 -- ---- by itself
 
@@ -119,19 +104,6 @@ hints-less v compat c h less_is only are =
       parts = λ form kind is. are.parts form kind (parts_less (composes form) less_is h is);
       stays = λ form kind is. are.stays form kind (stays_less (composes form) less_is h only is);
     }
-
--- ---- where nothing is known
-
-not_under : (b : Bool) → parts_under b no_hints ≡ true → ⊥
-not_under false h = both_ways _ refl h
-not_under true h = both_ways _ refl h
-
-not_stays : (b : Bool) → stays_under b no_hints ≡ true → ⊥
-not_stays false h = both_ways _ refl h
-not_stays true h = both_ways _ refl h
-
-pub hints-none : (v : VersionData) (compat : Bool) (c : ℕ) → AreHints v compat c no_hints
-hints-none v compat c = record { parts = λ form kind is. absurd (not_under (composes form) is); stays = λ form kind is. absurd (not_stays (composes form) is) }
 
 -- ---- syllables
 
@@ -309,9 +281,6 @@ module _ (v : VersionData) (e : Entry) where
       let within = entry_at-within v.entries c e found in
       let is : is_syllable c ≡ true = among_from_bounds 0xAC00 11172 c (omega arith) (omega arith) in
       bits-hints syllable_hints syllable_hints v c (hints-syllable v sound on false c is leads) (hints-syllable v sound on true c is leads)
-
-  pub bits-none : AreRowBits v e (eight_bits no_hints no_hints)
-  bits-none c found = bits-hints no_hints no_hints v c (hints-none v false c) (hints-none v true c)
 
   -- a code point with a mapping stands alone
   pub bits-mapped : (canonical compatible : Hints) → IsRow e → e.mapping ≢ [] → AreHints v false e.first canonical → AreHints v true e.first compatible → AreRowBits v e (eight_bits canonical compatible)

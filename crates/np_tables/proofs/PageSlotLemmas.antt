@@ -1,18 +1,9 @@
 -- Slots of full decompositions in one flat list.
 use Rattle.std.proofs.Common.{◌≡◌, ℕ, ◌+◌, ◌<◌, ◌≤◌, Bool, true, false, List, [], ◌∷◌, ◌++◌, length, map, take, get_or, slice_index, Some, refl, sym, ap, subst, ◌∙◌, arith, inl, inr}
-use Rattle.std.specs.List.{slice_get}
-use Rattle.std.proofs.lemmas.Bool.{cases_lt}
-use Rattle.std.proofs.lemmas.List.{get_or_append_left, length-append, length-map, map_push}
-use Rattle.std.proofs.lemmas.List.Elements.{All-push}
-use Rattle.std.proofs.Math.Seq.{get_or-append_seam, take-append_seam}
-use Rattle.std.proofs.lemmas.Option.{same_Some}
-use Rattle.np_ucd.specs.Entries.{Entry}
-use Rattle.np_tables.specs.Versions.{VersionData, entry_at, is_empty}
-use Rattle.np_tables.specs.declared.fulls.Part.{Part}
-use Rattle.np_tables.specs.inside.FullDecompositions.{table_full}
-use Rattle.np_tables.specs.inside.FullLists.{FullLists, of_kind}
-use Rattle.np_tables.specs.inside.FullParts.{part_of, IsPart, AreParts}
-use Rattle.np_tables.specs.inside.PageWords.{lists_of, IsSlotPushed, IsSlot, AreSlots, AreSlotsSoFar}
+use Rattle.np_tables.proofs.Words.{slice_get, cases_lt, get_or_append_left, length-append, length-map, map_push}
+use Rattle.np_tables.proofs.Words.{All-push, get_or-append_seam, take-append_seam, same_Some, Entry, VersionData}
+use Rattle.np_tables.proofs.Words.{entry_at, is_empty, Part, table_full, FullLists, of_kind, part_of, IsPart, AreParts}
+use Rattle.np_tables.proofs.Words.{lists_of, IsSlotPushed, IsSlot, AreSlots, AreSlotsSoFar}
 use Rattle.np_tables.proofs.FileRowLemmas.{file_mapping-found}
 use Rattle.np_tables.proofs.FullListLemmas.{part_of-grown, parts-grown, AreParts-grown, part_of-new, lent-outside}
 

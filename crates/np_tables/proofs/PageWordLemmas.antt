@@ -1,31 +1,17 @@
 -- Words of code points, by rows and by blocks.
 use Rattle.std.proofs.Common.{◌≡◌, ℕ, suc, ◌+◌, ◌-◌, ◌/◌, ◌<◌, Bool, true, false, ◌&&◌, List, [], ◌∷◌, ◌++◌, length, get_or, set, slice_index, Some, None, sym, ap, subst, ◌∙◌, arith, inl, inr}
-use Rattle.std.specs.List.{slice_get}
-use Rattle.std.specs.Option.{is_some}
-use Rattle.std.proofs.Math.Nat.{mod-lt}
-use Rattle.std.proofs.Math.Seq.{get_or-append_seam}
-use Rattle.std.proofs.lemmas.Bool.{and_parts, cases_Bool, cases_eq, cases_lt, both_ways}
-use Rattle.std.proofs.lemmas.List.{get_or_append_left, get_or-map, get_or-set_same, get_or-set_other, length-append, length-map, length-set}
-use Rattle.std.proofs.lemmas.Option.{none-some, same_Some, slice_get_within}
-use Rattle.np_code_points.specs.Hangul.{is_syllable}
-use Rattle.np_code_points.specs.declared.forms.Form.{Form}
-use Rattle.np_ucd.specs.Entries.{Entry, AreRows}
-use Rattle.np_tables.specs.Boundaries.{IsBoundary}
-use Rattle.np_tables.specs.Versions.{VersionData, class_of, class_in, entry_at, file_mapping, mapping_in, has_hangul, is_assigned, is_empty}
-use Rattle.np_tables.specs.Conditions.{IsSound}
-use Rattle.np_tables.specs.Composites.{IsCompositeOf}
-use Rattle.np_tables.specs.Mappings.{is_final}
-use Rattle.np_tables.specs.declared.page_words.Word.{Word}
-use Rattle.np_tables.specs.declared.pairs.Composite.{Composite}
-use Rattle.np_tables.specs.inside.FullDecompositions.{table_full}
-use Rattle.np_tables.specs.inside.FullLists.{FullLists, of_kind}
-use Rattle.np_tables.specs.inside.PageHints.{has_bit, parts_place}
-use Rattle.np_tables.specs.inside.Pages.{word_place}
-use Rattle.np_tables.specs.inside.RowPages.{AreRowPages, IsRowNumber}
-use Rattle.np_tables.specs.inside.PageWords.{AreRowWords, AreSecondRows, AreSeconds, AreSlots, IsRowWord, IsWord, ArePages, no_word, row_word, paged_words}
+use Rattle.np_tables.proofs.Words.{slice_get, is_some, mod-lt, get_or-append_seam, and_parts, cases_Bool, cases_eq}
+use Rattle.np_tables.proofs.Words.{cases_lt, both_ways, get_or_append_left, get_or-map, get_or-set_same}
+use Rattle.np_tables.proofs.Words.{get_or-set_other, length-append, length-map, length-set, none-some, same_Some}
+use Rattle.np_tables.proofs.Words.{slice_get_within, is_syllable, Form, Entry, AreRows, IsBoundary, VersionData}
+use Rattle.np_tables.proofs.Words.{class_of, class_in, entry_at, file_mapping, mapping_in, has_hangul, is_assigned}
+use Rattle.np_tables.proofs.Words.{is_empty, IsSound, IsCompositeOf, is_final, Word, Composite, table_full, FullLists}
+use Rattle.np_tables.proofs.Words.{of_kind, has_bit, parts_place, word_place, AreRowPages, IsRowNumber, AreRowWords}
+use Rattle.np_tables.proofs.Words.{AreSecondRows, AreSeconds, AreSlots, IsRowWord, IsWord, ArePages, no_word, row_word}
+use Rattle.np_tables.proofs.Words.{paged_words}
 use Rattle.np_tables.proofs.FullListLemmas.{empty_parts}
 use Rattle.np_tables.proofs.HangulLemmas.{by_arithmetic, syllable_hangul}
-use Rattle.np_tables.proofs.PageApartLemmas.{apart-unlisted, row-apart}
+use Rattle.np_tables.proofs.PrimaryLemmas.{apart-unlisted, row-apart}
 use Rattle.np_tables.proofs.PageHintLemmas.{bits-unlisted}
 use Rattle.np_tables.proofs.RowLemmas.{at-found, at-row, firsts-le}
 use Rattle.np_tables.proofs.RowPageLemmas.{ends-rise, some_at}
@@ -52,9 +38,6 @@ same_place es i j e rows at bt =
         | inr this ↦ omega arith
       ]
     ]
-
-pub seconds-none : (es : List Entry) (cs : List Composite) (seconds : List Bool) → length seconds ≡ length es → AreSecondRows es cs 0 seconds
-seconds-none es cs seconds size = record { size = size; each = λ j x k e lt. absurd (omega arith) }
 
 -- the place of the next one's second part is marked
 pub seconds-more : (es : List Entry) (cs : List Composite) (count at : ℕ) (seconds : List Bool) (here : Composite) → AreRows es → AreSecondRows es cs count seconds → slice_get cs count ≡ Some here → at < length es → slice_get es at ≡ entry_at es here.second →
@@ -95,10 +78,6 @@ seconds-past es cs count seconds here rows so_far is none =
     }
 
 -- ---- words by rows
-
-pub words-none : (v : VersionData) (slots : List ℕ) (seconds : List Bool) (words : List Word) → words ≡ no_word ∷ [] → AreRowWords v slots seconds 0 words
-words-none v slots seconds words is =
-    record { size = ap length is; none = ap (λ l. get_or l 0 no_word) is; each = λ k e lt. absurd (omega arith) }
 
 pub words-more : (v : VersionData) (slots : List ℕ) (seconds : List Bool) (count : ℕ) (words : List Word) (word : Word) → AreRowWords v slots seconds count words →
     ((e : Entry) → slice_get v.entries count ≡ Some e → IsRowWord v e (slice_index slots count) (get_or seconds count false) word) → AreRowWords v slots seconds (count + 1) (words ++ word ∷ [])

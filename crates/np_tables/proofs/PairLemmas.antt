@@ -1,17 +1,14 @@
 -- Composites in the order of their pairs.
-use Rattle.std.proofs.Common.{◌≡◌, ℕ, ◌+◌, ◌<◌, ◌≤◌, ◌⊎◌, true, false, nat_lt, nat_eq, List, length, get_or, Some, sym, ap, subst, ◌∙◌, arith, inl, inr}
-use Rattle.std.proofs.lemmas.Bool.{cases_order, cases_lt, cond-true, cond-false, lt-ltb, le-ltb, eq-eqb}
+use Rattle.std.proofs.Common.{◌≡◌, ℕ, ◌+◌, ◌<◌, ◌≤◌, ◌⊎◌, true, false, nat_lt, nat_eq, List, length, get_or, Some, sym, ap, ◌∙◌, arith, inl, inr}
+use Rattle.np_tables.proofs.Words.{cases_order, cases_lt, cond-true, cond-false, lt-ltb, le-ltb, eq-eqb, get_or_default}
+use Rattle.np_tables.proofs.Words.{slice_get-get_or, All, AllWithin, Composite, Lists, StandsAt, pair_rank, rank}
+use Rattle.np_tables.proofs.Words.{IsInRange, AreOrdered}
 use Rattle.std.proofs.lemmas.Bool.Decides.{nat_tests}
-use Rattle.std.proofs.lemmas.List.{get_or_default}
-use Rattle.std.proofs.lemmas.Option.{slice_get-get_or}
 use Rattle.std.proofs.lemmas.List.Sorted.{IsNonDecreasingBy-from_all_adjacent, All-permutation}
 use Rattle.std.specs.Ordering.{is_lt, ordering_then, nat_cmp}
 use Rattle.std.specs.declared.cmp.Ordering.{Ordering}
 use Rattle.std.specs.declared.cmp.Ordering.TheVariants.{Less, Equal}
-use Rattle.std.specs.List.{All, AllWithin}
 use Rattle.std.specs.List.Sorted.{IsPermutation, IsSorted}
-use Rattle.np_tables.specs.declared.pairs.Composite.{Composite}
-use Rattle.np_tables.specs.inside.Pairs.{HaveNumbers, Lists, StandsAt, pair_rank, rank, slot_at, IsInRange, AreOrdered}
 
 -- the order of the fields, one after another
 abbrev cmp : Composite → Composite → Ordering
@@ -57,14 +54,6 @@ AreOrdered-from_sort xs ys range moved sorted =
     }
 
 -- ---- slots with numbers
-
-module _ (slots : List ℕ) (cs : List Composite) where
-  -- a pair whose slot has none stands in no place
-  pub lists-unnumbered : HaveNumbers slots cs → (a b number : ℕ) → slot_at a b < length slots → number ≡ get_or slots (slot_at a b) number → number ≡ 0 → (code : ℕ) → ¬ Lists cs a b code
-  lists-unnumbered all a b number fits there none code has =
-      let d : Composite = record { first = a; second = b; code = code } in
-      let some = subst (λ (y : Composite). 0 < get_or slots (slot_at y.first y.second) 0) has.2 (all has.0 d has.1) in
-      omega (arith, some, none, there, get_or_default slots (slot_at a b) 0 number fits)
 
 module _ (cs : List Composite) (order : AreOrdered cs) where
   -- earlier places have no later pairs

@@ -1,9 +1,8 @@
 -- The arithmetic by the rows of the syllables and jamo alone.
 use Rattle.std.proofs.Common.{◌≡◌, ℕ, ◌<◌, true, false, ◌&&◌, ◌==◌, List, Option, Some, None, is_some, refl, sym, ◌∙◌}
-use Rattle.np_ucd.specs.Entries.{Entry}
-use Rattle.np_ucd.specs.Listed.{Span}
-use Rattle.np_tables.specs.Versions.{VersionData, entry_at, class_in, class_of, file_mapping, has_hangul, is_assigned, is_empty, is_hangul_row, mapping_in}
-use Rattle.np_tables.specs.inside.HangulRows.{hangul_at, is_right_at, is_right_entry}
+use Rattle.np_tables.proofs.Words.{Entry, Span, VersionData, entry_at, class_in, class_of, file_mapping, has_hangul}
+use Rattle.np_tables.proofs.Words.{is_assigned, is_empty, is_hangul_row, mapping_in, hangul_at, is_right_at}
+use Rattle.np_tables.proofs.Words.{is_right_entry}
 use Rattle.np_tables.proofs.HangulLemmas.{has_hangul-fails, has_hangul-from}
 use Rattle.np_tables.proofs.HangulPlaces.{each_hangul, hangul_at-hangul}
 

@@ -1,11 +1,8 @@
 -- Finding the row of a code point.
 use Rattle.std.proofs.Common.{◌≡◌, ℕ, zero, suc, ◌+◌, ◌<◌, ◌≤◌, true, false, List, [], ◌∷◌, length, Some, None, refl, sym, ap, subst, ◌∙◌, arith, inl, inr, nat_le, le-leb}
-use Rattle.std.specs.List.{slice_get}
-use Rattle.std.proofs.lemmas.Bool.{cond-true, cond-false, cases_Bool, and_parts, and_from, and_left, and_right, leb-true, lt-leb}
-use Rattle.std.proofs.lemmas.Option.{none-some, same_Some}
-use Rattle.np_ucd.specs.Entries.{Entry, IsRow, IsBefore, AreRows}
-use Rattle.np_tables.specs.Versions.{entry_at}
-use Rattle.np_tables.specs.inside.RowPlaces.{lies_in}
+use Rattle.np_tables.proofs.Words.{slice_get, cond-true, cond-false, cases_Bool, and_parts, and_from, and_left}
+use Rattle.np_tables.proofs.Words.{and_right, leb-true, lt-leb, none-some, same_Some, Entry, IsRow, IsBefore, AreRows}
+use Rattle.np_tables.proofs.Words.{entry_at, lies_in}
 
 pub entry_at-nil : (c : ℕ) → entry_at [] c ≡ None
 unfolding entry_at

@@ -1,16 +1,9 @@
 -- The row of each code point, block by block.
 use Rattle.std.proofs.Common.{◌≡◌, ℕ, zero, suc, ◌+◌, ◌-◌, ◌*◌, ◌/◌, ◌%◌, ◌<◌, ◌≤◌, ◌⊎◌, List, [], ◌∷◌, ◌++◌, length, slice_index, Option, Some, None, refl, sym, ap, subst, ◌∙◌, arith, inl, inr}
-use Rattle.std.specs.List.{slice_get}
-use Rattle.std.proofs.Math.Nat.{div-add-mod, mod-lt}
-use Rattle.std.proofs.lemmas.Bool.{cases_lt}
-use Rattle.std.proofs.lemmas.List.{get_or_append_left, length-append}
-use Rattle.std.proofs.Math.Seq.{get_or-append_seam}
-use Rattle.std.proofs.lemmas.Option.{none-some, same_Some, slice_get_within}
-use Rattle.np_ucd.specs.Entries.{Entry, AreRows}
-use Rattle.np_tables.specs.Versions.{entry_at}
-use Rattle.np_tables.specs.inside.Pages.{word_place}
-use Rattle.np_tables.specs.inside.RowPlaces.{lies_in}
-use Rattle.np_tables.specs.inside.RowPages.{IsRowNumber, IsRowBlock, AreRowPages, IsNextRow, AreFirstPages, AreBegun, ArePushed, HasNoRow, GoesOn}
+use Rattle.np_tables.proofs.Words.{slice_get, div-add-mod, mod-lt, cases_lt, get_or_append_left, length-append}
+use Rattle.np_tables.proofs.Words.{get_or-append_seam, none-some, same_Some, slice_get_within, Entry, AreRows, entry_at}
+use Rattle.np_tables.proofs.Words.{word_place, lies_in, IsRowNumber, IsRowBlock, AreRowPages, IsNextRow, AreFirstPages}
+use Rattle.np_tables.proofs.Words.{AreBegun, ArePushed, HasNoRow, GoesOn}
 use Rattle.np_tables.proofs.RowLemmas.{at-found, at-row, entry_at-row, entry_at-within, none-found, firsts-le, out_of, below_out}
 
 -- ---- rows by their places
@@ -178,19 +171,6 @@ begun-block es blocks old new at to block begun pushed is =
     begun-more es blocks old new block to begun.pages (record { count = 1; fits = omega arith; few = omega arith; same = pushed.kept }) (omega arith)
     (λ low lt. subst (λ n. IsRowNumber es (length blocks * 256 + low) (slice_index new (n + low))) (sym is) (pushed.each low lt))
     pushed.next
-
--- before the first block number
-pub begun-none : (es : List Entry) (blocks numbers : List ℕ) → length blocks ≡ 0 → length numbers ≡ 256 → ((k : ℕ) → slice_index numbers k ≡ 0) → AreBegun es blocks numbers 0
-begun-none es blocks numbers no_blocks one zeros =
-    record {
-      pages = record {
-        counted = record { count = 1; some = omega arith; fits = omega arith; length = omega arith };
-        none = λ low lt. zeros low;
-        within = λ k lt. absurd (omega arith);
-        each = λ k lt. absurd (omega arith);
-      };
-      next = record { past = λ k e lt h. absurd (omega arith); here = λ e h. omega arith };
-    }
 
 -- as many blocks as there are
 pub block_count : (es : List Entry) (blocks numbers : List ℕ) (at : ℕ) → AreBegun es blocks numbers at → (length numbers / 256 * 256 ≡ length numbers) × (length numbers / 256 ≤ length blocks + 1)

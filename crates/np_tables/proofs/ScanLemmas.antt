@@ -1,18 +1,12 @@
 -- How far a scan comes by the steps of code points.
 use Rattle.std.proofs.Common.{◌≡◌, ℕ, ◌<◌, ◌≤◌, true, List, Option, ◌++◌, length, length-append, encode_utf8, encode_utf8_all, ap, arith, inl, IsUtf8}
-use Rattle.std.proofs.lemmas.Str.{IsUtf8-past_char}
-use Rattle.np_tables.specs.Versions.{VersionData}
+use Rattle.np_tables.proofs.Words.{IsUtf8-past_char, VersionData, Follows, IsPast, ScansOn, PassesCode}
 use Rattle.np_tables.specs.declared.scans.Scan.{Scan}
-use Rattle.np_tables.specs.inside.PageWords.{Follows, IsPast}
-use Rattle.np_tables.specs.inside.Scans.{ScansOn, PassesCode}
 use Rattle.np_tables.proofs.StandingLemmas.{IsWalkedTo-next, IsWalkedTo-past, ascii_follows}
 
 module _ (s : Scan) where
   abbrev Step : VersionData → Option ℕ → ℕ → ℕ → ℕ → Type 0
   Step v = Follows v s.least s.index.now s.steps.now s.form
-
-  pub goes-start : (text : List ℕ) (low : ℕ) → s.least ≤ low → IsUtf8 text → ScansOn s text low text low
-  goes-start text low le utf8 = record { least = le; walks = λ v t last behind walked. (last, (behind, walked)); front = omega arith; utf8 = utf8 }
 
   -- what goes on from there goes on from here
   pub goes-both : (text here rest : List ℕ) (low middle next : ℕ) → ScansOn s text low here middle → ScansOn s here middle rest next → ScansOn s text low rest next

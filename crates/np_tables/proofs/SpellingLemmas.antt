@@ -1,17 +1,19 @@
 -- What code points compose to, written as UTF-8, and spellings, slot by slot, in one flat list.
-use Rattle.std.proofs.Common.{◌≡◌, ℕ, ◌+◌, ◌-◌, ◌<◌, ◌≤◌, List, [], ◌∷◌, ◌++◌, None, length, map, get_or, encode_utf8, encode_utf8_all, IsUtf8, refl, sym, ap, subst, ◌∙◌, arith, inl, inr, append_assoc, append-nil, take_all}
-use Rattle.std.specs.List.{slice_range}
-use Rattle.std.proofs.lemmas.Bool.{cases_lt}
-use Rattle.std.proofs.lemmas.List.{get_or_append_left, get_or_past, length-append, length-map, map_push}
-use Rattle.std.proofs.lemmas.List.Elements.{All-head, All-tail, All-push, All-weaker}
-use Rattle.std.proofs.lemmas.Str.{IsUtf8-nil}
-use Rattle.std.proofs.Math.Seq.{get_or-append_seam}
-use Rattle.np_code_points.specs.declared.forms.Form.{Form}
-use Rattle.np_tables.specs.Versions.{VersionData, class_of}
+use Rattle.std.proofs.Common.{◌≡◌, ℕ, ◌+◌, ◌-◌, ◌<◌, ◌≤◌, List, [], ◌∷◌, ◌++◌, None, length, map, get_or, encode_utf8, encode_utf8_all, IsUtf8, refl, sym, ap, subst, ◌∙◌, arith, inl, inr, append_assoc, append-nil, take_all, Bool, true, false, take, MatchBool, length-take-le}
+use Rattle.np_tables.proofs.Words.{slice_range, cases_lt, get_or_append_left, get_or_past, length-append, length-map}
+use Rattle.np_tables.proofs.Words.{map_push, All-head, All-tail, All-push, All-weaker, IsUtf8-nil, get_or-append_seam}
+use Rattle.np_tables.proofs.Words.{Form, VersionData, class_of, composite, AreSpans, AreSpellings, AreSpellingsSoFar}
+use Rattle.np_tables.proofs.Words.{ComposesOn, IsSpan, IsSpelling, Settles, Writes, span_of, Composes, IsFront, Nfd}
+use Rattle.np_tables.proofs.Words.{Nfc, Nfkd, Nfkc, composes, is_compat, NeverFalls, IsSound, Word, FullLists, of_kind}
+use Rattle.np_tables.proofs.Words.{table_full, IsWord, no_word, word_place}
 use Rattle.np_tables.specs.declared.spellings.Span.{Span}
-use Rattle.np_tables.specs.inside.CompositeSearch.{composite}
-use Rattle.np_tables.specs.inside.Spellings.{AreSpans, AreSpellings, AreSpellingsSoFar, ComposesOn, IsSpan, IsSpelling, Settles, Writes, span_of}
+use Rattle.np_tables.specs.declared.spelled.Spelled.{Spelled}
+use Rattle.np_tables.specs.inside.Spelled.{AreSpelled, IsSpelledOf, kept_of}
+use Rattle.np_tables.specs.inside.Tables.{ArePageTables}
 use Rattle.np_tables.proofs.FullListLemmas.{part_of-grown}
+use Rattle.np_tables.proofs.CompositeLemmas.{composite-none, composite-some}
+use Rattle.np_tables.proofs.TableLemmas.{IsLent-table_full}
+use Rattle.np_tables.specs.Spelled as public
 
 span_of-grown : (old more : List ℕ) (s : Span) → IsSpan (length old) s → span_of (old ++ more) s ≡ span_of old s
 span_of-grown old more s is = part_of-grown old more (record { start = s.start; end = s.end }) is
@@ -65,11 +67,6 @@ module _ (v : VersionData) (form : Form) where
   spelling-none lent bytes none = record { utf8 = subst IsUtf8 (sym none) IsUtf8-nil; is = inl none }
 
   module _ (lents : List (List ℕ)) where
-    pub spellings-none : (bytes : List ℕ) (ss : List Span) → ss ≡ [] → AreSpellingsSoFar v form lents bytes ss 0
-    spellings-none bytes ss none =
-        subst (λ l. AreSpellingsSoFar v form lents bytes l 0) (sym none)
-        (record { within = λ k d lt. absurd (omega arith); size = refl; spellings = λ slot. spelling-none _ _ refl })
-
     pub spellings-more : (old new run : List ℕ) (ss : List Span) (s : Span) (count : ℕ) → AreSpellingsSoFar v form lents old ss count → new ≡ old ++ run → IsSpan (length new) s → span_of new s ≡ run →
         IsSpelling v form (get_or lents count []) run → AreSpellingsSoFar v form lents new (ss ++ s ∷ []) (count + 1)
     spellings-more old new run ss s count before grown is here more =
@@ -96,3 +93,69 @@ module _ (v : VersionData) (form : Form) where
           size = length-append ss (s ∷ []) ∙ ap (λ n. n + 1) before.size;
           spellings = subst (AreSpellings v form lents) (sym all) each;
         }
+
+-- ---- what a table keeps of single code points under each form, and what it answers of it
+
+pub each_form : (v : VersionData) (lists : FullLists) (s : Spelled) → AreSpellings v Nfd (of_kind false lists) s.nfd → AreSpellings v Nfc (of_kind false lists) s.nfc → AreSpellings v Nfkd (of_kind true lists) s.nfkd → AreSpellings v Nfkc (of_kind true lists) s.nfkc → AreSpelled v lists s
+each_form v lists s nfd nfc nfkd nfkc Nfd = nfd
+each_form v lists s nfd nfc nfkd nfkc Nfc = nfc
+each_form v lists s nfd nfc nfkd nfkc Nfkd = nfkd
+each_form v lists s nfd nfc nfkd nfkc Nfkc = nfkc
+
+-- what has a form has a code point
+settles_some : (v : VersionData) (b : Bool) (lent list : List ℕ) → MatchBool b (Composes v lent list) (NeverFalls (class_of v) lent × (list ≡ lent)) → 0 < length (encode_utf8_all list) → 0 < length lent
+settles_some v true [] list none some = absurd none
+settles_some v false [] list (rises, same) some = absurd (omega (arith, ap (λ l. length (encode_utf8_all l)) same))
+settles_some v b (x ∷ xs) list settles some = omega arith
+
+pub spelled-read : (v u : VersionData) → u ≡ v → (lists : FullLists) (blocks : List ℕ) (words : List Word) (spelled : Spelled) → ArePageTables u lists blocks words spelled → (form : Form) (c : ℕ) → c < 0x110000 →
+    (w : Word) → w ≡ get_or words (word_place blocks c) no_word → (bytes : List ℕ) (count : ℕ) → IsFront (get_or (kept_of form spelled) w.fulls []) bytes count → IsSpelledOf v form c bytes count
+spelled-read v u same lists blocks words spelled are form c lt w at bytes count front =
+    let word : IsWord u lists c w = subst (IsWord u lists c) (sym at) (are.pages.each c lt) in
+    let lent : get_or (of_kind (is_compat form) lists) w.fulls [] ≡ table_full u (is_compat form) c = word.slot.lent (is_compat form) in
+    let spelling : IsSpelling u form (table_full u (is_compat form) c) (take count bytes) =
+    subst (λ l. IsSpelling u form l (take count bytes)) lent (subst (IsSpelling u form (get_or (of_kind (is_compat form) lists) w.fulls [])) (sym front.is) (are.spelled_is form w.fulls)) in
+    let long : length (take count bytes) ≡ count = length-take-le count bytes front.fits in
+    subst (λ x. IsSpelledOf x form c bytes count) same
+    (elim spelling.is [
+      | inl none ↦ absurd (omega (arith, ap length none, long, front.some))
+      | inr known ↦
+          record {
+            list = known.0;
+            settles = known.2;
+            some = settles_some u (composes form) (table_full u (is_compat form) c) known.0 known.2 (omega (arith, ap length known.1, long, front.some));
+            fits = front.fits;
+            utf8 = spelling.utf8;
+            is = known.1;
+          }
+    ])
+
+-- ---- the same in relations
+
+module _ (v : VersionData) (sound : IsSound v) where
+  composes_on : (held last : ℕ) (ds list : List ℕ) → ComposesOn v held last ds list → public.ComposesOn v held last ds list
+  composes_on held last [] list is = is
+  composes_on held last (d ∷ ds) list (inl (p, found, up, later)) = inl (p, composite-some v held d p found, up, composes_on p (class_of v d) ds list later)
+  composes_on held last (d ∷ ds) list (inr (later, starter, none, same, is)) = inr (later, starter, (λ p. composite-none v sound held d p none), same, composes_on d 0 ds later is)
+
+  composes_of : (full list : List ℕ) → Composes v full list → public.Composes v full list
+  composes_of [] list none = none
+  composes_of (c ∷ cs) list (starter, is) = (starter, composes_on c 0 cs list is)
+
+  settles_of : (b : Bool) (full list : List ℕ) → MatchBool b (Composes v full list) (NeverFalls (class_of v) full × (list ≡ full)) → MatchBool b (public.Composes v full list) (NeverFalls (class_of v) full × (list ≡ full))
+  settles_of true full list is = composes_of full list is
+  settles_of false full list is = is
+
+  pub is_spelled : (form : Form) (c : ℕ) (bytes : List ℕ) (count : ℕ) → IsSpelledOf v form c bytes count → public.IsSpelled v form c bytes count
+  is_spelled form c bytes count h =
+      let full = table_full v (is_compat form) c in
+      record {
+        full = full;
+        lent = IsLent-table_full v (is_compat form) c sound;
+        some = h.some;
+        list = h.list;
+        settles = settles_of (composes form) full h.list h.settles;
+        fits = h.fits;
+        utf8 = h.utf8;
+        is = h.is;
+      }

@@ -1,27 +1,37 @@
 -- Runs of code points that may follow one another as they are.
-use Rattle.std.proofs.Common.{◌≡◌, ℕ, ◌-◌, ◌<◌, ◌≤◌, Bool, true, false, ◌&&◌, suc, List, [], ◌∷◌, ◌++◌, Option, Some, None, length, get_or, take, drop, drop_at, take_at, slice_range, chars, IsUtf8, encode_utf8, encode_utf8_all, All, sym, ap, subst, ◌∙◌, arith, append_assoc, append-nil, length-append, refl, inl, inr}
-use Rattle.std.specs.List.{list_all}
-use Rattle.std.specs.Str.{IsAscii, IsCharBoundary}
-use Rattle.std.proofs.lemmas.Bool.{and_from, and_parts, cases_Bool, cond-false, or_from}
-use Rattle.std.proofs.lemmas.List.{get_or_default, get_or-map, nil_from_length, take-append-drop}
-use Rattle.std.proofs.lemmas.Str.{chars-append, chars-nil, chars_from_encodes, chars-IsAscii, chars_past_char, encodes-append, encodes-IsAscii, IsCharBoundary-at_seam, IsCharBoundary-from_take, IsUtf8-drop, IsUtf8-take, IsUtf8-from_ascii, IsUtf8-past_char}
-use Rattle.np_code_points.specs.Hangul.{is_syllable}
-use Rattle.np_code_points.specs.declared.forms.Form.{Form}
-use Rattle.np_code_points.specs.Forms.{is_compat}
-use Rattle.np_tables.specs.Boundaries.{BeginsAtBoundary, IsBoundary}
-use Rattle.np_tables.specs.Mappings.{is_final}
-use Rattle.np_tables.specs.Standing.{AreStanding, MayFollow, Walks}
-use Rattle.np_tables.specs.Versions.{VersionData, class_of, has_hangul, is_assigned}
-use Rattle.np_tables.specs.declared.page_words.Word.{Word}
-use Rattle.np_tables.specs.inside.FullDecompositions.{full_of, table_full}
-use Rattle.np_tables.specs.inside.FullLists.{FullLists, of_kind}
-use Rattle.np_tables.specs.inside.Pages.{word_place}
-use Rattle.np_tables.specs.inside.PageWords.{AreFollowing, ArePages, Follows, FollowsApart, FollowsByStep, IsAsciiStaying, IsPast, IsWalkedTo, PassesApart, last_behind, no_word}
-use Rattle.np_tables.specs.inside.Steps.{all_steps, step_in, step_of, steps_of}
+use Rattle.std.proofs.Common.{◌≡◌, ℕ, ◌-◌, ◌<◌, ◌≤◌, Bool, true, false, ◌&&◌, suc, List, [], ◌∷◌, ◌++◌, Option, Some, None, length, get_or, take, drop, drop_at, take_at, slice_range, chars, IsUtf8, encode_utf8, encode_utf8_all, All, sym, ap, subst, ◌∙◌, arith, append_assoc, append-nil, length-append, refl, inl, inr, ◌⊎◌, not}
+use Rattle.np_tables.proofs.Words.{list_all, IsAscii, IsCharBoundary, and_from, and_parts, cases_Bool, cond-false}
+use Rattle.np_tables.proofs.Words.{or_from, and_right, not-false, get_or_default, get_or-map, take-append-drop}
+use Rattle.np_tables.proofs.Words.{chars-append, chars_from_encodes, chars-IsAscii, chars_past_char, encodes-append}
+use Rattle.np_tables.proofs.Words.{encodes-IsAscii, IsCharBoundary-at_seam, IsCharBoundary-from_take, IsUtf8-drop}
+use Rattle.np_tables.proofs.Words.{IsUtf8-take, IsUtf8-from_ascii, IsUtf8-past_char, chars-nil, is_syllable, Form}
+use Rattle.np_tables.proofs.Words.{is_compat, BeginsAtBoundary, IsBoundary, IsYesStarter, is_final, VersionData}
+use Rattle.np_tables.proofs.Words.{class_of, has_hangul, is_assigned, Word, full_of, table_full, FullLists, of_kind}
+use Rattle.np_tables.proofs.Words.{word_place, AreFollowing, ArePages, Follows, FollowsApart, FollowsByStep}
+use Rattle.np_tables.proofs.Words.{IsAsciiStaying, IsPast, IsWalkedTo, PassesApart, last_behind, no_word, IsKeptApart}
+use Rattle.np_tables.proofs.Words.{IsWord, all_steps, step_in, step_of, steps_of}
+use Rattle.np_tables.specs.Standing.{AreStanding, MayFollow, Walks, StandsApart}
 use Rattle.np_tables.proofs.HangulLemmas.{by_arithmetic, syllable_hangul}
 use Rattle.np_tables.proofs.MappingLemmas.{full_of-some}
 use Rattle.np_tables.proofs.StepLemmas.{place-within, staying_step, step_assigned, step_at, step_low, step_stays}
-use Rattle.np_tables.proofs.WalkLemmas.{Walks-append, Walks-weaker}
+
+-- ---- walks over lists
+
+module _ (Step : Option ℕ → ℕ → ℕ → ℕ → Type 0) where
+  -- a walk goes on with another
+  pub Walks-append : (before : Option ℕ) (first middle last : ℕ) (xs ys : List ℕ) → Walks Step before first xs middle → Walks Step (last_behind before xs) middle ys last → Walks Step before first (xs ++ ys) last
+  Walks-append before first middle last [] ys w more = subst (λ n. Walks Step before n ys last) (sym w) more
+  Walks-append before first middle last (x ∷ xs) ys w more = (w.0, w.1, Walks-append (Some x) w.0 middle last xs ys w.2 more)
+
+  -- a first part is a walk
+  pub Walks-front : (before : Option ℕ) (first last : ℕ) (xs ys : List ℕ) → Walks Step before first (xs ++ ys) last → (middle : ℕ) × Walks Step before first xs middle
+  Walks-front before first last [] ys w = (first, refl)
+  Walks-front before first last (x ∷ xs) ys w = let rest = Walks-front (Some x) w.0 last xs ys w.2 in (rest.0, (w.0, w.1, rest.1))
+
+-- a walk by steps that are other steps too
+pub Walks-weaker : (Step Other : Option ℕ → ℕ → ℕ → ℕ → Type 0) → ((before : Option ℕ) (a c b : ℕ) → Step before a c b → Other before a c b) → (before : Option ℕ) (first last : ℕ) (xs : List ℕ) → Walks Step before first xs last → Walks Other before first xs last
+Walks-weaker Step Other each before first last [] w = w
+Walks-weaker Step Other each before first last (x ∷ xs) w = (w.0, each before first x w.0 w.1, Walks-weaker Step Other each (Some x) w.0 last xs w.2)
 
 -- ---- ASCII stands for itself
 
@@ -44,9 +54,6 @@ module _ (text : List ℕ) (n : ℕ) (utf8 : IsUtf8 text) (le : n ≤ length tex
 -- ---- what was read of a text is a walk, and `rest` is left
 
 module _ (Step : Option ℕ → ℕ → ℕ → ℕ → Type 0) where
-  pub IsWalkedTo-start : (s rest : List ℕ) → rest ≡ s → IsUtf8 s → IsWalkedTo Step s rest 0
-  IsWalkedTo-start s rest e utf8 = record { before = []; bytes = sym e; text = ap chars (sym e); walk = refl; utf8 = subst IsUtf8 (sym e) utf8 }
-
   -- one code point more
   pub IsWalkedTo-next : (s rest : List ℕ) (last c : ℕ) (later : List ℕ) (n : ℕ) (r : IsWalkedTo Step s rest last) → rest ≡ encode_utf8 c ++ later → Step (last_behind None r.before) last c n → IsWalkedTo Step s later n
   IsWalkedTo-next s rest last c later n r e step =
@@ -96,9 +103,6 @@ following-stop v least blocks steps form s rest last n r is =
 -- ---- behind what was walked over
 
 module _ (Step : Option ℕ → ℕ → ℕ → ℕ → Type 0) (s rest : List ℕ) (last : ℕ) (r : IsWalkedTo Step s rest last) where
-  pub walked-shorter : length rest ≤ length s
-  walked-shorter = omega (arith, ap length r.bytes, length-append (encode_utf8_all r.before) rest)
-
   walked-place : length (encode_utf8_all r.before) ≡ length s - length rest
   walked-place = omega (arith, ap length r.bytes, length-append (encode_utf8_all r.before) rest)
 
@@ -127,9 +131,6 @@ walked-apart v least blocks steps form s here later front c last low next behind
 -- what is left begins with a boundary, or nothing is left
 pub begins-first : (v : VersionData) (form : Form) (rest here later : List ℕ) (c : ℕ) → rest ≡ here → IsUtf8 here → here ≡ encode_utf8 c ++ later → IsBoundary v form c → BeginsAtBoundary v form (chars rest)
 begins-first v form rest here later c same utf8 parts at = subst (BeginsAtBoundary v form) (sym (ap chars same ∙ chars_past_char here later c utf8 parts)) at
-
-pub begins-end : (v : VersionData) (form : Form) (rest here : List ℕ) → rest ≡ here → length here ≡ 0 → BeginsAtBoundary v form (chars rest)
-begins-end v form rest here same none = subst (BeginsAtBoundary v form) (sym (ap chars (same ∙ nil_from_length here none) ∙ chars-nil)) tt
 
 -- ---- a non-starter for which nothing is lent has no mapping
 
@@ -214,3 +215,69 @@ module _ (v u : VersionData) (same : u ≡ v) (lists : FullLists) (blocks : List
         walk = subst (λ x. Walks (MayFollow x form) None 0 are.front are.end) same (Walks-weaker (Follows u least blocks steps form) (MayFollow u form) (follows_is least) None 0 are.end are.front are.walk);
         place = are.place;
       }
+
+-- ---- ASCII that stays under every form is assigned
+
+module _ (v u : VersionData) (same : u ≡ v) (lists : FullLists) (blocks : List ℕ) (words : List Word) (pages : ArePages u lists blocks words) (steps : List ℕ) (are_steps : steps ≡ all_steps words) (form : Form) (ascii : IsAsciiStaying blocks steps) where
+  -- its step is that of what stays
+  ascii_step : (c : ℕ) → c < 128 → step_of form (get_or words (word_place blocks c) no_word) ≡ 255
+  ascii_step c lt = sym (step_read v u same lists blocks words pages steps are_steps form c (omega (arith, lt))) ∙ ap (step_in form) (ascii c lt) ∙ staying_step form
+
+  pub ascii-assigned : (c : ℕ) → c < 128 → is_assigned v c ≡ true
+  ascii-assigned c lt =
+      let w = get_or words (word_place blocks c) no_word in
+      subst (λ x. is_assigned x c ≡ true) same (sym (pages.each c (omega (arith, lt))).assigned ∙ step_assigned form w (omega (arith, ascii_step c lt)))
+
+  pub ascii-stays : (c : ℕ) → c < 128 → IsYesStarter v form c
+  ascii-stays c lt =
+      let w = get_or words (word_place blocks c) no_word in
+      subst (λ x. IsYesStarter x form c) same ((pages.each c (omega (arith, lt))).hints.stays form (step_stays form w (ascii_step c lt)))
+
+-- ---- code points that go into nothing behind the one before
+
+last_behind-more : (before : Option ℕ) (xs : List ℕ) (c : ℕ) → last_behind before (xs ++ c ∷ []) ≡ Some c
+last_behind-more before [] c = refl
+last_behind-more before (x ∷ xs) c = last_behind-more (Some x) xs c
+
+-- the last code point of a text
+pub last_behind-text : (s earlier : List ℕ) (c : ℕ) → s ≡ earlier ++ encode_utf8 c → IsUtf8 s → IsUtf8 earlier → last_behind None (chars s) ≡ Some c
+last_behind-text s earlier c e utf8 of_earlier =
+    let n = length earlier in
+    let back = encode_utf8 c in
+    let at = IsCharBoundary-from_take s n utf8 (omega (arith, ap length e, length-append earlier back)) (subst IsUtf8 (sym (ap (take n) e ∙ take_at earlier back n refl)) of_earlier) in
+    let tail : IsUtf8 back = subst IsUtf8 (ap (drop n) e ∙ drop_at earlier back n refl) (IsUtf8-drop s n utf8 at) in
+    let one : chars back ≡ c ∷ [] = chars_past_char back [] c tail (sym (append-nil back)) ∙ ap (λ l. c ∷ l) chars-nil in
+    ap (last_behind None) (ap chars e ∙ chars-append earlier back of_earlier ∙ ap (λ l. chars earlier ++ l) one) ∙ last_behind-more None (chars earlier) c
+
+module _ (v : VersionData) (lists : FullLists) (blocks : List ℕ) (words : List Word) (pages : ArePages v lists blocks words) where
+  word-read : (c : ℕ) → c < 0x110000 → (w : Word) → w ≡ get_or words (word_place blocks c) no_word → IsWord v lists c w
+  word-read c lt w is = subst (IsWord v lists c) (sym is) (pages.each c lt)
+
+  -- what has no slot and is no syllable has no mapping
+  final-read : (compat : Bool) (c : ℕ) (w : Word) → IsWord v lists c w → w.fulls ≡ 0 → is_syllable c ≡ false → is_final v compat c ≡ true
+  final-read compat c w word fulls plain =
+      final-lent v compat c (sym (word.slot.lent compat) ∙ ap (λ k. get_or (of_kind compat lists) k []) fulls ∙ pages.none compat) (and_right (has_hangul v) (is_syllable c) plain)
+
+  -- what the word of the code point before tells is so
+  stands-read : (form : Form) (kept c : ℕ) (before w : Word) → IsWord v lists kept before → IsWord v lists c w → IsKeptApart v kept before c w.class → StandsApart v form kept c
+  stands-read form kept c before w of_before of_c apart =
+      elim apart [
+        | inl blocks ↦ inl (omega (arith, of_before.class, blocks.0), omega (arith, of_before.class, of_c.class, blocks.1))
+        | inr pair ↦ inr (sym of_before.class ∙ pair.0, final-read (is_compat form) kept before of_before pair.1 pair.2, pair.3)
+      ]
+
+  pub passes_apart : (form : Form) (front : List ℕ) (kept c low next : ℕ) → kept < 0x110000 → c < 0x110000 → (before w : Word) → before ≡ get_or words (word_place blocks kept) no_word → w ≡ get_or words (word_place blocks c) no_word
+      → w.fulls ≡ 0 → not w.assigned ≡ false → is_syllable c ≡ false → last_behind None front ≡ Some kept → IsKeptApart v kept before c w.class → (w.class ≡ 0) ⊎ (low ≤ w.class) → w.class ≤ next → PassesApart v form front c low next
+  passes_apart form front kept c low next of_kept of_c before w is_before is fulls assigned plain behind apart order le last up_to =
+      let word = word-read c of_c w is in
+      let stands = stands-read form kept c before w (word-read kept of_kept before is_before) word apart in (
+        class_of v c,
+        omega (arith, word.class, le),
+        (
+          final-read (is_compat form) c w word fulls plain,
+          refl,
+          (elim order [ inl starter ↦ inl (sym word.class ∙ starter) | inr above ↦ inr (omega (arith, word.class, above, up_to)) ]),
+          (kept, behind, stands),
+          sym word.assigned ∙ not-false w.assigned assigned,
+        ),
+      )

@@ -1,14 +1,8 @@
 -- What a step says of its word.
 use Rattle.std.proofs.Common.{◌≡◌, ℕ, ◌/◌, ◌<◌, ◌≤◌, ◌⊎◌, ◌&&◌, ◌||◌, ◌==◌, Bool, true, false, not, nat_lt, List, refl, sym, ap, ◌∙◌, arith, inl, inr}
-use Rattle.std.proofs.lemmas.Bool.{and_parts, cases_Bool, cond-false, cond-true, eqb-false, eqb-true, ltb-true}
-use Rattle.np_code_points.specs.declared.forms.Form.{Form}
-use Rattle.np_code_points.specs.declared.forms.Form.TheVariants.{Nfd, Nfc, Nfkd, Nfkc}
-use Rattle.np_code_points.specs.Forms.{composes}
-use Rattle.np_tables.specs.declared.page_words.Word.{Word}
-use Rattle.np_tables.specs.inside.PageHints.{has_bit, stays_place}
-use Rattle.np_tables.specs.inside.PageWords.{StepFollows}
-use Rattle.np_tables.specs.inside.Pages.{AreWithin, word_place}
-use Rattle.np_tables.specs.inside.Steps.{assigned_step, low_behind, step_in, step_of, steps_of}
+use Rattle.np_tables.proofs.Words.{and_parts, cases_Bool, cond-false, cond-true, eqb-true, ltb-true, Form, Nfd, Nfc}
+use Rattle.np_tables.proofs.Words.{Nfkd, Nfkc, composes, Word, has_bit, stays_place, AreWithin, word_place}
+use Rattle.np_tables.proofs.Words.{assigned_step, step_in, step_of, steps_of}
 
 pub staying_step : (form : Form) → step_in form 0xFFFFFFFF ≡ 255
 staying_step Nfd = refl
@@ -125,15 +119,3 @@ unfolding word_place
 place-within blocks words within c lt = omega (arith, lt, within.each (c / 256) (omega (arith, lt)))
 
 -- ---- the least step that may follow
-
--- a step that is no less leads to a class that is no greater than the next least step
-pub step_onward : (least step low last : ℕ) → 1 ≤ least → last ≤ low → least ≤ low → low ≤ step → step ≤ 255 → (n : ℕ) × (n ≤ low_behind least step) × (least ≤ low_behind least step) × StepFollows step last n
-step_onward least step low last one behind some le top =
-    elim (cases_Bool (step == 255)) [
-      | inl own ↦
-          let next : low_behind least step ≡ least = cond-true _ _ _ own in
-          (least, omega (arith, next), omega (arith, next), inl (eqb-true step 255 own))
-      | inr other ↦
-          let next : low_behind least step ≡ step = cond-false _ _ _ other in
-          (step, omega (arith, next), omega (arith, next, some, le), inr (omega (arith, one, some, le), omega (arith, eqb-false step 255 other, top), refl, omega (arith, behind, le)))
-    ]

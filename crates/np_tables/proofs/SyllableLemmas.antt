@@ -1,16 +1,16 @@
 -- The marks of the syllables of the Hangul arithmetic.
-use Rattle.std.proofs.Common.{◌≡◌, ℕ, zero, suc, ◌+◌, ◌-◌, ◌%◌, ◌≤◌, true, false, [], ◌∷◌, ◌++◌, flat_map, length, refl, sym, ap, ◌∙◌, inl, inr, arith, leb, ◌==◌, cond}
-use Rattle.std.proofs.lemmas.Bool.{cond-true, cond-false, cond_both, cases_Bool, and_from, and_left, le-leb, eqb-true, eqb-false}
-use Rattle.std.specs.List.{list_all}
-use Rattle.np_ucd.specs.Entries.{AreRows}
-use Rattle.np_code_points.specs.Hangul.{is_syllable, syllable_pair}
-use Rattle.np_tables.specs.Versions.{VersionData, file_mapping, has_hangul, decomposition_mapping}
-use Rattle.np_tables.specs.Mappings.{has_depth}
-use Rattle.np_tables.specs.inside.FullDecompositions.{full}
-use Rattle.np_tables.specs.inside.Depths.{marked, mark, parts_mark, mapping_mark, syllable_depth, syllable_mark}
+use Rattle.std.proofs.Common.{◌≡◌, ℕ, zero, suc, ◌+◌, ◌-◌, ◌%◌, ◌≤◌, true, false, [], ◌∷◌, ◌++◌, flat_map, length, refl, sym, ap, ◌∙◌, inl, inr, arith, leb, ◌==◌, cond, ◌≢◌, ◌<◌, ◌&&◌, List, Option, Some, None, subst, eqb, ◌⊎◌, Bool}
+use Rattle.np_tables.proofs.Words.{cond-true, cond-false, cond_both, cases_Bool, and_from, and_left, le-leb, eqb-true}
+use Rattle.np_tables.proofs.Words.{eqb-false, and_parts, eq-eqb, and_right, both_ways, leb-true, lt-leb, list_all}
+use Rattle.np_tables.proofs.Words.{AreRows, Entry, IsBefore, is_syllable, syllable_pair, VersionData, file_mapping}
+use Rattle.np_tables.proofs.Words.{has_hangul, decomposition_mapping, entry_at, mapping_in, has_depth, full, marked}
+use Rattle.np_tables.proofs.Words.{mark, parts_mark, mapping_mark, syllable_depth, syllable_mark, row_marks, first_row}
+use Rattle.np_tables.proofs.Words.{is_marked, IsTooDeep, IsTooLong, IsFirst}
+use Rattle.std.specs.Cmp.Lexicographic.{pointwise}
 use Rattle.np_tables.proofs.HangulLemmas.{decomposition_mapping-on, hangul_parts, IsLv, jamo_bare, lv_shape, lvt_shape, shape_of, syllable_row}
-use Rattle.np_tables.proofs.MappingLemmas.{is_empty-true}
-use Rattle.np_tables.proofs.DepthLemmas.{bare_depth, bare_full, parts-mapping, suc_depth, suc_full, zero_depth, mark-mapping}
+use Rattle.np_tables.proofs.MappingLemmas.{is_empty-true, decomposes_full, full-only}
+use Rattle.np_tables.proofs.DepthLemmas.{bare_depth, bare_full, parts-mapping, suc_depth, suc_full, zero_depth, mark-mapping, mark-file, marks-from_rows, settled_rows, mark-zero, mark-more, mark-deep, mark-length}
+use Rattle.np_tables.proofs.RowLemmas.{entry_at-row, entry_at-within, entry_at-hit, entry_at-miss, entry_at-nil}
 
 -- ---- syllables have no mapping in the file
 
@@ -130,3 +130,249 @@ module _ (v : VersionData) (rows : AreRows v.entries) (on : has_hangul v ≡ tru
   -- from round 2 on
   pub mark-syllable_still : (n c : ℕ) → is_syllable c ≡ true → 2 ≤ n → mark v (suc n) c ≡ mark v n c
   mark-syllable_still n c h late = mark-syllable (suc n) c h ∙ syllable_mark-still n c late ∙ sym (mark-syllable n c h)
+
+-- ---- the marks of the last round tell what is too deep and what is too long
+
+-- ---- the first row with a mark has the least code point with it
+
+-- ---- the first row that passes
+
+-- a row that passes, found at its own first code point
+pub record IsAt (p : Entry → Bool) (es : List Entry) (c : ℕ) : Type 0 where
+  pub row : Entry
+  pub found : entry_at es c ≡ Some row
+  pub passes : p row ≡ true
+  pub first : row.first ≡ c
+
+-- the rows begin above a
+abbrev IsAbove : ℕ → List Entry → Type 0
+IsAbove a [] = Unit {0}
+IsAbove a (e ∷ es) = a < e.first
+
+above_from : (a b : ℕ) (es : List Entry) → a ≤ b → IsAbove b es → IsAbove a es
+above_from a b [] le h = tt
+above_from a b (e ∷ es) le h = omega arith
+
+above_before : (e : Entry) (es : List Entry) → IsBefore e es → IsAbove e.last es
+above_before e [] h = tt
+above_before e (f ∷ fs) h = h
+
+above_next : (e : Entry) (es : List Entry) (a : ℕ) → AreRows (e ∷ es) → a < e.first → IsAbove a es
+above_next e es a rows h =
+    let rises = rows.0.rises in above_from a e.last es (omega arith) (above_before e es rows.1)
+
+-- what is found lies above every row before it
+entry_at-above : (es : List Entry) (a c : ℕ) (r : Entry) → AreRows es → IsAbove a es → entry_at es c ≡ Some r → a < c
+entry_at-above [] a c r rows above found = let none = entry_at-nil c in cc
+entry_at-above (e ∷ es) a c r rows above found =
+    elim (cases_Bool (leb e.first c && leb c e.last)) [
+      | inl here ↦ let low = leb-true e.first c (and_parts _ _ here).0 in omega arith
+      | inr later ↦
+          entry_at-above es a c r rows.2 (above_next e es a rows above) (sym (entry_at-miss e es c later) ∙ found)
+    ]
+
+pub first_row-hit : (p : Entry → Bool) (e : Entry) (es : List Entry) → p e ≡ true → first_row p (e ∷ es) ≡ Some e.first
+unfolding first_row
+first_row-hit p e es h = cond-true _ _ _ h
+
+pub first_row-miss : (p : Entry → Bool) (e : Entry) (es : List Entry) → p e ≡ false → first_row p (e ∷ es) ≡ first_row p es
+unfolding first_row
+first_row-miss p e es h = cond-false _ _ _ h
+
+pub first_row-nil : (p : Entry → Bool) → first_row p [] ≡ None
+unfolding first_row
+first_row-nil p = refl
+
+module _ (p : Entry → Bool) where
+  is_at-later : (e : Entry) (es : List Entry) (c : ℕ) → AreRows (e ∷ es) → IsAt p es c → IsAt p (e ∷ es) c
+  is_at-later e es c rows is =
+      let over = entry_at-above es e.last c is.row rows.2 (above_before e es rows.1) is.found in
+      record {
+        row = is.row;
+        found = entry_at-miss e es c (and_right _ _ (lt-leb c e.last over)) ∙ is.found;
+        passes = is.passes;
+        first = is.first;
+      }
+
+  is_at-here : (e : Entry) (es : List Entry) (c : ℕ) → AreRows (e ∷ es) → p e ≡ true → e.first ≡ c → IsAt p (e ∷ es) c
+  is_at-here e es c rows h same =
+      let rises = rows.0.rises in
+      record {
+        row = e;
+        found = entry_at-hit e es c (and_from _ _ (le-leb e.first c (omega arith)) (le-leb c e.last (omega arith)));
+        passes = h;
+        first = same;
+      }
+
+  some_first : (a b : ℕ) (o : Option ℕ) → o ≡ Some a → o ≡ Some b → a ≡ b
+  some_first a b o h k = cc
+
+  first_row-at : (es : List Entry) (c : ℕ) → AreRows es → first_row p es ≡ Some c → IsAt p es c
+  first_row-at [] c rows h = let none = first_row-nil p in absurd (cc)
+  first_row-at (e ∷ es) c rows h =
+      elim (cases_Bool (p e)) [
+        | inl hit ↦ is_at-here e es c rows hit (some_first e.first c _ (first_row-hit p e es hit) h)
+        | inr miss ↦ is_at-later e es c rows (first_row-at es c rows.2 (sym (first_row-miss p e es miss) ∙ h))
+      ]
+
+  -- whatever passes is no smaller than the answer, which there is
+  abbrev IsUpTo : Option ℕ → ℕ → Type 0
+  IsUpTo None d = ⊥
+  IsUpTo (Some c) d = c ≤ d
+
+  at_least : (e : Entry) (es : List Entry) (d : ℕ) → AreRows (e ∷ es) → IsAt p (e ∷ es) d → e.first ≤ d
+  at_least e es d rows is =
+      elim (cases_Bool (leb e.first d && leb d e.last)) [
+        | inl here ↦ leb-true e.first d (and_parts _ _ here).0
+        | inr later ↦
+            let rises = rows.0.rises in
+            let over = entry_at-above es e.last d is.row rows.2 (above_before e es rows.1) (sym (entry_at-miss e es d later) ∙ is.found) in
+            omega arith
+      ]
+
+  same_row : (e r : Entry) (o : Option Entry) → o ≡ Some e → o ≡ Some r → e ≡ r
+  same_row e r o h k = cc
+
+  is_later : (e : Entry) (es : List Entry) (d : ℕ) → p e ≡ false → IsAt p (e ∷ es) d → IsAt p es d
+  is_later e es d miss is =
+      elim (cases_Bool (leb e.first d && leb d e.last)) [
+        | inl here ↦ absurd (both_ways _ miss (ap p (same_row e is.row _ (entry_at-hit e es d here) is.found) ∙ is.passes))
+        | inr later ↦ record { row = is.row; found = sym (entry_at-miss e es d later) ∙ is.found; passes = is.passes; first = is.first }
+      ]
+
+  first_row-least : (es : List Entry) (d : ℕ) → AreRows es → IsAt p es d → IsUpTo (first_row p es) d
+  first_row-least [] d rows is = let none = entry_at-nil d in let some = is.found in absurd (cc)
+  first_row-least (e ∷ es) d rows is =
+      elim (cases_Bool (p e)) [
+        | inl hit ↦ subst (λ o. IsUpTo o d) (sym (first_row-hit p e es hit)) (at_least e es d rows is)
+        | inr miss ↦ subst (λ o. IsUpTo o d) (sym (first_row-miss p e es miss)) (first_row-least es d rows.2 (is_later e es d miss is))
+      ]
+
+  pub first_of : (es : List Entry) → AreRows es → (o : Option ℕ) → first_row p es ≡ o → IsFirst (IsAt p es) o
+  first_of es rows None h = λ c is. subst (λ o. IsUpTo o c) h (first_row-least es c rows is)
+  first_of es rows (Some c) h =
+      record {
+        holds = first_row-at es c rows h;
+        least = λ d is. subst (λ o. IsUpTo o d) h (first_row-least es d rows is);
+      }
+
+-- ---- the last round
+
+module _ (v : VersionData) (rows : AreRows v.entries) where
+  still : (n c : ℕ) → 2 ≤ n → row_marks v (suc n) ≡ row_marks v n → mark v (suc n) c ≡ mark v n c
+  still n c late same =
+      elim (cases_Bool (has_hangul v && is_syllable c)) [
+        | inl hangul ↦ let halves = and_parts _ _ hangul in mark-syllable_still v rows halves.0 n c halves.1 late
+        | inr other ↦ marks-from_rows v rows (suc n) n c same other
+      ]
+
+  pub settled : (n : ℕ) → 2 ≤ n → n < 32 → row_marks v (suc n) ≡ row_marks v n → row_marks v (suc n) ≡ row_marks v 32
+  settled n late early same = sym (settled_rows v n (λ c. still n c late same) 31 (omega arith))
+
+  same_items : (xs ys : List ℕ) → pointwise eqb xs ys ≡ true → xs ≡ ys
+  same_items [] [] h = refl
+  same_items [] (y ∷ ys) h = cc
+  same_items (x ∷ xs) [] h = cc
+  same_items (x ∷ xs) (y ∷ ys) h =
+      let halves = and_parts (eqb x y) (pointwise eqb xs ys) h in
+      ap (λ k. k ∷ xs) (eqb-true x y halves.0) ∙ ap (λ l. y ∷ l) (same_items xs ys halves.1)
+
+  -- the same as a loop finds it: the lists that it compares are the marks of two rounds
+  pub settled_at : (n : ℕ) (next last xs ys : List ℕ) → 2 ≤ n → n < 32 → next ≡ row_marks v (n + 1) → last ≡ row_marks v n → xs ≡ next → ys ≡ last → pointwise eqb xs ys ≡ true → next ≡ row_marks v 32
+  settled_at n next last xs ys late early is_next is_last is_xs is_ys same =
+      let after : n + 1 ≡ suc n = omega arith in
+      let marks = is_next ∙ ap (row_marks v) after in
+      marks ∙ settled n late early (sym marks ∙ sym is_xs ∙ same_items xs ys same ∙ is_ys ∙ is_last)
+
+-- ---- a mark other than those of a code point without a mapping and of a syllable is that of a row
+
+pub record IsTelling (m : ℕ) : Type 0 where
+  pub no_bare : 1 ≢ m
+  pub no_syllable : (m ≡ 0) ⊎ (3 < m)
+
+bare_one : (v : VersionData) (n : ℕ) → mapping_mark v n [] ≡ 1
+unfolding mapping_mark
+bare_one v n = refl
+
+IsFirst-along : (P Q : ℕ → Type 0) → ((c : ℕ) → P c → Q c) → ((c : ℕ) → Q c → P c) → (o : Option ℕ) → IsFirst P o → IsFirst Q o
+IsFirst-along P Q there back None h = λ c q. h c (back c q)
+IsFirst-along P Q there back (Some c) h = record { holds = there c h.holds; least = λ d q. h.least d (back d q) }
+
+module _ (v : VersionData) (rows : AreRows v.entries) (n m : ℕ) (late : 2 ≤ n) (telling : IsTelling m) where
+  marked_nonempty : (xs : List ℕ) → mapping_mark v n xs ≡ m → xs ≢ []
+  marked_nonempty xs h e = telling.no_bare (sym (bare_one v n) ∙ sym (ap (mapping_mark v n) e) ∙ h)
+
+  no_syllable : (c : ℕ) → mark v n c ≡ m → (has_hangul v && is_syllable c) ≡ true → ⊥
+  no_syllable c h hangul =
+      let halves = and_parts _ _ hangul in
+      let value = sym (mark-syllable v rows halves.0 n c halves.1 ∙ syllable_mark-late n c late) ∙ h in
+      let two = depth_two c in
+      elim telling.no_syllable [ inl none ↦ omega arith | inr more ↦ omega arith ]
+
+  row_found : (c : ℕ) (o : Option Entry) → entry_at v.entries c ≡ o → mapping_mark v n (mapping_in o) ≡ m → IsAt (is_marked v n m) v.entries c
+  row_found c None found h = absurd (marked_nonempty [] h refl)
+  row_found c (Some e) found h =
+      let row = entry_at-row v.entries c e rows found in
+      let within = entry_at-within v.entries c e found in
+      let alone = row.alone (marked_nonempty e.mapping h) in
+      record { row = e; found = found; passes = eq-eqb _ m h; first = omega arith }
+
+  pub at_row : (c : ℕ) → mark v n c ≡ m → IsAt (is_marked v n m) v.entries c
+  at_row c h =
+      elim (cases_Bool (has_hangul v && is_syllable c)) [
+        | inl hangul ↦ absurd (no_syllable c h hangul)
+        | inr other ↦ row_found c _ refl (sym (mark-file v rows n c other) ∙ h)
+      ]
+
+  file_in : (c : ℕ) (e : Entry) → entry_at v.entries c ≡ Some e → file_mapping v c ≡ e.mapping
+  unfolding file_mapping
+  file_in c e found = ap mapping_in found
+
+  pub from_row : (c : ℕ) → IsAt (is_marked v n m) v.entries c → mark v n c ≡ m
+  from_row c is =
+      let value = eqb-true _ m is.passes in
+      elim (cases_Bool (has_hangul v && is_syllable c)) [
+        | inl hangul ↦
+            let halves = and_parts _ _ hangul in
+            absurd (marked_nonempty is.row.mapping value (sym (file_in c is.row is.found) ∙ syllable-bare v c halves.0 halves.1))
+        | inr other ↦ mark-file v rows n c other ∙ ap (λ o. mapping_mark v n (mapping_in o)) is.found ∙ value
+      ]
+
+  first_marked : IsFirst (λ c. mark v n c ≡ m) (first_row (is_marked v n m) v.entries)
+  first_marked =
+      IsFirst-along (IsAt (is_marked v n m) v.entries) (λ c. mark v n c ≡ m) from_row at_row _
+      (first_of (is_marked v n m) v.entries rows _ refl)
+
+-- ---- what the marks 0 and 65 of the last round tell
+
+too_deep-mark : (v : VersionData) (c : ℕ) → mark v 32 c ≡ 0 → IsTooDeep v c
+too_deep-mark v c h = record { deep = mark-zero v 32 c h }
+
+mark-too_deep : (v : VersionData) (c : ℕ) → IsTooDeep v c → mark v 32 c ≡ 0
+mark-too_deep v c is = mark-deep v 32 c is.deep
+
+too_long-mark : (v : VersionData) (c : ℕ) → mark v 32 c ≡ 65 → IsTooLong v c
+too_long-mark v c h =
+    let shallow = mark-more v 32 c (omega arith) in
+    let length_is = mark-length v 32 c shallow in
+    record { shallow = shallow; full = full v true 32 c; decomposes = decomposes_full v true 32 c shallow; long = omega arith }
+
+mark-too_long : (v : VersionData) (c : ℕ) → IsTooLong v c → mark v 32 c ≡ 65
+mark-too_long v c is =
+    let length_is = mark-length v 32 c is.shallow in
+    let same = ap length (full-only v true 32 c is.full is.shallow is.decomposes) in
+    let long = is.long in
+    omega arith
+
+module _ (v : VersionData) (rows : AreRows v.entries) where
+  pub first_too_deep : (o : Option ℕ) → o ≡ first_row (is_marked v 32 0) v.entries → IsFirst (IsTooDeep v) o
+  first_too_deep o h =
+      subst (IsFirst (IsTooDeep v)) (sym h)
+      (IsFirst-along _ (IsTooDeep v) (too_deep-mark v) (mark-too_deep v) _
+      (first_marked v rows 32 0 (omega arith) (record { no_bare = λ h. absurd (omega arith); no_syllable = inl refl })))
+
+  pub first_too_long : (o : Option ℕ) → o ≡ first_row (is_marked v 32 65) v.entries → IsFirst (IsTooLong v) o
+  first_too_long o h =
+      subst (IsFirst (IsTooLong v)) (sym h)
+      (IsFirst-along _ (IsTooLong v) (too_long-mark v) (mark-too_long v) _
+      (first_marked v rows 32 65 (omega arith) (record { no_bare = λ h. absurd (omega arith); no_syllable = inr (omega arith) })))

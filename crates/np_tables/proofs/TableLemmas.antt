@@ -1,20 +1,10 @@
 -- What the plain table answers.
 use Rattle.std.proofs.Common.{◌≡◌, ℕ, zero, suc, ◌<◌, Bool, true, false, ◌&&◌, List, [], ◌∷◌, length, map, get_or, Some, None, Option, IfSome, IfNone, refl, sym, ap, subst, ◌∙◌, arith, inl, inr}
-use Rattle.std.specs.List.{slice_get}
-use Rattle.std.proofs.lemmas.Bool.{cases_Bool, cond-true, cond-false, or_from, or_left, or_right}
-use Rattle.std.proofs.lemmas.List.{get_or-map}
-use Rattle.std.proofs.lemmas.Option.{get_or_from_slice_get}
-use Rattle.np_ucd.specs.Entries.{Entry, AreRows}
-use Rattle.np_code_points.specs.Hangul.{is_syllable, syllable_pair}
-use Rattle.np_tables.specs.Versions.{VersionData, entry_at, file_mapping, mapping_in, is_empty, has_hangul}
-use Rattle.np_tables.specs.Mappings.{is_final, IsLent, IsFullDecomposition}
-use Rattle.np_tables.specs.inside.FullDecompositions.{table_full}
-use Rattle.np_tables.specs.Composites.{IsCompositeOf}
-use Rattle.np_tables.specs.inside.CompositeSearch.{composite}
-use Rattle.np_tables.specs.Conditions.{IsSound}
-use Rattle.np_tables.specs.declared.pairs.Composite.{Composite}
-use Rattle.np_tables.specs.inside.Pairs.{Lists, AreOfFile}
-use Rattle.np_tables.specs.inside.FullLists.{FullLists, of_kind, row_full, AreFulls}
+use Rattle.np_tables.proofs.Words.{slice_get, cases_Bool, cond-true, cond-false, or_from, or_left, or_right, get_or-map}
+use Rattle.np_tables.proofs.Words.{get_or_from_slice_get, Entry, AreRows, is_syllable, syllable_pair, VersionData}
+use Rattle.np_tables.proofs.Words.{entry_at, file_mapping, mapping_in, is_empty, has_hangul, is_final, IsLent}
+use Rattle.np_tables.proofs.Words.{IsFullDecomposition, table_full, IsCompositeOf, composite, IsSound, Composite, Lists}
+use Rattle.np_tables.proofs.Words.{AreOfFile, FullLists, of_kind, row_full, AreFulls}
 use Rattle.np_tables.proofs.RowLemmas.{at-row, entry_at-within}
 use Rattle.np_tables.proofs.MappingLemmas.{IsFullDecomposition-full_of, full_of-only, is_empty-false}
 use Rattle.np_tables.proofs.CompositeLemmas.{cases_Option, composite-some, composite_from}

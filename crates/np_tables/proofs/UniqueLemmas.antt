@@ -1,11 +1,8 @@
 -- At most one full decomposition: two rewritings of one list meet again, so none is lost by another.
 use Rattle.std.proofs.Common.{◌≡◌, ℕ, zero, suc, ◌⊎◌, Bool, true, List, [], ◌∷◌, ◌++◌, refl, sym, ap, subst, ◌∙◌, inl, inr, append_assoc}
-use Rattle.std.proofs.lemmas.Bool.{and_parts}
-use Rattle.std.specs.List.{list_all}
+use Rattle.np_tables.proofs.Words.{and_parts, list_all, AtMostOneDecomposition, parts, Rewrites, is_final, VersionData}
+use Rattle.np_tables.proofs.Words.{is_empty}
 use Rattle.np_code_points.specs.Steps.{ReachesIn}
-use Rattle.np_tables.specs.Laws.{AtMostOneDecomposition}
-use Rattle.np_tables.specs.Mappings.{parts, Rewrites, is_final}
-use Rattle.np_tables.specs.Versions.{VersionData, is_empty}
 
 -- ---- two places of one list
 

@@ -1,12 +1,11 @@
 -- What a table of pages keeps of each form for a code point: whether the form parts there, and whether it leaves it as it is.
-use Rattle.std.specs.Prelude.{◌≡◌, ℕ, ◌+◌, ◌*◌, ◌/◌, ◌%◌, ◌^◌, ◌<◌, ◌==◌, ◌&&◌, nat_le, Bool, true, false, List, [], ◌∷◌, Some}
+use Rattle.std.specs.Prelude.{◌≡◌, ℕ, ◌+◌, ◌*◌, ◌/◌, ◌%◌, ◌^◌, ◌<◌, ◌==◌, ◌&&◌, nat_le, Bool, true, false, List, [], ◌∷◌}
 use Rattle.np_code_points.specs.declared.forms.Form.{Form}
 use Rattle.np_code_points.specs.Forms.{is_compat, composes}
 use Rattle.np_code_points.specs.declared.forms.Form.TheVariants.{Nfd, Nfc, Nfkd, Nfkc}
-use Rattle.np_ucd.specs.Entries.{Entry}
 use Rattle.np_tables.specs.Boundaries.{IsBoundary, IsYesStarter}
 use Rattle.np_tables.specs.Composites.{IsCompositeOf}
-use Rattle.np_tables.specs.Versions.{VersionData, entry_at}
+use Rattle.np_tables.specs.Versions.{VersionData}
 use Rattle.np_tables.specs.declared.page_hints.Hints.{Hints}
 use Rattle.np_tables.specs.declared.pairs.Composite.{Composite}
 use Rattle.np_tables.specs.inside.Pairs.{Lists}
@@ -42,21 +41,9 @@ pub record AreHints (v : VersionData) (compat : Bool) (c : ℕ) (h : Hints) : Ty
 abbrev pub own_hints : ℕ → Bool → Hints
 own_hints class apart = record { parts = class == 0; parts_composing = class == 0 && apart; stays = class == 0; stays_composing = class == 0 && apart }
 
--- nothing is known
-abbrev pub no_hints : Hints
-no_hints = record { parts = false; parts_composing = false; stays = false; stays_composing = false }
-
--- that only decomposes parts there
-abbrev pub parting_hints : Hints
-parting_hints = record { parts = true; parts_composing = false; stays = false; stays_composing = false }
-
 -- of a syllable of the arithmetic: it begins with a leading consonant, and comes back where the form composes
 abbrev pub syllable_hints : Hints
 syllable_hints = record { parts = true; parts_composing = true; stays = false; stays_composing = true }
-
--- the same of each code point of a row
-abbrev pub AreRowHints : VersionData → Bool → Entry → Hints → Type 0
-AreRowHints v compat e h = (c : ℕ) → entry_at v.entries c ≡ Some e → AreHints v compat c h
 
 -- a starter and the code points behind it compose by a list of composites, one after the other, and in the end there is c
 abbrev pub FoldsBy : List Composite → ℕ → List ℕ → ℕ → Type 0

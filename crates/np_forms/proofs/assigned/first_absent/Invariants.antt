@@ -1,6 +1,5 @@
 use Rattle.std.proofs.Common.{length}
-use Rattle.std.specs.Str.Iter.{chars_rest}
-use Rattle.np_forms.specs.inside.Readings.{IsReadAssigned}
+use Rattle.np_forms.proofs.Words.{chars_rest, IsReadAssigned}
 use Rattle.np_forms.proofs.assigned.first_absent.Given as goal
 
 abbrev pub invariant-scan : goal.invariant-scan

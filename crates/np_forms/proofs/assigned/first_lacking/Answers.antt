@@ -9,10 +9,8 @@ returns-in_default-clause-none g c =
 
 pub returns-then-not-assigned-clause-some : goal.returns-then-not-assigned-clause-some
 returns-then-not-assigned-clause-some g c =
-    let v = g.T.NormTable.model c.args.table.now in
-    let here = c.as_str-here.ensures in
-    let stop = IsReadAssigned-stop v c.args.text.now (chars_rest c.scan.iter) c.in-Some.c (chars_rest c.next.new.self) c.scan.invariant c.in-Some.ensures.steps.0 (sym c.assigned.ensures ∙ c.if-not-assigned.true) in
-    rw here stop
+    let stop = IsReadAssigned-stop _ c.args.text.now (chars_rest c.scan.iter) c.in-Some.c (chars_rest c.next.new.self) c.scan.invariant c.in-Some.ensures.steps.0 (sym c.assigned.ensures ∙ c.if-not-assigned.true) in
+    rw c.as_str-here.ensures stop
 
 pub scan-preserved : goal.scan-preserved
 scan-preserved g c =

@@ -1,17 +1,14 @@
 use Rattle.std.proofs.Common.{sym, ap, subst, take, ◌∙◌, arith}
-use Rattle.std.proofs.lemmas.List.{drop_all}
-use Rattle.np_forms.specs.inside.Classes.{codes_of}
-use Rattle.np_forms.specs.inside.Composers.{IsComposing}
+use Rattle.np_forms.proofs.Words.{drop_all, codes_of, IsComposing}
 use Rattle.np_forms.proofs.ClassLemmas.{no_codes}
 use Rattle.np_forms.proofs.ComposerLemmas.{IsComposing-end}
 use Rattle.np_forms.proofs.composing.compose.Goals as goal
 
 pub returns : goal.returns
 returns g c = λ cs is ordered.
-    let v = g.T.NormTable.model c.args.table.now in
     let composer = c.loop-at.composer in
     let a = c.loop-at.invariant.0 cs is ordered in
-    let none = no_codes v a.rest (sym (drop_all c.loop-at.at composer.list.items (omega arith)) ∙ a.left) in
+    let none = no_codes _ a.rest (sym (drop_all c.loop-at.at composer.list.items (omega arith)) ∙ a.left) in
     ap codes_of c.truncate.ensures.items
-    ∙ IsComposing-end v cs (codes_of (take composer.kept composer.list.items)) composer.starter composer.last
-    (subst (IsComposing v cs (codes_of (take composer.kept composer.list.items)) composer.starter composer.last) none a.composing)
+    ∙ IsComposing-end _ cs (codes_of (take composer.kept composer.list.items)) composer.starter composer.last
+    (subst (IsComposing _ cs (codes_of (take composer.kept composer.list.items)) composer.starter composer.last) none a.composing)

@@ -1,8 +1,5 @@
 use Rattle.std.proofs.Common.{◌≡◌, ◌≤◌, ℕ, List, true, length}
-use Rattle.np_forms.specs.Order.{is_ordered}
-use Rattle.np_forms.specs.inside.Classes.{with_classes}
-use Rattle.np_forms.specs.inside.InPlace.{IsInPlace}
-use Rattle.np_tables.specs.Versions.{class_of}
+use Rattle.np_forms.proofs.Words.{is_ordered, with_classes, IsInPlace, class_of}
 use Rattle.np_forms.proofs.composing.compose.Given as goal
 
 abbrev pub invariant-loop-at : goal.invariant-loop-at

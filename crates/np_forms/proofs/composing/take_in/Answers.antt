@@ -1,10 +1,6 @@
 use Rattle.std.proofs.Common.{◌<◌, ◌+◌, take, set, subst, sym, ap, ◌∙◌, arith, length, inl, inr}
-use Rattle.std.proofs.lemmas.List.{length-take-le}
-use Rattle.np_forms.specs.inside.Classes.{CodeAndClass, codes_of}
-use Rattle.np_forms.specs.inside.InPlace.{IsInPlace}
-use Rattle.np_tables.specs.Versions.{class_of}
-use Rattle.np_forms.specs.inside.Composers.{pair_with_last}
-use Rattle.np_forms.proofs.InPlaceLemmas.{in_place_joins, in_place_stays}
+use Rattle.np_forms.proofs.Words.{length-take-le, CodeAndClass, codes_of, IsInPlace, pair_with_last}
+use Rattle.np_forms.proofs.ComposerLemmas.{in_place_joins, in_place_stays}
 use Rattle.np_forms.proofs.composing.take_in.Goals as goal
 use Rattle.np_forms.proofs.composing.take_in.Goals.{then-class-eq0, else-class-eq0}
 
@@ -25,7 +21,6 @@ returns-clause-composing g c = λ whole a.
     let v = g.T.NormTable.model c.args.table.now in
     let old = c.args.composer.now in
     let x = c.index-next.result.now in
-    let list = c.deref.result.now in
     subst (IsInPlace v whole (c.args.at + 1) (set old.list.items old.kept x) (old.kept + 1) c.if-class-eq0.starter) (sym c.class-class.ensures)
     (in_place_stays v whole old.list.items old.kept c.args.at x old.starter old.last c.requires.kept (omega (arith, c.requires.place)) c.index-next.ensures a c.if-class-eq0.starter
     (elim c.if-class-eq0.branch [

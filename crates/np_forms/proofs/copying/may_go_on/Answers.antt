@@ -9,17 +9,12 @@ range-requires-clause-end_boundary g c = seam c.args.after.now c.requires.front 
 pub returns-in-None-clause-read : goal.returns-in-None-clause-read
 returns-in-None-clause-read g c = λ _ _.
     let end = c.requires in
-    let after = c.args.after.now in
     let later = c.args.later.now in
-    let is = c.range.ensures.value ∙ front_of after end.front later end.parts in
-    IsReadAssigned-front (g.T.NormTable.model c.args.table.now) after c.range.result.now later (end.parts ∙ ap (λ l. l ++ later) (sym is)) c.range.utf8 end.utf8 c.in-None.ensures.none
+    let is = c.range.ensures.value ∙ front_of _ end.front later end.parts in
+    IsReadAssigned-front (g.T.NormTable.model c.args.table.now) _ c.range.result.now later (end.parts ∙ ap (λ l. l ++ later) (sym is)) c.range.utf8 end.utf8 c.in-None.ensures.none
 
 pub returns-in-Some-clause-lacking : goal.returns-in-Some-clause-lacking
 returns-in-Some-clause-lacking g c = λ _ all.
-    let v = g.T.NormTable.model c.args.table.now in
-    let end = c.requires in
-    let after = c.args.after.now in
-    let later = c.args.later.now in
-    let is = c.range.ensures.value ∙ front_of after end.front later end.parts in
-    let parts = end.parts ∙ ap (λ l. l ++ later) (sym is) in
-    lacks-unassigned v _ _ _ c.in-Some.ensures.some (assigned-front v after c.range.result.now later c.range.utf8 parts all)
+    let is = c.range.ensures.value ∙ front_of _ c.requires.front _ c.requires.parts in
+    let parts = c.requires.parts ∙ ap (λ l. l ++ c.args.later.now) (sym is) in
+    lacks-unassigned _ _ _ _ c.in-Some.ensures.some (assigned-front _ _ c.range.result.now _ c.range.utf8 parts all)

@@ -1,7 +1,6 @@
 use Rattle.std.proofs.Common.{chars, sym, subst, ◌∙◌}
-use Rattle.np_forms.specs.Assigned.{IsAssigned}
+use Rattle.np_forms.proofs.Words.{IsAssigned, BeginsAtBoundary}
 use Rattle.np_forms.proofs.CopyLemmas.{cut_boundary, own-boundary, own-front, IsCopied-cut, IsCopied-last}
-use Rattle.np_tables.specs.Boundaries.{BeginsAtBoundary}
 use Rattle.np_forms.proofs.TextLemmas.{assigned-front}
 use Rattle.np_forms.proofs.copying.split_standing.Goals as goal
 
@@ -32,10 +31,7 @@ returns-then-parts-clause-assigned g c = λ on.
 pub returns-clause-assigned : goal.returns-clause-assigned
 returns-clause-assigned g c = λ on.
     let v = g.T.NormTable.model c.args.table.now in
-    let front = c.split_at.result.0.now in
-    let own = c.split_tail.result.0.now in
-    let part = c.split_tail.result.1.now in
     let is = c.split_at-2.ensures.front
-    ∙ own-front v c.args.form c.args.text.now c.standing-count.result.0 c.standing-count.ensures.standing front own part c.split_at.ensures.front c.utf8.text c.split_tail.ensures.front c.split_tail.ensures.back c.split_tail.ensures.parts in
+    ∙ own-front v c.args.form c.args.text.now c.standing-count.result.0 c.standing-count.ensures.standing _ _ _ c.split_at.ensures.front c.utf8.text c.split_tail.ensures.front c.split_tail.ensures.back c.split_tail.ensures.parts in
     subst (λ l. IsAssigned v (chars l)) (sym is)
-    (assigned-front v front own part c.split_tail.ensures.front c.split_tail.ensures.parts (subst (λ l. IsAssigned v (chars l)) (sym c.split_at.ensures.front) (c.standing-count.ensures.assigned on)))
+    (assigned-front v _ _ _ c.split_tail.ensures.front c.split_tail.ensures.parts (subst (λ l. IsAssigned v (chars l)) (sym c.split_at.ensures.front) (c.standing-count.ensures.assigned on)))

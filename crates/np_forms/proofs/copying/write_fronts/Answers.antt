@@ -1,7 +1,7 @@
 use Rattle.std.proofs.Common.{inl, inr, rules}
 use Rattle.std.proofs.lemmas.Bool.{both_ways, cases_Bool}
 use Rattle.np_forms.proofs.CopyLemmas.{form-end}
-use Rattle.np_forms.proofs.DecomposedLemmas.{goes-both, goes-start}
+use Rattle.np_forms.proofs.SegmentLemmas.{goes-both, goes-start}
 use Rattle.np_forms.proofs.TextLemmas.{IsReadAssigned-both, IsReadAssigned-end, IsReadAssigned-rest, IsReadAssigned-start}
 use Rattle.np_forms.proofs.copying.write_fronts.Goals as goal
 
@@ -14,15 +14,11 @@ fronts-init g c =
 
 pub fronts-preserved : goal.fronts-preserved
 fronts-preserved g c =
-    let v = g.T.NormTable.model c.args.normalizer.now.table.now in
-    let text = c.args.text.now in
-    let rest = c.fronts.rest.now in
-    let after = c.in_ok-after.after.now in
     let later = c.in_ok-after.later.now in (
-      goes-both v c.args.normalizer.now.form text rest later c.args.out.now c.fronts.out c.write_front.new.out c.fronts.invariant.0 c.in_ok-after.ensures.goes,
+      goes-both _ c.args.normalizer.now.form _ _ later c.args.out.now c.fronts.out c.write_front.new.out c.fronts.invariant.0 c.in_ok-after.ensures.goes,
       λ asked.
-          IsReadAssigned-both v text rest later (c.fronts.invariant.1 asked)
-          (IsReadAssigned-both v rest after later (c.in_ok-after.ensures.read asked) (c.may_go_on.ensures.read asked c.if-not-may_go_on.false)),
+          IsReadAssigned-both _ _ _ later (c.fronts.invariant.1 asked)
+          (IsReadAssigned-both _ _ _ later (c.in_ok-after.ensures.read asked) (c.may_go_on.ensures.read asked c.if-not-may_go_on.false)),
     )
 
 pub returns-clause-form : goal.returns-clause-form
@@ -33,14 +29,9 @@ returns-clause-assigned g c = λ asked _. IsReadAssigned-end (g.T.NormTable.mode
 
 pub returns-then-not-may_go_on-clause-lacking : goal.returns-then-not-may_go_on-clause-lacking
 returns-then-not-may_go_on-clause-lacking g c = λ _ all.
-    let v = g.T.NormTable.model c.args.normalizer.now.table.now in
-    let text = c.args.text.now in
-    let rest = c.fronts.rest.now in
-    let after = c.in_ok-after.after.now in
-    let stops = c.if-not-may_go_on.true in
     elim (cases_Bool c.args.assigned) [
-      | inr none ↦ both_ways _ stops (c.may_go_on.ensures.always none)
+      | inr none ↦ both_ways _ c.if-not-may_go_on.true (c.may_go_on.ensures.always none)
       | inl asked ↦
-          let read = IsReadAssigned-both v text rest after (c.fronts.invariant.1 asked) (c.in_ok-after.ensures.read asked) in
-          c.may_go_on.ensures.lacking stops (IsReadAssigned-rest v text after read all)
+          let read = IsReadAssigned-both _ _ _ _ (c.fronts.invariant.1 asked) (c.in_ok-after.ensures.read asked) in
+          c.may_go_on.ensures.lacking c.if-not-may_go_on.true (IsReadAssigned-rest _ _ _ read all)
     ]

@@ -1,6 +1,5 @@
 use Rattle.std.proofs.Common.{IsTrue, length}
-use Rattle.np_forms.specs.inside.Copies.{GoesOn}
-use Rattle.np_forms.specs.inside.Readings.{IsReadAssigned}
+use Rattle.np_forms.proofs.Words.{GoesOn, IsReadAssigned}
 use Rattle.np_forms.proofs.copying.write_fronts.Given as goal
 
 abbrev pub invariant-fronts : goal.invariant-fronts

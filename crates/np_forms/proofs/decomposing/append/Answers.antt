@@ -1,8 +1,5 @@
 use Rattle.std.proofs.Common.{◌≡◌, ◌<◌, ◌++◌, ◌∷◌, [], List, ℕ, true, false, ◌&&◌, length, OnOk, sym, ap, subst, ◌∙◌, arith, eqb-true}
-use Rattle.std.proofs.lemmas.Bool.{eqb-false, and_left, and_right}
-use Rattle.np_code_points.specs.Hangul.{is_syllable}
-use Rattle.np_tables.specs.Versions.{has_hangul}
-use Rattle.np_forms.specs.inside.Classes.{with_classes}
+use Rattle.np_forms.proofs.Words.{eqb-false, and_left, and_right, is_syllable, has_hangul, with_classes}
 use Rattle.np_forms.proofs.SyllableLemmas.{lent_some, lent_none, full_of-syllable}
 use Rattle.np_forms.proofs.decomposing.append.Goals as goal
 use Rattle.np_forms.proofs.decomposing.append.Goals.{else-hangul-via-then-hangul+else-is_syllable, else-hangul-via-else-hangul}

@@ -1,7 +1,5 @@
 use Rattle.std.proofs.Common.{◌≡◌, ◌++◌, ◌∷◌, [], List, ℕ, true, false, OnOk, inl, inr, refl, sym, subst}
-use Rattle.std.proofs.lemmas.Bool.{cases_Bool}
-use Rattle.np_code_points.specs.Hangul.{is_syllable, syllable_pair}
-use Rattle.np_forms.specs.inside.Classes.{with_classes}
+use Rattle.np_forms.proofs.Words.{cases_Bool, is_syllable, syllable_pair, with_classes}
 use Rattle.np_forms.proofs.SyllableLemmas.{syllable_parts-two, syllable_parts-three}
 use Rattle.np_forms.proofs.decomposing.append_syllable.Goals as goal
 
@@ -11,13 +9,11 @@ returns-in-Some-hangul_parts g c =
     let s = c.args.c in
     let a = c.in-Some.first in
     let b = c.in-Some.second in
-    let l = c.in-Some-hangul_parts.lead in
-    let m = c.in-Some-hangul_parts.vowel in
     let pair : syllable_pair s ≡ a ∷ b ∷ [] = let p = c.in-Some.ensures.parts in let f = c.in-Some.first-is in let g = c.in-Some.second-is in cc in
     let first : is_syllable a ≡ true = c.in-Some-hangul_parts.ensures.some.0 refl in
-    let again : syllable_pair a ≡ l ∷ m ∷ [] =
+    let again : syllable_pair a ≡ c.in-Some-hangul_parts.lead ∷ c.in-Some-hangul_parts.vowel ∷ [] =
     let p = c.in-Some-hangul_parts.ensures.parts in let f = c.in-Some-hangul_parts.lead-is in let g = c.in-Some-hangul_parts.vowel-is in cc in
-    subst (λ (x : List ℕ). OnOk c.push_classed.result (c.push_classed.new.list.items ≡ c.args.list.now.items ++ with_classes v x)) (sym (syllable_parts-three s a b l m c.requires pair first again)) c.push_classed.ensures
+    subst (λ (x : List ℕ). OnOk c.push_classed.result (c.push_classed.new.list.items ≡ c.args.list.now.items ++ with_classes v x)) (sym (syllable_parts-three s a b _ _ c.requires pair first again)) c.push_classed.ensures
 
 pub returns-in-None : goal.returns-in-None
 returns-in-None g c =

@@ -1,8 +1,5 @@
 use Rattle.std.proofs.Common.{List, ℕ, ◌++◌, sym, ap, subst, ◌∙◌}
-use Rattle.std.specs.Str.Iter.{chars_rest}
-use Rattle.np_tables.specs.inside.FullDecompositions.{full_of}
-use Rattle.np_forms.specs.inside.Classes.{CodeAndClass, with_classes}
-use Rattle.np_forms.specs.inside.Segments.{IsDecomposedUpTo}
+use Rattle.np_forms.proofs.Words.{chars_rest, full_of, CodeAndClass, with_classes, IsDecomposedUpTo}
 use Rattle.np_forms.proofs.SegmentLemmas.{decomposed-start, decomposed-more}
 use Rattle.np_forms.proofs.decomposing.decompose_first.Goals as goal
 

@@ -1,6 +1,5 @@
 use Rattle.std.proofs.Common.{length}
-use Rattle.std.specs.Str.Iter.{chars_rest}
-use Rattle.np_forms.specs.inside.Segments.{IsDecomposedUpTo}
+use Rattle.np_forms.proofs.Words.{chars_rest, IsDecomposedUpTo}
 use Rattle.np_forms.proofs.decomposing.decompose_first.Given as goal
 
 abbrev pub invariant-scan : goal.invariant-scan

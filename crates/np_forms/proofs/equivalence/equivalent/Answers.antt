@@ -1,6 +1,5 @@
 use Rattle.std.proofs.Common.{◌↔◌, IsTrue, chars, sym, ◌∙◌}
-use Rattle.std.proofs.lemmas.Result.{IfOk-weaker}
-use Rattle.np_forms.specs.Forms.{IsEquivalent}
+use Rattle.np_forms.proofs.Words.{IfOk-weaker, IsEquivalent}
 use Rattle.np_forms.proofs.PieceLemmas.{IsEquivalent-same, IsEquivalent-forms}
 use Rattle.np_forms.proofs.equivalence.equivalent.Goals as goal
 

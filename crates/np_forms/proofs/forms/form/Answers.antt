@@ -1,6 +1,6 @@
 use Rattle.std.proofs.Common.{chars, string_bytes, ◌∙◌}
 use Rattle.std.proofs.lemmas.Str.{IsUtf8-string_bytes}
-use Rattle.np_forms.proofs.ClosingLemmas.{closes_form}
+use Rattle.np_forms.proofs.ChunkLemmas.{closes_form}
 use Rattle.np_forms.proofs.WrittenLemmas.{IsWrittenForm-made, written_form}
 use Rattle.np_forms.proofs.forms.form.Goals as goal
 

@@ -1,8 +1,6 @@
 use Rattle.std.proofs.Common.{◌≡◌, ◌↔◌, IsTrue, chars, subst}
-use Rattle.std.proofs.lemmas.Result.{IfOk-weaker}
-use Rattle.np_forms.specs.Forms.{IsNormalForm}
-use Rattle.np_forms.specs.inside.Pieces.{form_bytes}
-use Rattle.np_forms.proofs.MatchLemmas.{own_form}
+use Rattle.np_forms.proofs.Words.{IfOk-weaker, IsNormalForm, form_bytes}
+use Rattle.np_forms.proofs.PieceLemmas.{own_form}
 use Rattle.np_forms.proofs.forms.is_form.Goals as goal
 
 pub returns : goal.returns

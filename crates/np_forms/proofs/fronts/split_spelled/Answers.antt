@@ -5,13 +5,10 @@ use Rattle.np_forms.proofs.fronts.split_spelled.Goals as goal
 
 pub returns-clause-made : goal.returns-clause-made
 returns-clause-made g c =
-    let v = g.T.NormTable.model c.args.table.now in
     let begins = sym c.chars-iter.ensures.rest ∙ c.in_ok-c.ensures.steps.0 ∙ ap (λ l. encode_utf8 c.in_ok-c.c ++ l) (sym c.as_str-later.ensures) in
-    first-spelled v c.meets_conditions.ensures c.args.form c.args.text.now c.as_str-later.result.now c.in_ok-c.c c.utf8.text begins (c.begins_at_boundary.ensures c.if-not-begins_at_boundary.false) _ _ c.in_ok-bytes.ensures
+    first-spelled _ c.meets_conditions.ensures c.args.form c.args.text.now c.as_str-later.result.now c.in_ok-c.c c.utf8.text begins (c.begins_at_boundary.ensures c.if-not-begins_at_boundary.false) _ _ c.in_ok-bytes.ensures
 
 pub returns-clause-read : goal.returns-clause-read
 returns-clause-read g c =
-    let v = g.T.NormTable.model c.args.table.now in
-    let text = c.args.text.now in
     let begins = sym c.chars-iter.ensures.rest ∙ c.in_ok-c.ensures.steps.0 ∙ ap (λ l. encode_utf8 c.in_ok-c.c ++ l) (sym c.as_str-later.ensures) in
-    IsReadAssigned-next v text text c.in_ok-c.c c.as_str-later.result.now (IsReadAssigned-start v text c.utf8.text) begins (spelled-assigned v c.meets_conditions.ensures c.args.form c.in_ok-c.c _ _ c.in_ok-bytes.ensures)
+    IsReadAssigned-next _ _ _ c.in_ok-c.c c.as_str-later.result.now (IsReadAssigned-start _ _ c.utf8.text) begins (spelled-assigned _ c.meets_conditions.ensures c.args.form c.in_ok-c.c _ _ c.in_ok-bytes.ensures)

@@ -1,6 +1,5 @@
 use Rattle.std.proofs.Common.{length}
-use Rattle.std.specs.Str.Iter.{chars_rest}
-use Rattle.np_forms.specs.inside.Held.{IsFrontHeld}
+use Rattle.np_forms.proofs.Words.{chars_rest, IsFrontHeld}
 use Rattle.np_forms.proofs.held.hold_front.Given as goal
 
 abbrev pub invariant-scan : goal.invariant-scan

@@ -1,13 +1,7 @@
 use Rattle.std.proofs.Common.{◌≡◌, ◌<◌, ◌≤◌, ◌++◌, ◌∷◌, [], true, sym, ap, subst, ◌∙◌, arith}
-use Rattle.np_tables.specs.Versions.{class_of}
-use Rattle.np_tables.specs.inside.CompositeSearch.{composite}
-use Rattle.np_forms.specs.inside.Classes.{CodeAndClass, codes_of}
-use Rattle.np_forms.specs.inside.Held.{IsHeld}
-use Rattle.np_forms.specs.inside.NormalForms.{ended}
-use Rattle.np_forms.specs.inside.CanonicalOrder.{canonical_order}
+use Rattle.np_forms.proofs.Words.{class_of, composite, CodeAndClass, codes_of, IsHeld, ended, canonical_order}
 use Rattle.np_forms.proofs.ClassLemmas.{codes_more}
-use Rattle.np_forms.proofs.HeldLemmas.{Advances-kept, held_non_starter}
-use Rattle.np_forms.proofs.PushLemmas.{held_joins, held_parts}
+use Rattle.np_forms.proofs.HeldLemmas.{Advances-kept, held_non_starter, held_joins, held_parts}
 use Rattle.np_forms.proofs.held.push.Goals as goal
 
 pub returns-then-class-ne0-clause-ok : goal.returns-then-class-ne0-clause-ok
@@ -47,21 +41,19 @@ returns-in-Some-clause-ok g c =
 pub returns-clause-ok : goal.returns-clause-ok
 returns-clause-ok g c =
     let v = g.T.NormTable.model c.args.table.now in
-    let e = c.args.composes in
     let pending = codes_of c.args.held.now.pending.items in
     let ready = c.args.held.now.ready.items in
-    let d = c.args.d in
     let class = ap (λ (y : CodeAndClass). y.class) c.requires.class in
-    let low : class_of v d.code ≤ 0 = omega (arith, class, c.class.ensures, c.if-class-ne0.false) in
+    let low : class_of v c.args.d.code ≤ 0 = omega (arith, class, c.class.ensures, c.if-class-ne0.false) in
     let settled = c.in_ok-settle.ensures pending c.requires.classed in
-    let value = ended v e (canonical_order (class_of v) pending) in
-    let left = ap codes_of (c.in_ok-push-3.ensures.items ∙ ap (λ l. l ++ d ∷ []) c.clear-2.ensures.items) in
+    let value = ended v _ (canonical_order (class_of v) pending) in
+    let left = ap codes_of (c.in_ok-push-3.ensures.items ∙ ap (λ l. l ++ c.args.d ∷ []) c.clear-2.ensures.items) in
     record {
       more = value;
       ready_is = c.in_ok-push_codes.ensures.ok ∙ ap (λ l. ready ++ l) (ap codes_of c.deref-2.ensures.value ∙ settled);
       carries = λ ds out h.
-          subst (IsHeld v e (ds ++ d.code ∷ []) (out ++ value)) (sym left)
-          (held_parts v c.requires.sound e ds out pending d.code low h
+          subst (IsHeld v _ (ds ++ c.args.d.code ∷ []) (out ++ value)) (sym left)
+          (held_parts v c.requires.sound _ ds out pending c.args.d.code low h
           (λ head on is.
           ap (composite v head) (sym c.code.ensures)
           ∙ c.in_default.ensures.none head on (ap codes_of c.deref.ensures.value ∙ settled ∙ ap (λ b. ended v b (canonical_order (class_of v) pending)) on ∙ is)));

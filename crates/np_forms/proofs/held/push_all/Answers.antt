@@ -1,7 +1,5 @@
 use Rattle.std.proofs.Common.{◌≡◌, ◌++◌, ◌+◌, ◌∷◌, [], take, subst, sym, ap, ◌∙◌, append_assoc}
-use Rattle.std.proofs.lemmas.List.{take_all}
-use Rattle.np_forms.specs.inside.Classes.{CodeAndClass, codes_of, with_class}
-use Rattle.np_forms.specs.inside.Held.{Advances}
+use Rattle.np_forms.proofs.Words.{take_all, CodeAndClass, codes_of, with_class, Advances}
 use Rattle.np_forms.proofs.ClassLemmas.{AreClassed-at, codes_next}
 use Rattle.np_forms.proofs.HeldLemmas.{Advances-start, Advances-next}
 use Rattle.np_forms.proofs.held.push_all.Goals as goal

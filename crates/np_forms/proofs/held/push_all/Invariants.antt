@@ -1,6 +1,5 @@
 use Rattle.std.proofs.Common.{take}
-use Rattle.np_forms.specs.inside.Classes.{AreClassed, codes_of}
-use Rattle.np_forms.specs.inside.Held.{Advances}
+use Rattle.np_forms.proofs.Words.{AreClassed, codes_of, Advances}
 use Rattle.np_forms.proofs.held.push_all.Given as goal
 
 abbrev pub invariant-loop-d : goal.invariant-loop-d

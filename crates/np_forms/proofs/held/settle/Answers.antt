@@ -1,9 +1,6 @@
 use Rattle.std.proofs.Common.{◌≡◌, length, sym, ap, ◌∙◌, arith}
-use Rattle.std.proofs.lemmas.List.{take_at, length-map}
-use Rattle.np_tables.specs.Versions.{class_of}
-use Rattle.np_forms.specs.inside.CanonicalOrder.{canonical_order}
-use Rattle.np_forms.specs.inside.Classes.{codes_of, with_class, with_classes}
-use Rattle.np_forms.specs.inside.NormalForms.{ended}
+use Rattle.np_forms.proofs.Words.{take_at, length-map, class_of, canonical_order, codes_of, with_class, with_classes}
+use Rattle.np_forms.proofs.Words.{ended}
 use Rattle.np_forms.proofs.ClassLemmas.{codes-with_classes, same_length}
 use Rattle.np_forms.proofs.OrderLemmas.{is_ordered-canonical_order, length-canonical_order}
 use Rattle.np_forms.proofs.held.settle.Goals as goal

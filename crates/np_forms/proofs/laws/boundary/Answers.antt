@@ -1,4 +1,4 @@
-use Rattle.np_forms.proofs.BoundaryLemmas.{parting, staying}
+use Rattle.np_forms.proofs.StreamLemmas.{parting, staying}
 use Rattle.np_forms.proofs.laws.boundary.Goals as goal
 
 pub returns-clause-parts : goal.returns-clause-parts

@@ -1,4 +1,4 @@
-use Rattle.np_forms.proofs.OrderLaws.{one_ordered_form}
+use Rattle.np_forms.proofs.FormLemmas.{one_ordered_form}
 use Rattle.np_forms.proofs.laws.ordered_form.Goals as goal
 
 pub returns : goal.returns

@@ -1,4 +1,4 @@
-use Rattle.np_forms.proofs.PartLemmas.{spelled_is_form, standing_front}
+use Rattle.np_forms.proofs.SpelledLemmas.{spelled_is_form, standing_front}
 use Rattle.np_forms.proofs.laws.told.Goals as goal
 
 pub returns-clause-standing : goal.returns-clause-standing

@@ -1,7 +1,5 @@
 use Rattle.std.proofs.Common.{◌≡◌, ℕ, List, ◌++◌, take}
-use Rattle.np_forms.specs.inside.Classes.{with_classes}
-use Rattle.np_forms.specs.inside.Segments.{Rises}
-use Rattle.np_tables.specs.Versions.{VersionData, class_of}
+use Rattle.np_forms.proofs.Words.{with_classes, Rises, VersionData, class_of}
 use Rattle.np_forms.proofs.ordering.is_in_order.Given as goal
 
 abbrev pub invariant-loop-c : goal.invariant-loop-c

@@ -1,12 +1,9 @@
 use Rattle.std.proofs.Common.{◌≡◌, ◌<◌, ◌≤◌, ◌++◌, ◌∷◌, [], true, get_or, take, ◌+◌, sym, ap, subst, ◌∙◌, arith}
-use Rattle.std.proofs.lemmas.Bool.{both_ways}
-use Rattle.std.proofs.lemmas.List.{take_more}
-use Rattle.np_tables.specs.Versions.{class_of}
+use Rattle.np_forms.proofs.Words.{both_ways, take_more, class_of, CodeAndClass}
 use Rattle.np_forms.proofs.ClassLemmas.{at_place, same_length}
-use Rattle.np_forms.proofs.RunLemmas.{IsRunTo, IsRunTo-start, IsRunTo-next}
+use Rattle.np_forms.proofs.SortLemmas.{IsRunTo, IsRunTo-start, IsRunTo-next}
 use Rattle.np_forms.proofs.ordering.non_starters_at_front.Goals as goal
 use Rattle.np_forms.proofs.ordering.non_starters_at_front.Goals.{then-class-last, else-class-last}
-use Rattle.np_forms.specs.inside.Classes.{CodeAndClass}
 
 pub loop-i-init : goal.loop-i-init
 loop-i-init c = λ v cs is. IsRunTo-start v

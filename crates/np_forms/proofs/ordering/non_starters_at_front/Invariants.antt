@@ -1,7 +1,6 @@
 use Rattle.std.proofs.Common.{◌≡◌, ℕ, List, take}
-use Rattle.np_forms.specs.inside.Classes.{with_classes}
-use Rattle.np_forms.proofs.RunLemmas.{IsRunTo}
-use Rattle.np_tables.specs.Versions.{VersionData}
+use Rattle.np_forms.proofs.Words.{with_classes, VersionData}
+use Rattle.np_forms.proofs.SortLemmas.{IsRunTo}
 use Rattle.np_forms.proofs.ordering.non_starters_at_front.Given as goal
 
 abbrev pub invariant-loop-i : goal.invariant-loop-i

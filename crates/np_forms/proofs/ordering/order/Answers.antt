@@ -1,8 +1,5 @@
 use Rattle.std.proofs.Common.{◌≤◌, ◌++◌, drop, length, refl, sym, ap, ◌∙◌, append-nil, arith}
-use Rattle.std.proofs.lemmas.List.{take_all, drop_all}
-use Rattle.np_tables.specs.Versions.{class_of}
-use Rattle.np_forms.specs.inside.CanonicalOrder.{canonical_order}
-use Rattle.np_forms.specs.inside.Classes.{with_classes}
+use Rattle.np_forms.proofs.Words.{take_all, drop_all, class_of, canonical_order, with_classes}
 use Rattle.np_forms.proofs.ClassLemmas.{same_length}
 use Rattle.np_forms.proofs.OrderLemmas.{canonical_order-nil, canonical_order-ordered}
 use Rattle.np_forms.proofs.ordering.order.Goals as goal

@@ -1,6 +1,5 @@
 use Rattle.std.proofs.Common.{◌≡◌, ◌-◌, ℕ, List, length}
-use Rattle.np_forms.specs.inside.Classes.{IsOrderedOn, with_classes}
-use Rattle.np_tables.specs.Versions.{VersionData}
+use Rattle.np_forms.proofs.Words.{IsOrderedOn, with_classes, VersionData}
 use Rattle.np_forms.proofs.ordering.order.Given as goal
 
 abbrev pub invariant-runs : goal.invariant-runs

@@ -1,13 +1,10 @@
 use Rattle.std.proofs.Common.{◌≡◌, ◌+◌, ◌-◌, ◌<◌, ◌≤◌, ◌++◌, true, length, take, drop, get_or, refl, sym, ap, ◌∙◌, arith}
-use Rattle.std.proofs.lemmas.List.{take_rest, take-append-drop, drop-drop}
+use Rattle.np_forms.proofs.Words.{take_rest, take-append-drop, drop-drop, class_of, is_ordered, canonical_order}
+use Rattle.np_forms.proofs.Words.{with_classes}
 use borrow.Rule.Slice.PartMut.{put_mid}
-use Rattle.np_tables.specs.Versions.{class_of}
-use Rattle.np_forms.specs.Order.{is_ordered}
-use Rattle.np_forms.specs.inside.CanonicalOrder.{canonical_order}
-use Rattle.np_forms.specs.inside.Classes.{with_classes}
 use Rattle.np_forms.proofs.ClassLemmas.{back_part, front_part, put_in, same_length}
 use Rattle.np_forms.proofs.OrderLemmas.{canonical_order-ordered}
-use Rattle.np_forms.proofs.RunLemmas.{order_step}
+use Rattle.np_forms.proofs.SortLemmas.{order_step}
 use Rattle.np_forms.proofs.ordering.order_run.Goals as goal
 use Rattle.np_forms.proofs.ordering.order_run.Goals.{then-not-ordered+in_ok-sort_non_starters, else-not-ordered}
 
@@ -19,7 +16,6 @@ returns-clause-ordered c = λ v cs is.
     let front = c.non_starters_at_front-count in
     let n = front.result.0 in
     let rest = drop at cs in
-    let now = c.if-not-ordered.list in
     let shown : take (length list - at) (drop at list) ≡ drop at list = take_rest list at in
     let part : take (length list - at) (drop at list) ≡ with_classes v rest = shown ∙ back_part v list cs is at in
     let inside : at < length cs = omega (arith, c.requires, same_length v list cs is) in
@@ -33,13 +29,13 @@ returns-clause-ordered c = λ v cs is.
           let mid = canonical_order ccc (take n rest) in
           let run : take ((at + n) - at) (drop at list) ≡ with_classes v (take n rest) = ap (λ k. take k (drop at list)) count ∙ front_part v (drop at list) rest (back_part v list cs is at) n in
           let sorted : w.sort_non_starters.new.non_starters ≡ with_classes v mid = w.in_ok-sort_non_starters.ensures.ok v (take n rest) (front.ensures.non_starters v rest part) run in
-          let parts : now ≡ take at list ++ (with_classes v mid ++ drop (at + n) list) =
+          let parts : c.if-not-ordered.list ≡ take at list ++ (with_classes v mid ++ drop (at + n) list) =
           w.list-is ∙ ap (λ k. put_mid at k list w.sort_non_starters.new.non_starters) count
           ∙ ap (λ l. take at list ++ (l ++ drop n (drop at list))) sorted ∙ ap (λ l. take at list ++ (with_classes v mid ++ l)) (drop-drop n at list) in
           let new = take at cs ++ (mid ++ drop (at + n) cs) in
           record {
             new = new;
-            is = put_in v list cs is now mid at n parts;
+            is = put_in v list cs is _ mid at n parts;
             same = order_step v cs new mid at n inside bound starter refl refl ∙ ap (λ k. take k new ++ canonical_order ccc (drop k new)) place;
           }
       | else-not-ordered w ↦

@@ -1,12 +1,11 @@
 use Rattle.std.proofs.Common.{rules, subst}
 use Rattle.std.proofs.lemmas.Fn.{always_returns_same}
 use Rattle.std.proofs.lemmas.List.Sorted.{IsNonDecreasingBy-from_sort}
-use Rattle.std.proofs.lemmas.Result.{on_ok_weaker}
+use Rattle.np_forms.proofs.Words.{on_ok_weaker, CodeAndClass}
 use Rattle.std.specs.List.Sorted.{IsStableByKey}
 use Rattle.std.specs.Ordering.{nat_cmp}
 use Rattle.np_forms.proofs.SortLemmas.{canonical_order-from_sort}
 use Rattle.np_forms.proofs.ordering.sort_non_starters.Goals as goal
-use Rattle.np_forms.specs.inside.Classes.{CodeAndClass}
 
 pub returns-clause-ok : goal.returns-clause-ok
 returns-clause-ok c =

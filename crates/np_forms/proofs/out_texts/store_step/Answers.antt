@@ -5,7 +5,6 @@ use Rattle.np_forms.proofs.out_texts.store_step.Goals as goal
 
 pub returns-clause-bytes : goal.returns-clause-bytes
 returns-clause-bytes c =
-    let front = take 32 c.args.run.now in
-    let long : length front ≡ 32 = length-take-le 32 c.args.run.now c.requires.run in
+    let long : length (take 32 c.args.run.now) ≡ 32 = length-take-le 32 c.args.run.now c.requires.run in
     front_of_step c.args.room.now _ c.args.run.now c.args.at 32 c.args.count c.requires.few (omega (arith, c.requires.space))
-    (take_more_put_chunk c.args.at c.args.room.now front _ (omega arith) c.requires.space)
+    (take_more_put_chunk c.args.at c.args.room.now _ _ (omega arith) c.requires.space)

@@ -1,6 +1,5 @@
 use Rattle.std.proofs.Common.{◌≡◌, length, refl, sym, ap, ◌∙◌, arith, ◌++◌, take}
-use Rattle.std.proofs.lemmas.List.{nil_from_length, take_all}
-use Rattle.np_forms.specs.inside.Pieces.{front_of, left_of}
+use Rattle.np_forms.proofs.Words.{nil_from_length, take_all, front_of, left_of}
 use Rattle.np_forms.proofs.PieceLemmas.{ArePassed-same, ArePassed-next, ArePassed-parts, ArePassed-all}
 use Rattle.np_forms.proofs.pieces.has_form.Goals as goal
 
@@ -13,16 +12,14 @@ returns-then-count-eq0 g c =
 
 pub returns-in_default : goal.returns-in_default
 returns-in_default g c =
-    let v = g.T.NormTable.model c.args.table.now in
-    ArePassed-parts v c.args.form c.fill.new.self (ArePassed-same c.pieces.invariant c.in_ok-fill.ensures.same refl)
+    ArePassed-parts _ c.args.form c.fill.new.self (ArePassed-same c.pieces.invariant c.in_ok-fill.ensures.same refl)
     (λ r e. c.in_default.ensures r (e ∙ ap (λ l. l ++ r) (sym c.front-here.ensures)))
 
 pub pieces-preserved : goal.pieces-preserved
 pieces-preserved g c =
-    let v = g.T.NormTable.model c.args.table.now in
     let front = front_of c.fill.new.self in
     let here = c.front-here.result.now in
     let n = length here in
     let all : take n front ≡ here = ap (take n) (sym c.front-here.ensures) ∙ take_all n here (omega arith) in
-    ArePassed-next (take n front) here (left_of v c.args.form c.pass.new.self) c.in-Some.past.now
-    (ArePassed-same c.pieces.invariant c.in_ok-fill.ensures.same refl) (c.pass.ensures v c.args.form) c.in-Some.ensures all
+    ArePassed-next (take n front) here (left_of _ c.args.form c.pass.new.self) c.in-Some.past.now
+    (ArePassed-same c.pieces.invariant c.in_ok-fill.ensures.same refl) (c.pass.ensures _ c.args.form) c.in-Some.ensures all

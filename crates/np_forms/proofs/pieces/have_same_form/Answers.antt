@@ -1,6 +1,5 @@
 use Rattle.std.proofs.Common.{◌&&◌, eqb, min, length, take, sym, ap, ap₂, ◌∙◌, arith}
-use Rattle.std.proofs.lemmas.Bool.{false≢true}
-use Rattle.np_forms.specs.inside.Pieces.{front_of, left_of}
+use Rattle.np_forms.proofs.Words.{false≢true, front_of, left_of}
 use Rattle.np_forms.proofs.PieceLemmas.{ArePassed-same, ArePassed-next, ArePassed-differ, ArePassed-end, none_of_both}
 use Rattle.np_forms.proofs.pieces.have_same_form.Goals as goal
 
@@ -21,8 +20,6 @@ returns-then-not-are_same g c =
 
 pub pieces-preserved : goal.pieces-preserved
 pieces-preserved g c =
-    let v = g.T.NormTable.model c.args.table.now in
-    let n = c.min-count.result in
-    ArePassed-next (take n (front_of c.fill.new.self)) (take n (front_of c.fill-in-pieces.new.self)) (left_of v c.args.form c.pass.new.self) (left_of v c.args.form c.pass-in-pieces.new.self)
-    (ArePassed-same c.pieces.invariant c.in_ok-fill.ensures.same c.in_ok-fill-2.ensures.same) (c.pass.ensures v c.args.form) (c.pass-in-pieces.ensures v c.args.form)
-    (ap (take n) (sym c.front-here.ensures) ∙ c.are_same.ensures.0 c.if-not-are_same.false ∙ ap (take n) c.front-there.ensures)
+    ArePassed-next (take _ (front_of c.fill.new.self)) (take _ (front_of c.fill-in-pieces.new.self)) (left_of _ c.args.form c.pass.new.self) (left_of _ c.args.form c.pass-in-pieces.new.self)
+    (ArePassed-same c.pieces.invariant c.in_ok-fill.ensures.same c.in_ok-fill-2.ensures.same) (c.pass.ensures _ c.args.form) (c.pass-in-pieces.ensures _ c.args.form)
+    (ap (take _) (sym c.front-here.ensures) ∙ c.are_same.ensures.0 c.if-not-are_same.false ∙ ap (take _) c.front-there.ensures)

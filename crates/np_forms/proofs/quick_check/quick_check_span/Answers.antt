@@ -1,7 +1,7 @@
 use Rattle.std.proofs.Common.{refl}
 use Rattle.std.proofs.lemmas.Str.{IsUtf8-take}
 use Rattle.np_forms.proofs.CopyLemmas.{cut_boundary}
-use Rattle.np_forms.proofs.PartLemmas.{stable_parts}
+use Rattle.np_forms.proofs.SpelledLemmas.{stable_parts}
 use Rattle.np_forms.proofs.quick_check.quick_check_span.Goals as goal
 
 pub returns-clause-boundary : goal.returns-clause-boundary
@@ -9,9 +9,6 @@ returns-clause-boundary g c = cut_boundary (g.T.NormTable.model c.args.table.now
 
 pub returns-clause-stable : goal.returns-clause-stable
 returns-clause-stable g c =
-    let v = g.T.NormTable.model c.args.table.now in
-    let text = c.args.text.now in
-    let n = c.standing-count.result.0 in
     let stands = c.standing-count.ensures.standing in
-    let utf8 = IsUtf8-take text n c.utf8.text (cut_boundary v c.args.wanted text n stands) in
-    stable_parts v c.meets_conditions.ensures c.args.wanted text n stands _ refl utf8 (c.standing-count.ensures.assigned refl)
+    let utf8 = IsUtf8-take _ _ c.utf8.text (cut_boundary _ c.args.wanted _ _ stands) in
+    stable_parts _ c.meets_conditions.ensures c.args.wanted _ _ stands _ refl utf8 (c.standing-count.ensures.assigned refl)

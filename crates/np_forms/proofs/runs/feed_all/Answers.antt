@@ -1,8 +1,5 @@
 use Rattle.std.proofs.Common.{take, length, length-append, ap, ◌∙◌, rules, arith}
-use Rattle.std.proofs.lemmas.List.{length-drop}
-use Rattle.std.proofs.lemmas.Result.{err_from_is_err_and}
-use Rattle.np_code_points.specs.Watched.{device_of}
-use Rattle.np_forms.specs.inside.Running.{IsNextChunk}
+use Rattle.np_forms.proofs.Words.{length-drop, err_from_is_err_and, device_of, IsNextChunk}
 use Rattle.np_forms.proofs.RunningLemmas.{cut_input, step, cut_piece_by}
 use Rattle.np_forms.proofs.runs.feed_all.Goals as goal
 

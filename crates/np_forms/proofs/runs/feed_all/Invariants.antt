@@ -1,6 +1,5 @@
 use Rattle.std.proofs.Common.{◌≡◌, ◌≤◌, ◌-◌, [], false, vec_len}
-use Rattle.np_code_points.specs.Watched.{device_of, has_failed}
-use Rattle.np_forms.specs.inside.Running.{Goes}
+use Rattle.np_forms.proofs.Words.{device_of, has_failed, Goes}
 use Rattle.np_forms.proofs.runs.feed_all.Given as goal
 
 abbrev pub invariant-chunks : goal.invariant-chunks

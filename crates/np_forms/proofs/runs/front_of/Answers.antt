@@ -1,9 +1,8 @@
 use Rattle.std.proofs.Common.{◌≡◌, ◌≢◌, ◌+◌, ◌≤◌, Bool, true, false, not, ℕ, Option, Some, None, length, [], refl, sym, ap, subst, ◌∙◌, arith}
-use Rattle.std.proofs.lemmas.List.{drop_all}
+use Rattle.np_forms.proofs.Words.{drop_all, MayBegin, MayNotBegin}
 use Rattle.std.specs.Option.{is_some}
 use Rattle.std.specs.Str.Lossy.{utf8_error_len}
 use Rattle.np_code_points.proofs.TextLemmas.{longest_valid_prefix}
-use Rattle.np_forms.specs.inside.Running.{MayBegin, MayNotBegin}
 use Rattle.np_forms.proofs.RunTextLemmas.{few_begin, whole_prefix}
 use Rattle.np_forms.proofs.runs.front_of.Goals as goal
 
@@ -28,21 +27,18 @@ some_from o b e h = λ z. let clash : false ≡ true = sym (ap is_some z) ∙ e 
 
 pub returns-in-Err-clause-begins : goal.returns-in-Err-clause-begins
 returns-in-Err-clause-begins c = λ h.
-    let bytes = c.args.bytes.now in
     let none = none_from c.error_len.result c.is_none.result c.is_none.ensures h in
-    subst (MayBegin bytes) (sym c.valid_up_to.ensures)
-    (record { prefix = longest_valid_prefix bytes _ c.in-Err.ensures.cases.1; begins = sym c.in-Err.ensures.fault ∙ sym c.error_len.ensures ∙ none })
+    subst (MayBegin c.args.bytes.now) (sym c.valid_up_to.ensures)
+    (record { prefix = longest_valid_prefix _ _ c.in-Err.ensures.cases.1; begins = sym c.in-Err.ensures.fault ∙ sym c.error_len.ensures ∙ none })
 
 pub returns-in-Err-clause-ends : goal.returns-in-Err-clause-ends
 returns-in-Err-clause-ends c = λ h.
-    let bytes = c.args.bytes.now in
     let some = some_from c.error_len.result c.is_none.result c.is_none.ensures h in
-    subst (MayNotBegin bytes) (sym c.valid_up_to.ensures)
-    (record { prefix = longest_valid_prefix bytes _ c.in-Err.ensures.cases.1; ends = λ z. some (c.error_len.ensures ∙ c.in-Err.ensures.fault ∙ z) })
+    subst (MayNotBegin c.args.bytes.now) (sym c.valid_up_to.ensures)
+    (record { prefix = longest_valid_prefix _ _ c.in-Err.ensures.cases.1; ends = λ z. some (c.error_len.ensures ∙ c.in-Err.ensures.fault ∙ z) })
 
 pub returns-in-Err-clause-few : goal.returns-in-Err-clause-few
 returns-in-Err-clause-few c = λ h.
-    let bytes = c.args.bytes.now in
     let none = none_from c.error_len.result c.is_none.result c.is_none.ensures h in
-    let few = few_begin bytes _ (sym c.in-Err.ensures.fault ∙ sym c.error_len.ensures ∙ none) in
-    subst (λ n. length bytes ≤ n + 3) (sym c.valid_up_to.ensures) few
+    let few = few_begin c.args.bytes.now _ (sym c.in-Err.ensures.fault ∙ sym c.error_len.ensures ∙ none) in
+    subst (λ n. length c.args.bytes.now ≤ n + 3) (sym c.valid_up_to.ensures) few

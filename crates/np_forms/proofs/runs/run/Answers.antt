@@ -1,6 +1,5 @@
 use Rattle.std.proofs.Common.{ap, subst, sym, arith, rules}
-use Rattle.np_code_points.specs.Watched.{device_of}
-use Rattle.np_tables.specs.Conditions.{IsSound}
+use Rattle.np_forms.proofs.Words.{device_of, IsSound}
 use Rattle.np_forms.proofs.RunningLemmas.{cut_start, run_all}
 use Rattle.np_forms.proofs.runs.run.Goals as goal
 

@@ -1,6 +1,5 @@
 use Rattle.std.proofs.Common.{◌<◌, length, vec_len, sym, ◌∙◌, arith, eqb-true}
-use Rattle.std.proofs.lemmas.Bool.{eqb-false}
-use Rattle.std.proofs.lemmas.Result.{err_from_is_err_and}
+use Rattle.np_forms.proofs.Words.{eqb-false, err_from_is_err_and}
 use Rattle.np_forms.proofs.RunningLemmas.{cut_end, cut_rest_by, run_whole}
 use Rattle.np_forms.proofs.runs.run_on.Goals as goal
 

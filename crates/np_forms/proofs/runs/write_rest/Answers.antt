@@ -1,9 +1,7 @@
 use Rattle.std.proofs.Common.{◌+◌, ◌++◌, [], length, encode_utf8_all, inr, sym, ap, subst, ◌∙◌, append-nil}
-use Rattle.std.proofs.lemmas.Result.{err_from_is_err_and}
-use Rattle.std.proofs.lemmas.Str.{chars-nil}
+use Rattle.np_forms.proofs.Words.{err_from_is_err_and, chars-nil, device_of}
 use Rattle.std.specs.Io.KnownBytes.{Appends}
-use Rattle.np_code_points.specs.Watched.{device_of}
-use Rattle.np_forms.proofs.ClosingLemmas.{closes_end}
+use Rattle.np_forms.proofs.ChunkLemmas.{closes_end}
 use Rattle.np_forms.proofs.RunningLemmas.{appended}
 use Rattle.np_forms.proofs.runs.write_rest.Goals as goal
 

@@ -5,5 +5,4 @@ use Rattle.np_forms.proofs.runs.write_text_out.Goals as goal
 pub returns-in_default-clause-err : goal.returns-in_default-clause-err
 returns-in_default-clause-err g c =
     let w = c.in_default.ensures.err in
-    let bytes = c.as_bytes.result.now in
-    (take w.0 bytes, (drop w.0 bytes, sym c.as_bytes.ensures ∙ sym (take-append-drop w.0 bytes), w.2))
+    (take w.0 _, (drop w.0 _, sym c.as_bytes.ensures ∙ sym (take-append-drop w.0 _), w.2))

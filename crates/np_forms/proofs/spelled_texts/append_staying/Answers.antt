@@ -1,7 +1,6 @@
 use Rattle.std.proofs.Common.{◌-◌, encode_utf8_all, length, refl, ◌∙◌}
-use Rattle.np_forms.proofs.CopyLemmas.{seam}
-use Rattle.np_forms.proofs.DecomposedLemmas.{goes-copied}
-use Rattle.np_forms.proofs.StayingLemmas.{staying_copied, staying_front}
+use Rattle.np_forms.proofs.CopyLemmas.{seam, staying_copied, staying_front}
+use Rattle.np_forms.proofs.SegmentLemmas.{goes-copied}
 use Rattle.np_forms.proofs.spelled_texts.append_staying.Goals as goal
 
 pub split_at-requires : goal.split_at-requires
@@ -11,11 +10,7 @@ split_at-requires g c =
 
 pub returns : goal.returns
 returns g c =
-    let v = g.T.NormTable.model c.args.table.now in
-    let text = c.args.text.now in
-    let rest = c.args.rest.now in
-    let stays = c.split_at.result.0.now in
     let past = c.requires.staying in
-    goes-copied v c.args.form text stays rest c.args.out.now c.append_front.new.self
-    (staying_copied v c.args.form text rest past c.meets_conditions.ensures stays (c.split_at.ensures.front ∙ staying_front v c.args.form text rest past (length text - length rest) refl) c.requires.parts)
+    goes-copied _ c.args.form _ _ _ c.args.out.now c.append_front.new.self
+    (staying_copied _ c.args.form _ _ past c.meets_conditions.ensures _ (c.split_at.ensures.front ∙ staying_front _ c.args.form _ _ past (length _ - length _) refl) c.requires.parts)
     c.in_ok-append_front.ensures

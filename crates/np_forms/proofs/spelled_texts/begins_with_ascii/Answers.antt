@@ -1,7 +1,5 @@
 use Rattle.std.proofs.Common.{◌∙◌, sym, chars}
-use Rattle.std.proofs.lemmas.Bool.{ltb-true}
-use Rattle.std.proofs.lemmas.Str.{chars_past_char}
-use Rattle.std.specs.Str.Iter.{chars_rest}
+use Rattle.np_forms.proofs.Words.{ltb-true, chars_past_char, chars_rest}
 use Rattle.np_forms.proofs.spelled_texts.begins_with_ascii.Goals as goal
 
 pub returns-in-Some : goal.returns-in-Some

@@ -1,6 +1,5 @@
 use Rattle.std.proofs.Common.{length}
-use Rattle.np_forms.specs.inside.Copies.{GoesOn}
-use Rattle.np_forms.specs.inside.Readings.{IsReadAssigned}
+use Rattle.np_forms.proofs.Words.{GoesOn, IsReadAssigned}
 use Rattle.np_forms.proofs.spelled_texts.write_spelled.Given as goal
 
 abbrev pub invariant-words : goal.invariant-words

@@ -1,7 +1,6 @@
 use Rattle.std.proofs.Common.{chars, encode_utf8_all, subst, sym, ap, ◌++◌, ◌∙◌}
-use Rattle.np_forms.specs.Assigned.{IsAssigned}
-use Rattle.np_forms.specs.inside.NormalForms.{normal_form}
-use Rattle.np_forms.proofs.ClosingLemmas.{closes_form}
+use Rattle.np_forms.proofs.Words.{IsAssigned, normal_form}
+use Rattle.np_forms.proofs.ChunkLemmas.{closes_form}
 use Rattle.np_forms.proofs.TextLemmas.{assigned-back, assigned-both}
 use Rattle.np_forms.proofs.stabilized.assigned_form.Goals as goal
 
@@ -16,13 +15,11 @@ returns-then-branch-clause-form g c =
 
 pub returns-then-branch-clause-assigned : goal.returns-then-branch-clause-assigned
 returns-then-branch-clause-assigned g c =
-    let v = g.T.NormTable.model c.args.normalizer.now.table.now in
-    assigned-both v c.args.text.now c.args.stays.now c.args.behind.now c.utf8.stays c.requires.copied.parts c.requires.assigned
+    assigned-both _ c.args.text.now c.args.stays.now c.args.behind.now c.utf8.stays c.requires.copied.parts c.requires.assigned
     (subst (λ w. IsAssigned w (chars c.args.behind.now)) c.new-stream.ensures.version (c.in_ok-close_assigned.ensures.assigned c.if-branch.true))
 
 pub returns-else-branch-clause-lacking : goal.returns-else-branch-clause-lacking
 returns-else-branch-clause-lacking g c = λ all.
-    let v = g.T.NormTable.model c.args.normalizer.now.table.now in
     c.in_ok-close_assigned.ensures.lacking c.if-branch.false
     (subst (λ w. IsAssigned w (chars c.args.behind.now)) (sym c.new-stream.ensures.version)
-    (assigned-back v c.args.text.now c.args.stays.now c.args.behind.now c.utf8.stays c.requires.copied.parts all))
+    (assigned-back _ c.args.text.now c.args.stays.now c.args.behind.now c.utf8.stays c.requires.copied.parts all))

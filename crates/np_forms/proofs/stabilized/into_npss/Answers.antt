@@ -1,6 +1,5 @@
 use Rattle.std.proofs.Common.{◌≡◌, encode_utf8_all, rules, chars, string_bytes, ap, subst, ◌∙◌}
-use Rattle.std.proofs.lemmas.Str.{IsUtf8-string_bytes}
-use Rattle.np_forms.specs.inside.NormalForms.{normal_form}
+use Rattle.np_forms.proofs.Words.{IsUtf8-string_bytes, normal_form}
 use Rattle.np_forms.proofs.CopyLemmas.{IsCopied-own}
 use Rattle.np_forms.proofs.WrittenLemmas.{made_form}
 use Rattle.np_forms.proofs.stabilized.into_npss.Goals as goal

@@ -6,9 +6,8 @@ use Rattle.np_forms.proofs.stabilized.lend_npss.Goals as goal
 
 pub returns-clause-normal : goal.returns-clause-normal
 returns-clause-normal g c =
-    let v = g.T.NormTable.model c.args.table.now in
-    made_form v c.meets_conditions.ensures c.args.wanted (chars c.args.text.now) c.args.text.now c.utf8.text
-    (IsCopied-own v c.args.wanted c.args.text.now c.split_standing-stood.result.0.now c.split_standing-stood.result.1.now c.split_standing-stood.ensures.copied (search rules))
+    made_form _ c.meets_conditions.ensures c.args.wanted (chars c.args.text.now) c.args.text.now c.utf8.text
+    (IsCopied-own _ c.args.wanted c.args.text.now c.split_standing-stood.result.0.now c.split_standing-stood.result.1.now c.split_standing-stood.ensures.copied (search rules))
 
 pub returns-then-not-is_empty-clause-normal : goal.returns-then-not-is_empty-clause-normal
 returns-then-not-is_empty-clause-normal g c =

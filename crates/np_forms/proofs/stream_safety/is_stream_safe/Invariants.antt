@@ -1,7 +1,5 @@
 use Rattle.std.proofs.Common.{◌≡◌, ◌≤◌, ◌++◌, ℕ, List, true, flat_map}
-use Rattle.np_forms.specs.inside.Runs.{runs_over}
-use Rattle.np_tables.specs.Versions.{class_of}
-use Rattle.np_tables.specs.inside.FullDecompositions.{full_of}
+use Rattle.np_forms.proofs.Words.{runs_over, class_of, full_of}
 use Rattle.np_forms.proofs.stream_safety.is_stream_safe.Given as goal
 
 abbrev pub invariant-loop-c : goal.invariant-loop-c

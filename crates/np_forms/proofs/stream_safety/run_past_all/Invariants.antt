@@ -1,6 +1,5 @@
 use Rattle.std.proofs.Common.{◌≡◌, ◌≤◌, ◌++◌, ℕ, List, drop}
-use Rattle.np_forms.specs.inside.Runs.{runs_over}
-use Rattle.np_tables.specs.Versions.{class_of}
+use Rattle.np_forms.proofs.Words.{runs_over, class_of}
 use Rattle.np_forms.proofs.stream_safety.run_past_all.Given as goal
 
 abbrev pub invariant-loop-c : goal.invariant-loop-c

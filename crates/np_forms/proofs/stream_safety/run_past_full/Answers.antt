@@ -1,8 +1,5 @@
 use Rattle.std.proofs.Common.{◌≡◌, ◌<◌, ◌++◌, true, false, ◌&&◌, length, sym, ap, ◌∙◌, arith, eqb-true}
-use Rattle.std.proofs.lemmas.Bool.{eqb-false, and_left, and_right}
-use Rattle.np_code_points.specs.Hangul.{is_syllable}
-use Rattle.np_tables.specs.Versions.{class_of, has_hangul}
-use Rattle.np_forms.specs.inside.Runs.{runs_over}
+use Rattle.np_forms.proofs.Words.{eqb-false, and_left, and_right, is_syllable, class_of, has_hangul, runs_over}
 use Rattle.np_forms.proofs.SyllableLemmas.{lent_some, lent_none, full_of-syllable}
 use Rattle.np_forms.proofs.stream_safety.run_past_full.Goals as goal
 use Rattle.np_forms.proofs.stream_safety.run_past_full.Goals.{else-hangul-via-then-hangul+else-is_syllable, else-hangul-via-else-hangul}

@@ -7,6 +7,5 @@ pub returns-in-Some : goal.returns-in-Some
 returns-in-Some g c = λ _.
     let v = g.T.NormTable.model c.args.table.now in
     let form = c.args.form in
-    let text = c.args.text.now in
-    space-begins v form text c.in-Some._later.now c.in-Some._c (subst (λ j. IfSome j (λ cut. StandsAlone v form cut.0)) c.in-Some.is c.requires.alone) c.utf8.text
-    (subst (λ j. IfSome j (λ cut. text ≡ encode_utf8 cut.0 ++ cut.1.now)) c.in-Some.is c.requires.parts)
+    space-begins v form _ c.in-Some._later.now c.in-Some._c (subst (λ j. IfSome j (λ cut. StandsAlone v form cut.0)) c.in-Some.is c.requires.alone) c.utf8.text
+    (subst (λ j. IfSome j (λ cut. c.args.text.now ≡ encode_utf8 cut.0 ++ cut.1.now)) c.in-Some.is c.requires.parts)

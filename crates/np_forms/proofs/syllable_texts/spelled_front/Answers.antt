@@ -5,14 +5,12 @@ use Rattle.np_forms.proofs.syllable_texts.spelled_front.Goals as goal
 pub range_from-requires : goal.range_from-requires
 range_from-requires c = λ _.
     let jamo = c.in_ok-syllable in
-    let text = c.args.text.now in
-    jamo-boundary text jamo.syllable jamo.count
-    (begins_with_jamo text c.as_bytes-bytes.result.now jamo.syllable jamo.count c.as_bytes-bytes.ensures.value c.utf8.text jamo.ensures.syllable jamo.ensures.some jamo.ensures.within jamo.ensures.spelled)
+    jamo-boundary _ jamo.syllable jamo.count
+    (begins_with_jamo _ c.as_bytes-bytes.result.now jamo.syllable jamo.count c.as_bytes-bytes.ensures.value c.utf8.text jamo.ensures.syllable jamo.ensures.some jamo.ensures.within jamo.ensures.spelled)
 
 pub returns : goal.returns
 returns c =
     let jamo = c.in_ok-syllable in
-    let text = c.args.text.now in
-    begins-jamo text c.range_from.result.now jamo.syllable jamo.count
-    (begins_with_jamo text c.as_bytes-bytes.result.now jamo.syllable jamo.count c.as_bytes-bytes.ensures.value c.utf8.text jamo.ensures.syllable jamo.ensures.some jamo.ensures.within jamo.ensures.spelled)
+    begins-jamo _ c.range_from.result.now jamo.syllable jamo.count
+    (begins_with_jamo _ c.as_bytes-bytes.result.now jamo.syllable jamo.count c.as_bytes-bytes.ensures.value c.utf8.text jamo.ensures.syllable jamo.ensures.some jamo.ensures.within jamo.ensures.spelled)
     c.range_from.ensures.value

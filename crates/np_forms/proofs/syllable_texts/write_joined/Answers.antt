@@ -1,60 +1,45 @@
 use Rattle.std.proofs.Common.{◌≡◌, ◌∙◌, subst, IfNone, IfSome}
-use Rattle.np_forms.specs.inside.Copies.{GoesOn}
-use Rattle.np_forms.specs.inside.Readings.{IsReadAssigned}
-use Rattle.np_forms.specs.inside.Syllables.{BeginsWithSyllable}
-use Rattle.np_forms.proofs.DecomposedLemmas.{goes-both}
+use Rattle.np_forms.proofs.Words.{GoesOn, IsReadAssigned, BeginsWithSyllable}
+use Rattle.np_forms.proofs.SegmentLemmas.{goes-both}
 use Rattle.np_forms.proofs.SyllableFrontLemmas.{goes-joined, syllable-begins, syllable-read}
 use Rattle.np_forms.proofs.TextLemmas.{IsReadAssigned-both}
 use Rattle.np_forms.proofs.syllable_texts.write_joined.Goals as goal
 
 pub scan-preserved-in-Some-syllable_front : goal.scan-preserved-in-Some-syllable_front
 scan-preserved-in-Some-syllable_front g c =
-    let v = g.T.NormTable.model c.args.normalizer.now.table.now in
-    let form = c.args.normalizer.now.form in
-    let text = c.args.text.now in
-    let rest = c.scan.rest.now in
-    let later = c.scan.later.now in
     let begins = c.scan.invariant.2 in
     let following = c.in-Some-syllable_front.ensures in
-    let at = syllable-begins v c.meets_conditions.ensures c.requires.on form (λ _. c.requires.leads) later c.in-Some-syllable_front.behind.now c.in-Some-syllable_front.next following in (
-      goes-both v form text rest later c.args.out.now c.scan.out c.push_joined.new.out c.scan.invariant.0
-          (goes-joined v c.meets_conditions.ensures c.requires.on form c.requires.form rest later c.scan.syllable c.scan.out c.push_joined.new.out begins at c.in_ok-push_joined.ensures),
-      IsReadAssigned-both v text rest later c.scan.invariant.1 (syllable-read v c.requires.on rest later c.scan.syllable begins),
+    let at = syllable-begins _ c.meets_conditions.ensures c.requires.on _ (λ _. c.requires.leads) _ c.in-Some-syllable_front.behind.now c.in-Some-syllable_front.next following in (
+      goes-both _ _ _ _ _ c.args.out.now c.scan.out c.push_joined.new.out c.scan.invariant.0
+          (goes-joined _ c.meets_conditions.ensures c.requires.on _ c.requires.form _ _ c.scan.syllable c.scan.out c.push_joined.new.out begins at c.in_ok-push_joined.ensures),
+      IsReadAssigned-both _ _ _ _ c.scan.invariant.1 (syllable-read _ c.requires.on _ _ c.scan.syllable begins),
       following,
     )
 
 pub returns-in_default-2-clause-goes : goal.returns-in_default-2-clause-goes
 returns-in_default-2-clause-goes g c =
-    let v = g.T.NormTable.model c.args.normalizer.now.table.now in
-    let form = c.args.normalizer.now.form in
-    let rest = c.scan.rest.now in
-    let later = c.scan.later.now in
     let at = c.parts_before.ensures c.if-not-parts_before.false in
     let same : c.write_space.new.out ≡ c.push_joined-in-scan.new.out = subst (λ j. IfNone j (c.write_space.new.out ≡ c.push_joined-in-scan.new.out)) c.in_default-2.is c.in_ok-begun.ensures.none in
-    goes-both v form c.args.text.now rest later c.args.out.now c.scan.out c.write_space.new.out c.scan.invariant.0
-    (goes-joined v c.meets_conditions.ensures c.requires.on form c.requires.form rest later c.scan.syllable c.scan.out c.write_space.new.out c.scan.invariant.2 at (same ∙ c.in_ok-push_joined-2.ensures))
+    goes-both _ _ c.args.text.now _ _ c.args.out.now c.scan.out c.write_space.new.out c.scan.invariant.0
+    (goes-joined _ c.meets_conditions.ensures c.requires.on _ c.requires.form _ _ c.scan.syllable c.scan.out c.write_space.new.out c.scan.invariant.2 at (same ∙ c.in_ok-push_joined-2.ensures))
 
 pub returns-in_default-2-clause-read : goal.returns-in_default-2-clause-read
 returns-in_default-2-clause-read g c =
-    let v = g.T.NormTable.model c.args.normalizer.now.table.now in
-    IsReadAssigned-both v c.args.text.now c.scan.rest.now c.scan.later.now c.scan.invariant.1 (syllable-read v c.requires.on c.scan.rest.now c.scan.later.now c.scan.syllable c.scan.invariant.2)
+    IsReadAssigned-both _ c.args.text.now c.scan.rest.now c.scan.later.now c.scan.invariant.1 (syllable-read _ c.requires.on c.scan.rest.now c.scan.later.now c.scan.syllable c.scan.invariant.2)
 
 pub scan-preserved : goal.scan-preserved
 scan-preserved g c =
     let v = g.T.NormTable.model c.args.normalizer.now.table.now in
     let form = c.args.normalizer.now.form in
-    let text = c.args.text.now in
-    let rest = c.scan.rest.now in
     let later = c.scan.later.now in
-    let begun = c.in-Some-2.begun.now in
     let between = c.push_joined-in-scan.new.out in
     let begins = c.scan.invariant.2 in
     let at = c.parts_before.ensures c.if-not-parts_before.false in
-    let made = goes-both v form text rest later c.args.out.now c.scan.out between c.scan.invariant.0
-    (goes-joined v c.meets_conditions.ensures c.requires.on form c.requires.form rest later c.scan.syllable c.scan.out between begins at c.in_ok-push_joined-2.ensures) in
-    let read = IsReadAssigned-both v text rest later c.scan.invariant.1 (syllable-read v c.requires.on rest later c.scan.syllable begins) in (
-      goes-both v form text later begun c.args.out.now between c.write_space.new.out made (subst (λ j. IfSome j (λ next. GoesOn v form later next.0.now between c.write_space.new.out)) c.in-Some-2.is c.in_ok-begun.ensures.goes),
-      IsReadAssigned-both v text later begun read (subst (λ j. IfSome j (λ next. IsReadAssigned v later next.0.now)) c.in-Some-2.is c.in_ok-begun.ensures.read),
+    let made = goes-both v form _ _ later c.args.out.now c.scan.out between c.scan.invariant.0
+    (goes-joined v c.meets_conditions.ensures c.requires.on form c.requires.form _ later c.scan.syllable c.scan.out between begins at c.in_ok-push_joined-2.ensures) in
+    let read = IsReadAssigned-both v _ _ later c.scan.invariant.1 (syllable-read v c.requires.on _ later c.scan.syllable begins) in (
+      goes-both v form _ later _ c.args.out.now between c.write_space.new.out made (subst (λ j. IfSome j (λ next. GoesOn v form later next.0.now between c.write_space.new.out)) c.in-Some-2.is c.in_ok-begun.ensures.goes),
+      IsReadAssigned-both v _ later _ read (subst (λ j. IfSome j (λ next. IsReadAssigned v later next.0.now)) c.in-Some-2.is c.in_ok-begun.ensures.read),
       subst (λ j. IfSome j (λ next. BeginsWithSyllable next.0.now next.2.now next.1)) c.in-Some-2.is c.in_ok-begun.ensures.begins,
     )
 

@@ -1,45 +1,36 @@
 use Rattle.std.proofs.Common.{◌≡◌, ◌∙◌, true, sym, subst, IfNone, IfSome}
-use Rattle.np_forms.specs.inside.Copies.{GoesOn}
-use Rattle.np_forms.specs.inside.Readings.{IsReadAssigned}
-use Rattle.np_forms.specs.inside.Syllables.{BeginsWithSyllable}
-use Rattle.np_forms.proofs.DecomposedLemmas.{goes-both, goes-start}
+use Rattle.np_forms.proofs.Words.{GoesOn, IsReadAssigned, BeginsWithSyllable, has_hangul}
+use Rattle.np_forms.proofs.SegmentLemmas.{goes-both, goes-start}
 use Rattle.np_forms.proofs.SyllableFrontLemmas.{goes-syllable, syllable-read}
 use Rattle.np_forms.proofs.TextLemmas.{IsReadAssigned-both, IsReadAssigned-start}
-use Rattle.np_tables.specs.Versions.{has_hangul}
 use Rattle.np_forms.proofs.syllable_texts.write_syllables.Goals as goal
 
 pub scan-init : goal.scan-init
 scan-init g c =
-    let v = g.T.NormTable.model c.args.normalizer.now.table.now in
     let text = c.args.text.now in
-    (text, goes-start v c.args.normalizer.now.form text c.args.out.now c.utf8.text, IsReadAssigned-start v text c.utf8.text, c.in-Some.ensures)
+    (text, goes-start _ c.args.normalizer.now.form text c.args.out.now c.utf8.text, IsReadAssigned-start _ text c.utf8.text, c.in-Some.ensures)
 
 pub scan-preserved-in-Some-syllable_front : goal.scan-preserved-in-Some-syllable_front
 scan-preserved-in-Some-syllable_front g c =
     let v = g.T.NormTable.model c.args.normalizer.now.table.now in
-    let form = c.args.normalizer.now.form in
-    let text = c.args.text.now in
     let rest = c.scan.invariant.0 in
-    let later = c.scan.later.now in
     let on : has_hangul v ≡ true = sym c.hangul.ensures ∙ c.if-not-hangul.false in
     let begins = c.scan.invariant.3 in (
-      later,
-      goes-both v form text rest later c.args.out.now c.scan.out c.push_syllable.new.out c.scan.invariant.1
-          (goes-syllable v c.meets_conditions.ensures on form c.requires rest later c.scan.syllable c.scan.out c.push_syllable.new.out begins c.in_ok-push_syllable.ensures),
-      IsReadAssigned-both v text rest later c.scan.invariant.2 (syllable-read v on rest later c.scan.syllable begins),
+      _,
+      goes-both v _ _ rest _ c.args.out.now c.scan.out c.push_syllable.new.out c.scan.invariant.1
+          (goes-syllable v c.meets_conditions.ensures on _ c.requires rest _ c.scan.syllable c.scan.out c.push_syllable.new.out begins c.in_ok-push_syllable.ensures),
+      IsReadAssigned-both v _ rest _ c.scan.invariant.2 (syllable-read v on rest _ c.scan.syllable begins),
       c.in-Some-syllable_front.ensures,
     )
 
 pub returns-in_default-2-clause-goes : goal.returns-in_default-2-clause-goes
 returns-in_default-2-clause-goes g c =
     let v = g.T.NormTable.model c.args.normalizer.now.table.now in
-    let form = c.args.normalizer.now.form in
     let rest = c.scan.invariant.0 in
-    let later = c.scan.later.now in
     let on : has_hangul v ≡ true = sym c.hangul.ensures ∙ c.if-not-hangul.false in
     let same : c.write_space.new.out ≡ c.push_syllable.new.out = subst (λ j. IfNone j (c.write_space.new.out ≡ c.push_syllable.new.out)) c.in_default-2.is c.in_ok-_begun.ensures.none in
-    goes-both v form c.args.text.now rest later c.args.out.now c.scan.out c.write_space.new.out c.scan.invariant.1
-    (goes-syllable v c.meets_conditions.ensures on form c.requires rest later c.scan.syllable c.scan.out c.write_space.new.out c.scan.invariant.3 (same ∙ c.in_ok-push_syllable.ensures))
+    goes-both v _ c.args.text.now rest _ c.args.out.now c.scan.out c.write_space.new.out c.scan.invariant.1
+    (goes-syllable v c.meets_conditions.ensures on _ c.requires rest _ c.scan.syllable c.scan.out c.write_space.new.out c.scan.invariant.3 (same ∙ c.in_ok-push_syllable.ensures))
 
 pub returns-in_default-2-clause-read : goal.returns-in_default-2-clause-read
 returns-in_default-2-clause-read g c =
@@ -51,19 +42,17 @@ pub scan-preserved : goal.scan-preserved
 scan-preserved g c =
     let v = g.T.NormTable.model c.args.normalizer.now.table.now in
     let form = c.args.normalizer.now.form in
-    let text = c.args.text.now in
     let rest = c.scan.invariant.0 in
     let later = c.scan.later.now in
-    let begun = c.in-Some-2._begun.now in
     let between = c.push_syllable.new.out in
     let on : has_hangul v ≡ true = sym c.hangul.ensures ∙ c.if-not-hangul.false in
     let begins = c.scan.invariant.3 in
-    let made = goes-both v form text rest later c.args.out.now c.scan.out between c.scan.invariant.1
+    let made = goes-both v form _ rest later c.args.out.now c.scan.out between c.scan.invariant.1
     (goes-syllable v c.meets_conditions.ensures on form c.requires rest later c.scan.syllable c.scan.out between begins c.in_ok-push_syllable.ensures) in
-    let read = IsReadAssigned-both v text rest later c.scan.invariant.2 (syllable-read v on rest later c.scan.syllable begins) in (
-      begun,
-      goes-both v form text later begun c.args.out.now between c.write_space.new.out made (subst (λ j. IfSome j (λ next. GoesOn v form later next.0.now between c.write_space.new.out)) c.in-Some-2.is c.in_ok-_begun.ensures.goes),
-      IsReadAssigned-both v text later begun read (subst (λ j. IfSome j (λ next. IsReadAssigned v later next.0.now)) c.in-Some-2.is c.in_ok-_begun.ensures.read),
+    let read = IsReadAssigned-both v _ rest later c.scan.invariant.2 (syllable-read v on rest later c.scan.syllable begins) in (
+      _,
+      goes-both v form _ later _ c.args.out.now between c.write_space.new.out made (subst (λ j. IfSome j (λ next. GoesOn v form later next.0.now between c.write_space.new.out)) c.in-Some-2.is c.in_ok-_begun.ensures.goes),
+      IsReadAssigned-both v _ later _ read (subst (λ j. IfSome j (λ next. IsReadAssigned v later next.0.now)) c.in-Some-2.is c.in_ok-_begun.ensures.read),
       subst (λ j. IfSome j (λ next. BeginsWithSyllable next.0.now next.2.now next.1)) c.in-Some-2.is c.in_ok-_begun.ensures.begins,
     )
 

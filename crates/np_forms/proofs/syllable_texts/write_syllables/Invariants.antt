@@ -1,7 +1,5 @@
 use Rattle.std.proofs.Common.{ℕ, List, length}
-use Rattle.np_forms.specs.inside.Copies.{GoesOn}
-use Rattle.np_forms.specs.inside.Readings.{IsReadAssigned}
-use Rattle.np_forms.specs.inside.Syllables.{BeginsWithSyllable}
+use Rattle.np_forms.proofs.Words.{GoesOn, IsReadAssigned, BeginsWithSyllable}
 use Rattle.np_forms.proofs.syllable_texts.write_syllables.Given as goal
 
 abbrev pub invariant-scan : goal.invariant-scan

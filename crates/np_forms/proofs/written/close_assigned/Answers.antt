@@ -1,6 +1,6 @@
 use Rattle.std.proofs.Common.{sym, ◌∙◌}
 use Rattle.std.proofs.lemmas.List.{nil_from_length}
-use Rattle.np_forms.proofs.ClosingLemmas.{Closes-at_once}
+use Rattle.np_forms.proofs.ChunkLemmas.{Closes-at_once}
 use Rattle.np_forms.proofs.written.close_assigned.Goals as goal
 
 pub returns-then-pending_len-eq0-clause-form : goal.returns-then-pending_len-eq0-clause-form

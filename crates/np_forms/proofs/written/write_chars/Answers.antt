@@ -1,9 +1,5 @@
 use Rattle.std.proofs.Common.{◌≡◌, ◌++◌, ◌∷◌, [], chars, sym, ap, subst, ◌∙◌, append-nil}
-use Rattle.std.proofs.lemmas.List.{nil_from_length}
-use Rattle.std.proofs.lemmas.Str.{chars-nil}
-use Rattle.std.specs.Str.Iter.{chars_rest}
-use Rattle.np_forms.specs.inside.Readings.{IsRead}
-use Rattle.np_forms.specs.inside.Written.{Writes}
+use Rattle.np_forms.proofs.Words.{nil_from_length, chars-nil, chars_rest, IsRead, Writes}
 use Rattle.np_forms.proofs.TextLemmas.{IsRead-start, IsRead-next, IsRead-both}
 use Rattle.np_forms.proofs.WrittenLemmas.{Writes-start, Writes-next, Writes-held}
 use Rattle.np_forms.proofs.written.write_chars.Goals as goal

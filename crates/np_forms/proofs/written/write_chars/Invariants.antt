@@ -1,7 +1,5 @@
 use Rattle.std.proofs.Common.{List, ℕ, length}
-use Rattle.std.specs.Str.Iter.{chars_rest}
-use Rattle.np_forms.specs.inside.Readings.{IsRead}
-use Rattle.np_forms.specs.inside.Written.{Writes}
+use Rattle.np_forms.proofs.Words.{chars_rest, IsRead, Writes}
 use Rattle.np_forms.proofs.written.write_chars.Given as goal
 
 abbrev pub invariant-chars : goal.invariant-chars

@@ -1,7 +1,5 @@
 use Rattle.std.proofs.Common.{IfSome, subst, sym, arith, inl, inr}
-use Rattle.std.proofs.lemmas.Bool.{cases_eq}
-use Rattle.np_tables.specs.Faults.{IsAmbiguous}
-use Rattle.np_tables.specs.inside.Suspects.{IsAtMost, IsSuspect}
+use Rattle.np_tables.proofs.Words.{cases_eq, IsAmbiguous, IsAtMost, IsSuspect}
 use Rattle.np_tables.proofs.AmbiguityLemmas.{at_most_left, at_most_right, least_has, first_of_places}
 use Rattle.np_tables.proofs.ambiguity.first_ambiguous.Goals as goal
 

@@ -1,6 +1,5 @@
 use Rattle.std.proofs.Common.{ℕ, ◌<◌, IfSome}
-use Rattle.np_tables.specs.Faults.{IsAmbiguous}
-use Rattle.np_tables.specs.inside.Suspects.{IsAtMost, IsSuspect}
+use Rattle.np_tables.proofs.Words.{IsAmbiguous, IsAtMost, IsSuspect}
 use Rattle.np_tables.proofs.ambiguity.first_ambiguous.Given as goal
 
 abbrev pub invariant-loop-place : goal.invariant-loop-place

@@ -9,12 +9,6 @@ returns-then-passed-lt-STEP-clause-ascii c =
 
 pub loop-at-preserved : goal.loop-at-preserved
 loop-at-preserved c =
-    let bytes = c.args.bytes.now in
-    let at = c.loop-at.at in
-    let passed = c.ascii_in_step-passed.result in
-    let all = step_ascii bytes at passed (omega arith) c.ascii_in_step-passed.ensures c.loop-at.invariant.1 in
-    let le = step_le bytes at passed (omega arith) c.ascii_in_step-passed.ensures in
+    let all = step_ascii _ c.loop-at.at _ (omega arith) c.ascii_in_step-passed.ensures c.loop-at.invariant.1 in
+    let le = step_le _ c.loop-at.at _ (omega arith) c.ascii_in_step-passed.ensures in
     (omega arith, λ k lt. all k (omega (arith, lt, le, c.if-passed-lt-STEP.false)))
-
-pub returns-clause-ascii : goal.returns-clause-ascii
-returns-clause-ascii c = low_take c.loop-at.at c.args.bytes.now c.loop-at.invariant.1

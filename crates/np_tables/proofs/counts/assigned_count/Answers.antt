@@ -18,17 +18,14 @@ pub overflow_add-count-in-Some : goal.overflow_add-count-in-Some
 overflow_add-count-in-Some c =
     let row = sizes-drop c.args.characters.now.entries c.loop-at.at (entry_of c.in-Some.row.now) (sym c.in-Some.ensures.row) in
     let all = sizes-le c.args.characters.now c.len-at-end.ensures.rows in
-    let so_far = c.loop-at.invariant in
     omega arith
 
 pub loop-at-preserved : goal.loop-at-preserved
 loop-at-preserved c =
     let es = c.args.characters.now.entries in
-    let so_far = c.loop-at.invariant in
     elim c.match-row.branch [
       | in-Some w ↦
           (let row = sizes-drop es c.loop-at.at (entry_of w.in-Some.row.now) (sym w.in-Some.ensures.row) in
-          let is = w.count-is in
           omega arith)
       | in_default w ↦
           (let none : slice_get es c.loop-at.at ≡ None = sym c.row.ensures.row ∙ ap (option_map (λ r. entry_of r.now)) w.in_default.is in
@@ -38,6 +35,5 @@ loop-at-preserved c =
 pub returns : goal.returns
 returns c =
     let end = sizes-end c.args.characters.now.entries c.loop-at.at (omega arith) in
-    let so_far = c.loop-at.invariant in
     let same = sizes-count c.args.characters.now c.len-at-end.ensures.rows in
     omega arith

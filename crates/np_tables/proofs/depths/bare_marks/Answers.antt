@@ -6,17 +6,16 @@ use Rattle.np_tables.proofs.depths.bare_marks.Goals.{then-is_empty, else-is_empt
 
 pub loop-at-preserved : goal.loop-at-preserved
 loop-at-preserved c =
-    let v = c.args.characters.now in
     let xs = c.mapping_at-mapping.result.now in
-    let lt : c.loop-at.at < length v.entries = omega arith in
-    let mark : c.if-is_empty.push ≡ mapping_mark v 0 xs =
+    let lt : c.loop-at.at < length c.args.characters.now.entries = omega arith in
+    let mark : c.if-is_empty.push ≡ mapping_mark _ 0 xs =
     elim c.if-is_empty.branch [
-      | then-is_empty w ↦ w.push-is ∙ sym (bare_mapping v xs (empty_test xs (sym w.if-is_empty.ensures)))
-      | else-is_empty w ↦ w.push-is ∙ sym (deep_mapping v xs (full_test xs (sym w.if-is_empty.ensures)))
+      | then-is_empty w ↦ w.push-is ∙ sym (bare_mapping _ xs (empty_test xs (sym w.if-is_empty.ensures)))
+      | else-is_empty w ↦ w.push-is ∙ sym (deep_mapping _ xs (full_test xs (sym w.if-is_empty.ensures)))
     ]
     in
     c.in_ok-push.ensures.items
-    ∙ row_marks_more v 0 c.loop-at.at c.if-is_empty.push c.loop-at.marks.items lt c.loop-at.invariant (mark ∙ ap (mapping_mark v 0) c.mapping_at-mapping.ensures)
+    ∙ row_marks_more _ 0 c.loop-at.at c.if-is_empty.push c.loop-at.marks.items lt c.loop-at.invariant (mark ∙ ap (mapping_mark _ 0) c.mapping_at-mapping.ensures)
 
 pub returns-clause-marks : goal.returns-clause-marks
 returns-clause-marks c =

@@ -1,4 +1,4 @@
-use Rattle.np_tables.proofs.AnswerLemmas.{first_too_deep, first_too_long}
+use Rattle.np_tables.proofs.SyllableLemmas.{first_too_deep, first_too_long}
 use Rattle.np_tables.proofs.depths.depth_faults.Goals as goal
 
 pub returns-clause-too_deep : goal.returns-clause-too_deep

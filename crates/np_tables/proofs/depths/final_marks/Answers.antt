@@ -1,5 +1,5 @@
 use Rattle.std.proofs.Common.{sym, arith}
-use Rattle.np_tables.proofs.AnswerLemmas.{settled_at}
+use Rattle.np_tables.proofs.SyllableLemmas.{settled_at}
 use Rattle.np_tables.proofs.depths.final_marks.Goals as goal
 
 pub returns-then-eq-clause-marks : goal.returns-then-eq-clause-marks

@@ -1,8 +1,6 @@
 use Rattle.std.proofs.Common.{length, ap, ◌∙◌}
-use Rattle.std.specs.List.{slice_get}
-use Rattle.std.specs.Option.{option_map}
-use Rattle.np_code_points.specs.inside.LineCuts.{before_byte}
-use Rattle.np_tables.proofs.MarkCutLemmas.{first_cut}
+use Rattle.np_tables.proofs.Words.{slice_get, option_map, before_byte}
+use Rattle.np_tables.proofs.RoundLemmas.{first_cut}
 use Rattle.np_tables.proofs.depths.first_marked.Goals as goal
 
 pub returns : goal.returns

@@ -4,10 +4,8 @@ use Rattle.np_tables.proofs.depths.next_mark.Goals as goal
 
 pub returns-then-is_empty : goal.returns-then-is_empty
 returns-then-is_empty c =
-    let xs = c.args.mapping.now in
-    sym (next_bare c.args.characters.now c.args.round xs (empty_test xs (sym c.if-is_empty.ensures)))
+    sym (next_bare c.args.characters.now c.args.round _ (empty_test _ (sym c.if-is_empty.ensures)))
 
 pub returns-else-is_empty : goal.returns-else-is_empty
 returns-else-is_empty c =
-    let xs = c.args.mapping.now in
-    c.parts_mark.ensures ∙ sym (next_parts c.args.characters.now c.args.round xs (full_test xs (sym c.if-is_empty.ensures)))
+    c.parts_mark.ensures ∙ sym (next_parts c.args.characters.now c.args.round _ (full_test _ (sym c.if-is_empty.ensures)))

@@ -1,14 +1,8 @@
 use Rattle.std.proofs.Common.{◌≡◌, ℕ, ◌+◌, List, length, Some, Bor, option_map, sym, ap, subst, ◌∙◌, arith}
-use Rattle.std.specs.List.{slice_get}
+use Rattle.np_tables.proofs.Words.{slice_get, after_byte, is_byte, mapping_in, mapping_mark}
 use Rattle.np_code_points.proofs.LineLemmas.{length-after_first}
-use Rattle.np_code_points.specs.inside.LineCuts.{after_byte, is_byte}
-use Rattle.np_tables.specs.Versions.{mapping_in}
-use Rattle.np_tables.specs.inside.Depths.{mapping_mark}
-use Rattle.np_tables.proofs.MarkCutLemmas.{IsRound, round_begun, round_more, round_done}
+use Rattle.np_tables.proofs.RoundLemmas.{IsRound, round_more, round_done}
 use Rattle.np_tables.proofs.depths.next_marks.Goals as goal
-
-pub loop-next-init : goal.loop-next-init
-loop-next-init c = round_begun c.args.characters.now c.args.round c.in_ok-next.next.items c.args.marks.now c.in_ok-next.ensures.items c.requires.marks
 
 pub loop-next-smaller : goal.loop-next-smaller
 loop-next-smaller c =

@@ -1,5 +1,5 @@
 use Rattle.std.proofs.Common.{length}
-use Rattle.np_tables.proofs.MarkCutLemmas.{IsRound}
+use Rattle.np_tables.proofs.RoundLemmas.{IsRound}
 use Rattle.np_tables.proofs.depths.next_marks.Given as goal
 
 abbrev pub invariant-loop-next : goal.invariant-loop-next

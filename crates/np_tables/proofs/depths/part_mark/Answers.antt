@@ -1,16 +1,13 @@
 use Rattle.std.proofs.Common.{length, get_or, sym, ap, ◌∙◌, arith}
-use Rattle.std.proofs.lemmas.Bool.{and_parts}
-use Rattle.np_code_points.specs.Hangul.{is_syllable}
-use Rattle.np_tables.specs.Versions.{has_hangul}
+use Rattle.np_tables.proofs.Words.{and_parts, is_syllable, has_hangul}
 use Rattle.np_tables.proofs.RoundLemmas.{length-row_marks, mark-bound, mark-none, mark-some}
 use Rattle.np_tables.proofs.SyllableLemmas.{mark-syllable}
 use Rattle.np_tables.proofs.depths.part_mark.Goals as goal
 
 pub returns-then-is_composed-clause-value : goal.returns-then-is_composed-clause-value
 returns-then-is_composed-clause-value c =
-    let v = c.args.characters.now in
-    let halves = and_parts (has_hangul v) (is_syllable c.args.code) (sym c.if-is_composed.ensures.on) in
-    c.syllable_mark.ensures ∙ sym (mark-syllable v c.requires.rows halves.0 c.args.round c.args.code halves.1)
+    let halves = and_parts (has_hangul _) (is_syllable c.args.code) (sym c.if-is_composed.ensures.on) in
+    c.syllable_mark.ensures ∙ sym (mark-syllable _ c.requires.rows halves.0 c.args.round c.args.code halves.1)
 
 pub returns-then-is_composed-clause-bound : goal.returns-then-is_composed-clause-bound
 returns-then-is_composed-clause-bound c =
@@ -26,10 +23,9 @@ bounds-marks-at c =
 
 pub returns-in-Some-clause-value : goal.returns-in-Some-clause-value
 returns-in-Some-clause-value c =
-    let v = c.args.characters.now in
     let told = c.in-Some.ensures in
     ap (λ l. get_or l c.in-Some.at 0) c.requires.marks
-    ∙ mark-some v c.requires.rows c.args.round c.args.code (sym c.if-is_composed.ensures.on) c.in-Some.at 0 told.within told.row
+    ∙ mark-some _ c.requires.rows c.args.round c.args.code (sym c.if-is_composed.ensures.on) c.in-Some.at 0 told.within told.row
 
 pub returns-in-Some-clause-bound : goal.returns-in-Some-clause-bound
 returns-in-Some-clause-bound c =

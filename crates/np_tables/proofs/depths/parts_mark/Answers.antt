@@ -16,16 +16,15 @@ returns-then-mark-eq0 c =
 
 pub loop-part-preserved : goal.loop-part-preserved
 loop-part-preserved c =
-    let v = c.args.characters.now in
     let n = c.args.round in
     let xs = c.args.parts.now in
     let i = c.loop-part.part-index in
     let m = c.part_mark-mark.result in
     let lt : i < length xs = omega arith in
     let item : c.from.result ≡ get_or xs i 0 = part_at xs i c.from.result c.part-item.result lt c.from.ensures c.part-item.is in
-    let is : m ≡ mark v n (get_or xs i 0) = c.part_mark-mark.ensures.value ∙ ap (mark v n) item in
+    let is : m ≡ mark c.args.characters.now n (get_or xs i 0) = c.part_mark-mark.ensures.value ∙ ap (mark _ n) item in
     let more : 0 < m = omega arith in
-    subst (IsSum v n (take (i + 1) xs)) (sym c.min-sum.ensures) (IsSum-more v n xs i c.loop-part.sum m lt c.loop-part.invariant is more)
+    subst (IsSum _ n (take (i + 1) xs)) (sym c.min-sum.ensures) (IsSum-more _ n xs i c.loop-part.sum m lt c.loop-part.invariant is more)
 
 pub returns : goal.returns
 returns c = sym (parts-done c.args.characters.now c.args.round c.args.parts.now c.loop-part.part-index c.loop-part.sum (omega arith) c.loop-part.invariant)

@@ -1,7 +1,7 @@
 use Rattle.std.proofs.Common.{◌-◌, sym, ◌∙◌, arith}
 use Rattle.std.proofs.lemmas.Result.{IfOk-weaker}
 use Rattle.np_tables.specs.inside.FullDecompositions.{full}
-use Rattle.np_tables.proofs.FullLemmas.{full-bottom, full-kept, full-level, append_piece, append_all, append_two, parts-counted_mapping, nil_from_test, some_from_test}
+use Rattle.np_tables.proofs.FullListLemmas.{full-bottom, full-kept, full-level, append_all, append_two, parts-counted_mapping, nil_from_test, some_from_test}
 use Rattle.np_tables.proofs.fulls.+expand.Goals as goal
 
 pub returns-then-depth-eq0 : goal.returns-then-depth-eq0
@@ -28,8 +28,3 @@ returns t c =
     let some = some_from_test c.counted_mapping-mapping.result.now c.is_empty.result c.is_empty.ensures c.if-is_empty.false in
     append_all (full c.args.characters.now c.args.compat (c.args.depth - 1)) c.counted_mapping-mapping.result.now c.args.out.now.items _ _ c.loop-part.part-index c.loop-part-test.false c.loop-part.invariant
     (sym (full-level c.args.characters.now c.args.compat c.args.depth c.args.code c.counted_mapping-mapping.result.now (omega arith) parts_are some))
-
-pub loop-part-preserved : goal.loop-part-preserved
-loop-part-preserved t c =
-    append_piece (full c.args.characters.now c.args.compat (c.args.depth - 1)) c.counted_mapping-mapping.result.now c.args.out.now.items c.loop-part.out.items c.expand-in-loop-part.new.out.items
-    c.loop-part.part-index c.part-item.result c.loop-part-test.true c.part-item.is c.loop-part.invariant c.in_ok-expand-2.ensures

@@ -1,6 +1,5 @@
 use Rattle.std.proofs.Common.{◌++◌, sym, ap, ◌∙◌, append-nil}
-use Rattle.np_ucd.specs.RowValues.{entry_of}
-use Rattle.np_tables.specs.inside.FullDecompositions.{full}
+use Rattle.np_tables.proofs.Words.{entry_of, full}
 use Rattle.np_tables.proofs.FullListLemmas.{row-lent, row-not_lent}
 use Rattle.np_tables.proofs.fulls.push_full.Goals as goal
 

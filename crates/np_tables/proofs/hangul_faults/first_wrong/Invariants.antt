@@ -1,6 +1,5 @@
 use Rattle.std.proofs.Common.{◌≡◌, ℕ, ◌<◌, true}
-use Rattle.np_tables.specs.inside.HangulRows.{hangul_at}
-use Rattle.np_tables.specs.Versions.{is_hangul_row}
+use Rattle.np_tables.proofs.Words.{hangul_at, is_hangul_row}
 use Rattle.np_tables.proofs.hangul_faults.first_wrong.Given as goal
 
 abbrev pub invariant-loop-place : goal.invariant-loop-place

@@ -1,6 +1,5 @@
 use Rattle.std.proofs.Common.{◌≡◌, ℕ, ◌<◌, false}
-use Rattle.np_tables.specs.inside.HangulRows.{hangul_at}
-use Rattle.np_tables.specs.Versions.{is_assigned}
+use Rattle.np_tables.proofs.Words.{hangul_at, is_assigned}
 use Rattle.np_tables.proofs.hangul_faults.has_some.Given as goal
 
 abbrev pub invariant-loop-place : goal.invariant-loop-place

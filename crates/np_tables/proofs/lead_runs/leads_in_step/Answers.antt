@@ -1,5 +1,4 @@
-use Rattle.std.proofs.lemmas.Simd.{length-chunk}
-use lib.Lanes.{chunk}
+use Rattle.np_tables.proofs.Words.{length-chunk, chunk}
 use Rattle.np_tables.proofs.LeadByteLemmas.{leads_mask}
 use Rattle.np_tables.proofs.lead_runs.leads_in_step.Goals as goal
 

@@ -1,8 +1,5 @@
 use Rattle.std.proofs.Common.{◌≡◌, ℕ, ◌+◌, ◌<◌, true, slice_index_or}
-use Rattle.np_code_points.specs.declared.forms.Form.{Form}
-use Rattle.np_tables.specs.inside.PageHints.{has_bit, parts_place}
-use Rattle.np_tables.specs.inside.PageWords.{no_word}
-use Rattle.np_tables.specs.inside.Pages.{word_place}
+use Rattle.np_tables.proofs.Words.{Form, has_bit, parts_place, no_word, word_place}
 use Rattle.np_tables.proofs.leads.are_leads_parting.Given as goal
 
 abbrev pub invariant-loop-lead : goal.invariant-loop-lead

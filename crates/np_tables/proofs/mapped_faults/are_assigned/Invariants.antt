@@ -1,6 +1,5 @@
 use Rattle.std.proofs.Common.{◌≡◌, drop}
-use Rattle.std.specs.List.{list_all}
-use Rattle.np_tables.specs.Versions.{is_assigned}
+use Rattle.np_tables.proofs.Words.{list_all, is_assigned}
 use Rattle.np_tables.proofs.mapped_faults.are_assigned.Given as goal
 
 abbrev pub invariant-loop-part : goal.invariant-loop-part

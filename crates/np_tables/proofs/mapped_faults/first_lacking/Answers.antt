@@ -1,8 +1,6 @@
 use Rattle.std.proofs.Common.{◌∙◌, sym, ap, arith}
-use Rattle.std.specs.List.{list_all}
-use Rattle.np_ucd.specs.RowValues.{entry_of}
-use Rattle.np_tables.specs.Versions.{is_assigned}
-use Rattle.np_tables.proofs.MappedLemmas.{first_lacking-some, first_lacking-none}
+use Rattle.np_tables.proofs.Words.{list_all, entry_of, is_assigned}
+use Rattle.np_tables.proofs.FactLemmas.{first_lacking-some, first_lacking-none}
 use Rattle.np_tables.proofs.mapped_faults.first_lacking.Goals as goal
 
 pub returns-then-not-are_assigned : goal.returns-then-not-are_assigned

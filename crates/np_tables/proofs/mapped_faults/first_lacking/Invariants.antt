@@ -1,4 +1,4 @@
-use Rattle.np_tables.proofs.MappedLemmas.{RowsHold}
+use Rattle.np_tables.proofs.FactLemmas.{RowsHold}
 use Rattle.np_tables.proofs.mapped_faults.first_lacking.Given as goal
 
 abbrev pub invariant-loop-at : goal.invariant-loop-at

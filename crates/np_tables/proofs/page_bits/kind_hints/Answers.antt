@@ -1,7 +1,5 @@
 use Rattle.std.proofs.Common.{◌∷◌, [], ◌∙◌, sym, subst}
-use Rattle.np_ucd.specs.RowValues.{entry_of}
-use Rattle.np_tables.specs.Mappings.{IsFullDecomposition}
-use Rattle.np_tables.specs.inside.PageHints.{AreHints}
+use Rattle.np_tables.proofs.Words.{entry_of, IsFullDecomposition, AreHints}
 use Rattle.np_tables.proofs.PageHintLemmas.{lent-decomposes, not_lent-final}
 use Rattle.np_tables.proofs.page_bits.kind_hints.Goals as goal
 

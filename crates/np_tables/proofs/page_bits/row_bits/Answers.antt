@@ -1,9 +1,6 @@
 use Rattle.std.proofs.Common.{◌≡◌, ◌∙◌, Some, sym, subst}
-use Rattle.std.specs.List.{slice_get}
-use Rattle.np_ucd.specs.RowValues.{entry_of}
-use Rattle.np_tables.specs.Versions.{entry_at}
-use Rattle.np_tables.specs.inside.PageHints.{AreHints}
-use Rattle.np_tables.proofs.PageApartLemmas.{row-apart}
+use Rattle.np_tables.proofs.Words.{slice_get, entry_of, entry_at, AreHints}
+use Rattle.np_tables.proofs.PrimaryLemmas.{row-apart}
 use Rattle.np_tables.proofs.PageHintLemmas.{hints-own}
 use Rattle.np_tables.proofs.PageWordLemmas.{class-found}
 use Rattle.np_tables.proofs.page_bits.row_bits.Goals as goal

@@ -1,6 +1,5 @@
 use Rattle.std.proofs.Common.{◌+◌, subst, arith, inl, inr}
-use Rattle.std.proofs.lemmas.Bool.{cases_lt}
-use Rattle.np_tables.specs.inside.PageHints.{IsApart}
+use Rattle.np_tables.proofs.Words.{cases_lt, IsApart}
 use Rattle.np_tables.proofs.page_hints.are_leads_apart.Goals as goal
 
 pub loop-lead-preserved : goal.loop-lead-preserved

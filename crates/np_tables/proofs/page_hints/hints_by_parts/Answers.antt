@@ -1,6 +1,5 @@
 use Rattle.std.proofs.Common.{◌∙◌, ap, sym, subst, refl}
-use Rattle.np_tables.specs.Versions.{class_of}
-use Rattle.np_tables.specs.inside.PageHints.{IsApart}
+use Rattle.np_tables.proofs.Words.{class_of, IsApart}
 use Rattle.np_tables.proofs.PageHintLemmas.{hints-listed}
 use Rattle.np_tables.proofs.page_hints.hints_by_parts.Goals as goal
 

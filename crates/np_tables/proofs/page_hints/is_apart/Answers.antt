@@ -1,9 +1,6 @@
 use Rattle.std.proofs.Common.{◌≡◌, ◌∙◌, None, sym, subst}
-use Rattle.std.proofs.lemmas.Bool.{not-true}
-use Rattle.np_tables.specs.Versions.{entry_at}
-use Rattle.np_tables.specs.inside.PageHints.{IsApart}
-use Rattle.np_tables.specs.inside.PageWords.{AreSeconds}
-use Rattle.np_tables.proofs.PageApartLemmas.{apart-unlisted, apart-unmarked}
+use Rattle.np_tables.proofs.Words.{not-true, entry_at, IsApart, AreSeconds}
+use Rattle.np_tables.proofs.PrimaryLemmas.{apart-unlisted, apart-unmarked}
 use Rattle.np_tables.proofs.page_hints.is_apart.Goals as goal
 
 pub returns-in-Some : goal.returns-in-Some

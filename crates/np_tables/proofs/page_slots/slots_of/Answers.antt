@@ -1,39 +1,32 @@
 use Rattle.std.proofs.Common.{◌∙◌, ap, Vec, Global, ℕ, arith}
-use Rattle.np_ucd.specs.RowValues.{entry_of}
-use Rattle.np_tables.specs.Versions.{is_empty}
-use Rattle.np_tables.specs.declared.fulls.Part.{Part}
+use Rattle.np_tables.proofs.Words.{entry_of, is_empty, Part}
 use Rattle.np_tables.proofs.RowLemmas.{place-le}
-use Rattle.np_tables.proofs.FullLemmas.{nil_from_test}
+use Rattle.np_tables.proofs.FullListLemmas.{nil_from_test}
 use Rattle.np_tables.proofs.PageSlotLemmas.{slots-bare, slots-pushed, slots-moved}
 use Rattle.np_tables.proofs.page_slots.slots_of.Goals as goal
 use Rattle.np_tables.proofs.page_slots.slots_of.Goals.{then-is_empty+in_ok-push, else-is_empty+in_ok-push_row+in_ok-push-2}
 
 pub overflow_cast-slot : goal.overflow_cast-slot
 overflow_cast-slot c =
-    let few = c.loop-at.invariant.few in
-    let row = c.row_in-row.ensures.row in
     let low = place-le c.args.characters.now.entries c.loop-at.at (entry_of c.row_in-row.result.now) c.len.ensures.rows c.row_in-row.ensures.place in
-    let up = row.rises in
-    let bound = row.bounded in
     let size = c.len-slot.ensures ∙ c.loop-at.canonical.ok.0 in
     omega arith
 
 pub loop-at-preserved : goal.loop-at-preserved
 loop-at-preserved c =
-    let v = c.args.characters.now in
     let at = c.loop-at.at in
     let e = entry_of c.row_in-row.result.now in
     elim c.if-is_empty.branch [
       | then-is_empty+in_ok-push w ↦
-          slots-moved v _ c.loop-at.codes.items _ c.loop-at.canonical.items _ c.loop-at.compatible.items _ _ _
+          slots-moved _ _ c.loop-at.codes.items _ c.loop-at.canonical.items _ c.loop-at.compatible.items _ _ _
           (ap (λ (x : Vec ℕ Global). x.items) w.codes-is) (ap (λ (x : Vec Part Global). x.items) w.canonical-is) (ap (λ (x : Vec Part Global). x.items) w.compatible-is)
           (ap (λ (x : Vec ℕ Global). x.items) w.slots-is ∙ w.in_ok-push.ensures.items)
-          (slots-bare v at c.loop-at.codes.items c.loop-at.canonical.items c.loop-at.compatible.items c.loop-at.slots.items e c.loop-at.invariant c.row_in-row.ensures.place c.row_in-row.ensures.first
+          (slots-bare _ at c.loop-at.codes.items c.loop-at.canonical.items c.loop-at.compatible.items c.loop-at.slots.items e c.loop-at.invariant c.row_in-row.ensures.place c.row_in-row.ensures.first
           (ap is_empty (nil_from_test e.mapping c.is_empty.result c.is_empty.ensures w.if-is_empty.true)))
       | else-is_empty+in_ok-push_row+in_ok-push-2 w ↦
-          slots-moved v _ _ _ _ _ _ _ _ _
+          slots-moved _ _ _ _ _ _ _ _ _ _
           (ap (λ (x : Vec ℕ Global). x.items) w.codes-is) (ap (λ (x : Vec Part Global). x.items) w.canonical-is) (ap (λ (x : Vec Part Global). x.items) w.compatible-is)
           (ap (λ (x : Vec ℕ Global). x.items) w.slots-is ∙ w.in_ok-push-2.ensures.items)
-          (slots-pushed v at c.loop-at.codes.items _ c.loop-at.canonical.items c.loop-at.compatible.items _ _ c.loop-at.slots.items _ e c.loop-at.invariant w.in_ok-push_row.ensures c.row_in-row.ensures.place
+          (slots-pushed _ at c.loop-at.codes.items _ c.loop-at.canonical.items c.loop-at.compatible.items _ _ c.loop-at.slots.items _ e c.loop-at.invariant w.in_ok-push_row.ensures c.row_in-row.ensures.place
           (c.len-slot.ensures ∙ c.loop-at.canonical.ok.0))
     ]

@@ -5,9 +5,6 @@ use Rattle.np_tables.proofs.page_words.row_words.Goals as goal
 
 pub loop-at-preserved : goal.loop-at-preserved
 loop-at-preserved c =
-    let v = c.args.version.now in
-    let slots = c.args.slots.now in
-    let seconds = c.args.seconds.now in
-    subst (AreRowWords v slots seconds (c.loop-at.at + 1)) (sym c.in_ok-push-2.ensures.items)
-    (words-more v slots seconds c.loop-at.at c.loop-at.words.items c.word_of_row.result c.loop-at.invariant
+    subst (AreRowWords _ _ _ (c.loop-at.at + 1)) (sym c.in_ok-push-2.ensures.items)
+    (words-more _ _ _ c.loop-at.at c.loop-at.words.items c.word_of_row.result c.loop-at.invariant
     (λ e here. record { bits = c.row_bits-hints.result; hints = c.row_bits-hints.ensures e here; word = c.word_of_row.ensures e here }))

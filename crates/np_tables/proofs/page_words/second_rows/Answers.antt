@@ -1,8 +1,7 @@
 use Rattle.std.proofs.Common.{◌≡◌, arith, ◌+◌, ◌∙◌, ap, sym, subst, Bool, List, length, Vec, Global}
-use Rattle.np_tables.specs.Versions.{entry_at}
-use Rattle.np_tables.specs.inside.PageWords.{AreSecondRows}
+use Rattle.np_tables.proofs.Words.{entry_at, AreSecondRows}
 use Rattle.np_tables.proofs.PageWordLemmas.{seconds-more, seconds-past}
-use Rattle.np_tables.proofs.PageApartLemmas.{seconds-all}
+use Rattle.np_tables.proofs.PrimaryLemmas.{seconds-all}
 use Rattle.np_tables.proofs.page_words.second_rows.Goals as goal
 use Rattle.np_tables.proofs.page_words.second_rows.Goals.{in-Some, in_default}
 
@@ -22,11 +21,9 @@ loop-place-preserved c =
 
 pub returns : goal.returns
 returns c =
-    let v = c.args.version.now in
     let cs = c.pairs-pairs.result.now in
     let seconds = c.loop-place.seconds.items in
-    let count = c.len-place-end.ensures.count in
     let last : c.loop-place.place ≡ length cs = omega arith in
-    seconds-all v cs seconds c.pairs-pairs.ensures
+    seconds-all _ cs seconds c.pairs-pairs.ensures
     (subst (λ w. AreSecondRows w.entries cs (length cs) seconds) c.characters-characters.ensures.same
     (subst (λ n. AreSecondRows c.characters-characters.result.now.entries cs n seconds) last c.loop-place.invariant))

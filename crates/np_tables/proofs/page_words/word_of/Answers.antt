@@ -1,6 +1,5 @@
 use Rattle.std.proofs.Common.{◌∙◌, ap, get_or, length}
-use Rattle.std.proofs.lemmas.List.{get_or_default}
-use Rattle.np_tables.specs.inside.PageWords.{no_word}
+use Rattle.np_tables.proofs.Words.{get_or_default, no_word}
 use Rattle.np_tables.proofs.page_words.word_of.Goals as goal
 
 pub bounds-words-place_in : goal.bounds-words-place_in

@@ -1,10 +1,6 @@
-use Rattle.std.proofs.Common.{◌≡◌, ◌++◌, ◌∷◌, [], ◌∙◌, sym, ap, append-nil, subst, arith, List, Vec, Global}
-use Rattle.std.specs.List.{All}
-use Rattle.std.proofs.lemmas.List.Elements.{All-push}
-use Rattle.np_ucd.specs.RowValues.{entry_of}
-use Rattle.np_tables.specs.declared.pairs.Composite.{Composite}
-use Rattle.np_tables.specs.inside.Pairs.{IsInRange, composites_in}
-use Rattle.np_tables.proofs.FileCompositeLemmas.{flat_step, flat_all}
+use Rattle.std.proofs.Common.{◌≡◌, ◌++◌, ◌∷◌, [], ◌∙◌, sym, ap, append-nil, subst, List, Vec, Global}
+use Rattle.np_tables.proofs.Words.{All, All-push, entry_of, Composite, IsInRange, composites_in}
+use Rattle.np_tables.proofs.FileCompositeLemmas.{flat_step}
 use Rattle.np_tables.proofs.pairs.file_composites.Goals as goal
 use Rattle.np_tables.proofs.pairs.file_composites.Goals.{in-Some+in_ok-push, in_default}
 
@@ -26,10 +22,3 @@ loop-at-preserved c =
             range = subst (λ (l : List Composite). All IsInRange l) (sym now) c.loop-at.invariant.range;
           }
     ]
-
-pub returns : goal.returns
-returns c =
-    record {
-      items = flat_all (composites_in c.args.characters.now) c.args.characters.now.entries c.loop-at.at c.loop-at.composites.items (omega arith) c.loop-at.invariant.items;
-      range = c.loop-at.invariant.range;
-    }

@@ -1,6 +1,5 @@
 use Rattle.std.proofs.Common.{◌≡◌, flat_map, take}
-use Rattle.std.specs.List.{All}
-use Rattle.np_tables.specs.inside.Pairs.{IsInRange, composites_in}
+use Rattle.np_tables.proofs.Words.{All, IsInRange, composites_in}
 use Rattle.np_tables.proofs.pairs.file_composites.Given as goal
 
 abbrev pub invariant-loop-at : goal.invariant-loop-at

@@ -1,6 +1,5 @@
 use Rattle.std.proofs.Common.{◌<◌, get_or}
-use Rattle.std.specs.List.{AllWithin}
-use Rattle.np_tables.specs.inside.Pairs.{slot_at}
+use Rattle.np_tables.proofs.Words.{AllWithin, slot_at}
 use Rattle.np_tables.proofs.pairs.have_numbers.Given as goal
 
 abbrev pub invariant-loop-composite : goal.invariant-loop-composite

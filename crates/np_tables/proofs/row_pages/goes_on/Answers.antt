@@ -1,6 +1,5 @@
 use Rattle.std.proofs.Common.{sym, arith}
-use Rattle.std.proofs.lemmas.Bool.{leb-true}
-use Rattle.np_ucd.specs.RowValues.{entry_of}
+use Rattle.np_tables.proofs.Words.{leb-true, entry_of}
 use Rattle.np_tables.proofs.RowLemmas.{at-row}
 use Rattle.np_tables.proofs.RowPageLemmas.{goes_on-within}
 use Rattle.np_tables.proofs.row_pages.goes_on.Goals as goal
@@ -8,8 +7,6 @@ use Rattle.np_tables.proofs.row_pages.goes_on.Goals as goal
 pub overflow_add-row : goal.overflow_add-row
 overflow_add-row c =
     let row = at-row c.args.rows.now c.args.at (entry_of c.in-Some.row.now) c.requires.rows (sym c.in-Some.ensures.row) in
-    let up = row.rises in
-    let bound = row.bounded in
     omega arith
 
 pub returns-then-row-first : goal.returns-then-row-first

@@ -1,6 +1,5 @@
 use Rattle.std.proofs.Common.{sym}
-use Rattle.std.proofs.lemmas.Bool.{leb-true}
-use Rattle.np_ucd.specs.RowValues.{entry_of}
+use Rattle.np_tables.proofs.Words.{leb-true, entry_of}
 use Rattle.np_tables.proofs.RowPageLemmas.{no_row-left, no_row-behind}
 use Rattle.np_tables.proofs.row_pages.has_no_row.Goals as goal
 

@@ -1,7 +1,5 @@
-use Rattle.std.proofs.Common.{◌+◌, ◌≤◌, refl, sym, ap, ◌∙◌, arith, inl, inr}
-use Rattle.std.specs.Option.{option_map}
-use Rattle.std.proofs.lemmas.Bool.{false≢true, cases_eq, eq-eqb, eqb-true}
-use Rattle.np_ucd.specs.RowValues.{entry_of}
+use Rattle.std.proofs.Common.{◌+◌, refl, sym, ap, ◌∙◌, arith}
+use Rattle.np_tables.proofs.Words.{option_map, eqb-true, entry_of}
 use Rattle.np_tables.proofs.RowLemmas.{at-row, place-bounded}
 use Rattle.np_tables.proofs.RowPageLemmas.{none_behind, none_left, number-none, number-some, next-within, next-behind}
 use Rattle.np_tables.proofs.row_pages.number_at.Goals as goal
@@ -16,9 +14,8 @@ overflow_add-result c =
 
 pub returns-in-Some-clause-number : goal.returns-in-Some-clause-number
 returns-in-Some-clause-number c =
-    let e = entry_of c.in-Some.row.now in
-    let ends = c.requires.next.here e (sym c.in-Some.ensures.row) in
-    number-some c.args.rows.now c.args.at c.args.code (c.args.at + 1) e c.requires.rows (sym c.in-Some.ensures.row) c.if-row-code.true ends (omega arith)
+    let ends = c.requires.next.here _ (sym c.in-Some.ensures.row) in
+    number-some c.args.rows.now c.args.at c.args.code (c.args.at + 1) _ c.requires.rows (sym c.in-Some.ensures.row) c.if-row-code.true ends (omega arith)
 
 pub returns-in-Some-clause-bound : goal.returns-in-Some-clause-bound
 returns-in-Some-clause-bound c =
@@ -29,30 +26,17 @@ returns-in-Some-clause-ends c =
     let e = entry_of c.in-Some.row.now in
     λ same. next-behind c.args.rows.now c.args.at c.args.code e c.requires.rows c.requires.next (sym c.in-Some.ensures.row) (eqb-true e.last c.args.code same)
 
-pub returns-in-Some-clause-goes_on : goal.returns-in-Some-clause-goes_on
-returns-in-Some-clause-goes_on c =
-    let e = entry_of c.in-Some.row.now in
-    let here = sym c.in-Some.ensures.row in
-    let ends = c.requires.next.here e here in
-    λ other.
-    let more : c.args.code + 1 ≤ e.last = elim (cases_eq e.last c.args.code) [ inl same ↦ absurd (false≢true (sym other ∙ eq-eqb e.last c.args.code same)) | inr differ ↦ omega arith ] in
-    next-within c.args.rows.now c.args.at c.args.code (c.args.code + 1) e c.requires.next here (omega arith) more
-
 pub returns-in_default-clause-number : goal.returns-in_default-clause-number
 returns-in_default-clause-number c =
-    let es = c.args.rows.now in
-    let e = entry_of c.in-Some.row.now in
-    number-none es c.args.code 0 (none_behind es c.args.at c.args.code e c.requires.rows c.requires.next (sym c.in-Some.ensures.row) c.if-row-code.false) refl
+    number-none _ c.args.code 0 (none_behind _ c.args.at c.args.code _ c.requires.rows c.requires.next (sym c.in-Some.ensures.row) c.if-row-code.false) refl
 
 pub returns-in_default-clause-goes_on : goal.returns-in_default-clause-goes_on
 returns-in_default-clause-goes_on c =
     let es = c.args.rows.now in
-    let e = entry_of c.in-Some.row.now in
-    let up = (at-row es c.args.at e c.requires.rows (sym c.in-Some.ensures.row)).rises in
-    λ _. next-within es c.args.at c.args.code (c.args.code + 1) e c.requires.next (sym c.in-Some.ensures.row) (omega arith) (let less = c.if-row-code.false in omega arith)
+    let up = (at-row es c.args.at _ c.requires.rows (sym c.in-Some.ensures.row)).rises in
+    λ _. next-within es c.args.at c.args.code (c.args.code + 1) _ c.requires.next (sym c.in-Some.ensures.row) (omega arith) (let less = c.if-row-code.false in omega arith)
 
 pub returns-in_default-2-clause-number : goal.returns-in_default-2-clause-number
 returns-in_default-2-clause-number c =
-    let es = c.args.rows.now in
     let none = sym c.get.ensures.row ∙ ap (option_map (λ r. entry_of r.now)) c.in_default.is in
-    number-none es c.args.code 0 (none_left es c.args.at c.args.code c.requires.rows c.requires.next none) refl
+    number-none _ c.args.code 0 (none_left _ c.args.at c.args.code c.requires.rows c.requires.next none) refl

@@ -1,8 +1,6 @@
 use Rattle.std.proofs.Common.{length, string_bytes, IsTrue, sym, ap, ◌∙◌}
-use Rattle.std.specs.List.{slice_range}
+use Rattle.np_tables.proofs.Words.{slice_range, class_of, ComposesOn, Writes}
 use Rattle.std.proofs.lemmas.Result.{IfOk-weaker}
-use Rattle.np_tables.specs.Versions.{class_of}
-use Rattle.np_tables.specs.inside.Spellings.{ComposesOn, Writes}
 use Rattle.np_tables.proofs.SpellingLemmas.{composes-end, composes-starts}
 use Rattle.np_tables.proofs.spellings.+write_composed.Goals as goal
 

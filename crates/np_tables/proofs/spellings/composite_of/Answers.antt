@@ -5,5 +5,4 @@ use Rattle.np_tables.proofs.spellings.composite_of.Goals as goal
 
 pub returns-then-is_apart : goal.returns-then-is_apart
 returns-then-is_apart c =
-    let v = c.args.version.now in
-    sym (composite-never v c.args.second (subst (IsApart v) c.from.ensures (c.is_apart.ensures c.if-is_apart.true)) c.args.first)
+    sym (composite-never _ c.args.second (subst (IsApart _) c.from.ensures (c.is_apart.ensures c.if-is_apart.true)) c.args.first)

@@ -1,5 +1,5 @@
 use Rattle.std.proofs.Common.{◌++◌, encode_utf8, sym, ap, ◌∙◌}
-use Rattle.np_tables.proofs.ApartLemmas.{last_behind-text}
+use Rattle.np_tables.proofs.StandingLemmas.{last_behind-text}
 use Rattle.np_tables.proofs.standing_apart.last_beyond_ascii.Goals as goal
 
 pub returns-else-is_ascii-clause-last : goal.returns-else-is_ascii-clause-last

@@ -1,6 +1,5 @@
 use Rattle.std.proofs.Common.{◌≡◌, ◌+◌, ◌*◌, ◌%◌, ◌++◌, drop, get_or, encode_utf8, sym, ap, subst, ◌∙◌, arith}
-use Rattle.std.specs.Char.{IsScalar}
-use Rattle.std.specs.Str.{IsCharBoundary}
+use Rattle.np_tables.proofs.Words.{IsScalar, IsCharBoundary}
 use Rattle.np_tables.proofs.Utf8Lemmas.{begins_with_three}
 use Rattle.np_tables.proofs.utf8_fronts.split_three.Goals as goal
 

@@ -1,5 +1,4 @@
 use Rattle.std.proofs.Common.{◌≡◌, ◌+◌, ◌*◌, ◌%◌, ◌++◌, drop, get_or, encode_utf8, sym, ap, subst, ◌∙◌, arith}
-use Rattle.std.specs.Char.{IsScalar}
 use Rattle.std.specs.Str.{IsCharBoundary}
 use Rattle.np_tables.proofs.Utf8Lemmas.{begins_with_two}
 use Rattle.np_tables.proofs.utf8_fronts.split_two.Goals as goal
@@ -8,13 +7,6 @@ pub bounds-bytes-1 : goal.bounds-bytes-1
 bounds-bytes-1 c =
     let begins = begins_with_two c.as_bytes-bytes.result.now c.as_bytes-bytes.ensures.utf8 c.if-bytes-ne6.false in
     omega (arith, begins.long)
-
-pub from_u32_unchecked-c-requires : goal.from_u32_unchecked-c-requires
-from_u32_unchecked-c-requires c =
-    let bytes = c.as_bytes-bytes.result.now in
-    let begins = begins_with_two c.as_bytes-bytes.result.now c.as_bytes-bytes.ensures.utf8 c.if-bytes-ne6.false in
-    let same : get_or bytes 0 0 % 32 * 64 + get_or bytes 1 0 % 64 ≡ c.from.result * 64 + c.from-2.result = omega (arith, c.from.ensures, c.from-2.ensures) in
-    subst IsScalar same begins.scalar
 
 pub range_from-rest-requires : goal.range_from-rest-requires
 range_from-rest-requires c = λ _.

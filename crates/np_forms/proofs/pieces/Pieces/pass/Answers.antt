@@ -1,6 +1,5 @@
 use Rattle.std.proofs.Common.{◌+◌, min, length, sym, ap, ◌∙◌}
-use Rattle.std.proofs.lemmas.List.{take_rest}
-use Rattle.np_forms.specs.inside.Pieces.{form_bytes}
+use Rattle.np_forms.proofs.Words.{take_rest, form_bytes}
 use Rattle.np_forms.proofs.PieceLemmas.{passed_stays_to, passed_made_from}
 use Rattle.np_forms.proofs.pieces.Pieces.pass.Goals as goal
 

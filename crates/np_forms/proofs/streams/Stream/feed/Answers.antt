@@ -1,10 +1,6 @@
 use Rattle.std.proofs.Common.{◌≡◌, ◌<◌, ◌++◌, ◌∷◌, [], true, refl, sym, ap, subst, ◌∙◌, arith}
-use Rattle.std.proofs.lemmas.Bool.{and_from, not_from_false}
-use Rattle.std.specs.List.{list_all}
-use Rattle.np_tables.specs.Versions.{class_of}
-use Rattle.np_tables.specs.inside.FullDecompositions.{full_of}
-use Rattle.np_forms.specs.Starters.{is_non_starter}
-use Rattle.np_forms.specs.inside.Classes.{AreClassed, CodeAndClass, codes_of, with_classes}
+use Rattle.np_forms.proofs.Words.{and_from, not_from_false, list_all, class_of, full_of, is_non_starter, AreClassed}
+use Rattle.np_forms.proofs.Words.{CodeAndClass, codes_of, with_classes}
 use Rattle.np_forms.proofs.ClassLemmas.{AreClassed-append, AreClassed-with_classes, codes-append, codes-with_classes, codes_more}
 use Rattle.np_forms.proofs.ComposeLemmas.{not_starter_from}
 use Rattle.np_forms.proofs.HeldLemmas.{TakesIn-advances, TakesIn-non_starters}

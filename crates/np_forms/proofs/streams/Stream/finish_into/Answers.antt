@@ -1,8 +1,5 @@
 use Rattle.std.proofs.Common.{OnOk, sym, ap, subst, ◌∙◌}
-use Rattle.std.proofs.lemmas.Result.{on_ok_weaker}
-use Rattle.np_forms.specs.Streams.{StreamState}
-use Rattle.np_forms.specs.inside.Classes.{codes_of}
-use Rattle.np_forms.specs.inside.Written.{Breaks}
+use Rattle.np_forms.proofs.Words.{on_ok_weaker, StreamState, codes_of, Breaks}
 use Rattle.np_forms.proofs.WrittenLemmas.{Breaks-settled}
 use Rattle.np_forms.proofs.streams.Stream.finish_into.Goals as goal
 use Rattle.np_forms.proofs.streams.Stream.finish_into.Goals.{in-Ok, in-Err}

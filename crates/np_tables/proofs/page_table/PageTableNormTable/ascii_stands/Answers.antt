@@ -1,4 +1,4 @@
-use Rattle.np_tables.proofs.AsciiStandingLemmas.{ascii-assigned, ascii-stays}
+use Rattle.np_tables.proofs.StandingLemmas.{ascii-assigned, ascii-stays}
 use Rattle.np_tables.proofs.page_table.PageTableNormTable.ascii_stands.Goals as goal
 
 pub returns-clause-assigned : goal.returns-clause-assigned

@@ -1,8 +1,5 @@
 use Rattle.std.proofs.Common.{◌∙◌, [], sym, ap, subst, get_or, arith}
-use Rattle.np_tables.specs.Conditions.{IsSound}
-use Rattle.np_tables.specs.inside.FullLists.{of_kind}
-use Rattle.np_tables.specs.inside.Pages.{word_place}
-use Rattle.np_tables.specs.inside.PageWords.{no_word}
+use Rattle.np_tables.proofs.Words.{IsSound, of_kind, word_place, no_word}
 use Rattle.np_tables.proofs.TableLemmas.{lent-by_value}
 use Rattle.np_tables.proofs.PageWordLemmas.{full-read}
 use Rattle.np_tables.proofs.page_table.PageTableNormTable.full.Goals as goal

@@ -1,6 +1,5 @@
 use Rattle.std.proofs.Common.{◌∙◌, ap, get_or, arith}
-use Rattle.np_tables.specs.inside.Pages.{word_place}
-use Rattle.np_tables.specs.inside.PageWords.{no_word}
+use Rattle.np_tables.proofs.Words.{word_place, no_word}
 use Rattle.np_tables.proofs.PageWordLemmas.{pair-apart}
 use Rattle.np_tables.proofs.page_table.PageTableNormTable.pair.Goals as goal
 

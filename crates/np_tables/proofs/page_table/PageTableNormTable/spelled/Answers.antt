@@ -1,9 +1,6 @@
 use Rattle.std.proofs.Common.{get_or, subst, ap, ◌∙◌, arith}
-use Rattle.std.proofs.lemmas.Option.{IfSome_then}
-use Rattle.np_tables.specs.Conditions.{IsSound}
-use Rattle.np_tables.specs.inside.PageWords.{no_word}
-use Rattle.np_tables.specs.inside.Pages.{word_place}
-use Rattle.np_tables.proofs.SpelledLemmas.{is_spelled, spelled-read}
+use Rattle.np_tables.proofs.Words.{IfSome_then, IsSound, no_word, word_place}
+use Rattle.np_tables.proofs.SpellingLemmas.{is_spelled, spelled-read}
 use Rattle.np_tables.proofs.page_table.PageTableNormTable.spelled.Goals as goal
 
 pub returns : goal.returns

@@ -1,17 +1,7 @@
-use Rattle.std.proofs.Common.{◌≡◌, chars, drop, sym, subst, ◌∙◌, arith}
-use Rattle.std.proofs.lemmas.Bool.{cond-true}
-use Rattle.np_tables.specs.Boundaries.{BeginsAtBoundary}
-use Rattle.np_tables.specs.inside.PageWords.{AreFollowing, ArePages}
+use Rattle.std.proofs.Common.{◌≡◌, subst, ◌∙◌, arith}
+use Rattle.np_tables.proofs.Words.{cond-true, AreFollowing}
 use Rattle.np_tables.proofs.StandingLemmas.{following-assigned, following-standing}
 use Rattle.np_tables.proofs.page_table.PageTableNormTable.standing.Goals as goal
-
-pub standing_front-front-requires : goal.standing_front-front-requires
-standing_front-front-requires c =
-    let fields = c.self.inside in (
-      fields.fulls,
-      subst (λ i. ArePages fields.version fields.fulls i c.deref-2.result.now) (sym c.deref.ensures.value)
-          (subst (λ w. ArePages fields.version fields.fulls fields.index.items w) (sym c.deref-2.ensures.value) c.self.invariant.pages),
-    )
 
 pub returns-clause-standing : goal.returns-clause-standing
 returns-clause-standing c =
@@ -33,9 +23,3 @@ returns-clause-assigned c = λ on.
     following-assigned c.args.self.now u c.self.view_is fields.fulls fields.index.items fields.words.items c.self.invariant.pages fields.steps.items fields.are_steps c.args.form c.least_step.result text n (omega (arith, two)) c.utf8.text
     (subst (λ i. AreFollowing u c.least_step.result i fields.steps.items c.args.form text n) c.deref.ensures.value
     (subst (λ w. AreFollowing u c.least_step.result c.deref.result.now w c.args.form text n) c.deref-3.ensures.value c.standing_front-front.ensures.following))
-
-pub returns-clause-parts : goal.returns-clause-parts
-returns-clause-parts c = λ on.
-    let text = c.args.text.now in
-    let n = c.standing_front-front.result.count in
-    subst (λ x. BeginsAtBoundary x c.args.form (chars (drop n text))) c.self.view_is (c.standing_front-front.ensures.parts on)

@@ -1,8 +1,5 @@
-use Rattle.std.specs.List.{AllWithin}
+use Rattle.np_tables.proofs.Words.{AllWithin, cases_lt, both_ways, Composite, AreOrdered, pair_rank}
 use Rattle.std.proofs.Common.{◌≡◌, ◌≤◌, length, ◌+◌, ◌-◌, ◌/◌, List, get_or, subst, arith, inl, inr}
-use Rattle.std.proofs.lemmas.Bool.{cases_lt, both_ways}
-use Rattle.np_tables.specs.declared.pairs.Composite.{Composite}
-use Rattle.np_tables.specs.inside.Pairs.{AreOrdered, pair_rank}
 use Rattle.np_tables.proofs.PairLemmas.{before_more, after_more, lists-place}
 use Rattle.np_tables.proofs.pairs.Pairs.place.Goals as goal
 

@@ -1,6 +1,5 @@
 use Rattle.std.proofs.Common.{◌-◌, ◌≤◌, ◌<◌, length}
-use Rattle.std.specs.List.{AllWithin}
-use Rattle.np_tables.specs.inside.Pairs.{pair_rank}
+use Rattle.np_tables.proofs.Words.{AllWithin, pair_rank}
 use Rattle.np_tables.proofs.pairs.Pairs.place.Given as goal
 
 abbrev pub invariant-loop-low : goal.invariant-loop-low

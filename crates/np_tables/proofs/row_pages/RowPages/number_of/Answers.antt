@@ -1,6 +1,5 @@
 use Rattle.std.proofs.Common.{◌≡◌, ◌+◌, ◌*◌, ◌/◌, ◌%◌, ◌<◌, ◌∙◌, ap, length, slice_index, arith}
-use Rattle.std.proofs.lemmas.List.{get_or_read}
-use Rattle.np_tables.specs.inside.Pages.{word_place}
+use Rattle.np_tables.proofs.Words.{get_or_read, word_place}
 use Rattle.np_tables.proofs.row_pages.RowPages.number_of.Goals as goal
 
 pub returns : goal.returns
@@ -8,7 +7,6 @@ unfolding word_place
 returns c =
     let blocks = c.args.self.now.index.items in
     let numbers = c.args.self.now.numbers.items in
-    let size = c.requires.within.size in
     let block : c.from-block.result ≡ slice_index blocks (c.args.code / 256) = c.from-block.ensures ∙ get_or_read blocks _ _ (omega arith) c.index.ensures 0 in
     let fits = c.requires.within.each (c.args.code / 256) (omega arith) in
     let inside : c.from-block.result * 256 + c.args.code % 256 < length numbers = omega arith in

@@ -1,8 +1,5 @@
-use Rattle.np_tables.proofs.ScanLemmas.{goes-both, goes-start}
+use Rattle.np_tables.proofs.ScanLemmas.{goes-both}
 use Rattle.np_tables.proofs.scans.Scan.pass_by_steps.Goals as goal
-
-pub scan-init : goal.scan-init
-scan-init c = goes-start c.args.self.now c.args.text.now c.args.low c.requires c.utf8.text
 
 pub returns-then-few : goal.returns-then-few
 returns-then-few c = goes-both c.args.self.now _ _ _ _ _ _ c.scan.invariant c.pass_few-few.ensures.goes_on

@@ -1,14 +1,7 @@
 use Rattle.std.proofs.Common.{arith, sym, ◌∙◌}
 use Rattle.std.proofs.lemmas.Bool.{ltb-true}
-use Rattle.std.proofs.lemmas.Option.{IfSome_then}
 use Rattle.np_tables.proofs.ScanLemmas.{goes-ascii}
 use Rattle.np_tables.proofs.scans.Scan.pass_next.Goals as goal
-
-pub returns-in-Some-clause-goes_on : goal.returns-in-Some-clause-goes_on
-returns-in-Some-clause-goes_on c = IfSome_then c.pass_first.result c.pass_first.ensures.goes_on (λ passed goes. goes c.args.text.now c.utf8.text c.in-Some.ensures.parts)
-
-pub returns-in-Some-split_two-clause-goes_on : goal.returns-in-Some-split_two-clause-goes_on
-returns-in-Some-split_two-clause-goes_on c = IfSome_then c.pass_first-in-Some-split_two.result c.pass_first-in-Some-split_two.ensures.goes_on (λ passed goes. goes c.args.text.now c.utf8.text c.in-Some-split_two.ensures.parts)
 
 pub returns-then-is_ascii-clause-goes_on : goal.returns-then-is_ascii-clause-goes_on
 returns-then-is_ascii-clause-goes_on c =

@@ -1,37 +1,17 @@
-use Rattle.std.proofs.Common.{◌≡◌, ◌≤◌, ◌+◌, ◌-◌, drop, length, get_or, map, refl, ap, subst, ◌∙◌, arith}
-use Rattle.std.proofs.lemmas.List.{drop-drop, get_or-drop}
-use lib.Count.{count_trailing_zeros}
-use lib.Lanes.{chunk, mask_l}
-use Rattle.np_tables.specs.inside.LeadBytes.{is_lead}
-use Rattle.np_tables.specs.inside.Scans.{ScansOn}
+use Rattle.std.proofs.Common.{◌≡◌, ◌≤◌, ◌+◌, ◌-◌, drop, length, get_or, refl, ap, subst, ◌∙◌, arith}
+use Rattle.np_tables.proofs.Words.{drop-drop, get_or-drop, count_trailing_zeros, ScansOn}
 use Rattle.np_tables.proofs.LeadByteLemmas.{found_behind, found_first, found_gone, found_lead, found_within, none_left}
 use Rattle.np_tables.proofs.LeadRunLemmas.{boundary_at, goes-at, inside_low}
-use Rattle.np_tables.proofs.ScanLemmas.{goes-both, goes-past, goes-start}
+use Rattle.np_tables.proofs.ScanLemmas.{goes-both, goes-past}
 use Rattle.np_tables.proofs.scans.Scan.pass_step.Goals as goal
-
-pub returns-then-left-gt-MANY-clause-goes_on : goal.returns-then-left-gt-MANY-clause-goes_on
-returns-then-left-gt-MANY-clause-goes_on c = goes-start c.args.self.now c.args.text.now c.args.low c.requires.low c.utf8.text
-
-pub leads-init : goal.leads-init
-leads-init c = record {
-  inside = omega arith;
-  behind = omega arith;
-  within = omega arith;
-  goes_on = goes-start c.args.self.now c.args.text.now c.args.low c.requires.low c.utf8.text;
-  none = λ k ge lt. absurd (omega (arith, lt));
-  bits = c.leads_in_step-left.ensures ∙ ap (λ l. mask_l (map is_lead (chunk 0 64 l))) c.as_bytes.ensures.value;
-}
 
 pub range_from-here-requires : goal.range_from-here-requires
 range_from-here-requires c = λ _.
     let text = c.args.text.now in
-    let from = c.leads.from in
-    let left = c.leads.left in
-    let skip = count_trailing_zeros 64 left in
     let long : 64 ≤ length text = omega (arith, c.requires.long) in
     let inv = c.leads.invariant in
-    let within = found_within text from left skip long inv.inside inv.bits c.leads-test.true refl in
-    (omega (arith, within, c.requires.long), λ _ _. found_lead text from left skip long inv.inside inv.bits c.leads-test.true refl)
+    let within = found_within text _ _ _ long inv.inside inv.bits c.leads-test.true refl in
+    (omega (arith, within, c.requires.long), λ _ _. found_lead text _ _ _ long inv.inside inv.bits c.leads-test.true refl)
 
 pub pass_lead-requires-clause-long : goal.pass_lead-requires-clause-long
 pass_lead-requires-clause-long c =

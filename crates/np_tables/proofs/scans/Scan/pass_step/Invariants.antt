@@ -1,7 +1,5 @@
 use Rattle.std.proofs.Common.{◌≡◌, ◌<◌, ◌≤◌, ◌-◌, ℕ, drop, get_or, length, map}
-use lib.Lanes.{chunk, mask_l}
-use Rattle.np_tables.specs.inside.LeadBytes.{is_lead}
-use Rattle.np_tables.specs.inside.Scans.{ScansOn}
+use Rattle.np_tables.proofs.Words.{chunk, mask_l, is_lead, ScansOn}
 use Rattle.np_tables.proofs.scans.Scan.pass_step.Given as goal
 
 -- up to `end` all was passed; from `from` on the bits tell which bytes begin a character, and up to `end` none does

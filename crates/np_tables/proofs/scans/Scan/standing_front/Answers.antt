@@ -1,7 +1,6 @@
 use Rattle.std.proofs.Common.{◌∙◌, ◌++◌, length, encode_utf8, refl, sym, ap, arith}
 use Rattle.std.specs.Str.Iter.{chars_rest}
-use Rattle.np_tables.specs.inside.PageHints.{has_bit}
-use Rattle.np_tables.specs.inside.PageWords.{Follows}
+use Rattle.np_tables.proofs.Words.{has_bit, Follows}
 use Rattle.np_tables.proofs.PageWordLemmas.{boundary-read}
 use Rattle.np_tables.proofs.StandingLemmas.{begins-first, following-stop, walked-apart, walked-front, walked-rest, walked-seam}
 use Rattle.np_tables.proofs.scans.Scan.standing_front.Goals as goal
@@ -14,47 +13,33 @@ range-front-requires-clause-end_boundary c =
 
 pub returns-in_default-clause-following : goal.returns-in_default-clause-following
 returns-in_default-clause-following c =
-    let v = c.args.self.now.version.now in
-    let on = c.pass_by_steps-passed.ensures.walks v c.args.text.now c.scan.invariant.0 c.scan.invariant.1 c.scan.invariant.3 in
-    following-stop v c.args.self.now.least c.args.self.now.index.now c.args.self.now.steps.now c.args.self.now.form c.args.text.now c.pass_by_steps-passed.result.rest.now on.0 (length c.range-front.result.now) on.1.1 (omega (arith, c.range-front.ensures.len))
+    let on = c.pass_by_steps-passed.ensures.walks _ c.args.text.now c.scan.invariant.0 c.scan.invariant.1 c.scan.invariant.3 in
+    following-stop _ c.args.self.now.least c.args.self.now.index.now c.args.self.now.steps.now c.args.self.now.form c.args.text.now c.pass_by_steps-passed.result.rest.now on.0 (length c.range-front.result.now) on.1.1 (omega (arith, c.range-front.ensures.len))
 
 pub returns-then-has_bit-clause-following : goal.returns-then-has_bit-clause-following
 returns-then-has_bit-clause-following c =
-    let v = c.args.self.now.version.now in
-    let on = c.pass_by_steps-passed.ensures.walks v c.args.text.now c.scan.invariant.0 c.scan.invariant.1 c.scan.invariant.3 in
-    following-stop v c.args.self.now.least c.args.self.now.index.now c.args.self.now.steps.now c.args.self.now.form c.args.text.now c.pass_by_steps-passed.result.rest.now on.0 (length c.range-front.result.now) on.1.1 (omega (arith, c.range-front.ensures.len))
+    let on = c.pass_by_steps-passed.ensures.walks _ c.args.text.now c.scan.invariant.0 c.scan.invariant.1 c.scan.invariant.3 in
+    following-stop _ c.args.self.now.least c.args.self.now.index.now c.args.self.now.steps.now c.args.self.now.form c.args.text.now c.pass_by_steps-passed.result.rest.now on.0 (length c.range-front.result.now) on.1.1 (omega (arith, c.range-front.ensures.len))
 
 pub returns-in_default-pass_apart-clause-following : goal.returns-in_default-pass_apart-clause-following
 returns-in_default-pass_apart-clause-following c =
-    let v = c.args.self.now.version.now in
-    let on = c.pass_by_steps-passed.ensures.walks v c.args.text.now c.scan.invariant.0 c.scan.invariant.1 c.scan.invariant.3 in
-    following-stop v c.args.self.now.least c.args.self.now.index.now c.args.self.now.steps.now c.args.self.now.form c.args.text.now c.pass_by_steps-passed.result.rest.now on.0 (length c.range-front.result.now) on.1.1 (omega (arith, c.range-front.ensures.len))
+    let on = c.pass_by_steps-passed.ensures.walks _ c.args.text.now c.scan.invariant.0 c.scan.invariant.1 c.scan.invariant.3 in
+    following-stop _ c.args.self.now.least c.args.self.now.index.now c.args.self.now.steps.now c.args.self.now.form c.args.text.now c.pass_by_steps-passed.result.rest.now on.0 (length c.range-front.result.now) on.1.1 (omega (arith, c.range-front.ensures.len))
 
 pub returns-then-has_bit-clause-parts : goal.returns-then-has_bit-clause-parts
 returns-then-has_bit-clause-parts c = λ _.
-    let v = c.args.self.now.version.now in
-    let form = c.args.self.now.form in
-    let text = c.args.text.now in
-    let here = c.pass_by_steps-passed.result.rest.now in
     let word = c.word_at-word.result in
-    let on = c.pass_by_steps-passed.ensures.walks v text c.scan.invariant.0 c.scan.invariant.1 c.scan.invariant.3 in
-    let left = walked-rest (Follows v c.args.self.now.least c.args.self.now.index.now c.args.self.now.steps.now form) text here on.0 on.1.1 (length c.range-front.result.now) (omega (arith, c.range-front.ensures.len)) in
-    begins-first v form _ here (chars_rest c.next.new.self) c.in-Some.c left on.1.1.utf8 (sym c.chars-iter.ensures.rest ∙ c.in-Some.ensures.steps.0)
-    (boundary-read v v refl c.requires.0 c.args.self.now.index.now c.args.self.now.words.now c.requires.1 form c.in-Some.c c.word_at-word.ensures.scalar word c.word_at-word.ensures.word
+    let on = c.pass_by_steps-passed.ensures.walks _ _ c.scan.invariant.0 c.scan.invariant.1 c.scan.invariant.3 in
+    let left = walked-rest (Follows _ c.args.self.now.least c.args.self.now.index.now c.args.self.now.steps.now _) _ _ on.0 on.1.1 (length c.range-front.result.now) (omega (arith, c.range-front.ensures.len)) in
+    begins-first _ _ _ _ (chars_rest c.next.new.self) c.in-Some.c left on.1.1.utf8 (sym c.chars-iter.ensures.rest ∙ c.in-Some.ensures.steps.0)
+    (boundary-read _ _ refl c.requires.0 c.args.self.now.index.now c.args.self.now.words.now c.requires.1 _ c.in-Some.c c.word_at-word.ensures.scalar word c.word_at-word.ensures.word
     (ap (has_bit word.hints) (sym c.parts_place.ensures.place) ∙ sym c.has_bit.ensures ∙ c.if-has_bit.true))
 
 pub scan-preserved : goal.scan-preserved
 scan-preserved c =
-    let v = c.args.self.now.version.now in
-    let least = c.args.self.now.least in
-    let blocks = c.args.self.now.index.now in
     let steps = c.args.self.now.steps.now in
-    let form = c.args.self.now.form in
-    let text = c.args.text.now in
-    let here = c.pass_by_steps-passed.result.rest.now in
-    let front = c.range-front.result.now in
-    let on = c.pass_by_steps-passed.ensures.walks v text c.scan.invariant.0 c.scan.invariant.1 c.scan.invariant.3 in
-    let past = walked-apart v least blocks steps form text here c.as_str-rest.result.now _ c.in-Some.c on.0 c.pass_by_steps-passed.result.low c.in-Some-pass_apart.behind on.1.0 on.1.1
-    (walked-front (Follows v least blocks steps form) text here on.0 on.1.1 front c.utf8.text c.range-front.ensures.value)
+    let on = c.pass_by_steps-passed.ensures.walks _ _ c.scan.invariant.0 c.scan.invariant.1 c.scan.invariant.3 in
+    let past = walked-apart _ _ _ steps _ _ _ c.as_str-rest.result.now _ c.in-Some.c on.0 c.pass_by_steps-passed.result.low c.in-Some-pass_apart.behind on.1.0 on.1.1
+    (walked-front (Follows _ _ _ steps _) _ _ on.0 on.1.1 _ c.utf8.text c.range-front.ensures.value)
     (sym c.chars-iter.ensures.rest ∙ c.in-Some.ensures.steps.0 ∙ ap (λ l. encode_utf8 c.in-Some.c ++ l) (sym c.as_str-rest.ensures)) c.in-Some-pass_apart.ensures.apart in
     (past.0, past.1.0, c.in-Some-pass_apart.ensures.least, past.1.1)

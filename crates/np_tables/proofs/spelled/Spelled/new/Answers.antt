@@ -1,4 +1,4 @@
-use Rattle.np_tables.proofs.SpelledLemmas.{each_form}
+use Rattle.np_tables.proofs.SpellingLemmas.{each_form}
 use Rattle.np_tables.proofs.spelled.Spelled.new.Goals as goal
 
 pub returns : goal.returns

@@ -1,8 +1,6 @@
 use Rattle.std.proofs.Common.{[], string_bytes, get_or, sym, ap, subst, ◌∙◌}
-use Rattle.np_tables.specs.inside.FullLists.{of_kind}
-use Rattle.np_tables.specs.inside.Spellings.{IsSpelling}
+use Rattle.np_tables.proofs.Words.{of_kind, IsSpelling, is_compat}
 use Rattle.np_tables.proofs.SpellingLemmas.{spellings-more}
-use Rattle.np_code_points.specs.Forms.{is_compat}
 use Rattle.np_tables.proofs.spellings.Spellings.new.Goals as goal
 
 pub loop-slot-preserved : goal.loop-slot-preserved

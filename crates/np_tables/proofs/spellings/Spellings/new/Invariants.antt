@@ -1,6 +1,4 @@
-use Rattle.np_code_points.specs.Forms.{is_compat}
-use Rattle.np_tables.specs.inside.FullLists.{of_kind}
-use Rattle.np_tables.specs.inside.Spellings.{AreSpellingsSoFar}
+use Rattle.np_tables.proofs.Words.{is_compat, of_kind, AreSpellingsSoFar}
 use Rattle.np_tables.proofs.spellings.Spellings.new.Given as goal
 
 abbrev pub invariant-loop-slot : goal.invariant-loop-slot
