@@ -36,3 +36,6 @@ length-empty (x ∷ xs) =
 pub is_hangul_row-is : (v : VersionData) (c : ℕ) → is_hangul_row v c ≡ (is_assigned v c && class_of v c == 0 && is_empty (file_mapping v c))
 unfolding is_hangul_row
 is_hangul_row-is v c = refl
+
+-- what the checks of functions cite
+pub ruleset accesses = (is_assigned-at, is_excluded-is, is_hangul_row-is, length-empty)

@@ -40,9 +40,6 @@ same_max s c h = omega arith
 
 -- ---- from ambiguous code points to places
 
-lists_at : (cs : List Composite) (a b c k : ℕ) → slice_get cs k ≡ Some (record { first = a; second = b; code = c }) → Lists cs a b c
-lists_at cs a b c k h = (k, slice_get_within cs k _ h, get_or_from_slice_get cs k _ _ h)
-
 place_of : (cs : List Composite) (a b c : ℕ) → Lists cs a b c → (k : ℕ) × (slice_get cs k ≡ Some (record { first = a; second = b; code = c }))
 place_of cs a b c h = (h.0, slice_get-get_or cs h.0 _ h.1 ∙ ap Some h.2)
 
@@ -161,7 +158,7 @@ module _ (v : VersionData) (cs : List Composite) where
 
   module _ (file : AreOfFile v cs) where
     listed : (k : ℕ) (x : Composite) → slice_get cs k ≡ Some x → Lists cs x.first x.second x.code
-    listed k x h = lists_at cs x.first x.second x.code k h
+    listed k x h = (k, slice_get_within cs k _ h, get_or_from_slice_get cs k _ _ h)
 
     pub twin_ambiguous : (k c : ℕ) (here : Composite) → HasSmallerTwin cs k → slice_get cs k ≡ Some here → c ≡ here.code → IsAmbiguous v c
     twin_ambiguous k c here t at is =

@@ -98,12 +98,6 @@ marked-more : (known : Bool) (n : ℕ) → 0 < marked known n → known ≡ true
 marked-more true n h = refl
 marked-more false n h = absurd (omega arith)
 
-marked-false : (known : Bool) (n : ℕ) → known ≡ false → marked known n ≡ 0
-marked-false known n h = cond-false _ _ _ h
-
-marked-true : (known : Bool) (n : ℕ) → known ≡ true → marked known n ≡ min n 65
-marked-true known n h = cond-true _ _ _ h
-
 marked-same : (a b : Bool) (m n : ℕ) → 0 < m → 0 < n → marked a m ≡ marked b n → a ≡ b
 marked-same true true m n some other h = refl
 marked-same true false m n some other h = absurd (omega arith)
@@ -121,11 +115,11 @@ module _ (v : VersionData) where
 
   pub mark-deep : (n c : ℕ) → has_depth v n c ≡ false → mark v n c ≡ 0
   unfolding mark
-  mark-deep n c h = marked-false _ _ h
+  mark-deep n c h = cond-false _ _ _ h
 
   pub mark-length : (n c : ℕ) → has_depth v n c ≡ true → mark v n c ≡ min (length (full v true n c)) 65
   unfolding mark
-  mark-length n c h = marked-true _ _ h
+  mark-length n c h = cond-true _ _ _ h
 
   same_depth : (m n c : ℕ) → mark v m c ≡ mark v n c → has_depth v m c ≡ has_depth v n c
   unfolding mark

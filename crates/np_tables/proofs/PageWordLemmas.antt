@@ -201,3 +201,6 @@ pub boundary-read : (v u : VersionData) → u ≡ v → (lists : FullLists) (blo
     has_bit w.hints (parts_place form) ≡ true → IsBoundary v form c
 boundary-read v u same lists blocks words pages form c lt w is has =
     subst (λ x. IsBoundary x form c) same ((subst (IsWord u lists c) (sym is) (pages.each c lt)).hints.parts form has)
+
+-- what the checks of functions cite
+pub ruleset word_answers = (words-more)

@@ -249,3 +249,6 @@ first_before f m (e ∷ es) =
 pub first_cut : (v : VersionData) (n m : ℕ) → option_map (λ e. e.first) (slice_get v.entries (length (before_byte m (row_marks v n)))) ≡ first_row (is_marked v n m) v.entries
 unfolding row_marks
 first_cut v n m = first_before (λ e. mapping_mark v n e.mapping) m v.entries
+
+-- what the checks of functions cite
+pub ruleset round_answers = (empty_test, full_test, next_bare, next_parts)

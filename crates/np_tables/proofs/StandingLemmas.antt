@@ -281,3 +281,6 @@ module _ (v : VersionData) (lists : FullLists) (blocks : List ℕ) (words : List
           sym word.assigned ∙ not-false w.assigned assigned,
         ),
       )
+
+-- what the checks of functions cite
+pub ruleset standing_answers = (IsPast-ascii, last_behind-text)

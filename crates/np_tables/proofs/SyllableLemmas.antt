@@ -345,12 +345,6 @@ module _ (v : VersionData) (rows : AreRows v.entries) (n m : ℕ) (late : 2 ≤ 
 
 -- ---- what the marks 0 and 65 of the last round tell
 
-too_deep-mark : (v : VersionData) (c : ℕ) → mark v 32 c ≡ 0 → IsTooDeep v c
-too_deep-mark v c h = record { deep = mark-zero v 32 c h }
-
-mark-too_deep : (v : VersionData) (c : ℕ) → IsTooDeep v c → mark v 32 c ≡ 0
-mark-too_deep v c is = mark-deep v 32 c is.deep
-
 too_long-mark : (v : VersionData) (c : ℕ) → mark v 32 c ≡ 65 → IsTooLong v c
 too_long-mark v c h =
     let shallow = mark-more v 32 c (omega arith) in
@@ -368,7 +362,7 @@ module _ (v : VersionData) (rows : AreRows v.entries) where
   pub first_too_deep : (o : Option ℕ) → o ≡ first_row (is_marked v 32 0) v.entries → IsFirst (IsTooDeep v) o
   first_too_deep o h =
       subst (IsFirst (IsTooDeep v)) (sym h)
-      (IsFirst-along _ (IsTooDeep v) (too_deep-mark v) (mark-too_deep v) _
+      (IsFirst-along _ (IsTooDeep v) (λ c h. record { deep = mark-zero v 32 c h }) (λ c is. mark-deep v 32 c is.deep) _
       (first_marked v rows 32 0 (omega arith) (record { no_bare = λ h. absurd (omega arith); no_syllable = inl refl })))
 
   pub first_too_long : (o : Option ℕ) → o ≡ first_row (is_marked v 32 65) v.entries → IsFirst (IsTooLong v) o

@@ -124,3 +124,6 @@ lent-value v compat c lent sound is =
             | inr plain ↦ full_of-only v compat sound.shallow c lent (is.full mapped plain) ∙ sym (cond-false _ _ _ (or_from (is_final v compat c) by_hangul mapped plain))
           ]
     ]
+
+-- what the checks of functions cite
+pub ruleset full_answers = (full-nothing, full-some, lent-by_value)

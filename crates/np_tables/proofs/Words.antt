@@ -8,8 +8,8 @@ pub use Rattle.std.proofs.lemmas.Bool.{ltb-true, ne_eqb, not-false, not-true, or
 pub use Rattle.std.proofs.lemmas.Grind.{flat_map-append, get_or_default_zero}
 pub use Rattle.std.proofs.lemmas.List.{drop-append-le, drop-drop, drop-map, drop-take, drop_all, drop_at, get_or-drop}
 pub use Rattle.std.proofs.lemmas.List.{get_or-map, get_or-set_other, get_or-set_same, get_or_append_left}
-pub use Rattle.std.proofs.lemmas.List.{get_or_default, get_or_past, get_or_read, length-append, length-drop, length-map}
-pub use Rattle.std.proofs.lemmas.List.{length-set, map_push, take-append-drop, take-append-le, take_all, take_more}
+pub use Rattle.std.proofs.lemmas.List.{get_or_default, get_or_past, length-append, length-drop, length-map, length-set}
+pub use Rattle.std.proofs.lemmas.List.{map_push, take-append-drop, take-append-le, take_all, take_more}
 pub use Rattle.std.proofs.lemmas.List.Elements.{All-head, All-push, All-tail, All-weaker, Contains-append_cases}
 pub use Rattle.std.proofs.lemmas.List.Elements.{Contains-append_left, Contains-append_right}
 pub use Rattle.std.proofs.lemmas.Option.{IfSome_then, get_or_from_slice_get, none-some, same_Some, slice_get-get_or}

@@ -34,6 +34,7 @@ pub(crate) struct DepthFaults {
 }
 
 /// The first code points that are too deep or too long.
+#[tactic(auto, using(crate::proofs::SyllableLemmas::first_too_deep, crate::proofs::SyllableLemmas::first_too_long))]
 pub(crate) fn depth_faults(alloc: Global, characters: &CharacterData) -> Result<DepthFaults, Memory>
     ensures too_deep { IfOk result (λ f. IsFirst (IsTooDeep characters.now) f.too_deep) }
     ensures too_long { IfOk result (λ f. IsFirst (IsTooLong characters.now) f.too_long) }
@@ -46,6 +47,7 @@ pub(crate) fn depth_faults(alloc: Global, characters: &CharacterData) -> Result<
 }
 
 /// The first code point of the first row with this mark in the last round.
+#[tactic(auto, using(crate::proofs::RoundLemmas::first_cut))]
 fn first_marked(characters: &CharacterData, marks: &[u8], wanted: u8) -> Option<u32>
     requires { marks.now ≡ row_marks characters.now 32 }
     ensures { result ≡ first_row (is_marked characters.now 32 wanted) characters.now.entries }
@@ -139,6 +141,7 @@ fn next_marks(
 }
 
 /// The mark of a mapping in the round after this one.
+#[tactic(auto, using(crate::proofs::RoundLemmas::round_answers))]
 fn next_mark(characters: &CharacterData, marks: &[u8], round: u32, mapping: &[char]) -> u8
     requires rows { AreRows characters.now.entries }
     requires marks { marks.now ≡ row_marks characters.now round }
@@ -185,6 +188,7 @@ fn part_mark(characters: &CharacterData, marks: &[u8], round: u32, code: u32) ->
 }
 
 /// The depth of a syllable of the arithmetic: that of `<L, V>` is 1, that of `<LV, T>` 2.
+#[tactic(auto, using(crate::proofs::RoundLemmas::depth_even, crate::proofs::RoundLemmas::depth_odd))]
 fn syllable_depth(code: u32) -> u8
     requires { in_block code ≡ true }
     ensures value { result ≡ depth_of_syllable code }
@@ -194,6 +198,7 @@ fn syllable_depth(code: u32) -> u8
 }
 
 /// The mark of a syllable of the arithmetic.
+#[tactic(auto, using(crate::proofs::RoundLemmas::mark_shown, crate::proofs::RoundLemmas::mark_hidden))]
 fn syllable_mark(round: u32, code: u32) -> u8
     requires { in_block code ≡ true }
     ensures { result ≡ mark_of_syllable round code }

@@ -53,6 +53,7 @@ impl Fulls {
     ghost use Rattle.np_tables.specs.inside.FullLists.{AreFulls, of_kind};
 
     /// Those of the rows of a data file.
+    #[tactic(auto, using(crate::proofs::FullListLemmas::lists_grown))]
     pub(crate) fn new(alloc: Global, characters: &CharacterData) -> Result<Fulls, Memory>
         ensures { IfOk result (AreFulls characters.now) }
     {

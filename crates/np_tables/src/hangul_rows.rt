@@ -41,6 +41,7 @@ fn is_right(rows: &RowIndex, code: u32) -> bool
 
 /// Whether all syllables and jamo are assigned, of class 0 and without a mapping, which no
 /// exclusion changes.
+#[tactic(auto, using(crate::proofs::RightLemmas::wrong_at, crate::proofs::RightLemmas::right_below))]
 pub(crate) fn all_right(rows: &RowIndex) -> bool
     ensures { (spans : List Span) → result ≡ has_hangul (record { entries = rows.now; exclusions = spans }) }
 {

@@ -149,6 +149,7 @@ fn folds_to(pairs: &Pairs, first: char, rest: &[char], own: char) -> bool
 }
 
 /// Whether a starter and the code points behind it come back to `own` where the form composes.
+#[tactic(auto, using(crate::proofs::PageHintLemmas::folds_by))]
 fn comes_back(version: &Version, first: char, rest: &[char], own: char) -> bool
     ensures rises { IsTrue result → NeverFalls (class_of version.now) rest.now }
     ensures folds { IsTrue result → FoldsTo version.now first rest.now own }

@@ -81,6 +81,7 @@ fn word_of_row(version: &Version, at: usize, slot: u32, second: bool, hints: u8)
 }
 
 /// The word for code points without a row, and behind it the words of the rows.
+#[tactic(auto, using(crate::proofs::PageWordLemmas::word_answers))]
 pub(crate) fn row_words(
     alloc: Global,
     version: &Version,

@@ -168,6 +168,7 @@ impl RowPages {
     }
 
     /// The row number of a code point.
+    #[tactic(auto, using(std::proofs::lemmas::List::get_or_read), unfolding(crate::specs::inside::Pages::word_place))]
     pub(crate) fn number_of(&self, code: u32) -> u32
         requires code { code < 0x110000 }
         requires within { AreWithin 4352 self.now.index.items (length self.now.numbers.items) }

@@ -61,6 +61,7 @@ impl NormTable for RowTable {
         self.version.composite_of(a, b)
     }
 
+    #[tactic(auto, using(crate::proofs::TableLemmas::full_answers))]
     fn full(&self, c: char, compat: bool) -> &[char] {
         match self.version.characters().place_of(u32::from(c)) {
             Some(place) => self.fulls.lent(place, compat),

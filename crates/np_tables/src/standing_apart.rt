@@ -12,6 +12,7 @@ use np_code_points::hangul::is_syllable;
 
 /// The last code point of a text, but of ASCII, with which most that compose at all have a composite.
 #[inline(always)]
+#[tactic(auto, using(crate::proofs::StandingLemmas::standing_answers))]
 fn last_beyond_ascii(front: &str) -> Option<char>
     ensures last { IfSome result (λ c. last_behind None (chars front.now) ≡ Some c) }
     ensures scalar { IfSome result (λ c. c < 0x110000) }

@@ -31,6 +31,7 @@ fn begins_with_ascii(text: &str) -> bool {
 
 /// What follows the ASCII at the front of a text.
 #[inline(always)]
+#[tactic(auto, using(crate::proofs::StandingLemmas::past_boundary, crate::proofs::StandingLemmas::standing_answers))]
 fn behind_ascii(text: &str) -> &str
     ensures { IsPast (λ c. c < 128) text.now result.now }
 {
