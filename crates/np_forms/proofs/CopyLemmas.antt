@@ -1,11 +1,12 @@
 -- What stays is copied, and segments are made each for itself.
 use Rattle.std.proofs.Common.{◌≡◌, ◌≢◌, ℕ, ◌-◌, ◌<◌, ◌⊎◌, List, [], ◌∷◌, ◌++◌, None, length, chars, IsUtf8, encode_utf8, encode_utf8_all, refl, sym, ap, subst, ◌∙◌, arith, inl, inr, append_assoc, append-nil, length-append, take_at, drop_at, Bool, true, false, take, drop, slice_range, IsCharBoundary, flat_map, suc, Option, Some, All, get_or}
 use Rattle.np_forms.proofs.Words.{append_cancel_right, nil_from_length, cases_lt, and_from, chars-nil, chars-append}
-use Rattle.np_forms.proofs.Words.{chars_past_char, encodes-append, encodes-chars, IsCharBoundary-at_seam}
-use Rattle.np_forms.proofs.Words.{IsCharBoundary-from_take, IsUtf8-drop, IsUtf8-take, Form, IsAssigned, canonical_order}
-use Rattle.np_forms.proofs.Words.{compose_of, IsCopied, AreStaying, AsciiStays, IsStaying, decomposed, ended}
-use Rattle.np_forms.proofs.Words.{normal_form, IsReadAssigned, BeginsAtBoundary, IsBoundary, IsSound, VersionData}
-use Rattle.np_forms.proofs.Words.{class_of, full_of, AreStanding, MayFollow, Walks, is_compat, composes, composite}
+use Rattle.np_forms.proofs.Words.{IsUtf8-string_bytes, chars_past_char, encodes-append, encodes-chars}
+use Rattle.np_forms.proofs.Words.{IsCharBoundary-at_seam, IsCharBoundary-from_take, IsUtf8-drop, IsUtf8-take, Form}
+use Rattle.np_forms.proofs.Words.{IsAssigned, canonical_order, compose_of, IsCopied, AreStaying, AsciiStays, IsStaying}
+use Rattle.np_forms.proofs.Words.{decomposed, ended, normal_form, IsReadAssigned, BeginsAtBoundary, IsBoundary, IsSound}
+use Rattle.np_forms.proofs.Words.{VersionData, class_of, full_of, AreStanding, MayFollow, Walks, is_compat, composes}
+use Rattle.np_forms.proofs.Words.{composite}
 use Rattle.np_tables.proofs.StandingLemmas.{Walks-front}
 use Rattle.np_tables.specs.inside.PageWords.{IsPast}
 use Rattle.np_forms.proofs.StreamLemmas.{normal_form-parts}
@@ -226,3 +227,6 @@ module _ (v : VersionData) (form : Form) where
     pub staying_copied : (sound : IsSound v) (front : List ℕ) → front ≡ encode_utf8_all past.front → BeginsAtBoundary v form (chars rest) → IsCopied v form text front rest
     staying_copied sound front is at =
         IsCopied-at v sound form text front rest past.front 0 (past.split ∙ ap (λ l. l ++ rest) (sym is)) past.utf8 is past.text_is (stays_walk None past.front past.passed) at
+
+-- what the checks of functions cite
+pub ruleset copy_answers = (IsCopied-own, IsUtf8-string_bytes)

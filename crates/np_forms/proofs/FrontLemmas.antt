@@ -41,3 +41,6 @@ module _ (v : VersionData) (old new : List CodeAndClass) where
         ready = refl;
         carries = λ fed out s. subst (IsStreaming v form (fed ++ a.front) out) grown (holds_non_starters v sound form compat a.front (codes_of old) fed out kind a.own a.all s);
       }
+
+-- what the checks of functions cite
+pub ruleset front_answers = (HoldsFront-held, classed-behind)

@@ -1,6 +1,6 @@
 -- Steps of a fixed size, of which a front counts.
 use Rattle.std.proofs.Common.{◌≡◌, ℕ, ◌+◌, ◌≤◌, List, ◌++◌, length, take, IsUtf8, sym, ap, subst, ◌∙◌, arith, length-take-le, take-take}
-use Rattle.std.proofs.lemmas.Str.{IsUtf8-append}
+use Rattle.std.proofs.lemmas.Str.{IsUtf8-append, IsUtf8-encode}
 use Rattle.std.proofs.Math.Seq.{take-append-add}
 
 pub front_of_step : (old new run : List ℕ) (at step count : ℕ) → count ≤ step → at ≤ length old → take (at + step) new ≡ take at old ++ take step run → take (at + count) new ≡ take at old ++ take count run
@@ -15,3 +15,6 @@ utf8_same new old same utf8 = subst IsUtf8 (sym same) utf8
 
 pub utf8_grown : (new old run : List ℕ) → new ≡ old ++ run → IsUtf8 old → IsUtf8 run → IsUtf8 new
 utf8_grown new old run grown before more = subst IsUtf8 (sym grown) (IsUtf8-append old run before more)
+
+-- what the checks of functions cite
+pub ruleset char_answers = (IsUtf8-encode)

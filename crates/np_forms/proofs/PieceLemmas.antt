@@ -4,7 +4,7 @@ use Rattle.np_forms.proofs.Words.{false≢true, eqb-true, and_parts, and_from, a
 use Rattle.np_forms.proofs.Words.{drop-drop, drop_min, take-append-drop, take-append-le, Form, encodes_same, chars-nil}
 use Rattle.np_forms.proofs.Words.{chars_from_encodes, encodes-chars, composes, is_compat, IsSound, VersionData}
 use Rattle.np_forms.proofs.Words.{IsEquivalent, IsNormalForm, decomposed, normal_form, IsCopied, first_of, form_bytes}
-use Rattle.np_forms.proofs.Words.{front_of, left_of}
+use Rattle.np_forms.proofs.Words.{front_of, left_of, take_rest}
 use Rattle.np_forms.specs.declared.pieces.Pieces.{Pieces}
 use Rattle.np_forms.proofs.FormLemmas.{IsEquivalent-lists, normal_form-decomposed, normal_form_is, IsNormalForm-value}
 use Rattle.np_forms.proofs.CopyLemmas.{normal_form-nil}
@@ -190,3 +190,6 @@ module _ (v : VersionData) (sound : IsSound v) where
   IsEquivalent-forms form compat left right b kind off same =
       IsEquivalent-lists v sound compat (chars left) (chars right) (normal_form v form (chars left)) (normal_form v form (chars right)) b (form_is form compat left kind off) (form_is form compat right kind off)
       (λ yes. encodes_same (normal_form v form (chars left)) (normal_form v form (chars right)) (same.0 yes), λ e. same.1 (ap encode_utf8_all e))
+
+-- what the checks of functions cite
+pub ruleset pass_answers = (take_rest, passed_stays_to, passed_made_from)

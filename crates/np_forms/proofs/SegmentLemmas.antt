@@ -211,3 +211,6 @@ module _ (v : VersionData) where
           end = IsRead-end text rest a.front a.reads;
           made = ap (normal_form v form) a.reads.split ∙ parts-at v sound form a.front (chars rest) at ∙ ap (λ l. l ++ normal_form v form (chars rest)) (sym made);
         }
+
+-- what the checks of functions cite
+pub ruleset segment_answers = (full-first)

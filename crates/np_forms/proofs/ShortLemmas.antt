@@ -90,3 +90,6 @@ two-written old one a b first =
 pub three-written : (old one two : List ℕ) (a b c : ℕ) → one ≡ old ++ encode_utf8 a → two ≡ one ++ encode_utf8 b → two ++ encode_utf8 c ≡ old ++ encode_utf8_all (a ∷ b ∷ c ∷ [])
 three-written old one two a b c first second =
     two-written one two b c second ∙ ap (λ l. l ++ encode_utf8_all (b ∷ c ∷ [])) first ∙ append_assoc old (encode_utf8 a) (encode_utf8_all (b ∷ c ∷ []))
+
+-- what the checks of functions cite
+pub ruleset short_answers = (falling-order, rising-order)

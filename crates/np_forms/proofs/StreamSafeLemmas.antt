@@ -173,3 +173,6 @@ module _ (v : VersionData) where
   -- and so where the count of its full decomposition does
   pub IsStreamSafe-few : IsSound v → (xs : List ℕ) (b : Bool) → b ≡ not (runs_over ccc 0 (flat_map (full_of v true) xs)) → IsTrue b ↔ IsStreamSafe v xs
   IsStreamSafe-few sound xs b is = IsStreamSafe-counted sound xs b (is ∙ ap not (sym (over-decomposed xs)))
+
+-- what the checks of functions cite
+pub ruleset over_answers = (over-non_starter, over-past, over-starter)

@@ -14,7 +14,7 @@ use Rattle.np_forms.proofs.CopyLemmas.{IsCopied-at, parts-at}
 use Rattle.np_forms.proofs.SegmentLemmas.{form-closed, goes-made}
 use Rattle.np_forms.proofs.OrderLemmas.{canonical_order-ordered}
 use Rattle.np_forms.proofs.SyllableLemmas.{full_of-jamo, full_of-syllable}
-use Rattle.np_forms.proofs.SyllableTextLemmas.{closed-parts, jamo-boundary, jamo-bytes, jamo-chars, jamo-starter, parts-assigned, syllable-assigned}
+use Rattle.np_forms.proofs.SyllableTextLemmas.{begins_with_jamo, closed-parts, jamo-boundary, jamo-bytes, jamo-chars, jamo-starter, parts-assigned, syllable-assigned}
 use Rattle.np_tables.proofs.HangulLemmas.{leading_jamo}
 use Rattle.np_tables.proofs.MappingLemmas.{IsFullDecomposition-full_of, flat_map-final, full_of-only}
 use Rattle.np_tables.proofs.PageHintLemmas.{unfolds}
@@ -167,3 +167,6 @@ space-copied v form text later c alone utf8 parts at = subst (λ l. IsCopied v f
 -- the form parts before it
 pub space-begins : (v : VersionData) (form : Form) (text later : List ℕ) (c : ℕ) → StandsAlone v form c → IsUtf8 text → text ≡ encode_utf8 c ++ later → BeginsAtBoundary v form (chars text)
 space-begins v form text later c alone utf8 parts = subst (BeginsAtBoundary v form) (sym (chars_past_char text later c utf8 parts)) alone.boundary
+
+-- what the checks of functions cite
+pub ruleset syllable_front_answers = (begins-jamo, begins-precomposed, begins_with_jamo, jamo-boundary)

@@ -2,7 +2,7 @@
 use Rattle.std.proofs.Common.{◌≡◌, ℕ, ◌<◌, ◌⊎◌, Bool, true, false, ◌&&◌, List, [], ◌∷◌, ◌++◌, length, flat_map, refl, sym, ap, ◌∙◌, ◌||◌, arith, inl, inr}
 use Rattle.np_forms.proofs.Words.{cases_Bool, cond-true, cond-false, or_from, is_syllable, syllable_pair, IsSound}
 use Rattle.np_forms.proofs.Words.{is_final, full_of, table_full, VersionData, is_empty, has_hangul, pair_or_self}
-use Rattle.np_forms.proofs.Words.{syllable_parts}
+use Rattle.np_forms.proofs.Words.{syllable_parts, and_right, drop_more, nil_from_length}
 use Rattle.np_tables.proofs.FullListLemmas.{parts-syllable}
 use Rattle.np_tables.proofs.HangulLemmas.{IsJamo, IsLv, jamo_bare, shape_of}
 use Rattle.np_tables.proofs.MappingLemmas.{parts-cases, full_of-final, full_of-mapped, full_of-some}
@@ -79,3 +79,6 @@ module _ (v : VersionData) (compat : Bool) where
           let shape = shape_of s h in
           full_of-pair s shape.first shape.second h shape.pair ∙ ap (λ x. x ++ (full_of v compat shape.second ++ [])) (full_of-first shape.first shape.head)
           ∙ ap (λ x. pair_or_self shape.first ++ (x ++ [])) (full_of-first shape.second (inl shape.tail)) ∙ sym (ap (flat_map pair_or_self) shape.pair)
+
+-- what the checks of functions cite
+pub ruleset lent_answers = (and_right, drop_more, nil_from_length, lent_none, lent_some)

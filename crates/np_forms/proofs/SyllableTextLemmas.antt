@@ -200,3 +200,6 @@ module _ (v : VersionData) (on : has_hangul v ≡ true) where
             (closed-starter ccc lv.leading (lv.vowel ∷ shape.last ∷ []) (jamo-starter lv.leading lv.first)
             (closed-starter ccc lv.vowel (shape.last ∷ []) (jamo-starter lv.vowel lv.second) (closed-starter ccc shape.last [] (jamo-starter shape.last shape.back) (closed-nil ccc))))
       ]
+
+-- what the checks of functions cite
+pub ruleset syllable_text_answers = (parts-lv, parts-lvt)

@@ -112,3 +112,6 @@ IsWrittenForm-made v sound form text before after nothing written =
 module _ (v : VersionData) (sound : IsSound v) (form : Form) (text bytes : List ℕ) (utf8 : IsUtf8 bytes) (written : bytes ≡ encode_utf8_all (normal_form v form text)) where
   pub made_form : IsNormalForm v form text (chars bytes)
   made_form = written_form v form text bytes utf8 (IsWrittenForm-made v sound form text [] bytes refl written)
+
+-- what the checks of functions cite
+pub ruleset written_answers = (Writes-fed)

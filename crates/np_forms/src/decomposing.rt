@@ -17,6 +17,7 @@ use np_tables::NormTable;
 
 /// Whether a code point is its own full decomposition.
 #[inline(always)]
+#[tactic(auto, using(std::proofs::lemmas::Bool::and_right, crate::proofs::SyllableLemmas::lent_none))]
 pub(crate) fn is_own<T: NormTable>(table: &T, compat: bool, c: char) -> bool
     requires { IsSound (T.model table.now) }
     ensures { result ≡ true → full_of (T.model table.now) compat c ≡ c ∷ [] }
@@ -29,6 +30,7 @@ pub(crate) fn is_own<T: NormTable>(table: &T, compat: bool, c: char) -> bool
 
 /// The full decomposition of a code point, where that is a single one; none of a syllable.
 #[inline(always)]
+#[tactic(auto, using(crate::proofs::SyllableLemmas::lent_answers))]
 pub(crate) fn single_of<T: NormTable>(table: &T, compat: bool, c: char) -> Option<char>
     requires { IsSound (T.model table.now) }
     ensures { IfSome result (λ d. full_of (T.model table.now) compat c ≡ d ∷ []) }

@@ -22,6 +22,7 @@ fn two_as_one(a: u8, b: u8) -> u32
 /// The number of the leading consonant that the first three bytes spell, from 0. The third isn't read where
 /// the first two are of none.
 #[inline(always)]
+#[tactic(auto, using(crate::proofs::SyllableTextLemmas::spelled))]
 fn leading_index(bytes: &[u8]) -> Option<u32>
     requires { 3 ≤ length bytes.now }
     ensures among { IfSome result (λ n. n < 19) }
@@ -36,6 +37,7 @@ fn leading_index(bytes: &[u8]) -> Option<u32>
 
 /// The number of the vowel that the three bytes behind these spell, from 0.
 #[inline(always)]
+#[tactic(auto, using(crate::proofs::SyllableTextLemmas::spelled))]
 fn vowel_index(bytes: &[u8]) -> Option<u32>
     requires { 6 ≤ length bytes.now }
     ensures among { IfSome result (λ n. n < 21) }
@@ -50,6 +52,7 @@ fn vowel_index(bytes: &[u8]) -> Option<u32>
 
 /// The number of the trailing consonant that three bytes spell, from 1; 0 where they spell none.
 #[inline(always)]
+#[tactic(auto, using(crate::proofs::SyllableTextLemmas::spelled))]
 fn trailing_index(a: u8, b: u8, c: u8) -> u32
     ensures among { result < 28 }
     ensures spelled { 0 < result → encode_utf8 (0x11A7 + result) ≡ a ∷ b ∷ c ∷ [] }

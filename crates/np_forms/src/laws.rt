@@ -25,6 +25,7 @@ pub fn one_more()
 /// A normal form parts before a code point whose full decomposition begins with a starter that goes
 /// into nothing (UAX #15, section 9.1): the form of the whole is that of what stands before it and
 /// that of the rest. A code point that stays is its own form; so it stays as it is before a boundary.
+#[tactic(auto, using(crate::proofs::StreamLemmas::parting, crate::proofs::StreamLemmas::staying))]
 pub fn boundary()
     ensures parts { Parting }
     ensures stays { Staying }
@@ -39,6 +40,7 @@ pub fn length()
 
 /// What a table tells of texts at once is so by the normal forms: a front that its scan passes is its own form (UAX #15,
 /// section 9), and what it spells for a code point is that code point's form.
+#[tactic(auto, using(crate::proofs::SpelledLemmas::spelled_is_form, crate::proofs::SpelledLemmas::standing_front))]
 pub fn told()
     ensures standing { StandingForm }
     ensures spelled { SpelledForm }

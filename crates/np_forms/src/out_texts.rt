@@ -123,6 +123,7 @@ fn write_step(room: &mut Vec<u8>, at: usize, run: &[u8], count: usize) -> usize
 
 /// Puts a character where any has room, and answers the place behind it.
 #[inline(always)]
+#[tactic(auto, using(crate::proofs::OutTextLemmas::char_answers))]
 fn put_char(room: &mut [u8], at: usize, c: char) -> usize
     requires { at + 4 ≤ length room.old }
     ensures bytes { take result room.new ≡ take at room.old ++ encode_utf8 c }

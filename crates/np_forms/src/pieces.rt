@@ -54,6 +54,7 @@ impl<'a> Pieces<'a> {
     }
 
     /// Passes bytes that stand in front.
+    #[tactic(auto, using(crate::proofs::PieceLemmas::pass_answers))]
     fn pass(&mut self, count: usize)
         requires { count ≤ length (front_of self.old) }
         ensures { (v : VersionData) (form : Form) → left_of v form self.old ≡ take count (front_of self.old) ++ left_of v form self.new }
@@ -66,6 +67,7 @@ impl<'a> Pieces<'a> {
     }
 
     /// Takes the next piece, where nothing stands in front.
+    #[tactic(auto, using(crate::proofs::PieceLemmas::left_rest, crate::proofs::PieceLemmas::left_next))]
     fn take_next<T: NormTable>(
         &mut self,
         alloc: Global,

@@ -102,6 +102,7 @@ fn write_marked<T: NormTable>(
 
 /// A starter and two non-starters, put in canonical order; none where one of the two is a starter.
 #[inline(always)]
+#[tactic(auto, using(crate::proofs::ShortLemmas::short_answers))]
 fn in_order<T: NormTable>(table: &T, starter: char, second: char, third: char) -> Option<Marked>
     requires { class_of (T.model table.now) starter ≡ 0 }
     ensures order { IfSome result (λ m. canonical_order (class_of (T.model table.now)) (starter ∷ second ∷ third ∷ []) ≡ listed m) }
@@ -129,6 +130,7 @@ fn in_order<T: NormTable>(table: &T, starter: char, second: char, third: char) -
 
 /// The single code point to which the first one of a text decomposes, and what follows that.
 #[inline(always)]
+#[tactic(auto, using(crate::proofs::SegmentLemmas::segment_answers))]
 fn split_single<'a, T: NormTable>(table: &T, form: Form, text: &'a str) -> Option<(char, &'a str)>
     requires { IsSound (T.model table.now) }
     ensures full { IfSome result (λ cut. IsFullUpTo (T.model table.now) form text.now cut.1.now (cut.0 ∷ [])) }

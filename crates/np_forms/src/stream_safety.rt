@@ -19,6 +19,7 @@ const LONGEST: usize = 30;
 
 /// How many non-starters stand side by side behind one more code point. Past `LONGEST` that counts no more.
 #[inline(always)]
+#[tactic(auto, using(crate::proofs::StreamSafeLemmas::over_answers))]
 fn run_past<T: NormTable>(table: &T, run: usize, c: char) -> usize
     requires { run ≤ 31 }
     ensures few { result ≤ 31 }

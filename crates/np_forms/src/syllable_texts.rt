@@ -69,6 +69,7 @@ fn push_three(out: &mut OutText, a: u32, b: u32, c: u32) -> Result<(), Memory>
 
 /// Appends the full decomposition of a syllable.
 #[inline(always)]
+#[tactic(auto, using(crate::proofs::SyllableTextLemmas::syllable_text_answers))]
 fn push_syllable(out: &mut OutText, syllable: u32) -> Result<(), Memory>
     requires { in_block syllable ≡ true }
     ensures { OnOk result (out.new ≡ out.old ++ encode_utf8_all (syllable_parts syllable)) }
@@ -105,6 +106,7 @@ fn begins_as_syllable(text: &str) -> bool {
 
 /// The precomposed syllable that a text begins with, and what follows it.
 #[inline(always)]
+#[tactic(auto, using(crate::proofs::SyllableFrontLemmas::syllable_front_answers))]
 fn precomposed_front(text: &str) -> Option<(u32, &str)>
     ensures { IfSome result (λ cut. BeginsWithSyllable text.now cut.1.now cut.0) }
 {
@@ -122,6 +124,7 @@ fn precomposed_front(text: &str) -> Option<(u32, &str)>
 /// The syllable whose jamo a text begins with, and what follows them. Where the text has fewer bytes than
 /// three jamo, none is told.
 #[inline(always)]
+#[tactic(auto, using(crate::proofs::SyllableFrontLemmas::syllable_front_answers))]
 fn spelled_front(text: &str) -> Option<(u32, &str)>
     ensures { IfSome result (λ cut. BeginsWithSyllable text.now cut.1.now cut.0) }
 {

@@ -8,13 +8,25 @@ use Rattle.np_tables.proofs.Words.{BeginsWithChar, is_lead}
 use Rattle.std.proofs.lemmas.List.Sums.{prefix_len-le-length}
 use mir.Syntax.{w8}
 use Rattle.np_tables.proofs.AsciiLemmas.{zip2-splat}
-use Rattle.np_tables.proofs.Utf8Lemmas.{begins_with_three, begins_with_two}
+use Rattle.np_tables.proofs.Utf8Lemmas.{BeginsWith, begins_with_three, begins_with_two}
 
 -- the mask of 64 bytes
 pub leads_mask : (xs : List ℕ) → length xs ≡ 64 → mask_l (map (top 7) (zip2 (λ a b. cond (leb a b) 255 0) (replicate 64 192) xs)) % 2 ^ 64 ≡ mask_l (map (λ x. leb 192 x) xs)
 leads_mask xs long =
     ap (λ l. mask_l l % 2 ^ 64) (tops_compared w8 leb (replicate 64 192) xs ∙ zip2-splat leb 64 192 xs long)
     ∙ mask_l-mod (map (λ x. leb 192 x) xs) 64 (omega (arith, long, length-map xs (λ x. leb 192 x)))
+
+begins_as : (text : List ℕ) (code count n k : ℕ) → BeginsWith text n k → code ≡ k → count ≡ n → 1 < n → n ≤ 4 → k < 0x110000 → IsScalar code × BeginsWithChar text code count
+begins_as text code count n k begins same size some few low = (
+  subst IsScalar (sym same) begins.scalar,
+  record {
+    parts = begins.parts ∙ ap (λ c. encode_utf8 c ++ drop n text) (sym same) ∙ ap (λ m. encode_utf8 code ++ drop m text) (sym size);
+    some = omega arith;
+    few = omega arith;
+    long = omega (arith, begins.long);
+    scalar = omega arith;
+  },
+)
 
 -- a first character of two or three bytes, as it is read
 pub begins_few : (text : List ℕ) (code count : ℕ) → IsUtf8 text → 192 ≤ get_or text 0 0 → get_or text 0 0 < 240
@@ -24,29 +36,9 @@ pub begins_few : (text : List ℕ) (code count : ℕ) → IsUtf8 text → 192 �
 begins_few text code count utf8 low high two three =
     elim (cases_lt (get_or text 0 0) 224) [
       | inl less ↦
-          let begins = begins_with_two text utf8 (omega (arith, low, less)) in
-          let read = two less in (
-            subst IsScalar (sym read.0) begins.scalar,
-            record {
-              parts = begins.parts ∙ ap (λ k. encode_utf8 k ++ drop 2 text) (sym read.0) ∙ ap (λ n. encode_utf8 code ++ drop n text) (sym read.1);
-              some = omega (arith, read.1);
-              few = omega (arith, read.1);
-              long = omega (arith, read.1, begins.long);
-              scalar = omega (arith, read.0);
-            },
-          )
+          begins_as text code count 2 _ (begins_with_two text utf8 (omega (arith, low, less))) (two less).0 (two less).1 (omega arith) (omega arith) (omega arith)
       | inr more ↦
-          let begins = begins_with_three text utf8 (omega (arith, high, more)) in
-          let read = three more in (
-            subst IsScalar (sym read.0) begins.scalar,
-            record {
-              parts = begins.parts ∙ ap (λ k. encode_utf8 k ++ drop 3 text) (sym read.0) ∙ ap (λ n. encode_utf8 code ++ drop n text) (sym read.1);
-              some = omega (arith, read.1);
-              few = omega (arith, read.1);
-              long = omega (arith, read.1, begins.long);
-              scalar = omega (arith, read.0);
-            },
-          )
+          begins_as text code count 3 _ (begins_with_three text utf8 (omega (arith, high, more))) (three more).0 (three more).1 (omega arith) (omega arith) (omega arith)
     ]
 
 -- the same, read from bytes that are the text
