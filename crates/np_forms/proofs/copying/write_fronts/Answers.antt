@@ -1,16 +1,9 @@
 use Rattle.std.proofs.Common.{inl, inr, rules}
 use Rattle.std.proofs.lemmas.Bool.{both_ways, cases_Bool}
 use Rattle.np_forms.proofs.CopyLemmas.{form-end}
-use Rattle.np_forms.proofs.SegmentLemmas.{goes-both, goes-start}
-use Rattle.np_forms.proofs.TextLemmas.{IsReadAssigned-both, IsReadAssigned-end, IsReadAssigned-rest, IsReadAssigned-start}
+use Rattle.np_forms.proofs.SegmentLemmas.{goes-both}
+use Rattle.np_forms.proofs.TextLemmas.{IsReadAssigned-both, IsReadAssigned-end, IsReadAssigned-rest}
 use Rattle.np_forms.proofs.copying.write_fronts.Goals as goal
-
-pub fronts-init : goal.fronts-init
-fronts-init g c =
-    let v = g.T.NormTable.model c.args.normalizer.now.table.now in (
-      goes-start v c.args.normalizer.now.form c.args.text.now c.args.out.now c.utf8.text,
-      λ _. IsReadAssigned-start v c.args.text.now c.utf8.text,
-    )
 
 pub fronts-preserved : goal.fronts-preserved
 fronts-preserved g c =

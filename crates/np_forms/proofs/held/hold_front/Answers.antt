@@ -1,15 +1,8 @@
-use Rattle.std.proofs.Common.{◌≡◌, ℕ, ◌<◌, ◌++◌, ◌∷◌, [], true, sym, ap, subst, ◌∙◌, arith}
+use Rattle.std.proofs.Common.{◌≡◌, ℕ, ◌<◌, ◌++◌, ◌∷◌, [], true, ap, ◌∙◌, arith}
 use Rattle.np_forms.proofs.Words.{not_from_false, chars_rest, class_of, is_non_starter, CodeAndClass, with_class}
-use Rattle.np_forms.proofs.Words.{IsFrontHeld}
 use Rattle.np_forms.proofs.ComposeLemmas.{not_starter_from}
-use Rattle.np_forms.proofs.FrontLemmas.{IsFrontHeld-start, IsFrontHeld-next}
+use Rattle.np_forms.proofs.FrontLemmas.{IsFrontHeld-next}
 use Rattle.np_forms.proofs.held.hold_front.Goals as goal
-
-pub scan-init : goal.scan-init
-scan-init g c =
-    let v = g.T.NormTable.model c.args.table.now in
-    let items = c.args.pending.now.items in
-    subst (λ r. IsFrontHeld v c.args.compat c.args.text.now r items items) (sym c.chars-iter.ensures.rest) (IsFrontHeld-start v c.args.compat c.args.text.now items c.utf8.text)
 
 pub scan-preserved : goal.scan-preserved
 scan-preserved g c =

@@ -1,4 +1,4 @@
-use Rattle.std.proofs.Common.{◌≡◌, ◌++◌, ◌+◌, ◌∷◌, [], take, subst, sym, ap, ◌∙◌, append_assoc}
+use Rattle.std.proofs.Common.{◌≡◌, ◌++◌, ◌+◌, ◌∷◌, [], take, subst, sym}
 use Rattle.np_forms.proofs.Words.{take_all, CodeAndClass, codes_of, with_class, Advances}
 use Rattle.np_forms.proofs.ClassLemmas.{AreClassed-at, codes_next}
 use Rattle.np_forms.proofs.HeldLemmas.{Advances-start, Advances-next}
@@ -28,12 +28,6 @@ loop-d-preserved g c =
           (Advances-next v c.requires.sound c.args.composes (codes_of (take i parts)) (x.code ∷ []) _ _ _ _ _ _ c.loop-d.invariant.advances c.in_ok-push.ensures.ok);
       classed = c.in_ok-push.ensures.classed;
     }
-
-pub returns-in_err-push-clause-ready : goal.returns-in_err-push-clause-ready
-returns-in_err-push-clause-ready g c =
-    let done = c.loop-d.invariant.advances in
-    let more = c.push.ensures.ready in
-    (done.more ++ more.0, more.1 ∙ ap (λ l. l ++ more.0) done.ready_is ∙ append_assoc c.args.held.now.ready.items done.more more.0)
 
 pub returns : goal.returns
 returns g c =

@@ -4,9 +4,6 @@ use Rattle.np_forms.proofs.ClassLemmas.{at_place, same_length}
 use Rattle.np_forms.proofs.SegmentLemmas.{is_ordered-rises}
 use Rattle.np_forms.proofs.ordering.is_in_order.Goals as goal
 
-pub loop-c-init : goal.loop-c-init
-loop-c-init c = λ v cs later is h. h
-
 pub loop-c-preserved : goal.loop-c-preserved
 loop-c-preserved c = λ v cs later is h.
     let i = c.loop-c.c-index in

@@ -1,4 +1,4 @@
-use Rattle.std.proofs.Common.{◌≤◌, ◌++◌, drop, length, refl, sym, ap, ◌∙◌, append-nil, arith}
+use Rattle.std.proofs.Common.{◌≤◌, ◌++◌, drop, length, sym, ap, ◌∙◌, append-nil, arith}
 use Rattle.np_forms.proofs.Words.{take_all, drop_all, class_of, canonical_order, with_classes}
 use Rattle.np_forms.proofs.ClassLemmas.{same_length}
 use Rattle.np_forms.proofs.OrderLemmas.{canonical_order-nil, canonical_order-ordered}
@@ -6,9 +6,6 @@ use Rattle.np_forms.proofs.ordering.order.Goals as goal
 
 pub returns-then-is_in_order : goal.returns-then-is_in_order
 returns-then-is_in_order c = λ v cs is. is ∙ ap (with_classes v) (sym (canonical_order-ordered (class_of v) cs (c.is_in_order.ensures c.if-is_in_order.true v cs is)))
-
-pub runs-init : goal.runs-init
-runs-init c = λ v cs is. record { new = cs; is = is; same = refl }
 
 pub runs-preserved : goal.runs-preserved
 runs-preserved c = λ v cs is.

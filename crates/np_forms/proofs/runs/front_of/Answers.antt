@@ -1,9 +1,9 @@
-use Rattle.std.proofs.Common.{◌≡◌, ◌≢◌, ◌+◌, ◌≤◌, Bool, true, false, not, ℕ, Option, Some, None, length, [], refl, sym, ap, subst, ◌∙◌, arith}
+use Rattle.std.proofs.Common.{◌≡◌, ◌≢◌, Bool, true, false, not, ℕ, Option, Some, None, length, [], refl, sym, ap, subst, ◌∙◌, arith}
 use Rattle.np_forms.proofs.Words.{drop_all, MayBegin, MayNotBegin}
 use Rattle.std.specs.Option.{is_some}
 use Rattle.std.specs.Str.Lossy.{utf8_error_len}
 use Rattle.np_code_points.proofs.TextLemmas.{longest_valid_prefix}
-use Rattle.np_forms.proofs.RunTextLemmas.{few_begin, whole_prefix}
+use Rattle.np_forms.proofs.RunTextLemmas.{whole_prefix}
 use Rattle.np_forms.proofs.runs.front_of.Goals as goal
 
 nothing : utf8_error_len [] ≡ None
@@ -36,9 +36,3 @@ returns-in-Err-clause-ends c = λ h.
     let some = some_from c.error_len.result c.is_none.result c.is_none.ensures h in
     subst (MayNotBegin c.args.bytes.now) (sym c.valid_up_to.ensures)
     (record { prefix = longest_valid_prefix _ _ c.in-Err.ensures.cases.1; ends = λ z. some (c.error_len.ensures ∙ c.in-Err.ensures.fault ∙ z) })
-
-pub returns-in-Err-clause-few : goal.returns-in-Err-clause-few
-returns-in-Err-clause-few c = λ h.
-    let none = none_from c.error_len.result c.is_none.result c.is_none.ensures h in
-    let few = few_begin c.args.bytes.now _ (sym c.in-Err.ensures.fault ∙ sym c.error_len.ensures ∙ none) in
-    subst (λ n. length c.args.bytes.now ≤ n + 3) (sym c.valid_up_to.ensures) few

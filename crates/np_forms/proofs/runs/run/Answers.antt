@@ -1,5 +1,5 @@
-use Rattle.std.proofs.Common.{ap, subst, sym, arith, rules}
-use Rattle.np_forms.proofs.Words.{device_of, IsSound}
+use Rattle.std.proofs.Common.{ap}
+use Rattle.np_forms.proofs.Words.{device_of}
 use Rattle.np_forms.proofs.RunningLemmas.{cut_start, run_all}
 use Rattle.np_forms.proofs.runs.run.Goals as goal
 
@@ -7,17 +7,6 @@ pub returns-in_default-clause-ends : goal.returns-in_default-clause-ends
 returns-in_default-clause-ends g c =
     let new = c.new-stream.ensures in
     cut_start c.meets_conditions.ensures (ap (λ d. g.R.Read.remaining d) c.clear.ensures.device) (ap (λ d. g.W.Write.contents d) c.clear-2.ensures.device) new.version new.form new.ready new.begins
-
-pub run_on-requires : goal.run_on-requires
-run_on-requires g c = record {
-  sound = subst IsSound (sym c.new-stream.ensures.version) c.meets_conditions.ensures;
-  moved = c.new-stream.ensures.ready;
-  empty = search rules;
-  reads = search rules;
-  writes = search rules;
-  fits = omega (arith, c.in-Ok.ensures.1);
-  inside = search rules;
-}
 
 pub returns-clause-ends : goal.returns-clause-ends
 returns-clause-ends g c =

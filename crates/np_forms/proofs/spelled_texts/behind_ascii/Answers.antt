@@ -1,10 +1,7 @@
-use Rattle.std.proofs.Common.{◌≡◌, ◌≤◌, ◌<◌, [], true, length, subst, take, refl, arith}
+use Rattle.std.proofs.Common.{◌≡◌, ◌≤◌, ◌<◌, true, length, subst, take}
 use Rattle.std.specs.Str.{IsAscii}
 use Rattle.np_tables.proofs.StandingLemmas.{IsPast-ascii, past_boundary}
 use Rattle.np_forms.proofs.spelled_texts.behind_ascii.Goals as goal
-
-pub returns-then-not-ascii : goal.returns-then-not-ascii
-returns-then-not-ascii c = record { front = []; split = refl; text_is = refl; utf8 = c.utf8.text; passed = λ k d lt. absurd (omega (arith, lt)) }
 
 pub range_from-requires : goal.range_from-requires
 range_from-requires c = λ _.

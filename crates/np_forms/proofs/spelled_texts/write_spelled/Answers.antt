@@ -1,13 +1,9 @@
 use Rattle.std.proofs.Common.{◌++◌, encode_utf8, sym, ap, ◌∙◌}
-use Rattle.np_forms.proofs.SegmentLemmas.{goes-both, goes-made, goes-start}
+use Rattle.np_forms.proofs.SegmentLemmas.{goes-both, goes-made}
 use Rattle.np_forms.proofs.SpelledLemmas.{first-spelled, spelled-assigned}
 use Rattle.np_forms.proofs.CopyLemmas.{staying_ascii, staying_read}
-use Rattle.np_forms.proofs.TextLemmas.{IsReadAssigned-both, IsReadAssigned-next, IsReadAssigned-start}
+use Rattle.np_forms.proofs.TextLemmas.{IsReadAssigned-both, IsReadAssigned-next}
 use Rattle.np_forms.proofs.spelled_texts.write_spelled.Goals as goal
-
-pub words-init : goal.words-init
-words-init g c =
-    (goes-start _ c.args.form _ c.args.out.now c.utf8.text, IsReadAssigned-start _ _ c.utf8.text)
 
 pub append_staying-requires-clause-staying : goal.append_staying-requires-clause-staying
 append_staying-requires-clause-staying g c =

@@ -42,6 +42,3 @@ scan-preserved g c =
       IsReadAssigned-both v _ later _ read (subst (λ j. IfSome j (λ next. IsReadAssigned v later next.0.now)) c.in-Some-2.is c.in_ok-begun.ensures.read),
       subst (λ j. IfSome j (λ next. BeginsWithSyllable next.0.now next.2.now next.1)) c.in-Some-2.is c.in_ok-begun.ensures.begins,
     )
-
-pub push_joined-requires : goal.push_joined-requires
-push_joined-requires g c = c.scan.invariant.2.syllable

@@ -1,14 +1,9 @@
 use Rattle.std.proofs.Common.{◌≡◌, ◌∙◌, true, sym, subst, IfNone, IfSome}
 use Rattle.np_forms.proofs.Words.{GoesOn, IsReadAssigned, BeginsWithSyllable, has_hangul}
-use Rattle.np_forms.proofs.SegmentLemmas.{goes-both, goes-start}
+use Rattle.np_forms.proofs.SegmentLemmas.{goes-both}
 use Rattle.np_forms.proofs.SyllableFrontLemmas.{goes-syllable, syllable-read}
-use Rattle.np_forms.proofs.TextLemmas.{IsReadAssigned-both, IsReadAssigned-start}
+use Rattle.np_forms.proofs.TextLemmas.{IsReadAssigned-both}
 use Rattle.np_forms.proofs.syllable_texts.write_syllables.Goals as goal
-
-pub scan-init : goal.scan-init
-scan-init g c =
-    let text = c.args.text.now in
-    (text, goes-start _ c.args.normalizer.now.form text c.args.out.now c.utf8.text, IsReadAssigned-start _ text c.utf8.text, c.in-Some.ensures)
 
 pub scan-preserved-in-Some-syllable_front : goal.scan-preserved-in-Some-syllable_front
 scan-preserved-in-Some-syllable_front g c =
@@ -55,6 +50,3 @@ scan-preserved g c =
       IsReadAssigned-both v _ later _ read (subst (λ j. IfSome j (λ next. IsReadAssigned v later next.0.now)) c.in-Some-2.is c.in_ok-_begun.ensures.read),
       subst (λ j. IfSome j (λ next. BeginsWithSyllable next.0.now next.2.now next.1)) c.in-Some-2.is c.in_ok-_begun.ensures.begins,
     )
-
-pub push_syllable-requires : goal.push_syllable-requires
-push_syllable-requires g c = c.scan.invariant.3.syllable
