@@ -1,17 +1,14 @@
 -- Non-starters at the front of a text, which are held back.
-use Rattle.std.proofs.Common.{◌≡◌, ℕ, Bool, true, List, [], ◌∷◌, ◌++◌, IsUtf8, encode_utf8, refl, sym, ap, ap₂, subst, ◌∙◌, append_assoc, append-nil}
+use Rattle.std.proofs.Common.{◌≡◌, ℕ, Bool, true, List, [], ◌∷◌, ◌++◌, encode_utf8, refl, sym, ap, ap₂, subst, ◌∙◌, append_assoc, append-nil}
 use Rattle.np_forms.proofs.Words.{and_from, flat_map-append, map-append, is_non_starter, IsStreaming, AreClassed}
 use Rattle.np_forms.proofs.Words.{CodeAndClass, codes_of, with_class, with_classes, IsFrontHeld, HoldsFront, is_compat}
 use Rattle.np_forms.proofs.Words.{Form, IsSound, VersionData, full_of}
 use Rattle.np_forms.proofs.ClassLemmas.{AreClassed-append, AreClassed-with_classes, codes-append, codes-with_classes}
 use Rattle.np_forms.proofs.HeldLemmas.{holds_non_starters}
-use Rattle.np_forms.proofs.TextLemmas.{IsRead-start, IsRead-next}
+use Rattle.np_forms.proofs.TextLemmas.{IsRead-next}
 use Rattle.np_tables.proofs.MappingLemmas.{list_all-append}
 
 module _ (v : VersionData) (compat : Bool) (text : List ℕ) (old : List CodeAndClass) where
-  pub IsFrontHeld-start : IsUtf8 text → IsFrontHeld v compat text text old old
-  IsFrontHeld-start utf8 = record { front = []; reads = IsRead-start text utf8; own = refl; all = refl; held = sym (append-nil old) }
-
   pub IsFrontHeld-next : (rest later : List ℕ) (c : ℕ) (now new : List CodeAndClass) → rest ≡ encode_utf8 c ++ later → full_of v compat c ≡ c ∷ [] → is_non_starter v c ≡ true → new ≡ now ++ with_class v c ∷ [] → IsFrontHeld v compat text rest old now → IsFrontHeld v compat text later old new
   IsFrontHeld-next rest later c now new begins own non_starter grown a =
       record {

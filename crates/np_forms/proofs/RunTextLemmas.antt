@@ -1,13 +1,11 @@
 -- Bytes that were read up to some place, and what is a text of them.
-use Rattle.std.proofs.Common.{◌≡◌, ◌≢◌, ◌==◌, ℕ, zero, suc, ◌+◌, ◌-◌, ◌≤◌, Bool, true, false, cond, nat_lt, Option, Some, None, List, slice_index, ◌++◌, length, take, drop, IsUtf8, refl, sym, ap, subst, ◌∙◌, arith, inl, inr, length-append}
-use Rattle.std.proofs.lemmas.Bool.{cases_Bool, cases_lt, cond-true, cond-false, le-ltb, ne_eqb}
+use Rattle.std.proofs.Common.{◌≡◌, ℕ, zero, suc, ◌+◌, ◌-◌, ◌≤◌, true, false, List, ◌++◌, length, take, drop, IsUtf8, refl, sym, ap, subst, ◌∙◌, arith, inl, inr, length-append}
+use Rattle.std.proofs.lemmas.Bool.{cases_Bool, cases_lt, cond-true, cond-false}
 use Rattle.std.proofs.lemmas.List.{take_all, take_at, drop_at, length-drop}
 use Rattle.std.proofs.lemmas.Str.{IsUtf8-nil, IsUtf8-append, IsUtf8-drop, IsCharBoundary-from_take, IsUtf8-from_is_utf8, is_utf8-from_IsUtf8}
 use Rattle.std.proofs.Math.Seq.{take-add}
 use Rattle.std.specs.Str.{is_utf8}
-use Rattle.std.proofs.lemmas.Option.{none-some}
-use Rattle.std.specs.Int.{is_in_range}
-use Rattle.std.specs.Str.Lossy.{error_len_after_one, error_len_after_two, second_byte_max, second_byte_min, utf8_error_len, utf8_valid_len, valid_len_up_to}
+use Rattle.std.specs.Str.Lossy.{utf8_valid_len, valid_len_up_to}
 use Rattle.np_code_points.specs.Text.{IsLongestValidPrefix}
 
 -- what follows a text in a text is one
@@ -94,34 +92,3 @@ whole_prefix bs n is utf8 =
     record { within = omega arith; valid = subst IsUtf8 (sym (take_all n bs (omega arith))) utf8; longest = λ m within valid. omega arith }
 
 -- ---- what may begin a character has at most three bytes
-
-some_neither : (b : Bool) (x y : Option ℕ) → x ≢ None → y ≢ None → cond b x y ≢ None
-some_neither true x y of_x of_y = of_x
-some_neither false x y of_x of_y = of_y
-
-not_none : (n : ℕ) → Some n ≢ None
-not_none n is = none-some n (sym is)
-
-after_two-some : (bs : List ℕ) → 4 ≤ length bs → error_len_after_two bs ≢ None
-after_two-some bs many none =
-    some_neither (is_in_range 0x80 0xBF (slice_index bs 2)) (cond (nat_lt (length bs) 4) None (Some 3)) (Some 2)
-    (λ e. not_none 3 (sym (cond-false (nat_lt (length bs) 4) None (Some 3) (le-ltb (length bs) 4 many)) ∙ e)) (not_none 2)
-    (sym (cond-false (nat_lt (length bs) 3) None _ (le-ltb (length bs) 3 (omega arith))) ∙ none)
-
-after_one-some : (bs : List ℕ) → 4 ≤ length bs → error_len_after_one bs ≢ None
-after_one-some bs many none =
-    some_neither (is_in_range (second_byte_min (slice_index bs 0)) (second_byte_max (slice_index bs 0)) (slice_index bs 1)) (error_len_after_two bs) (Some 1) (after_two-some bs many) (not_none 1)
-    (sym (cond-false (nat_lt (length bs) 2) None _ (le-ltb (length bs) 2 (omega arith))) ∙ none)
-
-of_some-some : (bs : List ℕ) → 4 ≤ length bs → utf8_error_len bs ≢ None
-unfolding utf8_error_len
-of_some-some bs many none =
-    some_neither (is_in_range 0xC2 0xF4 (slice_index bs 0)) (error_len_after_one bs) (Some 1) (after_one-some bs many) (not_none 1)
-    (sym (cond-false (length bs == 0) None _ (ne_eqb (length bs) 0 (λ e. omega (arith, e)))) ∙ none)
-
-pub few_begin : (bytes : List ℕ) (n : ℕ) → utf8_error_len (drop n bytes) ≡ None → length bytes ≤ n + 3
-few_begin bytes n begins =
-    elim (cases_lt (n + 3) (length bytes)) [
-      | inl many ↦ absurd (of_some-some (drop n bytes) (omega (arith, length-drop n bytes)) begins)
-      | inr few ↦ omega arith
-    ]

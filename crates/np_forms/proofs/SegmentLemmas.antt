@@ -67,9 +67,6 @@ module _ (v : VersionData) (sound : IsSound v) (form : Form) (plain : composes f
 -- ---- one front behind another
 
 module _ (v : VersionData) (form : Form) where
-  pub goes-start : (text old : List ℕ) → IsUtf8 text → GoesOn v form text text old old
-  goes-start text old utf8 = record { end = record { front = []; parts = refl; utf8 = utf8 }; written = refl }
-
   pub goes-both : (text middle rest old between new : List ℕ) → GoesOn v form text middle old between → GoesOn v form middle rest between new → GoesOn v form text rest old new
   goes-both text middle rest old between new one two =
       record {
