@@ -3,11 +3,6 @@ use Rattle.np_forms.proofs.Words.{eqb-false, err_from_is_err_and}
 use Rattle.np_forms.proofs.RunningLemmas.{cut_end, cut_rest_by, run_whole}
 use Rattle.np_forms.proofs.runs.run_on.Goals as goal
 
-pub returns-in_err-feed_all-clause-ends : goal.returns-in_err-feed_all-clause-ends
-returns-in_err-feed_all-clause-ends g c =
-    let p = err_from_is_err_and c.from_residual.result c.from_residual.ensures.1 in
-    rw (p.1, p.2) c.in_err-feed_all.ensures.err
-
 pub returns-then-not-is_empty-clause-ends : goal.returns-then-not-is_empty-clause-ends
 returns-then-not-is_empty-clause-ends g c = λ form i₀ o₀ r.
     let left = c.feed_all.new.input in
