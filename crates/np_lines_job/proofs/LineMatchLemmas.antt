@@ -1,8 +1,9 @@
 -- What `clap` reads in the words of `npss_lines`.
-use Rattle.std.proofs.Common.{◌≡◌, ◌≢◌, ◌≤◌, List, [], ◌∷◌, None, arith, inl, inr, length, map, refl, true}
-use Rattle.clap.specs.Words.{HasKind, Kinds, Row, Text, kind_of, is_simple_and_free}
+use Rattle.std.proofs.Common.{◌≡◌, ◌≢◌, ◌≤◌, List, [], ◌∷◌, None, Result, Ok, Err, IfOk, arith, inl, inr, length, map, refl, true}
+use Rattle.clap.specs.Words.{App, HasKind, HasMatchesOf, Kinds, Row, Text, found_of, is_simple, is_simple_and_free, kind_of, matches_of, rows_of}
 use Rattle.clap.specs.declared.error.Error.{Error}
 use Rattle.clap.specs.declared.error.kind.ErrorKind.TheVariants.{OutOfMemory}
+use Rattle.clap.specs.declared.parser.matches.ArgMatches.{ArgMatches}
 use Rattle.np_lines_job.specs.LineCommands.{lines_app}
 use Rattle.np_lines_job.specs.LineWords.{asked_among, asked_by, asked_unless}
 
@@ -18,3 +19,12 @@ by_some text (w ∷ ws) some = refl
 
 pub lines_is_simple : is_simple_and_free lines_app ≡ true
 lines_is_simple = refl
+
+pub lines_are_simple : is_simple lines_app ≡ true
+lines_are_simple = refl
+
+-- the rows that a simple command finds
+pub rows_by : (a : App) (words : List Text) (result : Result ArgMatches Error) → is_simple a ≡ true
+    → IfOk result (HasMatchesOf a words) → IfOk result (λ m. rows_of (found_of m) ≡ matches_of a words)
+rows_by a words (Ok m) simple has = (has simple).0
+rows_by a words (Err e) simple has = has

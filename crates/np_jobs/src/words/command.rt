@@ -1,11 +1,64 @@
 //! The command line as `clap` reads it: its commands, options and places.
-ghost use Rattle.std.specs.Prelude.{◌≡◌, IfOk, false, map, string_bytes};
-ghost use Rattle.clap.specs.Words.{FailsBy, app_of, fault_of, rule_of, subcommand_of, subcommand_rows_of, with_subcommand};
+ghost use Rattle.std.specs.Prelude.{◌≡◌, Bool, IfOk, codes, false, map, string_bytes};
+ghost use Rattle.clap.specs.Words.{App, FailsBy, app_of, fault_of, new_app, rule_of, subcommand_of, subcommand_rows_of, with_rule, with_subcommand};
 ghost use Rattle.clap.specs.declared.builder.command.Command.TheViews.{out-Command as fields_of};
-ghost use Rattle.np_jobs.specs.Commands.{audit_app, check_under_rule, file_rule, files_rule, form_rule, key_app, replay_app, text_app, texts_app, program_app, with_files};
+ghost use Rattle.np_jobs.specs.Commands.{audit_app, check_under_rule, file_rule, files_rule, form_rule, key_app, replay_app, text_app, texts_app, program_app, with_files, with_settings};
 
 use clap::{Arg, ArgAction, ArgMatches, Command, Error};
 use std::alloc::{AllocError, Global};
+
+/// A command that is put together. It is owned by this bound alone: a proof of what owns `clap`'s own command looks at
+/// each of its parts, and takes many times as long.
+trait MadeCommand<'a>: Drop {
+    ghost app: { Self → App };
+
+    ghost has_globals: { Self → Bool };
+
+    /// A command of this name.
+    fn named(alloc: Global, name: &'a str) -> Self
+        ensures app { app result ≡ new_app name.entry.now }
+        ensures local { has_globals result ≡ false };
+
+    /// The program, whose words begin with a command.
+    fn program(alloc: Global) -> Self
+        ensures { app result ≡ with_settings (new_app (codes "npss")) };
+
+    /// The command with one more option or place.
+    fn with_arg(self, arg: Arg<'a>) -> Result<Self, AllocError>
+        requires arg { arg.global ≡ false }
+        requires own { has_globals self ≡ false }
+        ensures app { IfOk result (λ c. app c ≡ with_rule (app self) (rule_of arg.entry)) }
+        ensures local { IfOk result (λ c. has_globals c ≡ false) };
+
+    /// The program with one more command.
+    fn with_command(self, command: Self) -> Result<Self, AllocError>
+        requires { has_globals command ≡ false }
+        ensures { IfOk result (λ c. app c ≡ with_subcommand (app self) (app command).top) };
+}
+
+impl<'a> MadeCommand<'a> for Command<'a> {
+    ghost app = { app_of };
+
+    ghost has_globals = { λ command. (fields_of command).has_globals };
+
+    fn named(alloc: Global, name: &'a str) -> Command<'a> {
+        Command::new(alloc, name)
+    }
+
+    fn program(alloc: Global) -> Command<'a> {
+        Command::new(alloc, "npss")
+            .no_binary_name(true)
+            .subcommand_required(true)
+    }
+
+    fn with_arg(self, arg: Arg<'a>) -> Result<Command<'a>, AllocError> {
+        self.arg(arg)
+    }
+
+    fn with_command(self, command: Command<'a>) -> Result<Command<'a>, AllocError> {
+        self.subcommand(command)
+    }
+}
 
 /// The option `--form`.
 fn form_arg<'a>(alloc: Global) -> Arg<'a>
@@ -38,27 +91,27 @@ fn files_arg<'a>(alloc: Global, name: &'a str) -> Arg<'a>
 }
 
 /// The command with the places of a version's two files.
-fn with_files<'a>(
+fn with_files<'a, C: MadeCommand<'a>>(
     alloc: Global,
-    command: Command<'a>,
+    command: C,
     data_file: &'a str,
     exclusions_file: &'a str,
-) -> Result<Command<'a>, AllocError>
-    requires { (fields_of command).has_globals ≡ false }
-    ensures app { IfOk result (λ c. app_of c ≡ with_files (app_of command.entry) data_file.entry.now exclusions_file.entry.now) }
-    ensures local { IfOk result (λ c. (fields_of c).has_globals ≡ false) }
+) -> Result<C, AllocError>
+    requires { C.has_globals command ≡ false }
+    ensures app { IfOk result (λ c. C.app c ≡ with_files (C.app command) data_file.entry.now exclusions_file.entry.now) }
+    ensures local { IfOk result (λ c. C.has_globals c ≡ false) }
 {
     command
-        .arg(file_arg(alloc, data_file))?
-        .arg(file_arg(alloc, exclusions_file))
+        .with_arg(file_arg(alloc, data_file))?
+        .with_arg(file_arg(alloc, exclusions_file))
 }
 
 /// A command on one text under one version.
-fn text_command<'a>(alloc: Global, name: &'a str) -> Result<Command<'a>, AllocError>
-    ensures app { IfOk result (λ c. app_of c ≡ text_app name.entry.now) }
-    ensures local { IfOk result (λ c. (fields_of c).has_globals ≡ false) }
+fn text_command<'a, C: MadeCommand<'a>>(alloc: Global, name: &'a str) -> Result<C, AllocError>
+    ensures app { IfOk result (λ c. C.app c ≡ text_app name.entry.now) }
+    ensures local { IfOk result (λ c. C.has_globals c ≡ false) }
 {
-    let command = Command::new(alloc, name).arg(form_arg(alloc))?;
+    let command = C::named(alloc, name).with_arg(form_arg(alloc))?;
     with_files(alloc, command, "DATA", "EXCL")
 }
 
@@ -85,62 +138,52 @@ fn check_under_arg<'a>(alloc: Global) -> Arg<'a>
 }
 
 /// The command that makes keys.
-fn key_command<'a>(alloc: Global) -> Result<Command<'a>, AllocError>
-    ensures app { IfOk result (λ c. app_of c ≡ key_app) }
-    ensures local { IfOk result (λ c. (fields_of c).has_globals ≡ false) }
+fn key_command<'a, C: MadeCommand<'a>>(alloc: Global) -> Result<C, AllocError>
+    ensures app { IfOk result (λ c. C.app c ≡ key_app) }
+    ensures local { IfOk result (λ c. C.has_globals c ≡ false) }
 {
-    Command::new(alloc, "key")
-        .arg(form_arg(alloc))?
-        .arg(check_under_arg(alloc))?
-        .arg(files_arg(alloc, "FILES"))
+    C::named(alloc, "key")
+        .with_arg(form_arg(alloc))?
+        .with_arg(check_under_arg(alloc))?
+        .with_arg(files_arg(alloc, "FILES"))
 }
 
 /// The command that compares two versions.
-fn audit_command<'a>(alloc: Global) -> Result<Command<'a>, AllocError>
-    ensures app { IfOk result (λ c. app_of c ≡ audit_app) }
-    ensures local { IfOk result (λ c. (fields_of c).has_globals ≡ false) }
+fn audit_command<'a, C: MadeCommand<'a>>(alloc: Global) -> Result<C, AllocError>
+    ensures app { IfOk result (λ c. C.app c ≡ audit_app) }
+    ensures local { IfOk result (λ c. C.has_globals c ≡ false) }
 {
-    let command = with_files(alloc, Command::new(alloc, "audit"), "OLDDATA", "OLDEXCL")?;
+    let command = with_files(alloc, C::named(alloc, "audit"), "OLDDATA", "OLDEXCL")?;
     with_files(alloc, command, "NEWDATA", "NEWEXCL")
 }
 
 /// The command that replays a schedule over versions.
-fn replay_command<'a>(alloc: Global) -> Result<Command<'a>, AllocError>
-    ensures app { IfOk result (λ c. app_of c ≡ replay_app) }
-    ensures local { IfOk result (λ c. (fields_of c).has_globals ≡ false) }
+fn replay_command<'a, C: MadeCommand<'a>>(alloc: Global) -> Result<C, AllocError>
+    ensures app { IfOk result (λ c. C.app c ≡ replay_app) }
+    ensures local { IfOk result (λ c. C.has_globals c ≡ false) }
 {
-    Command::new(alloc, "replay")
-        .arg(form_arg(alloc))?
-        .arg(file_arg(alloc, "SCHEDULE"))?
-        .arg(files_arg(alloc, "FILES"))
-}
-
-/// The program with one more command.
-fn with_command<'a>(program: Command<'a>, command: Command<'a>) -> Result<Command<'a>, AllocError>
-    requires { (fields_of command).has_globals ≡ false }
-    ensures { IfOk result (λ c. app_of c ≡ with_subcommand (app_of program.entry) (app_of command.entry).top) }
-{
-    program.subcommand(command)
+    C::named(alloc, "replay")
+        .with_arg(form_arg(alloc))?
+        .with_arg(file_arg(alloc, "SCHEDULE"))?
+        .with_arg(files_arg(alloc, "FILES"))
 }
 
 /// The program with the commands on text.
-fn program_of_texts<'a>(alloc: Global) -> Result<Command<'a>, AllocError>
-    ensures { IfOk result (λ c. app_of c ≡ texts_app) }
+fn program_of_texts<'a, C: MadeCommand<'a>>(alloc: Global) -> Result<C, AllocError>
+    ensures { IfOk result (λ c. C.app c ≡ texts_app) }
 {
-    let program = Command::new(alloc, "npss")
-        .no_binary_name(true)
-        .subcommand_required(true);
-    let program = with_command(program, text_command(alloc, "normalize")?)?;
-    let program = with_command(program, key_command(alloc)?)?;
-    with_command(program, text_command(alloc, "compare")?)
+    let program = C::program(alloc).with_command(text_command(alloc, "normalize")?)?;
+    let program = program.with_command(key_command(alloc)?)?;
+    program.with_command(text_command(alloc, "compare")?)
 }
 
 /// The program with all its commands.
-fn program_command<'a>(alloc: Global) -> Result<Command<'a>, AllocError>
-    ensures { IfOk result (λ c. app_of c ≡ program_app) }
+fn program_command<'a, C: MadeCommand<'a>>(alloc: Global) -> Result<C, AllocError>
+    ensures { IfOk result (λ c. C.app c ≡ program_app) }
 {
-    let program = with_command(program_of_texts(alloc)?, audit_command(alloc)?)?;
-    with_command(program, replay_command(alloc)?)
+    let program: C = program_of_texts(alloc)?;
+    let program = program.with_command(audit_command(alloc)?)?;
+    program.with_command(replay_command(alloc)?)
 }
 
 /// What `clap` finds in the words.
@@ -148,5 +191,5 @@ pub(super) fn matches_in<'a>(alloc: Global, words: &'a [String]) -> Result<ArgMa
     ensures found { IfOk result (λ m. subcommand_rows_of m ≡ subcommand_of program_app (map string_bytes words.entry.now)) }
     ensures kinds { FailsBy (fault_of program_app (map string_bytes words.entry.now)) result }
 {
-    program_command(alloc)?.try_get_matches_from(words)
+    program_command::<Command<'a>>(alloc)?.try_get_matches_from(words)
 }
