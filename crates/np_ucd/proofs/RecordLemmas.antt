@@ -1,14 +1,16 @@
 -- From what was read of a record to the tests that fit it.
-use Rattle.std.proofs.Common.{◌≡◌, ◌≢◌, ℕ, Bool, true, false, not, List, [], ◌∷◌, length, get_or, Option, Some, None, Bor, is_none, option_map, unwrap_or, refl, sym, ap, ◌∙◌, arith}
-use Rattle.std.proofs.lemmas.Bool.{cond-true, cond-false, ne_eqb, eq-eqb}
+use Rattle.std.proofs.Common.{◌≡◌, ◌≢◌, zero, suc, ℕ, ◌+◌, ◌<◌, ◌&&◌, Bool, true, false, not, eqb, List, [], ◌∷◌, length, take, drop, get_or, Option, Some, None, Bor, is_none, option_map, unwrap_or, refl, sym, ap, ◌∙◌, arith}
+use Rattle.std.specs.List.{list_all, onto_first}
+use Rattle.std.proofs.lemmas.List.Splits.{slice_split-cons_yes, slice_split-cons_no}
+use Rattle.std.proofs.lemmas.Bool.{false≢true, cond-true, cond-false, ne_eqb, eq-eqb}
 use Rattle.np_code_points.specs.Codes.{code_value}
 use Rattle.np_ucd.specs.Entries.{Entry, Plain}
 use Rattle.np_code_points.proofs.LineLemmas.{split_cut, rest_parts}
-use Rattle.np_code_points.specs.inside.LineCuts.{is_byte, is_empty, before_byte, after_byte}
+use Rattle.np_code_points.specs.inside.LineCuts.{is_byte, is_other, is_empty, before_byte, after_byte}
 use Rattle.np_ucd.specs.Mappings.{Mapping}
 use Rattle.np_ucd.specs.Tests.{FieldCount, BadCode, OutOfOrder, BadCategory, BadClass, BadMapping}
 use Rattle.np_ucd.specs.inside.FieldReading.{fields_of, category_value, class_value, mapping_value}
-use Rattle.np_ucd.specs.inside.RecordReading.{Neighbour, field, code_in, category_in, class_in, mapping_in, opens, closes, maps, neighbour_of, is_at_most, has_other_count, has_bad_code, is_out_of_order, has_bad_category, has_bad_class, has_unread_mapping, late_tests, first_that_fits, record_tests, record_fault, first_code, row_of}
+use Rattle.np_ucd.specs.inside.RecordReading.{IsPlain, plain_entry, is_open, Neighbour, field, code_in, category_in, class_in, mapping_in, opens, closes, maps, neighbour_of, is_at_most, has_other_count, has_bad_code, is_out_of_order, has_bad_category, has_bad_class, has_unread_mapping, late_tests, first_that_fits, record_tests, record_fault, first_code, row_of}
 use Rattle.np_ucd.specs.inside.RecordValues.{IsHead}
 
 -- The fields, one after another.
@@ -28,6 +30,22 @@ cut_field xs field rest behind before after is =
 
 pub cut_no_field : (xs : List ℕ) (behind : Option (Bor (List ℕ))) → option_map (λ (r : Bor (List ℕ)). r.now) behind ≡ after_byte 59 xs → behind ≡ None → length (fields_of xs) ≡ 1
 cut_no_field xs behind after is = fields_none xs (sym after ∙ ap (option_map (λ (r : Bor (List ℕ)). r.now)) is)
+
+none_step : (t u : Bool) → (not t && u) ≡ true → (t ≡ false) × (u ≡ true)
+none_step true u h = absurd (false≢true h)
+none_step false u h = (refl, h)
+
+-- a field of n bytes, which are no ';'
+pub field_at : (n : ℕ) (xs : List ℕ) → n < length xs → list_all (is_other 59) (take n xs) ≡ true → get_or xs n 0 ≡ 59 → fields_of xs ≡ take n xs ∷ fields_of (drop (n + 1) xs)
+unfolding fields_of
+field_at n [] short none end = absurd (omega (arith, short))
+field_at zero (x ∷ xs) short none end = slice_split-cons_yes (λ b. eqb b 59) x xs (eq-eqb x 59 end)
+field_at (suc n) (x ∷ xs) short none end =
+    let both = none_step (eqb x 59) (list_all (is_other 59) (take n xs)) none in
+    let more : suc (n + 1) ≡ suc n + 1 = omega arith in
+    slice_split-cons_no (λ b. eqb b 59) x xs both.0
+    ∙ ap (onto_first x) (field_at n xs (omega (arith, short)) both.1 end)
+    ∙ ap (λ k. take (suc n) (x ∷ xs) ∷ fields_of (drop k (x ∷ xs))) more
 
 pub twelve : (text rest a b c : List ℕ) → fields_of text ≡ a ∷ b ∷ c ∷ fields_of rest → length (fields_of rest) ≡ 9 → (length (fields_of text) ≡ 12) × (a ≡ field 0 text) × (c ≡ field 2 text)
 unfolding field
@@ -138,3 +156,23 @@ unfolding row_of neighbour_of
 row_is {text = text} h m first some e =
     let here : mapping_value (field 5 text) ≡ Some m = ap mapping_value (sym h.mapping_is) ∙ some in
     rw (e, h.neighbour_is, h.closing_is, mapping_is text m here)
+
+-- A plain record.
+bare_mapping : mapping_value [] ≡ Some (record { kind = Plain; codes = [] })
+unfolding mapping_value
+bare_mapping = refl
+
+nothing_late : (before : Option Neighbour) (n : Neighbour) (closing : Bool) (mapping : List ℕ) → IsPlain before n.opens closing mapping → first_that_fits (late_tests before n closing false) ≡ None
+nothing_late before n closing mapping p = rw (p.shut, p.closing, p.opening) refl
+
+pub plain_fine : {before : Option Neighbour} {line : ℕ} {text : List ℕ} {n : Neighbour} {closing : Bool} {mapping : List ℕ} → IsHead before line text n closing mapping → IsPlain before n.opens closing mapping → record_fault before line text ≡ None
+plain_fine {before = before} {n = n} {closing = closing} {mapping = mapping} h p =
+    fault_late h (record { kind = Plain; codes = [] }) false (ap mapping_value p.bare ∙ bare_mapping) refl ∙ nothing_late before n closing mapping p
+
+first_alone : (before : Option Neighbour) (code : ℕ) → code ≡ first_code before false code
+first_alone None code = refl
+first_alone (Some b) code = refl
+
+pub plain_row_is : {before : Option Neighbour} {line : ℕ} {text : List ℕ} {n : Neighbour} {closing : Bool} {mapping : List ℕ} → IsHead before line text n closing mapping → IsPlain before n.opens closing mapping → plain_entry n.code n.class ≡ row_of before text
+plain_row_is {before = before} {n = n} h p =
+    row_is h (record { kind = Plain; codes = [] }) n.code (ap mapping_value p.bare ∙ bare_mapping) (first_alone before n.code ∙ ap (λ c. first_code before c n.code) (sym p.closing))

@@ -1,17 +1,20 @@
 //! The records of UnicodeData.txt.
-ghost use Rattle.std.specs.Prelude.{◌≡◌, ◌≢◌, ◌∷◌, ◌⊎◌, length, option_map, ◌==◌, IfOk, IfErr, IsTrue, MatchOption, Some, None};
+ghost use Rattle.std.specs.Prelude.{◌≡◌, ◌≢◌, ◌∷◌, ◌⊎◌, length, option_map, ◌==◌, IfOk, IfErr, IfSome, IsTrue, MatchOption, Some, None};
+ghost use Rattle.std.specs.List.{list_all};
+ghost use Rattle.np_code_points.specs.inside.LineCuts.{is_other};
 ghost use Rattle.np_ucd.specs.RowValues.{entry_of};
 ghost use Rattle.np_ucd.specs.inside.FieldReading.{fields_of as parts};
-ghost use Rattle.np_ucd.specs.inside.RecordReading.{field, is_at_most as at_most, is_open as open_before, differs as differ, late_tests, first_that_fits, first_code as first, record_fault, neighbour_of, row_of};
+ghost use Rattle.np_ucd.specs.inside.RecordReading.{IsPlain, plain_entry, field, is_at_most as at_most, is_open as open_before, differs as differ, late_tests, first_that_fits, first_code as first, record_fault, neighbour_of, row_of};
 ghost use Rattle.np_ucd.specs.inside.RecordValues.{neighbour_value, IsHead, IsMemoryOr};
 ghost use lib.Utf8.{scalar};
 
 use crate::faults::UcdFault;
 use crate::fields::{category_of, class_of, closes_range, opens_range};
 use crate::mappings::read_mapping;
-use crate::rows::Row;
+use crate::rows::{MapKind, Row};
 use np_code_points::codes::code_of;
 use np_code_points::lines::{count, cut, cut_short};
+use smallvec::SmallVec;
 use std::alloc::Global;
 
 /// What the next record is held against.
@@ -65,6 +68,50 @@ fn next_short_field(rest: &[u8]) -> Option<(&[u8], &[u8])>
     Some((field, rest?))
 }
 
+/// Whether no `;` is among these bytes.
+#[inline(always)]
+fn has_no_end(bytes: &[u8]) -> bool
+    ensures { result ≡ list_all (is_other 59) bytes.now }
+{
+    bytes.iter().all(|b| *b != b';')
+}
+
+/// The first field, where it has `N` bytes, and what is behind its `;`.
+#[inline(always)]
+fn field_of_length<const N: usize>(rest: &[u8]) -> Option<(&[u8], &[u8])>
+    ensures { IfSome result (λ p. parts rest.now ≡ p.0.now ∷ parts p.1.now) }
+{
+    if rest.len() > N && rest[N] == b';' && has_no_end(&rest[..N]) {
+        Some((&rest[..N], &rest[N + 1..]))
+    } else {
+        None
+    }
+}
+
+/// The field of a code point, and what is behind its `;`. It has four or five bytes as a rule.
+fn next_code(rest: &[u8]) -> Option<(&[u8], &[u8])>
+    ensures { MatchOption result (length (parts rest.now) ≡ 1) (λ p. parts rest.now ≡ p.0.now ∷ parts p.1.now) }
+{
+    if let Some(cut) = field_of_length::<4>(rest) {
+        return Some(cut);
+    }
+    if let Some(cut) = field_of_length::<5>(rest) {
+        return Some(cut);
+    }
+    next_field(rest)
+}
+
+/// The first field, and what is behind its `;`, where the field has `N` bytes as a rule.
+#[inline(always)]
+fn next_field_of<const N: usize>(rest: &[u8]) -> Option<(&[u8], &[u8])>
+    ensures { MatchOption result (length (parts rest.now) ≡ 1) (λ p. parts rest.now ≡ p.0.now ∷ parts p.1.now) }
+{
+    match field_of_length::<N>(rest) {
+        Some(cut) => Some(cut),
+        None => next_short_field(rest),
+    }
+}
+
 /// Whether a text is this one.
 fn is_text(text: &[u8], wanted: &[u8]) -> bool
     ensures { IsTrue result → text.now ≡ wanted.now }
@@ -92,7 +139,7 @@ fn cut_twelve(text: &[u8]) -> Option<(&[u8], &[u8])>
     ensures { MatchOption result (length (parts text.now) ≢ 12)
         (λ p. (length (parts text.now) ≡ 12) × (p.0.now ≡ field 0 text.now) × (p.1.now ≡ field 2 text.now)) }
 {
-    let (class, rest) = next_short_field(text)?;
+    let (class, rest) = next_field_of::<1>(text)?;
     let (_bidi, rest) = next_short_field(rest)?;
     let (mapping, rest) = next_short_field(rest)?;
     if has_nine(rest) {
@@ -121,9 +168,9 @@ fn fields_of(text: &[u8]) -> Option<Fields<'_>>
         (λ f. (length (parts text.now) ≡ 15) × (f.code.now ≡ field 0 text.now) × (f.name.now ≡ field 1 text.now)
         × (f.category.now ≡ field 2 text.now) × (f.class.now ≡ field 3 text.now) × (f.mapping.now ≡ field 5 text.now)) }
 {
-    let (code, rest) = next_field(text)?;
+    let (code, rest) = next_code(text)?;
     let (name, rest) = next_field(rest)?;
-    let (category, rest) = next_short_field(rest)?;
+    let (category, rest) = next_field_of::<2>(rest)?;
     let (class, mapping) = class_and_mapping(rest)?;
     Some(Fields {
         code,
@@ -240,6 +287,27 @@ fn first_code(before: Option<Neighbour>, closes: bool, code: u32) -> u32
     }
 }
 
+/// Whether a record has no mapping, and neither is part of a range nor stands where one is open. Nearly
+/// all records are such.
+fn is_plain(before: Option<Neighbour>, head: Head<'_>) -> bool
+    ensures { IsTrue result → IsPlain (option_map neighbour_value before) head.entry.neighbour.opens head.entry.closes head.entry.mapping.now }
+{
+    head.mapping.is_empty() && !head.neighbour.opens && !head.closes && !is_open(before)
+}
+
+/// The row of a code point by itself that has no mapping.
+fn plain_row(alloc: Global, code: u32, class: u8) -> Row
+    ensures { entry_of result ≡ plain_entry code class }
+{
+    Row {
+        first: code,
+        last: code,
+        class,
+        kind: MapKind::Plain,
+        mapping: SmallVec::new(alloc),
+    }
+}
+
 /// The record of a line behind the record before, or its fault.
 pub(crate) fn read_record(
     alloc: Global,
@@ -253,6 +321,11 @@ pub(crate) fn read_record(
     ensures fault { IfErr result (λ e. IsMemoryOr (record_fault (option_map neighbour_value before) line text.now) e) }
 {
     let head = read_head(before, line, text)?;
+    if is_plain(before, head) {
+        let neighbour = head.neighbour;
+        let row = plain_row(alloc, neighbour.code, neighbour.class);
+        return Ok(Record { neighbour, row });
+    }
     let Some(mapping) = read_mapping(alloc, head.mapping)? else {
         return Err(UcdFault::BadMapping { line });
     };

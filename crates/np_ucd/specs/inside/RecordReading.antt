@@ -1,6 +1,6 @@
 -- The tests of a record of UnicodeData.txt and the row that it ends, as functions of its bytes; `specs/Tests` and
 -- `specs/AllRows` say it in relations.
-use Rattle.std.specs.Prelude.{ℕ, Bool, false, not, ◌&&◌, ◌||◌, ◌==◌, nat_le, List, [], ◌∷◌, ◌++◌, length, Option, Some, None, is_none, unwrap_or, if◌then◌else◌, slice_index_or}
+use Rattle.std.specs.Prelude.{◌≡◌, ℕ, Bool, false, not, ◌&&◌, ◌||◌, ◌==◌, nat_le, List, [], ◌∷◌, ◌++◌, length, Option, Some, None, is_none, unwrap_or, if◌then◌else◌, slice_index_or}
 use Rattle.std.specs.Str.{bytes_eq}
 use lib.Utf8.{scalar}
 use Rattle.np_code_points.specs.Codes.{code_value}
@@ -133,3 +133,16 @@ row_of before text = record {
 -- a range's first record has no row of its own
 abbrev pub record_rows : Option Neighbour → List ℕ → List Entry
 record_rows before text = if opens text then [] else row_of before text ∷ []
+
+-- a record without a mapping that is no part of a range, and stands where none is open
+abbrev pub IsPlain : Option Neighbour → Bool → Bool → List ℕ → Type 0
+IsPlain before opening closing mapping = record {
+  bare : mapping ≡ [];
+  opening : opening ≡ false;
+  closing : closing ≡ false;
+  shut : is_open before ≡ false;
+}
+
+-- the row of such a record
+abbrev pub plain_entry : ℕ → ℕ → Entry
+plain_entry code class = record { first = code; last = code; class = class; kind = Plain; mapping = [] }
