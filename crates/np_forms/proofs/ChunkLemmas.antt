@@ -72,7 +72,7 @@ module _ (v : VersionData) (sound : IsSound v) where
         let begin : flat_map each (c ∷ cs) ++ zs ≡ at.first ∷ (behind ++ zs) = ap (λ l. l ++ zs) first_is in
         ap (λ l. ended v e (order (flat_map each pre ++ l))) begin
         ∙ ap (ended v e) (canonical_order-at_starter (class_of v) (flat_map each pre) at.first (behind ++ zs) low)
-        ∙ ended-boundary v e (order (flat_map each pre)) at.first (order (behind ++ zs)) at.starter (λ on. composite-never v at.first (at.apart on))
+        ∙ ended-boundary v e (order (flat_map each pre)) at.first (order (behind ++ zs)) at.starter (λ on. composite-never v at.first (at.never_second on))
         ∙ ap (λ l. ended v e (order (flat_map each pre)) ++ ended v e l) (sym (order_begins at.first (behind ++ zs) low))
         ∙ ap (λ l. ended v e (order (flat_map each pre)) ++ ended v e (order l)) (sym begin)
 

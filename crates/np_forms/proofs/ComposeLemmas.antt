@@ -35,7 +35,7 @@ module _ (ccc : ℕ → ℕ) (join : ℕ → ℕ → Option ℕ) where
   unfolding joined
   joined-free s bs c free = cond-true _ _ _ free
 
-  -- what is blocked goes into nothing
+  -- what is blocked does not compose
   pub joined-blocked : (s : ℕ) (bs : List ℕ) (c : ℕ) → is_free ccc bs c ≡ false → joined ccc join s bs c ≡ None
   unfolding joined
   joined-blocked s bs c blocked = cond-false _ _ _ blocked
@@ -60,7 +60,7 @@ module _ (ccc : ℕ → ℕ) (join : ℕ → ℕ → Option ℕ) where
   unfolding compose_after
   compose_after-nil s bs = refl
 
-  -- c goes into the starter
+  -- c composes with the starter
   pub compose_after-joined : (s : ℕ) (bs : List ℕ) (c p : ℕ) (cs : List ℕ) → joined ccc join s bs c ≡ Some p → compose_after ccc join s bs (c ∷ cs) ≡ compose_after ccc join p bs cs
   unfolding compose_after
   compose_after-joined s bs c p cs some = rw (some, compose_after)
@@ -112,7 +112,7 @@ module _ (ccc : ℕ → ℕ) (join : ℕ → ℕ → Option ℕ) where
         | inr low ↦ subst Q (sym (compose-starter c cs low)) (in_starter low)
       ]
 
-  -- ---- a starter that goes into none parts the composition
+  -- ---- composition is cut before a starter that never composes backward
 
   abbrev pub IsNeverSecond : ℕ → Type 0
   IsNeverSecond x = (a : ℕ) → join a x ≡ None

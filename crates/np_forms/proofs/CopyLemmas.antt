@@ -1,16 +1,16 @@
--- What stays is copied, and segments are made each for itself.
+-- What passes the quick check is copied, and segments are made each for itself.
 use Rattle.std.proofs.Common.{◌≡◌, ◌≢◌, ℕ, ◌-◌, ◌<◌, ◌⊎◌, List, [], ◌∷◌, ◌++◌, None, length, chars, IsUtf8, encode_utf8, encode_utf8_all, refl, sym, ap, subst, ◌∙◌, arith, inl, inr, append_assoc, append-nil, length-append, take_at, drop_at, Bool, true, false, take, drop, slice_range, IsCharBoundary, flat_map, suc, Option, Some, All, get_or}
 use Rattle.np_forms.proofs.Words.{append_cancel_right, nil_from_length, cases_lt, and_from, chars-nil, chars-append}
 use Rattle.np_forms.proofs.Words.{IsUtf8-string_bytes, chars_past_char, encodes-append, encodes-chars}
 use Rattle.np_forms.proofs.Words.{IsCharBoundary-at_seam, IsCharBoundary-from_take, IsUtf8-drop, IsUtf8-take, Form}
-use Rattle.np_forms.proofs.Words.{IsAssigned, canonical_order, compose_of, IsCopied, AreStaying, AsciiStays, IsStaying}
+use Rattle.np_forms.proofs.Words.{IsAssigned, canonical_order, compose_of, IsCopied, ArePassing, AsciiPasses, IsPassing}
 use Rattle.np_forms.proofs.Words.{decomposed, ended, normal_form, IsReadAssigned, BeginsAtBoundary, IsBoundary, IsSound}
-use Rattle.np_forms.proofs.Words.{VersionData, class_of, full_of, AreStanding, MayFollow, Walks, is_compat, composes}
+use Rattle.np_forms.proofs.Words.{VersionData, class_of, full_of, IsQuickSpan, MayFollow, Walks, is_compat, composes}
 use Rattle.np_forms.proofs.Words.{composite}
-use Rattle.np_tables.proofs.StandingLemmas.{Walks-front}
-use Rattle.np_tables.specs.inside.PageWords.{IsPast}
+use Rattle.np_tables.proofs.QuickSpanLemmas.{Walks-front}
+use Rattle.np_tables.specs.inside.PageProperties.{IsPast}
 use Rattle.np_forms.proofs.StreamLemmas.{normal_form-parts}
-use Rattle.np_forms.proofs.StandingLemmas.{standing_form}
+use Rattle.np_forms.proofs.QuickSpanLemmas.{quick_span_form}
 use Rattle.np_forms.proofs.TextLemmas.{IsReadAssigned-front}
 use Rattle.np_forms.proofs.ComposeLemmas.{compose-nil}
 use Rattle.np_forms.proofs.OrderLemmas.{canonical_order-nil}
@@ -25,23 +25,23 @@ unfolding normal_form decomposed
 normal_form-nil v form = ap (ended v (composes form)) (canonical_order-nil (class_of v)) ∙ ended-nil v (composes form)
 
 module _ (v : VersionData) (sound : IsSound v) (form : Form) where
-  -- before a boundary the form parts
+  -- at a boundary forms are made each for itself
   pub parts-at : (xs rest : List ℕ) → BeginsAtBoundary v form rest → normal_form v form (xs ++ rest) ≡ normal_form v form xs ++ normal_form v form rest
   parts-at xs [] at = ap (normal_form v form) (append-nil xs) ∙ sym (append-nil _) ∙ ap (λ l. normal_form v form xs ++ l) (sym (normal_form-nil v form))
   parts-at xs (c ∷ cs) at = normal_form-parts v sound form xs c cs at
 
   -- a walk stands there as it is
   copies : (cs : List ℕ) (end : ℕ) (rest : List ℕ) → Walks (MayFollow v form) None 0 cs end → BeginsAtBoundary v form rest → normal_form v form (cs ++ rest) ≡ cs ++ normal_form v form rest
-  copies cs end rest walk at = parts-at cs rest at ∙ ap (λ l. l ++ normal_form v form rest) (standing_form v sound form cs end walk)
+  copies cs end rest walk at = parts-at cs rest at ∙ ap (λ l. l ++ normal_form v form rest) (quick_span_form v sound form cs end walk)
 
-  -- a text whose front stands as it is, cut behind it
+  -- a text whose front passes the quick check, cut behind it
   pub IsCopied-at : (text front back : List ℕ) (cs : List ℕ) (end : ℕ) → text ≡ front ++ back → IsUtf8 back → front ≡ encode_utf8_all cs → chars text ≡ cs ++ chars back → Walks (MayFollow v form) None 0 cs end → BeginsAtBoundary v form (chars back) → IsCopied v form text front back
-  IsCopied-at text front back cs end parts utf8 spelled text_is walk at =
+  IsCopied-at text front back cs end parts utf8 encoded text_is walk at =
       record {
         parts = parts;
         utf8 = utf8;
         copied = ap (λ l. encode_utf8_all (normal_form v form l)) text_is ∙ ap encode_utf8_all (copies cs end (chars back) walk at)
-            ∙ encodes-append cs (normal_form v form (chars back)) ∙ ap (λ l. l ++ encode_utf8_all (normal_form v form (chars back))) (sym spelled);
+            ∙ encodes-append cs (normal_form v form (chars back)) ∙ ap (λ l. l ++ encode_utf8_all (normal_form v form (chars back))) (sym encoded);
       }
 
 -- ---- where a text is cut
@@ -60,7 +60,7 @@ front_of s front back e =
     let n : length front ≡ length s - length back - 0 = omega (arith, ap length e, length-append front back) in
     ap (take (length s - length back - 0)) e ∙ take_at front back _ n
 
-module _ (v : VersionData) (form : Form) (text : List ℕ) (n : ℕ) (h : AreStanding v form text n) where
+module _ (v : VersionData) (form : Form) (text : List ℕ) (n : ℕ) (h : IsQuickSpan v form text n) where
   pub cut_boundary : IsCharBoundary text n
   cut_boundary = subst (IsCharBoundary text) (sym h.place) (IsCharBoundary-at_seam text (encode_utf8_all h.front) h.back h.split h.utf8)
 
@@ -82,10 +82,10 @@ pub IsCopied-read : (v : VersionData) (form : Form) (text stays behind : List �
 IsCopied-read v form text stays behind utf8 copied all =
     IsReadAssigned-front v text stays behind copied.parts (IsUtf8-front text stays behind copied.parts utf8 copied.utf8) copied.utf8 all
 
--- ---- a text cut behind what stands as it is
+-- ---- a text cut behind what passes the quick check
 
 -- where the text ends there, or a boundary follows
-module _ (v : VersionData) (sound : IsSound v) (form : Form) (text : List ℕ) (n : ℕ) (h : AreStanding v form text n) (front back : List ℕ) (of_front : front ≡ take n text) (of_back : back ≡ drop n text) where
+module _ (v : VersionData) (sound : IsSound v) (form : Form) (text : List ℕ) (n : ℕ) (h : IsQuickSpan v form text n) (front back : List ℕ) (of_front : front ≡ take n text) (of_back : back ≡ drop n text) where
   cut-front : front ≡ encode_utf8_all h.front
   cut-front = of_front ∙ cut_at-front v form text n h
 
@@ -111,7 +111,7 @@ some_chars : (text : List ℕ) → IsUtf8 text → 0 < length text → 0 < lengt
 some_chars text utf8 some = some_list (chars text) (λ none. omega (arith, some, ap length (sym (encodes-chars text utf8) ∙ ap encode_utf8_all none)))
 
 -- else it is cut before the last boundary, where there is one
-module _ (v : VersionData) (form : Form) (text : List ℕ) (n : ℕ) (h : AreStanding v form text n) (front own part : List ℕ) (of_front : front ≡ take n text) (utf8 : IsUtf8 text) (of_own : IsUtf8 own) (of_part : IsUtf8 part)
+module _ (v : VersionData) (form : Form) (text : List ℕ) (n : ℕ) (h : IsQuickSpan v form text n) (front own part : List ℕ) (of_front : front ≡ take n text) (utf8 : IsUtf8 text) (of_own : IsUtf8 own) (of_part : IsUtf8 part)
     (e : front ≡ own ++ part) where
   own-text : text ≡ own ++ (part ++ h.back)
   own-text = h.split ∙ ap (λ l. l ++ h.back) (sym (of_front ∙ cut_at-front v form text n h) ∙ e) ∙ append_assoc own part h.back
@@ -196,17 +196,17 @@ begins_behind v form text front later c back e utf8 of_front is at =
 -- ---- code points that stay, one behind the other
 
 module _ (v : VersionData) (form : Form) where
-  stays_walk : (before : Option ℕ) (cs : List ℕ) → All (IsStaying v form) cs → Walks (MayFollow v form) before 0 cs 0
-  stays_walk before [] all = refl
-  stays_walk before (c ∷ cs) all = (0, inl (all 0 c (omega arith)).0, stays_walk (Some c) cs (λ k d lt. all (suc k) d (omega arith)))
+  passing_walk : (before : Option ℕ) (cs : List ℕ) → All (IsPassing v form) cs → Walks (MayFollow v form) before 0 cs 0
+  passing_walk before [] all = refl
+  passing_walk before (c ∷ cs) all = (0, inl (all 0 c (omega arith)).0, passing_walk (Some c) cs (λ k d lt. all (suc k) d (omega arith)))
 
-  all_assigned : (cs : List ℕ) → All (IsStaying v form) cs → IsAssigned v cs
+  all_assigned : (cs : List ℕ) → All (IsPassing v form) cs → IsAssigned v cs
   all_assigned [] all = refl
   all_assigned (c ∷ cs) all = and_from _ _ (all 0 c (omega arith)).1 (all_assigned cs (λ k d lt. all (suc k) d (omega arith)))
 
   -- ASCII does, where that is asked for
-  pub staying_ascii : (ascii : Bool) → (ascii ≡ true → AsciiStays v form) → (text rest : List ℕ) → IsPast (λ c. (ascii ≡ true) × (c < 128)) text rest → AreStaying v form text rest
-  staying_ascii ascii stays text rest past =
+  pub passing_ascii : (ascii : Bool) → (ascii ≡ true → AsciiPasses v form) → (text rest : List ℕ) → IsPast (λ c. (ascii ≡ true) × (c < 128)) text rest → ArePassing v form text rest
+  passing_ascii ascii stays text rest past =
       record {
         front = past.front;
         split = past.split;
@@ -215,18 +215,18 @@ module _ (v : VersionData) (form : Form) where
         passed = λ k d lt. (let both = past.passed k d lt in stays both.0 (get_or past.front k d) both.1);
       }
 
-  module _ (text rest : List ℕ) (past : AreStaying v form text rest) where
-    pub staying_read : IsReadAssigned v text rest
-    staying_read = record { before = past.front; bytes = past.split; text = past.text_is; assigned = all_assigned past.front past.passed; utf8 = past.utf8 }
+  module _ (text rest : List ℕ) (past : ArePassing v form text rest) where
+    pub passing_read : IsReadAssigned v text rest
+    passing_read = record { before = past.front; bytes = past.split; text = past.text_is; assigned = all_assigned past.front past.passed; utf8 = past.utf8 }
 
-    pub staying_front : (n : ℕ) → n ≡ length text - length rest → take n text ≡ encode_utf8_all past.front
-    staying_front n is =
+    pub passing_front : (n : ℕ) → n ≡ length text - length rest → take n text ≡ encode_utf8_all past.front
+    passing_front n is =
         ap (take n) past.split ∙ take_at (encode_utf8_all past.front) rest n (omega (arith, is, ap length past.split, length-append (encode_utf8_all past.front) rest))
 
-    -- where the form parts behind them
-    pub staying_copied : (sound : IsSound v) (front : List ℕ) → front ≡ encode_utf8_all past.front → BeginsAtBoundary v form (chars rest) → IsCopied v form text front rest
-    staying_copied sound front is at =
-        IsCopied-at v sound form text front rest past.front 0 (past.split ∙ ap (λ l. l ++ rest) (sym is)) past.utf8 is past.text_is (stays_walk None past.front past.passed) at
+    -- where a boundary is behind them
+    pub passing_copied : (sound : IsSound v) (front : List ℕ) → front ≡ encode_utf8_all past.front → BeginsAtBoundary v form (chars rest) → IsCopied v form text front rest
+    passing_copied sound front is at =
+        IsCopied-at v sound form text front rest past.front 0 (past.split ∙ ap (λ l. l ++ rest) (sym is)) past.utf8 is past.text_is (passing_walk None past.front past.passed) at
 
 -- what the checks of functions cite
 pub ruleset copy_answers = (IsCopied-own, IsUtf8-string_bytes)

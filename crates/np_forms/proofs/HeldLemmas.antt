@@ -61,7 +61,7 @@ module _ (v : VersionData) (sound : IsSound v) where
   held_flush e ds out pending d low h parts =
       held_alone e ds out pending (out ++ ended v e (canonical_order (class_of v) pending)) d d low h (λ zs. ap (λ l. out ++ l) (parts zs) ∙ sym (append_assoc out _ _))
 
-  -- or goes into the starter that was held back alone
+  -- or composes with the starter that was held back alone
   pub held_join : (e : Bool) (ds out pending : List ℕ) (d p : ℕ) → class_of v p ≤ 0 → IsHeld v e ds out pending → ((zs : List ℕ) → ended v e (canonical_order (class_of v) (pending ++ d ∷ zs)) ≡ ended v e (canonical_order (class_of v) (p ∷ zs))) → IsHeld v e (ds ++ d ∷ []) out (p ∷ [])
   held_join e ds out pending d p low h joins = held_alone e ds out pending out d p low h (λ zs. ap (λ l. out ++ l) (joins zs))
 
@@ -234,7 +234,7 @@ module _ (v : VersionData) (sound : IsSound v) where
       subst (λ l. IsNormalForm v form fed (out ++ l))
       (ordered_value form pending s.held s.holds ∙ ap (λ b. ended v b (canonical_order (class_of v) pending)) (sym comp)) s.whole
 
--- ---- a stream's state, where a starter comes: it goes into the starter that is held back, or what is held back is ready
+-- ---- a stream's state, where a starter comes: it composes with the starter that is held back, or what is held back is ready
 
 module _ (v : VersionData) (sound : IsSound v) where
   abbrev ccc : ℕ → ℕ
@@ -277,7 +277,7 @@ module _ (v : VersionData) (sound : IsSound v) where
       (λ none. apart head refl (compose_of_is v sound _ ∙ composed_starter v sound s ns of_s ∙ is ∙ ap (λ l. head ∷ l) none)))
       ∙ ap (λ l. l ++ compose ccc (composite v) (order (d ∷ zs))) (sym (compose_of_is v sound _)) ∙ ap (λ l. ended v true (order (s ∷ ns)) ++ l) (sym (compose_of_is v sound _))
 
-  -- the starter goes into the one that is held back, where no non-starter is left between
+  -- the starter composes with the one that is held back, where no non-starter is left between
   pub held_joins : (ds out pending : List ℕ) (head d p : ℕ) → class_of v d ≤ 0 → IsHeld v true ds out pending → ended v true (order pending) ≡ head ∷ [] → composite v head d ≡ Some p → IsHeld v true (ds ++ d ∷ []) out (p ∷ [])
   held_joins ds out pending head d p low h is both =
       held_join v sound true ds out pending d p (let e = composite-starter v sound head d p both in omega arith) h

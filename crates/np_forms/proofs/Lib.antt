@@ -14,13 +14,13 @@ pub mod OrderLemmas
 pub mod OutTextLemmas
 pub mod PendingLemmas
 pub mod PieceLemmas
+pub mod PrecomputedLemmas
+pub mod QuickSpanLemmas
 pub mod RunTextLemmas
 pub mod RunningLemmas
 pub mod SegmentLemmas
 pub mod ShortLemmas
 pub mod SortLemmas
-pub mod SpelledLemmas
-pub mod StandingLemmas
 pub mod StreamLemmas
 pub mod StreamSafeLemmas
 pub mod SyllableFrontLemmas

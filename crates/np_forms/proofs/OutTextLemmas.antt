@@ -1,10 +1,10 @@
--- Steps of a fixed size, of which a front counts.
+-- Lanes of a fixed number, of which a front counts.
 use Rattle.std.proofs.Common.{◌≡◌, ℕ, ◌+◌, ◌≤◌, List, ◌++◌, length, take, IsUtf8, sym, ap, subst, ◌∙◌, arith, length-take-le, take-take}
 use Rattle.std.proofs.lemmas.Str.{IsUtf8-append, IsUtf8-encode}
 use Rattle.std.proofs.Math.Seq.{take-append-add}
 
-pub front_of_step : (old new run : List ℕ) (at step count : ℕ) → count ≤ step → at ≤ length old → take (at + step) new ≡ take at old ++ take step run → take (at + count) new ≡ take at old ++ take count run
-front_of_step old new run at step count few within written =
+pub front_of_lanes : (old new run : List ℕ) (at step count : ℕ) → count ≤ step → at ≤ length old → take (at + step) new ≡ take at old ++ take step run → take (at + count) new ≡ take at old ++ take count run
+front_of_lanes old new run at step count few within written =
     let long : length (take at old) ≡ at = length-take-le at old within in
     sym (take-take (at + count) (at + step) new (omega arith)) ∙ ap (take (at + count)) written
     ∙ ap (λ n. take (n + count) (take at old ++ take step run)) (sym long)

@@ -55,7 +55,7 @@ module _ (v : VersionData) (sound : IsSound v) where
   pub composed_starter : (s : ℕ) (zs : List ℕ) → class_of v s ≤ 0 → compose ccc join (order (s ∷ zs)) ≡ after s [] (order zs)
   composed_starter s zs of_s = ap (compose ccc join) (order_starter s zs of_s) ∙ compose-starter ccc join s (order zs) of_s
 
-  -- the next starter goes into the one held back, where no non-starter is left between
+  -- the next starter composes with the one held back, where no non-starter is left between
   pub push_joins : (s : ℕ) (ms : List ℕ) (head d p : ℕ) (zs : List ℕ) → class_of v s ≤ 0 → list_all (is_non_starter v) ms ≡ true → class_of v d ≤ 0 → after s [] (order ms) ≡ head ∷ [] → composite v head d ≡ Some p → compose ccc join (order ((s ∷ ms) ++ d ∷ zs)) ≡ compose ccc join (order (p ∷ zs))
   push_joins s ms head d p zs of_s non_starters of_d is both =
       let r = settled s [] (order ms) (list_all-canonical_order ccc (is_non_starter v) ms non_starters) in

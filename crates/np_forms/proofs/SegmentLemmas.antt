@@ -4,7 +4,7 @@ use Rattle.np_forms.proofs.Words.{cases_Bool, cond-false, cond-true, flat_map-ap
 use Rattle.np_forms.proofs.Words.{Form, is_ordered, IsComposing, and_place, pair_with_last, compose_of, canonical_order}
 use Rattle.np_forms.proofs.Words.{CodeAndClass, with_class, with_classes, ended, normal_form, decomposed, IsComposedOf}
 use Rattle.np_forms.proofs.Words.{IsDecomposedUpTo, IsFirstMade, IsFullUpTo, Rises, BeginsAtBoundary, IsSound}
-use Rattle.np_forms.proofs.Words.{VersionData, class_of, composite, full_of, encodes-append, GoesOn, IsCopied}
+use Rattle.np_forms.proofs.Words.{VersionData, class_of, composite, full_of, encodes-append, AppendsForm, IsCopied}
 use Rattle.np_forms.proofs.TextLemmas.{IsRead-both, IsRead-start, IsRead-next, IsRead-end}
 use Rattle.np_forms.proofs.ComposerLemmas.{push_joins, push_starts, IsComposing-start, IsComposing-end}
 use Rattle.np_forms.proofs.CopyLemmas.{parts-at, settled-is_form}
@@ -67,7 +67,7 @@ module _ (v : VersionData) (sound : IsSound v) (form : Form) (plain : composes f
 -- ---- one front behind another
 
 module _ (v : VersionData) (form : Form) where
-  pub goes-both : (text middle rest old between new : List ℕ) → GoesOn v form text middle old between → GoesOn v form middle rest between new → GoesOn v form text rest old new
+  pub goes-both : (text middle rest old between new : List ℕ) → AppendsForm v form text middle old between → AppendsForm v form middle rest between new → AppendsForm v form text rest old new
   goes-both text middle rest old between new one two =
       record {
         end = record {
@@ -78,8 +78,8 @@ module _ (v : VersionData) (form : Form) where
         written = two.written ∙ one.written;
       }
 
-  -- a front that stands in the form as it is
-  pub goes-copied : (text stays behind old new : List ℕ) → IsCopied v form text stays behind → new ≡ old ++ stays → GoesOn v form text behind old new
+  -- a front that is its own form
+  pub goes-copied : (text stays behind old new : List ℕ) → IsCopied v form text stays behind → new ≡ old ++ stays → AppendsForm v form text behind old new
   goes-copied text stays behind old new cut push =
       let after = encode_utf8_all (normal_form v form (chars behind)) in
       record {
@@ -88,7 +88,7 @@ module _ (v : VersionData) (form : Form) where
       }
 
   -- a front whose form is at hand
-  pub goes-made : (text later made old new : List ℕ) → IsFirstMade v form text later made → new ≡ old ++ encode_utf8_all made → GoesOn v form text later old new
+  pub goes-made : (text later made old new : List ℕ) → IsFirstMade v form text later made → new ≡ old ++ encode_utf8_all made → AppendsForm v form text later old new
   goes-made text later made old new first push =
       let after = normal_form v form (chars later) in
       record {

@@ -56,7 +56,7 @@ module _ (v : VersionData) (s : ℕ) (starter : class_of v s ≡ 0) where
         ∙ sym (compose-starter ccc join p (b ∷ []) (omega (arith, composite-starter v sound s a p found)))
     first-joined sound false p on found = cc
 
-    -- the first stays, and the second goes in past it
+    -- the first stays, and the second composes past it
     pub second-joined : (form : Bool) (p : ℕ) → form ≡ true → composite v s a ≡ None → ccc a < ccc b → composite v s b ≡ Some p → ended v form (s ∷ a ∷ b ∷ []) ≡ p ∷ a ∷ []
     unfolding compose_of
     second-joined true p on none up found =

@@ -4,11 +4,11 @@ use Rattle.np_forms.proofs.Words.{cases_lt, and_parts, and_from, not-true, not_f
 use Rattle.np_forms.proofs.Words.{list_all, VersionData, class_of, is_final, full_of, is_ordered, canonical_order}
 use Rattle.np_forms.proofs.Words.{composite, joined, compose_after, compose, compose_of, IsSound, Form, is_compat}
 use Rattle.np_forms.proofs.Words.{composes, decomposed, ended, normal_form, is_non_starter, IsNormalForm}
-use Rattle.np_forms.proofs.Words.{BeginsAtLastStarter, HasNoStarter, IsBoundary, NeverFalls, FoldsTo, IsYesStarter}
+use Rattle.np_forms.proofs.Words.{BeginsAtLastStarter, HasNoStarter, IsBoundary, NeverFalls, ComposesTo, IsYesStarter}
 use Rattle.np_forms.specs.StreamLaws.{OneMore}
 use Rattle.np_tables.proofs.MappingLemmas.{list_all-append, full_decomposition-flat_map}
 use Rattle.np_tables.proofs.CompositeLemmas.{cases_Option, composite-starter, composite-never, composite_from}
-use Rattle.np_forms.specs.Boundaries.{Parting, Staying}
+use Rattle.np_forms.specs.Boundaries.{FormsAtBoundary, YesStarterForm}
 use Rattle.np_forms.proofs.OrderLemmas.{canonical_order-front, canonical_order-at_starter, canonical_order-ordered, is_ordered-front, is_ordered-back, canonical_order-nil, is_ordered-cons, is_ordered-nil, is_ordered-one, not_reorderable_rising}
 use Rattle.np_forms.proofs.ComposeLemmas.{not_starter_from, compose_after-nil, compose_after-joined, compose_after-starter, compose_after-kept, compose-nil, compose-starter, compose-non_starter, joined-some, compose-at_boundary, joined-free}
 use Rattle.np_forms.proofs.FormLemmas.{IsNormalForm-normal_form, normal_form_is}
@@ -217,7 +217,7 @@ one_more v form text x y z c sound is where_y of_y =
 -- ---- a normal form parts before a boundary
 
 module _ (v : VersionData) where
-  -- the ordered full decomposition parts before c, and begins with the first of its full decomposition
+  -- the ordered full decomposition is cut before c, and begins with the first of its full decomposition
   pub decomposed-boundary : (compat : Bool) (xs : List ℕ) (c s : ℕ) (rest ys : List ℕ) → full_of v compat c ≡ s ∷ rest → class_of v s ≡ 0 →
       decomposed v compat (xs ++ c ∷ ys) ≡ decomposed v compat xs ++ s ∷ canonical_order (class_of v) (rest ++ flat_map (full_of v compat) ys)
   unfolding decomposed
@@ -237,7 +237,7 @@ module _ (v : VersionData) where
   decomposed-begins compat c s rest ys full starter =
       decomposed-boundary compat [] c s rest ys full starter ∙ ap (λ l. l ++ s ∷ canonical_order (class_of v) (rest ++ flat_map (full_of v compat) ys)) (decomposed-nil compat)
 
-  -- the last step parts before a starter that goes into nothing
+  -- composition is cut before a starter that never composes backward
   pub ended-boundary : (b : Bool) (xs : List ℕ) (s : ℕ) (ys : List ℕ) → class_of v s ≡ 0 → (b ≡ true → (a : ℕ) → composite v a s ≡ None) →
       ended v b (xs ++ s ∷ ys) ≡ ended v b xs ++ ended v b (s ∷ ys)
   unfolding compose_of
@@ -259,15 +259,15 @@ pub full_of-boundary : (v : VersionData) (form : Form) (c : ℕ) → IsSound v �
 full_of-boundary v form c sound at =
     sym (append-nil (full_of v (is_compat form) c)) ∙ sym (full_decomposition-flat_map v (is_compat form) sound.shallow (c ∷ []) (at.first ∷ at.rest) at.decomposes)
 
-pub parting : Parting
-parting v form xs c ys before after sound at of_before of_after =
-    let parts = normal_form-boundary v form xs c at.first at.rest ys (full_of-boundary v form c sound at) at.starter (λ on. composite-never v at.first (at.apart on)) in
+pub forms_at_boundary : FormsAtBoundary
+forms_at_boundary v form xs c ys before after sound at of_before of_after =
+    let parts = normal_form-boundary v form xs c at.first at.rest ys (full_of-boundary v form c sound at) at.starter (λ on. composite-never v at.first (at.never_second on)) in
     let same : normal_form v form (xs ++ c ∷ ys) ≡ before ++ after =
     parts ∙ ap (λ l. l ++ normal_form v form (c ∷ ys)) (sym (normal_form_is v sound form xs before of_before))
     ∙ ap (λ l. before ++ l) (sym (normal_form_is v sound form (c ∷ ys) after of_after)) in
     subst (λ l. IsNormalForm v form (xs ++ c ∷ ys) l) same (IsNormalForm-normal_form v sound form (xs ++ c ∷ ys))
 
--- ---- what stays is its own form
+-- ---- a starter that passes the quick check is its own form
 
 -- classes that never fall don't behind a starter either
 pub rises_from : (ccc : ℕ → ℕ) (a : ℕ) (rest : List ℕ) → ccc a ≡ 0 → NeverFalls ccc rest → NeverFalls ccc (a ∷ rest)
@@ -281,14 +281,14 @@ is_ordered-never_falls ccc (a ∷ []) h = is_ordered-one ccc a
 is_ordered-never_falls ccc (a ∷ b ∷ cs) h = is_ordered-cons ccc a b cs (not_reorderable_rising ccc a b h.0) (is_ordered-never_falls ccc (b ∷ cs) h.1)
 
 module _ (v : VersionData) (sound : IsSound v) where
-  -- each of bs goes into the starter in turn
-  compose_after-folds : (s : ℕ) (bs : List ℕ) (c : ℕ) → FoldsTo v s bs c → compose_after (class_of v) (composite v) s [] bs ≡ c ∷ []
+  -- each of bs composes with the starter in turn
+  compose_after-folds : (s : ℕ) (bs : List ℕ) (c : ℕ) → ComposesTo v s bs c → compose_after (class_of v) (composite v) s [] bs ≡ c ∷ []
   compose_after-folds s [] c same = compose_after-nil (class_of v) (composite v) s [] ∙ ap (λ x. x ∷ []) same
   compose_after-folds s (b ∷ bs) c h =
       compose_after-joined (class_of v) (composite v) s [] b h.0 bs (joined-free (class_of v) (composite v) s [] b refl ∙ composite_from v sound s b h.0 h.1)
       ∙ compose_after-folds h.0 bs c h.2
 
-  pub ended-folds : (b : Bool) (s : ℕ) (rest : List ℕ) (c : ℕ) → class_of v s ≡ 0 → MatchBool b (FoldsTo v s rest c) (s ∷ rest ≡ c ∷ []) → ended v b (s ∷ rest) ≡ c ∷ []
+  pub ended-folds : (b : Bool) (s : ℕ) (rest : List ℕ) (c : ℕ) → class_of v s ≡ 0 → MatchBool b (ComposesTo v s rest c) (s ∷ rest ≡ c ∷ []) → ended v b (s ∷ rest) ≡ c ∷ []
   unfolding compose_of
   ended-folds true s rest c starter folds = compose-starter (class_of v) (composite v) s rest (omega arith) ∙ compose_after-folds s rest c folds
   ended-folds false s rest c starter same = same
@@ -306,11 +306,11 @@ module _ (v : VersionData) (sound : IsSound v) where
       ap (ended v (composes form)) (decomposed-one (is_compat form) c at.first at.rest (full_of-boundary v form c sound at) at.starter stays.rises)
       ∙ ended-folds (composes form) at.first at.rest c at.starter stays.returns
 
-  -- before what stays, or another boundary, what was written stands
+  -- before a starter that passes, or another boundary, what was written stands
   pub normal_form-parts : (form : Form) (xs : List ℕ) (c : ℕ) (ys : List ℕ) → IsBoundary v form c → normal_form v form (xs ++ c ∷ ys) ≡ normal_form v form xs ++ normal_form v form (c ∷ ys)
   normal_form-parts form xs c ys at =
-      normal_form-boundary v form xs c at.first at.rest ys (full_of-boundary v form c sound at) at.starter (λ on. composite-never v at.first (at.apart on))
+      normal_form-boundary v form xs c at.first at.rest ys (full_of-boundary v form c sound at) at.starter (λ on. composite-never v at.first (at.never_second on))
 
-pub staying : Staying
-staying v form c sound stays =
+pub yes_starter_form : YesStarterForm
+yes_starter_form v form c sound stays =
     subst (λ l. IsNormalForm v form (c ∷ []) l) (normal_form-stays v sound form c stays) (IsNormalForm-normal_form v sound form (c ∷ []))

@@ -2,9 +2,9 @@
 use Rattle.std.proofs.Common.{◌≡◌, ℕ, ◌<◌, get_or, true, false, MatchBool, List, [], ◌∷◌, ◌++◌, length, chars, IsUtf8, encode_utf8_all, drop, encode_utf8, flat_map, inl, inr, refl, sym, ap, subst, ◌∙◌, arith, append-nil, length-append, length-drop}
 use Rattle.np_forms.proofs.Words.{and_from, chars-append, chars-encodes, chars_past_char, IsUtf8-drop, IsUtf8-past_char}
 use Rattle.np_forms.proofs.Words.{length-le-encodes, list_all, is_compat, composes, is_among, is_syllable, Form}
-use Rattle.np_forms.proofs.Words.{IsAssigned, AsciiStandsAlone, GoesOn, IsCopied, PartsBeforeLeads, StandsAlone}
+use Rattle.np_forms.proofs.Words.{IsAssigned, AsciiIsCopiedAlone, AppendsForm, IsCopied, LeadingAreBoundaries, IsCopiedAlone}
 use Rattle.np_forms.proofs.Words.{canonical_order, decomposed, ended, normal_form, IsReadAssigned, IsFirstMade}
-use Rattle.np_forms.proofs.Words.{BeginsWithJamo, BeginsWithSyllable, syllable_parts, BeginsAtBoundary, FoldsTo}
+use Rattle.np_forms.proofs.Words.{BeginsWithJamo, BeginsWithSyllable, syllable_parts, BeginsAtBoundary, ComposesTo}
 use Rattle.np_forms.proofs.Words.{IsBoundary, IsYesStarter, IsSound, IsFullDecomposition, is_final, VersionData}
 use Rattle.np_forms.proofs.Words.{class_of, has_hangul, is_assigned, full_of}
 use lib.Utf8.{low_scalar}
@@ -48,7 +48,7 @@ begins-precomposed text later s utf8 begins h =
       shorter = omega (arith, ap length bytes, length-append (encode_utf8_all (s ∷ [])) later, length-le-encodes (s ∷ []));
     }
 
--- ---- the syllable is assigned, and no form parts inside it alone
+-- ---- the syllable is assigned, and there is no boundary inside it alone
 
 module _ (v : VersionData) (on : has_hangul v ≡ true) where
   -- it is read
@@ -66,7 +66,7 @@ module _ (v : VersionData) (on : has_hangul v ≡ true) where
       }
 
 module _ (v : VersionData) (sound : IsSound v) (on : has_hangul v ≡ true) (form : Form) where
-  -- its full decomposition is that of its jamo, whichever way it is spelled
+  -- its full decomposition is that of its jamo, whichever way it is written
   front-full : (s : ℕ) (text later : List ℕ) (begins : BeginsWithSyllable text later s) → flat_map (full_of v (is_compat form)) begins.front ≡ syllable_parts s
   front-full s text later begins =
       let compat = is_compat form in
@@ -81,7 +81,7 @@ module _ (v : VersionData) (sound : IsSound v) (on : has_hangul v ≡ true) (for
 
   -- ---- a form that only decomposes
 
-  pub goes-syllable : composes form ≡ false → (text later : List ℕ) (s : ℕ) (old new : List ℕ) → BeginsWithSyllable text later s → new ≡ old ++ encode_utf8_all (syllable_parts s) → GoesOn v form text later old new
+  pub goes-syllable : composes form ≡ false → (text later : List ℕ) (s : ℕ) (old new : List ℕ) → BeginsWithSyllable text later s → new ≡ old ++ encode_utf8_all (syllable_parts s) → AppendsForm v form text later old new
   goes-syllable plain text later s old new begins push =
       goes-made v form text later (syllable_parts s) old new
       (record {
@@ -98,10 +98,10 @@ module _ (v : VersionData) (sound : IsSound v) (on : has_hangul v ≡ true) (for
       let compat = is_compat form in
       let is = unfolds v sound on compat s h in
       let parts : syllable_parts s ≡ is.first ∷ is.rest = sym (full_of-syllable v compat sound on s h) ∙ is.full in
-      let starter : class_of v is.first ≡ 0 = jamo-starter v on is.first (leading_jamo is.first is.lead) in
+      let starter : class_of v is.first ≡ 0 = jamo-starter v on is.first (leading_jamo is.first is.is_leading) in
       let ordered = is_ordered-never_falls (class_of v) (is.first ∷ is.rest) (rises_from (class_of v) is.first is.rest starter is.rises) in
       ap (λ l. ended v (composes form) (canonical_order (class_of v) l)) (full ∙ parts) ∙ ap (ended v (composes form)) (canonical_order-ordered (class_of v) (is.first ∷ is.rest) ordered)
-      ∙ ended-folds v sound (composes form) is.first is.rest s starter (subst (λ b. MatchBool b (FoldsTo v is.first is.rest s) (is.first ∷ is.rest ≡ s ∷ [])) (sym composing) is.folds)
+      ∙ ended-folds v sound (composes form) is.first is.rest s starter (subst (λ b. MatchBool b (ComposesTo v is.first is.rest s) (is.first ∷ is.rest ≡ s ∷ [])) (sym composing) is.folds)
 
   front-made : composes form ≡ true → (text later : List ℕ) (s : ℕ) → BeginsWithSyllable text later s → BeginsAtBoundary v form (chars later) → IsFirstMade v form text later (s ∷ [])
   front-made composing text later s begins at =
@@ -111,26 +111,26 @@ module _ (v : VersionData) (sound : IsSound v) (on : has_hangul v ≡ true) (for
             ∙ ap (λ l. l ++ normal_form v form (chars later)) (joins composing s begins.syllable begins.front (front-full s text later begins));
       }
 
-  pub goes-joined : composes form ≡ true → (text later : List ℕ) (s : ℕ) (old new : List ℕ) → BeginsWithSyllable text later s → BeginsAtBoundary v form (chars later) → new ≡ old ++ encode_utf8 s → GoesOn v form text later old new
+  pub goes-joined : composes form ≡ true → (text later : List ℕ) (s : ℕ) (old new : List ℕ) → BeginsWithSyllable text later s → BeginsAtBoundary v form (chars later) → new ≡ old ++ encode_utf8 s → AppendsForm v form text later old new
   goes-joined composing text later s old new begins at push =
       goes-made v form text later (s ∷ []) old new (front-made composing text later s begins at) (push ∙ ap (λ l. old ++ l) (sym (append-nil (encode_utf8 s))))
 
-  -- ---- the form parts before a syllable
+  -- ---- a syllable is a boundary
 
-  module _ (leads : composes form ≡ true → PartsBeforeLeads v form) where
+  module _ (leading_consonants : composes form ≡ true → LeadingAreBoundaries v form) where
     -- what decomposes to a list that a leading consonant begins is a boundary
-    lead-boundary : (c first : ℕ) (rest : List ℕ) → is_among 0x1100 19 first ≡ true → IsFullDecomposition v (is_compat form) (c ∷ []) (first ∷ rest) → IsBoundary v form c
-    lead-boundary c first rest among full =
+    leading-boundary : (c first : ℕ) (rest : List ℕ) → is_among 0x1100 19 first ≡ true → IsFullDecomposition v (is_compat form) (c ∷ []) (first ∷ rest) → IsBoundary v form c
+    leading-boundary c first rest among full =
         let range = among_bounds 0x1100 19 first among in
         record {
           first = first;
           rest = rest;
           decomposes = full;
           starter = jamo-starter v on first (leading_jamo first among);
-          apart = λ composing.
-              let at = leads composing first (omega (arith, range)) (omega (arith, range)) in
+          never_second = λ composing.
+              let at = leading_consonants composing first (omega (arith, range)) (omega (arith, range)) in
               let whole : at.first ∷ at.rest ≡ first ∷ [] = full_of-only v (is_compat form) sound.shallow first (at.first ∷ at.rest) at.decomposes ∙ full_of-jamo v (is_compat form) sound on first (leading_jamo first among) in
-              subst (λ (d : ℕ). (a p : ℕ) → ¬ (IsCompositeOf v a d p)) (ap (λ l. get_or l 0 0) whole) (at.apart composing);
+              subst (λ (d : ℕ). (a p : ℕ) → ¬ (IsCompositeOf v a d p)) (ap (λ l. get_or l 0 0) whole) (at.never_second composing);
         }
 
     pub syllable-begins : (text later : List ℕ) (s : ℕ) → BeginsWithSyllable text later s → BeginsAtBoundary v form (chars text)
@@ -140,16 +140,16 @@ module _ (v : VersionData) (sound : IsSound v) (on : has_hangul v ≡ true) (for
         elim begins.spells [
           | inl jamo ↦
               let parts : begins.front ≡ is.first ∷ is.rest = jamo ∙ sym (full_of-syllable v compat sound on s begins.syllable) ∙ is.full in
-              let itself = subst (IsFullDecomposition v compat (is.first ∷ [])) (full_of-jamo v compat sound on is.first (leading_jamo is.first is.lead)) (IsFullDecomposition-full_of v compat sound.shallow is.first) in
-              subst (BeginsAtBoundary v form) (sym (begins.text_is ∙ ap (λ l. l ++ chars later) parts)) (lead-boundary is.first is.first [] is.lead itself)
+              let itself = subst (IsFullDecomposition v compat (is.first ∷ [])) (full_of-jamo v compat sound on is.first (leading_jamo is.first is.is_leading)) (IsFullDecomposition-full_of v compat sound.shallow is.first) in
+              subst (BeginsAtBoundary v form) (sym (begins.text_is ∙ ap (λ l. l ++ chars later) parts)) (leading-boundary is.first is.first [] is.is_leading itself)
           | inr itself ↦
               let full = subst (IsFullDecomposition v compat (s ∷ [])) is.full (IsFullDecomposition-full_of v compat sound.shallow s) in
-              subst (BeginsAtBoundary v form) (sym (begins.text_is ∙ ap (λ l. l ++ chars later) itself)) (lead-boundary s is.first is.rest is.lead full)
+              subst (BeginsAtBoundary v form) (sym (begins.text_is ∙ ap (λ l. l ++ chars later) itself)) (leading-boundary s is.first is.rest is.is_leading full)
         ]
 
--- ---- ASCII that stands alone
+-- ---- ASCII that is copied alone
 
-pub ascii-alone : (v : VersionData) (sound : IsSound v) (form : Form) → ((c : ℕ) → c < 128 → is_assigned v c ≡ true) → ((c : ℕ) → c < 128 → IsYesStarter v form c) → AsciiStandsAlone v form
+pub ascii-alone : (v : VersionData) (sound : IsSound v) (form : Form) → ((c : ℕ) → c < 128 → is_assigned v c ≡ true) → ((c : ℕ) → c < 128 → IsYesStarter v form c) → AsciiIsCopiedAlone v form
 ascii-alone v sound form assigned stays c lt =
     record {
       assigned = assigned c lt;
@@ -161,11 +161,11 @@ ascii-alone v sound form assigned stays c lt =
     }
 
 -- the text that it begins is copied, where a syllable follows
-pub space-copied : (v : VersionData) (form : Form) (text later : List ℕ) (c : ℕ) → StandsAlone v form c → IsUtf8 text → text ≡ encode_utf8 c ++ later → BeginsAtBoundary v form (chars later) → IsCopied v form text (encode_utf8 c) later
+pub space-copied : (v : VersionData) (form : Form) (text later : List ℕ) (c : ℕ) → IsCopiedAlone v form c → IsUtf8 text → text ≡ encode_utf8 c ++ later → BeginsAtBoundary v form (chars later) → IsCopied v form text (encode_utf8 c) later
 space-copied v form text later c alone utf8 parts at = subst (λ l. IsCopied v form l (encode_utf8 c) later) (sym parts) (alone.stands later (IsUtf8-past_char text later c utf8 parts) at)
 
--- the form parts before it
-pub space-begins : (v : VersionData) (form : Form) (text later : List ℕ) (c : ℕ) → StandsAlone v form c → IsUtf8 text → text ≡ encode_utf8 c ++ later → BeginsAtBoundary v form (chars text)
+-- it is a boundary
+pub space-begins : (v : VersionData) (form : Form) (text later : List ℕ) (c : ℕ) → IsCopiedAlone v form c → IsUtf8 text → text ≡ encode_utf8 c ++ later → BeginsAtBoundary v form (chars text)
 space-begins v form text later c alone utf8 parts = subst (BeginsAtBoundary v form) (sym (chars_past_char text later c utf8 parts)) alone.boundary
 
 -- what the checks of functions cite

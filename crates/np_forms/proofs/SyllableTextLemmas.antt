@@ -19,18 +19,18 @@ IsThree c x y z = (x ≡ 224 + c / 4096) × (y ≡ 128 + c / 64 % 64) × (z ≡ 
 abbrev pub IsMiddle : ℕ → Type 0
 IsMiddle c = (0x800 ≤ c) × (c < 0xD800)
 
-pub spelled : (c x y z : ℕ) → IsMiddle c → IsThree c x y z → encode_utf8 c ≡ x ∷ y ∷ z ∷ []
-spelled c x y z range is =
+pub encoded : (c x y z : ℕ) → IsMiddle c → IsThree c x y z → encode_utf8 c ≡ x ∷ y ∷ z ∷ []
+encoded c x y z range is =
     encode_three c range.0 (omega (arith, range.1)) ∙ ap (λ p. p ∷ (128 + c / 64 % 64) ∷ (128 + c % 64) ∷ []) (sym is.0) ∙ ap (λ p. x ∷ p ∷ (128 + c % 64) ∷ []) (sym is.1) ∙ ap (λ p. x ∷ y ∷ p ∷ []) (sym is.2)
 
-pub two_spelled : (a b x y z x2 y2 z2 : ℕ) → IsMiddle a → IsMiddle b → IsThree a x y z → IsThree b x2 y2 z2 → encode_utf8_all (a ∷ b ∷ []) ≡ x ∷ y ∷ z ∷ x2 ∷ y2 ∷ z2 ∷ []
-two_spelled a b x y z x2 y2 z2 of_a of_b is_a is_b =
-    ap (λ l. l ++ (encode_utf8 b ++ [])) (spelled a x y z of_a is_a) ∙ ap (λ l. x ∷ y ∷ z ∷ (l ++ [])) (spelled b x2 y2 z2 of_b is_b)
+pub two_encoded : (a b x y z x2 y2 z2 : ℕ) → IsMiddle a → IsMiddle b → IsThree a x y z → IsThree b x2 y2 z2 → encode_utf8_all (a ∷ b ∷ []) ≡ x ∷ y ∷ z ∷ x2 ∷ y2 ∷ z2 ∷ []
+two_encoded a b x y z x2 y2 z2 of_a of_b is_a is_b =
+    ap (λ l. l ++ (encode_utf8 b ++ [])) (encoded a x y z of_a is_a) ∙ ap (λ l. x ∷ y ∷ z ∷ (l ++ [])) (encoded b x2 y2 z2 of_b is_b)
 
-pub three_spelled : (a b c x y z x2 y2 z2 x3 y3 z3 : ℕ) → IsMiddle a → IsMiddle b → IsMiddle c → IsThree a x y z → IsThree b x2 y2 z2 → IsThree c x3 y3 z3 →
+pub three_encoded : (a b c x y z x2 y2 z2 x3 y3 z3 : ℕ) → IsMiddle a → IsMiddle b → IsMiddle c → IsThree a x y z → IsThree b x2 y2 z2 → IsThree c x3 y3 z3 →
     encode_utf8_all (a ∷ b ∷ c ∷ []) ≡ x ∷ y ∷ z ∷ x2 ∷ y2 ∷ z2 ∷ x3 ∷ y3 ∷ z3 ∷ []
-three_spelled a b c x y z x2 y2 z2 x3 y3 z3 of_a of_b of_c is_a is_b is_c =
-    ap (λ l. l ++ encode_utf8_all (b ∷ c ∷ [])) (spelled a x y z of_a is_a) ∙ ap (λ l. x ∷ y ∷ z ∷ l) (two_spelled b c x2 y2 z2 x3 y3 z3 of_b of_c is_b is_c)
+three_encoded a b c x y z x2 y2 z2 x3 y3 z3 of_a of_b of_c is_a is_b is_c =
+    ap (λ l. l ++ encode_utf8_all (b ∷ c ∷ [])) (encoded a x y z of_a is_a) ∙ ap (λ l. x ∷ y ∷ z ∷ l) (two_encoded b c x2 y2 z2 x3 y3 z3 of_b of_c is_b is_c)
 
 pub middle-scalar : (c : ℕ) → IsMiddle c → scalar c ≡ true
 middle-scalar c range = low_scalar c range.1
@@ -41,10 +41,10 @@ module _ (s : ℕ) (h : is_syllable s ≡ true) where
   pub parts-lv : (s - 0xAC00) % 28 ≡ 0 → syllable_parts s ≡ (0x1100 + (s - 0xAC00) / 28 / 21) ∷ (0x1161 + (s - 0xAC00) / 28 % 21) ∷ []
   parts-lv even =
       let lv = lv_shape s h even in
-      let lead : (s - 0xAC00) / 588 ≡ (s - 0xAC00) / 28 / 21 = omega arith in
+      let leading : (s - 0xAC00) / 588 ≡ (s - 0xAC00) / 28 / 21 = omega arith in
       let vowel : (s - 0xAC00) % 588 / 28 ≡ (s - 0xAC00) / 28 % 21 = omega arith in
       syllable_parts-two s lv.leading lv.vowel h lv.pair lv.first.single ∙ sym lv.pair ∙ pair_of_lv s even
-      ∙ ap (λ x. (0x1100 + x) ∷ (0x1161 + (s - 0xAC00) % 588 / 28) ∷ []) lead ∙ ap (λ x. (0x1100 + (s - 0xAC00) / 28 / 21) ∷ (0x1161 + x) ∷ []) vowel
+      ∙ ap (λ x. (0x1100 + x) ∷ (0x1161 + (s - 0xAC00) % 588 / 28) ∷ []) leading ∙ ap (λ x. (0x1100 + (s - 0xAC00) / 28 / 21) ∷ (0x1161 + x) ∷ []) vowel
 
   pub parts-lvt : (s - 0xAC00) % 28 ≢ 0 → syllable_parts s ≡ (0x1100 + (s - 0xAC00) / 28 / 21) ∷ (0x1161 + (s - 0xAC00) / 28 % 21) ∷ (0x11A7 + (s - 0xAC00) % 28) ∷ []
   parts-lvt odd =
@@ -55,10 +55,10 @@ module _ (s : ℕ) (h : is_syllable s ≡ true) where
       let last : shape.last ≡ 0x11A7 + (s - 0xAC00) % 28 = ap (λ l. get_or l 1 0) pair in
       let even : (shape.base - 0xAC00) % 28 ≡ 0 = omega (arith, base) in
       let again = sym lv.pair ∙ pair_of_lv shape.base even in
-      let lead : lv.leading ≡ 0x1100 + (s - 0xAC00) / 28 / 21 = omega (arith, base, ap (λ l. get_or l 0 0) again) in
+      let leading : lv.leading ≡ 0x1100 + (s - 0xAC00) / 28 / 21 = omega (arith, base, ap (λ l. get_or l 0 0) again) in
       let vowel : lv.vowel ≡ 0x1161 + (s - 0xAC00) / 28 % 21 = omega (arith, base, ap (λ l. get_or l 1 0) again) in
       syllable_parts-three s shape.base shape.last lv.leading lv.vowel h shape.pair lv.syllable lv.pair
-      ∙ ap (λ x. x ∷ lv.vowel ∷ shape.last ∷ []) lead ∙ ap (λ x. (0x1100 + (s - 0xAC00) / 28 / 21) ∷ x ∷ shape.last ∷ []) vowel
+      ∙ ap (λ x. x ∷ lv.vowel ∷ shape.last ∷ []) leading ∙ ap (λ x. (0x1100 + (s - 0xAC00) / 28 / 21) ∷ x ∷ shape.last ∷ []) vowel
       ∙ ap (λ x. (0x1100 + (s - 0xAC00) / 28 / 21) ∷ (0x1161 + (s - 0xAC00) / 28 % 21) ∷ x ∷ []) last
 
 -- ---- syllables from the bytes of their jamo
@@ -96,22 +96,22 @@ take-nine l long =
     (grown l 7 (get_or l 0 0 ∷ get_or l 1 0 ∷ get_or l 2 0 ∷ get_or l 3 0 ∷ get_or l 4 0 ∷ get_or l 5 0 ∷ get_or l 6 0 ∷ []) (omega arith)
     (grown l 6 (get_or l 0 0 ∷ get_or l 1 0 ∷ get_or l 2 0 ∷ get_or l 3 0 ∷ get_or l 4 0 ∷ get_or l 5 0 ∷ []) (omega arith) (take-six l long)))
 
--- bytes that spell a leading consonant and a vowel, of which the syllable s is made with a trailing consonant or none
-pub record AreFirstJamo (bytes : List ℕ) (lead vowel trailing s : ℕ) : Type 0 where
+-- bytes that encode a leading consonant and a vowel, of which the syllable s is made with a trailing consonant or none
+pub record AreFirstJamo (bytes : List ℕ) (leading vowel trailing s : ℕ) : Type 0 where
   pub long : 9 ≤ length bytes
-  pub leads : lead < 19
+  pub leading_consonants : leading < 19
   pub vowels : vowel < 21
   pub trailings : trailing < 28
-  pub is : s ≡ 0xAC00 + (lead * 21 + vowel) * 28 + trailing
-  pub first : encode_utf8 (0x1100 + lead) ≡ get_or bytes 0 0 ∷ get_or bytes 1 0 ∷ get_or bytes 2 0 ∷ []
+  pub is : s ≡ 0xAC00 + (leading * 21 + vowel) * 28 + trailing
+  pub first : encode_utf8 (0x1100 + leading) ≡ get_or bytes 0 0 ∷ get_or bytes 1 0 ∷ get_or bytes 2 0 ∷ []
   pub second : encode_utf8 (0x1161 + vowel) ≡ get_or bytes 3 0 ∷ get_or bytes 4 0 ∷ get_or bytes 5 0 ∷ []
 
-module _ (bytes : List ℕ) (lead vowel trailing s : ℕ) (are : AreFirstJamo bytes lead vowel trailing s) where
+module _ (bytes : List ℕ) (leading vowel trailing s : ℕ) (are : AreFirstJamo bytes leading vowel trailing s) where
   pub front-syllable : is_syllable s ≡ true
-  front-syllable = and_from _ _ (le-leb 0xAC00 s (omega (arith, are.is))) (lt-ltb s 0xD7A4 (omega (arith, are.is, are.leads, are.vowels, are.trailings)))
+  front-syllable = and_from _ _ (le-leb 0xAC00 s (omega (arith, are.is))) (lt-ltb s 0xD7A4 (omega (arith, are.is, are.leading_consonants, are.vowels, are.trailings)))
 
-  lead-back : (s - 0xAC00) / 28 / 21 ≡ lead
-  lead-back = omega (arith, are.is, are.vowels, are.trailings)
+  leading-back : (s - 0xAC00) / 28 / 21 ≡ leading
+  leading-back = omega (arith, are.is, are.vowels, are.trailings)
 
   vowel-back : (s - 0xAC00) / 28 % 21 ≡ vowel
   vowel-back = omega (arith, are.is, are.vowels, are.trailings)
@@ -119,11 +119,11 @@ module _ (bytes : List ℕ) (lead vowel trailing s : ℕ) (are : AreFirstJamo by
   trailing-back : (s - 0xAC00) % 28 ≡ trailing
   trailing-back = omega (arith, are.is, are.trailings)
 
-  both-back : (rest : List ℕ) → (0x1100 + (s - 0xAC00) / 28 / 21) ∷ (0x1161 + (s - 0xAC00) / 28 % 21) ∷ rest ≡ (0x1100 + lead) ∷ (0x1161 + vowel) ∷ rest
-  both-back rest = ap (λ x. (0x1100 + x) ∷ (0x1161 + (s - 0xAC00) / 28 % 21) ∷ rest) lead-back ∙ ap (λ x. (0x1100 + lead) ∷ (0x1161 + x) ∷ rest) vowel-back
+  both-back : (rest : List ℕ) → (0x1100 + (s - 0xAC00) / 28 / 21) ∷ (0x1161 + (s - 0xAC00) / 28 % 21) ∷ rest ≡ (0x1100 + leading) ∷ (0x1161 + vowel) ∷ rest
+  both-back rest = ap (λ x. (0x1100 + x) ∷ (0x1161 + (s - 0xAC00) / 28 % 21) ∷ rest) leading-back ∙ ap (λ x. (0x1100 + leading) ∷ (0x1161 + x) ∷ rest) vowel-back
 
   -- the bytes of a list of code points that the two begin
-  begun : (rest : List ℕ) → encode_utf8_all ((0x1100 + lead) ∷ (0x1161 + vowel) ∷ rest)
+  begun : (rest : List ℕ) → encode_utf8_all ((0x1100 + leading) ∷ (0x1161 + vowel) ∷ rest)
       ≡ get_or bytes 0 0 ∷ get_or bytes 1 0 ∷ get_or bytes 2 0 ∷ get_or bytes 3 0 ∷ get_or bytes 4 0 ∷ get_or bytes 5 0 ∷ encode_utf8_all rest
   begun rest = ap (λ l. l ++ (encode_utf8 (0x1161 + vowel) ++ encode_utf8_all rest)) are.first
       ∙ ap (λ l. get_or bytes 0 0 ∷ get_or bytes 1 0 ∷ get_or bytes 2 0 ∷ (l ++ encode_utf8_all rest)) are.second
@@ -133,9 +133,9 @@ module _ (bytes : List ℕ) (lead vowel trailing s : ℕ) (are : AreFirstJamo by
 
   pub front_three : trailing ≢ 0 → encode_utf8 (0x11A7 + trailing) ≡ get_or bytes 6 0 ∷ get_or bytes 7 0 ∷ get_or bytes 8 0 ∷ [] → take 9 bytes ≡ encode_utf8_all (syllable_parts s)
   front_three some third =
-      let parts : syllable_parts s ≡ (0x1100 + lead) ∷ (0x1161 + vowel) ∷ (0x11A7 + trailing) ∷ [] =
+      let parts : syllable_parts s ≡ (0x1100 + leading) ∷ (0x1161 + vowel) ∷ (0x11A7 + trailing) ∷ [] =
       parts-lvt s front-syllable (λ even. some (sym trailing-back ∙ even)) ∙ both-back ((0x11A7 + (s - 0xAC00) % 28) ∷ [])
-      ∙ ap (λ x. (0x1100 + lead) ∷ (0x1161 + vowel) ∷ (0x11A7 + x) ∷ []) trailing-back in
+      ∙ ap (λ x. (0x1100 + leading) ∷ (0x1161 + vowel) ∷ (0x11A7 + x) ∷ []) trailing-back in
       take-nine bytes are.long ∙ sym (ap encode_utf8_all parts ∙ begun ((0x11A7 + trailing) ∷ [])
       ∙ ap (λ l. get_or bytes 0 0 ∷ get_or bytes 1 0 ∷ get_or bytes 2 0 ∷ get_or bytes 3 0 ∷ get_or bytes 4 0 ∷ get_or bytes 5 0 ∷ (l ++ [])) third)
 

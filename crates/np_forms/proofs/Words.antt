@@ -39,8 +39,8 @@ pub use Rattle.np_forms.specs.inside.Composers.{IsAfterStarter, IsComposing, and
 unfoldable pub use Rattle.np_forms.specs.inside.Composers.{pair_with_last}
 pub use Rattle.np_forms.specs.inside.Composing.{is_free}
 unfoldable pub use Rattle.np_forms.specs.inside.Composing.{compose, compose_after, compose_of, joined}
-pub use Rattle.np_forms.specs.inside.Copies.{AreStaying, AsciiStandsAlone, AsciiStays, GoesOn, IsCopied, IsEndOf}
-pub use Rattle.np_forms.specs.inside.Copies.{IsStaying, PartsBeforeLeads, StandsAlone}
+pub use Rattle.np_forms.specs.inside.Copies.{AppendsForm, ArePassing, AsciiIsCopiedAlone, AsciiPasses, IsCopied, IsEndOf}
+pub use Rattle.np_forms.specs.inside.Copies.{IsCopiedAlone, IsPassing, LeadingAreBoundaries}
 pub use Rattle.np_forms.specs.inside.Held.{Advances, IsFrontHeld, IsHeld, Shape, no_starter, starter}
 pub use Rattle.np_forms.specs.inside.InPlace.{IsInPlace}
 pub use Rattle.np_forms.specs.inside.NormalForms.{ended}
@@ -51,16 +51,16 @@ pub use Rattle.np_forms.specs.inside.Running.{Goes, IsInputFault, IsNextChunk, I
 pub use Rattle.np_forms.specs.inside.Running.{IsRestWritten, IsRunning, MayBegin, MayNotBegin, Stops}
 pub use Rattle.np_forms.specs.inside.Runs.{runs_over}
 unfoldable pub use Rattle.np_forms.specs.inside.Runs.{longest_run}
-pub use Rattle.np_forms.specs.inside.Segments.{IsComposedOf, IsDecomposedUpTo, IsFirstMade, IsFirstSpelled, IsFullUpTo}
+pub use Rattle.np_forms.specs.inside.Segments.{IsComposedOf, IsDecomposedUpTo, IsFirstMade, IsFirstPrecomputed, IsFullUpTo}
 pub use Rattle.np_forms.specs.inside.Segments.{Rises, listed}
 pub use Rattle.np_forms.specs.inside.Syllables.{BeginsWithJamo, BeginsWithSyllable, pair_or_self}
 unfoldable pub use Rattle.np_forms.specs.inside.Syllables.{syllable_parts}
 pub use Rattle.np_forms.specs.inside.Written.{Breaks, Closes, HoldsFront, Writes, WritesEnd}
-pub use Rattle.np_tables.specs.Boundaries.{BeginsAtBoundary, FoldsTo, IsBoundary, IsYesStarter, NeverFalls}
+pub use Rattle.np_tables.specs.Boundaries.{BeginsAtBoundary, ComposesTo, IsBoundary, IsYesStarter, NeverFalls}
 pub use Rattle.np_tables.specs.Conditions.{IsSound}
 pub use Rattle.np_tables.specs.Mappings.{IsFullDecomposition, Rewrites, counts, is_final}
 unfoldable pub use Rattle.np_tables.specs.Mappings.{parts}
-pub use Rattle.np_tables.specs.Standing.{AreStanding, MayFollow, NeverComposesBackward, StandsApart, Walks}
+pub use Rattle.np_tables.specs.QuickSpans.{CannotComposeAfter, IsQuickSpan, MayFollow, NeverComposesBackward, Walks}
 pub use Rattle.np_tables.specs.Versions.{VersionData, is_empty}
 unfoldable pub use Rattle.np_tables.specs.Versions.{class_of, decomposition_kind, entry_at, has_hangul, is_assigned}
 unfoldable pub use Rattle.np_tables.specs.inside.CompositeSearch.{composite}

@@ -1,4 +1,4 @@
--- Where a normal form parts, and what it leaves as it is (UAX #15, section 9.1).
+-- Boundaries of a normal form, and what is its own form (UAX #15, section 9.1).
 use Rattle.std.specs.Prelude.{ℕ, List, [], ◌∷◌, ◌++◌}
 use Rattle.np_code_points.specs.declared.forms.Form.{Form}
 use Rattle.np_forms.specs.Forms.{IsNormalForm}
@@ -6,12 +6,12 @@ use Rattle.np_tables.specs.Boundaries.{IsBoundary, IsYesStarter}
 use Rattle.np_tables.specs.Conditions.{IsSound}
 use Rattle.np_tables.specs.Versions.{VersionData}
 
--- before a boundary the form parts: what stands before it and what begins with it have their forms each for itself
-abbrev pub Parting : Type 0
-Parting =
+-- at a boundary: what is before it and what begins with it have their forms each for itself
+abbrev pub FormsAtBoundary : Type 0
+FormsAtBoundary =
     (v : VersionData) (form : Form) (xs : List ℕ) (c : ℕ) (ys before after : List ℕ) → IsSound v → IsBoundary v form c →
     IsNormalForm v form xs before → IsNormalForm v form (c ∷ ys) after → IsNormalForm v form (xs ++ c ∷ ys) (before ++ after)
 
--- a code point that stays is its own form
-abbrev pub Staying : Type 0
-Staying = (v : VersionData) (form : Form) (c : ℕ) → IsSound v → IsYesStarter v form c → IsNormalForm v form (c ∷ []) (c ∷ [])
+-- a starter that passes the quick check is its own form
+abbrev pub YesStarterForm : Type 0
+YesStarterForm = (v : VersionData) (form : Form) (c : ℕ) → IsSound v → IsYesStarter v form c → IsNormalForm v form (c ∷ []) (c ∷ [])

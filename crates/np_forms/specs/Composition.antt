@@ -17,7 +17,7 @@ pub record IsLastStarter (v : VersionData) (xs : List ℕ) (p q : ℕ) : Type 0 
   pub starter : class_of v (slice_index xs q) ≡ 0
   pub greatest : (k : ℕ) → q < k → k < p → class_of v (slice_index xs k) ≢ 0
 
--- what stands at p goes into the starter at q, and the two become c
+-- what stands at p composes with the starter at q, and the two become c
 pub record Joins (v : VersionData) (xs : List ℕ) (p q c : ℕ) : Type 0 where
   pub seek : IsLastStarter v xs p q
   pub free : ¬ IsBlocked v xs q p

@@ -8,8 +8,8 @@ use Rattle.np_code_points.specs.One.{HasOne}
 use Rattle.np_forms.specs.Forms.{IsDecomposed, IsNormalForm, IsEquivalent}
 use Rattle.np_forms.specs.Order.{IsOrderedForm}
 use Rattle.np_tables.specs.Examples.{without_rows, with_rows, with_hangul}
-use Rattle.np_tables.specs.Spelled.{IsSpelled}
-use Rattle.np_tables.specs.Standing.{AreStanding}
+use Rattle.np_tables.specs.Precomputed.{IsPrecomputed}
+use Rattle.np_tables.specs.QuickSpans.{IsQuickSpan}
 use Rattle.np_tables.specs.Versions.{VersionData, class_of, has_hangul}
 
 -- a list has exactly one ordered form, whatever gives the combining classes
@@ -42,15 +42,15 @@ FewBytes =
     (v : VersionData) (form : Form) (string key : List ℕ) → IsSound v → IsUtf8 string → IsUtf8 key → IsNormalForm v form (chars string) (chars key) →
     length key ≤ 256 * length string
 
--- what stands, as a table's scan over a text tells it, is its own normal form
-abbrev pub StandingForm : Type 0
-StandingForm =
-    (v : VersionData) (form : Form) (text : List ℕ) (n : ℕ) → IsSound v → IsUtf8 text → AreStanding v form text n → IsNormalForm v form (chars (take n text)) (chars (take n text))
+-- a front that passes the quick check, as a table's scan over a text tells it, is its own normal form
+abbrev pub QuickSpanForm : Type 0
+QuickSpanForm =
+    (v : VersionData) (form : Form) (text : List ℕ) (n : ℕ) → IsSound v → IsUtf8 text → IsQuickSpan v form text n → IsNormalForm v form (chars (take n text)) (chars (take n text))
 
--- what a table spells for a code point is its normal form
-abbrev pub SpelledForm : Type 0
-SpelledForm =
-    (v : VersionData) (form : Form) (c : ℕ) (bytes : List ℕ) (count : ℕ) → IsSound v → IsSpelled v form c bytes count → IsNormalForm v form (c ∷ []) (chars (take count bytes))
+-- the precomputed form that a table has of a code point is its normal form
+abbrev pub PrecomputedForm : Type 0
+PrecomputedForm =
+    (v : VersionData) (form : Form) (c : ℕ) (bytes : List ℕ) (count : ℕ) → IsSound v → IsPrecomputed v form c bytes count → IsNormalForm v form (c ∷ []) (chars (take count bytes))
 
 -- the premise of these laws on a version is met: by the version of empty files; by one of three rows, a starter, a
 -- non-starter of class 230 and their primary composite; and by one with the Hangul arithmetic on

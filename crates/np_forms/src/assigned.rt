@@ -7,7 +7,7 @@ use np_tables::{NormTable, Version};
 /// The first code point that is not assigned, with its byte place, from 0; none where each is
 /// assigned. It is called, so that the loop that writes forms, which seldom asks, stays small.
 #[inline(never)]
-pub fn first_lacking<T: NormTable>(table: &T, text: &str) -> Option<(usize, char)>
+pub fn first_unassigned_char<T: NormTable>(table: &T, text: &str) -> Option<(usize, char)>
     ensures none { IfNone result (IsAssigned (T.model table.now) (chars text.now)) }
     ensures some { IfSome result (λ found. IsFirstUnassigned (T.model table.now) (chars text.now) found.0 found.1) }
 {
@@ -25,7 +25,7 @@ pub fn first_lacking<T: NormTable>(table: &T, text: &str) -> Option<(usize, char
 
 /// The first code point that a version does not assign, with its byte place, from 0; none where it
 /// assigns each. No table is needed for it.
-pub fn first_absent(version: &Version, text: &str) -> Option<(usize, char)>
+pub fn first_unassigned_in_version(version: &Version, text: &str) -> Option<(usize, char)>
     ensures none { IfNone result (IsAssigned version.now (chars text.now)) }
     ensures some { IfSome result (λ found. IsFirstUnassigned version.now (chars text.now) found.0 found.1) }
 {
@@ -46,7 +46,7 @@ pub fn first_unassigned<T: NormTable>(table: &T, text: &str) -> Option<usize>
     ensures none { IfNone result (IsAssigned (T.model table.now) (chars text.now)) }
     ensures some { IfSome result (λ at. (code : ℕ) × IsFirstUnassigned (T.model table.now) (chars text.now) at code) }
 {
-    match first_lacking(table, text) {
+    match first_unassigned_char(table, text) {
         None => None,
         Some((at, _)) => Some(at),
     }

@@ -1,9 +1,9 @@
-//! The form of a whole text, in which what stays is copied, and what is left goes segment by segment
+//! The form of a whole text, in which what passes the quick check is copied, and what is left goes segment by segment
 //! through decomposition, ordering and composition (UAX #15, section 9).
 //!
 //! A segment begins at a boundary and ends before the next one. Its ways, the first that fits:
 //!
-//! 1. A table spells its one code point, and a boundary follows: those bytes are written (`fronts.rt`).
+//! 1. A table has the precomputed form of its one code point, and a boundary follows: those bytes are written (`fronts.rt`).
 //! 2. Syllables, precomposed or as jamo, are made by arithmetic (`syllable_texts.rt`).
 //! 3. A starter and one or two code points behind it, each of which decomposes to a single one, are put in order
 //!    by one comparison and composed by at most two look-ups (`segments.rt`).
@@ -13,12 +13,12 @@
 //! `memmove` for each run, and a function for each character beyond ASCII.
 ghost use Rattle.std.specs.Prelude.{◌≡◌, ◌<◌, ◌⊎◌, ◌++◌, [], false, length, chars, encode_utf8_all, IsTrue, IsUtf8, IfOk, OnOk};
 ghost use Rattle.np_forms.specs.Assigned.{IsAssigned};
-ghost use Rattle.np_forms.specs.inside.Copies.{GoesOn, IsCopied, IsEndOf};
+ghost use Rattle.np_forms.specs.inside.Copies.{AppendsForm, IsCopied, IsEndOf};
 ghost use Rattle.np_tables.specs.Boundaries.{BeginsAtBoundary};
 ghost use Rattle.np_forms.specs.inside.NormalForms.{normal_form};
 ghost use Rattle.np_forms.specs.inside.Readings.{IsReadAssigned};
 
-use crate::assigned::first_lacking;
+use crate::assigned::first_unassigned_char;
 use crate::classes::Classed;
 use crate::decomposing::decompose_first;
 use crate::fronts::write_front;
@@ -28,7 +28,7 @@ use crate::out_texts::OutText;
 use np_code_points::{Form, Memory};
 use np_tables::NormTable;
 
-/// Whether the form is known to part before a text: it is empty, or begins with a boundary.
+/// Whether the form is known to have a boundary before a text: it is empty, or begins with a boundary.
 #[inline(always)]
 pub(crate) fn begins_at_boundary<T: NormTable>(table: &T, form: Form, text: &str) -> bool
     ensures { IsTrue result → BeginsAtBoundary (T.model table.now) form (chars text.now) }
@@ -39,12 +39,12 @@ pub(crate) fn begins_at_boundary<T: NormTable>(table: &T, form: Form, text: &str
     }
 }
 
-/// Cuts off the longest front that is known to stand in the form as it is; where `assigned` is asked for,
-/// each of its code points is. The third answer is how many bytes behind the cut would stand too, if a
+/// Cuts off the longest front that is known to pass the quick check; where `assigned` is asked for,
+/// each of its code points is. The third answer is how many bytes behind the cut would pass too, if a
 /// boundary followed them. It is made part of each loop that calls it, so that what the form asks is looked
 /// up once.
 #[inline(always)]
-pub(crate) fn split_standing<'a, T: NormTable>(
+pub(crate) fn split_quick_span<'a, T: NormTable>(
     table: &T,
     form: Form,
     assigned: bool,
@@ -54,9 +54,9 @@ pub(crate) fn split_standing<'a, T: NormTable>(
     ensures assigned { IsTrue assigned → IsAssigned (T.model table.now) (chars result.0.now) }
 {
     table.meets_conditions();
-    let (count, parts) = table.standing(form, assigned, text);
+    let (count, boundary) = table.quick_span(form, assigned, text);
     let (front, back) = text.split_at(count);
-    if parts {
+    if boundary {
         return (front, back, 0);
     }
     // what may change begins at the last boundary
@@ -65,7 +65,7 @@ pub(crate) fn split_standing<'a, T: NormTable>(
     (stays, behind, last.len())
 }
 
-/// Cuts before the first code point at which the form is known to part. It too is made part of each
+/// Cuts before the first code point that is known to be a boundary. It too is made part of each
 /// loop that calls it.
 #[inline(always)]
 pub(crate) fn split_head<'a, T: NormTable>(
@@ -90,7 +90,7 @@ pub(crate) fn split_head<'a, T: NormTable>(
     }
 }
 
-/// Cuts a text before the last code point at which the form is known to part; nothing is before it
+/// Cuts a text before the last code point that is known to be a boundary; nothing is before it
 /// where there is none.
 #[inline(always)]
 pub(crate) fn split_tail<'a, T: NormTable>(
@@ -117,7 +117,7 @@ pub(crate) fn split_tail<'a, T: NormTable>(
 }
 
 /// Appends the form of the first segment of a text, whatever that is, and answers what follows it. The list
-/// is room that is used again. As a part of its one caller it would take the registers of the loop over syllables.
+/// is a reordering buffer that is used again. As a part of its one caller it would take the registers of the loop over syllables.
 #[inline(never)]
 pub(crate) fn write_next<'a, T: NormTable>(
     normalizer: &Normalizer<'_, T>,
@@ -125,7 +125,7 @@ pub(crate) fn write_next<'a, T: NormTable>(
     list: &mut Vec<Classed>,
     out: &mut OutText,
 ) -> Result<&'a str, Memory>
-    ensures goes { IfOk result (λ rest. GoesOn (T.model normalizer.now.table.now) normalizer.now.form text.now rest.now out.old out.new) }
+    ensures goes { IfOk result (λ rest. AppendsForm (T.model normalizer.now.table.now) normalizer.now.form text.now rest.now out.old out.new) }
     ensures shorter { IfOk result (λ rest. 0 < length text.now → length rest.now < length text.now) }
 {
     let table = normalizer.table;
@@ -149,13 +149,13 @@ fn may_go_on<T: NormTable>(table: &T, assigned: bool, after: &str, later: &str) 
     if !assigned || after.len() == later.len() {
         return true;
     }
-    match first_lacking(table, &after[..after.len() - later.len()]) {
+    match first_unassigned_char(table, &after[..after.len() - later.len()]) {
         Some(_lacking) => false,
         None => true,
     }
 }
 
-/// Appends the form of a text in one pass: what is known to stay is copied, and each segment of what is
+/// Appends the form of a text in one pass: what is known to pass is copied, and each segment of what is
 /// left is made by itself. Where `assigned` is asked for, it tells whether each code point is, and where
 /// one is not, the form may be cut short; most are known to be by what was looked up to write them.
 pub(crate) fn write_fronts<T: NormTable>(

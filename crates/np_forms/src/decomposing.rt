@@ -52,7 +52,7 @@ fn append_syllable<T: NormTable>(list: &mut Vec<Classed>, table: &T, c: char) ->
         return Ok(());
     };
     match hangul_parts(first) {
-        Some((lead, vowel)) => push_classed(table, &[lead, vowel, second], list),
+        Some((leading, vowel)) => push_classed(table, &[leading, vowel, second], list),
         None => push_classed(table, &[first, second], list),
     }
 }
@@ -82,7 +82,7 @@ pub(crate) fn append<T: NormTable>(
 }
 
 /// Makes a list the full decomposition of the first segment of a text, which ends before the first code
-/// point behind its first one at which the form is known to part, and answers what follows it.
+/// point behind its first one that is known to be a boundary, and answers what follows it.
 pub(crate) fn decompose_first<'a, T: NormTable>(
     table: &T,
     form: Form,

@@ -24,7 +24,7 @@ pub fn form<T: NormTable>(
     ensures normal { IfOk result (λ t. IsNormalForm (T.model table.now) form (chars text.now) (chars (string_bytes t))) }
 {
     table.meets_conditions();
-    let mut out = OutText::with_room(alloc, text.len())?;
+    let mut out = OutText::with_capacity(alloc, text.len())?;
     let mut stream = Stream::new(alloc, table, form);
     close_text(&mut stream, &mut out, text)?;
     Ok(out.into_text())

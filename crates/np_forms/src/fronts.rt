@@ -1,42 +1,42 @@
-//! Fronts of a text, one behind the other: what stands in the form is copied, what a table spells and
+//! Fronts of a text, one behind the other: what passes the quick check is copied, precomputed forms and
 //! syllables are written at once, and what is left goes segment by segment.
 ghost use Rattle.std.specs.Prelude.{◌≡◌, ◌<◌, length, true, false, IfOk, IfSome, IsTrue};
-ghost use Rattle.np_forms.specs.inside.Copies.{GoesOn, IsEndOf};
+ghost use Rattle.np_forms.specs.inside.Copies.{AppendsForm, IsEndOf};
 ghost use Rattle.np_forms.specs.inside.Readings.{IsReadAssigned};
-ghost use Rattle.np_forms.specs.inside.Segments.{IsFirstSpelled};
+ghost use Rattle.np_forms.specs.inside.Segments.{IsFirstPrecomputed};
 
 use crate::classes::Classed;
-use crate::copying::{begins_at_boundary, split_standing, write_next};
+use crate::copying::{begins_at_boundary, split_quick_span, write_next};
 use crate::normalizers::Normalizer;
 use crate::out_texts::OutText;
+use crate::precomputed_texts::{begins_with_letter, write_precomputed};
 use crate::segments::write_short;
-use crate::spelled_texts::{goes_on_as_word, write_spelled};
 use crate::syllable_texts::{begins_as_jamo, join_syllables, write_syllables};
 use np_code_points::{Form, Memory};
 use np_tables::NormTable;
 
 /// The form of the first code point of a text, as bytes and how many of them it has, and what follows the
-/// code point: none where the table doesn't spell it, or no boundary follows. It isn't asked where some first
-/// bytes, so many, stand as they are, since no boundary follows their first code point, nor, where the form
+/// code point: none where the table has none, or no boundary follows. It isn't asked where some first
+/// bytes, so many, pass the quick check, since no boundary follows their first code point, nor, where the form
 /// composes, of what begins as jamo do.
 #[inline(always)]
-fn split_spelled<'t, 'a, T: NormTable>(
+fn split_precomputed<'t, 'a, T: NormTable>(
     table: &'t T,
     form: Form,
     text: &'a str,
-    stood: usize,
+    passing: usize,
 ) -> Option<(&'t [u8], usize, &'a str)>
-    ensures made { IfSome result (λ cut. IsFirstSpelled (T.model table.now) form text.now cut.2.now cut.0.now cut.1) }
+    ensures made { IfSome result (λ cut. IsFirstPrecomputed (T.model table.now) form text.now cut.2.now cut.0.now cut.1) }
     ensures read { IfSome result (λ cut. IsReadAssigned (T.model table.now) text.now cut.2.now) }
     ensures shorter { IfSome result (λ cut. length cut.2.now < length text.now) }
 {
     table.meets_conditions();
-    if stood > 0 || (form.composes() && begins_as_jamo(text)) {
+    if passing > 0 || (form.composes() && begins_as_jamo(text)) {
         return None;
     }
     let mut iter = text.chars();
     let c = iter.next()?;
-    let (bytes, count) = table.spelled(form, c)?;
+    let (bytes, count) = table.precomputed(form, c)?;
     let later = iter.as_str();
     if !begins_at_boundary(table, form, later) {
         return None;
@@ -44,16 +44,16 @@ fn split_spelled<'t, 'a, T: NormTable>(
     Some((bytes, count, later))
 }
 
-/// Appends the form of the syllables at the front of a text, or of those that jamo spell there, or else of
+/// Appends the form of the syllables at the front of a text, or of those that jamo make there, or else of
 /// its first segment. Answers what follows the code points that are known to be assigned by that, and what
-/// follows all. The list is room that is used again.
+/// follows all. The list is a reordering buffer that is used again.
 fn write_changed<'a, T: NormTable>(
     normalizer: &Normalizer<'_, T>,
     text: &'a str,
     list: &mut Vec<Classed>,
     out: &mut OutText,
 ) -> Result<(&'a str, &'a str), Memory>
-    ensures goes { IfOk result (λ cut. GoesOn (T.model normalizer.now.table.now) normalizer.now.form text.now cut.1.now out.old out.new) }
+    ensures goes { IfOk result (λ cut. AppendsForm (T.model normalizer.now.table.now) normalizer.now.form text.now cut.1.now out.old out.new) }
     ensures read { IfOk result (λ cut. IsReadAssigned (T.model normalizer.now.table.now) text.now cut.0.now) }
     ensures end { IfOk result (λ cut. IsEndOf cut.0.now cut.1.now) }
     ensures shorter { IfOk result (λ cut. 0 < length text.now → length cut.1.now < length text.now) }
@@ -73,26 +73,26 @@ fn write_changed<'a, T: NormTable>(
     Ok((after, later))
 }
 
-/// Appends what follows a spelled code point in its word, and answers what is left.
+/// Appends the letters that follow a code point with a precomputed form, and answers what is left.
 #[inline(always)]
-fn write_word<'a, T: NormTable>(
+fn write_letters<'a, T: NormTable>(
     table: &T,
     form: Form,
     text: &'a str,
     out: &mut OutText,
 ) -> Result<&'a str, Memory>
-    ensures goes { IfOk result (λ rest. GoesOn (T.model table.now) form text.now rest.now out.old out.new) }
+    ensures goes { IfOk result (λ rest. AppendsForm (T.model table.now) form text.now rest.now out.old out.new) }
     ensures read { IfOk result (λ rest. IsReadAssigned (T.model table.now) text.now rest.now) }
 {
-    if goes_on_as_word(text) {
-        return write_spelled(table, form, text, out);
+    if begins_with_letter(text) {
+        return write_precomputed(table, form, text, out);
     }
     Ok(text)
 }
 
 /// Appends the form of some front of a text that isn't empty. Answers what follows the code points that
 /// are known to be assigned, where `assigned` asks for them, and what follows the front. What is asked
-/// of the code point behind what stands is asked before anything is written, and so once.
+/// of the code point behind what passes is asked before anything is written, and so once.
 #[inline(always)]
 pub(crate) fn write_front<'a, T: NormTable>(
     normalizer: &Normalizer<'_, T>,
@@ -102,19 +102,19 @@ pub(crate) fn write_front<'a, T: NormTable>(
     out: &mut OutText,
 ) -> Result<(&'a str, &'a str), Memory>
     requires { 0 < length text.now }
-    ensures goes { IfOk result (λ cut. GoesOn (T.model normalizer.now.table.now) normalizer.now.form text.now cut.1.now out.old out.new) }
+    ensures goes { IfOk result (λ cut. AppendsForm (T.model normalizer.now.table.now) normalizer.now.form text.now cut.1.now out.old out.new) }
     ensures read { IfOk result (λ cut. IsTrue assigned → IsReadAssigned (T.model normalizer.now.table.now) text.now cut.0.now) }
     ensures end { IfOk result (λ cut. IsEndOf cut.0.now cut.1.now) }
     ensures shorter { IfOk result (λ cut. length cut.1.now < length text.now) }
 {
     let table = normalizer.table;
     let form = normalizer.form;
-    let (stays, behind, stood) = split_standing(table, form, assigned, text);
-    let spelled = split_spelled(table, form, behind, stood);
+    let (stays, behind, passing) = split_quick_span(table, form, assigned, text);
+    let precomputed = split_precomputed(table, form, behind, passing);
     out.append_front(text, stays)?;
-    if let Some((bytes, count, later)) = spelled {
+    if let Some((bytes, count, later)) = precomputed {
         out.append_first(bytes, count)?;
-        let rest = write_word(table, form, later, out)?;
+        let rest = write_letters(table, form, later, out)?;
         return Ok((rest, rest));
     }
     if behind.is_empty() {

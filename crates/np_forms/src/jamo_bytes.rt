@@ -1,4 +1,4 @@
-//! Hangul syllables read from the UTF-8 of the jamo that spell them (The Unicode Standard, section 3.12).
+//! Hangul syllables read from the UTF-8 of their jamo (The Unicode Standard, section 3.12).
 ghost use Rattle.std.specs.Prelude.{◌≡◌, ◌+◌, ◌*◌, ◌<◌, ◌≤◌, ◌∷◌, [], ℕ, true, length, slice_index, take, encode_utf8, encode_utf8_all, IfSome};
 ghost use Rattle.np_code_points.specs.Hangul.{is_syllable as in_block};
 ghost use Rattle.np_forms.specs.inside.Syllables.{syllable_parts};
@@ -19,14 +19,14 @@ fn two_as_one(a: u8, b: u8) -> u32
     u32::from(a) + u32::from(b) * 0x100
 }
 
-/// The number of the leading consonant that the first three bytes spell, from 0. The third isn't read where
+/// The number of the leading consonant that the first three bytes encode, from 0. The third isn't read where
 /// the first two are of none.
 #[inline(always)]
-#[tactic(auto, using(crate::proofs::SyllableTextLemmas::spelled))]
+#[tactic(auto, using(crate::proofs::SyllableTextLemmas::encoded))]
 fn leading_index(bytes: &[u8]) -> Option<u32>
     requires { 3 ≤ length bytes.now }
     ensures among { IfSome result (λ n. n < 19) }
-    ensures spelled { IfSome result (λ n. encode_utf8 (0x1100 + n) ≡ slice_index bytes.now 0 ∷ slice_index bytes.now 1 ∷ slice_index bytes.now 2 ∷ []) }
+    ensures encoded { IfSome result (λ n. encode_utf8 (0x1100 + n) ≡ slice_index bytes.now 0 ∷ slice_index bytes.now 1 ∷ slice_index bytes.now 2 ∷ []) }
 {
     if two_as_one(bytes[0], bytes[1]) != 0x84E1 {
         return None;
@@ -35,13 +35,13 @@ fn leading_index(bytes: &[u8]) -> Option<u32>
     if index < L_COUNT { Some(index) } else { None }
 }
 
-/// The number of the vowel that the three bytes behind these spell, from 0.
+/// The number of the vowel that the three bytes behind these encode, from 0.
 #[inline(always)]
-#[tactic(auto, using(crate::proofs::SyllableTextLemmas::spelled))]
+#[tactic(auto, using(crate::proofs::SyllableTextLemmas::encoded))]
 fn vowel_index(bytes: &[u8]) -> Option<u32>
     requires { 6 ≤ length bytes.now }
     ensures among { IfSome result (λ n. n < 21) }
-    ensures spelled { IfSome result (λ n. encode_utf8 (0x1161 + n) ≡ slice_index bytes.now 3 ∷ slice_index bytes.now 4 ∷ slice_index bytes.now 5 ∷ []) }
+    ensures encoded { IfSome result (λ n. encode_utf8 (0x1161 + n) ≡ slice_index bytes.now 3 ∷ slice_index bytes.now 4 ∷ slice_index bytes.now 5 ∷ []) }
 {
     if two_as_one(bytes[3], bytes[4]) != 0x85E1 {
         return None;
@@ -50,12 +50,12 @@ fn vowel_index(bytes: &[u8]) -> Option<u32>
     if index < V_COUNT { Some(index) } else { None }
 }
 
-/// The number of the trailing consonant that three bytes spell, from 1; 0 where they spell none.
+/// The number of the trailing consonant that three bytes encode, from 1; 0 where they encode none.
 #[inline(always)]
-#[tactic(auto, using(crate::proofs::SyllableTextLemmas::spelled))]
+#[tactic(auto, using(crate::proofs::SyllableTextLemmas::encoded))]
 fn trailing_index(a: u8, b: u8, c: u8) -> u32
     ensures among { result < 28 }
-    ensures spelled { 0 < result → encode_utf8 (0x11A7 + result) ≡ a ∷ b ∷ c ∷ [] }
+    ensures encoded { 0 < result → encode_utf8 (0x11A7 + result) ≡ a ∷ b ∷ c ∷ [] }
 {
     // what the last two bytes of 11A7 would give is 0
     let index = (u32::from(b) * 64 + u32::from(c)).wrapping_sub(0x86 * 64 + 0xA7);
@@ -74,12 +74,12 @@ pub(crate) fn jamo_front(bytes: &[u8]) -> Option<(u32, usize)>
     ensures syllable { IfSome result (λ cut. in_block cut.0 ≡ true) }
     ensures some { IfSome result (λ cut. 0 < cut.1) }
     ensures within { IfSome result (λ cut. cut.1 ≤ length bytes.now) }
-    ensures spelled { IfSome result (λ cut. take cut.1 bytes.now ≡ encode_utf8_all (syllable_parts cut.0)) }
+    ensures encoded { IfSome result (λ cut. take cut.1 bytes.now ≡ encode_utf8_all (syllable_parts cut.0)) }
 {
-    let lead = leading_index(bytes)?;
+    let leading = leading_index(bytes)?;
     let vowel = vowel_index(bytes)?;
     let trailing = trailing_index(bytes[6], bytes[7], bytes[8]);
-    let syllable = S_BASE + (lead * V_COUNT + vowel) * T_COUNT + trailing;
+    let syllable = S_BASE + (leading * V_COUNT + vowel) * T_COUNT + trailing;
     if trailing == 0 {
         return Some((syllable, TWO_JAMO));
     }

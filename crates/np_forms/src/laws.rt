@@ -1,6 +1,6 @@
 //! The laws of the forms, over the definitions alone.
-ghost use Rattle.np_forms.specs.Boundaries.{Parting, Staying};
-ghost use Rattle.np_forms.specs.Laws.{FewBytes, FewCodePoints, OneForm, OneOrderedForm, PremisesAreMet, SpelledForm, StandingForm};
+ghost use Rattle.np_forms.specs.Boundaries.{FormsAtBoundary, YesStarterForm};
+ghost use Rattle.np_forms.specs.Laws.{FewBytes, FewCodePoints, OneForm, OneOrderedForm, PrecomputedForm, PremisesAreMet, QuickSpanForm};
 ghost use Rattle.np_forms.specs.StreamLaws.{OneMore};
 
 /// Whatever gives the combining classes, a list has exactly one ordered form (The Unicode Standard,
@@ -22,26 +22,26 @@ pub fn one_more()
     ensures { OneMore }
 {}
 
-/// A normal form parts before a code point whose full decomposition begins with a starter that goes
-/// into nothing (UAX #15, section 9.1): the form of the whole is that of what stands before it and
-/// that of the rest. A code point that stays is its own form; so it stays as it is before a boundary.
+/// A code point is a boundary where its full decomposition begins with a starter that never
+/// composes backward (UAX #15, section 9.1): the form of the whole is that of what is before it and
+/// that of the rest. A starter that passes the quick check is its own form; so it stays as it is before a boundary.
 #[tactic(auto, using(crate::proofs::StreamLemmas::parting, crate::proofs::StreamLemmas::staying))]
 pub fn boundary()
-    ensures parts { Parting }
-    ensures stays { Staying }
+    ensures forms { FormsAtBoundary }
+    ensures yes_starter { YesStarterForm }
 {}
 
 /// A normal form has at most 64 code points for each code point of its text, and at most 256 bytes for each byte:
-/// so much room is enough for a key.
+/// so much memory is enough for a key.
 pub fn length()
     ensures code_points { FewCodePoints }
     ensures bytes { FewBytes }
 {}
 
 /// What a table tells of texts at once is so by the normal forms: a front that its scan passes is its own form (UAX #15,
-/// section 9), and what it spells for a code point is that code point's form.
-#[tactic(auto, using(crate::proofs::SpelledLemmas::spelled_is_form, crate::proofs::SpelledLemmas::standing_front))]
+/// section 9), and the precomputed form of a code point is its form.
+#[tactic(auto, using(crate::proofs::PrecomputedLemmas::precomputed_is_form, crate::proofs::PrecomputedLemmas::quick_span_front))]
 pub fn told()
-    ensures standing { StandingForm }
-    ensures spelled { SpelledForm }
+    ensures quick_span { QuickSpanForm }
+    ensures precomputed { PrecomputedForm }
 {}

@@ -10,8 +10,8 @@ use std::alloc::Global;
 use std::marker::Model;
 use std::simd::prelude::*;
 
-/// How many bytes are copied in one step.
-const STEP: usize = 32;
+/// How many bytes are copied at once, each in a lane of its own.
+const LANES: usize = 32;
 
 /// How many bytes are filled at once for what is still to be written: what `Vec` reserves beyond that costs
 /// no memory until it is filled.
@@ -20,15 +20,15 @@ const FILLED: usize = 65_536;
 /// The most bytes that a character has.
 const MOST: usize = 4;
 
-/// How many code points a list has at most for which room is made at once.
+/// How many code points a list has at most for which the buffer is grown at once.
 const MANY: usize = 4_096;
 
-/// A text in the front of its room. What stands behind it there is of no text.
+/// A text in the front of its buffer. What is behind it there is of no text.
 #[derive(Drop)]
 pub(crate) struct OutText {
-    room: Vec<u8>,
+    buffer: Vec<u8>,
     len: usize,
-    ghost within: { len ≤ vec_len room },
+    ghost within: { len ≤ vec_len buffer },
 }
 
 impl Model for OutText {
@@ -36,191 +36,195 @@ impl Model for OutText {
 
     ghost Value = { List ℕ };
 
-    ghost view = { λ a. take a.len a.room.items };
+    ghost view = { λ a. take a.len a.buffer.items };
 
-    ghost invariant = { λ a. IsUtf8 (take a.len a.room.items) };
+    ghost invariant = { λ a. IsUtf8 (take a.len a.buffer.items) };
 }
 
-/// Makes the room longer, so that so many bytes and a step have room behind the first `len`.
+/// Makes the buffer longer, so that so many bytes and `LANES` more have a place behind the first `len`.
 #[inline(never)]
-fn grow_room(room: &mut Vec<u8>, len: usize, count: usize) -> Result<(), Memory>
-    requires { len ≤ vec_len room.old }
-    ensures same { take len room.new.items ≡ take len room.old.items }
-    ensures within { len ≤ vec_len room.new }
-    ensures space { OnOk result (len + count ≤ vec_len room.new) }
+fn grow(buffer: &mut Vec<u8>, len: usize, count: usize) -> Result<(), Memory>
+    requires { len ≤ vec_len buffer.old }
+    ensures same { take len buffer.new.items ≡ take len buffer.old.items }
+    ensures within { len ≤ vec_len buffer.new }
+    ensures space { OnOk result (len + count ≤ vec_len buffer.new) }
 {
     let Some(least) = len.checked_add(count) else {
         return Err(Memory);
     };
-    let more = len.min(FILLED) + STEP;
-    room.resize(least.saturating_add(more), 0)?;
+    let more = len.min(FILLED) + LANES;
+    buffer.resize(least.saturating_add(more), 0)?;
     Ok(())
 }
 
-/// Sees that so many bytes have room behind the first `len`.
+/// Sees that so many bytes have a place behind the first `len`.
 #[inline(always)]
-fn make_room(room: &mut Vec<u8>, len: usize, count: usize) -> Result<(), Memory>
-    requires { len ≤ vec_len room.old }
-    ensures same { take len room.new.items ≡ take len room.old.items }
-    ensures within { len ≤ vec_len room.new }
-    ensures space { OnOk result (len + count ≤ vec_len room.new) }
+fn reserve(buffer: &mut Vec<u8>, len: usize, count: usize) -> Result<(), Memory>
+    requires { len ≤ vec_len buffer.old }
+    ensures same { take len buffer.new.items ≡ take len buffer.old.items }
+    ensures within { len ≤ vec_len buffer.new }
+    ensures space { OnOk result (len + count ≤ vec_len buffer.new) }
 {
-    if room.len() - len >= count {
+    if buffer.len() - len >= count {
         return Ok(());
     }
-    grow_room(room, len, count)
+    grow(buffer, len, count)
 }
 
-/// Puts a run into a room, and answers the place behind it.
+/// Puts a run into a buffer, and answers the place behind it.
 #[inline(always)]
-fn put_run(room: &mut [u8], at: usize, run: &[u8]) -> usize
-    requires { at + length run.now ≤ length room.old }
-    ensures bytes { take result room.new ≡ take at room.old ++ run.now }
+fn put_run(buffer: &mut [u8], at: usize, run: &[u8]) -> usize
+    requires { at + length run.now ≤ length buffer.old }
+    ensures bytes { take result buffer.new ≡ take at buffer.old ++ run.now }
     ensures place { result ≡ at + length run.now }
-    ensures length { length room.new ≡ length room.old }
+    ensures length { length buffer.new ≡ length buffer.old }
 {
     let end = at + run.len();
-    room[at..end].copy_from_slice(run);
+    buffer[at..end].copy_from_slice(run);
     end
 }
 
 /// Puts a run at the end of what was written.
 #[inline(always)]
-fn write_run(room: &mut Vec<u8>, at: usize, run: &[u8]) -> usize
-    requires { at + length run.now ≤ vec_len room.old }
-    ensures bytes { take result room.new.items ≡ take at room.old.items ++ run.now }
-    ensures within { result ≤ vec_len room.new }
+fn write_run(buffer: &mut Vec<u8>, at: usize, run: &[u8]) -> usize
+    requires { at + length run.now ≤ vec_len buffer.old }
+    ensures bytes { take result buffer.new.items ≡ take at buffer.old.items ++ run.now }
+    ensures within { result ≤ vec_len buffer.new }
 {
-    put_run(room, at, run)
+    put_run(buffer, at, run)
 }
 
-/// Stores the first `count` bytes of a run, and what follows them up to a step.
+/// Stores the first `count` bytes of a run, and what follows them up to `LANES`.
 #[inline(always)]
-fn store_step(room: &mut [u8], at: usize, run: &[u8], count: usize) -> usize
+fn store_lanes(buffer: &mut [u8], at: usize, run: &[u8], count: usize) -> usize
     requires few { count ≤ 32 }
     requires run { 32 ≤ length run.now }
-    requires space { at + 32 ≤ length room.old }
-    ensures bytes { take result room.new ≡ take at room.old ++ take count run.now }
-    ensures within { result ≤ length room.new }
-    ensures length { length room.new ≡ length room.old }
+    requires space { at + 32 ≤ length buffer.old }
+    ensures bytes { take result buffer.new ≡ take at buffer.old ++ take count run.now }
+    ensures within { result ≤ length buffer.new }
+    ensures length { length buffer.new ≡ length buffer.old }
 {
-    u8x32::from_slice(run).copy_to_slice(&mut room[at..]);
+    u8x32::from_slice(run).copy_to_slice(&mut buffer[at..]);
     at + count
 }
 
-/// Writes the first `count` bytes of a run, and what follows them up to a step, and answers the place
+/// Writes the first `count` bytes of a run, and what follows them up to `LANES`, and answers the place
 /// behind the first.
 #[inline(always)]
-fn write_step(room: &mut Vec<u8>, at: usize, run: &[u8], count: usize) -> usize
+fn write_lanes(buffer: &mut Vec<u8>, at: usize, run: &[u8], count: usize) -> usize
     requires few { count ≤ 32 }
     requires run { 32 ≤ length run.now }
-    requires space { at + 32 ≤ vec_len room.old }
-    ensures bytes { take result room.new.items ≡ take at room.old.items ++ take count run.now }
-    ensures within { result ≤ vec_len room.new }
+    requires space { at + 32 ≤ vec_len buffer.old }
+    ensures bytes { take result buffer.new.items ≡ take at buffer.old.items ++ take count run.now }
+    ensures within { result ≤ vec_len buffer.new }
 {
-    store_step(room, at, run, count)
+    store_lanes(buffer, at, run, count)
 }
 
-/// Puts a character where any has room, and answers the place behind it.
+/// Puts a character where any has a place, and answers the place behind it.
 #[inline(always)]
 #[tactic(auto, using(crate::proofs::OutTextLemmas::char_answers))]
-fn put_char(room: &mut [u8], at: usize, c: char) -> usize
-    requires { at + 4 ≤ length room.old }
-    ensures bytes { take result room.new ≡ take at room.old ++ encode_utf8 c }
+fn put_char(buffer: &mut [u8], at: usize, c: char) -> usize
+    requires { at + 4 ≤ length buffer.old }
+    ensures bytes { take result buffer.new ≡ take at buffer.old ++ encode_utf8 c }
     ensures utf8 { IsUtf8 (encode_utf8 c) }
     ensures place { result ≤ at + 4 }
-    ensures length { length room.new ≡ length room.old }
+    ensures length { length buffer.new ≡ length buffer.old }
 {
     let code = c as u32;
     if code < 0x80 {
-        put_run(room, at, &[code as u8])
+        put_run(buffer, at, &[code as u8])
     } else if code < 0x800 {
-        put_run(room, at, &two_bytes(code))
+        put_run(buffer, at, &two_bytes(code))
     } else if code < 0x1_0000 {
-        put_run(room, at, &three_bytes(code))
+        put_run(buffer, at, &three_bytes(code))
     } else {
-        put_run(room, at, &four_bytes(code))
+        put_run(buffer, at, &four_bytes(code))
     }
 }
 
 /// Puts a character at the end of what was written.
 #[inline(always)]
-fn write_char(room: &mut Vec<u8>, at: usize, c: char) -> usize
-    requires { at + 4 ≤ vec_len room.old }
-    ensures bytes { take result room.new.items ≡ take at room.old.items ++ encode_utf8 c }
+fn write_char(buffer: &mut Vec<u8>, at: usize, c: char) -> usize
+    requires { at + 4 ≤ vec_len buffer.old }
+    ensures bytes { take result buffer.new.items ≡ take at buffer.old.items ++ encode_utf8 c }
     ensures utf8 { IsUtf8 (encode_utf8 c) }
-    ensures within { result ≤ vec_len room.new }
+    ensures within { result ≤ vec_len buffer.new }
 {
-    put_char(room, at, c)
+    put_char(buffer, at, c)
 }
 
-/// Puts the code points of a list where four bytes have room for each, and answers the place behind them.
-fn put_codes(room: &mut [u8], at: usize, list: &[Classed]) -> usize
-    requires { at + 4 * length list.now ≤ length room.old }
-    ensures bytes { take result room.new ≡ take at room.old ++ encode_utf8_all (codes_of list.now) }
+/// Puts the code points of a list where each has four bytes, and answers the place behind them.
+fn put_codes(buffer: &mut [u8], at: usize, list: &[Classed]) -> usize
+    requires { at + 4 * length list.now ≤ length buffer.old }
+    ensures bytes { take result buffer.new ≡ take at buffer.old ++ encode_utf8_all (codes_of list.now) }
     ensures utf8 { IsUtf8 (encode_utf8_all (codes_of list.now)) }
-    ensures within { result ≤ length room.new }
-    ensures length { length room.new ≡ length room.old }
+    ensures within { result ≤ length buffer.new }
+    ensures length { length buffer.new ≡ length buffer.old }
 {
     let mut end = at;
     for c in list {
-        end = put_char(room, end, c.code());
+        end = put_char(buffer, end, c.code());
     }
     end
 }
 
 /// Puts a list of code points at the end of what was written.
 #[inline(always)]
-fn write_codes(room: &mut Vec<u8>, at: usize, list: &[Classed]) -> usize
-    requires { at + 4 * length list.now ≤ vec_len room.old }
-    ensures bytes { take result room.new.items ≡ take at room.old.items ++ encode_utf8_all (codes_of list.now) }
+fn write_codes(buffer: &mut Vec<u8>, at: usize, list: &[Classed]) -> usize
+    requires { at + 4 * length list.now ≤ vec_len buffer.old }
+    ensures bytes { take result buffer.new.items ≡ take at buffer.old.items ++ encode_utf8_all (codes_of list.now) }
     ensures utf8 { IsUtf8 (encode_utf8_all (codes_of list.now)) }
-    ensures within { result ≤ vec_len room.new }
+    ensures within { result ≤ vec_len buffer.new }
 {
-    put_codes(room, at, list)
+    put_codes(buffer, at, list)
 }
 
 impl OutText {
-    /// No text, and no room.
+    /// No text, and an empty buffer.
     pub(crate) fn new(alloc: Global) -> OutText
         ensures { result ≡ [] }
     {
         OutText {
-            room: Vec::new(alloc),
+            buffer: Vec::new(alloc),
             len: 0,
         }
     }
 
-    /// No text, and room for so many bytes and a step.
-    pub(crate) fn with_room(alloc: Global, count: usize) -> Result<OutText, Memory>
+    /// No text, and a buffer for so many bytes and `LANES` more.
+    pub(crate) fn with_capacity(alloc: Global, count: usize) -> Result<OutText, Memory>
         ensures { IfOk result (λ t. t ≡ []) }
     {
-        let mut room = Vec::with_capacity(alloc, count.saturating_add(STEP))?;
-        room.resize(count.min(FILLED) + STEP, 0)?;
-        Ok(OutText { room, len: 0 })
+        let mut buffer = Vec::with_capacity(alloc, count.saturating_add(LANES))?;
+        buffer.resize(count.min(FILLED) + LANES, 0)?;
+        Ok(OutText { buffer, len: 0 })
     }
 
     /// Its bytes.
     pub(crate) fn as_bytes(&self) -> &[u8]
         ensures { result.now ≡ self.now }
     {
-        &self.room[..self.len]
+        &self.buffer[..self.len]
     }
 
-    /// Takes the text away, and leaves the room.
+    /// Takes the text away, and leaves the buffer.
     pub(crate) fn clear(&mut self)
         ensures { self.new ≡ [] }
     {
         self.len = 0;
     }
 
-    /// The text, without the room behind it.
+    /// The text, without the rest of its buffer.
     pub(crate) fn into_text(self) -> String
         ensures { string_bytes result ≡ self }
     {
-        let OutText { mut room, len, .. } = self;
-        room.truncate(len);
-        unsafe { String::from_utf8_unchecked(room) }
+        let OutText {
+            mut buffer,
+            len,
+            ..
+        } = self;
+        buffer.truncate(len);
+        unsafe { String::from_utf8_unchecked(buffer) }
     }
 
     /// Appends bytes. It is made part of what calls it, so that a number of them that the program tells
@@ -230,8 +234,8 @@ impl OutText {
         requires { IsUtf8 bytes.now }
         ensures { OnOk result (self.new ≡ self.old ++ bytes.now) }
     {
-        make_room(&mut self.room, self.len, bytes.len())?;
-        self.len = write_run(&mut self.room, self.len, bytes);
+        reserve(&mut self.buffer, self.len, bytes.len())?;
+        self.len = write_run(&mut self.buffer, self.len, bytes);
         Ok(())
     }
 
@@ -244,15 +248,15 @@ impl OutText {
         self.append_bytes(run)
     }
 
-    /// Appends the first `count` of some bytes. It is quickest where there is a step of them.
+    /// Appends the first `count` of some bytes. It is quickest where there are `LANES` of them.
     #[inline(always)]
     pub(crate) fn append_first(&mut self, bytes: &[u8], count: usize) -> Result<(), Memory>
         requires fits { count ≤ length bytes.now }
         requires utf8 { IsUtf8 (take count bytes.now) }
         ensures { OnOk result (self.new ≡ self.old ++ take count bytes.now) }
     {
-        if count <= STEP && bytes.len() >= STEP && self.room.len() - self.len >= STEP {
-            self.len = write_step(&mut self.room, self.len, bytes, count);
+        if count <= LANES && bytes.len() >= LANES && self.buffer.len() - self.len >= LANES {
+            self.len = write_lanes(&mut self.buffer, self.len, bytes, count);
             return Ok(());
         }
         self.append_run(&bytes[..count])
@@ -272,8 +276,8 @@ impl OutText {
     pub(crate) fn append_char(&mut self, c: char) -> Result<(), Memory>
         ensures { OnOk result (self.new ≡ self.old ++ encode_utf8 c) }
     {
-        make_room(&mut self.room, self.len, MOST)?;
-        self.len = write_char(&mut self.room, self.len, c);
+        reserve(&mut self.buffer, self.len, MOST)?;
+        self.len = write_char(&mut self.buffer, self.len, c);
         Ok(())
     }
 
@@ -287,7 +291,7 @@ impl OutText {
         Ok(())
     }
 
-    /// Appends the code points of a list, with room for each by itself: those of a long list have far fewer
+    /// Appends the code points of a list, with a place for each by itself: those of a long list have far fewer
     /// bytes than any could have.
     fn append_each(&mut self, list: &[Classed]) -> Result<(), Memory>
         ensures { OnOk result (self.new ≡ self.old ++ encode_utf8_all (codes_of list.now)) }
@@ -298,15 +302,15 @@ impl OutText {
         Ok(())
     }
 
-    /// Appends the code points of a list. Where it is short, room for any is made once.
+    /// Appends the code points of a list. Where it is short, a place for any is made once.
     pub(crate) fn append_codes(&mut self, list: &[Classed]) -> Result<(), Memory>
         ensures { OnOk result (self.new ≡ self.old ++ encode_utf8_all (codes_of list.now)) }
     {
         if list.len() > MANY {
             return self.append_each(list);
         }
-        make_room(&mut self.room, self.len, list.len() * MOST)?;
-        self.len = write_codes(&mut self.room, self.len, list);
+        reserve(&mut self.buffer, self.len, list.len() * MOST)?;
+        self.len = write_codes(&mut self.buffer, self.len, list);
         Ok(())
     }
 }

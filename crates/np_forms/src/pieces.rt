@@ -6,7 +6,7 @@ ghost use Rattle.np_forms.specs.inside.Pieces.{form_bytes, front_of, left_of};
 ghost use Rattle.np_tables.specs.Versions.{VersionData};
 
 use crate::classes::Classed;
-use crate::copying::{split_standing, write_next};
+use crate::copying::{split_quick_span, write_next};
 use crate::normalizers::Normalizer;
 use crate::out_texts::OutText;
 use np_code_points::{Form, Memory};
@@ -22,7 +22,7 @@ struct Pieces<'a> {
     made: OutText,
     taken: usize,
     rest: &'a str,
-    /// Room that is used again.
+    /// A reordering buffer that is used again.
     list: Vec<Classed>,
 }
 
@@ -78,7 +78,7 @@ impl<'a> Pieces<'a> {
         ensures same { OnOk result (left_of (T.model table.now) form self.new ≡ left_of (T.model table.now) form self.old) }
         ensures shorter { OnOk result (0 < length self.old.rest.now → length self.new.rest.now < length self.old.rest.now) }
     {
-        let (stays, after, _stood) = split_standing(table, form, false, self.rest);
+        let (stays, after, _passing) = split_quick_span(table, form, false, self.rest);
         self.taken = 0;
         self.made.clear();
         let normalizer = Normalizer { alloc, table, form };

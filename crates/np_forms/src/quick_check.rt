@@ -14,7 +14,7 @@ pub fn quick_check_span<T: NormTable>(table: &T, wanted: Form, text: &str) -> us
     ensures stable { IsEachPartStable (T.model table.now) wanted (chars (take result text.now)) }
 {
     table.meets_conditions();
-    // whether the form parts behind the front is of no account: each part of it is stable whatever follows
-    let (count, _parts) = table.standing(wanted, true, text);
+    // whether a boundary is behind the front is of no account: each part of it is stable whatever follows
+    let (count, _boundary) = table.quick_span(wanted, true, text);
     count
 }

@@ -19,7 +19,7 @@ use std::str::from_utf8_unchecked;
 use thiserror::Error;
 
 /// The most bytes that the input of a run may have.
-pub const LIMIT: u64 = 4_294_967_295;
+pub const RUN_LIMIT: u64 = 4_294_967_295;
 
 /// The most bytes that are asked for at once.
 const PIECE: usize = 65_536;
@@ -39,7 +39,7 @@ pub enum RunFault {
     /// A write or the flush answered an error, or a write took nothing.
     #[error("write failed")]
     WriteFailed,
-    /// One byte more than `LIMIT` was read.
+    /// One byte more than `RUN_LIMIT` was read.
     #[error("more than 4,294,967,295 bytes")]
     TooLarge,
     /// Memory ran out.
@@ -47,7 +47,7 @@ pub enum RunFault {
     Memory,
 }
 
-/// Reads once, at most up to the first byte past `LIMIT`, where `total` bytes were read before.
+/// Reads once, at most up to the first byte past `RUN_LIMIT`, where `total` bytes were read before.
 fn read_piece<R: Read>(
     source: &mut Watched<R>,
     piece: &mut [u8],
@@ -55,15 +55,15 @@ fn read_piece<R: Read>(
 ) -> Result<usize, RunFault>
     requires clear { has_failed source.old ≡ false }
     requires space { length piece.old ≡ PIECE }
-    requires fits { total ≤ LIMIT }
+    requires fits { total ≤ RUN_LIMIT }
     ensures ok { IfOk result (λ n. Consumes (R.remaining (device_of source.old)) (R.remaining (device_of source.new)) (take n piece.new)) }
-    ensures bound { IfOk result (λ n. (n ≤ length piece.new) × (total + n ≤ LIMIT + 1)) }
+    ensures bound { IfOk result (λ n. (n ≤ length piece.new) × (total + n ≤ RUN_LIMIT + 1)) }
     ensures end { IfOk result (λ n. n ≡ 0 → IsAtEnd (R.remaining (device_of source.new))) }
     ensures err { OnErr result (Consumes (R.remaining (device_of source.old)) (R.remaining (device_of source.new)) []) }
     ensures fault { IfErr result (λ fault. fault ≡ RunFault.ReadFailed) }
     ensures failed { IsErr result ↔ (has_failed source.new ≡ true) }
 {
-    let want = PIECE.min((LIMIT + 1 - total) as usize);
+    let want = PIECE.min((RUN_LIMIT + 1 - total) as usize);
     match source.read(&mut piece[..want]) {
         Ok(n) => Ok(n),
         Err(_) => Err(RunFault::ReadFailed),
@@ -73,23 +73,23 @@ fn read_piece<R: Read>(
 /// How bytes begin: how many the longest prefix has that is UTF-8, and whether what follows it may
 /// begin a character.
 #[derive(Clone, Copy)]
-struct Front {
+struct Utf8Prefix {
     text: usize,
     may_begin: bool,
 }
 
 /// How these bytes begin.
-fn front_of(bytes: &[u8]) -> Front
+fn utf8_prefix_of(bytes: &[u8]) -> Utf8Prefix
     ensures begins { result.may_begin ≡ true → MayBegin bytes.now result.text }
     ensures ends { result.may_begin ≡ false → MayNotBegin bytes.now result.text }
     ensures few { result.may_begin ≡ true → length bytes.now ≤ result.text + 3 }
 {
     match simdutf8::compat::from_utf8(bytes) {
-        Ok(text) => Front {
+        Ok(text) => Utf8Prefix {
             text: text.len(),
             may_begin: true,
         },
-        Err(fault) => Front {
+        Err(fault) => Utf8Prefix {
             text: fault.valid_up_to(),
             may_begin: fault.error_len().is_none(),
         },
@@ -111,17 +111,17 @@ fn join(list: &mut Vec<u8>, first: &[u8], second: &[u8]) -> Result<(), Memory>
 fn judged(chunk: &[u8], total: u64) -> Result<usize, RunFault>
     requires some { 0 < length chunk.now }
     requires inside { length chunk.now ≤ total }
-    requires fits { total ≤ LIMIT + 1 }
+    requires fits { total ≤ RUN_LIMIT + 1 }
     ensures ok { IfOk result (λ n. IsLongestValidPrefix chunk.now n) }
     ensures few { IfOk result (λ n. length chunk.now ≤ n + 3) }
-    ensures limit { OnOk result (total ≤ LIMIT) }
+    ensures limit { OnOk result (total ≤ RUN_LIMIT) }
     ensures err { IfErr result (IsChunkFault chunk.now total) }
 {
-    let whole = front_of(chunk);
+    let whole = utf8_prefix_of(chunk);
     let at = total - chunk.len() as u64 + whole.text as u64;
-    if total > LIMIT {
+    if total > RUN_LIMIT {
         // A character that the limit cuts is no fault: what stands before the last byte decides.
-        let before = front_of(&chunk[..chunk.len() - 1]);
+        let before = utf8_prefix_of(&chunk[..chunk.len() - 1]);
         return Err(if before.may_begin {
             RunFault::TooLarge
         } else {
@@ -138,7 +138,7 @@ fn judged(chunk: &[u8], total: u64) -> Result<usize, RunFault>
 /// What was read and is not fed yet.
 #[derive(Drop)]
 struct Input {
-    /// Room for what one read gives.
+    /// A buffer for what one read gives.
     piece: Vec<u8>,
     /// The bytes of a character that the last piece cut.
     kept: Vec<u8>,
@@ -156,7 +156,7 @@ fn next_chunk<R: Read>(
     source: &mut Watched<R>,
 ) -> Result<Option<usize>, RunFault>
     requires clear { has_failed source.old ≡ false }
-    requires fits { input.old.total ≤ LIMIT }
+    requires fits { input.old.total ≤ RUN_LIMIT }
     requires inside { vec_len input.old.kept ≤ input.old.total }
     ensures some { IfOk result (λ next. IfSome next (λ n. IsNextChunk (R.remaining (device_of source.old)) (R.remaining (device_of source.new)) input.old.kept.items input.new.chunk.items input.new.kept.items input.old.total input.new.total n)) }
     ensures few { IfOk result (λ next. IfSome next (λ _. vec_len input.new.kept ≤ 3)) }
@@ -271,7 +271,7 @@ fn feed_all<R: Read, W: Write, T: NormTable>(
     requires { IsBetweenReads stream.old output.old.text (vec_len input.old.kept) input.old.total (has_failed source.old) (has_failed target.old) }
     ensures ok { OnOk result (Goes stream.old stream.new (R.remaining (device_of source.old)) (R.remaining (device_of source.new)) (W.contents (device_of target.old)) (W.contents (device_of target.new)) input.old.kept.items input.new.kept.items input.old.total input.new.total output.old.count output.new.count) }
     ensures end { OnOk result (IsAtEnd (R.remaining (device_of source.new))) }
-    ensures fits { OnOk result (input.new.total ≤ LIMIT) }
+    ensures fits { OnOk result (input.new.total ≤ RUN_LIMIT) }
     ensures moved { OnOk result ((stream.new.ready ≡ []) × (output.new.text ≡ []) × (vec_len input.new.kept ≤ input.new.total)) }
     ensures err { IfErr result (λ fault. Stops stream.old (R.remaining (device_of source.old)) (R.remaining (device_of source.new)) (W.contents (device_of target.old)) (W.contents (device_of target.new)) input.old.kept.items input.old.total output.old.count (Err fault)) }
     ensures read { result ≡ Err RunFault.ReadFailed ↔ (has_failed source.new ≡ true) }

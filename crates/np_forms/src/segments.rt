@@ -3,9 +3,9 @@
 ghost use Rattle.std.specs.Prelude.{◌≡◌, ◌<◌, ◌++◌, ◌∷◌, [], Some, None, length, true, chars, encode_utf8_all, IfNone, IfOk, IfSome, OnOk};
 ghost use Rattle.np_code_points.specs.Forms.{composes};
 ghost use Rattle.np_forms.specs.inside.CanonicalOrder.{canonical_order};
-ghost use Rattle.np_forms.specs.inside.Copies.{GoesOn};
+ghost use Rattle.np_forms.specs.inside.Copies.{AppendsForm};
 ghost use Rattle.np_forms.specs.inside.NormalForms.{ended};
-ghost use Rattle.np_forms.specs.inside.Segments.{IsFullUpTo, IsMarked, listed};
+ghost use Rattle.np_forms.specs.inside.Segments.{IsFullUpTo, IsTriple, listed};
 ghost use Rattle.np_tables.specs.Conditions.{IsSound};
 ghost use Rattle.np_tables.specs.Versions.{class_of};
 ghost use Rattle.np_tables.specs.inside.CompositeSearch.{composite};
@@ -19,7 +19,7 @@ use np_tables::NormTable;
 
 /// A starter and two non-starters behind it, in canonical order.
 #[derive(Clone, Copy)]
-struct Marked {
+struct Triple {
     starter: char,
     first: char,
     second: char,
@@ -62,15 +62,15 @@ fn write_pair<T: NormTable>(
 /// The composite of a starter and the second of two non-starters. A code point is blocked from the last starter where
 /// one between them has at least its class (The Unicode Standard, D115); so one of equal class blocks it.
 #[inline(always)]
-fn joined_past<T: NormTable>(table: &T, form: Form, marked: Marked) -> Option<char>
+fn joined_past<T: NormTable>(table: &T, form: Form, triple: Triple) -> Option<char>
     ensures form { IfSome result (λ p. composes form ≡ true) }
-    ensures free { IfSome result (λ p. class_of (T.model table.now) marked.first < class_of (T.model table.now) marked.second) }
-    ensures pair { IfSome result (λ p. composite (T.model table.now) marked.starter marked.second ≡ Some p) }
-    ensures none { IfNone result (composes form ≡ true → class_of (T.model table.now) marked.first < class_of (T.model table.now) marked.second →
-        composite (T.model table.now) marked.starter marked.second ≡ None) }
+    ensures free { IfSome result (λ p. class_of (T.model table.now) triple.first < class_of (T.model table.now) triple.second) }
+    ensures pair { IfSome result (λ p. composite (T.model table.now) triple.starter triple.second ≡ Some p) }
+    ensures none { IfNone result (composes form ≡ true → class_of (T.model table.now) triple.first < class_of (T.model table.now) triple.second →
+        composite (T.model table.now) triple.starter triple.second ≡ None) }
 {
-    if table.class(marked.first) < table.class(marked.second) {
-        joined(table, form, marked.starter, marked.second)
+    if table.class(triple.first) < table.class(triple.second) {
+        joined(table, form, triple.starter, triple.second)
     } else {
         None
     }
@@ -78,35 +78,35 @@ fn joined_past<T: NormTable>(table: &T, form: Form, marked: Marked) -> Option<ch
 
 /// Appends the form of a starter and two non-starters.
 #[inline(always)]
-fn write_marked<T: NormTable>(
+fn write_triple<T: NormTable>(
     table: &T,
     form: Form,
-    marked: Marked,
+    triple: Triple,
     out: &mut OutText,
 ) -> Result<(), Memory>
-    requires { IsMarked (T.model table.now) marked }
-    ensures { OnOk result (out.new ≡ out.old ++ encode_utf8_all (ended (T.model table.now) (composes form) (listed marked))) }
+    requires { IsTriple (T.model table.now) triple }
+    ensures { OnOk result (out.new ≡ out.old ++ encode_utf8_all (ended (T.model table.now) (composes form) (listed triple))) }
 {
     table.meets_conditions();
-    if let Some(p) = joined(table, form, marked.starter, marked.first) {
-        return write_pair(table, form, p, marked.second, out);
+    if let Some(p) = joined(table, form, triple.starter, triple.first) {
+        return write_pair(table, form, p, triple.second, out);
     }
-    if let Some(p) = joined_past(table, form, marked) {
+    if let Some(p) = joined_past(table, form, triple) {
         out.append_char(p)?;
-        return out.append_char(marked.first);
+        return out.append_char(triple.first);
     }
-    out.append_char(marked.starter)?;
-    out.append_char(marked.first)?;
-    out.append_char(marked.second)
+    out.append_char(triple.starter)?;
+    out.append_char(triple.first)?;
+    out.append_char(triple.second)
 }
 
 /// A starter and two non-starters, put in canonical order; none where one of the two is a starter.
 #[inline(always)]
 #[tactic(auto, using(crate::proofs::ShortLemmas::short_answers))]
-fn in_order<T: NormTable>(table: &T, starter: char, second: char, third: char) -> Option<Marked>
+fn in_order<T: NormTable>(table: &T, starter: char, second: char, third: char) -> Option<Triple>
     requires { class_of (T.model table.now) starter ≡ 0 }
     ensures order { IfSome result (λ m. canonical_order (class_of (T.model table.now)) (starter ∷ second ∷ third ∷ []) ≡ listed m) }
-    ensures marked { IfSome result (IsMarked (T.model table.now)) }
+    ensures triple { IfSome result (IsTriple (T.model table.now)) }
 {
     let class = table.class(second);
     let later = table.class(third);
@@ -114,13 +114,13 @@ fn in_order<T: NormTable>(table: &T, starter: char, second: char, third: char) -
         return None;
     }
     if later < class {
-        Some(Marked {
+        Some(Triple {
             starter,
             first: third,
             second,
         })
     } else {
-        Some(Marked {
+        Some(Triple {
             starter,
             first: second,
             second: third,
@@ -170,7 +170,7 @@ pub(crate) fn write_short<'a, T: NormTable>(
     text: &'a str,
     out: &mut OutText,
 ) -> Result<Option<&'a str>, Memory>
-    ensures goes { IfOk result (λ found. IfSome found (λ rest. GoesOn (T.model table.now) form text.now rest.now out.old out.new)) }
+    ensures goes { IfOk result (λ found. IfSome found (λ rest. AppendsForm (T.model table.now) form text.now rest.now out.old out.new)) }
     ensures none { IfOk result (λ found. IfNone found (out.new ≡ out.old)) }
     ensures shorter { IfOk result (λ found. IfSome found (λ rest. length rest.now < length text.now)) }
 {
@@ -188,9 +188,9 @@ pub(crate) fn write_short<'a, T: NormTable>(
     if !begins_at_boundary(table, form, three) {
         return Ok(None);
     }
-    let Some(marked) = in_order(table, starter, second, third) else {
+    let Some(triple) = in_order(table, starter, second, third) else {
         return Ok(None);
     };
-    write_marked(table, form, marked, out)?;
+    write_triple(table, form, triple, out)?;
     Ok(Some(three))
 }

@@ -7,8 +7,8 @@ ghost use Rattle.np_forms.specs.Forms.{IsNormalForm};
 ghost use Rattle.np_forms.specs.inside.Copies.{IsCopied};
 ghost use Rattle.np_forms.specs.inside.NormalForms.{normal_form};
 
-use crate::assigned::first_lacking;
-use crate::copying::split_standing;
+use crate::assigned::first_unassigned_char;
+use crate::copying::split_quick_span;
 use crate::normalizers::Normalizer;
 use crate::out_texts::OutText;
 use crate::streams::Stream;
@@ -35,7 +35,7 @@ pub enum NpssFault {
     Memory,
 }
 
-/// The form of a text that was cut behind some assigned code points that stand in it; none where one of
+/// The form of a text that was cut behind some assigned code points that pass the quick check; none where one of
 /// the others is not assigned.
 fn assigned_form<T: NormTable>(
     normalizer: &Normalizer<'_, T>,
@@ -52,7 +52,7 @@ fn assigned_form<T: NormTable>(
 {
     let alloc = normalizer.alloc;
     normalizer.table.meets_conditions();
-    let mut out = OutText::with_room(alloc, text.len())?;
+    let mut out = OutText::with_capacity(alloc, text.len())?;
     out.append_front(text, stays)?;
     let mut stream = Stream::new(alloc, normalizer.table, normalizer.form);
     if close_assigned(&mut stream, &mut out, behind)? {
@@ -62,7 +62,7 @@ fn assigned_form<T: NormTable>(
     }
 }
 
-/// The stabilized form of a text that was cut behind some assigned code points that stand in it.
+/// The stabilized form of a text that was cut behind some assigned code points that pass the quick check.
 fn stabilize<T: NormTable>(
     normalizer: &Normalizer<'_, T>,
     text: &str,
@@ -79,7 +79,7 @@ fn stabilize<T: NormTable>(
         return Ok(key);
     }
     // either memory ran out, or a code point is not assigned, which takes no memory to tell
-    match first_lacking(normalizer.table, text) {
+    match first_unassigned_char(normalizer.table, text) {
         Some((at, code)) => Err(NpssFault::Unassigned { at, code }),
         None => Err(NpssFault::Memory),
     }
@@ -103,7 +103,7 @@ pub fn npss<T: NormTable>(
     ensures fault { IfErr result (IsNpssFault (T.model table.now) (chars text.now)) }
 {
     table.meets_conditions();
-    let (stays, behind, _stood) = split_standing(table, wanted, true, text);
+    let (stays, behind, _passing) = split_quick_span(table, wanted, true, text);
     let normalizer = Normalizer {
         alloc,
         table,
@@ -132,7 +132,7 @@ pub fn into_npss<T: NormTable>(
 {
     table.meets_conditions();
     let whole = text.as_str();
-    let (stays, behind, _stood) = split_standing(table, wanted, true, whole);
+    let (stays, behind, _passing) = split_quick_span(table, wanted, true, whole);
     if behind.is_empty() {
         return Ok(text);
     }
@@ -163,7 +163,7 @@ pub fn lend_npss<'a, T: NormTable>(
     ensures fault { IfErr result (IsNpssFault (T.model table.now) (chars text.now)) }
 {
     table.meets_conditions();
-    let (stays, behind, _stood) = split_standing(table, wanted, true, text);
+    let (stays, behind, _passing) = split_quick_span(table, wanted, true, text);
     if !behind.is_empty() {
         let normalizer = Normalizer {
             alloc,

@@ -60,7 +60,7 @@ fn run_past_syllable<T: NormTable>(table: &T, run: usize, c: char) -> usize
         return run;
     };
     match hangul_parts(first) {
-        Some((lead, vowel)) => run_past_all(table, run, &[lead, vowel, second]),
+        Some((leading, vowel)) => run_past_all(table, run, &[leading, vowel, second]),
         None => run_past_all(table, run, &[first, second]),
     }
 }

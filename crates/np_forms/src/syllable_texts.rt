@@ -1,9 +1,9 @@
-//! Hangul syllables by arithmetic, decomposed straight into UTF-8 and made of the jamo that spell them
+//! Hangul syllables by arithmetic, decomposed straight into UTF-8 and made of their jamo
 //! (The Unicode Standard, section 3.12).
 ghost use Rattle.std.specs.Prelude.{◌≡◌, ◌+◌, ◌/◌, ◌%◌, ◌<◌, ◌≤◌, ◌++◌, ◌∷◌, [], true, false, chars, encode_utf8, encode_utf8_all, IfNone, IfOk, IfSome, IsTrue, OnOk};
 ghost use Rattle.np_code_points.specs.Forms.{composes};
 ghost use Rattle.np_code_points.specs.Hangul.{is_syllable as in_block};
-ghost use Rattle.np_forms.specs.inside.Copies.{AsciiStandsAlone, GoesOn, PartsBeforeLeads, StandsAlone};
+ghost use Rattle.np_forms.specs.inside.Copies.{AppendsForm, AsciiIsCopiedAlone, IsCopiedAlone, LeadingAreBoundaries};
 ghost use Rattle.np_tables.specs.Boundaries.{BeginsAtBoundary};
 ghost use Rattle.np_forms.specs.inside.Readings.{IsReadAssigned};
 ghost use Rattle.np_forms.specs.inside.Syllables.{BeginsWithSyllable, syllable_parts};
@@ -77,12 +77,12 @@ fn push_syllable(out: &mut OutText, syllable: u32) -> Result<(), Memory>
     let index = syllable - S_BASE;
     let block = index / T_COUNT;
     let trailing = index % T_COUNT;
-    let lead = L_BASE + block / V_COUNT;
+    let leading = L_BASE + block / V_COUNT;
     let vowel = V_BASE + block % V_COUNT;
     if trailing == 0 {
-        push_two(out, lead, vowel)
+        push_two(out, leading, vowel)
     } else {
-        push_three(out, lead, vowel, T_BASE + trailing)
+        push_three(out, leading, vowel, T_BASE + trailing)
     }
 }
 
@@ -125,7 +125,7 @@ fn precomposed_front(text: &str) -> Option<(u32, &str)>
 /// three jamo, none is told.
 #[inline(always)]
 #[tactic(auto, using(crate::proofs::SyllableFrontLemmas::syllable_front_answers))]
-fn spelled_front(text: &str) -> Option<(u32, &str)>
+fn jamo_text_front(text: &str) -> Option<(u32, &str)>
     ensures { IfSome result (λ cut. BeginsWithSyllable text.now cut.1.now cut.0) }
 {
     let bytes = text.as_bytes();
@@ -143,7 +143,7 @@ fn syllable_front(joins: bool, text: &str) -> Option<(u32, &str)>
     ensures { IfSome result (λ cut. BeginsWithSyllable text.now cut.1.now cut.0) }
 {
     if joins {
-        if let Some((syllable, later)) = spelled_front(text) {
+        if let Some((syllable, later)) = jamo_text_front(text) {
             return Some((syllable, later));
         }
     }
@@ -165,16 +165,16 @@ fn ascii_first(text: &str) -> Option<(char, &str)>
     }
 }
 
-/// Whether each ASCII character is known to stand alone, which is asked once for a text.
+/// Whether each ASCII character is known to be copied alone, which is asked once for a text.
 #[inline(always)]
 fn is_ascii_alone<T: NormTable>(table: &T, form: Form) -> bool
-    ensures { IsTrue result → AsciiStandsAlone (T.model table.now) form }
+    ensures { IsTrue result → AsciiIsCopiedAlone (T.model table.now) form }
 {
     table.meets_conditions();
-    table.ascii_stands(form)
+    table.ascii_passes(form)
 }
 
-/// The ASCII character that a text begins with, where each is known to stand alone, and what follows it.
+/// The ASCII character that a text begins with, where each is known to be copied alone, and what follows it.
 #[inline(always)]
 fn space_front<'a, T: NormTable>(
     table: &T,
@@ -182,8 +182,8 @@ fn space_front<'a, T: NormTable>(
     ascii: bool,
     text: &'a str,
 ) -> Option<(char, &'a str)>
-    requires { ascii ≡ true → AsciiStandsAlone (T.model table.now) form }
-    ensures alone { IfSome result (λ cut. StandsAlone (T.model table.now) form cut.0) }
+    requires { ascii ≡ true → AsciiIsCopiedAlone (T.model table.now) form }
+    ensures alone { IfSome result (λ cut. IsCopiedAlone (T.model table.now) form cut.0) }
     ensures parts { IfSome result (λ cut. text.now ≡ encode_utf8 cut.0 ++ cut.1.now) }
 {
     table.meets_conditions();
@@ -207,10 +207,10 @@ fn write_space<'a, T: NormTable>(
     out: &mut OutText,
 ) -> Result<Option<(&'a str, u32, &'a str)>, Memory>
     requires on { has_hangul (T.model normalizer.now.table.now) ≡ true }
-    requires leads { composes normalizer.now.form ≡ true → PartsBeforeLeads (T.model normalizer.now.table.now) normalizer.now.form }
-    requires alone { IfSome space (λ cut. StandsAlone (T.model normalizer.now.table.now) normalizer.now.form cut.0) }
+    requires leading_consonants { composes normalizer.now.form ≡ true → LeadingAreBoundaries (T.model normalizer.now.table.now) normalizer.now.form }
+    requires alone { IfSome space (λ cut. IsCopiedAlone (T.model normalizer.now.table.now) normalizer.now.form cut.0) }
     requires parts { IfSome space (λ cut. text.now ≡ encode_utf8 cut.0 ++ cut.1.now) }
-    ensures goes { IfOk result (λ cut. IfSome cut (λ next. GoesOn (T.model normalizer.now.table.now) normalizer.now.form text.now next.0.now out.old out.new)) }
+    ensures goes { IfOk result (λ cut. IfSome cut (λ next. AppendsForm (T.model normalizer.now.table.now) normalizer.now.form text.now next.0.now out.old out.new)) }
     ensures read { IfOk result (λ cut. IfSome cut (λ next. IsReadAssigned (T.model normalizer.now.table.now) text.now next.0.now)) }
     ensures begins { IfOk result (λ cut. IfSome cut (λ next. BeginsWithSyllable next.0.now next.2.now next.1)) }
     ensures none { IfOk result (λ cut. IfNone cut (out.new ≡ out.old)) }
@@ -234,7 +234,7 @@ pub(crate) fn write_syllables<'a, T: NormTable>(
     out: &mut OutText,
 ) -> Result<&'a str, Memory>
     requires { composes normalizer.now.form ≡ false }
-    ensures goes { IfOk result (λ rest. GoesOn (T.model normalizer.now.table.now) normalizer.now.form text.now rest.now out.old out.new) }
+    ensures goes { IfOk result (λ rest. AppendsForm (T.model normalizer.now.table.now) normalizer.now.form text.now rest.now out.old out.new) }
     ensures read { IfOk result (λ rest. IsReadAssigned (T.model normalizer.now.table.now) text.now rest.now) }
 {
     let table = normalizer.table;
@@ -263,16 +263,16 @@ pub(crate) fn write_syllables<'a, T: NormTable>(
     }
 }
 
-/// Whether the form is known to part before a text, of which it is told where it begins with an ASCII
-/// character that stands alone.
+/// Whether the form is known to have a boundary before a text, of which it is told where it begins with an ASCII
+/// character that is copied alone.
 #[inline(always)]
-fn parts_before<T: NormTable>(
+fn has_boundary_before<T: NormTable>(
     table: &T,
     form: Form,
     text: &str,
     space: Option<(char, &str)>,
 ) -> bool
-    requires alone { IfSome space (λ cut. StandsAlone (T.model table.now) form cut.0) }
+    requires alone { IfSome space (λ cut. IsCopiedAlone (T.model table.now) form cut.0) }
     requires parts { IfSome space (λ cut. text.now ≡ encode_utf8 cut.0 ++ cut.1.now) }
     ensures { IsTrue result → BeginsAtBoundary (T.model table.now) form (chars text.now) }
 {
@@ -284,7 +284,7 @@ fn parts_before<T: NormTable>(
 
 /// Appends the syllables at the front of a text, by their jamo or precomposed, of which single ASCII
 /// characters may stand between two, and answers what follows them. Each is read once: what follows one tells
-/// whether the form parts there. It is called, so that the loop has the registers for itself.
+/// whether a boundary is there. It is called, so that the loop has the registers for itself.
 #[inline(never)]
 fn write_joined<'a, T: NormTable>(
     normalizer: &Normalizer<'_, T>,
@@ -293,8 +293,8 @@ fn write_joined<'a, T: NormTable>(
 ) -> Result<&'a str, Memory>
     requires on { has_hangul (T.model normalizer.now.table.now) ≡ true }
     requires form { composes normalizer.now.form ≡ true }
-    requires leads { PartsBeforeLeads (T.model normalizer.now.table.now) normalizer.now.form }
-    ensures goes { IfOk result (λ rest. GoesOn (T.model normalizer.now.table.now) normalizer.now.form text.now rest.now out.old out.new) }
+    requires leading_consonants { LeadingAreBoundaries (T.model normalizer.now.table.now) normalizer.now.form }
+    ensures goes { IfOk result (λ rest. AppendsForm (T.model normalizer.now.table.now) normalizer.now.form text.now rest.now out.old out.new) }
     ensures read { IfOk result (λ rest. IsReadAssigned (T.model normalizer.now.table.now) text.now rest.now) }
 {
     let table = normalizer.table;
@@ -315,7 +315,7 @@ fn write_joined<'a, T: NormTable>(
             continue;
         }
         let space = space_front(table, form, ascii, later);
-        if !parts_before(table, form, later, space) {
+        if !has_boundary_before(table, form, later, space) {
             return Ok(rest);
         }
         push_joined(out, syllable)?;
@@ -328,8 +328,8 @@ fn write_joined<'a, T: NormTable>(
     }
 }
 
-/// Appends the syllables whose jamo stand at the front of a text, where the arithmetic is on and the form
-/// parts before leading consonants, and answers what follows them. It is made part of what calls it, so that
+/// Appends the syllables whose jamo stand at the front of a text, where the arithmetic is on and
+/// leading consonants are boundaries, and answers what follows them. It is made part of what calls it, so that
 /// any other text costs one comparison.
 #[inline(always)]
 pub(crate) fn join_syllables<'a, T: NormTable>(
@@ -338,12 +338,12 @@ pub(crate) fn join_syllables<'a, T: NormTable>(
     out: &mut OutText,
 ) -> Result<&'a str, Memory>
     requires { composes normalizer.now.form ≡ true }
-    ensures goes { IfOk result (λ rest. GoesOn (T.model normalizer.now.table.now) normalizer.now.form text.now rest.now out.old out.new) }
+    ensures goes { IfOk result (λ rest. AppendsForm (T.model normalizer.now.table.now) normalizer.now.form text.now rest.now out.old out.new) }
     ensures read { IfOk result (λ rest. IsReadAssigned (T.model normalizer.now.table.now) text.now rest.now) }
 {
     let table = normalizer.table;
     let form = normalizer.form;
-    if begins_as_jamo(text) && table.hangul() && table.parts_before_leads(form) {
+    if begins_as_jamo(text) && table.hangul() && table.leading_consonants_are_boundaries(form) {
         return write_joined(normalizer, text, out);
     }
     Ok(text)

@@ -3,7 +3,7 @@ ghost use Rattle.std.specs.Prelude.{◌≡◌, ◌++◌, ◌∷◌, [], false, c
 ghost use Rattle.np_forms.specs.Assigned.{IsAssigned};
 ghost use Rattle.np_forms.specs.inside.Written.{Closes, Writes};
 
-use crate::assigned::first_lacking;
+use crate::assigned::first_unassigned_char;
 use crate::copying::{split_head, split_tail, write_form, write_fronts};
 use crate::out_texts::OutText;
 use crate::streams::Stream;
@@ -119,7 +119,7 @@ pub(crate) fn close_assigned<T: NormTable>(
         let all = write_fronts(&normalizer, true, text, out)?;
         return Ok(all);
     }
-    if first_lacking(normalizer.table, text).is_some() {
+    if first_unassigned_char(normalizer.table, text).is_some() {
         return Ok(false);
     }
     close_text(stream, out, text)?;

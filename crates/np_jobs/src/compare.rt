@@ -10,7 +10,7 @@ use crate::texts::{TextJob, made_of_text};
 use crate::versions::JobTable;
 use np_code_points::Form;
 use np_code_points::watched::Watched;
-use np_forms::{equivalent, first_lacking};
+use np_forms::{equivalent, first_unassigned_char};
 use np_tables::NormTable;
 use std::alloc::{AllocError, Global};
 use std::io::{Read, Write};
@@ -41,10 +41,10 @@ fn comparison_of<T: NormTable>(
     ensures equal { IfOk result (IsComparison form (T.model table.now) first.now second.now) }
     ensures refused { IfErr result (LacksComparison (T.model table.now) first.now second.now) }
 {
-    if let Some((at, code)) = first_lacking(table, first) {
+    if let Some((at, code)) = first_unassigned_char(table, first) {
         return Err(TextFault::FirstUnassigned { at, code });
     }
-    if let Some((at, code)) = first_lacking(table, second) {
+    if let Some((at, code)) = first_unassigned_char(table, second) {
         return Err(TextFault::SecondUnassigned { at, code });
     }
     match equivalent(alloc, table, form.compat(), first, second) {

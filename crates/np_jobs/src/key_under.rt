@@ -18,7 +18,7 @@ use crate::versions::{JobTable, MadeTable, read_table_of, read_version};
 use np_chain::extends;
 use np_code_points::watched::Watched;
 use np_code_points::{Form, Memory};
-use np_forms::first_absent;
+use np_forms::first_unassigned_in_version;
 use np_tables::{NormTable, Version};
 use std::alloc::Global;
 use std::io::{Read, Write};
@@ -28,7 +28,7 @@ use std::io::{Read, Write};
 fn own_line(alloc: Global, old: &Version, key: &str) -> Result<String, Memory>
     ensures { IfOk result (λ line. SaysOwn old.now (chars key.now) (string_bytes line)) }
 {
-    match first_absent(old, key) {
+    match first_unassigned_in_version(old, key) {
         None => Ok(String::from_str(alloc, "own form\n")?),
         Some((at, code)) => unassigned_text(alloc, "own form, ", at, code),
     }

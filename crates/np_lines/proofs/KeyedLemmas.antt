@@ -10,7 +10,7 @@ use Rattle.np_forms.specs.Forms.{IsNormalForm}
 use Rattle.np_forms.specs.inside.NormalForms.{normal_form}
 use Rattle.np_forms.proofs.CopyLemmas.{parts-at}
 use Rattle.np_forms.proofs.FormLemmas.{IsNormalForm-normal_form, normal_form_is}
-use Rattle.np_forms.proofs.StandingLemmas.{walked_form}
+use Rattle.np_forms.proofs.QuickSpanLemmas.{walked_form}
 use Rattle.np_forms.proofs.TextLemmas.{assigned-back, assigned-front}
 use Rattle.np_tables.specs.Boundaries.{BeginsAtBoundary, IsYesStarter}
 use Rattle.np_tables.specs.Conditions.{IsSound}

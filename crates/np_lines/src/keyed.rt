@@ -42,7 +42,7 @@ pub(crate) fn may_be_keyed<T: NormTable>(table: &T, wanted: Wanted, text: &str) 
     ensures stays { IsTrue result → IsYesStarter (T.model table.now) wanted.form (byte_of wanted.end) }
     ensures parted { IsTrue result → ArePartedAt (T.model table.now) wanted text.now }
 {
-    table.ascii_stands(wanted.form) && are_parted(table, wanted, text)
+    table.ascii_passes(wanted.form) && are_parted(table, wanted, text)
 }
 
 /// Whether as many lines end in one text as in another.

@@ -6,7 +6,7 @@ ghost use Rattle.np_tables.specs.Versions.{VersionData};
 use crate::faults::NodeFault;
 use np_code_points::text::text_of;
 use np_code_points::{Form, Memory};
-use np_forms::{first_lacking, form as form_of};
+use np_forms::{first_unassigned_char, form as form_of};
 use np_tables::NormTable;
 use std::alloc::Global;
 
@@ -34,7 +34,7 @@ pub(crate) fn check_assigned<T: NormTable>(table: &T, text: &str) -> Result<(), 
     ensures ok { OnOk result (IsKeepable (T.model table.now) text.now) }
     ensures fault { IfErr result (IsStringFault (T.model table.now) text.now) }
 {
-    match first_lacking(table, text) {
+    match first_unassigned_char(table, text) {
         Some((at, code)) => Err(NodeFault::Unassigned { at, code }),
         None => Ok(()),
     }

@@ -6,7 +6,7 @@ use Rattle.np_tables.proofs.Words.{drop_at, take_all, map_push, take_more, lengt
 use Rattle.np_tables.proofs.Words.{All-tail, All-push, All-weaker, slice_get_within, get_or_from_slice_get, Entry}
 use Rattle.np_tables.proofs.Words.{is_syllable, syllable_pair, VersionData, entry_at, is_empty, file_kind, file_mapping}
 use Rattle.np_tables.proofs.Words.{has_hangul, decomposition_kind, decomposition_mapping, counts, is_final, parts, full}
-use Rattle.np_tables.proofs.Words.{full_of, table_full, Part, part_of, IsPart, AreParts, IsGrown, row_full, Canonical}
+use Rattle.np_tables.proofs.Words.{full_of, table_full, CodeRange, code_range_of, IsCodeRange, AreCodeRanges, IsGrown, row_full, Canonical}
 use Rattle.np_tables.proofs.FileRowLemmas.{file_mapping-found, file_kind-found, mapped-off}
 
 -- ---- full decompositions level by level
@@ -126,52 +126,52 @@ module _ (v : VersionData) (compat : Bool) where
         | inr off ↦ lent-final c (empty_parts c off none)
       ]
 
--- ---- parts of a flat list
+-- ---- ranges of a flat list
 
-pub part_of-grown : (old more : List ℕ) (p : Part) → IsPart (length old) p → part_of (old ++ more) p ≡ part_of old p
-part_of-grown old more p is =
+pub code_range_of-grown : (old more : List ℕ) (p : CodeRange) → IsCodeRange (length old) p → code_range_of (old ++ more) p ≡ code_range_of old p
+code_range_of-grown old more p is =
     let fits : p.end - p.start ≤ length (drop p.start old) = omega (arith, length-drop p.start old) in
     ap (take (p.end - p.start)) (drop-append-le p.start old more (omega arith)) ∙ take-append-le (p.end - p.start) (drop p.start old) more fits
 
-pub parts-grown : (old more : List ℕ) (ps : List Part) → AreParts old ps → map (part_of (old ++ more)) ps ≡ map (part_of old) ps
+pub parts-grown : (old more : List ℕ) (ps : List CodeRange) → AreCodeRanges old ps → map (code_range_of (old ++ more)) ps ≡ map (code_range_of old) ps
 parts-grown old more [] all = refl
 parts-grown old more (p ∷ ps) all =
-    let here = part_of-grown old more p (All-head (IsPart (length old)) p ps all) in
-    let rest = parts-grown old more ps (All-tail (IsPart (length old)) p ps all) in
+    let here = code_range_of-grown old more p (All-head (IsCodeRange (length old)) p ps all) in
+    let rest = parts-grown old more ps (All-tail (IsCodeRange (length old)) p ps all) in
     cc
 
-pub AreParts-grown : (old more : List ℕ) (ps : List Part) → AreParts old ps → AreParts (old ++ more) ps
-AreParts-grown old more ps all = All-weaker (IsPart (length old)) (IsPart (length (old ++ more))) (λ p is. (is.0, omega (arith, length-append old more))) ps all
+pub AreCodeRanges-grown : (old more : List ℕ) (ps : List CodeRange) → AreCodeRanges old ps → AreCodeRanges (old ++ more) ps
+AreCodeRanges-grown old more ps all = All-weaker (IsCodeRange (length old)) (IsCodeRange (length (old ++ more))) (λ p is. (is.0, omega (arith, length-append old more))) ps all
 
-pub part_of-new : (old more : List ℕ) (p : Part) → p.start ≡ length old → p.end ≡ length (old ++ more) → part_of (old ++ more) p ≡ more
-part_of-new old more p start end =
+pub code_range_of-new : (old more : List ℕ) (p : CodeRange) → p.start ≡ length old → p.end ≡ length (old ++ more) → code_range_of (old ++ more) p ≡ more
+code_range_of-new old more p start end =
     let size : length more ≤ p.end - p.start = omega (arith, length-append old more) in
     ap (take (p.end - p.start)) (drop_at old more p.start (sym start)) ∙ take_all (p.end - p.start) more size
 
--- one more part at the end
-pub record OneMore (v : VersionData) (compat : Bool) (es : List Entry) (at : ℕ) (codes : List ℕ) (ps : List Part) : Type 0 where
-  pub within : AreParts codes ps
-  pub lists : map (part_of codes) ps ≡ map (row_full v compat) (take at es)
+-- one more range at the end
+pub record OneMore (v : VersionData) (compat : Bool) (es : List Entry) (at : ℕ) (codes : List ℕ) (ps : List CodeRange) : Type 0 where
+  pub within : AreCodeRanges codes ps
+  pub lists : map (code_range_of codes) ps ≡ map (row_full v compat) (take at es)
 
-pub one_more : (v : VersionData) (compat : Bool) (es : List Entry) (at : ℕ) (old new : List ℕ) (ps : List Part) (p : Part) (e : Entry) →
+pub one_more : (v : VersionData) (compat : Bool) (es : List Entry) (at : ℕ) (old new : List ℕ) (ps : List CodeRange) (p : CodeRange) (e : Entry) →
     OneMore v compat es at old ps → slice_get es at ≡ Some e → new ≡ old ++ row_full v compat e → p.start ≡ length old → p.end ≡ length new →
     OneMore v compat es (at + 1) new (ps ++ p ∷ [])
 one_more v compat es at old new ps p e before found grown start end =
     let more = row_full v compat e in
     let end_is : p.end ≡ length (old ++ more) = end ∙ ap length grown in
-    let within : AreParts (old ++ more) (ps ++ p ∷ []) =
-    All-push (IsPart (length (old ++ more))) ps p (AreParts-grown old more ps before.within) (omega (arith, length-append old more), omega arith) in
+    let within : AreCodeRanges (old ++ more) (ps ++ p ∷ []) =
+    All-push (IsCodeRange (length (old ++ more))) ps p (AreCodeRanges-grown old more ps before.within) (omega (arith, length-append old more), omega arith) in
     let fits = slice_get_within es at e found in
     let here : take (at + 1) es ≡ take at es ++ e ∷ [] = take_more es at e fits ∙ ap (λ (x : Entry). take at es ++ x ∷ []) (get_or_from_slice_get es at e e found) in
-    let lists : map (part_of (old ++ more)) (ps ++ p ∷ []) ≡ map (row_full v compat) (take (at + 1) es) =
-    map_push (part_of (old ++ more)) ps p
-    ∙ ap (λ l. l ++ part_of (old ++ more) p ∷ []) (parts-grown old more ps before.within ∙ before.lists)
-    ∙ ap (λ l. map (row_full v compat) (take at es) ++ l ∷ []) (part_of-new old more p start end_is)
+    let lists : map (code_range_of (old ++ more)) (ps ++ p ∷ []) ≡ map (row_full v compat) (take (at + 1) es) =
+    map_push (code_range_of (old ++ more)) ps p
+    ∙ ap (λ l. l ++ code_range_of (old ++ more) p ∷ []) (parts-grown old more ps before.within ∙ before.lists)
+    ∙ ap (λ l. map (row_full v compat) (take at es) ++ l ∷ []) (code_range_of-new old more p start end_is)
     ∙ sym (ap (map (row_full v compat)) here ∙ map_push (row_full v compat) (take at es) e) in
     subst (λ l. OneMore v compat es (at + 1) l (ps ++ p ∷ [])) (sym grown) (record { within = within; lists = lists })
 
 pub grown_more : (old mid new more : List ℕ) → IsGrown old mid → new ≡ mid ++ more → IsGrown old new
 grown_more old mid new more one two = (one.0 ++ more, two ∙ ap (λ l. l ++ more) one.1 ∙ append_assoc old one.0 more)
 
-pub lists_grown : (v : VersionData) (compat : Bool) (es : List Entry) (old new : List ℕ) (ps : List Part) → IsGrown old new → AreParts old ps → map (part_of old) ps ≡ map (row_full v compat) es → map (part_of new) ps ≡ map (row_full v compat) es
-lists_grown v compat es old new ps grown within lists = ap (λ l. map (part_of l) ps) grown.1 ∙ parts-grown old grown.0 ps within ∙ lists
+pub lists_grown : (v : VersionData) (compat : Bool) (es : List Entry) (old new : List ℕ) (ps : List CodeRange) → IsGrown old new → AreCodeRanges old ps → map (code_range_of old) ps ≡ map (row_full v compat) es → map (code_range_of new) ps ≡ map (row_full v compat) es
+lists_grown v compat es old new ps grown within lists = ap (λ l. map (code_range_of l) ps) grown.1 ∙ parts-grown old grown.0 ps within ∙ lists

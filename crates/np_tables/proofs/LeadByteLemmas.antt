@@ -4,15 +4,15 @@ use Rattle.np_tables.proofs.Words.{IsScalar, prefix_len, div-div-eq-div-mul, div
 use Rattle.np_tables.proofs.Words.{leb-true, drop-drop, drop-map, drop-take, length-map, length-chunk, mask_l-mod}
 use Rattle.np_tables.proofs.Words.{none_from_empty_mask, run_in_chunk_fails, run_in_chunk_le, run_in_chunk_stops}
 use Rattle.np_tables.proofs.Words.{tops_compared, trailing_mask_l, count_trailing_zeros, chunk, mask_l, top, zip2}
-use Rattle.np_tables.proofs.Words.{BeginsWithChar, is_lead}
+use Rattle.np_tables.proofs.Words.{BeginsWithChar, is_lead_byte}
 use Rattle.std.proofs.lemmas.List.Sums.{prefix_len-le-length}
 use mir.Syntax.{w8}
 use Rattle.np_tables.proofs.AsciiLemmas.{zip2-splat}
 use Rattle.np_tables.proofs.Utf8Lemmas.{BeginsWith, begins_with_three, begins_with_two}
 
 -- the mask of 64 bytes
-pub leads_mask : (xs : List ℕ) → length xs ≡ 64 → mask_l (map (top 7) (zip2 (λ a b. cond (leb a b) 255 0) (replicate 64 192) xs)) % 2 ^ 64 ≡ mask_l (map (λ x. leb 192 x) xs)
-leads_mask xs long =
+pub lead_bytes_mask : (xs : List ℕ) → length xs ≡ 64 → mask_l (map (top 7) (zip2 (λ a b. cond (leb a b) 255 0) (replicate 64 192) xs)) % 2 ^ 64 ≡ mask_l (map (λ x. leb 192 x) xs)
+lead_bytes_mask xs long =
     ap (λ l. mask_l l % 2 ^ 64) (tops_compared w8 leb (replicate 64 192) xs ∙ zip2-splat leb 64 192 xs long)
     ∙ mask_l-mod (map (λ x. leb 192 x) xs) 64 (omega (arith, long, length-map xs (λ x. leb 192 x)))
 
@@ -42,12 +42,12 @@ begins_few text code count utf8 low high two three =
     ]
 
 -- the same, read from bytes that are the text
-pub begins_read : (text bytes : List ℕ) (lead second third code count : ℕ) → bytes ≡ text → IsUtf8 text → 192 ≤ get_or text 0 0 → get_or text 0 0 < 240
-    → lead ≡ get_or bytes 0 0 → second ≡ get_or bytes 1 0 % 64 → third ≡ get_or bytes 2 0 % 64
-    → (lead < 224 → (code ≡ lead % 32 * 64 + second) × (count ≡ 2)) → (224 ≤ lead → (code ≡ lead % 16 * 4096 + second * 64 + third) × (count ≡ 3))
+pub begins_read : (text bytes : List ℕ) (lead_byte second third code count : ℕ) → bytes ≡ text → IsUtf8 text → 192 ≤ get_or text 0 0 → get_or text 0 0 < 240
+    → lead_byte ≡ get_or bytes 0 0 → second ≡ get_or bytes 1 0 % 64 → third ≡ get_or bytes 2 0 % 64
+    → (lead_byte < 224 → (code ≡ lead_byte % 32 * 64 + second) × (count ≡ 2)) → (224 ≤ lead_byte → (code ≡ lead_byte % 16 * 4096 + second * 64 + third) × (count ≡ 3))
     → IsScalar code × BeginsWithChar text code count
-begins_read text bytes lead second third code count same utf8 low high is_lead is_second is_third two three =
-    let first = is_lead ∙ ap (λ l. get_or l 0 0) same in
+begins_read text bytes lead_byte second third code count same utf8 low high is_lead_byte is_second is_third two three =
+    let first = is_lead_byte ∙ ap (λ l. get_or l 0 0) same in
     let next = is_second ∙ ap (λ l. get_or l 1 0 % 64) same in
     let last = is_third ∙ ap (λ l. get_or l 2 0 % 64) same in
     begins_few text code count utf8 low high
@@ -75,13 +75,13 @@ none_fails : (b : Bool) (n l m : ℕ) → n ≤ l → cond (not b) (1 + n) 0 ≡
 none_fails true n l m le e ih = absurd (omega arith)
 none_fails false n l m le e ih = let z = ih (omega arith) in omega arith
 
-none_leads : (xs : List ℕ) → prefix_len (λ x. not (is_lead x)) xs ≡ length xs → mask_l (map is_lead xs) ≡ 0
-none_leads [] e = refl
-none_leads (x ∷ xs) e = none_fails (is_lead x) _ (length xs) _ (prefix_len-le-length (λ y. not (is_lead y)) xs) (omega arith) (none_leads xs)
+no_lead_bytes : (xs : List ℕ) → prefix_len (λ x. not (is_lead_byte x)) xs ≡ length xs → mask_l (map is_lead_byte xs) ≡ 0
+no_lead_bytes [] e = refl
+no_lead_bytes (x ∷ xs) e = none_fails (is_lead_byte x) _ (length xs) _ (prefix_len-le-length (λ y. not (is_lead_byte y)) xs) (omega arith) (no_lead_bytes xs)
 
 -- where the lowest bit of what is left of a mask stands, the first character of several bytes begins, and behind it that bit
 -- is gone
-module _ (text : List ℕ) (from left skip : ℕ) (long : 64 ≤ length text) (inside : from ≤ 64) (is : left ≡ mask_l (map is_lead (chunk from (64 - from) text))) where
+module _ (text : List ℕ) (from left skip : ℕ) (long : 64 ≤ length text) (inside : from ≤ 64) (is : left ≡ mask_l (map is_lead_byte (chunk from (64 - from) text))) where
   room : from + (64 - from) ≤ length text
   room = omega (arith, long, inside)
 
@@ -90,41 +90,41 @@ module _ (text : List ℕ) (from left skip : ℕ) (long : 64 ≤ length text) (i
 
   -- nothing is left
   pub none_left : left ≡ 0 → (k : ℕ) → from ≤ k → k < 64 → get_or text k 0 < 192
-  none_left none k ge lt = leb-false 192 (get_or text k 0) (none_from_empty_mask is_lead text from (64 - from) 0 room (sym is ∙ none) k ge (omega (arith, lt, inside)))
+  none_left none k ge lt = leb-false 192 (get_or text k 0) (none_from_empty_mask is_lead_byte text from (64 - from) 0 room (sym is ∙ none) k ge (omega (arith, lt, inside)))
 
   module _ (some : left ≢ 0) (found : skip ≡ count_trailing_zeros 64 left) where
-    counted : skip ≡ prefix_len (λ x. not (is_lead x)) (chunk from (64 - from) text)
-    counted = found ∙ ap (count_trailing_zeros 64) is ∙ trailing_mask_l is_lead 64 (chunk from (64 - from) text) (omega (arith, size)) (positive (mask_l (map is_lead (chunk from (64 - from) text))) (λ e. some (is ∙ e)))
+    counted : skip ≡ prefix_len (λ x. not (is_lead_byte x)) (chunk from (64 - from) text)
+    counted = found ∙ ap (count_trailing_zeros 64) is ∙ trailing_mask_l is_lead_byte 64 (chunk from (64 - from) text) (omega (arith, size)) (positive (mask_l (map is_lead_byte (chunk from (64 - from) text))) (λ e. some (is ∙ e)))
 
     pub found_within : skip < 64 - from
     found_within =
         elim (cases_lt skip (64 - from)) [
           | inl less ↦ less
           | inr more ↦
-              let most = run_in_chunk_le is_lead text from (64 - from) skip 0 room counted in
-              absurd (some (is ∙ none_leads (chunk from (64 - from) text) (omega (arith, counted, size, most, more))))
+              let most = run_in_chunk_le is_lead_byte text from (64 - from) skip 0 room counted in
+              absurd (some (is ∙ no_lead_bytes (chunk from (64 - from) text) (omega (arith, counted, size, most, more))))
         ]
 
-    pub found_lead : 192 ≤ get_or text (from + skip) 0
-    found_lead = leb-true 192 (get_or text (from + skip) 0) (run_in_chunk_stops is_lead text from (64 - from) skip 0 room counted found_within)
+    pub found_lead_byte : 192 ≤ get_or text (from + skip) 0
+    found_lead_byte = leb-true 192 (get_or text (from + skip) 0) (run_in_chunk_stops is_lead_byte text from (64 - from) skip 0 room counted found_within)
 
     pub found_first : (k : ℕ) → from ≤ k → k < from + skip → get_or text k 0 < 192
-    found_first k ge lt = leb-false 192 (get_or text k 0) (run_in_chunk_fails is_lead text from (64 - from) skip 0 room counted k ge lt)
+    found_first k ge lt = leb-false 192 (get_or text k 0) (run_in_chunk_fails is_lead_byte text from (64 - from) skip 0 room counted k ge lt)
 
     pub found_behind : (end : ℕ) → ((k : ℕ) → from ≤ k → k < end → get_or text k 0 < 192) → end ≤ from + skip
     found_behind end low =
         elim (cases_lt (from + skip) end) [
-          | inl less ↦ absurd (omega (arith, found_lead, low (from + skip) (omega arith) less))
+          | inl less ↦ absurd (omega (arith, found_lead_byte, low (from + skip) (omega arith) less))
           | inr more ↦ more
         ]
 
-    pub found_gone : left / 2 ^ skip / 2 ≡ mask_l (map is_lead (chunk (from + skip + 1) (64 - (from + skip + 1)) text))
+    pub found_gone : left / 2 ^ skip / 2 ≡ mask_l (map is_lead_byte (chunk (from + skip + 1) (64 - (from + skip + 1)) text))
     found_gone =
         let xs = chunk from (64 - from) text in
         let more = 64 - (from + skip + 1) in
         let whole : 64 - from ≡ suc skip + more = omega (arith, found_within, inside) in
         let place : from + suc skip ≡ from + skip + 1 = omega arith in
         let twice : 2 ^ skip * 2 ≡ 2 ^ suc skip = omega arith in
-        div-div-eq-div-mul left (2 ^ skip) 2 ∙ ap (λ k. left / k) twice ∙ ap (λ k. k / 2 ^ suc skip) is ∙ mask_drop (map is_lead xs) (suc skip)
-        ∙ ap mask_l (drop-map is_lead (suc skip) xs ∙ ap (map is_lead) (ap (λ k. drop (suc skip) (take k (drop from text))) whole ∙ drop-take (suc skip) more (drop from text)
+        div-div-eq-div-mul left (2 ^ skip) 2 ∙ ap (λ k. left / k) twice ∙ ap (λ k. k / 2 ^ suc skip) is ∙ mask_drop (map is_lead_byte xs) (suc skip)
+        ∙ ap mask_l (drop-map is_lead_byte (suc skip) xs ∙ ap (map is_lead_byte) (ap (λ k. drop (suc skip) (take k (drop from text))) whole ∙ drop-take (suc skip) more (drop from text)
         ∙ ap (take more) (drop-drop (suc skip) from text ∙ ap (λ k. drop k text) place)))

@@ -2,11 +2,11 @@
 use Rattle.std.proofs.Common.{◌≡◌, ℕ, ◌+◌, ◌*◌, ◌-◌, ◌/◌, ◌%◌, ◌≤◌, ◌==◌, ◌≢◌, Bool, true, false, not, ◌&&◌, Some, None, List, [], ◌∷◌, ◌++◌, flat_map, MatchBool, if◌then◌else◌, refl, sym, ap, subst, ◌∙◌, arith, inl, inr, eqb-true}
 use Rattle.np_tables.proofs.Words.{and_cases, and_from, and_parts, and_right, cond-true, both_ways, not-false, is_among}
 use Rattle.np_tables.proofs.Words.{is_syllable, syllable_pair, Form, is_compat, composes, Nfd, Nfc, Nfkd, Nfkc}
-use Rattle.np_tables.proofs.Words.{IsBoundary, IsYesStarter, NeverFalls, FoldsTo, IsCompositeOf, IsSound, counts}
+use Rattle.np_tables.proofs.Words.{IsBoundary, IsYesStarter, NeverFalls, ComposesTo, IsCompositeOf, IsSound, counts}
 use Rattle.np_tables.proofs.Words.{is_final, parts, IsFullDecomposition, Entry, IsRow, VersionData, class_of, entry_at}
 use Rattle.np_tables.proofs.Words.{has_hangul, is_empty, Composite, full_of, table_full, AreBits, AreHints}
-use Rattle.np_tables.proofs.Words.{AreLeadsApart, FoldsBy, IsApart, bit, eight_bits, four_bits, has_bit, own_hints}
-use Rattle.np_tables.proofs.Words.{parts_place, parts_under, stays_place, stays_under, syllable_hints, AreRowBits}
+use Rattle.np_tables.proofs.Words.{AreLeadingNeverSecond, ComposesByPairs, IsNeverSecond, bit, eight_bits, four_bits, has_bit, own_hints}
+use Rattle.np_tables.proofs.Words.{boundary_place, boundary_under, syllable_hints, yes_place, yes_under, AreRowBits}
 use Rattle.np_tables.proofs.Words.{touches, AreOfFile}
 use Rattle.np_code_points.proofs.HangulLemmas.{among_bounds, among_from_bounds, pair_exists, pair_kinds}
 use Rattle.np_tables.specs.declared.page_hints.Hints.{Hints}
@@ -14,107 +14,107 @@ use Rattle.np_tables.proofs.FileRowLemmas.{file_kind-found, file_mapping-found, 
 use Rattle.np_tables.proofs.FullListLemmas.{empty_parts, row-lent, parts-passed}
 use Rattle.np_tables.proofs.HangulLemmas.{IsJamo, IsLv, by_arithmetic, decomposition_kind-on, decomposition_mapping-on, jamo_bare, leading_jamo, lv_shape, trailing_jamo, vowel_jamo}
 use Rattle.np_tables.proofs.MappingLemmas.{IsFullDecomposition-full_of, full_of-final, full_of-mapped, is_empty_from, parts-cases}
-use Rattle.np_tables.proofs.PrimaryLemmas.{primary-syllable, apart-unlisted, no_syllable}
+use Rattle.np_tables.proofs.PrimaryLemmas.{primary-syllable, never_second-unlisted, no_syllable}
 use Rattle.np_tables.proofs.RowLemmas.{entry_at-within}
 
 -- ---- composites of a list are composites
 
-pub folds_by : (v : VersionData) (cs : List Composite) → AreOfFile v cs → (s : ℕ) (bs : List ℕ) (c : ℕ) → FoldsBy cs s bs c → FoldsTo v s bs c
-folds_by v cs file s [] c is = is
-folds_by v cs file s (b ∷ bs) c is = (is.0, file.composites s b is.0 is.1, folds_by v cs file is.0 bs c is.2)
+pub composes_by_pairs : (v : VersionData) (cs : List Composite) → AreOfFile v cs → (s : ℕ) (bs : List ℕ) (c : ℕ) → ComposesByPairs cs s bs c → ComposesTo v s bs c
+composes_by_pairs v cs file s [] c is = is
+composes_by_pairs v cs file s (b ∷ bs) c is = (is.0, file.composites s b is.0 is.1, composes_by_pairs v cs file is.0 bs c is.2)
 
 -- ---- by a full decomposition
 
 module _ (v : VersionData) (compat : Bool) (c first : ℕ) (rest : List ℕ) (full : IsFullDecomposition v compat (c ∷ []) (first ∷ rest)) where
-  boundary-of : (form : Form) → is_compat form ≡ compat → class_of v first ≡ 0 → (composes form ≡ true → IsApart v first) → IsBoundary v form c
-  boundary-of form kind starter apart =
-      record { first = first; rest = rest; decomposes = subst (λ b. IsFullDecomposition v b (c ∷ []) (first ∷ rest)) (sym kind) full; starter = starter; apart = apart }
+  boundary-of : (form : Form) → is_compat form ≡ compat → class_of v first ≡ 0 → (composes form ≡ true → IsNeverSecond v first) → IsBoundary v form c
+  boundary-of form kind starter never_second =
+      record { first = first; rest = rest; decomposes = subst (λ b. IsFullDecomposition v b (c ∷ []) (first ∷ rest)) (sym kind) full; starter = starter; never_second = never_second }
 
-  module _ (h : Hints) (none : h.stays ≡ false) (starter : h.parts ≡ true → class_of v first ≡ 0) (both : h.parts_composing ≡ true → h.parts ≡ true) (apart : h.parts_composing ≡ true → IsApart v first)
-      (too : h.stays_composing ≡ true → h.parts_composing ≡ true) (rises : h.stays_composing ≡ true → NeverFalls (class_of v) rest) (folds : h.stays_composing ≡ true → FoldsTo v first rest c) where
-    by_parts : (form : Form) → is_compat form ≡ compat → (b : Bool) → composes form ≡ b → parts_under b h ≡ true → IsBoundary v form c
+  module _ (h : Hints) (none : h.yes_starter ≡ false) (starter : h.boundary ≡ true → class_of v first ≡ 0) (both : h.boundary_composing ≡ true → h.boundary ≡ true) (never_second : h.boundary_composing ≡ true → IsNeverSecond v first)
+      (too : h.yes_starter_composing ≡ true → h.boundary_composing ≡ true) (rises : h.yes_starter_composing ≡ true → NeverFalls (class_of v) rest) (folds : h.yes_starter_composing ≡ true → ComposesTo v first rest c) where
+    by_parts : (form : Form) → is_compat form ≡ compat → (b : Bool) → composes form ≡ b → boundary_under b h ≡ true → IsBoundary v form c
     by_parts form kind false e is = boundary-of form kind (starter is) (λ on. absurd (both_ways _ e on))
-    by_parts form kind true e is = boundary-of form kind (starter (both is)) (λ on. apart is)
+    by_parts form kind true e is = boundary-of form kind (starter (both is)) (λ on. never_second is)
 
-    by_stays : (form : Form) → is_compat form ≡ compat → (b : Bool) → composes form ≡ b → stays_under b h ≡ true → IsYesStarter v form c
+    by_yes : (form : Form) → is_compat form ≡ compat → (b : Bool) → composes form ≡ b → yes_under b h ≡ true → IsYesStarter v form c
     unfolding boundary-of
-    by_stays form kind false e is = absurd (both_ways _ none is)
-    by_stays form kind true e is =
+    by_yes form kind false e is = absurd (both_ways _ none is)
+    by_yes form kind true e is =
         record {
-          boundary = boundary-of form kind (starter (both (too is))) (λ on. apart (too is));
+          boundary = boundary-of form kind (starter (both (too is))) (λ on. never_second (too is));
           rises = rises is;
-          returns = subst (λ b. MatchBool b (FoldsTo v first rest c) (first ∷ rest ≡ c ∷ [])) (sym e) (folds is);
+          returns = subst (λ b. MatchBool b (ComposesTo v first rest c) (first ∷ rest ≡ c ∷ [])) (sym e) (folds is);
         }
 
-    -- it begins with a starter; that is no second part where the form composes; and what is left goes into it
+    -- it begins with a starter; that is no second part where the form composes; and what is left composes with it
     pub hints-listed : AreHints v compat c h
-    hints-listed = record { parts = λ form kind is. by_parts form kind (composes form) refl is; stays = λ form kind is. by_stays form kind (composes form) refl is }
+    hints-listed = record { boundary = λ form kind is. by_parts form kind (composes form) refl is; yes_starter = λ form kind is. by_yes form kind (composes form) refl is }
 
 -- ---- by itself
 
-starter_of : (b : Bool) (class : ℕ) (apart : Bool) → parts_under b (own_hints class apart) ≡ true → class ≡ 0
-starter_of false class apart is = eqb-true class 0 is
-starter_of true class apart is = eqb-true class 0 (and_parts (class == 0) apart is).0
+starter_of : (b : Bool) (class : ℕ) (never_second : Bool) → boundary_under b (own_hints class never_second) ≡ true → class ≡ 0
+starter_of false class never_second is = eqb-true class 0 is
+starter_of true class never_second is = eqb-true class 0 (and_parts (class == 0) never_second is).0
 
-apart_of : (b : Bool) (class : ℕ) (apart : Bool) → parts_under b (own_hints class apart) ≡ true → b ≡ true → apart ≡ true
-apart_of false class apart is on = absurd (both_ways _ refl on)
-apart_of true class apart is on = (and_parts (class == 0) apart is).1
+never_second_of : (b : Bool) (class : ℕ) (never_second : Bool) → boundary_under b (own_hints class never_second) ≡ true → b ≡ true → never_second ≡ true
+never_second_of false class never_second is on = absurd (both_ways _ refl on)
+never_second_of true class never_second is on = (and_parts (class == 0) never_second is).1
 
-stays_as : (b : Bool) (class : ℕ) (apart : Bool) → stays_under b (own_hints class apart) ≡ true → parts_under b (own_hints class apart) ≡ true
-stays_as false class apart is = is
-stays_as true class apart is = is
+yes_as : (b : Bool) (class : ℕ) (never_second : Bool) → yes_under b (own_hints class never_second) ≡ true → boundary_under b (own_hints class never_second) ≡ true
+yes_as false class never_second is = is
+yes_as true class never_second is = is
 
-returns_itself : (v : VersionData) (c : ℕ) (b : Bool) → MatchBool b (FoldsTo v c [] c) (c ∷ [] ≡ c ∷ [])
+returns_itself : (v : VersionData) (c : ℕ) (b : Bool) → MatchBool b (ComposesTo v c [] c) (c ∷ [] ≡ c ∷ [])
 returns_itself v c true = refl
 returns_itself v c false = refl
 
-module _ (v : VersionData) (compat : Bool) (c class : ℕ) (apart : Bool) (final : is_final v compat c ≡ true) (same : class ≡ class_of v c) (alone : apart ≡ true → IsApart v c) where
+module _ (v : VersionData) (compat : Bool) (c class : ℕ) (never_second : Bool) (final : is_final v compat c ≡ true) (same : class ≡ class_of v c) (alone : never_second ≡ true → IsNeverSecond v c) where
   itself : IsFullDecomposition v compat (c ∷ []) (c ∷ [])
   itself = record { reached = (0, refl); final = and_from _ _ final refl }
 
-  own-boundary : (form : Form) → is_compat form ≡ compat → parts_under (composes form) (own_hints class apart) ≡ true → IsBoundary v form c
+  own-boundary : (form : Form) → is_compat form ≡ compat → boundary_under (composes form) (own_hints class never_second) ≡ true → IsBoundary v form c
   unfolding boundary-of
   own-boundary form kind is =
-      boundary-of v compat c c [] itself form kind (sym same ∙ starter_of (composes form) class apart is) (λ on. alone (apart_of (composes form) class apart is on))
+      boundary-of v compat c c [] itself form kind (sym same ∙ starter_of (composes form) class never_second is) (λ on. alone (never_second_of (composes form) class never_second is on))
 
-  pub hints-own : AreHints v compat c (own_hints class apart)
+  pub hints-own : AreHints v compat c (own_hints class never_second)
   unfolding own-boundary boundary-of
   hints-own =
       record {
-        parts = own-boundary;
-        stays = λ form kind is. record { boundary = own-boundary form kind (stays_as (composes form) class apart is); rises = tt; returns = returns_itself v c (composes form) };
+        boundary = own-boundary;
+        yes_starter = λ form kind is. record { boundary = own-boundary form kind (yes_as (composes form) class never_second is); rises = tt; returns = returns_itself v c (composes form) };
       }
 
--- ---- all but that it stays where the form composes
+-- ---- all but that it passes where the form composes
 
 abbrev less : Bool → Hints → Hints
-less b h = record { parts = h.parts; parts_composing = h.parts_composing; stays = h.stays; stays_composing = b }
+less b h = record { boundary = h.boundary; boundary_composing = h.boundary_composing; yes_starter = h.yes_starter; yes_starter_composing = b }
 
-parts_less : (b less_is : Bool) (h : Hints) → parts_under b (less less_is h) ≡ true → parts_under b h ≡ true
-parts_less false less_is h is = is
-parts_less true less_is h is = is
+boundary_less : (b less_is : Bool) (h : Hints) → boundary_under b (less less_is h) ≡ true → boundary_under b h ≡ true
+boundary_less false less_is h is = is
+boundary_less true less_is h is = is
 
-stays_less : (b less_is : Bool) (h : Hints) → (less_is ≡ true → h.stays_composing ≡ true) → stays_under b (less less_is h) ≡ true → stays_under b h ≡ true
-stays_less false less_is h only is = is
-stays_less true less_is h only is = only is
+yes_less : (b less_is : Bool) (h : Hints) → (less_is ≡ true → h.yes_starter_composing ≡ true) → yes_under b (less less_is h) ≡ true → yes_under b h ≡ true
+yes_less false less_is h only is = is
+yes_less true less_is h only is = only is
 
-pub hints-less : (v : VersionData) (compat : Bool) (c : ℕ) (h : Hints) (less_is : Bool) → (less_is ≡ true → h.stays_composing ≡ true) → AreHints v compat c h → AreHints v compat c (less less_is h)
+pub hints-less : (v : VersionData) (compat : Bool) (c : ℕ) (h : Hints) (less_is : Bool) → (less_is ≡ true → h.yes_starter_composing ≡ true) → AreHints v compat c h → AreHints v compat c (less less_is h)
 hints-less v compat c h less_is only are =
     record {
-      parts = λ form kind is. are.parts form kind (parts_less (composes form) less_is h is);
-      stays = λ form kind is. are.stays form kind (stays_less (composes form) less_is h only is);
+      boundary = λ form kind is. are.boundary form kind (boundary_less (composes form) less_is h is);
+      yes_starter = λ form kind is. are.yes_starter form kind (yes_less (composes form) less_is h only is);
     }
 
 -- ---- syllables
 
--- a syllable decomposes to a leading consonant and what goes into it
+-- a syllable decomposes to a leading consonant and what composes with it
 pub record Unfolds (v : VersionData) (compat : Bool) (c : ℕ) : Type 0 where
   pub first : ℕ
   pub rest : List ℕ
   pub full : full_of v compat c ≡ first ∷ rest
-  pub lead : is_among 0x1100 19 first ≡ true
+  pub is_leading : is_among 0x1100 19 first ≡ true
   pub rises : NeverFalls (class_of v) rest
-  pub folds : FoldsTo v first rest c
+  pub folds : ComposesTo v first rest c
 
 module _ (v : VersionData) (sound : IsSound v) (on : has_hangul v ≡ true) (compat : Bool) where
   counted : (c : ℕ) → is_syllable c ≡ true → parts v compat c ≡ syllable_pair c
@@ -155,7 +155,7 @@ module _ (v : VersionData) (sound : IsSound v) (on : has_hangul v ≡ true) (com
 
   unfolds-two : (c : ℕ) → IsLv c → Unfolds v compat c
   unfolds-two c is =
-      record { first = is.leading; rest = is.vowel ∷ []; full = lv_full c is; lead = leading c is; rises = tt; folds = (c, pair_composite c is.leading is.vowel is.syllable is.pair, refl) }
+      record { first = is.leading; rest = is.vowel ∷ []; full = lv_full c is; is_leading = leading c is; rises = tt; folds = (c, pair_composite c is.leading is.vowel is.syllable is.pair, refl) }
 
   unfolds-three : (c a b : ℕ) → is_syllable c ≡ true → syllable_pair c ≡ a ∷ b ∷ [] → IsLv a → IsJamo b → Unfolds v compat c
   unfolds-three c a b h pair is jamo =
@@ -164,7 +164,7 @@ module _ (v : VersionData) (sound : IsSound v) (on : has_hangul v ≡ true) (com
         first = is.leading;
         rest = is.vowel ∷ b ∷ [];
         full = pair_full c a b h pair ∙ ap (λ l. l ++ (full_of v compat b ++ [])) (lv_full a is) ∙ ap (λ l. (is.leading ∷ is.vowel ∷ []) ++ (l ++ [])) (jamo_full b jamo);
-        lead = leading a is;
+        is_leading = leading a is;
         rises = (omega arith, tt);
         folds = (a, pair_composite a is.leading is.vowel is.syllable is.pair, (c, pair_composite c a b h pair, refl));
       }
@@ -181,13 +181,13 @@ module _ (v : VersionData) (sound : IsSound v) (on : has_hangul v ≡ true) (com
             unfolds-three c pair.0 pair.1 h pair.2 (lv_shape pair.0 front.0 (eqb-true _ 0 front.1)) (trailing_jamo pair.1 lvt.1)
       ]
 
-  pub hints-syllable : (c : ℕ) → is_syllable c ≡ true → AreLeadsApart v → AreHints v compat c syllable_hints
-  hints-syllable c h leads =
+  pub hints-syllable : (c : ℕ) → is_syllable c ≡ true → AreLeadingNeverSecond v → AreHints v compat c syllable_hints
+  hints-syllable c h leading_consonants =
       let is = unfolds c h in
-      let range = among_bounds 0x1100 19 is.first is.lead in
+      let range = among_bounds 0x1100 19 is.first is.is_leading in
       let back : 0x1100 + (is.first - 0x1100) ≡ is.first = omega arith in
       hints-listed v compat c is.first is.rest (subst (IsFullDecomposition v compat (c ∷ [])) is.full (IsFullDecomposition-full_of v compat sound.shallow c)) syllable_hints
-      refl (λ _. jamo_class is.first (leading_jamo is.first is.lead)) (λ _. refl) (λ _. subst (IsApart v) back (leads (is.first - 0x1100) (omega arith))) (λ _. refl) (λ _. is.rises) (λ _. is.folds)
+      refl (λ _. jamo_class is.first (leading_jamo is.first is.is_leading)) (λ _. refl) (λ _. subst (IsNeverSecond v) back (leading_consonants (is.first - 0x1100) (omega arith))) (λ _. refl) (λ _. is.rises) (λ _. is.folds)
 
 -- ---- both kinds in one number
 
@@ -226,43 +226,43 @@ bit_7 n p q r s ln lp lq lr ls h = omega arith
 
 four_low : (h : Hints) → four_bits h ≤ 15
 four_low h =
-    let p = bit-low h.parts in
-    let q = bit-low h.parts_composing in
-    let r = bit-low h.stays in
-    let s = bit-low h.stays_composing in
+    let p = bit-low h.boundary in
+    let q = bit-low h.boundary_composing in
+    let r = bit-low h.yes_starter in
+    let s = bit-low h.yes_starter_composing in
     omega arith
 
 module _ (a b : Hints) where
-  parts-bit : (form : Form) → has_bit (eight_bits a b) (parts_place form) ≡ true → parts_under (composes form) (if is_compat form then b else a) ≡ true
-  parts-bit Nfd h = bit-one a.parts (bit_0 (bit a.parts) (bit a.parts_composing) (bit a.stays) (bit a.stays_composing) (four_bits b) (bit-low a.parts) (eqb-true _ 1 h))
-  parts-bit Nfc h = bit-one a.parts_composing (bit_1 (bit a.parts) (bit a.parts_composing) (bit a.stays) (bit a.stays_composing) (four_bits b) (bit-low a.parts) (bit-low a.parts_composing) (eqb-true _ 1 h))
-  parts-bit Nfkd h = bit-one b.parts (bit_4 (four_bits a) (bit b.parts) (bit b.parts_composing) (bit b.stays) (bit b.stays_composing) (four_low a) (bit-low b.parts) (eqb-true _ 1 h))
-  parts-bit Nfkc h =
-      bit-one b.parts_composing (bit_5 (four_bits a) (bit b.parts) (bit b.parts_composing) (bit b.stays) (bit b.stays_composing) (four_low a) (bit-low b.parts) (bit-low b.parts_composing) (eqb-true _ 1 h))
+  boundary-bit : (form : Form) → has_bit (eight_bits a b) (boundary_place form) ≡ true → boundary_under (composes form) (if is_compat form then b else a) ≡ true
+  boundary-bit Nfd h = bit-one a.boundary (bit_0 (bit a.boundary) (bit a.boundary_composing) (bit a.yes_starter) (bit a.yes_starter_composing) (four_bits b) (bit-low a.boundary) (eqb-true _ 1 h))
+  boundary-bit Nfc h = bit-one a.boundary_composing (bit_1 (bit a.boundary) (bit a.boundary_composing) (bit a.yes_starter) (bit a.yes_starter_composing) (four_bits b) (bit-low a.boundary) (bit-low a.boundary_composing) (eqb-true _ 1 h))
+  boundary-bit Nfkd h = bit-one b.boundary (bit_4 (four_bits a) (bit b.boundary) (bit b.boundary_composing) (bit b.yes_starter) (bit b.yes_starter_composing) (four_low a) (bit-low b.boundary) (eqb-true _ 1 h))
+  boundary-bit Nfkc h =
+      bit-one b.boundary_composing (bit_5 (four_bits a) (bit b.boundary) (bit b.boundary_composing) (bit b.yes_starter) (bit b.yes_starter_composing) (four_low a) (bit-low b.boundary) (bit-low b.boundary_composing) (eqb-true _ 1 h))
 
-  stays-bit : (form : Form) → has_bit (eight_bits a b) (stays_place form) ≡ true → stays_under (composes form) (if is_compat form then b else a) ≡ true
-  stays-bit Nfd h =
-      bit-one a.stays (bit_2 (bit a.parts) (bit a.parts_composing) (bit a.stays) (bit a.stays_composing) (four_bits b) (bit-low a.parts) (bit-low a.parts_composing) (bit-low a.stays) (eqb-true _ 1 h))
-  stays-bit Nfc h =
-      bit-one a.stays_composing
-      (bit_3 (bit a.parts) (bit a.parts_composing) (bit a.stays) (bit a.stays_composing) (four_bits b) (bit-low a.parts) (bit-low a.parts_composing) (bit-low a.stays) (bit-low a.stays_composing) (eqb-true _ 1 h))
-  stays-bit Nfkd h =
-      bit-one b.stays (bit_6 (four_bits a) (bit b.parts) (bit b.parts_composing) (bit b.stays) (bit b.stays_composing) (four_low a) (bit-low b.parts) (bit-low b.parts_composing) (bit-low b.stays) (eqb-true _ 1 h))
-  stays-bit Nfkc h =
-      bit-one b.stays_composing
-      (bit_7 (four_bits a) (bit b.parts) (bit b.parts_composing) (bit b.stays) (bit b.stays_composing) (four_low a) (bit-low b.parts) (bit-low b.parts_composing) (bit-low b.stays) (bit-low b.stays_composing) (eqb-true _ 1 h))
+  yes_starter-bit : (form : Form) → has_bit (eight_bits a b) (yes_place form) ≡ true → yes_under (composes form) (if is_compat form then b else a) ≡ true
+  yes_starter-bit Nfd h =
+      bit-one a.yes_starter (bit_2 (bit a.boundary) (bit a.boundary_composing) (bit a.yes_starter) (bit a.yes_starter_composing) (four_bits b) (bit-low a.boundary) (bit-low a.boundary_composing) (bit-low a.yes_starter) (eqb-true _ 1 h))
+  yes_starter-bit Nfc h =
+      bit-one a.yes_starter_composing
+      (bit_3 (bit a.boundary) (bit a.boundary_composing) (bit a.yes_starter) (bit a.yes_starter_composing) (four_bits b) (bit-low a.boundary) (bit-low a.boundary_composing) (bit-low a.yes_starter) (bit-low a.yes_starter_composing) (eqb-true _ 1 h))
+  yes_starter-bit Nfkd h =
+      bit-one b.yes_starter (bit_6 (four_bits a) (bit b.boundary) (bit b.boundary_composing) (bit b.yes_starter) (bit b.yes_starter_composing) (four_low a) (bit-low b.boundary) (bit-low b.boundary_composing) (bit-low b.yes_starter) (eqb-true _ 1 h))
+  yes_starter-bit Nfkc h =
+      bit-one b.yes_starter_composing
+      (bit_7 (four_bits a) (bit b.boundary) (bit b.boundary_composing) (bit b.yes_starter) (bit b.yes_starter_composing) (four_low a) (bit-low b.boundary) (bit-low b.boundary_composing) (bit-low b.yes_starter) (bit-low b.yes_starter_composing) (eqb-true _ 1 h))
 
   module _ (v : VersionData) (c : ℕ) (canonical : AreHints v false c a) (compatible : AreHints v true c b) where
-    parts-both : (form : Form) → (k : Bool) → is_compat form ≡ k → parts_under (composes form) (if k then b else a) ≡ true → IsBoundary v form c
-    parts-both form false e is = canonical.parts form e is
-    parts-both form true e is = compatible.parts form e is
+    boundary-both : (form : Form) → (k : Bool) → is_compat form ≡ k → boundary_under (composes form) (if k then b else a) ≡ true → IsBoundary v form c
+    boundary-both form false e is = canonical.boundary form e is
+    boundary-both form true e is = compatible.boundary form e is
 
-    stays-both : (form : Form) → (k : Bool) → is_compat form ≡ k → stays_under (composes form) (if k then b else a) ≡ true → IsYesStarter v form c
-    stays-both form false e is = canonical.stays form e is
-    stays-both form true e is = compatible.stays form e is
+    yes_starter-both : (form : Form) → (k : Bool) → is_compat form ≡ k → yes_under (composes form) (if k then b else a) ≡ true → IsYesStarter v form c
+    yes_starter-both form false e is = canonical.yes_starter form e is
+    yes_starter-both form true e is = compatible.yes_starter form e is
 
     pub bits-hints : AreBits v c (eight_bits a b)
-    bits-hints = record { parts = λ form is. parts-both form (is_compat form) refl (parts-bit form is); stays = λ form is. stays-both form (is_compat form) refl (stays-bit form is) }
+    bits-hints = record { boundary = λ form is. boundary-both form (is_compat form) refl (boundary-bit form is); yes_starter = λ form is. yes_starter-both form (is_compat form) refl (yes_starter-bit form is) }
 
 -- ---- the bits of rows
 
@@ -276,11 +276,11 @@ module _ (v : VersionData) (e : Entry) where
       empty_parts v compat c (and_right (has_hangul v) (is_syllable c) (no_syllable c e within.0 within.1 far)) (ap is_empty (file_mapping-found v c e found ∙ none)) in
       bits-hints own own v c (each false c found (final false)) (each true c found (final true))
 
-  pub bits-syllables : IsSound v → has_hangul v ≡ true → AreLeadsApart v → 0xAC00 ≤ e.first → e.last ≤ 0xD7A3 → AreRowBits v e (eight_bits syllable_hints syllable_hints)
-  bits-syllables sound on leads low high c found =
+  pub bits-syllables : IsSound v → has_hangul v ≡ true → AreLeadingNeverSecond v → 0xAC00 ≤ e.first → e.last ≤ 0xD7A3 → AreRowBits v e (eight_bits syllable_hints syllable_hints)
+  bits-syllables sound on leading_consonants low high c found =
       let within = entry_at-within v.entries c e found in
       let is : is_syllable c ≡ true = among_from_bounds 0xAC00 11172 c (omega arith) (omega arith) in
-      bits-hints syllable_hints syllable_hints v c (hints-syllable v sound on false c is leads) (hints-syllable v sound on true c is leads)
+      bits-hints syllable_hints syllable_hints v c (hints-syllable v sound on false c is leading_consonants) (hints-syllable v sound on true c is leading_consonants)
 
   -- a code point with a mapping stands alone
   pub bits-mapped : (canonical compatible : Hints) → IsRow e → e.mapping ≢ [] → AreHints v false e.first canonical → AreHints v true e.first compatible → AreRowBits v e (eight_bits canonical compatible)
@@ -309,5 +309,5 @@ module _ (v : VersionData) (e : Entry) where
 -- a code point that no row has
 pub bits-unlisted : (v : VersionData) (c : ℕ) → IsSound v → entry_at v.entries c ≡ None → 0 ≡ class_of v c → ((compat : Bool) → is_final v compat c ≡ true) → AreBits v c 255
 bits-unlisted v c sound none class final =
-    let alone = apart-unlisted v c sound none in
+    let alone = never_second-unlisted v c sound none in
     bits-hints (own_hints 0 true) (own_hints 0 true) v c (hints-own v false c 0 true (final false) class (λ _. alone)) (hints-own v true c 0 true (final true) class (λ _. alone))

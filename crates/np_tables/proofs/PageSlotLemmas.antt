@@ -2,54 +2,54 @@
 use Rattle.std.proofs.Common.{◌≡◌, ℕ, ◌+◌, ◌<◌, ◌≤◌, Bool, true, false, List, [], ◌∷◌, ◌++◌, length, map, take, get_or, slice_index, Some, refl, sym, ap, subst, ◌∙◌, arith, inl, inr}
 use Rattle.np_tables.proofs.Words.{slice_get, cases_lt, get_or_append_left, length-append, length-map, map_push}
 use Rattle.np_tables.proofs.Words.{All-push, get_or-append_seam, take-append_seam, same_Some, Entry, VersionData}
-use Rattle.np_tables.proofs.Words.{entry_at, is_empty, Part, table_full, FullLists, of_kind, part_of, IsPart, AreParts}
+use Rattle.np_tables.proofs.Words.{entry_at, is_empty, CodeRange, table_full, FullLists, of_kind, code_range_of, IsCodeRange, AreCodeRanges}
 use Rattle.np_tables.proofs.Words.{lists_of, IsSlotPushed, IsSlot, AreSlots, AreSlotsSoFar}
 use Rattle.np_tables.proofs.FileRowLemmas.{file_mapping-found}
-use Rattle.np_tables.proofs.FullListLemmas.{part_of-grown, parts-grown, AreParts-grown, part_of-new, lent-outside}
+use Rattle.np_tables.proofs.FullListLemmas.{code_range_of-grown, parts-grown, AreCodeRanges-grown, code_range_of-new, lent-outside}
 
 -- ---- one slot more
 
 -- the lists behind the old code points are a and b, or a alone where b is the same
-module _ (v : VersionData) (c : ℕ) (old a b : List ℕ) (canonical compatible : List Part) (one two : Part) where
-  pub pushed-two : AreParts old canonical → AreParts old compatible → a ≡ table_full v false c → b ≡ table_full v true c →
+module _ (v : VersionData) (c : ℕ) (old a b : List ℕ) (canonical compatible : List CodeRange) (one two : CodeRange) where
+  pub pushed-two : AreCodeRanges old canonical → AreCodeRanges old compatible → a ≡ table_full v false c → b ≡ table_full v true c →
       one.start ≡ length old → one.end ≡ length (old ++ a) → two.start ≡ length (old ++ a) → two.end ≡ length ((old ++ a) ++ b) →
       IsSlotPushed v c old canonical compatible ((old ++ a) ++ b) (canonical ++ one ∷ []) (compatible ++ two ∷ [])
   pushed-two in_canonical in_compatible first second start middle start_two end =
       let size_a = length-append old a in
       let size_b = length-append (old ++ a) b in
-      let one_fits : IsPart (length (old ++ a)) one = (omega arith, omega arith) in
-      let grown = AreParts-grown (old ++ a) b canonical (AreParts-grown old a canonical in_canonical) in
-      let grown_two = AreParts-grown (old ++ a) b compatible (AreParts-grown old a compatible in_compatible) in
+      let one_fits : IsCodeRange (length (old ++ a)) one = (omega arith, omega arith) in
+      let grown = AreCodeRanges-grown (old ++ a) b canonical (AreCodeRanges-grown old a canonical in_canonical) in
+      let grown_two = AreCodeRanges-grown (old ++ a) b compatible (AreCodeRanges-grown old a compatible in_compatible) in
       record {
-        canonical_within = All-push (IsPart (length ((old ++ a) ++ b))) canonical one grown (omega arith, omega arith);
-        compatible_within = All-push (IsPart (length ((old ++ a) ++ b))) compatible two grown_two (omega arith, omega arith);
-        canonical_grown = map_push (part_of ((old ++ a) ++ b)) canonical one
-            ∙ ap (λ l. l ++ part_of ((old ++ a) ++ b) one ∷ []) (parts-grown (old ++ a) b canonical (AreParts-grown old a canonical in_canonical) ∙ parts-grown old a canonical in_canonical)
-            ∙ ap (λ l. map (part_of old) canonical ++ l ∷ []) (part_of-grown (old ++ a) b one one_fits ∙ part_of-new old a one start middle ∙ first);
-        compatible_grown = map_push (part_of ((old ++ a) ++ b)) compatible two
-            ∙ ap (λ l. l ++ part_of ((old ++ a) ++ b) two ∷ []) (parts-grown (old ++ a) b compatible (AreParts-grown old a compatible in_compatible) ∙ parts-grown old a compatible in_compatible)
-            ∙ ap (λ l. map (part_of old) compatible ++ l ∷ []) (part_of-new (old ++ a) b two start_two end ∙ second);
+        canonical_within = All-push (IsCodeRange (length ((old ++ a) ++ b))) canonical one grown (omega arith, omega arith);
+        compatible_within = All-push (IsCodeRange (length ((old ++ a) ++ b))) compatible two grown_two (omega arith, omega arith);
+        canonical_grown = map_push (code_range_of ((old ++ a) ++ b)) canonical one
+            ∙ ap (λ l. l ++ code_range_of ((old ++ a) ++ b) one ∷ []) (parts-grown (old ++ a) b canonical (AreCodeRanges-grown old a canonical in_canonical) ∙ parts-grown old a canonical in_canonical)
+            ∙ ap (λ l. map (code_range_of old) canonical ++ l ∷ []) (code_range_of-grown (old ++ a) b one one_fits ∙ code_range_of-new old a one start middle ∙ first);
+        compatible_grown = map_push (code_range_of ((old ++ a) ++ b)) compatible two
+            ∙ ap (λ l. l ++ code_range_of ((old ++ a) ++ b) two ∷ []) (parts-grown (old ++ a) b compatible (AreCodeRanges-grown old a compatible in_compatible) ∙ parts-grown old a compatible in_compatible)
+            ∙ ap (λ l. map (code_range_of old) compatible ++ l ∷ []) (code_range_of-new (old ++ a) b two start_two end ∙ second);
       }
 
-  pub pushed-one : AreParts old canonical → AreParts old compatible → a ≡ table_full v false c → b ≡ table_full v true c →
-      one.start ≡ length old → one.end ≡ length (old ++ a) → two.start ≡ length (old ++ a) → two.end ≡ length ((old ++ a) ++ b) → part_of ((old ++ a) ++ b) one ≡ part_of ((old ++ a) ++ b) two →
+  pub pushed-one : AreCodeRanges old canonical → AreCodeRanges old compatible → a ≡ table_full v false c → b ≡ table_full v true c →
+      one.start ≡ length old → one.end ≡ length (old ++ a) → two.start ≡ length (old ++ a) → two.end ≡ length ((old ++ a) ++ b) → code_range_of ((old ++ a) ++ b) one ≡ code_range_of ((old ++ a) ++ b) two →
       IsSlotPushed v c old canonical compatible (old ++ a) (canonical ++ one ∷ []) (compatible ++ one ∷ [])
   pushed-one in_canonical in_compatible first second start middle start_two end same =
       let size_a = length-append old a in
-      let one_fits : IsPart (length (old ++ a)) one = (omega arith, omega arith) in
-      let alike : a ≡ b = sym (part_of-new old a one start middle) ∙ sym (part_of-grown (old ++ a) b one one_fits) ∙ same ∙ part_of-new (old ++ a) b two start_two end in
-      let push : (kept : List Part) → AreParts old kept → map (part_of (old ++ a)) (kept ++ one ∷ []) ≡ map (part_of old) kept ++ a ∷ [] = λ kept within.
-      map_push (part_of (old ++ a)) kept one
-      ∙ ap (λ l. l ++ part_of (old ++ a) one ∷ []) (parts-grown old a kept within)
-      ∙ ap (λ l. map (part_of old) kept ++ l ∷ []) (part_of-new old a one start middle) in
+      let one_fits : IsCodeRange (length (old ++ a)) one = (omega arith, omega arith) in
+      let alike : a ≡ b = sym (code_range_of-new old a one start middle) ∙ sym (code_range_of-grown (old ++ a) b one one_fits) ∙ same ∙ code_range_of-new (old ++ a) b two start_two end in
+      let push : (kept : List CodeRange) → AreCodeRanges old kept → map (code_range_of (old ++ a)) (kept ++ one ∷ []) ≡ map (code_range_of old) kept ++ a ∷ [] = λ kept within.
+      map_push (code_range_of (old ++ a)) kept one
+      ∙ ap (λ l. l ++ code_range_of (old ++ a) one ∷ []) (parts-grown old a kept within)
+      ∙ ap (λ l. map (code_range_of old) kept ++ l ∷ []) (code_range_of-new old a one start middle) in
       record {
-        canonical_within = All-push (IsPart (length (old ++ a))) canonical one (AreParts-grown old a canonical in_canonical) one_fits;
-        compatible_within = All-push (IsPart (length (old ++ a))) compatible one (AreParts-grown old a compatible in_compatible) one_fits;
-        canonical_grown = push canonical in_canonical ∙ ap (λ l. map (part_of old) canonical ++ l ∷ []) first;
-        compatible_grown = push compatible in_compatible ∙ ap (λ l. map (part_of old) compatible ++ l ∷ []) (alike ∙ second);
+        canonical_within = All-push (IsCodeRange (length (old ++ a))) canonical one (AreCodeRanges-grown old a canonical in_canonical) one_fits;
+        compatible_within = All-push (IsCodeRange (length (old ++ a))) compatible one (AreCodeRanges-grown old a compatible in_compatible) one_fits;
+        canonical_grown = push canonical in_canonical ∙ ap (λ l. map (code_range_of old) canonical ++ l ∷ []) first;
+        compatible_grown = push compatible in_compatible ∙ ap (λ l. map (code_range_of old) compatible ++ l ∷ []) (alike ∙ second);
       }
 
-pub pushed-apart : (v : VersionData) (c : ℕ) (old mid new : List ℕ) (canonical compatible new_canonical new_compatible : List Part) (one two : Part) → AreParts old canonical → AreParts old compatible →
+pub pushed-apart : (v : VersionData) (c : ℕ) (old mid new : List ℕ) (canonical compatible new_canonical new_compatible : List CodeRange) (one two : CodeRange) → AreCodeRanges old canonical → AreCodeRanges old compatible →
     mid ≡ old ++ table_full v false c → new ≡ mid ++ table_full v true c → one.start ≡ length old → one.end ≡ length mid → two.start ≡ length mid → two.end ≡ length new →
     new_canonical ≡ canonical ++ one ∷ [] → new_compatible ≡ compatible ++ two ∷ [] → IsSlotPushed v c old canonical compatible new new_canonical new_compatible
 pushed-apart v c old mid new canonical compatible new_canonical new_compatible one two in_canonical in_compatible first second start middle start_two end grown grown_two =
@@ -61,8 +61,8 @@ pushed-apart v c old mid new canonical compatible new_canonical new_compatible o
     (subst (λ n. IsSlotPushed v c old canonical compatible n (canonical ++ one ∷ []) (compatible ++ two ∷ [])) (sym whole)
     (pushed-two v c old a b canonical compatible one two in_canonical in_compatible refl refl start (middle ∙ ap length first) (start_two ∙ ap length first) (end ∙ ap length whole))))
 
-pub pushed-shared : (v : VersionData) (c : ℕ) (old mid new kept : List ℕ) (canonical compatible new_canonical new_compatible : List Part) (one two : Part) → AreParts old canonical → AreParts old compatible →
-    mid ≡ old ++ table_full v false c → new ≡ mid ++ table_full v true c → one.start ≡ length old → one.end ≡ length mid → two.start ≡ length mid → two.end ≡ length new → part_of new one ≡ part_of new two → kept ≡ take one.end new →
+pub pushed-shared : (v : VersionData) (c : ℕ) (old mid new kept : List ℕ) (canonical compatible new_canonical new_compatible : List CodeRange) (one two : CodeRange) → AreCodeRanges old canonical → AreCodeRanges old compatible →
+    mid ≡ old ++ table_full v false c → new ≡ mid ++ table_full v true c → one.start ≡ length old → one.end ≡ length mid → two.start ≡ length mid → two.end ≡ length new → code_range_of new one ≡ code_range_of new two → kept ≡ take one.end new →
     new_canonical ≡ canonical ++ one ∷ [] → new_compatible ≡ compatible ++ one ∷ [] → IsSlotPushed v c old canonical compatible kept new_canonical new_compatible
 pushed-shared v c old mid new kept canonical compatible new_canonical new_compatible one two in_canonical in_compatible first second start middle start_two end same cut grown grown_two =
     let a = table_full v false c in
@@ -73,7 +73,7 @@ pushed-shared v c old mid new kept canonical compatible new_canonical new_compat
     (subst (λ k. IsSlotPushed v c old canonical compatible kept (canonical ++ one ∷ []) k) (sym grown_two)
     (subst (λ n. IsSlotPushed v c old canonical compatible n (canonical ++ one ∷ []) (compatible ++ one ∷ [])) (sym front)
     (pushed-one v c old a b canonical compatible one two in_canonical in_compatible refl refl start (middle ∙ ap length first) (start_two ∙ ap length first) (end ∙ ap length whole)
-    (subst (λ n. part_of n one ≡ part_of n two) whole same))))
+    (subst (λ n. code_range_of n one ≡ code_range_of n two) whole same))))
 
 -- ---- the slots of all rows
 
@@ -111,7 +111,7 @@ keep_all : (lists : FullLists) → KeepLists lists lists
 keep_all lists = record { longer = λ compat. omega arith; same = λ compat k lt. refl }
 
 -- a row without a mapping
-pub slots-bare : (v : VersionData) (count : ℕ) (codes : List ℕ) (canonical compatible : List Part) (slots : List ℕ) (e : Entry) → AreSlotsSoFar v count codes canonical compatible slots → slice_get v.entries count ≡ Some e →
+pub slots-bare : (v : VersionData) (count : ℕ) (codes : List ℕ) (canonical compatible : List CodeRange) (slots : List ℕ) (e : Entry) → AreSlotsSoFar v count codes canonical compatible slots → slice_get v.entries count ≡ Some e →
     entry_at v.entries e.first ≡ Some e → is_empty e.mapping ≡ true → AreSlotsSoFar v (count + 1) codes canonical compatible (slots ++ 0 ∷ [])
 slots-bare v count codes canonical compatible slots e so_far here found none =
     let few = so_far.few in
@@ -147,11 +147,11 @@ module _ (old new : FullLists) (a b : List ℕ) (one : new.canonical ≡ old.can
   within-pushed both false = let more = longer-pushed false in omega arith
   within-pushed both true = let more = longer-pushed true in omega arith
 
-length-parts : (codes : List ℕ) (ps : List Part) → length (map (part_of codes) ps) ≡ length ps
-length-parts codes ps = length-map ps (part_of codes)
+length-parts : (codes : List ℕ) (ps : List CodeRange) → length (map (code_range_of codes) ps) ≡ length ps
+length-parts codes ps = length-map ps (code_range_of codes)
 
 -- a row with one
-pub slots-pushed : (v : VersionData) (count : ℕ) (old codes : List ℕ) (old_canonical old_compatible canonical compatible : List Part) (slots : List ℕ) (slot : ℕ) (e : Entry) → AreSlotsSoFar v count old old_canonical old_compatible slots →
+pub slots-pushed : (v : VersionData) (count : ℕ) (old codes : List ℕ) (old_canonical old_compatible canonical compatible : List CodeRange) (slots : List ℕ) (slot : ℕ) (e : Entry) → AreSlotsSoFar v count old old_canonical old_compatible slots →
     IsSlotPushed v e.first old old_canonical old_compatible codes canonical compatible → slice_get v.entries count ≡ Some e → slot ≡ length old_canonical →
     AreSlotsSoFar v (count + 1) codes canonical compatible (slots ++ slot ∷ [])
 slots-pushed v count old codes old_canonical old_compatible canonical compatible slots slot e so_far pushed here is =
@@ -181,7 +181,7 @@ slots-pushed v count old codes old_canonical old_compatible canonical compatible
     }
 
 -- the same lists by other names
-pub slots-moved : (v : VersionData) (count : ℕ) (codes codes2 : List ℕ) (canonical canonical2 compatible compatible2 : List Part) (slots slots2 : List ℕ) → codes2 ≡ codes → canonical2 ≡ canonical → compatible2 ≡ compatible → slots2 ≡ slots →
+pub slots-moved : (v : VersionData) (count : ℕ) (codes codes2 : List ℕ) (canonical canonical2 compatible compatible2 : List CodeRange) (slots slots2 : List ℕ) → codes2 ≡ codes → canonical2 ≡ canonical → compatible2 ≡ compatible → slots2 ≡ slots →
     AreSlotsSoFar v count codes canonical compatible slots → AreSlotsSoFar v count codes2 canonical2 compatible2 slots2
 slots-moved v count codes codes2 canonical canonical2 compatible compatible2 slots slots2 one two three four so_far =
     subst (λ l. AreSlotsSoFar v count l canonical2 compatible2 slots2) (sym one)

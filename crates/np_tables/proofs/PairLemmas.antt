@@ -1,7 +1,7 @@
 -- Composites in the order of their pairs.
 use Rattle.std.proofs.Common.{◌≡◌, ℕ, ◌+◌, ◌<◌, ◌≤◌, ◌⊎◌, true, false, nat_lt, nat_eq, List, length, get_or, Some, sym, ap, ◌∙◌, arith, inl, inr}
 use Rattle.np_tables.proofs.Words.{cases_order, cases_lt, cond-true, cond-false, lt-ltb, le-ltb, eq-eqb, get_or_default}
-use Rattle.np_tables.proofs.Words.{slice_get-get_or, All, AllWithin, Composite, Lists, StandsAt, pair_rank, rank}
+use Rattle.np_tables.proofs.Words.{slice_get-get_or, All, AllWithin, Composite, Lists, IsCompositeAt, pair_rank, rank}
 use Rattle.np_tables.proofs.Words.{IsInRange, AreOrdered}
 use Rattle.std.proofs.lemmas.Bool.Decides.{nat_tests}
 use Rattle.std.proofs.lemmas.List.Sorted.{IsNonDecreasingBy-from_all_adjacent, All-permutation}
@@ -81,7 +81,7 @@ module _ (cs : List Composite) (order : AreOrdered cs) where
       omega arith
 
   -- where a pair stands anywhere, it stands at the first place with no earlier pair
-  pub lists-place : (a b at : ℕ) → a < 0x110000 → b < 0x110000 → AllWithin (λ c. pair_rank c.first c.second < pair_rank a b) cs 0 at → AllWithin (λ c. pair_rank a b ≤ pair_rank c.first c.second) cs at (length cs) → (code : ℕ) → Lists cs a b code → (own : ℕ) × StandsAt cs at a b own
+  pub lists-place : (a b at : ℕ) → a < 0x110000 → b < 0x110000 → AllWithin (λ c. pair_rank c.first c.second < pair_rank a b) cs 0 at → AllWithin (λ c. pair_rank a b ≤ pair_rank c.first c.second) cs at (length cs) → (code : ℕ) → Lists cs a b code → (own : ℕ) × IsCompositeAt cs at a b own
   lists-place a b at in_a in_b below above code has =
       let d : Composite = record { first = a; second = b; code = code } in
       let same = ap (λ (c : Composite). pair_rank c.first c.second) has.2 in

@@ -6,8 +6,8 @@ use Rattle.np_tables.proofs.Words.{Plain, Canonical, Compatibility, is_syllable,
 use Rattle.np_tables.proofs.Words.{class_of, file_kind, file_mapping, mapping_in, kind_in, is_canonical, is_empty}
 use Rattle.np_tables.proofs.Words.{is_excluded, decomposition_kind, decomposition_mapping, has_hangul, is_assigned}
 use Rattle.np_tables.proofs.Words.{is_starter_pair, is_primary, IsPrimary, IsCompositeOf, list_all, slice_get, is_some}
-use Rattle.np_tables.proofs.Words.{slice_get-get_or, IsSound, Composite, IsApart, is_late_jamo, AreSecondRows}
-use Rattle.np_tables.proofs.Words.{AreSeconds, is_row_apart, touches, AreOfFile}
+use Rattle.np_tables.proofs.Words.{slice_get-get_or, IsSound, Composite, IsNeverSecond, is_late_jamo, AreSecondRows}
+use Rattle.np_tables.proofs.Words.{AreSeconds, is_row_never_second, touches, AreOfFile}
 use Rattle.np_tables.specs.inside.Accessors.{is_file_primary}
 use Rattle.np_code_points.proofs.HangulLemmas.{among_bounds, pair_kinds}
 use Rattle.np_tables.proofs.RowLemmas.{entry_at-row, entry_at-within}
@@ -88,8 +88,8 @@ assigned-none : (v : VersionData) (c : ℕ) → entry_at v.entries c ≡ None �
 unfolding is_assigned
 assigned-none v c h = ap is_some h
 
-pub apart-unlisted : (v : VersionData) (c : ℕ) → IsSound v → entry_at v.entries c ≡ None → IsApart v c
-apart-unlisted v c sound none a p is = both_ways _ (assigned-none v c none) (second_assigned v sound a c p is)
+pub never_second-unlisted : (v : VersionData) (c : ℕ) → IsSound v → entry_at v.entries c ≡ None → IsNeverSecond v c
+never_second-unlisted v c sound none a p is = both_ways _ (assigned-none v c none) (second_assigned v sound a c p is)
 
 -- the second part of a syllable is a vowel or a trailing consonant
 late_jamo : (v : VersionData) (a c p : ℕ) → (has_hangul v && is_syllable p) ≡ true → IsCompositeOf v a c p → (0x1161 ≤ c) × (c ≤ 0x11C2)
@@ -102,28 +102,28 @@ late_jamo v a c p on is =
 
 -- a row that isn't marked
 module _ (v : VersionData) (seconds : List Bool) (marks : AreSeconds v seconds) (k : ℕ) (e : Entry) (here : slice_get v.entries k ≡ Some e) (c : ℕ) (found : entry_at v.entries c ≡ Some e) (none : get_or seconds k false ≡ false) where
-  apart-row : ((0x1161 ≤ c) → (c ≤ 0x11C2) → ⊥) → IsApart v c
-  apart-row early a p is =
+  never_second-row : ((0x1161 ≤ c) → (c ≤ 0x11C2) → ⊥) → IsNeverSecond v c
+  never_second-row early a p is =
       let within = entry_at-within v.entries c e found in
       elim (cases_Bool (has_hangul v && is_syllable p)) [
         | inl on ↦ (let range = late_jamo v a c p on is in early range.0 range.1)
         | inr off ↦ both_ways _ none (marks.each a c p k e is off here within.0 within.1)
       ]
 
-  pub apart-in_row : touches 0x1161 0x11C2 e ≡ false → IsApart v c
-  apart-in_row far =
+  pub never_second-in_row : touches 0x1161 0x11C2 e ≡ false → IsNeverSecond v c
+  never_second-in_row far =
       let within = entry_at-within v.entries c e found in
-      apart-row (λ low high. both_ways _ far (and_from _ _ (le-leb e.first 0x11C2 (omega arith)) (le-leb 0x1161 e.last (omega arith))))
+      never_second-row (λ low high. both_ways _ far (and_from _ _ (le-leb e.first 0x11C2 (omega arith)) (le-leb 0x1161 e.last (omega arith))))
 
-pub row-apart : (v : VersionData) (seconds : List Bool) (k : ℕ) (e : Entry) (c : ℕ) → AreSeconds v seconds → slice_get v.entries k ≡ Some e → entry_at v.entries c ≡ Some e → is_row_apart e (get_or seconds k false) ≡ true → IsApart v c
-row-apart v seconds k e c marks here found is =
+pub row-never_second : (v : VersionData) (seconds : List Bool) (k : ℕ) (e : Entry) (c : ℕ) → AreSeconds v seconds → slice_get v.entries k ≡ Some e → entry_at v.entries c ≡ Some e → is_row_never_second e (get_or seconds k false) ≡ true → IsNeverSecond v c
+row-never_second v seconds k e c marks here found is =
     let both = and_parts (not (get_or seconds k false)) (not (touches 0x1161 0x11C2 e)) is in
-    apart-in_row v seconds marks k e here c found (not-true _ both.0) (not-true _ both.1)
+    never_second-in_row v seconds marks k e here c found (not-true _ both.0) (not-true _ both.1)
 
-pub apart-unmarked : (v : VersionData) (seconds : List Bool) (c at : ℕ) → AreSeconds v seconds → at < length v.entries → slice_get v.entries at ≡ entry_at v.entries c → is_late_jamo c ≡ false → get_or seconds at false ≡ false → IsApart v c
-apart-unmarked v seconds c at marks lt place early none =
+pub never_second-unmarked : (v : VersionData) (seconds : List Bool) (c at : ℕ) → AreSeconds v seconds → at < length v.entries → slice_get v.entries at ≡ entry_at v.entries c → is_late_jamo c ≡ false → get_or seconds at false ≡ false → IsNeverSecond v c
+never_second-unmarked v seconds c at marks lt place early none =
     let here = some_at v.entries at lt in
-    apart-row v seconds marks at here.0 here.1 c (sym place ∙ here.1) none (λ low high. both_ways _ early (and_from _ _ (le-leb 0x1161 c low) (le-leb c 0x11C2 high)))
+    never_second-row v seconds marks at here.0 here.1 c (sym place ∙ here.1) none (λ low high. both_ways _ early (and_from _ _ (le-leb 0x1161 c low) (le-leb c 0x11C2 high)))
 
 -- the marks of all composites are those of all second parts
 pub seconds-all : (v : VersionData) (cs : List Composite) (seconds : List Bool) → AreOfFile v cs → AreSecondRows v.entries cs (length cs) seconds → AreSeconds v seconds

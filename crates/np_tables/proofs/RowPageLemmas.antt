@@ -2,7 +2,7 @@
 use Rattle.std.proofs.Common.{◌≡◌, ℕ, zero, suc, ◌+◌, ◌-◌, ◌*◌, ◌/◌, ◌%◌, ◌<◌, ◌≤◌, ◌⊎◌, List, [], ◌∷◌, ◌++◌, length, slice_index, Option, Some, None, refl, sym, ap, subst, ◌∙◌, arith, inl, inr}
 use Rattle.np_tables.proofs.Words.{slice_get, div-add-mod, mod-lt, cases_lt, get_or_append_left, length-append}
 use Rattle.np_tables.proofs.Words.{get_or-append_seam, none-some, same_Some, slice_get_within, Entry, AreRows, entry_at}
-use Rattle.np_tables.proofs.Words.{word_place, lies_in, IsRowNumber, IsRowBlock, AreRowPages, IsNextRow, AreFirstPages}
+use Rattle.np_tables.proofs.Words.{property_place, lies_in, IsRowNumber, IsRowBlock, AreRowPages, IsNextRow, AreFirstPages}
 use Rattle.np_tables.proofs.Words.{AreBegun, ArePushed, HasNoRow, GoesOn}
 use Rattle.np_tables.proofs.RowLemmas.{at-found, at-row, entry_at-row, entry_at-within, none-found, firsts-le, out_of, below_out}
 
@@ -181,7 +181,7 @@ block_count es blocks numbers at begun =
 
 -- all block numbers are there
 pub pages-all : (es : List Entry) (blocks numbers : List ℕ) (at : ℕ) → AreBegun es blocks numbers at → length blocks ≡ 4352 → AreRowPages es blocks numbers
-unfolding word_place
+unfolding property_place
 pages-all es blocks numbers at begun size =
     record {
       within = record { size = size; each = λ k lt. begun.pages.within k (omega arith) };

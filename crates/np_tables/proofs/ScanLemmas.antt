@@ -1,12 +1,12 @@
--- How far a scan comes by the steps of code points.
+-- How far a scan comes by the quick checks of code points.
 use Rattle.std.proofs.Common.{◌≡◌, ℕ, ◌<◌, ◌≤◌, true, List, Option, ◌++◌, length, length-append, encode_utf8, encode_utf8_all, ap, arith, inl, IsUtf8}
 use Rattle.np_tables.proofs.Words.{IsUtf8-past_char, VersionData, Follows, IsPast, ScansOn, PassesCode}
 use Rattle.np_tables.specs.declared.scans.Scan.{Scan}
-use Rattle.np_tables.proofs.StandingLemmas.{IsWalkedTo-next, IsWalkedTo-past, ascii_follows}
+use Rattle.np_tables.proofs.QuickSpanLemmas.{IsWalkedTo-next, IsWalkedTo-past, ascii_follows}
 
 module _ (s : Scan) where
   abbrev Step : VersionData → Option ℕ → ℕ → ℕ → ℕ → Type 0
-  Step v = Follows v s.least s.index.now s.steps.now s.form
+  Step v = Follows v s.least s.index.now s.quick_checks.now s.form
 
   -- what goes on from there goes on from here
   pub goes-both : (text here rest : List ℕ) (low middle next : ℕ) → ScansOn s text low here middle → ScansOn s here middle rest next → ScansOn s text low rest next
@@ -31,7 +31,7 @@ module _ (s : Scan) where
   -- over ASCII
   pub goes-ascii : (text : List ℕ) (low c : ℕ) (next rest : List ℕ) → s.ascii ≡ true → s.least ≤ low → low ≤ 255 → c < 128 → text ≡ encode_utf8 c ++ next → IsPast (λ d. d < 128) next rest → ScansOn s text low rest s.least
   goes-ascii text low c next rest on le top low_c parts past =
-      let follows = ascii_follows s.least s.index.now s.steps.now s.form (omega arith) (s.ascii_stays on) in
+      let follows = ascii_follows s.least s.index.now s.quick_checks.now s.form (omega arith) (s.ascii_is_yes on) in
       record {
         least = omega arith;
         walks = λ v t last behind walked.

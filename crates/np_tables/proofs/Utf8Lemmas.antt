@@ -34,11 +34,11 @@ pub record BeginsWith (text : List ℕ) (count code : ℕ) : Type 0 where
 
 -- the bytes `front` are the character k
 begins_from : (text : List ℕ) (k : ℕ) (front rest : List ℕ) (count code : ℕ) → IsScalar k → IsUtf8 rest → encode_utf8 k ≡ front → length front ≡ count → k ≡ code → text ≡ front ++ rest → BeginsWith text count code
-begins_from text k front rest count code scalar utf8 spelled size same e =
+begins_from text k front rest count code scalar utf8 encoded size same e =
     let behind : drop count text ≡ rest = ap (λ n. drop n text) (sym size) ∙ ap (drop (length front)) e ∙ drop_at front rest (length front) refl in
     record {
       scalar = subst IsScalar same scalar;
-      parts = e ∙ ap (λ l. l ++ rest) (sym spelled ∙ ap encode_utf8 same) ∙ ap (λ l. encode_utf8 code ++ l) (sym behind);
+      parts = e ∙ ap (λ l. l ++ rest) (sym encoded ∙ ap encode_utf8 same) ∙ ap (λ l. encode_utf8 code ++ l) (sym behind);
       long = omega (arith, ap length e, length-append front rest, size);
       cut = subst (IsCharBoundary text) size (IsCharBoundary-at_seam text front rest e utf8);
     }
@@ -75,19 +75,19 @@ first_byte : (text rest : List ℕ) (x : ℕ) → text ≡ x ∷ rest → get_or
 first_byte text rest x e = ap (λ l. get_or l 0 0) e
 
 pub begins_with_two : (text : List ℕ) → IsUtf8 text → get_or text 0 0 / 32 ≡ 6 → BeginsWith text 2 (get_or text 0 0 % 32 * 64 + get_or text 1 0 % 64)
-begins_with_two text utf8 lead =
-    by_size text utf8 (omega (arith, lead)) (BeginsWith text 2 (get_or text 0 0 % 32 * 64 + get_or text 1 0 % 64))
-    (λ k rest low e. absurd (omega (arith, lead, low, first_byte text _ _ e)))
+begins_with_two text utf8 lead_byte =
+    by_size text utf8 (omega (arith, lead_byte)) (BeginsWith text 2 (get_or text 0 0 % 32 * 64 + get_or text 1 0 % 64))
+    (λ k rest low e. absurd (omega (arith, lead_byte, low, first_byte text _ _ e)))
     (λ k rest low high scalar of_rest e. begins_from text k ((192 + k / 64) ∷ (128 + k % 64) ∷ []) rest 2 _ scalar of_rest (encode_two k low high) refl
     (omega (arith, low, high, first_byte text _ _ e, ap (λ l. get_or l 1 0) e)) e)
-    (λ k rest low high scalar of_rest e. absurd (omega (arith, lead, low, first_byte text _ _ e)))
-    (λ k rest low e. absurd (omega (arith, lead, low, first_byte text _ _ e)))
+    (λ k rest low high scalar of_rest e. absurd (omega (arith, lead_byte, low, first_byte text _ _ e)))
+    (λ k rest low e. absurd (omega (arith, lead_byte, low, first_byte text _ _ e)))
 
 pub begins_with_three : (text : List ℕ) → IsUtf8 text → get_or text 0 0 / 16 ≡ 14 → BeginsWith text 3 (get_or text 0 0 % 16 * 4096 + get_or text 1 0 % 64 * 64 + get_or text 2 0 % 64)
-begins_with_three text utf8 lead =
-    by_size text utf8 (omega (arith, lead)) (BeginsWith text 3 (get_or text 0 0 % 16 * 4096 + get_or text 1 0 % 64 * 64 + get_or text 2 0 % 64))
-    (λ k rest low e. absurd (omega (arith, lead, low, first_byte text _ _ e)))
-    (λ k rest low high scalar of_rest e. absurd (omega (arith, lead, high, first_byte text _ _ e)))
+begins_with_three text utf8 lead_byte =
+    by_size text utf8 (omega (arith, lead_byte)) (BeginsWith text 3 (get_or text 0 0 % 16 * 4096 + get_or text 1 0 % 64 * 64 + get_or text 2 0 % 64))
+    (λ k rest low e. absurd (omega (arith, lead_byte, low, first_byte text _ _ e)))
+    (λ k rest low high scalar of_rest e. absurd (omega (arith, lead_byte, high, first_byte text _ _ e)))
     (λ k rest low high scalar of_rest e. begins_from text k ((224 + k / 4096) ∷ (128 + k / 64 % 64) ∷ (128 + k % 64) ∷ []) rest 3 _ scalar of_rest (encode_three k low high) refl
     (omega (arith, low, high, first_byte text _ _ e, ap (λ l. get_or l 1 0) e, ap (λ l. get_or l 2 0) e)) e)
-    (λ k rest low e. absurd (omega (arith, lead, low, first_byte text _ _ e)))
+    (λ k rest low e. absurd (omega (arith, lead_byte, low, first_byte text _ _ e)))

@@ -33,7 +33,7 @@ unfoldable pub use Rattle.np_code_points.specs.Hangul.{syllable_pair}
 pub use Rattle.np_code_points.specs.declared.forms.Form.{Form}
 pub use Rattle.np_code_points.specs.declared.forms.Form.TheVariants.{Nfc, Nfd, Nfkc, Nfkd}
 pub use Rattle.np_code_points.specs.inside.LineCuts.{after_byte, before_byte, is_byte}
-pub use Rattle.np_tables.specs.Boundaries.{BeginsAtBoundary, FoldsTo, IsBoundary, IsYesStarter, NeverFalls}
+pub use Rattle.np_tables.specs.Boundaries.{BeginsAtBoundary, ComposesTo, IsBoundary, IsYesStarter, NeverFalls}
 pub use Rattle.np_tables.specs.Composites.{IsCompositeOf, IsPrimary}
 pub use Rattle.np_tables.specs.Conditions.{IsSound}
 pub use Rattle.np_tables.specs.Faults.{IsAmbiguous, IsHangulWrong, IsMappedToUnassigned, IsTooDeep, IsTooLong}
@@ -44,8 +44,8 @@ pub use Rattle.np_tables.specs.Versions.{VersionData, class_in, is_canonical, is
 unfoldable pub use Rattle.np_tables.specs.Versions.{all_below, class_of, decomposition_kind, decomposition_mapping}
 unfoldable pub use Rattle.np_tables.specs.Versions.{entry_at, file_kind, file_mapping, has_hangul, is_assigned}
 unfoldable pub use Rattle.np_tables.specs.Versions.{is_excluded, is_hangul_row}
-pub use Rattle.np_tables.specs.declared.fulls.Part.{Part}
-pub use Rattle.np_tables.specs.declared.page_words.Word.{Word}
+pub use Rattle.np_tables.specs.declared.fulls.CodeRange.{CodeRange}
+pub use Rattle.np_tables.specs.declared.page_properties.Properties.{Properties}
 pub use Rattle.np_tables.specs.declared.pairs.Composite.{Composite}
 pub use Rattle.np_tables.specs.inside.CompositeSearch.{is_pair, or_this}
 unfoldable pub use Rattle.np_tables.specs.inside.CompositeSearch.{composite, least_below}
@@ -55,22 +55,22 @@ unfoldable pub use Rattle.np_tables.specs.inside.Depths.{syllable_depth, syllabl
 pub use Rattle.np_tables.specs.inside.FirstFaults.{AreFirsts, IsFirst, IsLeastOf, least_fault, sooner}
 unfoldable pub use Rattle.np_tables.specs.inside.FullDecompositions.{full, full_of, table_full}
 pub use Rattle.np_tables.specs.inside.FullLists.{AreFulls, FullLists, of_kind, row_full}
-pub use Rattle.np_tables.specs.inside.FullParts.{AreParts, IsGrown, IsPart, part_of}
+pub use Rattle.np_tables.specs.inside.FullRanges.{AreCodeRanges, IsCodeRange, IsGrown, code_range_of}
 pub use Rattle.np_tables.specs.inside.HangulRows.{HasAssignedHangul, is_right_entry}
 unfoldable pub use Rattle.np_tables.specs.inside.HangulRows.{hangul_at, is_right_at}
-pub use Rattle.np_tables.specs.inside.LeadBytes.{BeginsWithChar, is_lead}
-pub use Rattle.np_tables.specs.inside.PageHints.{AreBits, AreHints, AreLeadsApart, FoldsBy, IsApart, bit, eight_bits}
-pub use Rattle.np_tables.specs.inside.PageHints.{four_bits, has_bit, is_late_jamo, own_hints, parts_place, parts_under}
-pub use Rattle.np_tables.specs.inside.PageHints.{stays_place, stays_under, syllable_hints}
-pub use Rattle.np_tables.specs.inside.PageWords.{AreFollowing, ArePages, AreRowBits, AreRowWords, AreSecondRows}
-pub use Rattle.np_tables.specs.inside.PageWords.{AreSeconds, AreSlots, AreSlotsSoFar, Follows, FollowsApart}
-pub use Rattle.np_tables.specs.inside.PageWords.{FollowsByStep, IsAsciiStaying, IsKeptApart, IsPast, IsRowWord, IsSlot}
-pub use Rattle.np_tables.specs.inside.PageWords.{IsSlotPushed, IsWalkedTo, IsWord, PassesApart, is_row_apart}
-pub use Rattle.np_tables.specs.inside.PageWords.{last_behind, lists_of, no_word, paged_words, touches}
-unfoldable pub use Rattle.np_tables.specs.inside.PageWords.{row_word}
+pub use Rattle.np_tables.specs.inside.LeadBytes.{BeginsWithChar, is_lead_byte}
+pub use Rattle.np_tables.specs.inside.PageHints.{AreBits, AreHints, AreLeadingNeverSecond, ComposesByPairs, IsNeverSecond, bit, eight_bits}
+pub use Rattle.np_tables.specs.inside.PageHints.{boundary_place, boundary_under, four_bits, has_bit, is_late_jamo, own_hints}
+pub use Rattle.np_tables.specs.inside.PageHints.{syllable_hints, yes_place, yes_under}
+pub use Rattle.np_tables.specs.inside.PageProperties.{AreAllRowProperties, AreFollowing, ArePages, AreRowBits, AreSecondRows}
+pub use Rattle.np_tables.specs.inside.PageProperties.{AreSeconds, AreSlots, AreSlotsSoFar, Follows, FollowsUncomposed}
+pub use Rattle.np_tables.specs.inside.PageProperties.{AreRowProperties, CannotComposeByProperties, FollowsByQuickCheck, IsAsciiYes, IsPast, IsSlot}
+pub use Rattle.np_tables.specs.inside.PageProperties.{ArePropertiesOf, IsSlotPushed, IsWalkedTo, PassesUncomposed, is_row_never_second}
+pub use Rattle.np_tables.specs.inside.PageProperties.{last_behind, lists_of, no_properties, paged_properties, touches}
+unfoldable pub use Rattle.np_tables.specs.inside.PageProperties.{row_properties}
 pub use Rattle.np_tables.specs.inside.Pages.{AreWithin}
-unfoldable pub use Rattle.np_tables.specs.inside.Pages.{word_place}
-pub use Rattle.np_tables.specs.inside.Pairs.{AreOfFile, AreOrdered, IsInRange, Lists, StandsAt, composites_in, pair_in}
+unfoldable pub use Rattle.np_tables.specs.inside.Pages.{property_place}
+pub use Rattle.np_tables.specs.inside.Pairs.{AreOfFile, AreOrdered, IsCompositeAt, IsInRange, Lists, composites_in, pair_in}
 pub use Rattle.np_tables.specs.inside.Pairs.{pair_rank, rank, slot_at}
 pub use Rattle.np_tables.specs.inside.Primaries.{is_starter_pair}
 unfoldable pub use Rattle.np_tables.specs.inside.Primaries.{is_primary}
@@ -78,10 +78,10 @@ pub use Rattle.np_tables.specs.inside.RowPages.{AreBegun, AreFirstPages, ArePush
 pub use Rattle.np_tables.specs.inside.RowPages.{IsNextRow, IsRowBlock, IsRowNumber}
 pub use Rattle.np_tables.specs.inside.RowPlaces.{lies_in}
 pub use Rattle.np_tables.specs.inside.Scans.{PassesCode, ScansOn}
-pub use Rattle.np_tables.specs.inside.Spellings.{AreSpans, AreSpellings, AreSpellingsSoFar, Composes, ComposesOn}
-pub use Rattle.np_tables.specs.inside.Spellings.{IsFront, IsSpan, IsSpelling, Settles, Writes, span_of}
-pub use Rattle.np_tables.specs.inside.Steps.{all_steps, step_in}
-unfoldable pub use Rattle.np_tables.specs.inside.Steps.{assigned_step, step_of, steps_of}
+pub use Rattle.np_tables.specs.inside.PrecomputedForms.{AreByteRanges, ArePrecomputedForms, ArePrecomputedSoFar, Composes, ComposesOn}
+pub use Rattle.np_tables.specs.inside.PrecomputedForms.{IsByteRange, IsFront, IsPrecomputedForm, Settles, Writes, byte_range_of}
+pub use Rattle.np_tables.specs.inside.QuickChecks.{all_quick_checks, quick_check_in}
+unfoldable pub use Rattle.np_tables.specs.inside.QuickChecks.{assigned_quick_check, quick_check_of, quick_checks_of}
 pub use Rattle.np_tables.specs.inside.Suspects.{HasSmallerTwin, IsAtMost, IsSuspect, least_of}
 pub use Rattle.np_ucd.specs.Entries.{AreRows, Entry, HasLength, IsBefore, IsRow}
 pub use Rattle.np_ucd.specs.Listed.{Span, is_listed}

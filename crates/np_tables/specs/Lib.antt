@@ -6,8 +6,8 @@ pub mod Examples
 pub mod Faults
 pub mod Laws
 pub mod Mappings
-pub mod Spelled
-pub mod Standing
+pub mod Precomputed
+pub mod QuickSpans
 pub mod TableFaults
 pub mod Versions
 pub mod inside

@@ -6,13 +6,13 @@ ghost use Rattle.np_tables.specs.inside.AsciiBytes.{is_ascii_byte};
 
 use std::simd::prelude::*;
 
-/// How many bytes are looked at in one step.
-const STEP: usize = 16;
+/// How many bytes are looked at at once, each in a lane of its own.
+const LANES: usize = 16;
 
-/// How many of the `STEP` bytes from a place on stand before the first that is not ASCII: all where
+/// How many of the `LANES` bytes from a place on stand before the first that is not ASCII: all where
 /// there is none.
 #[inline(always)]
-fn ascii_in_step(bytes: &[u8], from: usize) -> usize
+fn ascii_in_lanes(bytes: &[u8], from: usize) -> usize
     requires { from + 16 ≤ length bytes.now }
     ensures { result ≡ prefix_len is_ascii_byte (chunk from 16 bytes.now) }
 {
@@ -20,7 +20,7 @@ fn ascii_in_step(bytes: &[u8], from: usize) -> usize
         .simd_ge(u8x16::splat(0x80))
         .to_bitmask();
     if others == 0 {
-        STEP
+        LANES
     } else {
         others.trailing_zeros() as usize
     }
@@ -34,12 +34,12 @@ pub fn ascii_front(bytes: &[u8]) -> usize
     ensures ascii { IsAscii (take result bytes.now) }
 {
     let mut at = 0;
-    while bytes.len() - at >= STEP {
-        let passed = ascii_in_step(bytes, at);
-        if passed < STEP {
+    while bytes.len() - at >= LANES {
+        let passed = ascii_in_lanes(bytes, at);
+        if passed < LANES {
             return at + passed;
         }
-        at += STEP;
+        at += LANES;
     }
     at
 }

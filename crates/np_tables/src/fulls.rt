@@ -5,7 +5,7 @@ ghost use Rattle.np_ucd.specs.RowValues.{entry_of};
 ghost use Rattle.np_tables.specs.Mappings.{counts};
 ghost use Rattle.np_tables.specs.inside.FullDecompositions.{full, table_full};
 ghost use Rattle.np_tables.specs.inside.FullLists.{row_full};
-ghost use Rattle.np_tables.specs.inside.FullParts.{AreParts, IsGrown, part_of};
+ghost use Rattle.np_tables.specs.inside.FullRanges.{AreCodeRanges, IsGrown, code_range_of};
 ghost use Rattle.np_tables.specs.Versions.{entry_at, file_kind, file_mapping, is_empty};
 
 use crate::characters::CharacterData;
@@ -19,9 +19,9 @@ use std::marker::Model;
 /// The greatest depth of a mapping.
 const DEPTH: usize = 32;
 
-/// A part of a flat list: from the place `start` up to the place `end`.
+/// A range of a flat list: from the place `start` up to the place `end`.
 #[derive(Clone, Copy, Debug)]
-pub(crate) struct Part {
+pub(crate) struct CodeRange {
     /// The place of its first code point.
     pub start: usize,
     /// The place behind its last one.
@@ -32,8 +32,8 @@ pub(crate) struct Part {
 #[derive(Debug, Drop)]
 pub(crate) struct Fulls {
     pub(crate) codes: Vec<char>,
-    pub(crate) canonical: Vec<Part>,
-    pub(crate) compatible: Vec<Part>,
+    pub(crate) canonical: Vec<CodeRange>,
+    pub(crate) compatible: Vec<CodeRange>,
 }
 
 impl Model for Fulls {
@@ -42,11 +42,14 @@ impl Model for Fulls {
 
     ghost Value = { FullLists };
 
-    ghost use Rattle.np_tables.specs.inside.FullParts.{part_of, AreParts};
+    ghost use Rattle.np_tables.specs.inside.FullRanges.{code_range_of, AreCodeRanges};
 
-    ghost view = { λ a. record { canonical = map (part_of a.codes.items) a.canonical.items; compatible = map (part_of a.codes.items) a.compatible.items } };
+    ghost view = { λ a. record {
+      canonical = map (code_range_of a.codes.items) a.canonical.items;
+      compatible = map (code_range_of a.codes.items) a.compatible.items;
+    } };
 
-    ghost invariant = { λ a. AreParts a.codes.items a.canonical.items × AreParts a.codes.items a.compatible.items };
+    ghost invariant = { λ a. AreCodeRanges a.codes.items a.canonical.items × AreCodeRanges a.codes.items a.compatible.items };
 }
 
 impl Fulls {
@@ -58,8 +61,8 @@ impl Fulls {
         ensures { IfOk result (AreFulls characters.now) }
     {
         let mut codes = Vec::new(alloc);
-        let canonical = full_parts(alloc, characters, false, &mut codes)?;
-        let compatible = full_parts(alloc, characters, true, &mut codes)?;
+        let canonical = full_ranges(alloc, characters, false, &mut codes)?;
+        let compatible = full_ranges(alloc, characters, true, &mut codes)?;
         Ok(Fulls {
             codes,
             canonical,
@@ -169,23 +172,23 @@ pub(crate) fn push_full(
     Ok(())
 }
 
-/// Appends what a table lends for the code point of each row, and answers the parts.
-fn full_parts(
+/// Appends what a table lends for the code point of each row, and answers the ranges.
+fn full_ranges(
     alloc: Global,
     characters: &CharacterData,
     compat: bool,
     codes: &mut Vec<char>,
-) -> Result<Vec<Part>, Memory>
+) -> Result<Vec<CodeRange>, Memory>
     ensures grown { IfOk result (λ _. IsGrown codes.old.items codes.new.items) }
-    ensures parts { IfOk result (λ parts. AreParts codes.new.items parts.items) }
-    ensures lists { IfOk result (λ parts. map (part_of codes.new.items) parts.items ≡ map (row_full characters.now compat) characters.now.entries) }
+    ensures parts { IfOk result (λ parts. AreCodeRanges codes.new.items parts.items) }
+    ensures lists { IfOk result (λ parts. map (code_range_of codes.new.items) parts.items ≡ map (row_full characters.now compat) characters.now.entries) }
 {
     let mut parts = Vec::with_capacity(alloc, characters.len())?;
     for at in 0..characters.len() {
         let start = codes.len();
         push_full(characters, compat, row_in(characters, at), codes)?;
         let end = codes.len();
-        parts.push(Part { start, end })?;
+        parts.push(CodeRange { start, end })?;
     }
     Ok(parts)
 }

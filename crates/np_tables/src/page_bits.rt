@@ -2,8 +2,8 @@
 ghost use Rattle.std.specs.Prelude.{◌≡◌, ◌≢◌, ◌<◌, [], ℕ, Bool, length, slice_get, true, false, IsTrue, Some};
 ghost use Rattle.np_tables.specs.Mappings.{is_final};
 ghost use Rattle.np_tables.specs.Versions.{entry_at, has_hangul};
-ghost use Rattle.np_tables.specs.inside.PageHints.{AreHints, AreLeadsApart};
-ghost use Rattle.np_tables.specs.inside.PageWords.{AreRowBits, AreSeconds, IsSlot, is_row_apart as spec_is_row_apart, touches as spec_touches};
+ghost use Rattle.np_tables.specs.inside.PageHints.{AreHints, AreLeadingNeverSecond};
+ghost use Rattle.np_tables.specs.inside.PageProperties.{AreRowBits, AreSeconds, IsSlot, is_row_never_second as spec_is_row_never_second, touches as spec_touches};
 ghost use Rattle.np_ucd.specs.Entries.{Entry, IsRow};
 ghost use Rattle.np_ucd.specs.RowValues.{entry_of};
 
@@ -24,8 +24,8 @@ fn touches(row: &Row, first: u32, last: u32) -> bool
 
 /// Whether no code point of a row is the second part of a primary composite: that of a syllable
 /// stands from 1161 to 11C2.
-pub(crate) fn is_row_apart(row: &Row, second: bool) -> bool
-    ensures { result ≡ spec_is_row_apart (entry_of row.now) second }
+pub(crate) fn is_row_never_second(row: &Row, second: bool) -> bool
+    ensures { result ≡ spec_is_row_never_second (entry_of row.now) second }
 {
     !second && !touches(row, 0x1161, 0x11C2)
 }
@@ -73,10 +73,10 @@ fn mapped_bits(known: &Known<'_>, row: &Row, slot: u32, own: Hints) -> u8
 }
 
 /// The bits of the code points of a row without a mapping.
-fn bare_bits(version: &Version, row: &Row, own: Hints, leads_apart: bool) -> u8
+fn bare_bits(version: &Version, row: &Row, own: Hints, leading_never_second: bool) -> u8
     requires rows { IsRow (entry_of row.now) }
     requires bare { row.now.mapping.items ≡ [] }
-    requires leads { IsTrue leads_apart → AreLeadsApart version.now }
+    requires leading_consonants { IsTrue leading_never_second → AreLeadingNeverSecond version.now }
     requires own { (compat : Bool) (c : ℕ) → entry_at version.now.entries c ≡ Some (entry_of row.now) → is_final version.now compat c ≡ true → AreHints version.now compat c own }
     ensures { AreRowBits version.now (entry_of row.now) result }
 {
@@ -85,7 +85,11 @@ fn bare_bits(version: &Version, row: &Row, own: Hints, leads_apart: bool) -> u8
     let known = leading_hints(leading, own);
     if !touches(row, 0xAC00, 0xD7A3) {
         eight_bits(known, known)
-    } else if leads_apart && version.has_hangul() && 0xAC00 <= row.first && row.last <= 0xD7A3 {
+    } else if leading_never_second
+        && version.has_hangul()
+        && 0xAC00 <= row.first
+        && row.last <= 0xD7A3
+    {
         eight_bits(SYLLABLE, SYLLABLE)
     } else {
         eight_bits(NO_HINTS, NO_HINTS)
@@ -93,17 +97,17 @@ fn bare_bits(version: &Version, row: &Row, own: Hints, leads_apart: bool) -> u8
 }
 
 /// The bits of the code points of the row at a place, from 0.
-pub(crate) fn row_bits(known: &Known<'_>, at: usize, slot: u32, leads_apart: bool) -> u8
+pub(crate) fn row_bits(known: &Known<'_>, at: usize, slot: u32, leading_never_second: bool) -> u8
     requires place { at < length known.now.version.now.entries }
     requires slot { (e : Entry) → slice_get known.now.version.now.entries at ≡ Some e → IsSlot known.now.version.now known.now.fulls.now e.first slot }
-    requires leads { IsTrue leads_apart → AreLeadsApart known.now.version.now }
+    requires leading_consonants { IsTrue leading_never_second → AreLeadingNeverSecond known.now.version.now }
     ensures { (e : Entry) → slice_get known.now.version.now.entries at ≡ Some e → AreRowBits known.now.version.now e result }
 {
     known.version.meets_conditions();
     let row = row_in(known.version.characters(), at);
-    let own = own_hints(row.class, is_row_apart(row, known.seconds[at]));
+    let own = own_hints(row.class, is_row_never_second(row, known.seconds[at]));
     if row.mapping.is_empty() {
-        bare_bits(known.version, row, own, leads_apart)
+        bare_bits(known.version, row, own, leading_never_second)
     } else {
         mapped_bits(known, row, slot, own)
     }

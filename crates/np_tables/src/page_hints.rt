@@ -1,17 +1,17 @@
-//! What a table of pages keeps of each form for a code point: whether the form parts before it, and
-//! whether it leaves it as it is (UAX #15, section 9.1). They are eight bits, of which 0 says that it isn't known:
+//! What a table of pages keeps of each form for a code point: whether it is a boundary, and
+//! whether it is a starter of which the quick check says Yes (UAX #15, section 9). They are eight bits, of which 0 says that it isn't known:
 //!
 //! | Bit | 7 | 6 | 5 | 4 | 3 | 2 | 1 | 0 |
 //! |---|---|---|---|---|---|---|---|---|
 //! | Form | NFKC | NFKD | NFKC | NFKD | NFC | NFD | NFC | NFD |
-//! | 1 says | stays | stays | parts | parts | stays | stays | parts | parts |
+//! | 1 says | Yes | Yes | boundary | boundary | Yes | Yes | boundary | boundary |
 ghost use Rattle.std.specs.Prelude.{◌≡◌, ◌∷◌, ◌<◌, [], ℕ, Bool, true, false, IsTrue};
 ghost use Rattle.np_code_points.specs.declared.forms.Form.{Form};
-ghost use Rattle.np_tables.specs.Boundaries.{FoldsTo, NeverFalls};
+ghost use Rattle.np_tables.specs.Boundaries.{ComposesTo, NeverFalls};
 ghost use Rattle.np_tables.specs.Mappings.{IsFullDecomposition};
 ghost use Rattle.np_tables.specs.Versions.{VersionData, class_of};
-ghost use Rattle.np_tables.specs.inside.PageHints.{AreHints, AreLeadsApart, FoldsBy, IsApart, bit as spec_bit, eight_bits as spec_eight_bits, four_bits as spec_four_bits, is_late_jamo as spec_is_late_jamo, own_hints as spec_own_hints, parts_place as spec_parts_place, stays_place as spec_stays_place};
-ghost use Rattle.np_tables.specs.inside.PageWords.{AreSeconds};
+ghost use Rattle.np_tables.specs.inside.PageHints.{AreHints, AreLeadingNeverSecond, ComposesByPairs, IsNeverSecond, bit as spec_bit, boundary_place as spec_boundary_place, eight_bits as spec_eight_bits, four_bits as spec_four_bits, is_late_jamo as spec_is_late_jamo, own_hints as spec_own_hints, yes_place as spec_yes_place};
+ghost use Rattle.np_tables.specs.inside.PageProperties.{AreSeconds};
 
 use crate::pairs::Pairs;
 use crate::version::Version;
@@ -21,65 +21,65 @@ use np_code_points::hangul::{L_BASE, L_COUNT};
 /// What is known of a code point under the two forms of one kind of decomposition.
 #[derive(Clone, Copy, Debug)]
 pub(crate) struct Hints {
-    /// The form that only decomposes parts before it.
-    pub parts: bool,
-    /// The form that composes too parts before it.
-    pub parts_composing: bool,
-    /// The form that only decomposes leaves it as it is.
-    pub stays: bool,
-    /// The form that composes too leaves it as it is.
-    pub stays_composing: bool,
+    /// It is a boundary of the form that only decomposes.
+    pub boundary: bool,
+    /// It is a boundary of the form that composes too.
+    pub boundary_composing: bool,
+    /// It is a starter that passes the quick check of the form that only decomposes.
+    pub yes_starter: bool,
+    /// It is a starter that passes the quick check of the form that composes too.
+    pub yes_starter_composing: bool,
 }
 
 /// Nothing is known.
 pub(crate) const NO_HINTS: Hints = Hints {
-    parts: false,
-    parts_composing: false,
-    stays: false,
-    stays_composing: false,
+    boundary: false,
+    boundary_composing: false,
+    yes_starter: false,
+    yes_starter_composing: false,
 };
 
-/// The form that only decomposes parts before it.
-const PARTING: Hints = Hints {
-    parts: true,
-    parts_composing: false,
-    stays: false,
-    stays_composing: false,
+/// It is a boundary of the form that only decomposes.
+const DECOMPOSED_BOUNDARY: Hints = Hints {
+    boundary: true,
+    boundary_composing: false,
+    yes_starter: false,
+    yes_starter_composing: false,
 };
 
-/// A syllable of the arithmetic: it begins with a leading consonant, which goes into nothing, and
+/// A syllable of the arithmetic: it begins with a leading consonant, which never composes backward, and
 /// comes back where the form composes.
 pub(crate) const SYLLABLE: Hints = Hints {
-    parts: true,
-    parts_composing: true,
-    stays: false,
-    stays_composing: true,
+    boundary: true,
+    boundary_composing: true,
+    yes_starter: false,
+    yes_starter_composing: true,
 };
 
 /// What is known of a code point without a mapping of the kind.
-pub(crate) fn own_hints(class: u8, apart: bool) -> Hints
-    ensures { result ≡ spec_own_hints class apart }
+pub(crate) fn own_hints(class: u8, never_second: bool) -> Hints
+    ensures { result ≡ spec_own_hints class never_second }
 {
     let starter = class == 0;
-    let alone = starter && apart;
+    let alone = starter && never_second;
     Hints {
-        parts: starter,
-        parts_composing: alone,
-        stays: starter,
-        stays_composing: alone,
+        boundary: starter,
+        boundary_composing: alone,
+        yes_starter: starter,
+        yes_starter_composing: alone,
     }
 }
 
-/// What is known of a code point by itself. Of a leading consonant it isn't told that it stays where the form
+/// What is known of a code point by itself. Of a leading consonant it isn't told that it passes where the form
 /// composes: mostly it begins a syllable.
 pub(crate) fn leading_hints(leading: bool, own: Hints) -> Hints
     ensures { (v : VersionData) (compat : Bool) (c : ℕ) → AreHints v compat c own → AreHints v compat c result }
 {
     Hints {
-        parts: own.parts,
-        parts_composing: own.parts_composing,
-        stays: own.stays,
-        stays_composing: own.stays_composing && !leading,
+        boundary: own.boundary,
+        boundary_composing: own.boundary_composing,
+        yes_starter: own.yes_starter,
+        yes_starter_composing: own.yes_starter_composing && !leading,
     }
 }
 
@@ -92,9 +92,9 @@ fn is_late_jamo(code: u32) -> bool
 
 /// Whether a code point is known to be the second part of no primary composite: the second part of
 /// a syllable is a vowel or a trailing consonant.
-pub(crate) fn is_apart(version: &Version, seconds: &[bool], code: u32) -> bool
+pub(crate) fn is_never_second(version: &Version, seconds: &[bool], code: u32) -> bool
     requires { AreSeconds version.now seconds.now }
-    ensures { IsTrue result → IsApart version.now code }
+    ensures { IsTrue result → IsNeverSecond version.now code }
 {
     version.meets_conditions();
     if is_late_jamo(code) {
@@ -107,12 +107,12 @@ pub(crate) fn is_apart(version: &Version, seconds: &[bool], code: u32) -> bool
 }
 
 /// Whether the leading consonants of syllables are known to be second parts of no primary composite.
-pub(crate) fn are_leads_apart(version: &Version, seconds: &[bool]) -> bool
+pub(crate) fn are_leading_never_second(version: &Version, seconds: &[bool]) -> bool
     requires { AreSeconds version.now seconds.now }
-    ensures { IsTrue result → AreLeadsApart version.now }
+    ensures { IsTrue result → AreLeadingNeverSecond version.now }
 {
-    for lead in 0..L_COUNT {
-        if !is_apart(version, seconds, L_BASE + lead) {
+    for leading in 0..L_COUNT {
+        if !is_never_second(version, seconds, L_BASE + leading) {
             return false;
         }
     }
@@ -136,12 +136,12 @@ pub(crate) fn never_falls(version: &Version, list: &[char]) -> bool
 }
 
 /// Whether a starter and the code points behind it compose, one after the other, to `own`.
-fn folds_to(pairs: &Pairs, first: char, rest: &[char], own: char) -> bool
-    ensures { IsTrue result → FoldsBy pairs.now first rest.now own }
+fn composes_to(pairs: &Pairs, first: char, rest: &[char], own: char) -> bool
+    ensures { IsTrue result → ComposesByPairs pairs.now first rest.now own }
 {
     match rest {
         [next, later @ ..] => match pairs.find(first, *next) {
-            Some(composite) => folds_to(pairs, composite, later, own),
+            Some(composite) => composes_to(pairs, composite, later, own),
             None => false,
         },
         [] => first == own,
@@ -149,12 +149,12 @@ fn folds_to(pairs: &Pairs, first: char, rest: &[char], own: char) -> bool
 }
 
 /// Whether a starter and the code points behind it come back to `own` where the form composes.
-#[tactic(auto, using(crate::proofs::PageHintLemmas::folds_by))]
+#[tactic(auto, using(crate::proofs::PageHintLemmas::composes_by_pairs))]
 fn comes_back(version: &Version, first: char, rest: &[char], own: char) -> bool
     ensures rises { IsTrue result → NeverFalls (class_of version.now) rest.now }
-    ensures folds { IsTrue result → FoldsTo version.now first rest.now own }
+    ensures folds { IsTrue result → ComposesTo version.now first rest.now own }
 {
-    never_falls(version, rest) && folds_to(version.pairs(), first, rest, own)
+    never_falls(version, rest) && composes_to(version.pairs(), first, rest, own)
 }
 
 /// What is known of a code point by its full decomposition, in its parts.
@@ -172,15 +172,15 @@ fn hints_by_parts(
     if version.class_of(code) != 0 {
         return NO_HINTS;
     }
-    if !is_apart(version, seconds, code) {
-        return PARTING;
+    if !is_never_second(version, seconds, code) {
+        return DECOMPOSED_BOUNDARY;
     }
-    let stays_composing = comes_back(version, first, rest, own);
+    let yes_starter_composing = comes_back(version, first, rest, own);
     Hints {
-        parts: true,
-        parts_composing: true,
-        stays: false,
-        stays_composing,
+        boundary: true,
+        boundary_composing: true,
+        yes_starter: false,
+        yes_starter_composing,
     }
 }
 
@@ -207,10 +207,10 @@ fn four_bits(hints: Hints) -> u8
     ensures value { result ≡ spec_four_bits hints }
     ensures bound { result < 16 }
 {
-    bit(hints.parts)
-        + 2 * bit(hints.parts_composing)
-        + 4 * bit(hints.stays)
-        + 8 * bit(hints.stays_composing)
+    bit(hints.boundary)
+        + 2 * bit(hints.boundary_composing)
+        + 4 * bit(hints.yes_starter)
+        + 8 * bit(hints.yes_starter_composing)
 }
 
 /// The hints of both kinds of decomposition in eight bits.
@@ -220,9 +220,9 @@ pub(crate) fn eight_bits(canonical: Hints, compatible: Hints) -> u8
     four_bits(canonical) + 16 * four_bits(compatible)
 }
 
-/// Which bit tells whether a form parts before a code point.
-pub(crate) fn parts_place(form: Form) -> u32
-    ensures place { result ≡ spec_parts_place form }
+/// Which bit tells whether a code point is a boundary.
+pub(crate) fn boundary_place(form: Form) -> u32
+    ensures place { result ≡ spec_boundary_place form }
     ensures bound { result < 8 }
 {
     match form {
@@ -233,9 +233,9 @@ pub(crate) fn parts_place(form: Form) -> u32
     }
 }
 
-/// Which bit tells whether a form leaves a code point as it is.
-pub(crate) fn stays_place(form: Form) -> u32
-    ensures place { result ≡ spec_stays_place form }
+/// Which bit tells whether a code point is a starter that passes.
+pub(crate) fn yes_place(form: Form) -> u32
+    ensures place { result ≡ spec_yes_place form }
     ensures bound { result < 8 }
 {
     match form {

@@ -3,21 +3,21 @@ ghost use Rattle.std.specs.Prelude.{◌≡◌, length, IfOk, IsTrue, Some};
 ghost use Rattle.np_ucd.specs.Entries.{IsRow};
 ghost use Rattle.np_ucd.specs.RowValues.{entry_of};
 ghost use Rattle.np_tables.specs.Versions.{entry_at};
-ghost use Rattle.np_tables.specs.inside.FullParts.{AreParts, IsPart, part_of};
-ghost use Rattle.np_tables.specs.inside.PageWords.{AreSlots, IsSlotPushed};
+ghost use Rattle.np_tables.specs.inside.FullRanges.{AreCodeRanges, IsCodeRange, code_range_of};
+ghost use Rattle.np_tables.specs.inside.PageProperties.{AreSlots, IsSlotPushed};
 
 use crate::characters::CharacterData;
-use crate::fulls::{Fulls, Part, push_full};
+use crate::fulls::{CodeRange, Fulls, push_full};
 use crate::row_places::row_in;
 use np_code_points::Memory;
 use np_ucd::Row;
 use std::alloc::Global;
 
-/// Whether two parts of a flat list are the same.
-fn are_same(codes: &[char], one: Part, two: Part) -> bool
-    requires one { IsPart (length codes.now) one }
-    requires two { IsPart (length codes.now) two }
-    ensures { IsTrue result → part_of codes.now one ≡ part_of codes.now two }
+/// Whether two ranges of a flat list are the same.
+fn are_same(codes: &[char], one: CodeRange, two: CodeRange) -> bool
+    requires one { IsCodeRange (length codes.now) one }
+    requires two { IsCodeRange (length codes.now) two }
+    ensures { IsTrue result → code_range_of codes.now one ≡ code_range_of codes.now two }
 {
     codes[one.start..one.end] == codes[two.start..two.end]
 }
@@ -27,13 +27,13 @@ fn push_row(
     characters: &CharacterData,
     row: &Row,
     codes: &mut Vec<char>,
-    canonical: &mut Vec<Part>,
-    compatible: &mut Vec<Part>,
+    canonical: &mut Vec<CodeRange>,
+    compatible: &mut Vec<CodeRange>,
 ) -> Result<(), Memory>
     requires row { IsRow (entry_of row.now) }
     requires first { entry_at characters.now.entries row.now.first ≡ Some (entry_of row.now) }
-    requires canonical { AreParts codes.old.items canonical.old.items }
-    requires compatible { AreParts codes.old.items compatible.old.items }
+    requires canonical { AreCodeRanges codes.old.items canonical.old.items }
+    requires compatible { AreCodeRanges codes.old.items compatible.old.items }
     ensures { IfOk result (λ _. IsSlotPushed characters.now row.now.first codes.old.items canonical.old.items compatible.old.items codes.new.items canonical.new.items compatible.new.items) }
 {
     let start = codes.len();
@@ -41,8 +41,8 @@ fn push_row(
     let middle = codes.len();
     push_full(characters, true, row, codes)?;
     let end = codes.len();
-    let one = Part { start, end: middle };
-    let two = Part { start: middle, end };
+    let one = CodeRange { start, end: middle };
+    let two = CodeRange { start: middle, end };
     canonical.push(one)?;
     if are_same(codes, one, two) {
         codes.truncate(middle);
@@ -65,7 +65,7 @@ pub(crate) struct Lent {
 pub(crate) fn slots_of(alloc: Global, characters: &CharacterData) -> Result<Lent, Memory>
     ensures { IfOk result (λ lent. AreSlots characters.now (length characters.now.entries) lent.fulls lent.slots.items) }
 {
-    let none = Part { start: 0, end: 0 };
+    let none = CodeRange { start: 0, end: 0 };
     let mut codes = Vec::new(alloc);
     let mut canonical = vec![in alloc; none]?;
     let mut compatible = vec![in alloc; none]?;

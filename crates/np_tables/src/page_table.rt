@@ -1,54 +1,56 @@
-//! The table of pages: one word for each code point in blocks of 256, one flat list of full
+//! The table of pages: properties of each code point in blocks of 256, one flat list of full
 //! decompositions, and one sorted list of pairs.
 ghost use Rattle.std.specs.Prelude.{◌≡◌, true, IfOk};
-ghost use Rattle.np_tables.specs.inside.Leads.{AreLeadsParting};
-ghost use Rattle.np_tables.specs.inside.PageWords.{ArePages, IsAsciiStaying};
-ghost use Rattle.np_tables.specs.inside.Spelled.{AreSpelled};
-ghost use Rattle.np_tables.specs.inside.Steps.{all_steps as spec_all_steps};
+ghost use Rattle.np_tables.specs.inside.LeadingConsonants.{AreLeadingBoundaries};
+ghost use Rattle.np_tables.specs.inside.PageProperties.{ArePages, IsAsciiYes};
+ghost use Rattle.np_tables.specs.inside.PrecomputedTables.{ArePrecomputedTables};
+ghost use Rattle.np_tables.specs.inside.QuickChecks.{all_quick_checks as spec_all_quick_checks};
 
 use crate::fulls::Fulls;
-use crate::leads::are_leads_parting;
-use crate::page_hints::parts_place;
+use crate::leading_consonants::are_leading_boundaries;
+use crate::page_hints::boundary_place;
+use crate::page_properties::{
+    Properties, all_row_properties, page_properties, properties_of, second_rows,
+};
 use crate::page_slots::slots_of;
-use crate::page_words::{Word, page_words, row_words, second_rows, word_of};
+use crate::precomputed_tables::PrecomputedTables;
+use crate::property_bits::has_bit;
+use crate::quick_checks::{all_quick_checks, is_ascii_yes, least_quick_check};
 use crate::scans::Scan;
-use crate::spelled::Spelled;
-use crate::steps::{all_steps, is_ascii_staying, least_step};
 use crate::tables::NormTable;
 use crate::version::Version;
-use crate::word_bits::has_bit;
 use np_code_points::{Form, Memory};
 use std::alloc::Global;
 use std::marker::Model;
 
 /// The fast table. A code point's block is found by its number divided by 256; blocks without an
-/// assigned code point are one shared block, and blocks in the midst of a range another. Its word
-/// tells the class, whether it is assigned, whether it can be the second part of a pair, and where
-/// its full decompositions stand, which are shared where both kinds are the same. Beside the words
-/// stands what a scan asks of each under the four forms, a byte for each.
+/// assigned code point are one shared block, and blocks in the midst of a range another. Its properties
+/// tell the class, whether it is assigned, whether it can be the second part of a pair, and where
+/// its full decompositions stand, which are shared where both kinds are the same. Beside these
+/// is the quick check of each under the four forms, a byte for each.
 ///
 /// It takes some 1.7 MiB beside its version for the files of Unicode 15. Each call takes constant
 /// time, but `pair`, which searches by halves where the pair shares its slot with others, and
-/// `standing`, which reads what it counts.
+/// `quick_span`, which reads what it counts.
 #[derive(Debug, Drop)]
 pub struct PageTable {
     version: Version,
     /// For each 256 code points the number of their block.
     index: Vec<u16>,
-    /// The words, block by block.
-    words: Vec<Word>,
-    /// For each word what a scan asks under each form.
-    steps: Vec<u32>,
+    /// The properties of each code point, block by block.
+    all_properties: Vec<Properties>,
+    /// The quick check of each under each form.
+    quick_checks: Vec<u32>,
     fulls: Fulls,
     /// The forms of single code points.
-    spelled: Spelled,
-    /// Whether all ASCII stays under every form.
+    precomputed: PrecomputedTables,
+    /// Whether all ASCII passes under every form.
     ascii: bool,
-    /// Whether every form parts before each leading consonant of syllables.
-    leads: bool,
-    ghost are_steps: { steps.items ≡ spec_all_steps words.items },
-    ghost ascii_stays: { ascii ≡ true → IsAsciiStaying index.items steps.items },
-    ghost leads_part: { leads ≡ true → AreLeadsParting index.items words.items },
+    /// Whether each leading consonant of syllables is a boundary of every form.
+    leading_consonants: bool,
+    ghost are_quick_checks: { quick_checks.items ≡ spec_all_quick_checks all_properties.items },
+    ghost ascii_is_yes: { ascii ≡ true → IsAsciiYes index.items quick_checks.items },
+    ghost are_leading: { leading_consonants ≡ true → AreLeadingBoundaries index.items all_properties.items },
 }
 
 impl Model for PageTable {
@@ -59,36 +61,36 @@ impl Model for PageTable {
 
     ghost view = { λ a. a.version };
 
-    ghost invariant = { λ a. ArePageTables a.version a.fulls a.index.items a.words.items a.spelled };
+    ghost invariant = { λ a. ArePageTables a.version a.fulls a.index.items a.all_properties.items a.precomputed };
 }
 
 /// What a table keeps of a version that is lent.
 #[derive(Drop)]
-struct Kept {
+struct KeptPages {
     index: Vec<u16>,
-    words: Vec<Word>,
+    all_properties: Vec<Properties>,
     fulls: Fulls,
-    spelled: Spelled,
+    precomputed: PrecomputedTables,
 }
 
 /// What a table keeps of a version that is lent.
-fn pages_of(alloc: Global, version: &Version) -> Result<Kept, Memory>
-    ensures pages { IfOk result (λ kept. ArePages version.now kept.fulls kept.index.items kept.words.items) }
-    ensures spelled { IfOk result (λ kept. AreSpelled version.now kept.fulls kept.spelled) }
+fn pages_of(alloc: Global, version: &Version) -> Result<KeptPages, Memory>
+    ensures pages { IfOk result (λ kept. ArePages version.now kept.fulls kept.index.items kept.all_properties.items) }
+    ensures precomputed { IfOk result (λ kept. ArePrecomputedTables version.now kept.fulls kept.precomputed) }
 {
     let pages = version.characters().pages();
     let lent = slots_of(alloc, version.characters())?;
     let seconds = second_rows(alloc, version)?;
-    let rows = row_words(alloc, version, &lent.fulls, &lent.slots, &seconds)?;
-    let words = page_words(alloc, &rows, &pages.numbers)?;
+    let rows = all_row_properties(alloc, version, &lent.fulls, &lent.slots, &seconds)?;
+    let all_properties = page_properties(alloc, &rows, &pages.numbers)?;
     let mut index = Vec::with_capacity(alloc, pages.index.len())?;
     index.extend_from_slice(&pages.index)?;
-    let spelled = Spelled::new(alloc, version, &seconds, &lent.fulls)?;
-    Ok(Kept {
+    let precomputed = PrecomputedTables::new(alloc, version, &seconds, &lent.fulls)?;
+    Ok(KeptPages {
         index,
-        words,
+        all_properties,
         fulls: lent.fulls,
-        spelled,
+        precomputed,
     })
 }
 
@@ -101,24 +103,24 @@ impl PageTable {
     pub fn new(alloc: Global, version: Version) -> Result<PageTable, Memory>
         ensures { IfOk result (λ t. t ≡ version) }
     {
-        let Kept {
+        let KeptPages {
             index,
-            words,
+            all_properties,
             fulls,
-            spelled,
+            precomputed,
         } = pages_of(alloc, &version)?;
-        let steps = all_steps(alloc, &words)?;
-        let ascii = is_ascii_staying(&index, &steps);
-        let leads = are_leads_parting(&index, &words);
+        let quick_checks = all_quick_checks(alloc, &all_properties)?;
+        let ascii = is_ascii_yes(&index, &quick_checks);
+        let leading_consonants = are_leading_boundaries(&index, &all_properties);
         Ok(PageTable {
             version,
             index,
-            words,
-            steps,
+            all_properties,
+            quick_checks,
             fulls,
-            spelled,
+            precomputed,
             ascii,
-            leads,
+            leading_consonants,
         })
     }
 }
@@ -132,12 +134,12 @@ impl NormTable for PageTable {
 
     #[inline(always)]
     fn assigned(&self, c: char) -> bool {
-        word_of(&self.index, &self.words, c).assigned
+        properties_of(&self.index, &self.all_properties, c).assigned
     }
 
     #[inline(always)]
     fn class(&self, c: char) -> u8 {
-        word_of(&self.index, &self.words, c).class
+        properties_of(&self.index, &self.all_properties, c).class
     }
 
     fn hangul(&self) -> bool {
@@ -146,7 +148,7 @@ impl NormTable for PageTable {
 
     #[inline(always)]
     fn pair(&self, a: char, b: char) -> Option<char> {
-        if word_of(&self.index, &self.words, b).apart {
+        if properties_of(&self.index, &self.all_properties, b).never_second {
             return None;
         }
         self.version.composite_of(a, b)
@@ -154,7 +156,7 @@ impl NormTable for PageTable {
 
     #[inline(always)]
     fn full(&self, c: char, compat: bool) -> &[char] {
-        let slot = word_of(&self.index, &self.words, c).fulls;
+        let slot = properties_of(&self.index, &self.all_properties, c).fulls;
         // nothing is lent by this slot, which needs not be read for that
         if slot == 0 {
             return &[];
@@ -163,38 +165,38 @@ impl NormTable for PageTable {
     }
 
     #[inline(always)]
-    fn spelled(&self, form: Form, c: char) -> Option<(&[u8], usize)> {
-        let slot = word_of(&self.index, &self.words, c).fulls;
-        self.spelled.at(form, slot as usize)
+    fn precomputed(&self, form: Form, c: char) -> Option<(&[u8], usize)> {
+        let slot = properties_of(&self.index, &self.all_properties, c).fulls;
+        self.precomputed.at(form, slot as usize)
     }
 
     #[inline(always)]
     fn is_boundary(&self, form: Form, c: char) -> bool {
         has_bit(
-            word_of(&self.index, &self.words, c).hints,
-            parts_place(form),
+            properties_of(&self.index, &self.all_properties, c).hints,
+            boundary_place(form),
         )
     }
 
-    fn parts_before_leads(&self, _form: Form) -> bool {
-        self.leads
+    fn leading_consonants_are_boundaries(&self, _form: Form) -> bool {
+        self.leading_consonants
     }
 
-    fn ascii_stands(&self, _form: Form) -> bool {
+    fn ascii_passes(&self, _form: Form) -> bool {
         self.ascii
     }
 
-    fn standing(&self, form: Form, assigned: bool, text: &str) -> (usize, bool) {
+    fn quick_span(&self, form: Form, assigned: bool, text: &str) -> (usize, bool) {
         let scan = Scan {
             version: &self.version,
             index: &self.index,
-            words: &self.words,
-            steps: &self.steps,
+            all_properties: &self.all_properties,
+            quick_checks: &self.quick_checks,
             ascii: self.ascii,
-            least: least_step(assigned),
+            least: least_quick_check(assigned),
             form,
         };
-        let front = scan.standing_front(text);
-        (front.count, front.parts)
+        let front = scan.pass_span(text);
+        (front.count, front.boundary)
     }
 }

@@ -4,7 +4,7 @@ ghost use Rattle.std.specs.List.{All};
 ghost use Rattle.std.specs.List.Sorted.{IsPermutation};
 ghost use Rattle.np_ucd.specs.Entries.{IsRow};
 ghost use Rattle.np_ucd.specs.RowValues.{entry_of};
-ghost use Rattle.np_tables.specs.inside.Pairs.{AreOfFile, AreOrdered, HaveNumbers, IsInRange, Lists, StandsAt, composites_in, pair_rank, slot_at};
+ghost use Rattle.np_tables.specs.inside.Pairs.{AreOfFile, AreOrdered, HaveNumbers, IsCompositeAt, IsInRange, Lists, composites_in, pair_rank, slot_at};
 
 use crate::characters::CharacterData;
 use crate::row_places::{mapped_code, row_in};
@@ -158,7 +158,7 @@ impl Pairs {
 
     /// How many places have a pair that comes before this one: where some have this pair, it stands behind those.
     fn place(&self, first: char, second: char) -> usize
-        ensures { (code : ℕ) → Lists self.now first second code → (own : ℕ) × StandsAt self.now result first second own }
+        ensures { (code : ℕ) → Lists self.now first second code → (own : ℕ) × IsCompositeAt self.now result first second own }
     {
         let mut low = 0;
         let mut high = self.len();
@@ -177,7 +177,7 @@ impl Pairs {
     #[inline(always)]
     fn found_at(&self, place: usize, first: char, second: char) -> Option<char>
         ensures some { IfSome result (Lists self.now first second) }
-        ensures none { IfNone result ((code : ℕ) → ¬ (StandsAt self.now place first second code)) }
+        ensures none { IfNone result ((code : ℕ) → ¬ (IsCompositeAt self.now place first second code)) }
     {
         if place >= self.len() {
             return None;

@@ -1,7 +1,7 @@
 //! The row of each code point, in blocks of 256 code points.
 ghost use Rattle.std.specs.Prelude.{◌≡◌, ℕ, ◌+◌, ◌<◌, ◌≤◌, true, false, length, slice_index, IfOk, IsTrue};
 ghost use Rattle.np_ucd.specs.Entries.{AreRows};
-ghost use Rattle.np_tables.specs.inside.Pages.{AreWithin, word_place};
+ghost use Rattle.np_tables.specs.inside.Pages.{AreWithin, property_place};
 ghost use Rattle.np_tables.specs.inside.RowPages.{AreBegun, ArePushed, AreRowPages, GoesOn, HasNoRow, IsNextRow, IsRowNumber};
 
 use np_code_points::Memory;
@@ -14,8 +14,8 @@ const BLOCK: usize = 256;
 /// How many block numbers the code points take.
 const BLOCKS: usize = 4352;
 
-/// Room for the blocks of a published file, so that their list is not copied as it grows.
-const ROOM: usize = 65536;
+/// Capacity for the blocks of a published file, so that their list is not copied as it grows.
+const CAPACITY: usize = 65536;
 
 /// The row number of each code point: 1 plus the place of its row, 0 where it has none.
 ///
@@ -125,7 +125,7 @@ impl RowPages {
         ensures none { IfOk result (λ p. (k : ℕ) → slice_index p.numbers.items k ≡ 0) }
     {
         let mut numbers = zeros(alloc, BLOCK)?;
-        numbers.reserve(ROOM)?;
+        numbers.reserve(CAPACITY)?;
         let index = Vec::with_capacity(alloc, BLOCKS)?;
         Ok(RowPages { index, numbers })
     }
@@ -168,11 +168,11 @@ impl RowPages {
     }
 
     /// The row number of a code point.
-    #[tactic(auto, using(std::proofs::lemmas::List::get_or_read), unfolding(crate::specs::inside::Pages::word_place))]
+    #[tactic(auto, using(std::proofs::lemmas::List::get_or_read), unfolding(crate::specs::inside::Pages::property_place))]
     pub(crate) fn number_of(&self, code: u32) -> u32
         requires code { code < 0x110000 }
         requires within { AreWithin 4352 self.now.index.items (length self.now.numbers.items) }
-        ensures { result ≡ slice_index self.now.numbers.items (word_place self.now.index.items code) }
+        ensures { result ≡ slice_index self.now.numbers.items (property_place self.now.index.items code) }
     {
         let block = usize::from(self.index[code as usize / BLOCK]);
         self.numbers[block * BLOCK + code as usize % BLOCK]

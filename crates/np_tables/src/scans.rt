@@ -1,10 +1,10 @@
 //! A scan of a text for code points that may follow one another as they are, and how far it comes.
 ghost use Rattle.std.specs.Prelude.{◌≡◌, ◌≤◌, length, true};
-ghost use Rattle.np_tables.specs.inside.PageWords.{IsAsciiStaying};
+ghost use Rattle.np_tables.specs.inside.PageProperties.{IsAsciiYes};
 ghost use Rattle.np_tables.specs.inside.Pages.{AreWithin};
 
-use crate::page_words::Word;
-use crate::steps::{low_behind, step_at, step_place};
+use crate::page_properties::Properties;
+use crate::quick_checks::{low_behind, quick_check_at, quick_check_place};
 use crate::version::Version;
 use np_code_points::Form;
 
@@ -14,24 +14,24 @@ pub(crate) struct Scan<'t> {
     pub version: &'t Version,
     /// For each 256 code points the number of their block.
     pub index: &'t [u16],
-    /// The words, block by block.
-    pub words: &'t [Word],
-    /// For each word what is asked of it first.
-    pub steps: &'t [u32],
-    /// Whether all ASCII stays: it is then passed in steps of bytes, and what stands between as well.
+    /// The properties of each code point, block by block.
+    pub all_properties: &'t [Properties],
+    /// The quick check of each under each form.
+    pub quick_checks: &'t [u32],
+    /// Whether all ASCII passes: it is then passed many bytes at a time, and what is between as well.
     pub ascii: bool,
-    /// The least step that may stand.
+    /// The least quick check that may pass.
     pub least: u8,
     pub form: Form,
-    ghost within: { AreWithin 4352 index.now (length steps.now) },
-    ghost ascii_stays: { ascii ≡ true → IsAsciiStaying index.now steps.now },
+    ghost within: { AreWithin 4352 index.now (length quick_checks.now) },
+    ghost ascii_is_yes: { ascii ≡ true → IsAsciiYes index.now quick_checks.now },
     ghost some: { 1 ≤ least },
 }
 
 /// How far a scan has come.
 #[derive(Clone, Copy)]
 pub(crate) struct Passed<'t> {
-    /// The least step that may follow.
+    /// The least quick check that may follow.
     pub low: u8,
     /// What stands behind what was passed.
     pub rest: &'t str,
@@ -49,17 +49,22 @@ impl<'t> Scan<'t> {
     ghost use Rattle.std.specs.Prelude.{IfSome};
     ghost use Rattle.np_tables.specs.inside.Scans.{PassesCode};
 
-    /// The least step that may follow a code point, where it may follow a step of `low`: none where it may not.
+    /// The least quick check that may follow a code point, where it may follow a quick check of `low`: none where it may not.
     #[inline(always)]
     pub(crate) fn low_past(&self, low: u8, c: char) -> Option<u8>
         requires { self.now.least ≤ low }
         ensures least { IfSome result (λ next. self.now.least ≤ next) }
         ensures passes { IfSome result (PassesCode self.now low c) }
     {
-        let step = step_at(self.index, self.steps, step_place(self.form), c);
-        if step < low {
+        let quick_check = quick_check_at(
+            self.index,
+            self.quick_checks,
+            quick_check_place(self.form),
+            c,
+        );
+        if quick_check < low {
             return None;
         }
-        Some(low_behind(self.least, step))
+        Some(low_behind(self.least, quick_check))
     }
 }

@@ -6,8 +6,8 @@ ghost use Rattle.np_tables.specs.Boundaries.{BeginsAtBoundary, IsBoundary, IsYes
 ghost use Rattle.np_tables.specs.Composites.{IsCompositeOf};
 ghost use Rattle.np_tables.specs.Conditions.{IsSound};
 ghost use Rattle.np_tables.specs.Mappings.{IsLent};
-ghost use Rattle.np_tables.specs.Standing.{AreStanding};
-ghost use Rattle.np_tables.specs.Spelled.{IsSpelled};
+ghost use Rattle.np_tables.specs.QuickSpans.{IsQuickSpan};
+ghost use Rattle.np_tables.specs.Precomputed.{IsPrecomputed};
 ghost use Rattle.np_tables.specs.Versions.{VersionData, class_of, has_hangul, is_assigned};
 
 use crate::version::Version;
@@ -16,12 +16,12 @@ use np_code_points::Form;
 /// What a table answers that knows nothing of a property.
 const UNKNOWN: bool = false;
 
-/// No byte at the front of a text: nothing stands there, whatever the version and the form are, and nothing is
+/// No byte at the front of a text: nothing there passes, whatever the version and the form are, and nothing is
 /// known of what follows.
 fn claim_nothing(text: &str) -> (usize, bool)
-    ensures standing { (v : VersionData) (form : Form) → AreStanding v form text.now result.0 }
+    ensures quick_span { (v : VersionData) (form : Form) → IsQuickSpan v form text.now result.0 }
     ensures assigned { (v : VersionData) → list_all (is_assigned v) (chars (take result.0 text.now)) ≡ true }
-    ensures parts { result.1 ≡ false }
+    ensures boundary { result.1 ≡ false }
 {
     let _unused = text;
     (0, UNKNOWN)
@@ -68,16 +68,16 @@ pub trait NormTable {
 
     /// The form of a code point by itself, where the table keeps it as UTF-8: bytes, and how many of them at
     /// the front it has. A table may answer none.
-    fn spelled(&self, form: Form, c: char) -> Option<(&[u8], usize)>
-        ensures { IfSome result (λ cut. IsSpelled (model self.now) form c cut.0.now cut.1) }
+    fn precomputed(&self, form: Form, c: char) -> Option<(&[u8], usize)>
+        ensures { IfSome result (λ cut. IsPrecomputed (model self.now) form c cut.0.now cut.1) }
     {
         // nothing is claimed of either, so that a plain table need not know
         let _unused = (form, c);
         None
     }
 
-    /// Whether a normal form is known to part before a code point (UAX #15, section 9.1). A table
-    /// may answer `false` of one at which it does.
+    /// Whether a boundary of the form is known to be before a code point (UAX #15, section 9.1). A table
+    /// may answer `false` where there is one.
     fn is_boundary(&self, form: Form, c: char) -> bool
         ensures { IsTrue result → IsBoundary (model self.now) form c }
     {
@@ -86,9 +86,9 @@ pub trait NormTable {
         UNKNOWN
     }
 
-    /// Whether a normal form is known to part before each leading consonant of Hangul syllables, as
-    /// `is_boundary` tells of one code point. A table may answer `false` where it does.
-    fn parts_before_leads(&self, form: Form) -> bool
+    /// Whether a boundary of the form is known to be before each leading consonant of Hangul syllables, as
+    /// `is_boundary` tells of one code point. A table may answer `false` where there is.
+    fn leading_consonants_are_boundaries(&self, form: Form) -> bool
         ensures { IsTrue result → (c : ℕ) → 0x1100 ≤ c → c ≤ 0x1112 → IsBoundary (model self.now) form c }
     {
         // the same
@@ -96,12 +96,12 @@ pub trait NormTable {
         UNKNOWN
     }
 
-    /// Whether each ASCII character is known to be assigned, its own form, and a boundary: the form parts
-    /// before it. What stands behind it may compose with it, as 0301 does with `e`. A table may answer `false`
+    /// Whether each ASCII character is known to be assigned, its own form, and a boundary: there is one
+    /// before it. What follows it may compose with it, as 0301 does with `e`. A table may answer `false`
     /// where all of this holds.
-    fn ascii_stands(&self, form: Form) -> bool
+    fn ascii_passes(&self, form: Form) -> bool
         ensures assigned { IsTrue result → (c : ℕ) → c < 128 → is_assigned (model self.now) c ≡ true }
-        ensures stays { IsTrue result → (c : ℕ) → c < 128 → IsYesStarter (model self.now) form c }
+        ensures yes_starter { IsTrue result → (c : ℕ) → c < 128 → IsYesStarter (model self.now) form c }
     {
         // the same
         let _unused = form;
@@ -109,14 +109,14 @@ pub trait NormTable {
     }
 
     /// How many bytes at the front of a text are known to be their own form, if a boundary or nothing follows.
-    /// They are starters that pass the quick check (UAX #15, section 9). Behind these may stand other code points
-    /// without a mapping that compose with nothing before them: non-starters in canonical order, and starters
+    /// They are starters that pass the quick check (UAX #15, section 9). Behind these may be other code points
+    /// without a mapping that do not compose with what is before them: non-starters in canonical order, and starters
     /// (class 0) too. Where `assigned` is asked for, each of them is. The second answer tells whether the form is
-    /// known to part before what follows. A table may answer less, down to 0 and `false`.
-    fn standing(&self, form: Form, assigned: bool, text: &str) -> (usize, bool)
-        ensures standing { AreStanding (model self.now) form text.now result.0 }
+    /// known to have a boundary before what follows. A table may answer less, down to 0 and `false`.
+    fn quick_span(&self, form: Form, assigned: bool, text: &str) -> (usize, bool)
+        ensures quick_span { IsQuickSpan (model self.now) form text.now result.0 }
         ensures assigned { IsTrue assigned → list_all (is_assigned (model self.now)) (chars (take result.0 text.now)) ≡ true }
-        ensures parts { IsTrue result.1 → BeginsAtBoundary (model self.now) form (chars (drop result.0 text.now)) }
+        ensures boundary { IsTrue result.1 → BeginsAtBoundary (model self.now) form (chars (drop result.0 text.now)) }
     {
         // the same
         let _unused = (form, assigned);
@@ -152,23 +152,23 @@ impl<T: NormTable> NormTable for &T {
         (**self).full(c, compat)
     }
 
-    fn spelled(&self, form: Form, c: char) -> Option<(&[u8], usize)> {
-        (**self).spelled(form, c)
+    fn precomputed(&self, form: Form, c: char) -> Option<(&[u8], usize)> {
+        (**self).precomputed(form, c)
     }
 
     fn is_boundary(&self, form: Form, c: char) -> bool {
         (**self).is_boundary(form, c)
     }
 
-    fn parts_before_leads(&self, form: Form) -> bool {
-        (**self).parts_before_leads(form)
+    fn leading_consonants_are_boundaries(&self, form: Form) -> bool {
+        (**self).leading_consonants_are_boundaries(form)
     }
 
-    fn ascii_stands(&self, form: Form) -> bool {
-        (**self).ascii_stands(form)
+    fn ascii_passes(&self, form: Form) -> bool {
+        (**self).ascii_passes(form)
     }
 
-    fn standing(&self, form: Form, assigned: bool, text: &str) -> (usize, bool) {
-        (**self).standing(form, assigned, text)
+    fn quick_span(&self, form: Form, assigned: bool, text: &str) -> (usize, bool) {
+        (**self).quick_span(form, assigned, text)
     }
 }

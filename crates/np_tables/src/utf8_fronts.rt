@@ -76,16 +76,16 @@ struct Code {
 /// The code of a character of two or three bytes, by its first byte and six bits of each of the two that follow.
 /// Both are made and one is chosen, so that a compiler needs no jump for it.
 #[inline(always)]
-fn code_of_few(lead: u32, second: u32, third: u32) -> Code
-    requires lead { lead < 240 }
+fn code_of_few(lead_byte: u32, second: u32, third: u32) -> Code
+    requires lead_byte { lead_byte < 240 }
     requires second { second < 64 }
     requires third { third < 64 }
-    ensures two { lead < 224 → (result.code ≡ lead % 32 * 64 + second) × (result.count ≡ 2) }
-    ensures three { 224 ≤ lead → (result.code ≡ lead % 16 * 4096 + second * 64 + third) × (result.count ≡ 3) }
+    ensures two { lead_byte < 224 → (result.code ≡ lead_byte % 32 * 64 + second) × (result.count ≡ 2) }
+    ensures three { 224 ≤ lead_byte → (result.code ≡ lead_byte % 16 * 4096 + second * 64 + third) × (result.count ≡ 3) }
 {
-    let two = lead % 32 * 64 + second;
-    let three = lead % 16 * 4096 + second * 64 + third;
-    if lead < 0xE0 {
+    let two = lead_byte % 32 * 64 + second;
+    let three = lead_byte % 16 * 4096 + second * 64 + third;
+    if lead_byte < 0xE0 {
         Code {
             code: two,
             count: 2,
@@ -102,15 +102,15 @@ fn code_of_few(lead: u32, second: u32, third: u32) -> Code
 #[inline(always)]
 pub(crate) fn few_at(text: &str) -> Few
     requires long { 3 ≤ length text.now }
-    requires lead { 192 ≤ slice_index text.now 0 }
+    requires lead_byte { 192 ≤ slice_index text.now 0 }
     requires few { slice_index text.now 0 < 240 }
     ensures { BeginsWithChar text.now result.c result.count }
 {
     let bytes = text.as_bytes();
-    let lead = u32::from(bytes[0]);
+    let lead_byte = u32::from(bytes[0]);
     let second = u32::from(bytes[1] % 64);
     let third = u32::from(bytes[2] % 64);
-    let read = code_of_few(lead, second, third);
+    let read = code_of_few(lead_byte, second, third);
     let c = unsafe { char::from_u32_unchecked(read.code) };
     Few {
         c,

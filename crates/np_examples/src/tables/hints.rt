@@ -1,15 +1,15 @@
-//! What a table of pages tells beforehand: what stands in a form, where forms part, and what single code points are.
+//! What a table of pages tells beforehand: what passes the quick check, where boundaries are, and what the forms of single code points are.
 use np_code_points::Form;
 use np_examples_shared::{Example, Files, Made, V1, holds_over, want};
 use np_tables::{NormTable, PageTable, RowTable};
 use std::alloc::Global;
 use std::test::Fail;
 
-// How many bytes at the front of a text stand in a form as they are: composites and syllables come
+// How many bytes at the front of a text pass the quick check: composites and syllables come
 // back, singletons and excluded ones don't, nor what has a mapping that counts. Non-starters follow
 // where no class is less than the one before and, where the form composes, they are no second parts. A
 // second part follows a code point that blocks it, or one without a mapping with which it has no composite.
-// A leading consonant is not taken to stand where the form composes.
+// A leading consonant is not taken to pass where the form composes.
 const STANDING: [(Form, &str, usize); 29] = [
     (Form::Nfc, "\u{915}\u{302}", 5),
     (Form::Nfkc, "\u{915}\u{302}\u{30A}\u{1161}", 10),
@@ -46,7 +46,7 @@ const STANDING: [(Form, &str, usize); 29] = [
     (Form::Nfkc, "", 0),
 ];
 
-// What is not assigned stands too, but where assigned code points are asked for.
+// What is not assigned passes too, but where assigned code points are asked for.
 const LACKING: [(Form, &str, usize, usize); 6] = [
     (Form::Nfd, "A\u{16D67}A", 6, 1),
     (Form::Nfc, "A\u{16D67}A", 6, 1),
@@ -95,8 +95,8 @@ const ACCENTS: Files = (
     "",
 );
 
-// The same behind a composite: what goes into nothing follows, be its class below that of a part or not. What
-// goes into a part doesn't, though it has no composite with the whole.
+// The same behind a composite: what never composes backward follows, be its class below that of a part or not. What
+// composes with a part doesn't, though it has no composite with the whole.
 const ACCENTS_STANDING: [(Form, &str, usize); 11] = [
     (Form::Nfc, "\u{E0}\u{5AE}", 4),
     (Form::Nfkc, "\u{E0}\u{5AE}", 4),
@@ -111,7 +111,7 @@ const ACCENTS_STANDING: [(Form, &str, usize); 11] = [
     (Form::Nfc, "\u{E0}\u{5AE}\u{300}", 4),
 ];
 
-// Whether a form parts before a code point.
+// Whether a boundary of a form is before a code point.
 const PARTING: [(Form, char, bool); 8] = [
     (Form::Nfd, '\u{E2}', true),
     (Form::Nfc, '\u{E2}', true),
@@ -125,13 +125,13 @@ const PARTING: [(Form, char, bool); 8] = [
 
 fn tells_what_stands<T: NormTable>(table: &T, rows: &[(Form, &str, usize)]) -> Result<(), Fail> {
     for (form, text, count) in rows {
-        let (stands, _parts) = table.standing(*form, false, text);
+        let (stands, _parts) = table.quick_span(*form, false, text);
         want(stands == *count, text)?;
     }
     Ok(())
 }
 
-// Whether a form is told to part behind what stands at the front of a text.
+// Whether a boundary is told to be behind what passes at the front of a text.
 const ENDING: [(Form, &str, bool); 4] = [
     (Form::Nfd, "A\u{E2}", true),
     (Form::Nfc, "A\u{302}", false),
@@ -141,7 +141,7 @@ const ENDING: [(Form, &str, bool); 4] = [
 
 fn tells_where_runs_end<T: NormTable>(table: &T, rows: &[(Form, &str, bool)]) -> Result<(), Fail> {
     for (form, text, parts) in rows {
-        let (_stands, ended) = table.standing(*form, false, text);
+        let (_stands, ended) = table.quick_span(*form, false, text);
         want(ended == *parts, text)?;
     }
     Ok(())
@@ -152,9 +152,9 @@ fn tells_what_stands_assigned<T: NormTable>(
     rows: &[(Form, &str, usize, usize)],
 ) -> Result<(), Fail> {
     for (form, text, any, assigned) in rows {
-        let (stands, _parts) = table.standing(*form, false, text);
+        let (stands, _parts) = table.quick_span(*form, false, text);
         want(stands == *any, text)?;
-        let (stands, _parts) = table.standing(*form, true, text);
+        let (stands, _parts) = table.quick_span(*form, true, text);
         want(stands == *assigned, text)?;
     }
     Ok(())
@@ -194,24 +194,24 @@ const SPELLED: [(Form, char, &str); 12] = [
     (Form::Nfkc, '\u{344}', ""),
 ];
 
-/// Whether a table spells the form of a code point so; the empty text stands for none.
-fn spells<T: NormTable>(table: &T, form: Form, c: char, text: &str) -> bool {
-    match table.spelled(form, c) {
+/// Whether a table has this precomputed form of a code point; the empty text is for none.
+fn has_precomputed<T: NormTable>(table: &T, form: Form, c: char, text: &str) -> bool {
+    match table.precomputed(form, c) {
         Some((bytes, count)) => count == text.len() && bytes.starts_with(text.as_bytes()),
         None => text.is_empty(),
     }
 }
 
-fn spells_each<T: NormTable>(table: &T) -> Result<(), Fail> {
+fn has_each<T: NormTable>(table: &T) -> Result<(), Fail> {
     for (form, c, text) in &SPELLED {
-        want(spells(&table, *form, *c, text), text)?;
+        want(has_precomputed(&table, *form, *c, text), text)?;
     }
     Ok(())
 }
 
-fn spells_none<T: NormTable>(table: &T) -> Result<(), Fail> {
+fn has_none<T: NormTable>(table: &T) -> Result<(), Fail> {
     for (form, c, text) in &SPELLED {
-        want(spells(table, *form, *c, ""), text)?;
+        want(has_precomputed(table, *form, *c, ""), text)?;
     }
     Ok(())
 }
@@ -227,11 +227,13 @@ const ASCII: Files = (
 
 const FORMS: [Form; 4] = [Form::Nfd, Form::Nfc, Form::Nfkd, Form::Nfkc];
 
-/// Whether a table tells of each form that it parts before leading consonants, and that ASCII stands, as
+/// Whether a table tells of each form that leading consonants are boundaries, and that ASCII passes, as
 /// it is wanted.
 fn tells_once<T: NormTable>(table: &T, leads: bool, ascii: bool) -> bool {
     for form in &FORMS {
-        if table.parts_before_leads(*form) != leads || table.ascii_stands(*form) != ascii {
+        if table.leading_consonants_are_boundaries(*form) != leads
+            || table.ascii_passes(*form) != ascii
+        {
             return false;
         }
     }
@@ -241,26 +243,26 @@ fn tells_once<T: NormTable>(table: &T, leads: bool, ascii: bool) -> bool {
 /// What a table of pages tells beforehand, and a plain table doesn't.
 #[derive(Clone, Copy)]
 enum Hint {
-    Standing,
+    QuickSpan,
     Points,
     Accents,
-    Spelled,
+    Precomputed,
     LeadsPart,
     AsciiStands,
-    NoneSpelled,
+    NonePrecomputed,
     Neither,
 }
 
 impl Example for Hint {
     fn holds<T: Made>(&self, _alloc: Global, table: &T) -> Result<(), Fail> {
         match self {
-            Hint::Standing => tells_what_forms_leave(table),
+            Hint::QuickSpan => tells_what_forms_leave(table),
             Hint::Points => tells_what_stands(table, &HEBREW_STANDING),
             Hint::Accents => tells_what_stands(table, &ACCENTS_STANDING),
-            Hint::Spelled => spells_each(table),
+            Hint::Precomputed => has_each(table),
             Hint::LeadsPart => want(tells_once(&table, true, false), "leading consonants part"),
             Hint::AsciiStands => want(tells_once(table, true, true), "ASCII stands"),
-            Hint::NoneSpelled => spells_none(table),
+            Hint::NonePrecomputed => has_none(table),
             Hint::Neither => want(
                 tells_once(table, false, false),
                 "a plain table tells neither",
@@ -270,8 +272,8 @@ impl Example for Hint {
 }
 
 #[test]
-fn forms_leave_what_stands_and_part_before_starters(rt: HostRuntime) -> Result<(), Fail> {
-    holds_over::<PageTable, Hint>(rt.alloc(), V1, &Hint::Standing)
+fn what_passes_is_told_and_boundaries_are_before_starters(rt: HostRuntime) -> Result<(), Fail> {
+    holds_over::<PageTable, Hint>(rt.alloc(), V1, &Hint::QuickSpan)
 }
 
 #[test]
@@ -285,22 +287,22 @@ fn accents_stand_behind_composites(rt: HostRuntime) -> Result<(), Fail> {
 }
 
 #[test]
-fn forms_of_single_code_points_are_spelled(rt: HostRuntime) -> Result<(), Fail> {
-    holds_over::<PageTable, Hint>(rt.alloc(), V1, &Hint::Spelled)
+fn forms_of_single_code_points_are_precomputed(rt: HostRuntime) -> Result<(), Fail> {
+    holds_over::<PageTable, Hint>(rt.alloc(), V1, &Hint::Precomputed)
 }
 
 #[test]
-fn a_plain_table_spells_nothing(rt: HostRuntime) -> Result<(), Fail> {
-    holds_over::<RowTable, Hint>(rt.alloc(), V1, &Hint::NoneSpelled)
+fn a_plain_table_precomputes_nothing(rt: HostRuntime) -> Result<(), Fail> {
+    holds_over::<RowTable, Hint>(rt.alloc(), V1, &Hint::NonePrecomputed)
 }
 
 #[test]
-fn where_leading_consonants_part_is_told_once(rt: HostRuntime) -> Result<(), Fail> {
+fn that_leading_consonants_are_boundaries_is_told_once(rt: HostRuntime) -> Result<(), Fail> {
     holds_over::<PageTable, Hint>(rt.alloc(), V1, &Hint::LeadsPart)
 }
 
 #[test]
-fn that_ascii_stands_is_told_once(rt: HostRuntime) -> Result<(), Fail> {
+fn that_ascii_passes_is_told_once(rt: HostRuntime) -> Result<(), Fail> {
     holds_over::<PageTable, Hint>(rt.alloc(), ASCII, &Hint::AsciiStands)
 }
 

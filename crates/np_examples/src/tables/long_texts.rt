@@ -1,4 +1,4 @@
-//! What stands in long texts, where the table of pages looks at many bytes at a time.
+//! What passes the quick check in long texts, where the table of pages looks at many bytes at a time.
 use np_code_points::Form;
 use np_examples_shared::{Example, LETTERS, Made, amid, holds_over, want};
 use np_tables::{NormTable, PageTable};
@@ -13,7 +13,7 @@ const THREE: &str = "ab\u{4E00}";
 const MANY: &str = "a\u{E9}";
 
 // A form, a piece that stands before and behind something a hundred times, that something, and how many bytes at
-// the front stand in the form as they are: of any code points, and of assigned ones.
+// the front pass the quick check: of any code points, and of assigned ones.
 const AMID: [(Form, &str, &str, usize, usize); 22] = [
     // an accent that goes into the letter before it, where the form composes
     (Form::Nfc, TWO, "e\u{301}", 401, 401),
@@ -49,15 +49,15 @@ const AMID: [(Form, &str, &str, usize, usize); 22] = [
 fn tells_what_stands_amid<T: NormTable>(alloc: Global, table: &T) -> Result<(), Fail> {
     for (form, piece, turn, any, assigned) in &AMID {
         let text = amid(alloc, piece, turn)?;
-        let (stands, _parts) = table.standing(*form, false, text.as_str());
+        let (stands, _parts) = table.quick_span(*form, false, text.as_str());
         want(stands == *any, turn)?;
-        let (stands, _parts) = table.standing(*form, true, text.as_str());
+        let (stands, _parts) = table.quick_span(*form, true, text.as_str());
         want(stands == *assigned, turn)?;
     }
     Ok(())
 }
 
-/// What stands in the midst of long texts.
+/// What passes in the midst of long texts.
 struct Amid;
 
 impl Example for Amid {

@@ -2,7 +2,7 @@
 use Rattle.std.specs.Prelude.{◌≡◌, ℕ, ◌<◌, ◌≤◌, ◌⊎◌, ⊤, true, List, [], ◌∷◌, ◌++◌, Option, length, take, chars, flat_map, encode_utf8_all, IsUtf8}
 use Rattle.np_code_points.specs.Forms.{is_compat}
 use Rattle.np_code_points.specs.declared.forms.Form.{Form}
-use Rattle.np_forms.specs.declared.segments.Marked.{Marked}
+use Rattle.np_forms.specs.declared.segments.Triple.{Triple}
 use Rattle.np_forms.specs.Order.{is_ordered}
 use Rattle.np_forms.specs.inside.Classes.{CodeAndClass, with_classes}
 use Rattle.np_forms.specs.inside.Composers.{IsComposing}
@@ -40,8 +40,8 @@ pub record IsFirstMade (v : VersionData) (form : Form) (text rest list : List �
   pub end : IsEndOf text rest
   pub made : normal_form v form (chars text) ≡ list ++ normal_form v form (chars rest)
 
--- the same, where the list is spelled by the first bytes
-pub record IsFirstSpelled (v : VersionData) (form : Form) (text rest bytes : List ℕ) (count : ℕ) : Type 0 where
+-- the same, where the first bytes are the list in UTF-8
+pub record IsFirstPrecomputed (v : VersionData) (form : Form) (text rest bytes : List ℕ) (count : ℕ) : Type 0 where
   pub list : List ℕ
   pub made : IsFirstMade v form text rest list
   pub fits : count ≤ length bytes
@@ -49,11 +49,11 @@ pub record IsFirstSpelled (v : VersionData) (form : Form) (text rest bytes : Lis
   pub is : take count bytes ≡ encode_utf8_all list
 
 -- a starter and two non-starters, of which the second has no lower class than the first
-pub record IsMarked (v : VersionData) (m : Marked) : Type 0 where
+pub record IsTriple (v : VersionData) (m : Triple) : Type 0 where
   pub starter : class_of v m.starter ≡ 0
   pub some : 0 < class_of v m.first
   pub rises : class_of v m.first ≤ class_of v m.second
 
 -- the three
-abbrev pub listed : Marked → List ℕ
+abbrev pub listed : Triple → List ℕ
 listed m = m.starter ∷ m.first ∷ m.second ∷ []

@@ -14,8 +14,8 @@ abbrev pub Lists : List Composite → ℕ → ℕ → ℕ → Type 0
 Lists cs first second code = Contains cs (record { first = first; second = second; code = code })
 
 -- this composite stands at a place, from 0
-abbrev pub StandsAt : List Composite → ℕ → ℕ → ℕ → ℕ → Type 0
-StandsAt cs place first second code = slice_get cs place ≡ Some (record { first = first; second = second; code = code })
+abbrev pub IsCompositeAt : List Composite → ℕ → ℕ → ℕ → ℕ → Type 0
+IsCompositeAt cs place first second code = slice_get cs place ≡ Some (record { first = first; second = second; code = code })
 
 -- where a pair stands among all pairs of code points
 abbrev pub pair_rank : ℕ → ℕ → ℕ

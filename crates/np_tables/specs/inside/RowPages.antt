@@ -2,7 +2,7 @@
 use Rattle.std.specs.Prelude.{◌≡◌, ℕ, ◌+◌, ◌*◌, ◌-◌, ◌<◌, ◌≤◌, List, length, slice_get, slice_index, None, Some}
 use Rattle.np_ucd.specs.Entries.{Entry, AreRows}
 use Rattle.np_tables.specs.Versions.{entry_at}
-use Rattle.np_tables.specs.inside.Pages.{AreWithin, word_place}
+use Rattle.np_tables.specs.inside.Pages.{AreWithin, property_place}
 
 -- a row's number is 1 plus its place; 0 is that of the code points which no row has
 pub record IsRowNumber (es : List Entry) (c number : ℕ) : Type 0 where
@@ -17,7 +17,7 @@ IsRowBlock es numbers block first = (low : ℕ) → low < 256 → IsRowNumber es
 -- the row number of each code point
 pub record AreRowPages (es : List Entry) (blocks numbers : List ℕ) : Type 0 where
   pub within : AreWithin 4352 blocks (length numbers)
-  pub each : (c : ℕ) → c < 0x110000 → IsRowNumber es c (slice_index numbers (word_place blocks c))
+  pub each : (c : ℕ) → c < 0x110000 → IsRowNumber es c (slice_index numbers (property_place blocks c))
 
 -- rows, and the row number of each code point
 pub record ArePagedRows (es : List Entry) (blocks numbers : List ℕ) : Type 0 where

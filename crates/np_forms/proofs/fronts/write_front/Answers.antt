@@ -7,29 +7,29 @@ use Rattle.np_forms.proofs.fronts.write_front.Goals as goal
 pub returns-in-Some-clause-goes : goal.returns-in-Some-clause-goes
 returns-in-Some-clause-goes g c =
     let between = c.append_front.new.self in
-    let spelled = c.in-Some.ensures.made in
-    goes-both _ _ _ _ c.in_ok-rest.rest.now c.args.out.now c.append_first.new.self c.write_word.new.out
-    (goes-both _ _ _ _ _ c.args.out.now between c.append_first.new.self (goes-copied _ _ _ c.split_standing-stood.result.0.now _ c.args.out.now between c.split_standing-stood.ensures.copied c.in_ok-append_front.ensures)
-    (goes-made _ _ _ _ spelled.list between c.append_first.new.self spelled.made (c.in_ok-append_first.ensures ∙ ap (λ l. between ++ l) spelled.is)))
+    let precomputed = c.in-Some.ensures.made in
+    goes-both _ _ _ _ c.in_ok-rest.rest.now c.args.out.now c.append_first.new.self c.write_letters.new.out
+    (goes-both _ _ _ _ _ c.args.out.now between c.append_first.new.self (goes-copied _ _ _ c.split_quick_span-passing.result.0.now _ c.args.out.now between c.split_quick_span-passing.ensures.copied c.in_ok-append_front.ensures)
+    (goes-made _ _ _ _ precomputed.list between c.append_first.new.self precomputed.made (c.in_ok-append_first.ensures ∙ ap (λ l. between ++ l) precomputed.is)))
     c.in_ok-rest.ensures.goes
 
 pub returns-clause-goes : goal.returns-clause-goes
 returns-clause-goes g c =
     goes-both _ c.args.normalizer.now.form c.args.text.now _ c.in_ok-after.later.now c.args.out.now _ c.write_changed.new.out
-    (goes-copied _ c.args.normalizer.now.form c.args.text.now c.split_standing-stood.result.0.now _ c.args.out.now _ c.split_standing-stood.ensures.copied c.in_ok-append_front.ensures) c.in_ok-after.ensures.goes
+    (goes-copied _ c.args.normalizer.now.form c.args.text.now c.split_quick_span-passing.result.0.now _ c.args.out.now _ c.split_quick_span-passing.ensures.copied c.in_ok-append_front.ensures) c.in_ok-after.ensures.goes
 
 pub returns-in-Some-clause-read : goal.returns-in-Some-clause-read
 returns-in-Some-clause-read g c = λ asked.
-    let cut = c.split_standing-stood in
+    let cut = c.split_quick_span-passing in
     IsReadAssigned-both _ _ _ c.in_ok-rest.rest.now
     (IsReadAssigned-both _ _ cut.result.1.now _ (IsCopied-read _ c.args.normalizer.now.form _ cut.result.0.now cut.result.1.now c.utf8.text cut.ensures.copied (cut.ensures.assigned asked)) c.in-Some.ensures.read) c.in_ok-rest.ensures.read
 
 pub returns-then-is_empty-clause-read : goal.returns-then-is_empty-clause-read
 returns-then-is_empty-clause-read g c = λ asked.
-    let cut = c.split_standing-stood in
+    let cut = c.split_quick_span-passing in
     IsCopied-read (g.T.NormTable.model c.args.normalizer.now.table.now) c.args.normalizer.now.form c.args.text.now cut.result.0.now cut.result.1.now c.utf8.text cut.ensures.copied (cut.ensures.assigned asked)
 
 pub returns-clause-read : goal.returns-clause-read
 returns-clause-read g c = λ asked.
-    let cut = c.split_standing-stood in
+    let cut = c.split_quick_span-passing in
     IsReadAssigned-both _ c.args.text.now cut.result.1.now c.in_ok-after.after.now (IsCopied-read _ c.args.normalizer.now.form c.args.text.now cut.result.0.now cut.result.1.now c.utf8.text cut.ensures.copied (cut.ensures.assigned asked)) c.in_ok-after.ensures.read

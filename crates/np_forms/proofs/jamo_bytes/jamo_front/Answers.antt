@@ -2,30 +2,30 @@ use Rattle.std.proofs.Common.{arith, refl}
 use Rattle.np_forms.proofs.SyllableTextLemmas.{front_two, front_three}
 use Rattle.np_forms.proofs.jamo_bytes.jamo_front.Goals as goal
 
-pub returns-then-trailing-eq0-clause-spelled : goal.returns-then-trailing-eq0-clause-spelled
-returns-then-trailing-eq0-clause-spelled c =
-    front_two c.args.bytes.now c.in_ok-lead.lead c.in_ok-vowel.vowel c.trailing_index-trailing.result _
+pub returns-then-trailing-eq0-clause-encoded : goal.returns-then-trailing-eq0-clause-encoded
+returns-then-trailing-eq0-clause-encoded c =
+    front_two c.args.bytes.now c.in_ok-leading.leading c.in_ok-vowel.vowel c.trailing_index-trailing.result _
     (record {
       long = c.requires;
-      leads = c.in_ok-lead.ensures.among;
+      leading_consonants = c.in_ok-leading.ensures.among;
       vowels = c.in_ok-vowel.ensures.among;
       trailings = c.trailing_index-trailing.ensures.among;
       is = refl;
-      first = c.in_ok-lead.ensures.spelled;
-      second = c.in_ok-vowel.ensures.spelled;
+      first = c.in_ok-leading.ensures.encoded;
+      second = c.in_ok-vowel.ensures.encoded;
     })
     c.if-trailing-eq0.true
 
-pub returns-clause-spelled : goal.returns-clause-spelled
-returns-clause-spelled c =
-    front_three c.args.bytes.now c.in_ok-lead.lead c.in_ok-vowel.vowel c.trailing_index-trailing.result _
+pub returns-clause-encoded : goal.returns-clause-encoded
+returns-clause-encoded c =
+    front_three c.args.bytes.now c.in_ok-leading.leading c.in_ok-vowel.vowel c.trailing_index-trailing.result _
     (record {
       long = c.requires;
-      leads = c.in_ok-lead.ensures.among;
+      leading_consonants = c.in_ok-leading.ensures.among;
       vowels = c.in_ok-vowel.ensures.among;
       trailings = c.trailing_index-trailing.ensures.among;
       is = refl;
-      first = c.in_ok-lead.ensures.spelled;
-      second = c.in_ok-vowel.ensures.spelled;
+      first = c.in_ok-leading.ensures.encoded;
+      second = c.in_ok-vowel.ensures.encoded;
     })
-    c.if-trailing-eq0.false (c.trailing_index-trailing.ensures.spelled (omega (arith, c.if-trailing-eq0.false)))
+    c.if-trailing-eq0.false (c.trailing_index-trailing.ensures.encoded (omega (arith, c.if-trailing-eq0.false)))

@@ -9,7 +9,7 @@ loop-c-preserved c =
     let i = c.loop-c.c-index in
     let x = c.c-item.result in
     let before = codes_of (take i list) in
-    let front = take c.args.at c.args.room.now in
+    let front = take c.args.at c.args.buffer.now in
     let more : codes_of (take (i + 1) list) ≡ before ++ x.code ∷ [] = codes_next list i x c.loop-c-test.true c.c-item.is in
     let grown : encode_utf8_all before ++ encode_utf8 c.code.result ≡ encode_utf8_all (codes_of (take (i + 1) list)) =
     ap (λ d. encode_utf8_all before ++ encode_utf8 d) c.code.ensures ∙ ap (λ l. encode_utf8_all before ++ l) (sym (append-nil (encode_utf8 x.code))) ∙ sym (encodes-append before (x.code ∷ [])) ∙ ap encode_utf8_all (sym more) in

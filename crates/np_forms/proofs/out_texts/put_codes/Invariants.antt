@@ -5,8 +5,8 @@ use Rattle.np_forms.proofs.out_texts.put_codes.Given as goal
 abbrev pub invariant-loop-c : goal.invariant-loop-c
 invariant-loop-c l =
     record {
-      bytes : take l.end l.room ≡ take l.at l.fn.room ++ encode_utf8_all (codes_of (take l.c-index l.list));
+      bytes : take l.end l.buffer ≡ take l.at l.fn.buffer ++ encode_utf8_all (codes_of (take l.c-index l.list));
       utf8 : IsUtf8 (encode_utf8_all (codes_of (take l.c-index l.list)));
       place : l.end ≤ l.at + 4 * l.c-index;
-      same : length l.room ≡ length l.fn.room;
+      same : length l.buffer ≡ length l.fn.buffer;
     }

@@ -15,8 +15,8 @@ returns-clause-goes g c =
     let sound = c.meets_conditions.ensures in
     let third = c.in-Some-split_single in
     let three = third.three.now in
-    let marked = c.in-Some-in_order in
+    let triple = c.in-Some-in_order in
     let all = c.in-Some.starter ∷ c.in-Some.second ∷ third.third ∷ [] in
     let full = full-both _ sound _ _ c.in-Some.two.now three (c.in-Some.starter ∷ c.in-Some.second ∷ []) (third.third ∷ []) c.in-Some.ensures.full third.ensures.full in
-    let made = full-made _ sound _ _ three all (listed marked.marked) full marked.ensures.order (c.begins_at_boundary-2.ensures c.if-not-begins_at_boundary.false) in
-    goes-made _ _ _ three (ended _ (composes _) (listed marked.marked)) c.args.out.now c.write_marked.new.out made c.in_ok-write_marked.ensures
+    let made = full-made _ sound _ _ three all (listed triple.triple) full triple.ensures.order (c.begins_at_boundary-2.ensures c.if-not-begins_at_boundary.false) in
+    goes-made _ _ _ three (ended _ (composes _) (listed triple.triple)) c.args.out.now c.write_triple.new.out made c.in_ok-write_triple.ensures

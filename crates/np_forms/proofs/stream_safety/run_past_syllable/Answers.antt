@@ -11,8 +11,8 @@ returns-in-Some-hangul_parts-clause-over g c = λ rest.
     let b = c.in-Some.second in
     let pair : syllable_pair s ≡ a ∷ b ∷ [] = let p = c.in-Some.ensures.parts in let f = c.in-Some.first-is in let g = c.in-Some.second-is in cc in
     let first : is_syllable a ≡ true = c.in-Some-hangul_parts.ensures.some.0 refl in
-    let again : syllable_pair a ≡ c.in-Some-hangul_parts.lead ∷ c.in-Some-hangul_parts.vowel ∷ [] =
-    let p = c.in-Some-hangul_parts.ensures.parts in let f = c.in-Some-hangul_parts.lead-is in let g = c.in-Some-hangul_parts.vowel-is in cc in
+    let again : syllable_pair a ≡ c.in-Some-hangul_parts.leading ∷ c.in-Some-hangul_parts.vowel ∷ [] =
+    let p = c.in-Some-hangul_parts.ensures.parts in let f = c.in-Some-hangul_parts.leading-is in let g = c.in-Some-hangul_parts.vowel-is in cc in
     c.run_past_all.ensures.over rest ∙ ap (λ x. runs_over (class_of v) c.args.run (x ++ rest)) (sym (syllable_parts-three s a b _ _ c.requires.syllable pair first again))
 
 pub returns-in-None-clause-over : goal.returns-in-None-clause-over

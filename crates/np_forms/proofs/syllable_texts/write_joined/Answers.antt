@@ -1,5 +1,5 @@
 use Rattle.std.proofs.Common.{◌≡◌, ◌∙◌, subst, IfNone, IfSome}
-use Rattle.np_forms.proofs.Words.{GoesOn, IsReadAssigned, BeginsWithSyllable}
+use Rattle.np_forms.proofs.Words.{AppendsForm, IsReadAssigned, BeginsWithSyllable}
 use Rattle.np_forms.proofs.SegmentLemmas.{goes-both}
 use Rattle.np_forms.proofs.SyllableFrontLemmas.{goes-joined, syllable-begins, syllable-read}
 use Rattle.np_forms.proofs.TextLemmas.{IsReadAssigned-both}
@@ -9,7 +9,7 @@ pub scan-preserved-in-Some-syllable_front : goal.scan-preserved-in-Some-syllable
 scan-preserved-in-Some-syllable_front g c =
     let begins = c.scan.invariant.2 in
     let following = c.in-Some-syllable_front.ensures in
-    let at = syllable-begins _ c.meets_conditions.ensures c.requires.on _ (λ _. c.requires.leads) _ c.in-Some-syllable_front.behind.now c.in-Some-syllable_front.next following in (
+    let at = syllable-begins _ c.meets_conditions.ensures c.requires.on _ (λ _. c.requires.leading_consonants) _ c.in-Some-syllable_front.behind.now c.in-Some-syllable_front.next following in (
       goes-both _ _ _ _ _ c.args.out.now c.scan.out c.push_joined.new.out c.scan.invariant.0
           (goes-joined _ c.meets_conditions.ensures c.requires.on _ c.requires.form _ _ c.scan.syllable c.scan.out c.push_joined.new.out begins at c.in_ok-push_joined.ensures),
       IsReadAssigned-both _ _ _ _ c.scan.invariant.1 (syllable-read _ c.requires.on _ _ c.scan.syllable begins),
@@ -18,7 +18,7 @@ scan-preserved-in-Some-syllable_front g c =
 
 pub returns-in_default-2-clause-goes : goal.returns-in_default-2-clause-goes
 returns-in_default-2-clause-goes g c =
-    let at = c.parts_before.ensures c.if-not-parts_before.false in
+    let at = c.has_boundary_before.ensures c.if-not-has_boundary_before.false in
     let same : c.write_space.new.out ≡ c.push_joined-in-scan.new.out = subst (λ j. IfNone j (c.write_space.new.out ≡ c.push_joined-in-scan.new.out)) c.in_default-2.is c.in_ok-begun.ensures.none in
     goes-both _ _ c.args.text.now _ _ c.args.out.now c.scan.out c.write_space.new.out c.scan.invariant.0
     (goes-joined _ c.meets_conditions.ensures c.requires.on _ c.requires.form _ _ c.scan.syllable c.scan.out c.write_space.new.out c.scan.invariant.2 at (same ∙ c.in_ok-push_joined-2.ensures))
@@ -34,11 +34,11 @@ scan-preserved g c =
     let later = c.scan.later.now in
     let between = c.push_joined-in-scan.new.out in
     let begins = c.scan.invariant.2 in
-    let at = c.parts_before.ensures c.if-not-parts_before.false in
+    let at = c.has_boundary_before.ensures c.if-not-has_boundary_before.false in
     let made = goes-both v form _ _ later c.args.out.now c.scan.out between c.scan.invariant.0
     (goes-joined v c.meets_conditions.ensures c.requires.on form c.requires.form _ later c.scan.syllable c.scan.out between begins at c.in_ok-push_joined-2.ensures) in
     let read = IsReadAssigned-both v _ _ later c.scan.invariant.1 (syllable-read v c.requires.on _ later c.scan.syllable begins) in (
-      goes-both v form _ later _ c.args.out.now between c.write_space.new.out made (subst (λ j. IfSome j (λ next. GoesOn v form later next.0.now between c.write_space.new.out)) c.in-Some-2.is c.in_ok-begun.ensures.goes),
+      goes-both v form _ later _ c.args.out.now between c.write_space.new.out made (subst (λ j. IfSome j (λ next. AppendsForm v form later next.0.now between c.write_space.new.out)) c.in-Some-2.is c.in_ok-begun.ensures.goes),
       IsReadAssigned-both v _ later _ read (subst (λ j. IfSome j (λ next. IsReadAssigned v later next.0.now)) c.in-Some-2.is c.in_ok-begun.ensures.read),
       subst (λ j. IfSome j (λ next. BeginsWithSyllable next.0.now next.2.now next.1)) c.in-Some-2.is c.in_ok-begun.ensures.begins,
     )

@@ -1,5 +1,5 @@
 use Rattle.std.proofs.Common.{◌≡◌, ◌∙◌, true, sym, subst, IfNone, IfSome}
-use Rattle.np_forms.proofs.Words.{GoesOn, IsReadAssigned, BeginsWithSyllable, has_hangul}
+use Rattle.np_forms.proofs.Words.{AppendsForm, IsReadAssigned, BeginsWithSyllable, has_hangul}
 use Rattle.np_forms.proofs.SegmentLemmas.{goes-both}
 use Rattle.np_forms.proofs.SyllableFrontLemmas.{goes-syllable, syllable-read}
 use Rattle.np_forms.proofs.TextLemmas.{IsReadAssigned-both}
@@ -46,7 +46,7 @@ scan-preserved g c =
     (goes-syllable v c.meets_conditions.ensures on form c.requires rest later c.scan.syllable c.scan.out between begins c.in_ok-push_syllable.ensures) in
     let read = IsReadAssigned-both v _ rest later c.scan.invariant.2 (syllable-read v on rest later c.scan.syllable begins) in (
       _,
-      goes-both v form _ later _ c.args.out.now between c.write_space.new.out made (subst (λ j. IfSome j (λ next. GoesOn v form later next.0.now between c.write_space.new.out)) c.in-Some-2.is c.in_ok-_begun.ensures.goes),
+      goes-both v form _ later _ c.args.out.now between c.write_space.new.out made (subst (λ j. IfSome j (λ next. AppendsForm v form later next.0.now between c.write_space.new.out)) c.in-Some-2.is c.in_ok-_begun.ensures.goes),
       IsReadAssigned-both v _ later _ read (subst (λ j. IfSome j (λ next. IsReadAssigned v later next.0.now)) c.in-Some-2.is c.in_ok-_begun.ensures.read),
       subst (λ j. IfSome j (λ next. BeginsWithSyllable next.0.now next.2.now next.1)) c.in-Some-2.is c.in_ok-_begun.ensures.begins,
     )

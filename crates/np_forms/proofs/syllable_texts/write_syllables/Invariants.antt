@@ -1,11 +1,11 @@
 use Rattle.std.proofs.Common.{ℕ, List, length}
-use Rattle.np_forms.proofs.Words.{GoesOn, IsReadAssigned, BeginsWithSyllable}
+use Rattle.np_forms.proofs.Words.{AppendsForm, IsReadAssigned, BeginsWithSyllable}
 use Rattle.np_forms.proofs.syllable_texts.write_syllables.Given as goal
 
 abbrev pub invariant-scan : goal.invariant-scan
 invariant-scan g l =
     let v = g.T.NormTable.model l.normalizer.table.now in
-    (rest : List ℕ) × GoesOn v l.normalizer.form l.text rest l.fn.out l.out × IsReadAssigned v l.text rest × BeginsWithSyllable rest l.later l.syllable
+    (rest : List ℕ) × AppendsForm v l.normalizer.form l.text rest l.fn.out l.out × IsReadAssigned v l.text rest × BeginsWithSyllable rest l.later l.syllable
 
 abbrev pub decreases-scan : goal.decreases-scan
 decreases-scan g l = length l.later

@@ -11,4 +11,4 @@ returns-then-not-touches c =
 pub returns-then-row-le55203 : goal.returns-then-row-le55203
 returns-then-row-le55203 c =
     subst (AreRowBits _ _) (sym c.eight_bits-then-row-le55203.ensures)
-    (bits-syllables _ _ c.meets_conditions.ensures (sym c.has_hangul.ensures ∙ c.if-has_hangul.true) (c.requires.leads c.if-leads_apart.true) (omega arith) (omega arith))
+    (bits-syllables _ _ c.meets_conditions.ensures (sym c.has_hangul.ensures ∙ c.if-has_hangul.true) (c.requires.leading_consonants c.if-leading_never_second.true) (omega arith) (omega arith))

@@ -1,8 +1,8 @@
 use Rattle.std.proofs.Common.{◌≡◌, ◌∙◌, Some, sym, subst}
 use Rattle.np_tables.proofs.Words.{slice_get, entry_of, entry_at, AreHints}
-use Rattle.np_tables.proofs.PrimaryLemmas.{row-apart}
+use Rattle.np_tables.proofs.PrimaryLemmas.{row-never_second}
 use Rattle.np_tables.proofs.PageHintLemmas.{hints-own}
-use Rattle.np_tables.proofs.PageWordLemmas.{class-found}
+use Rattle.np_tables.proofs.PagePropertyLemmas.{class-found}
 use Rattle.np_tables.proofs.page_bits.row_bits.Goals as goal
 
 pub bare_bits-requires-clause-own : goal.bare_bits-requires-clause-own
@@ -11,7 +11,7 @@ bare_bits-requires-clause-own c = λ compat d found final.
     let e = entry_of c.row_in-row.result.now in
     let here = subst (λ w. slice_get w.entries c.args.at ≡ Some e) c.characters.ensures.same c.row_in-row.ensures.place in
     subst (AreHints v compat d) (sym c.own_hints-own.ensures)
-    (hints-own v compat d c.row_in-row.result.now.class c.is_row_apart.result final (class-found v d e found) (λ is. row-apart v c.args.known.now.seconds.now c.args.at e d c.args.known.now.are_seconds here found (sym c.is_row_apart.ensures ∙ is)))
+    (hints-own v compat d c.row_in-row.result.now.class c.is_row_never_second.result final (class-found v d e found) (λ is. row-never_second v c.args.known.now.seconds.now c.args.at e d c.args.known.now.are_seconds here found (sym c.is_row_never_second.ensures ∙ is)))
 
 pub mapped_bits-requires-clause-slot : goal.mapped_bits-requires-clause-slot
 mapped_bits-requires-clause-slot c =
@@ -25,4 +25,4 @@ mapped_bits-requires-clause-own c = λ compat final.
     let found = subst (λ w. entry_at w.entries c.row_in-row.result.now.first ≡ Some e) c.characters.ensures.same c.row_in-row.ensures.first in
     let d = c.row_in-row.result.now.first in
     subst (AreHints v compat d) (sym c.own_hints-own.ensures)
-    (hints-own v compat d c.row_in-row.result.now.class c.is_row_apart.result final (class-found v d e found) (λ is. row-apart v c.args.known.now.seconds.now c.args.at e d c.args.known.now.are_seconds here found (sym c.is_row_apart.ensures ∙ is)))
+    (hints-own v compat d c.row_in-row.result.now.class c.is_row_never_second.result final (class-found v d e found) (λ is. row-never_second v c.args.known.now.seconds.now c.args.at e d c.args.known.now.are_seconds here found (sym c.is_row_never_second.ensures ∙ is)))

@@ -1,4 +1,4 @@
-use Rattle.np_tables.specs.inside.PageWords.{AreSlotsSoFar}
+use Rattle.np_tables.specs.inside.PageProperties.{AreSlotsSoFar}
 use Rattle.np_tables.proofs.page_slots.slots_of.Given as goal
 
 abbrev pub invariant-loop-at : goal.invariant-loop-at

@@ -1,6 +1,6 @@
 use Rattle.std.proofs.Common.{◌∙◌, ◌++◌, ap, subst, length}
-use Rattle.np_tables.proofs.Words.{AreRowWords, AreSlots, paged_words, AreRowPages}
-use Rattle.np_tables.proofs.PageWordLemmas.{pages-from}
+use Rattle.np_tables.proofs.Words.{AreAllRowProperties, AreSlots, paged_properties, AreRowPages}
+use Rattle.np_tables.proofs.PagePropertyLemmas.{pages-from}
 use Rattle.np_tables.proofs.page_table.pages_of.Goals as goal
 
 pub returns-clause-pages : goal.returns-clause-pages
@@ -10,9 +10,9 @@ returns-clause-pages c =
     let slots = c.in_ok-lent.lent.slots.items in
     let rows = c.in_ok-rows.rows.items in
     let pages = c.pages-pages.result.now in
-    let words = subst (λ s. AreRowWords v s c.in_ok-seconds.seconds.items (length v.entries) rows) c.deref.ensures.value
-    (subst (λ t. AreRowWords v c.deref.result.now t (length v.entries) rows) c.deref-2.ensures.value c.in_ok-rows.ensures) in
+    let all_properties = subst (λ s. AreAllRowProperties v s c.in_ok-seconds.seconds.items (length v.entries) rows) c.deref.ensures.value
+    (subst (λ t. AreAllRowProperties v c.deref.result.now t (length v.entries) rows) c.deref-2.ensures.value c.in_ok-rows.ensures) in
     let index = c.in_ok-extend_from_slice.ensures.items ∙ ap (λ l. l ++ c.deref-5.result.now) c.in_ok-index.ensures.items ∙ c.deref-5.ensures.value in
-    let paged = c.in_ok-words.ensures ∙ ap (λ r. paged_words r c.deref-4.result.now) c.deref-3.ensures.value ∙ ap (paged_words rows) c.deref-4.ensures.value in
+    let paged = c.in_ok-all_properties.ensures ∙ ap (λ r. paged_properties r c.deref-4.result.now) c.deref-3.ensures.value ∙ ap (paged_properties rows) c.deref-4.ensures.value in
     pages-from v c.characters.ensures.sound fulls slots (subst (λ x. AreSlots x (length x.entries) fulls slots) c.characters-2.ensures.same c.in_ok-lent.ensures) _ c.in_ok-seconds.ensures
-    rows words pages.index.items pages.numbers.items _ _ (subst (λ x. AreRowPages x.entries pages.index.items pages.numbers.items) c.characters.ensures.same c.pages-pages.ensures) index paged
+    rows all_properties pages.index.items pages.numbers.items _ _ (subst (λ x. AreRowPages x.entries pages.index.items pages.numbers.items) c.characters.ensures.same c.pages-pages.ensures) index paged

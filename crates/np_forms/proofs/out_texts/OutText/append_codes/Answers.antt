@@ -5,4 +5,4 @@ use Rattle.np_forms.proofs.out_texts.OutText.append_codes.Goals as goal
 
 pub invariant_of-self-2 : goal.invariant_of-self-2
 invariant_of-self-2 c =
-    utf8_grown _ _ (encode_utf8_all (codes_of c.args.list.now)) c.write_codes-self-inside.ensures.bytes (utf8_same _ _ c.make_room.ensures.same c.self.invariant) c.write_codes-self-inside.ensures.utf8
+    utf8_grown _ _ (encode_utf8_all (codes_of c.args.list.now)) c.write_codes-self-inside.ensures.bytes (utf8_same _ _ c.reserve.ensures.same c.self.invariant) c.write_codes-self-inside.ensures.utf8

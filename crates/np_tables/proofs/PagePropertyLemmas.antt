@@ -1,0 +1,206 @@
+-- Properties of code points, by rows and by blocks.
+use Rattle.std.proofs.Common.{◌≡◌, ℕ, suc, ◌+◌, ◌-◌, ◌/◌, ◌<◌, Bool, true, false, ◌&&◌, List, [], ◌∷◌, ◌++◌, length, get_or, set, slice_index, Some, None, sym, ap, subst, ◌∙◌, arith, inl, inr}
+use Rattle.np_tables.proofs.Words.{slice_get, is_some, mod-lt, get_or-append_seam, and_parts, cases_Bool, cases_eq}
+use Rattle.np_tables.proofs.Words.{cases_lt, both_ways, get_or_append_left, get_or-map, get_or-set_same}
+use Rattle.np_tables.proofs.Words.{get_or-set_other, length-append, length-map, length-set, none-some, same_Some}
+use Rattle.np_tables.proofs.Words.{slice_get_within, is_syllable, Form, Entry, AreRows, IsBoundary, VersionData}
+use Rattle.np_tables.proofs.Words.{class_of, class_in, entry_at, file_mapping, mapping_in, has_hangul, is_assigned}
+use Rattle.np_tables.proofs.Words.{is_empty, IsSound, IsCompositeOf, is_final, Properties, Composite, table_full, FullLists}
+use Rattle.np_tables.proofs.Words.{of_kind, has_bit, boundary_place, property_place, AreRowPages, IsRowNumber, AreAllRowProperties}
+use Rattle.np_tables.proofs.Words.{AreSecondRows, AreSeconds, AreSlots, AreRowProperties, ArePropertiesOf, ArePages, no_properties, row_properties}
+use Rattle.np_tables.proofs.Words.{paged_properties}
+use Rattle.np_tables.proofs.FullListLemmas.{empty_parts}
+use Rattle.np_tables.proofs.HangulLemmas.{by_arithmetic, syllable_hangul}
+use Rattle.np_tables.proofs.PrimaryLemmas.{never_second-unlisted, row-never_second}
+use Rattle.np_tables.proofs.PageHintLemmas.{bits-unlisted}
+use Rattle.np_tables.proofs.RowLemmas.{at-found, at-row, firsts-le}
+use Rattle.np_tables.proofs.RowPageLemmas.{ends-rise, some_at}
+use Rattle.np_tables.proofs.TableLemmas.{row-shares, full-none}
+
+-- ---- rows that have second parts
+
+-- a row has one place
+early : (es : List Entry) (i j : ℕ) (e f : Entry) → AreRows es → slice_get es i ≡ Some e → slice_get es j ≡ Some f → i < j → e.last < f.first
+early es i j e f rows at bt lt =
+    let w = slice_get_within es j f bt in
+    let next = some_at es (suc i) (omega arith) in
+    let rise = ends-rise es i e next.0 rows at next.1 in
+    let le = firsts-le es (suc i) j next.0 f rows next.1 bt (omega arith) in
+    omega arith
+
+same_place : (es : List Entry) (i j : ℕ) (e : Entry) → AreRows es → slice_get es i ≡ Some e → slice_get es j ≡ Some e → i ≡ j
+same_place es i j e rows at bt =
+    let up = (at-row es i e rows at).rises in
+    elim (cases_lt i j) [
+      | inl less ↦ (let bad = early es i j e e rows at bt less in absurd (omega arith))
+      | inr other ↦ elim (cases_lt j i) [
+        | inl more ↦ (let bad = early es j i e e rows bt at more in absurd (omega arith))
+        | inr this ↦ omega arith
+      ]
+    ]
+
+-- the place of the next one's second part is marked
+pub seconds-more : (es : List Entry) (cs : List Composite) (count at : ℕ) (seconds : List Bool) (here : Composite) → AreRows es → AreSecondRows es cs count seconds → slice_get cs count ≡ Some here → at < length es → slice_get es at ≡ entry_at es here.second →
+    AreSecondRows es cs (count + 1) (set seconds at true)
+seconds-more es cs count at seconds here rows so_far is lt found =
+    let size = so_far.size in
+    let fits : at < length seconds = omega arith in
+    record {
+      size = length-set seconds at true ∙ size;
+      each = λ j x k e less jt kt low high. elim (cases_eq k at) [
+        | inl same ↦ ap (λ n. get_or (set seconds at true) n false) same ∙ get_or-set_same seconds at true false fits
+        | inr other ↦ elim (cases_lt j count) [
+          | inl early_one ↦ get_or-set_other seconds at k true false other ∙ so_far.each j x k e early_one jt kt low high
+          | inr this ↦
+              let there : count ≡ j = omega arith in
+              let own : here ≡ x = same_Some here x (sym is ∙ ap (slice_get cs) there ∙ jt) in
+              let second : here.second ≡ x.second = ap (λ (y : Composite). y.second) own in
+              let at_too : slice_get es at ≡ Some e = found ∙ ap (entry_at es) second ∙ sym (at-found es k x.second e rows kt low high) ∙ kt in
+              absurd (other (same_place es k at e rows kt at_too))
+        ]
+      ];
+    }
+
+-- it has no row
+pub seconds-past : (es : List Entry) (cs : List Composite) (count : ℕ) (seconds : List Bool) (here : Composite) → AreRows es → AreSecondRows es cs count seconds → slice_get cs count ≡ Some here → entry_at es here.second ≡ None →
+    AreSecondRows es cs (count + 1) seconds
+seconds-past es cs count seconds here rows so_far is none =
+    record {
+      size = so_far.size;
+      each = λ j x k e less jt kt low high. elim (cases_lt j count) [
+        | inl early_one ↦ so_far.each j x k e early_one jt kt low high
+        | inr this ↦
+            let there : count ≡ j = omega arith in
+            let own : here ≡ x = same_Some here x (sym is ∙ ap (slice_get cs) there ∙ jt) in
+            let second : here.second ≡ x.second = ap (λ (y : Composite). y.second) own in
+            absurd (none-some e (sym none ∙ ap (entry_at es) second ∙ sym (at-found es k x.second e rows kt low high) ∙ kt))
+      ];
+    }
+
+-- ---- properties by rows
+
+pub all_properties-more : (v : VersionData) (slots : List ℕ) (seconds : List Bool) (count : ℕ) (all_properties : List Properties) (properties : Properties) → AreAllRowProperties v slots seconds count all_properties →
+    ((e : Entry) → slice_get v.entries count ≡ Some e → AreRowProperties v e (slice_index slots count) (get_or seconds count false) properties) → AreAllRowProperties v slots seconds (count + 1) (all_properties ++ properties ∷ [])
+all_properties-more v slots seconds count all_properties properties so_far own =
+    let size = so_far.size in
+    record {
+      size = (let grown = length-append all_properties (properties ∷ []) in omega arith);
+      none = get_or_append_left all_properties (properties ∷ []) no_properties 0 (omega arith) ∙ so_far.none;
+      each = λ k e lt h. elim (cases_lt k count) [
+        | inl less ↦ subst (AreRowProperties v e (slice_index slots k) (get_or seconds k false)) (sym (get_or_append_left all_properties (properties ∷ []) no_properties (k + 1) (omega arith))) (so_far.each k e less h)
+        | inr past ↦
+            let there : count ≡ k = omega arith in
+            let place : length all_properties ≡ k + 1 = omega arith in
+            let read : properties ≡ get_or (all_properties ++ properties ∷ []) (k + 1) no_properties = sym (get_or-append_seam all_properties properties [] no_properties) ∙ ap (λ n. get_or (all_properties ++ properties ∷ []) n no_properties) place in
+            subst (AreRowProperties v e (slice_index slots k) (get_or seconds k false)) read
+            (subst (λ n. AreRowProperties v e (slice_index slots n) (get_or seconds n false) properties) there (own e (ap (slice_get v.entries) there ∙ h)))
+      ];
+    }
+
+-- ---- properties by code points
+
+pub class-found : (v : VersionData) (c : ℕ) (e : Entry) → entry_at v.entries c ≡ Some e → e.class ≡ class_of v c
+unfolding class_of
+class-found v c e h = sym (ap class_in h)
+
+class-none : (v : VersionData) (c : ℕ) → entry_at v.entries c ≡ None → 0 ≡ class_of v c
+unfolding class_of
+class-none v c h = sym (ap class_in h)
+
+assigned-found : (v : VersionData) (c : ℕ) (e : Entry) → entry_at v.entries c ≡ Some e → true ≡ is_assigned v c
+unfolding is_assigned
+assigned-found v c e h = sym (ap is_some h)
+
+assigned-none : (v : VersionData) (c : ℕ) → entry_at v.entries c ≡ None → false ≡ is_assigned v c
+unfolding is_assigned
+assigned-none v c h = sym (ap is_some h)
+
+unassigned_single : (v : VersionData) (c : ℕ) → is_assigned v c ≡ false → (has_hangul v && is_syllable c) ≡ false
+unassigned_single v c none =
+    elim (cases_Bool (has_hangul v && is_syllable c)) [
+      | inl on ↦ (let both = and_parts (has_hangul v) (is_syllable c) on in absurd (both_ways _ none (by_arithmetic v both.0 c (syllable_hangul c both.1)).assigned))
+      | inr off ↦ off
+    ]
+
+empty_file : (v : VersionData) (c : ℕ) → entry_at v.entries c ≡ None → is_empty (file_mapping v c) ≡ true
+unfolding file_mapping
+empty_file v c none = ap (λ o. is_empty (mapping_in o)) none
+
+module _ (v : VersionData) (sound : IsSound v) (lists : FullLists) (slots : List ℕ) (are_slots : AreSlots v (length v.entries) lists slots) (seconds : List Bool) (marks : AreSeconds v seconds) (all_properties : List Properties)
+    (are_properties : AreAllRowProperties v slots seconds (length v.entries) all_properties) where
+  -- of a code point that a row has
+  properties-some : (c k : ℕ) (e : Entry) (w : Properties) → slice_get v.entries k ≡ Some e → entry_at v.entries c ≡ Some e → AreRowProperties v e (slice_index slots k) (get_or seconds k false) w → ArePropertiesOf v lists c w
+  unfolding row_properties
+  properties-some c k e w here found row =
+      let lt = slice_get_within v.entries k e here in
+      let slot = are_slots.each k e lt here in
+      subst (ArePropertiesOf v lists c) (sym row.properties) (record {
+        class = class-found v c e found;
+        assigned = assigned-found v c e found;
+        slot = record { within = slot.within; lent = λ compat. slot.lent compat ∙ row-shares v compat c k e sound.rows here found };
+        never_second = λ is. row-never_second v seconds k e c marks here found is;
+        hints = row.hints c found;
+      })
+
+  properties-none : (c : ℕ) → entry_at v.entries c ≡ None → ArePropertiesOf v lists c no_properties
+  properties-none c none =
+      let final : (compat : Bool) → is_final v compat c ≡ true = λ compat. empty_parts v compat c (unassigned_single v c (sym (assigned-none v c none))) (empty_file v c none) in
+      record {
+        class = class-none v c none;
+        assigned = assigned-none v c none;
+        slot = record { within = are_slots.some; lent = λ compat. are_slots.none compat ∙ full-none v compat c none };
+        never_second = λ _. never_second-unlisted v c sound none;
+        hints = bits-unlisted v c sound none (class-none v c none) final;
+      }
+
+  properties-number : (c number : ℕ) → IsRowNumber v.entries c number → ArePropertiesOf v lists c (get_or all_properties number no_properties)
+  properties-number c number is =
+      elim (cases_lt 0 number) [
+        | inl some ↦
+            let back : number ≡ number - 1 + 1 = omega arith in
+            let here = some_at v.entries (number - 1) (is.within some) in
+            let read = ap (λ n. get_or all_properties n no_properties) back in
+            subst (ArePropertiesOf v lists c) (sym read)
+            (properties-some c (number - 1) here.0 (get_or all_properties (number - 1 + 1) no_properties) here.1 (sym (is.row some) ∙ here.1) (are_properties.each (number - 1) here.0 (is.within some) here.1))
+        | inr none ↦
+            let zero_is : number ≡ 0 = omega arith in
+            let read = ap (λ n. get_or all_properties n no_properties) zero_is ∙ are_properties.none in
+            subst (ArePropertiesOf v lists c) (sym read) (properties-none c (is.none zero_is))
+      ]
+
+  pub pages-from : (blocks numbers index : List ℕ) (paged : List Properties) → AreRowPages v.entries blocks numbers → index ≡ blocks → paged ≡ paged_properties all_properties numbers → ArePages v lists index paged
+  unfolding property_place
+  pages-from blocks numbers index paged pages same is =
+      let size : length (paged_properties all_properties numbers) ≡ length numbers = length-map numbers (λ n. get_or all_properties n no_properties) in
+      subst (λ i. ArePages v lists i paged) (sym same) (subst (ArePages v lists blocks) (sym is) (record {
+        sound = sound;
+        within = record { size = pages.within.size; each = λ k lt. (let le = pages.within.each k lt in omega arith) };
+        none = are_slots.none;
+        each = λ c lt. (
+            let low = mod-lt c {m = 256} (omega arith) in
+            let le = pages.within.each (c / 256) (omega arith) in
+            let place : property_place blocks c < length numbers = omega arith in
+            subst (ArePropertiesOf v lists c) (sym (get_or-map (λ n. get_or all_properties n no_properties) numbers (property_place blocks c) 0 no_properties place)) (properties-number c (slice_index numbers (property_place blocks c)) (pages.each c lt)));
+      }))
+
+-- ---- what is read
+
+pub full-read : (v u : VersionData) → u ≡ v → (lists : FullLists) (blocks : List ℕ) (all_properties : List Properties) → ArePages u lists blocks all_properties → (c : ℕ) → c < 0x110000 → (w : Properties) → w ≡ get_or all_properties (property_place blocks c) no_properties →
+    (compat : Bool) (lent : List ℕ) → lent ≡ get_or (of_kind compat lists) w.fulls [] → lent ≡ table_full v compat c
+full-read v u same lists blocks all_properties pages c lt w is compat lent read =
+    let properties = subst (ArePropertiesOf u lists c) (sym is) (pages.each c lt) in
+    read ∙ properties.slot.lent compat ∙ ap (λ x. table_full x compat c) same
+
+-- the second code point is the second part of no primary composite
+pub pair-never_second : (v u : VersionData) → u ≡ v → (lists : FullLists) (blocks : List ℕ) (all_properties : List Properties) → ArePages u lists blocks all_properties → (a b : ℕ) → b < 0x110000 → (properties : Properties) → properties ≡ get_or all_properties (property_place blocks b) no_properties → properties.never_second ≡ true →
+    (c : ℕ) → ¬ IsCompositeOf v a b c
+pair-never_second v u same lists blocks all_properties pages a b lt properties is never_second =
+    (subst (λ x. ArePropertiesOf x lists b properties) same (subst (ArePropertiesOf u lists b) (sym is) (pages.each b lt))).never_second never_second a
+
+pub boundary-read : (v u : VersionData) → u ≡ v → (lists : FullLists) (blocks : List ℕ) (all_properties : List Properties) → ArePages u lists blocks all_properties → (form : Form) (c : ℕ) → c < 0x110000 → (w : Properties) → w ≡ get_or all_properties (property_place blocks c) no_properties →
+    has_bit w.hints (boundary_place form) ≡ true → IsBoundary v form c
+boundary-read v u same lists blocks all_properties pages form c lt w is has =
+    subst (λ x. IsBoundary x form c) same ((subst (ArePropertiesOf u lists c) (sym is) (pages.each c lt)).hints.boundary form has)
+
+-- what the checks of functions cite
+pub ruleset property_answers = (all_properties-more)

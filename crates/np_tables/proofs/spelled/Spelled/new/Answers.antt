@@ -1,5 +1,0 @@
-use Rattle.np_tables.proofs.SpellingLemmas.{each_form}
-use Rattle.np_tables.proofs.spelled.Spelled.new.Goals as goal
-
-pub returns : goal.returns
-returns c = each_form c.args.version.now c.args.fulls.now _ c.in_ok-nfd.ensures c.in_ok-nfc.ensures c.in_ok-nfkd.ensures c.in_ok-nfkc.ensures

@@ -1,5 +1,0 @@
-use Rattle.std.proofs.Common.{length}
-use Rattle.np_tables.proofs.spellings.+write_composed.Given as goal
-
-abbrev pub decreases-write_composed : goal.decreases-write_composed
-decreases-write_composed l = length l.rest.now
