@@ -25,7 +25,7 @@ pub fn one_more()
 /// A code point is a boundary where its full decomposition begins with a starter that never
 /// composes backward (UAX #15, section 9.1): the form of the whole is that of what is before it and
 /// that of the rest. A starter that passes the quick check is its own form; so it stays as it is before a boundary.
-#[tactic(auto, using(crate::proofs::StreamLemmas::parting, crate::proofs::StreamLemmas::staying))]
+#[tactic(auto, using(crate::proofs::StreamLemmas::forms_at_boundary, crate::proofs::StreamLemmas::yes_starter_form))]
 pub fn boundary()
     ensures forms { FormsAtBoundary }
     ensures yes_starter { YesStarterForm }
