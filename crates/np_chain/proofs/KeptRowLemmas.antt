@@ -1,5 +1,5 @@
 -- Rows of two versions in which no code point has a break.
-use Rattle.std.proofs.Common.{◌≡◌, ◌≢◌, ℕ, zero, suc, ◌<◌, ◌≤◌, ◌⊎◌, Bool, true, false, not, ◌&&◌, IsTrue, List, [], ◌∷◌, length, Option, Some, None, is_some, refl, sym, ap, ◌∙◌, arith, inl, inr}
+use Rattle.std.proofs.Common.{◌≡◌, ◌≢◌, ℕ, zero, suc, ◌<◌, ◌⊎◌, Bool, true, false, not, ◌&&◌, IsTrue, List, [], ◌∷◌, length, Option, Some, None, is_some, refl, sym, ap, ◌∙◌, arith, inl, inr}
 use Rattle.std.specs.List.{slice_get}
 use Rattle.std.proofs.lemmas.Bool.{cases_Bool, and_from, and_left, and_right, both_ways, false_from_ne_true}
 use Rattle.std.proofs.lemmas.Option.{none-some, same_Some}
@@ -27,13 +27,6 @@ pub no_break : (o broken : Option BreakKind) (b : Bool) → o ≡ broken → is_
 no_break None broken b is tells none = sym is
 no_break (Some kind) broken true is tells none = cc
 no_break (Some kind) broken false is tells none = cc
-
--- a row holds each code point from its first to its last
-pub holds_at : (v : VersionData) (at c : ℕ) (e : Entry) → IsSound v → Some e ≡ slice_get v.entries at → (e.first ≤ c) × (c ≤ e.last) → entry_at v.entries c ≡ Some e
-holds_at v at c e sound is within = sym (at-found v.entries at c e sound.rows (sym is) within.0 within.1) ∙ sym is
-
-pub holds_assigned : (v : VersionData) (at c : ℕ) (e : Entry) → IsSound v → Some e ≡ slice_get v.entries at → (e.first ≤ c) × (c ≤ e.last) → is_assigned v c ≡ true
-holds_assigned v at c e sound is within = is_assigned-at v c ∙ ap is_some (holds_at v at c e sound is within)
 
 -- ---- a range has no mapping
 
