@@ -227,9 +227,7 @@ fn write_space<'a, T: NormTable>(
 }
 
 /// Appends the full decompositions of the syllables at the front of a text, of which single ASCII
-/// characters may stand between two, where the arithmetic is on, and answers what follows them. It is
-/// called, so that the loop has the registers for itself.
-#[inline(never)]
+/// characters may stand between two, where the arithmetic is on, and answers what follows them.
 pub(crate) fn write_syllables<'a, T: NormTable>(
     normalizer: &Normalizer<'_, T>,
     text: &'a str,
