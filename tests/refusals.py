@@ -42,7 +42,7 @@ FAILED = 101
 # second time where memory was refused to the first.
 CALLS = {
     "code_points": ("chars_of", "string_of", "write_code"),
-    "ucd": ("read_rows", "read_exclusions"),
+    "ucd": ("read_rows", "read_row_list", "of_rows", "read_exclusions"),
     "tables": ("build", "row_table", "page_table"),
     "forms": ("form", "npss", "lend_npss", "into_npss", "is_form", "equivalent", "feed", "finish", "run"),
     "chain": ("audit",),

@@ -13,7 +13,7 @@ use crate::shared::Shared;
 use np_code_points::Memory;
 use np_code_points::watched::Watched;
 use np_tables::{PageTable, TableFault, Version};
-use np_ucd::{Exclusions, Rows, UcdFault, read_exclusions, read_rows};
+use np_ucd::{Exclusions, RowList, UcdFault, read_exclusions, read_row_list};
 use std::alloc::Global;
 
 /// The data file is the first of the two, and the exclusions file the second.
@@ -79,11 +79,11 @@ fn of_tables(fault: TableFault) -> Answer
 }
 
 /// The rows of a data file.
-fn rows_in(alloc: Global, bytes: &[u8]) -> Result<Rows, Answer>
+fn rows_in(alloc: Global, bytes: &[u8]) -> Result<RowList, Answer>
     ensures rows { IfOk result (λ rows. HasNoFault bytes.now × AreAllRows bytes.now rows) }
     ensures refused { IfErr result (IsFileRefused 7 1 IsFirstFault bytes.now) }
 {
-    match read_rows(alloc, &mut Watched::new(bytes)) {
+    match read_row_list(alloc, &mut Watched::new(bytes)) {
         Ok(rows) => Ok(rows),
         Err(fault) => Err(of_file(DATA, FIRST, fault)),
     }
@@ -117,7 +117,7 @@ fn version_of(alloc: Global, data_file: &[u8], exclusions_file: &[u8]) -> Result
         Ok(listed) => listed,
         Err(answer) => return Err(answer),
     };
-    match Version::build(alloc, rows, listed) {
+    match Version::of_list(alloc, rows, listed) {
         Ok(version) => Ok(version),
         Err(fault) => Err(of_tables(fault)),
     }

@@ -1,6 +1,5 @@
 -- A version that extends another assigns at least as many code points; where it assigns no more, each extends the other.
-use Rattle.std.proofs.Common.{◌≡◌, ℕ, zero, suc, ◌+◌, ◌<◌, ◌≤◌, Bool, true, false, if◌then◌else◌, refl, sym, ap, subst, ◌∙◌, arith, inl, inr}
-use Rattle.std.proofs.lemmas.Bool.{cases_Bool, cases_lt}
+use Rattle.std.proofs.Common.{◌≡◌, ℕ, ◌≤◌, true, sym}
 use Rattle.np_chain.proofs.StabilityLemmas.{list_all-mono}
 use Rattle.np_chain.specs.Extension.{Extends}
 use Rattle.np_chain.specs.Laws.{AsMany}

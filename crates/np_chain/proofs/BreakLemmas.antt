@@ -211,7 +211,7 @@ module _ (old new : VersionData) where
       })
 
   -- a break is at a code point that one of the versions assigns
-  pub unassigned-none : (c : ℕ) → is_assigned old c ≡ false → is_assigned new c ≡ false → break_of old new c ≡ None
+  unassigned-none : (c : ℕ) → is_assigned old c ≡ false → is_assigned new c ≡ false → break_of old new c ≡ None
   unassigned-none c in_old in_new =
       break_of-by old new c
       ∙ none_from _ _ _ _ _ _ _ (test-assigned old c)

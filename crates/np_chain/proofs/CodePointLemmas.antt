@@ -1,12 +1,7 @@
 -- A break is one of a code point.
-use Rattle.std.proofs.Common.{ℕ, ◌<◌}
-use Rattle.np_chain.specs.Breaks.{HasBreak}
 use Rattle.np_chain.specs.Laws.{AreOfCodePoints}
-use Rattle.np_chain.specs.declared.breaks.BreakKind.{BreakKind}
 use Rattle.np_chain.specs.declared.breaks.BreakKind.TheVariants.{Lost, ClassChanged, MappingChanged, NowExcluded, NowIncluded, NewComposite}
 use Rattle.np_tables.proofs.CompositeLemmas.{primary-assigned}
-use Rattle.np_tables.specs.Conditions.{IsSound}
-use Rattle.np_tables.specs.Versions.{VersionData}
 
 pub of_code_points : AreOfCodePoints
 of_code_points old new c Lost sound_old sound_new has = sound_old.bounded c has.0

@@ -1,22 +1,26 @@
 -- Rows of two versions in which no code point has a break.
-use Rattle.std.proofs.Common.{◌≡◌, ◌≢◌, ℕ, zero, suc, ◌<◌, ◌⊎◌, Bool, true, false, not, ◌&&◌, IsTrue, List, [], ◌∷◌, length, Option, Some, None, is_some, refl, sym, ap, ◌∙◌, arith, inl, inr}
-use Rattle.std.specs.List.{slice_get}
-use Rattle.std.proofs.lemmas.Bool.{cases_Bool, and_from, and_left, and_right, both_ways, false_from_ne_true}
+use Rattle.std.proofs.Common.{◌≡◌, ◌≢◌, ℕ, zero, suc, ◌<◌, ◌⊎◌, Bool, true, false, not, ◌&&◌, IsTrue, List, [], ◌∷◌, length, Option, Some, None, is_some, refl, sym, subst, ap, ap₂, ◌∙◌, arith, inl, inr, bytes_eq}
+use Rattle.std.specs.List.{All, slice_get}
+use Rattle.std.proofs.lemmas.Bool.{cases_Bool, and_from, and_left, and_parts, and_right, both_ways, false_from_ne_true}
+use Rattle.std.proofs.lemmas.List.Elements.{All-contains}
 use Rattle.std.proofs.lemmas.Option.{none-some, same_Some}
-use Rattle.np_chain.specs.inside.BreakTests.{break_of, maps_alike, has_old_parts}
+use Rattle.std.proofs.lemmas.Slice.Eq.{bytes_eq-Decides}
+use Rattle.np_chain.specs.inside.BreakTests.{break_of, is_same_kind, maps_alike, has_old_parts}
 use Rattle.np_chain.specs.declared.breaks.BreakKind.{BreakKind}
-use Rattle.np_chain.specs.inside.KeptRows.{AddsNone, IsKept, LiesBare}
-use Rattle.np_chain.proofs.BreakLemmas.{break-neither, unassigned-none, none_where_same}
+use Rattle.np_chain.specs.inside.KeptRows.{AddsNoBreak, HasNoPair, IsKept, IsSameWithin, LiesSame}
+use Rattle.np_chain.proofs.BreakLemmas.{break-neither, none_where_same}
 use Rattle.np_chain.proofs.SyllableLemmas.{alike-listed, alike-syllable, old_parts-syllable}
 use Rattle.np_code_points.specs.Hangul.{is_syllable}
 use Rattle.np_tables.specs.Conditions.{IsSound}
-use Rattle.np_tables.specs.Versions.{VersionData, entry_at, class_of, file_kind, file_mapping, has_hangul, is_assigned, is_empty}
-use Rattle.np_tables.specs.inside.Primaries.{is_primary}
+use Rattle.np_tables.specs.Versions.{VersionData, entry_at, class_of, file_kind, file_mapping, has_hangul, is_assigned, is_canonical}
+use Rattle.np_tables.specs.declared.pairs.Composite.{Composite}
+use Rattle.np_tables.specs.inside.Pairs.{AreOfFile}
+use Rattle.np_tables.specs.inside.Primaries.{is_primary, is_starter_pair}
 use Rattle.np_tables.proofs.AccessLemmas.{class_of-at, is_assigned-at}
-use Rattle.np_tables.proofs.CompositeLemmas.{primary-test}
+use Rattle.np_tables.proofs.CompositeLemmas.{primary-from, primary-test}
 use Rattle.np_tables.proofs.FileRowLemmas.{file_kind-found, file_mapping-found}
 use Rattle.np_tables.proofs.HangulLemmas.{hangul_parts, syllable_hangul, syllable_row}
-use Rattle.np_tables.proofs.PrimaryLemmas.{plain-at, primary-file, primary-syllable}
+use Rattle.np_tables.proofs.PrimaryLemmas.{primary-file, primary-syllable}
 use Rattle.np_tables.proofs.RowLemmas.{at-found, entry_at-row, entry_at-within, place_of_entry}
 use Rattle.np_ucd.specs.Entries.{Entry, HasLength}
 use Rattle.np_ucd.specs.declared.rows.MapKind.{MapKind}
@@ -28,66 +32,74 @@ no_break None broken b is tells none = sym is
 no_break (Some kind) broken true is tells none = cc
 no_break (Some kind) broken false is tells none = cc
 
--- ---- a range has no mapping
+-- ---- a row that has no pair
 
-nil_unless : (xs : List ℕ) (f l : ℕ) → (xs ≢ [] → f ≡ l) → f < l → xs ≡ []
-nil_unless [] f l h lt = refl
-nil_unless (x ∷ xs) f l h lt = let same = h (λ e. cc) in absurd (omega arith)
+nil_from_none : (xs : List ℕ) → length xs ≡ 0 → xs ≡ []
+nil_from_none [] h = refl
+nil_from_none (x ∷ xs) h = absurd (omega arith)
 
-plain_from : (k : MapKind) (n : ℕ) → HasLength k n → n ≡ 0 → k ≡ Plain
-plain_from Plain n h none = refl
-plain_from Canonical n h none = absurd (omega arith)
-plain_from Compatibility n h none = absurd (omega arith)
-
--- what the file says of a code point in a range
-pub record IsBare (v : VersionData) (c : ℕ) : Type 0 where
+-- what the file says of a code point in such a row
+pub record IsUnpaired (v : VersionData) (c : ℕ) : Type 0 where
   pub assigned : is_assigned v c ≡ true
-  pub kind : file_kind v c ≡ Plain
-  pub mapping : file_mapping v c ≡ []
+  pub no_pair : file_kind v c ≡ Canonical → length (file_mapping v c) ≡ 1
 
-bare_of : (v : VersionData) (c : ℕ) (e : Entry) → IsSound v → entry_at v.entries c ≡ Some e → e.mapping ≡ [] → IsBare v c
-bare_of v c e sound at nil =
-    let row = entry_at-row v.entries c e sound.rows at in
+unpaired_of : (v : VersionData) (c : ℕ) (e : Entry) → entry_at v.entries c ≡ Some e → HasNoPair e → IsUnpaired v c
+unpaired_of v c e at single =
     record {
       assigned = is_assigned-at v c ∙ ap is_some at;
-      kind = file_kind-found v c e at ∙ plain_from e.kind (length e.mapping) row.fits (ap length nil);
-      mapping = file_mapping-found v c e at ∙ nil;
+      no_pair = λ is. ap length (file_mapping-found v c e at) ∙ single (sym (file_kind-found v c e at) ∙ is);
     }
 
-bare_in : (v : VersionData) (c : ℕ) (e : Entry) → IsSound v → entry_at v.entries c ≡ Some e → e.first < e.last → IsBare v c
-bare_in v c e sound at lt =
-    let row = entry_at-row v.entries c e sound.rows at in
-    bare_of v c e sound at (nil_unless e.mapping e.first e.last row.alone lt)
+single_starts : (ccc : ℕ → ℕ) (xs : List ℕ) → length xs ≡ 1 → is_starter_pair ccc xs ≡ false
+single_starts ccc [] h = refl
+single_starts ccc (a ∷ []) h = refl
+single_starts ccc (a ∷ b ∷ xs) h = absurd (omega arith)
+
+pair_test : (k : MapKind) (ccc : ℕ → ℕ) (xs : List ℕ) → (k ≡ Canonical → length xs ≡ 1) → (is_canonical k && is_starter_pair ccc xs) ≡ false
+pair_test Plain ccc xs single = refl
+pair_test Canonical ccc xs single = single_starts ccc xs (single refl)
+pair_test Compatibility ccc xs single = refl
 
 -- such a code point is a primary composite exactly where it is a syllable
-bare_primary : (v : VersionData) (c : ℕ) → IsSound v → IsBare v c → is_primary v c ≡ is_syllable c
-bare_primary v c sound bare =
+unpaired_primary : (v : VersionData) (c : ℕ) → IsSound v → IsUnpaired v c → is_primary v c ≡ is_syllable c
+unpaired_primary v c sound is_one =
     elim (cases_Bool (is_syllable c)) [
       | inl is ↦
-          primary-test v c (primary-syllable v c sound.rows (and_from _ _ (sound.hangul c (syllable_hangul c is) bare.assigned) is)) ∙ sym is
+          primary-test v c (primary-syllable v c sound.rows (and_from _ _ (sound.hangul c (syllable_hangul c is) is_one.assigned) is)) ∙ sym is
       | inr not ↦
           sym (primary-file v c (and_right (has_hangul v) _ not))
-          ∙ and_left _ _ (and_left _ _ (plain-at v c sound.rows (ap is_empty bare.mapping))) ∙ sym not
+          ∙ and_left _ _ (pair_test (file_kind v c) (class_of v) (file_mapping v c) is_one.no_pair) ∙ sym not
     ]
 
-module _ (old new : VersionData) (sound_old : IsSound old) (sound_new : IsSound new) where
-  bare_alike : (c : ℕ) → IsBare old c → IsBare new c → maps_alike old new c ≡ true
-  bare_alike c a b =
-      elim (cases_Bool (is_syllable c)) [
-        | inl is ↦ alike-syllable old new c sound_old sound_new a.assigned b.assigned is
-        | inr not ↦
-            let k = a.kind in
-            let l = b.kind in
-            let m = a.mapping in
-            let n = b.mapping in
-            let listed = alike-listed old new c not in
-            cc
-      ]
+-- two mappings of one kind
+same_mapping : (k : MapKind) (xs ys : List ℕ) → HasLength k (length xs) → HasLength k (length ys) → (k ≢ Plain → ys ≡ xs) → ys ≡ xs
+same_mapping Plain xs ys a b h = nil_from_none ys b ∙ sym (nil_from_none xs a)
+same_mapping Canonical xs ys a b h = h (λ e. cc)
+same_mapping Compatibility xs ys a b h = h (λ e. cc)
 
-  -- in ranges of both versions
-  bare_none : (c : ℕ) → IsBare old c → IsBare new c → class_of new c ≡ class_of old c → break_of old new c ≡ None
-  bare_none c a b class =
-      none_where_same old new c a.assigned b.assigned class (bare_alike c a b) (bare_primary old c sound_old a ∙ sym (bare_primary new c sound_new b))
+same_kind_self : (k : MapKind) → is_same_kind k k ≡ true
+same_kind_self Plain = refl
+same_kind_self Canonical = refl
+same_kind_self Compatibility = refl
+
+module _ (old new : VersionData) (sound_old : IsSound old) (sound_new : IsSound new) where
+  -- a code point of two rows with one mapping
+  rows_alike : (c : ℕ) (e f : Entry) → entry_at old.entries c ≡ Some e → entry_at new.entries c ≡ Some f → IsSameWithin e f → maps_alike old new c ≡ true
+  rows_alike c e f at_e at_f within =
+      elim (cases_Bool (is_syllable c)) [
+        | inl is ↦ alike-syllable old new c sound_old sound_new (is_assigned-at old c ∙ ap is_some at_e) (is_assigned-at new c ∙ ap is_some at_f) is
+        | inr not ↦
+            let row = entry_at-row old.entries c e sound_old.rows at_e in
+            let other = entry_at-row new.entries c f sound_new.rows at_f in
+            let kind : f.kind ≡ e.kind = within.kind in
+            let mapping : f.mapping ≡ e.mapping = same_mapping e.kind e.mapping f.mapping row.fits (subst (λ k. HasLength k (length f.mapping)) kind other.fits) within.mapping in
+            let k : file_kind new c ≡ e.kind = file_kind-found new c f at_f ∙ kind in
+            let l : file_kind old c ≡ e.kind = file_kind-found old c e at_e in
+            let m : file_mapping new c ≡ e.mapping = file_mapping-found new c f at_f ∙ mapping in
+            let n : file_mapping old c ≡ e.mapping = file_mapping-found old c e at_e in
+            sym (alike-listed old new c not)
+            ∙ ap₂ (λ (x y : Bool). x && y) (ap₂ is_same_kind k l ∙ same_kind_self e.kind) (ap₂ bytes_eq m n ∙ (bytes_eq-Decides e.mapping e.mapping).1 refl)
+      ]
 
   -- ---- a row of the old version
 
@@ -101,8 +113,8 @@ module _ (old new : VersionData) (sound_old : IsSound old) (sound_new : IsSound 
       let low : e.first ≡ c = (let f = ap (λ (x : Entry). x.first) same in let l = ap (λ (x : Entry). x.last) same in let a = within.0 in let b = within.1 in omega arith) in
       sym (ap (break_of old new) (ap (λ (x : Entry). x.first) same ∙ low)) ∙ none
 
-  pub kept-bare : (at : ℕ) (r : Entry) → slice_get old.entries at ≡ Some r → LiesBare new r → IsKept old new at
-  kept-bare at r is lies c e is_e at_c =
+  pub kept-same : (at : ℕ) (r : Entry) → slice_get old.entries at ≡ Some r → LiesSame new r → IsKept old new at
+  kept-same at r is lies c e is_e at_c =
       let same = same_Some r e (sym is ∙ is_e) in
       let at_r : entry_at old.entries c ≡ Some r = at_c ∙ ap Some (sym same) in
       let within = entry_at-within old.entries c r at_r in
@@ -112,46 +124,37 @@ module _ (old new : VersionData) (sound_old : IsSound old) (sound_new : IsSound 
       let past = lies.within.last in
       let at_w : entry_at new.entries c ≡ Some w =
       sym (at-found new.entries place.0 c w sound_new.rows place.2 (let a = within.0 in let b = begins.0 in omega arith) (let a = within.1 in omega arith)) ∙ place.2 in
-      bare_none c (bare_of old c r sound_old at_r lies.within.mapping) (bare_of new c w sound_new at_w lies.within.other_mapping)
+      let single = lies.within.no_pair in
+      let here = unpaired_of old c r at_r single in
+      let there = unpaired_of new c w at_w (λ k. ap length (lies.within.mapping (λ p. cc)) ∙ single (sym lies.within.kind ∙ k)) in
+      none_where_same old new c here.assigned there.assigned
       (sym (class_of-at new c (Some w) (sym at_w)) ∙ lies.within.class ∙ class_of-at old c (Some r) (sym at_r))
+      (rows_alike c r w at_r at_w lies.within)
+      (unpaired_primary old c sound_old here ∙ sym (unpaired_primary new c sound_new there))
 
-  -- ---- a row of the new version
+-- ---- what the old version lacks
 
-  pub adds-no_row : (at : ℕ) → slice_get new.entries at ≡ None → AddsNone old new at
-  adds-no_row at none c e is at_c lacks = absurd (none-some e (sym none ∙ is))
+-- a syllable that the old version lacks: so it lacks its parts
+lacks_parts : (old new : VersionData) (c : ℕ) → IsSound old → has_hangul new ≡ true → is_syllable c ≡ true → is_assigned old c ≡ false → has_old_parts old new c ≡ false
+lacks_parts old new c sound on is lacks =
+    sym (old_parts-syllable old new c sound is on)
+    ∙ false_from_ne_true _ (λ here. both_ways _ lacks (hangul_parts old c (syllable_row old c here is)).assigned)
 
-  pub adds-single : (at : ℕ) (r : Entry) → slice_get new.entries at ≡ Some r → r.first ≡ r.last → break_of old new r.first ≡ None → AddsNone old new at
-  adds-single at r is single none c e is_e at_c lacks =
-      let same = same_Some r e (sym is ∙ is_e) in
-      let within = entry_at-within new.entries c e at_c in
-      let low : e.first ≡ c = (let f = ap (λ (x : Entry). x.first) same in let l = ap (λ (x : Entry). x.last) same in let a = within.0 in let b = within.1 in omega arith) in
-      sym (ap (break_of old new) (ap (λ (x : Entry). x.first) same ∙ low)) ∙ none
-
-  -- the old version has the row's only code point
-  pub adds-assigned : (at : ℕ) (r : Entry) → slice_get new.entries at ≡ Some r → r.first ≡ r.last → is_assigned old r.first ≡ true → AddsNone old new at
-  adds-assigned at r is single has c e is_e at_c lacks =
-      let same = same_Some r e (sym is ∙ is_e) in
-      let within = entry_at-within new.entries c e at_c in
-      let low : e.first ≡ c = (let f = ap (λ (x : Entry). x.first) same in let l = ap (λ (x : Entry). x.last) same in let a = within.0 in let b = within.1 in omega arith) in
-      absurd (both_ways _ lacks (sym (ap (is_assigned old) (ap (λ (x : Entry). x.first) same ∙ low)) ∙ has))
-
-  -- a syllable that the old version lacks: so it lacks its parts
-  lacks_parts : (c : ℕ) → IsBare new c → is_assigned old c ≡ false → (is_primary new c && has_old_parts old new c) ≡ false
-  lacks_parts c bare lacks =
-      elim (cases_Bool (is_syllable c)) [
-        | inl is ↦
-            let off : has_hangul old ≡ false = false_from_ne_true _ (λ on. both_ways _ lacks (hangul_parts old c (syllable_row old c on is)).assigned) in
-            and_right (is_primary new c) _ (sym (old_parts-syllable old new c sound_old is (sound_new.hangul c (syllable_hangul c is) bare.assigned)) ∙ off)
-        | inr not ↦ and_left _ _ (bare_primary new c sound_new bare ∙ not)
+-- a code point is no primary composite, or a syllable of the arithmetic, or one of the composites of the file
+pub adds_by_composites : (old new : VersionData) → IsSound old → (cs : List Composite) → AreOfFile new cs → All (λ x. AddsNoBreak old new x.code) cs → (c : ℕ) → AddsNoBreak old new c
+adds_by_composites old new sound cs file each c lacks =
+    elim (cases_Bool (is_primary new c)) [
+      | inr not ↦ break-neither old new c lacks (and_left _ _ not)
+      | inl is ↦ elim (cases_Bool (has_hangul new && is_syllable c)) [
+        | inl both ↦
+            let halves = and_parts (has_hangul new) _ both in
+            break-neither old new c lacks (and_right (is_primary new c) _ (lacks_parts old new c sound halves.0 halves.1 lacks))
+        | inr off ↦
+            let primary = primary-from new c is in
+            let stands = file.all primary.first primary.second c (record { primary = primary; mapping = primary.pair }) off in
+            All-contains (λ x. AddsNoBreak old new x.code) cs _ each stands lacks
       ]
-
-  pub adds-wide : (at : ℕ) (r : Entry) → slice_get new.entries at ≡ Some r → r.first ≢ r.last → AddsNone old new at
-  adds-wide at r is wide c e is_e at_c lacks =
-      let same = same_Some r e (sym is ∙ is_e) in
-      let at_r : entry_at new.entries c ≡ Some r = at_c ∙ ap Some (sym same) in
-      let row = entry_at-row new.entries c r sound_new.rows at_r in
-      let bare = bare_in new c r sound_new at_r (let a = row.rises in omega arith) in
-      break-neither old new c lacks (lacks_parts c bare lacks)
+    ]
 
 -- ---- all rows
 
@@ -169,17 +172,9 @@ module _ (old new : VersionData) where
   pub kept_all : (n : ℕ) → n ≡ length old.entries → ((at : ℕ) → at < n → IsKept old new at) → (at : ℕ) → IsKept old new at
   kept_all n end each at c e is = let lt = past_rows old.entries at e is in each at (omega arith) c e is
 
-  pub adds_all : (n : ℕ) → n ≡ length new.entries → ((at : ℕ) → at < n → AddsNone old new at) → (at : ℕ) → AddsNone old new at
-  adds_all n end each at c e is = let lt = past_rows new.entries at e is in each at (omega arith) c e is
-
-  pub none_by_rows : ((at : ℕ) → IsKept old new at) → ((at : ℕ) → AddsNone old new at) → (c : ℕ) → break_of old new c ≡ None
+  pub none_by_rows : ((at : ℕ) → IsKept old new at) → ((c : ℕ) → AddsNoBreak old new c) → (c : ℕ) → break_of old new c ≡ None
   none_by_rows kept adds c =
       elim (cases_entry (entry_at old.entries c)) [
         | inr some ↦ (let place = place_of_entry old.entries c some.0 some.1 in kept place.0 c some.0 place.2 some.1)
-        | inl none ↦
-            let lacks : is_assigned old c ≡ false = is_assigned-at old c ∙ ap is_some none in
-            elim (cases_entry (entry_at new.entries c)) [
-              | inr some ↦ (let place = place_of_entry new.entries c some.0 some.1 in adds place.0 c some.0 place.2 some.1 lacks)
-              | inl neither ↦ unassigned-none old new c lacks (is_assigned-at new c ∙ ap is_some neither)
-            ]
+        | inl none ↦ adds c (is_assigned-at old c ∙ ap is_some none)
       ]

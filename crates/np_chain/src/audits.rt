@@ -19,7 +19,7 @@ use np_ucd::MapKind;
 use std::alloc::Global;
 
 /// Whether two kinds of mapping are the same.
-fn same_kind(a: MapKind, b: MapKind) -> bool
+pub(crate) fn same_kind(a: MapKind, b: MapKind) -> bool
     ensures { result ≡ is_same_kind a b }
 {
     a == b

@@ -1,31 +1,55 @@
-//! Whether a version breaks nothing of another, asked row by row: a quick way to the answer that
-//! most pairs have. A published version has some 35,000 rows, and there are 1,114,112 code points.
-ghost use Rattle.std.specs.Prelude.{◌≡◌, ℕ, IsTrue, None};
+//! Whether a version breaks nothing of another, asked of the old one's rows and of the new one's
+//! primary composites: a quick way to the answer that most pairs have. A published version has some
+//! 35,000 rows and 1,000 such composites, and there are 1,114,112 code points.
+ghost use Rattle.std.specs.Prelude.{◌≡◌, ◌≢◌, ◌↔◌, ℕ, IsTrue, None};
 ghost use Rattle.np_chain.specs.inside.BreakTests.{break_of};
-ghost use Rattle.np_chain.specs.inside.KeptRows.{AddsNone, IsBareWithin, IsKept, LiesBare};
-ghost use Rattle.np_ucd.specs.RowValues.{entry_of};
+ghost use Rattle.np_chain.specs.inside.KeptRows.{AddsNoBreak, HasNoPair, IsKept, IsSameWithin, LiesSame};
+ghost use Rattle.np_ucd.specs.RowValues.{lent_entry};
+ghost use Rattle.np_ucd.specs.declared.rows.MapKind.TheVariants.{Plain};
 
-use crate::audits::break_at;
+use crate::audits::{break_at, same_kind};
 use np_tables::Version;
-use np_ucd::Row;
+use np_ucd::{MapKind, RowRef};
 
-/// Whether a row without a mapping lies within another without one, which has its class. Most rows are such.
-fn is_bare_within(row: &Row, wide: &Row) -> bool
-    ensures { IsTrue result → IsBareWithin (entry_of row.now) (entry_of wide.now) }
+/// Whether a row has no canonical mapping to two code points, as each primary composite of a data file has.
+fn has_no_pair(row: RowRef<'_>) -> bool
+    ensures { IsTrue result ↔ HasNoPair (lent_entry row.entry) }
 {
-    row.mapping.is_empty()
-        && wide.mapping.is_empty()
-        && row.last <= wide.last
-        && wide.class == row.class
+    match row.kind {
+        MapKind::Plain | MapKind::Compatibility => true,
+        MapKind::Canonical => row.mapping.len() == 1,
+    }
 }
 
-/// Whether a row of an old version without a mapping lies within one of the new version's, which has its
-/// class and no mapping.
-fn lies_bare(new: &Version, row: &Row) -> bool
-    ensures { IsTrue result → LiesBare new.now (entry_of row.now) }
+/// Whether two rows whose mappings are of one kind have the same one: those without a mapping have.
+fn have_same_mapping(row: RowRef<'_>, wide: RowRef<'_>) -> bool
+    ensures { IsTrue result → row.entry.kind ≢ Plain → wide.entry.mapping.now ≡ row.entry.mapping.now }
+{
+    match row.kind {
+        MapKind::Plain => true,
+        MapKind::Canonical | MapKind::Compatibility => wide.mapping == row.mapping,
+    }
+}
+
+/// Whether a row lies within another that has its class and its mapping, and has no pair. Nearly all rows
+/// are such.
+fn is_same_within(row: RowRef<'_>, wide: RowRef<'_>) -> bool
+    ensures { IsTrue result → IsSameWithin (lent_entry row.entry) (lent_entry wide.entry) }
+{
+    same_kind(wide.kind, row.kind)
+        && row.last <= wide.last
+        && wide.class == row.class
+        && has_no_pair(row)
+        && have_same_mapping(row, wide)
+}
+
+/// Whether a row of an old version lies within one of the new version's that has its class and its mapping,
+/// and has no pair.
+fn lies_same(new: &Version, row: RowRef<'_>) -> bool
+    ensures { IsTrue result → LiesSame new.now (lent_entry row.entry) }
 {
     match new.row_at(row.first) {
-        Some(wide) => is_bare_within(row, wide),
+        Some(wide) => is_same_within(row, wide),
         None => false,
     }
 }
@@ -40,7 +64,7 @@ fn keeps_row(old: &Version, new: &Version, at: usize) -> bool
     let Some(row) = old.row(at) else {
         return true;
     };
-    if lies_bare(new, row) {
+    if lies_same(new, row) {
         return true;
     }
     if row.first != row.last {
@@ -49,20 +73,11 @@ fn keeps_row(old: &Version, new: &Version, at: usize) -> bool
     break_at(old, new, row.first).is_none()
 }
 
-/// Whether the row of the new version at a place adds no composite to what the old one assigns:
-/// `true` only where no code point in it, which the old one lacks, has a break.
-fn adds_none(old: &Version, new: &Version, at: usize) -> bool
-    ensures { IsTrue result → AddsNone old.now new.now at }
+/// Whether the old version assigns a code point, or else the code point has no break.
+fn adds_no_break(old: &Version, new: &Version, code: u32) -> bool
+    ensures { IsTrue result → AddsNoBreak old.now new.now code }
 {
-    old.meets_conditions();
-    new.meets_conditions();
-    let Some(row) = new.row(at) else {
-        return true;
-    };
-    if row.first == row.last && !old.assigned_code(row.first) {
-        return break_at(old, new, row.first).is_none();
-    }
-    true
+    old.assigned_code(code) || break_at(old, new, code).is_none()
 }
 
 /// Whether each row of the old version is kept by the new one.
@@ -77,20 +92,22 @@ fn keeps_rows(old: &Version, new: &Version) -> bool
     true
 }
 
-/// Whether no row of the new version adds a composite to what the old one assigns.
+/// Whether no primary composite of the new version has a break where the old one lacks it. No other
+/// code point that the old one lacks can have one: with a syllable of the arithmetic it lacks the parts.
 fn adds_nothing(old: &Version, new: &Version) -> bool
-    ensures { IsTrue result → (at : ℕ) → AddsNone old.now new.now at }
+    ensures { IsTrue result → (c : ℕ) → AddsNoBreak old.now new.now c }
 {
-    for at in 0..new.row_count() {
-        if !adds_none(old, new, at) {
+    old.meets_conditions();
+    for composite in new.composites() {
+        if !adds_no_break(old, new, u32::from(composite.code)) {
             return false;
         }
     }
     true
 }
 
-/// Whether the new version keeps the old one row by row: `true` only where no code point has a
-/// break. Where it answers `false`, each code point is to be asked.
+/// Whether the new version keeps the old one's rows and adds no break: `true` only where no code point
+/// has one. Where it answers `false`, each code point is to be asked.
 pub(crate) fn is_kept_by_rows(old: &Version, new: &Version) -> bool
     ensures { IsTrue result → (c : ℕ) → break_of old.now new.now c ≡ None }
 {

@@ -1,5 +1,6 @@
 //! Worked examples, and files that are not what they should be.
 mod refused;
+mod row_lists;
 
 use np_code_points::devices::{Endless, Failure, Trickle};
 use np_code_points::fixtures::{V1_DATA, V1_EXCLUSIONS};

@@ -42,6 +42,7 @@ pub struct Standard {
     pub input: Watched<StandardInput>,
     pub output: Watched<Stdout>,
     pub error: Watched<Stderr>,
+    behind: Option<Vec<u8>>,
 }
 
 /// Whether the program was started with a stream open.
@@ -52,26 +53,34 @@ fn is_open<S: AsFd>(stream: &S) -> bool {
     }
 }
 
-/// A little more than the text of a data file takes, in bytes: its list grows by doubling to 2 MiB.
-const LARGE: usize = 2_162_688;
+/// Half a MiB more than the text of a data file takes, in bytes: its list grows by doubling to 2 MiB.
+const LARGE: usize = 2_621_440;
 
-/// Takes a large piece of memory and gives it back untouched. From then on the C library keeps pieces
-/// up to that size for what is wanted next, where it else hands each back to the system: tables stand
-/// where the text of the data file stood, and a start has a quarter fewer page faults. A larger piece
-/// would make a long input leave its first list behind.
-fn keep_freed(alloc: Global) {
+/// Takes so many bytes and gives them back untouched. From then on the C library keeps pieces up to that
+/// size for what is wanted next, where it else hands each back to the system.
+fn give_back(alloc: Global, count: usize) {
     // where so much isn't there nothing is lost
-    let _given_back: Option<Vec<u8>> = Vec::with_capacity(alloc, LARGE).ok();
+    let _given_back: Option<Vec<u8>> = Vec::with_capacity(alloc, count).ok();
+}
+
+/// Leaves room for the text of a data file in front of all that is kept: what is answered stands behind
+/// it, so that it stays in one piece. The text of each later version stands where that of the first one
+/// stood, and so does a table. So a start has fewer page faults, and a second version half as many.
+fn leave_room(alloc: Global) -> Option<Vec<u8>> {
+    // a larger piece would make a long input leave its first list behind
+    give_back(alloc, LARGE + 65_536);
+    let _room: Option<Vec<u8>> = Vec::with_capacity(alloc, LARGE).ok();
+    Vec::with_capacity(alloc, 1).ok()
 }
 
 /// The standard streams, to be taken before any file is opened. From then on the program keeps the memory that a data
-/// file gives back.
+/// file gives back, as long as the streams are there.
 pub fn take_standard(rt: &HostRuntime) -> Standard
     ensures input { has_failed result.input ≡ false }
     ensures output { has_failed result.output ≡ false }
     ensures error { has_failed result.error ≡ false }
 {
-    keep_freed(rt.alloc());
+    let behind = leave_room(rt.alloc());
     let stream = rt.stdin();
     let input = if is_open(&stream) {
         StandardInput::Open(stream)
@@ -82,5 +91,6 @@ pub fn take_standard(rt: &HostRuntime) -> Standard
         input: Watched::new(input),
         output: Watched::new(rt.stdout()),
         error: Watched::new(rt.stderr()),
+        behind,
     }
 }

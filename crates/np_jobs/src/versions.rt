@@ -9,7 +9,7 @@ use crate::faults::VersionFault;
 use np_code_points::Memory;
 use np_code_points::watched::Watched;
 use np_tables::{NormTable, PageTable, TableFault, Version};
-use np_ucd::{Exclusions, Rows, read_exclusions, read_rows};
+use np_ucd::{Exclusions, RowList, read_exclusions, read_row_list};
 use std::alloc::Global;
 use std::io::Read;
 
@@ -17,14 +17,14 @@ use std::io::Read;
 fn version_of(
     alloc: Global,
     version: usize,
-    rows: Rows,
+    rows: RowList,
     exclusions: Exclusions,
 ) -> Result<Version, VersionFault>
     ensures version { IfOk result (λ v. v ≡ record { entries = rows; exclusions = exclusions }) }
     ensures faultless { IfOk result IsFaultless }
     ensures refused { IfErr result (Wraps (VersionFault.Tables version) (IsTablesFault (record { entries = rows; exclusions = exclusions }))) }
 {
-    match Version::build(alloc, rows, exclusions) {
+    match Version::of_list(alloc, rows, exclusions) {
         Ok(built) => Ok(built),
         Err(fault) => Err(VersionFault::Tables { version, fault }),
     }
@@ -48,7 +48,7 @@ pub fn read_version<R: Read>(
     ensures refused { IfErr result (IsVersionFault version (stream_of R.remaining data_file.old data_file.new) (stream_of R.remaining exclusions_file.old exclusions_file.new)) }
 {
     exclusions_file.clear();
-    let rows = match read_rows(alloc, data_file) {
+    let rows = match read_row_list(alloc, data_file) {
         Ok(rows) => rows,
         Err(fault) => return Err(VersionFault::Data { version, fault }),
     };

@@ -18,7 +18,7 @@ use Rattle.np_tables.specs.Versions.{VersionData, is_assigned}
 use Rattle.std.specs.List.{list_all}
 use Rattle.np_lines.specs.Answers.{Wanted}
 use Rattle.np_lines.specs.Lines.{LineEnd, IsCut, byte_of, ended}
-use Rattle.np_lines.specs.inside.Keyed.{AreKeyed, ArePartedAt, ends_in}
+use Rattle.np_lines.specs.inside.Keyed.{AreKeyed, HasBoundariesAt, ends_in}
 use Rattle.np_lines.proofs.CutLemmas.{cut_of, ended-cons}
 use Rattle.np_lines.proofs.EndLemmas.{ends-append, ends-free, ends-one, free-ends, same_cut}
 use Rattle.np_lines.proofs.TextCutLemmas.{back, boundary-after, boundary-before, byte_ascii}
@@ -44,7 +44,7 @@ module _ (end : LineEnd) (text line behind : List ℕ) (utf8 : IsUtf8 text) (is 
   pub chars-parts : chars text ≡ chars line ++ byte_of end ∷ chars behind
   chars-parts = ap chars is ∙ chars-append line (byte_of end ∷ behind) utf8-line ∙ ap (λ l. chars line ++ l) (chars-ended end behind utf8-ended)
 
-module _ (v : VersionData) (wanted : Wanted) (sound : IsSound v) (stays : IsYesStarter v wanted.form (byte_of wanted.end)) where
+module _ (v : VersionData) (wanted : Wanted) (sound : IsSound v) (yes_starter : IsYesStarter v wanted.form (byte_of wanted.end)) where
   abbrev e : ℕ
   e = byte_of wanted.end
 
@@ -52,30 +52,30 @@ module _ (v : VersionData) (wanted : Wanted) (sound : IsSound v) (stays : IsYesS
   form_of text = encode_utf8_all (normal_form v wanted.form (chars text))
 
   own : normal_form v wanted.form (e ∷ []) ≡ e ∷ []
-  own = walked_form v sound wanted.form None 0 (e ∷ []) 0 (0, inl stays, refl)
+  own = walked_form v sound wanted.form None 0 (e ∷ []) 0 (0, inl yes_starter, refl)
 
   -- the form parts at an end
-  parted : (text line behind : List ℕ) → IsUtf8 text → text ≡ line ++ e ∷ behind → BeginsAtBoundary v wanted.form (chars behind) → form_of text ≡ form_of line ++ e ∷ form_of behind
-  parted text line behind utf8 is at =
+  boundaries : (text line behind : List ℕ) → IsUtf8 text → text ≡ line ++ e ∷ behind → BeginsAtBoundary v wanted.form (chars behind) → form_of text ≡ form_of line ++ e ∷ form_of behind
+  boundaries text line behind utf8 is at =
       let nf = normal_form v wanted.form in
       let codes : nf (chars text) ≡ nf (chars line) ++ e ∷ nf (chars behind) =
       ap nf (chars-parts wanted.end text line behind utf8 is)
-      ∙ parts-at v sound wanted.form (chars line) (e ∷ chars behind) stays.boundary
+      ∙ parts-at v sound wanted.form (chars line) (e ∷ chars behind) yes_starter.boundary
       ∙ ap (λ l. nf (chars line) ++ l) (parts-at v sound wanted.form (e ∷ []) (chars behind) at ∙ ap (λ l. l ++ nf (chars behind)) own) in
       ap encode_utf8_all codes ∙ encodes-append (nf (chars line)) (e ∷ nf (chars behind)) ∙ ap (λ l. form_of line ++ (l ++ form_of behind)) (encoded wanted.end)
 
-  parted-behind : (text line behind : List ℕ) → text ≡ line ++ e ∷ behind → ArePartedAt v wanted text → ArePartedAt v wanted behind
-  parted-behind text line behind is parts before rest at =
+  boundaries-behind : (text line behind : List ℕ) → text ≡ line ++ e ∷ behind → HasBoundariesAt v wanted text → HasBoundariesAt v wanted behind
+  boundaries-behind text line behind is parts before rest at =
       parts (line ++ e ∷ before) rest (is ∙ ap (λ l. line ++ e ∷ l) at ∙ sym (append_assoc line (e ∷ before) (e ∷ rest)))
 
   -- in the form no fewer lines end
-  no_fewer : (whole : List (List ℕ)) (rest text : List ℕ) → IsCut wanted.end text whole rest → IsUtf8 text → ArePartedAt v wanted text → ends_in wanted.end text ≤ ends_in wanted.end (form_of text)
+  no_fewer : (whole : List (List ℕ)) (rest text : List ℕ) → IsCut wanted.end text whole rest → IsUtf8 text → HasBoundariesAt v wanted text → ends_in wanted.end text ≤ ends_in wanted.end (form_of text)
   no_fewer [] rest text cut utf8 parts = omega (arith, ends-free wanted.end text (subst (HasNo e) (sym cut.joined) cut.unended))
   no_fewer (line ∷ lines) rest text cut utf8 parts =
       let behind = ended wanted.end lines ++ rest in
       let is : text ≡ line ++ e ∷ behind = cut.joined ∙ ended-cons wanted.end line lines rest in
       let later : IsCut wanted.end behind lines rest = record { joined = refl; apart = All-tail (HasNo e) line lines cut.apart; unended = cut.unended } in
-      let more = no_fewer lines rest behind later (utf8-behind wanted.end text line behind utf8 is) (parted-behind text line behind is parts) in
+      let more = no_fewer lines rest behind later (utf8-behind wanted.end text line behind utf8 is) (boundaries-behind text line behind is parts) in
       omega (
         arith,
         more,
@@ -83,7 +83,7 @@ module _ (v : VersionData) (wanted : Wanted) (sound : IsSound v) (stays : IsYesS
         ends-append wanted.end line (e ∷ behind),
         ends-one wanted.end behind,
         ends-free wanted.end line (All-head (HasNo e) line lines cut.apart),
-        ap (ends_in wanted.end) (parted text line behind utf8 is (parts line behind is)),
+        ap (ends_in wanted.end) (boundaries text line behind utf8 is (parts line behind is)),
         ends-append wanted.end (form_of line) (e ∷ form_of behind),
         ends-one wanted.end (form_of behind),
       )
@@ -99,14 +99,14 @@ pub keyed-line : (v : VersionData) (wanted : Wanted) (lines keys line behind key
 keyed-line v wanted lines keys line behind key later utf8 of_keys of_key of_later is free of free_key k =
     let end = wanted.end in
     let nf = normal_form v wanted.form in
-    let form = form_of v wanted k.sound k.stays in
+    let form = form_of v wanted k.sound k.yes_starter in
     let utf8_behind = utf8-behind end lines line behind utf8 is in
     let utf8_line = utf8-line end lines line behind utf8 is in
     let whole : keys ≡ form lines = sym (encodes-chars keys of_keys) ∙ ap encode_utf8_all (normal_form_is v k.sound wanted.form (chars lines) (chars keys) k.normal) in
-    let parts : form lines ≡ form line ++ byte_of end ∷ form behind = parted v wanted k.sound k.stays lines line behind utf8 is (k.parted line behind is) in
+    let parts : form lines ≡ form line ++ byte_of end ∷ form behind = boundaries v wanted k.sound k.yes_starter lines line behind utf8 is (k.boundaries line behind is) in
     let cut = cut_of end behind in
-    let apart = parted-behind v wanted k.sound k.stays lines line behind is k.parted in
-    let more = no_fewer v wanted k.sound k.stays cut.whole cut.rest behind cut.cut utf8_behind apart in
+    let apart = boundaries-behind v wanted k.sound k.yes_starter lines line behind is k.boundaries in
+    let more = no_fewer v wanted k.sound k.yes_starter cut.whole cut.rest behind cut.cut utf8_behind apart in
     let of_lines : ends_in end lines ≡ 1 + ends_in end behind =
     omega (arith, ap (ends_in end) is, ends-append end line (byte_of end ∷ behind), ends-free end line free, ends-one end behind) in
     let of_form : ends_in end keys ≡ ends_in end (form line) + (1 + ends_in end (form behind)) =
@@ -120,8 +120,8 @@ keyed-line v wanted lines keys line behind key later utf8 of_keys of_key of_late
       normal = subst (IsNormalForm v wanted.form (chars line)) chars_key (IsNormalForm-normal_form v k.sound wanted.form (chars line));
       rest = record {
         sound = k.sound;
-        stays = k.stays;
-        parted = apart;
+        yes_starter = k.yes_starter;
+        boundaries = apart;
         assigned =
             (and_parts (is_assigned v (byte_of end)) (list_all (is_assigned v) (chars behind))
             (ap (list_all (is_assigned v)) (sym (chars-ended end behind (utf8-ended end lines line behind utf8 is))) ∙ assigned-back v lines line (byte_of end ∷ behind) utf8_line is k.assigned)).1;

@@ -2,7 +2,7 @@
 //! where it parts at each line's end.
 ghost use Rattle.std.specs.Prelude.{◌≡◌, ◌<◌, ℕ, IsTrue, chars};
 ghost use Rattle.np_lines.specs.Lines.{byte_of};
-ghost use Rattle.np_lines.specs.inside.Keyed.{ArePartedAt, ends_in};
+ghost use Rattle.np_lines.specs.inside.Keyed.{HasBoundariesAt, ends_in};
 ghost use Rattle.np_tables.specs.Boundaries.{BeginsAtBoundary, IsYesStarter};
 
 use crate::cuts::cut_line;
@@ -22,8 +22,8 @@ fn begins_apart<T: NormTable>(table: &T, form: Form, text: &str) -> bool
 }
 
 /// Whether the form is known to part behind each end of a line.
-fn are_parted<T: NormTable>(table: &T, wanted: Wanted, text: &str) -> bool
-    ensures { IsTrue result → ArePartedAt (T.model table.now) wanted text.now }
+fn has_boundaries<T: NormTable>(table: &T, wanted: Wanted, text: &str) -> bool
+    ensures { IsTrue result → HasBoundariesAt (T.model table.now) wanted text.now }
 {
     let mut rest = text;
     'lines: loop {
@@ -39,10 +39,10 @@ fn are_parted<T: NormTable>(table: &T, wanted: Wanted, text: &str) -> bool
 
 /// Whether the lines of a text are known to have their forms each for itself.
 pub(crate) fn may_be_keyed<T: NormTable>(table: &T, wanted: Wanted, text: &str) -> bool
-    ensures stays { IsTrue result → IsYesStarter (T.model table.now) wanted.form (byte_of wanted.end) }
-    ensures parted { IsTrue result → ArePartedAt (T.model table.now) wanted text.now }
+    ensures yes_starter { IsTrue result → IsYesStarter (T.model table.now) wanted.form (byte_of wanted.end) }
+    ensures boundaries { IsTrue result → HasBoundariesAt (T.model table.now) wanted text.now }
 {
-    table.ascii_passes(wanted.form) && are_parted(table, wanted, text)
+    table.ascii_passes(wanted.form) && has_boundaries(table, wanted, text)
 }
 
 /// Whether as many lines end in one text as in another.

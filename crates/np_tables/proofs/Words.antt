@@ -85,6 +85,6 @@ unfoldable pub use Rattle.np_tables.specs.inside.QuickChecks.{assigned_quick_che
 pub use Rattle.np_tables.specs.inside.Suspects.{HasSmallerTwin, IsAtMost, IsSuspect, least_of}
 pub use Rattle.np_ucd.specs.Entries.{AreRows, Entry, HasLength, IsBefore, IsRow}
 pub use Rattle.np_ucd.specs.Listed.{Span, is_listed}
-pub use Rattle.np_ucd.specs.RowValues.{entry_of}
+pub use Rattle.np_ucd.specs.RowValues.{lent_entry}
 pub use Rattle.np_ucd.specs.declared.rows.MapKind.{MapKind}
 pub use Rattle.np_ucd.specs.declared.rows.MapKind.TheVariants.{Canonical, Compatibility, Plain}

@@ -1,7 +1,7 @@
 //! What the two data files say of each code point.
 ghost use Rattle.std.specs.Prelude.{◌≡◌, ◌<◌, ◌&&◌, length, option_map, slice_get, IfOk, IfSome, IfNone, None};
 ghost use Rattle.np_ucd.specs.Entries.{AreRows};
-ghost use Rattle.np_ucd.specs.RowValues.{entry_of};
+ghost use Rattle.np_ucd.specs.RowValues.{lent_entry};
 ghost use Rattle.np_tables.specs.inside.Primaries.{is_primary, is_starter_pair};
 ghost use Rattle.np_tables.specs.Versions.{VersionData, class_of, entry_at, file_kind, file_mapping, has_hangul, is_assigned, is_canonical as canonical, is_excluded, is_hangul_row};
 ghost use Rattle.np_tables.specs.inside.Accessors.{is_file_primary};
@@ -14,7 +14,7 @@ use crate::row_index::RowIndex;
 use crate::row_pages::RowPages;
 use np_code_points::Memory;
 use np_code_points::hangul::is_syllable;
-use np_ucd::{Exclusions, MapKind, Row, Rows};
+use np_ucd::{Exclusions, MapKind, RowList, RowRef};
 use std::alloc::Global;
 use std::marker::Model;
 
@@ -42,7 +42,7 @@ impl CharacterData {
     /// What these rows and exclusions say.
     pub(crate) fn new(
         alloc: Global,
-        rows: Rows,
+        rows: RowList,
         exclusions: Exclusions,
     ) -> Result<CharacterData, Memory>
         ensures { IfOk result (λ v. v ≡ record { entries = rows; exclusions = exclusions }) }
@@ -72,8 +72,8 @@ impl CharacterData {
     }
 
     /// The row at a place, from 0.
-    pub(crate) fn row(&self, at: usize) -> Option<&Row>
-        ensures row { option_map (λ r. entry_of r.now) result ≡ slice_get self.now.entries at }
+    pub(crate) fn row(&self, at: usize) -> Option<RowRef<'_>>
+        ensures row { option_map lent_entry result ≡ slice_get self.now.entries at }
     {
         self.rows.row(at)
     }
@@ -95,8 +95,8 @@ impl CharacterData {
     }
 
     /// The row in which a code point lies.
-    pub(crate) fn row_at(&self, code: u32) -> Option<&Row>
-        ensures row { option_map (λ r. entry_of r.now) result ≡ entry_at self.now.entries code }
+    pub(crate) fn row_at(&self, code: u32) -> Option<RowRef<'_>>
+        ensures row { option_map lent_entry result ≡ entry_at self.now.entries code }
     {
         self.rows.row_at(code)
     }
@@ -134,7 +134,7 @@ impl CharacterData {
         ensures { result.now ≡ file_mapping self.now code }
     {
         match self.row_at(code) {
-            Some(row) => row.mapping.as_slice(),
+            Some(row) => row.mapping,
             None => &[],
         }
     }

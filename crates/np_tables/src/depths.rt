@@ -88,7 +88,7 @@ fn mapping_at(characters: &CharacterData, at: usize) -> &[char]
     ensures { result.now ≡ mapping_in (slice_get characters.now.entries at) }
 {
     match characters.row(at) {
-        Some(row) => row.mapping.as_slice(),
+        Some(row) => row.mapping,
         None => &[],
     }
 }

@@ -1,7 +1,7 @@
 //! The full decompositions of the code points of a data file.
 ghost use Rattle.std.specs.Prelude.{◌≡◌, ◌≢◌, ◌&&◌, ◌++◌, ◌<◌, [], not, length, map, slice_index_or, if◌then◌else◌, IfOk, IsTrue, Some};
 ghost use Rattle.np_ucd.specs.Entries.{IsRow};
-ghost use Rattle.np_ucd.specs.RowValues.{entry_of};
+ghost use Rattle.np_ucd.specs.RowValues.{lent_entry};
 ghost use Rattle.np_tables.specs.Mappings.{counts};
 ghost use Rattle.np_tables.specs.inside.FullDecompositions.{full, table_full};
 ghost use Rattle.np_tables.specs.inside.FullLists.{row_full};
@@ -12,7 +12,7 @@ use crate::characters::CharacterData;
 use crate::row_places::{mapped_code, row_in};
 use crate::syllables::arithmetic_parts;
 use np_code_points::Memory;
-use np_ucd::{MapKind, Row};
+use np_ucd::{MapKind, RowRef};
 use std::alloc::Global;
 use std::marker::Model;
 
@@ -148,9 +148,9 @@ fn expand(
 }
 
 /// Whether a table lends something for the code point of a row.
-pub(crate) fn is_lent(row: &Row, compat: bool) -> bool
-    ensures mapped { IsTrue result → row.now.mapping.items ≢ [] }
-    ensures value { result ≡ (counts compat row.now.kind && not (is_empty row.now.mapping.items)) }
+pub(crate) fn is_lent(row: RowRef<'_>, compat: bool) -> bool
+    ensures mapped { IsTrue result → row.entry.mapping.now ≢ [] }
+    ensures value { result ≡ (counts compat row.entry.kind && not (is_empty row.entry.mapping.now)) }
 {
     kind_counts(row.kind, compat) && !row.mapping.is_empty()
 }
@@ -159,12 +159,12 @@ pub(crate) fn is_lent(row: &Row, compat: bool) -> bool
 pub(crate) fn push_full(
     characters: &CharacterData,
     compat: bool,
-    row: &Row,
+    row: RowRef<'_>,
     codes: &mut Vec<char>,
 ) -> Result<(), Memory>
-    requires row { IsRow (entry_of row.now) }
-    requires first { entry_at characters.now.entries row.now.first ≡ Some (entry_of row.now) }
-    ensures { IfOk result (λ _. codes.new.items ≡ codes.old.items ++ table_full characters.now compat row.now.first) }
+    requires row { IsRow (lent_entry row) }
+    requires first { entry_at characters.now.entries row.first ≡ Some (lent_entry row) }
+    ensures { IfOk result (λ _. codes.new.items ≡ codes.old.items ++ table_full characters.now compat row.entry.first) }
 {
     if is_lent(row, compat) {
         expand(characters, compat, DEPTH, mapped_code(row), codes)?;

@@ -35,7 +35,7 @@ fn is_right(rows: &RowIndex, code: u32) -> bool
     ensures { result ≡ is_right_at rows.now code }
 {
     match rows.row_at(code) {
-        Some(row) => row.class == 0 && row.mapping.as_slice().is_empty(),
+        Some(row) => row.class == 0 && row.mapping.is_empty(),
         None => false,
     }
 }

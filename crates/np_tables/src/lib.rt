@@ -49,6 +49,7 @@ mod version;
 pub use ascii_runs::ascii_front;
 pub use faults::TableFault;
 pub use page_table::PageTable;
+pub use pairs::Composite;
 pub use row_table::RowTable;
 pub use tables::NormTable;
 pub use version::Version;

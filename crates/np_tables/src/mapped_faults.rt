@@ -25,7 +25,7 @@ pub(crate) fn first_lacking(characters: &CharacterData) -> Option<u32>
 {
     for at in 0..characters.len() {
         if let Some(row) = characters.row(at) {
-            if !are_assigned(characters, row.mapping.as_slice()) {
+            if !are_assigned(characters, row.mapping) {
                 return Some(row.first);
             }
         }

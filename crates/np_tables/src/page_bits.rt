@@ -5,7 +5,7 @@ ghost use Rattle.np_tables.specs.Versions.{entry_at, has_hangul};
 ghost use Rattle.np_tables.specs.inside.PageHints.{AreHints, AreLeadingNeverSecond};
 ghost use Rattle.np_tables.specs.inside.PageProperties.{AreRowBits, AreSeconds, IsSlot, is_row_never_second as spec_is_row_never_second, touches as spec_touches};
 ghost use Rattle.np_ucd.specs.Entries.{Entry, IsRow};
-ghost use Rattle.np_ucd.specs.RowValues.{entry_of};
+ghost use Rattle.np_ucd.specs.RowValues.{lent_entry};
 
 use crate::fulls::{Fulls, is_lent};
 use crate::page_hints::{
@@ -13,19 +13,19 @@ use crate::page_hints::{
 };
 use crate::row_places::{mapped_code, row_in};
 use crate::version::Version;
-use np_ucd::Row;
+use np_ucd::RowRef;
 
 /// Whether a row has one of the code points from `first` to `last`.
-fn touches(row: &Row, first: u32, last: u32) -> bool
-    ensures { result ≡ spec_touches first last (entry_of row.now) }
+fn touches(row: RowRef<'_>, first: u32, last: u32) -> bool
+    ensures { result ≡ spec_touches first last (lent_entry row.entry) }
 {
     row.first <= last && first <= row.last
 }
 
 /// Whether no code point of a row is the second part of a primary composite: that of a syllable
 /// stands from 1161 to 11C2.
-pub(crate) fn is_row_never_second(row: &Row, second: bool) -> bool
-    ensures { result ≡ spec_is_row_never_second (entry_of row.now) second }
+pub(crate) fn is_row_never_second(row: RowRef<'_>, second: bool) -> bool
+    ensures { result ≡ spec_is_row_never_second (lent_entry row.entry) second }
 {
     !second && !touches(row, 0x1161, 0x11C2)
 }
@@ -41,13 +41,13 @@ pub(crate) struct Known<'t> {
 }
 
 /// What is known of the code point of a row with a mapping, under a kind of decomposition.
-fn kind_hints(known: &Known<'_>, row: &Row, slot: u32, own: Hints, compat: bool) -> Hints
-    requires row { IsRow (entry_of row.now) }
-    requires first { entry_at known.now.version.now.entries row.now.first ≡ Some (entry_of row.now) }
-    requires mapped { row.now.mapping.items ≢ [] }
-    requires slot { IsSlot known.now.version.now known.now.fulls.now row.now.first slot }
-    requires own { is_final known.now.version.now compat row.now.first ≡ true → AreHints known.now.version.now compat row.now.first own }
-    ensures { AreHints known.now.version.now compat row.now.first result }
+fn kind_hints(known: &Known<'_>, row: RowRef<'_>, slot: u32, own: Hints, compat: bool) -> Hints
+    requires row { IsRow (lent_entry row) }
+    requires first { entry_at known.now.version.now.entries row.first ≡ Some (lent_entry row) }
+    requires mapped { row.mapping.now ≢ [] }
+    requires slot { IsSlot known.now.version.now known.now.fulls.now row.first slot }
+    requires own { is_final known.now.version.now compat row.first ≡ true → AreHints known.now.version.now compat row.first own }
+    ensures { AreHints known.now.version.now compat row.entry.first result }
 {
     known.version.meets_conditions();
     if is_lent(row, compat) {
@@ -59,13 +59,13 @@ fn kind_hints(known: &Known<'_>, row: &Row, slot: u32, own: Hints, compat: bool)
 }
 
 /// The bits of the code point of a row with a mapping.
-fn mapped_bits(known: &Known<'_>, row: &Row, slot: u32, own: Hints) -> u8
-    requires row { IsRow (entry_of row.now) }
-    requires first { entry_at known.now.version.now.entries row.now.first ≡ Some (entry_of row.now) }
-    requires mapped { row.now.mapping.items ≢ [] }
-    requires slot { IsSlot known.now.version.now known.now.fulls.now row.now.first slot }
-    requires own { (compat : Bool) → is_final known.now.version.now compat row.now.first ≡ true → AreHints known.now.version.now compat row.now.first own }
-    ensures { AreRowBits known.now.version.now (entry_of row.now) result }
+fn mapped_bits(known: &Known<'_>, row: RowRef<'_>, slot: u32, own: Hints) -> u8
+    requires row { IsRow (lent_entry row) }
+    requires first { entry_at known.now.version.now.entries row.first ≡ Some (lent_entry row) }
+    requires mapped { row.mapping.now ≢ [] }
+    requires slot { IsSlot known.now.version.now known.now.fulls.now row.first slot }
+    requires own { (compat : Bool) → is_final known.now.version.now compat row.first ≡ true → AreHints known.now.version.now compat row.first own }
+    ensures { AreRowBits known.now.version.now (lent_entry row.entry) result }
 {
     let canonical = kind_hints(known, row, slot, own, false);
     let compatible = kind_hints(known, row, slot, own, true);
@@ -73,12 +73,12 @@ fn mapped_bits(known: &Known<'_>, row: &Row, slot: u32, own: Hints) -> u8
 }
 
 /// The bits of the code points of a row without a mapping.
-fn bare_bits(version: &Version, row: &Row, own: Hints, leading_never_second: bool) -> u8
-    requires rows { IsRow (entry_of row.now) }
-    requires bare { row.now.mapping.items ≡ [] }
+fn bare_bits(version: &Version, row: RowRef<'_>, own: Hints, leading_never_second: bool) -> u8
+    requires rows { IsRow (lent_entry row) }
+    requires bare { row.mapping.now ≡ [] }
     requires leading_consonants { IsTrue leading_never_second → AreLeadingNeverSecond version.now }
-    requires own { (compat : Bool) (c : ℕ) → entry_at version.now.entries c ≡ Some (entry_of row.now) → is_final version.now compat c ≡ true → AreHints version.now compat c own }
-    ensures { AreRowBits version.now (entry_of row.now) result }
+    requires own { (compat : Bool) (c : ℕ) → entry_at version.now.entries c ≡ Some (lent_entry row) → is_final version.now compat c ≡ true → AreHints version.now compat c own }
+    ensures { AreRowBits version.now (lent_entry row.entry) result }
 {
     version.meets_conditions();
     let leading = touches(row, 0x1100, 0x1112);

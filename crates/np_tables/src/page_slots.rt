@@ -1,7 +1,7 @@
 //! The full decompositions of the code points that have a mapping, in one flat list.
 ghost use Rattle.std.specs.Prelude.{◌≡◌, length, IfOk, IsTrue, Some};
 ghost use Rattle.np_ucd.specs.Entries.{IsRow};
-ghost use Rattle.np_ucd.specs.RowValues.{entry_of};
+ghost use Rattle.np_ucd.specs.RowValues.{lent_entry};
 ghost use Rattle.np_tables.specs.Versions.{entry_at};
 ghost use Rattle.np_tables.specs.inside.FullRanges.{AreCodeRanges, IsCodeRange, code_range_of};
 ghost use Rattle.np_tables.specs.inside.PageProperties.{AreSlots, IsSlotPushed};
@@ -10,7 +10,7 @@ use crate::characters::CharacterData;
 use crate::fulls::{CodeRange, Fulls, push_full};
 use crate::row_places::row_in;
 use np_code_points::Memory;
-use np_ucd::Row;
+use np_ucd::RowRef;
 use std::alloc::Global;
 
 /// Whether two ranges of a flat list are the same.
@@ -25,16 +25,16 @@ fn are_same(codes: &[char], one: CodeRange, two: CodeRange) -> bool
 /// Appends what a table lends for the code point of a row, once where the two kinds are the same.
 fn push_row(
     characters: &CharacterData,
-    row: &Row,
+    row: RowRef<'_>,
     codes: &mut Vec<char>,
     canonical: &mut Vec<CodeRange>,
     compatible: &mut Vec<CodeRange>,
 ) -> Result<(), Memory>
-    requires row { IsRow (entry_of row.now) }
-    requires first { entry_at characters.now.entries row.now.first ≡ Some (entry_of row.now) }
+    requires row { IsRow (lent_entry row) }
+    requires first { entry_at characters.now.entries row.first ≡ Some (lent_entry row) }
     requires canonical { AreCodeRanges codes.old.items canonical.old.items }
     requires compatible { AreCodeRanges codes.old.items compatible.old.items }
-    ensures { IfOk result (λ _. IsSlotPushed characters.now row.now.first codes.old.items canonical.old.items compatible.old.items codes.new.items canonical.new.items compatible.new.items) }
+    ensures { IfOk result (λ _. IsSlotPushed characters.now row.entry.first codes.old.items canonical.old.items compatible.old.items codes.new.items canonical.new.items compatible.new.items) }
 {
     let start = codes.len();
     push_full(characters, false, row, codes)?;

@@ -3,19 +3,19 @@ ghost use Rattle.std.specs.Prelude.{◌≡◌, ◌↔◌, ℕ, ◌<◌, true, le
 ghost use Rattle.std.specs.List.{All};
 ghost use Rattle.std.specs.List.Sorted.{IsPermutation};
 ghost use Rattle.np_ucd.specs.Entries.{IsRow};
-ghost use Rattle.np_ucd.specs.RowValues.{entry_of};
+ghost use Rattle.np_ucd.specs.RowValues.{lent_entry};
 ghost use Rattle.np_tables.specs.inside.Pairs.{AreOfFile, AreOrdered, HaveNumbers, IsCompositeAt, IsInRange, Lists, composites_in, pair_rank, slot_at};
 
 use crate::characters::CharacterData;
 use crate::row_places::{mapped_code, row_in};
 use np_code_points::Memory;
-use np_ucd::Row;
+use np_ucd::RowRef;
 use std::alloc::Global;
 use std::marker::Model;
 
-/// A primary composite, after the two code points of its mapping.
+/// A primary composite (The Unicode Standard, D114), after the two code points of its mapping.
 #[derive(Clone, Copy, Debug, PartialEq, Eq, PartialOrd, Ord)]
-pub(crate) struct Composite {
+pub struct Composite {
     /// The first code point of the mapping.
     pub first: char,
     /// The second code point of the mapping.
@@ -147,6 +147,14 @@ impl Pairs {
         self.composites.len()
     }
 
+    /// The composites.
+    pub(crate) fn as_slice(&self) -> &[Composite]
+        ensures same { result.now ≡ self.now }
+        ensures order { AreOrdered self.now }
+    {
+        &self.composites
+    }
+
     /// The composite at a place, from 0.
     pub(crate) fn at(&self, place: usize) -> Composite
         requires { place < length self.now }
@@ -215,12 +223,12 @@ impl Pairs {
 }
 
 /// The composite that a row gives.
-fn composite_in(characters: &CharacterData, row: &Row) -> Option<Composite>
-    requires row { IsRow (entry_of row.now) }
-    ensures value { option_to_list result ≡ composites_in characters.now (entry_of row.now) }
+fn composite_in(characters: &CharacterData, row: RowRef<'_>) -> Option<Composite>
+    requires row { IsRow (lent_entry row) }
+    ensures value { option_to_list result ≡ composites_in characters.now (lent_entry row.entry) }
     ensures range { IfSome result IsInRange }
 {
-    match row.mapping.as_slice() {
+    match row.mapping {
         [first, second] => {
             if characters.is_primary(row.first) {
                 Some(Composite {

@@ -1,21 +1,21 @@
 //! Rows, and the row in which each code point lies.
 ghost use Rattle.std.specs.Prelude.{◌≡◌, ◌<◌, length, option_map, slice_get, IfOk, IfSome, IfNone, None};
 ghost use Rattle.np_ucd.specs.Entries.{AreRows};
-ghost use Rattle.np_ucd.specs.RowValues.{entry_of};
+ghost use Rattle.np_ucd.specs.RowValues.{lent_entry};
 ghost use Rattle.np_tables.specs.Versions.{entry_at};
 ghost use Rattle.np_tables.specs.inside.RowPages.{AreRowPages};
 
 use crate::row_pages::RowPages;
 use np_code_points::Memory;
 use np_code_points::codes::CODE_POINTS;
-use np_ucd::{Row, Rows};
+use np_ucd::{RowList, RowRef};
 use std::alloc::Global;
 use std::marker::Model;
 
 /// The rows of a data file, with the place of the row of each code point.
 #[derive(Debug, Drop)]
 pub(crate) struct RowIndex {
-    rows: Rows,
+    rows: RowList,
     pages: RowPages,
 }
 
@@ -33,7 +33,7 @@ impl Model for RowIndex {
 
 impl RowIndex {
     /// The index of these rows.
-    pub(crate) fn new(alloc: Global, rows: Rows) -> Result<RowIndex, Memory>
+    pub(crate) fn new(alloc: Global, rows: RowList) -> Result<RowIndex, Memory>
         ensures value { IfOk result (λ r. r ≡ rows) }
         ensures rows { IfOk result AreRows }
     {
@@ -58,8 +58,8 @@ impl RowIndex {
     }
 
     /// The row at a place, from 0.
-    pub(crate) fn row(&self, at: usize) -> Option<&Row>
-        ensures row { option_map (λ r. entry_of r.now) result ≡ slice_get self.now at }
+    pub(crate) fn row(&self, at: usize) -> Option<RowRef<'_>>
+        ensures row { option_map lent_entry result ≡ slice_get self.now at }
     {
         self.rows.get(at)
     }
@@ -84,8 +84,8 @@ impl RowIndex {
     }
 
     /// The row in which a code point lies.
-    pub(crate) fn row_at(&self, code: u32) -> Option<&Row>
-        ensures row { option_map (λ r. entry_of r.now) result ≡ entry_at self.now code }
+    pub(crate) fn row_at(&self, code: u32) -> Option<RowRef<'_>>
+        ensures row { option_map lent_entry result ≡ entry_at self.now code }
     {
         match self.place_of(code) {
             Some(at) => self.rows.get(at),

@@ -5,7 +5,7 @@ ghost use Rattle.np_tables.specs.inside.Pages.{AreWithin, property_place};
 ghost use Rattle.np_tables.specs.inside.RowPages.{AreBegun, ArePushed, AreRowPages, GoesOn, HasNoRow, IsNextRow, IsRowNumber};
 
 use np_code_points::Memory;
-use np_ucd::Rows;
+use np_ucd::RowList;
 use std::alloc::Global;
 
 /// How many code points a block has.
@@ -38,7 +38,7 @@ struct Numbered {
 }
 
 /// The row number of a code point, by the place of the next row.
-fn number_at(rows: &Rows, at: usize, code: u32) -> Numbered
+fn number_at(rows: &RowList, at: usize, code: u32) -> Numbered
     requires rows { AreRows rows.now }
     requires next { IsNextRow rows.now at code }
     ensures number { IsRowNumber rows.now code result.number }
@@ -60,7 +60,12 @@ fn number_at(rows: &Rows, at: usize, code: u32) -> Numbered
 
 /// Appends the row numbers of the 256 code points from `first` on, and answers the place of the
 /// next row.
-fn push_block(rows: &Rows, from: usize, first: u32, numbers: &mut Vec<u32>) -> Result<usize, Memory>
+fn push_block(
+    rows: &RowList,
+    from: usize,
+    first: u32,
+    numbers: &mut Vec<u32>,
+) -> Result<usize, Memory>
     requires rows { AreRows rows.now }
     requires next { IsNextRow rows.now from first }
     requires code { first + 256 ≤ 0x110000 }
@@ -81,7 +86,7 @@ fn push_block(rows: &Rows, from: usize, first: u32, numbers: &mut Vec<u32>) -> R
 }
 
 /// Whether no row has one of the 256 code points from `first` on.
-fn has_no_row(rows: &Rows, at: usize, first: u32) -> bool
+fn has_no_row(rows: &RowList, at: usize, first: u32) -> bool
     requires rows { AreRows rows.now }
     requires next { IsNextRow rows.now at first }
     requires code { first + 256 ≤ 0x110000 }
@@ -94,7 +99,7 @@ fn has_no_row(rows: &Rows, at: usize, first: u32) -> bool
 }
 
 /// Whether one row has the 256 code points from `first` on, the 256 before them, and one behind.
-fn goes_on(rows: &Rows, at: usize, first: u32) -> bool
+fn goes_on(rows: &RowList, at: usize, first: u32) -> bool
     requires rows { AreRows rows.now }
     requires next { IsNextRow rows.now at first }
     requires code { first + 256 ≤ 0x110000 }
@@ -131,7 +136,7 @@ impl RowPages {
     }
 
     /// Adds the next 256 code points, and answers the place of the next row.
-    fn push(&mut self, rows: &Rows, at: usize) -> Result<usize, Memory>
+    fn push(&mut self, rows: &RowList, at: usize) -> Result<usize, Memory>
         requires rows { AreRows rows.now }
         requires begun { AreBegun rows.now self.old.index.items self.old.numbers.items at }
         requires more { length self.old.index.items < 4352 }
@@ -155,7 +160,7 @@ impl RowPages {
     }
 
     /// The pages of these rows.
-    pub(crate) fn new(alloc: Global, rows: &Rows) -> Result<RowPages, Memory>
+    pub(crate) fn new(alloc: Global, rows: &RowList) -> Result<RowPages, Memory>
         requires rows { AreRows rows.now }
         ensures { IfOk result (λ p. AreRowPages rows.now p.index.items p.numbers.items) }
     {

@@ -6,18 +6,18 @@ ghost use Rattle.np_tables.specs.Composites.{IsCompositeOf, IsPrimary};
 ghost use Rattle.np_tables.specs.inside.CompositeSearch.{composite};
 ghost use Rattle.np_tables.specs.inside.Primaries.{is_primary};
 ghost use Rattle.np_tables.specs.Conditions.{IsSound};
-ghost use Rattle.np_tables.specs.inside.Pairs.{AreOfFile};
+ghost use Rattle.np_tables.specs.inside.Pairs.{AreOfFile, AreOrdered};
 ghost use Rattle.np_tables.specs.Counts.{assigned_count};
 ghost use Rattle.np_tables.specs.Versions.{class_of, entry_at, file_kind, file_mapping, has_hangul, is_assigned, is_excluded};
-ghost use Rattle.np_ucd.specs.RowValues.{entry_of};
+ghost use Rattle.np_ucd.specs.RowValues.{lent_entry};
 
 use crate::characters::CharacterData;
 use crate::counts::assigned_count as count_of;
 use crate::faults::TableFault;
 use crate::first_faults::fault_of;
-use crate::pairs::Pairs;
+use crate::pairs::{Composite, Pairs};
 use crate::syllables::arithmetic_pair;
-use np_ucd::{Exclusions, MapKind, Row, Rows};
+use np_ucd::{Exclusions, MapKind, RowList, RowRef, Rows};
 use std::alloc::Global;
 use std::marker::Model;
 
@@ -47,6 +47,20 @@ impl Version {
     /// point, and of the faults there the first in the list of [`TableFault`]; or that memory ran
     /// out.
     pub fn build(alloc: Global, rows: Rows, exclusions: Exclusions) -> Result<Version, TableFault>
+        ensures version { IfOk result (λ v. v ≡ record { entries = rows; exclusions = exclusions }) }
+        ensures faultless { OnOk result (IsFaultless (record { entries = rows; exclusions = exclusions })) }
+        ensures fault { IfErr result (λ f. (f ≡ OutOfMemory) ⊎ IsLeastFault (record { entries = rows; exclusions = exclusions }) f) }
+    {
+        let list = RowList::of_rows(alloc, rows)?;
+        Version::of_list(alloc, list, exclusions)
+    }
+
+    /// The version that these rows and exclusions make, as [`Version::build`] answers it.
+    pub fn of_list(
+        alloc: Global,
+        rows: RowList,
+        exclusions: Exclusions,
+    ) -> Result<Version, TableFault>
         ensures version { IfOk result (λ v. v ≡ record { entries = rows; exclusions = exclusions }) }
         ensures faultless { OnOk result (IsFaultless (record { entries = rows; exclusions = exclusions })) }
         ensures fault { IfErr result (λ f. (f ≡ OutOfMemory) ⊎ IsLeastFault (record { entries = rows; exclusions = exclusions }) f) }
@@ -91,6 +105,15 @@ impl Version {
         &self.pairs
     }
 
+    /// The primary composites of the data file (The Unicode Standard, D114), in the order of their
+    /// pairs. Where the Hangul arithmetic is on, its syllables are none of them.
+    pub fn composites(&self) -> &[Composite]
+        ensures file { AreOfFile self.now result.now }
+        ensures order { AreOrdered result.now }
+    {
+        self.pairs.as_slice()
+    }
+
     /// The primary composite with this pair, syllables too.
     pub(crate) fn composite_of(&self, first: char, second: char) -> Option<char>
         ensures some { IfSome result (IsCompositeOf self.now first second) }
@@ -111,15 +134,15 @@ impl Version {
     }
 
     /// The row at a place, from 0 in the order of their code points.
-    pub fn row(&self, at: usize) -> Option<&Row>
-        ensures { option_map (λ r. entry_of r.now) result ≡ slice_get self.now.entries at }
+    pub fn row(&self, at: usize) -> Option<RowRef<'_>>
+        ensures { option_map lent_entry result ≡ slice_get self.now.entries at }
     {
         self.characters.row(at)
     }
 
     /// The row in which a code point lies.
-    pub fn row_at(&self, code: u32) -> Option<&Row>
-        ensures { option_map (λ r. entry_of r.now) result ≡ entry_at self.now.entries code }
+    pub fn row_at(&self, code: u32) -> Option<RowRef<'_>>
+        ensures { option_map lent_entry result ≡ entry_at self.now.entries code }
     {
         self.characters.row_at(code)
     }

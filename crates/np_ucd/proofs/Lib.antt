@@ -2,6 +2,7 @@ pub mod ScalarLemmas
 pub mod RecordLemmas
 pub mod RowLemmas
 pub mod WalkLemmas
+pub mod KeptLemmas
 pub mod DataLemmas
 pub mod ExclusionLemmas
 pub mod SpanLemmas

@@ -10,7 +10,7 @@ use Rattle.np_code_points.specs.inside.LineCuts.{is_byte, is_other, is_empty, be
 use Rattle.np_ucd.specs.Mappings.{Mapping}
 use Rattle.np_ucd.specs.Tests.{FieldCount, BadCode, OutOfOrder, BadCategory, BadClass, BadMapping}
 use Rattle.np_ucd.specs.inside.FieldReading.{fields_of, category_value, class_value, mapping_value}
-use Rattle.np_ucd.specs.inside.RecordReading.{IsPlain, plain_entry, is_open, Neighbour, field, code_in, category_in, class_in, mapping_in, opens, closes, maps, neighbour_of, is_at_most, has_other_count, has_bad_code, is_out_of_order, has_bad_category, has_bad_class, has_unread_mapping, late_tests, first_that_fits, record_tests, record_fault, first_code, row_of}
+use Rattle.np_ucd.specs.inside.RecordReading.{IsPlain, plain_entry, Neighbour, field, code_in, category_in, class_in, mapping_in, opens, closes, maps, neighbour_of, is_at_most, has_other_count, has_bad_code, is_out_of_order, has_bad_category, has_bad_class, has_unread_mapping, late_tests, first_that_fits, record_tests, record_fault, first_code, row_of}
 use Rattle.np_ucd.specs.inside.RecordValues.{IsHead}
 
 -- The fields, one after another.

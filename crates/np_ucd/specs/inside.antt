@@ -1,6 +1,7 @@
 pub mod ExclusionReading
 pub mod FieldReading
 pub mod FileReading
+pub mod KeptRows
 pub mod MappingValues
 pub mod Memories
 pub mod RecordReading

@@ -11,9 +11,10 @@ ghost use Rattle.np_ucd.specs.inside.ExclusionReading.{exclusions_fault, spans_i
 ghost use Rattle.np_ucd.specs.inside.FileReading.{first_fault, rows_in};
 ghost use Rattle.np_ucd.specs.inside.RecordValues.{IsUnread, Names};
 
-use crate::data::rows_of;
+use crate::data::{row_list_of, rows_of};
 use crate::exclusions::Exclusions;
 use crate::faults::UcdFault;
+use crate::row_list::RowList;
 use crate::rows::Rows;
 use crate::spans::exclusions_of;
 use np_code_points::input::{InputFault, read_whole};
@@ -59,6 +60,28 @@ pub fn read_rows<R: Read>(alloc: Global, source: &mut Watched<R>) -> Result<Rows
 {
     let bytes = read_file(alloc, source)?;
     rows_of(alloc, bytes.as_slice())
+}
+
+/// Reads UnicodeData.txt as [`read_rows`] does, into a list that is kept small.
+///
+/// # Errors
+///
+/// Those of [`read_rows`].
+pub fn read_row_list<R: Read>(alloc: Global, source: &mut Watched<R>) -> Result<RowList, UcdFault>
+    // all bytes were read, which have no fault, and these are their rows
+    ensures rows { IfOk result (λ rows. (bytes : List ℕ)
+        × IsReadWhole (R.remaining (device_of source.old)) (R.remaining (device_of source.new)) bytes
+        × HasNoFault bytes × AreAllRows bytes rows) }
+    ensures refused { IfErr result (IsRefused IsFirstFault (R.remaining (device_of source.old)) (R.remaining (device_of source.new))) }
+    ensures failed { result ≡ Err UcdFault.ReadFailed ↔ (has_failed source.new ≡ true) }
+    // the same as functions of the bytes
+    ensures same_rows { IfOk result (λ rows. (bytes : List ℕ)
+        × IsReadWhole (R.remaining (device_of source.old)) (R.remaining (device_of source.new)) bytes
+        × (first_fault bytes ≡ None) × (rows ≡ rows_in bytes)) }
+    ensures same_fault { IfErr result (IsRefused (Names first_fault) (R.remaining (device_of source.old)) (R.remaining (device_of source.new))) }
+{
+    let bytes = read_file(alloc, source)?;
+    row_list_of(alloc, bytes.as_slice())
 }
 
 /// Reads CompositionExclusions.txt (UAX #44): to its end before a line is judged, or to its

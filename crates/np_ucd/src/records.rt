@@ -70,7 +70,7 @@ fn next_short_field(rest: &[u8]) -> Option<(&[u8], &[u8])>
 
 /// Whether no `;` is among these bytes.
 #[inline(always)]
-fn has_no_end(bytes: &[u8]) -> bool
+fn has_no_divider(bytes: &[u8]) -> bool
     ensures { result ≡ list_all (is_other 59) bytes.now }
 {
     bytes.iter().all(|b| *b != b';')
@@ -81,7 +81,7 @@ fn has_no_end(bytes: &[u8]) -> bool
 fn field_of_length<const N: usize>(rest: &[u8]) -> Option<(&[u8], &[u8])>
     ensures { IfSome result (λ p. parts rest.now ≡ p.0.now ∷ parts p.1.now) }
 {
-    if rest.len() > N && rest[N] == b';' && has_no_end(&rest[..N]) {
+    if rest.len() > N && rest[N] == b';' && has_no_divider(&rest[..N]) {
         Some((&rest[..N], &rest[N + 1..]))
     } else {
         None

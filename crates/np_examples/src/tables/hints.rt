@@ -10,7 +10,7 @@ use std::test::Fail;
 // where no class is less than the one before and, where the form composes, they are no second parts. A
 // second part follows a code point that blocks it, or one without a mapping with which it has no composite.
 // A leading consonant is not taken to pass where the form composes.
-const STANDING: [(Form, &str, usize); 29] = [
+const QUICK_SPANS: [(Form, &str, usize); 29] = [
     (Form::Nfc, "\u{915}\u{302}", 5),
     (Form::Nfkc, "\u{915}\u{302}\u{30A}\u{1161}", 10),
     (Form::Nfc, "\u{915}\u{323}\u{302}", 5),
@@ -71,7 +71,7 @@ FB49;X;Lo;0;R;05E9 05BC;;;;N;;;;;
 );
 
 // The same of pointed Hebrew.
-const HEBREW_STANDING: [(Form, &str, usize); 5] = [
+const HEBREW_SPANS: [(Form, &str, usize); 5] = [
     (Form::Nfc, "\u{5E9}\u{5B7}\u{5BC}\u{5C1}\u{5E9}", 10),
     (Form::Nfd, "\u{5E9}\u{5B7}\u{5BC}\u{5C1}\u{5E9}", 10),
     (Form::Nfc, "\u{5E9}\u{5BC}\u{5B7}", 4),
@@ -97,7 +97,7 @@ const ACCENTS: Files = (
 
 // The same behind a composite: what never composes backward follows, be its class below that of a part or not. What
 // composes with a part doesn't, though it has no composite with the whole.
-const ACCENTS_STANDING: [(Form, &str, usize); 11] = [
+const ACCENTED_SPANS: [(Form, &str, usize); 11] = [
     (Form::Nfc, "\u{E0}\u{5AE}", 4),
     (Form::Nfkc, "\u{E0}\u{5AE}", 4),
     (Form::Nfd, "\u{E0}\u{5AE}", 0),
@@ -112,7 +112,7 @@ const ACCENTS_STANDING: [(Form, &str, usize); 11] = [
 ];
 
 // Whether a boundary of a form is before a code point.
-const PARTING: [(Form, char, bool); 8] = [
+const BOUNDARIES: [(Form, char, bool); 8] = [
     (Form::Nfd, '\u{E2}', true),
     (Form::Nfc, '\u{E2}', true),
     (Form::Nfkd, '\u{AC01}', true),
@@ -123,10 +123,10 @@ const PARTING: [(Form, char, bool); 8] = [
     (Form::Nfkc, '\u{344}', false),
 ];
 
-fn tells_what_stands<T: NormTable>(table: &T, rows: &[(Form, &str, usize)]) -> Result<(), Fail> {
+fn tells_quick_spans<T: NormTable>(table: &T, rows: &[(Form, &str, usize)]) -> Result<(), Fail> {
     for (form, text, count) in rows {
-        let (stands, _parts) = table.quick_span(*form, false, text);
-        want(stands == *count, text)?;
+        let (passed, _boundary) = table.quick_span(*form, false, text);
+        want(passed == *count, text)?;
     }
     Ok(())
 }
@@ -152,18 +152,15 @@ fn tells_what_stands_assigned<T: NormTable>(
     rows: &[(Form, &str, usize, usize)],
 ) -> Result<(), Fail> {
     for (form, text, any, assigned) in rows {
-        let (stands, _parts) = table.quick_span(*form, false, text);
-        want(stands == *any, text)?;
-        let (stands, _parts) = table.quick_span(*form, true, text);
-        want(stands == *assigned, text)?;
+        let (passed, _boundary) = table.quick_span(*form, false, text);
+        want(passed == *any, text)?;
+        let (passed, _boundary) = table.quick_span(*form, true, text);
+        want(passed == *assigned, text)?;
     }
     Ok(())
 }
 
-fn tells_where_forms_part<T: NormTable>(
-    table: &T,
-    rows: &[(Form, char, bool)],
-) -> Result<(), Fail> {
+fn tells_boundaries<T: NormTable>(table: &T, rows: &[(Form, char, bool)]) -> Result<(), Fail> {
     for (form, c, parts) in rows {
         want(table.is_boundary(*form, *c) == *parts, "parts")?;
     }
@@ -171,15 +168,15 @@ fn tells_where_forms_part<T: NormTable>(
 }
 
 fn tells_what_forms_leave<T: NormTable>(table: &T) -> Result<(), Fail> {
-    tells_what_stands(table, &STANDING)?;
+    tells_quick_spans(table, &QUICK_SPANS)?;
     tells_what_stands_assigned(table, &LACKING)?;
     tells_where_runs_end(table, &ENDING)?;
-    tells_where_forms_part(table, &PARTING)
+    tells_boundaries(table, &BOUNDARIES)
 }
 
 // The form of a code point by itself: none is told where it has no mapping of the kind, or where its full
 // decomposition begins with no starter and the form composes.
-const SPELLED: [(Form, char, &str); 12] = [
+const PRECOMPUTED: [(Form, char, &str); 12] = [
     (Form::Nfd, '\u{E2}', "a\u{302}"),
     (Form::Nfd, '\u{1EAD}', "a\u{323}\u{302}"),
     (Form::Nfd, '\u{344}', "\u{308}\u{301}"),
@@ -203,14 +200,14 @@ fn has_precomputed<T: NormTable>(table: &T, form: Form, c: char, text: &str) -> 
 }
 
 fn has_each<T: NormTable>(table: &T) -> Result<(), Fail> {
-    for (form, c, text) in &SPELLED {
+    for (form, c, text) in &PRECOMPUTED {
         want(has_precomputed(&table, *form, *c, text), text)?;
     }
     Ok(())
 }
 
 fn has_none<T: NormTable>(table: &T) -> Result<(), Fail> {
-    for (form, c, text) in &SPELLED {
+    for (form, c, text) in &PRECOMPUTED {
         want(has_precomputed(table, *form, *c, ""), text)?;
     }
     Ok(())
@@ -247,8 +244,8 @@ enum Hint {
     Points,
     Accents,
     Precomputed,
-    LeadsPart,
-    AsciiStands,
+    LeadingConsonants,
+    AsciiPasses,
     NonePrecomputed,
     Neither,
 }
@@ -257,11 +254,14 @@ impl Example for Hint {
     fn holds<T: Made>(&self, _alloc: Global, table: &T) -> Result<(), Fail> {
         match self {
             Hint::QuickSpan => tells_what_forms_leave(table),
-            Hint::Points => tells_what_stands(table, &HEBREW_STANDING),
-            Hint::Accents => tells_what_stands(table, &ACCENTS_STANDING),
+            Hint::Points => tells_quick_spans(table, &HEBREW_SPANS),
+            Hint::Accents => tells_quick_spans(table, &ACCENTED_SPANS),
             Hint::Precomputed => has_each(table),
-            Hint::LeadsPart => want(tells_once(&table, true, false), "leading consonants part"),
-            Hint::AsciiStands => want(tells_once(table, true, true), "ASCII stands"),
+            Hint::LeadingConsonants => want(
+                tells_once(&table, true, false),
+                "leading consonants are boundaries",
+            ),
+            Hint::AsciiPasses => want(tells_once(table, true, true), "ASCII passes"),
             Hint::NonePrecomputed => has_none(table),
             Hint::Neither => want(
                 tells_once(table, false, false),
@@ -298,12 +298,12 @@ fn a_plain_table_precomputes_nothing(rt: HostRuntime) -> Result<(), Fail> {
 
 #[test]
 fn that_leading_consonants_are_boundaries_is_told_once(rt: HostRuntime) -> Result<(), Fail> {
-    holds_over::<PageTable, Hint>(rt.alloc(), V1, &Hint::LeadsPart)
+    holds_over::<PageTable, Hint>(rt.alloc(), V1, &Hint::LeadingConsonants)
 }
 
 #[test]
 fn that_ascii_passes_is_told_once(rt: HostRuntime) -> Result<(), Fail> {
-    holds_over::<PageTable, Hint>(rt.alloc(), ASCII, &Hint::AsciiStands)
+    holds_over::<PageTable, Hint>(rt.alloc(), ASCII, &Hint::AsciiPasses)
 }
 
 #[test]

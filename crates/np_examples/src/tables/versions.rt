@@ -62,6 +62,29 @@ fn composites_are_told_apart(rt: HostRuntime) -> Result<(), Fail> {
     has_composites(&v1)
 }
 
+// The composites of the first fixture, in the order of their pairs.
+const COMPOSITES: [(char, char, char); 4] = [
+    ('\u{41}', '\u{30A}', '\u{C5}'),
+    ('\u{61}', '\u{302}', '\u{E2}'),
+    ('\u{61}', '\u{323}', '\u{1EA1}'),
+    ('\u{1EA1}', '\u{302}', '\u{1EAD}'),
+];
+
+fn lists_composites(v1: &Version) -> Result<(), Fail> {
+    want(v1.composites().len() == COMPOSITES.len(), "four composites")?;
+    for (here, (first, second, code)) in v1.composites().iter().zip(COMPOSITES) {
+        want(here.first == first && here.second == second, "a pair")?;
+        want(here.code == code, "its composite")?;
+    }
+    Ok(())
+}
+
+#[test]
+fn composites_stand_in_the_order_of_their_pairs(rt: HostRuntime) -> Result<(), Fail> {
+    let v1 = version(rt.alloc(), V1_DATA, V1_EXCLUSIONS)?;
+    lists_composites(&v1)
+}
+
 fn has_no_syllables(s: &Version) -> Result<(), Fail> {
     want(!s.has_hangul(), "no arithmetic")?;
     want(!s.is_primary(0xAC00), "no syllable")?;

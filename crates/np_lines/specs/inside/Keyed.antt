@@ -10,8 +10,8 @@ use Rattle.np_lines.specs.Answers.{Wanted}
 use Rattle.np_lines.specs.Lines.{LineEnd, byte_of}
 
 -- behind each byte that ends lines the form parts
-abbrev pub ArePartedAt : VersionData → Wanted → List ℕ → Type 0
-ArePartedAt v wanted text = (before behind : List ℕ) → text ≡ before ++ byte_of wanted.end ∷ behind → BeginsAtBoundary v wanted.form (chars behind)
+abbrev pub HasBoundariesAt : VersionData → Wanted → List ℕ → Type 0
+HasBoundariesAt v wanted text = (before behind : List ℕ) → text ≡ before ++ byte_of wanted.end ∷ behind → BeginsAtBoundary v wanted.form (chars behind)
 
 -- how many lines end
 abbrev pub ends_in : LineEnd → List ℕ → ℕ
@@ -20,8 +20,8 @@ ends_in end bytes = count_by (λ b. b == byte_of end) bytes
 -- lines of assigned code points, and the form of all of them, in which as many lines end; what ends them passes the quick check
 pub record AreKeyed (v : VersionData) (wanted : Wanted) (lines keys : List ℕ) : Type 0 where
   pub sound : IsSound v
-  pub stays : IsYesStarter v wanted.form (byte_of wanted.end)
-  pub parted : ArePartedAt v wanted lines
+  pub yes_starter : IsYesStarter v wanted.form (byte_of wanted.end)
+  pub boundaries : HasBoundariesAt v wanted lines
   pub assigned : IsAssigned v (chars lines)
   pub normal : IsNormalForm v wanted.form (chars lines) (chars keys)
   pub count : ends_in wanted.end keys ≡ ends_in wanted.end lines

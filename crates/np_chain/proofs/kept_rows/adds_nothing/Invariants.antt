@@ -1,6 +1,6 @@
-use Rattle.std.proofs.Common.{ℕ, ◌<◌}
-use Rattle.np_chain.specs.inside.KeptRows.{AddsNone}
+use Rattle.std.specs.List.{AllWithin}
+use Rattle.np_chain.specs.inside.KeptRows.{AddsNoBreak}
 use Rattle.np_chain.proofs.kept_rows.adds_nothing.Given as goal
 
-abbrev pub invariant-loop-at : goal.invariant-loop-at
-invariant-loop-at l = (at : ℕ) → at < l.at → AddsNone l.old l.new at
+abbrev pub invariant-loop-composite : goal.invariant-loop-composite
+invariant-loop-composite l = AllWithin (λ x. AddsNoBreak l.old l.new x.code) l.composite-items 0 l.composite-index

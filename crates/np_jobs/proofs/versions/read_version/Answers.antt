@@ -9,7 +9,7 @@ use Rattle.np_jobs.proofs.versions.read_version.Goals as goal
 pub returns-in-Err-read_exclusions-clause-refused : goal.returns-in-Err-read_exclusions-clause-refused
 returns-in-Err-read_exclusions-clause-refused g c =
     let tells = g.R.Read.remaining in
-    let data_file = stream_of tells c.args.data_file.now c.read_rows.new.source in
+    let data_file = stream_of tells c.args.data_file.now c.read_row_list.new.source in
     let fault = c.in-Err-read_exclusions.fault in
     let failed = c.in-Err-read_exclusions.ensures.failed in
     inr (inl (
@@ -25,7 +25,7 @@ returns-in-Err-read_exclusions-clause-refused g c =
 pub returns-clause-built : goal.returns-clause-built
 returns-clause-built g c =
     let tells = g.R.Read.remaining in
-    let data_file = stream_of tells c.args.data_file.now c.read_rows.new.source in
+    let data_file = stream_of tells c.args.data_file.now c.read_row_list.new.source in
     let exclusions_file = stream_of tells c.clear.new.self c.read_exclusions.new.source in
     let spans = c.in-Ok-read_exclusions.exclusions in
     was_built data_file (stream_of tells c.args.exclusions_file.now c.read_exclusions.new.source) c.in-Ok.rows spans c.version_of.result

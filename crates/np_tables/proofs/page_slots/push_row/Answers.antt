@@ -5,7 +5,7 @@ use Rattle.np_tables.proofs.page_slots.push_row.Goals as goal
 
 pub returns-in_ok-push-2 : goal.returns-in_ok-push-2
 returns-in_ok-push-2 c =
-    pushed-shared c.args.characters.now c.args.row.now.first c.args.codes.now.items c.push_full.new.codes.items c.push_full-2.new.codes.items _ c.args.canonical.now.items c.args.compatible.now.items _ _
+    pushed-shared c.args.characters.now c.args.row.first c.args.codes.now.items c.push_full.new.codes.items c.push_full-2.new.codes.items _ c.args.canonical.now.items c.args.compatible.now.items _ _
     (record { start = c.len-start.result; end = c.len-middle.result }) (record { start = c.len-middle.result; end = c.len-end.result })
     c.requires.canonical c.requires.compatible c.in_ok-push_full.ensures c.in_ok-push_full-2.ensures
     (c.len-start.ensures ∙ c.args.codes.now.ok.0) (c.len-middle.ensures ∙ c.push_full.new.codes.ok.0) (c.len-middle.ensures ∙ c.push_full.new.codes.ok.0) (c.len-end.ensures ∙ c.push_full-2.new.codes.ok.0)
@@ -13,7 +13,7 @@ returns-in_ok-push-2 c =
 
 pub returns-in_ok-push-3 : goal.returns-in_ok-push-3
 returns-in_ok-push-3 c =
-    pushed-apart c.args.characters.now c.args.row.now.first c.args.codes.now.items c.push_full.new.codes.items c.push_full-2.new.codes.items c.args.canonical.now.items c.args.compatible.now.items _ _
+    pushed-apart c.args.characters.now c.args.row.first c.args.codes.now.items c.push_full.new.codes.items c.push_full-2.new.codes.items c.args.canonical.now.items c.args.compatible.now.items _ _
     (record { start = c.len-start.result; end = c.len-middle.result }) (record { start = c.len-middle.result; end = c.len-end.result })
     c.requires.canonical c.requires.compatible c.in_ok-push_full.ensures c.in_ok-push_full-2.ensures
     (c.len-start.ensures ∙ c.args.codes.now.ok.0) (c.len-middle.ensures ∙ c.push_full.new.codes.ok.0) (c.len-middle.ensures ∙ c.push_full.new.codes.ok.0) (c.len-end.ensures ∙ c.push_full-2.new.codes.ok.0)

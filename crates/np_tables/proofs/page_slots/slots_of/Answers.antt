@@ -1,5 +1,5 @@
 use Rattle.std.proofs.Common.{◌∙◌, ap, Vec, Global, ℕ, arith}
-use Rattle.np_tables.proofs.Words.{CodeRange, entry_of, is_empty}
+use Rattle.np_tables.proofs.Words.{CodeRange, lent_entry, is_empty}
 use Rattle.np_tables.proofs.RowLemmas.{place-le}
 use Rattle.np_tables.proofs.FullListLemmas.{nil_from_test}
 use Rattle.np_tables.proofs.PageSlotLemmas.{slots-bare, slots-pushed, slots-moved}
@@ -8,14 +8,14 @@ use Rattle.np_tables.proofs.page_slots.slots_of.Goals.{then-is_empty+in_ok-push,
 
 pub overflow_cast-slot : goal.overflow_cast-slot
 overflow_cast-slot c =
-    let low = place-le c.args.characters.now.entries c.loop-at.at (entry_of c.row_in-row.result.now) c.len.ensures.rows c.row_in-row.ensures.place in
+    let low = place-le c.args.characters.now.entries c.loop-at.at (lent_entry c.row_in-row.result) c.len.ensures.rows c.row_in-row.ensures.place in
     let size = c.len-slot.ensures ∙ c.loop-at.canonical.ok.0 in
     omega arith
 
 pub loop-at-preserved : goal.loop-at-preserved
 loop-at-preserved c =
     let at = c.loop-at.at in
-    let e = entry_of c.row_in-row.result.now in
+    let e = lent_entry c.row_in-row.result in
     elim c.if-is_empty.branch [
       | then-is_empty+in_ok-push w ↦
           slots-moved _ _ c.loop-at.codes.items _ c.loop-at.canonical.items _ c.loop-at.compatible.items _ _ _

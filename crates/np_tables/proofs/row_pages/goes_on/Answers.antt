@@ -1,14 +1,14 @@
 use Rattle.std.proofs.Common.{sym, arith}
-use Rattle.np_tables.proofs.Words.{leb-true, entry_of}
+use Rattle.np_tables.proofs.Words.{leb-true, lent_entry}
 use Rattle.np_tables.proofs.RowLemmas.{at-row}
 use Rattle.np_tables.proofs.RowPageLemmas.{goes_on-within}
 use Rattle.np_tables.proofs.row_pages.goes_on.Goals as goal
 
 pub overflow_add-row : goal.overflow_add-row
 overflow_add-row c =
-    let row = at-row c.args.rows.now c.args.at (entry_of c.in-Some.row.now) c.requires.rows (sym c.in-Some.ensures.row) in
+    let row = at-row c.args.rows.now c.args.at (lent_entry c.in-Some.row) c.requires.rows (sym c.in-Some.ensures.row) in
     omega arith
 
 pub returns-then-row-first : goal.returns-then-row-first
 returns-then-row-first c = λ is.
-    goes_on-within c.args.rows.now c.args.at c.args.first (entry_of c.in-Some.row.now) c.requires.rows c.requires.next (sym c.in-Some.ensures.row) c.if-row-first.true (leb-true _ _ is)
+    goes_on-within c.args.rows.now c.args.at c.args.first (lent_entry c.in-Some.row) c.requires.rows c.requires.next (sym c.in-Some.ensures.row) c.if-row-first.true (leb-true _ _ is)

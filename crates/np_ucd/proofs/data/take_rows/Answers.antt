@@ -1,12 +1,11 @@
-use Rattle.std.proofs.Common.{Some, map, rules, inr, sym, ap, ◌∙◌}
+use Rattle.std.proofs.Common.{Some, rules, inr, sym, ap, ◌∙◌}
 use Rattle.np_code_points.specs.Lines.{Walk, numbered}
-use Rattle.np_ucd.specs.RowValues.{entry_of}
 use Rattle.np_ucd.proofs.DataLemmas.{taken_begin, taken_next, taken_here, fault_end, rows_end}
 use Rattle.np_ucd.proofs.data.take_rows.Goals as goal
 
 pub loop-line-init : goal.loop-line-init
 loop-line-init c =
-    taken_begin (ap (λ (w : Walk). w.left) c.into_iter-line-iterator.ensures.into_iter_gives ∙ c.new-line-items.ensures.same) (ap (map entry_of) c.requires)
+    taken_begin (ap (λ (w : Walk). w.left) c.into_iter-line-iterator.ensures.into_iter_gives ∙ c.new-line-items.ensures.same) c.requires
 
 pub returns-in_err-take_record-clause-fault : goal.returns-in_err-take_record-clause-fault
 returns-in_err-take_record-clause-fault c =

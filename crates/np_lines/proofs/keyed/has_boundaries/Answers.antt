@@ -3,7 +3,7 @@ use Rattle.np_code_points.specs.Lines.{HasNo}
 use Rattle.np_tables.specs.Boundaries.{BeginsAtBoundary}
 use Rattle.np_lines.specs.Lines.{byte_of}
 use Rattle.np_lines.proofs.EndLemmas.{later_end, no_end}
-use Rattle.np_lines.proofs.keyed.are_parted.Goals as goal
+use Rattle.np_lines.proofs.keyed.has_boundaries.Goals as goal
 
 pub lines-init : goal.lines-init
 lines-init g c = (c.utf8.text, λ before behind is. inr (before, is))

@@ -3,7 +3,7 @@ use denote.Text.{Utf8}
 use denote.Shadow.{shadow}
 use Rattle.np_tables.specs.Boundaries.{BeginsAtBoundary}
 use Rattle.np_lines.specs.Lines.{byte_of}
-use Rattle.np_lines.proofs.keyed.are_parted.Given as goal
+use Rattle.np_lines.proofs.keyed.has_boundaries.Given as goal
 
 abbrev pub invariant-lines : goal.invariant-lines
 invariant-lines g l =
