@@ -5,9 +5,9 @@
 //! `np_ucd` reads the files):
 //!
 //! ```
-//! let rows = read_rows(alloc, &mut Watched::new(data))?;
+//! let rows = read_row_list(alloc, &mut Watched::new(data))?;
 //! let listed = read_exclusions(alloc, &mut Watched::new(exclusions))?;
-//! let version = Version::build(alloc, rows, listed)?;
+//! let version = Version::of_list(alloc, rows, listed)?;
 //! let table = PageTable::new(alloc, version)?;
 //! let key = npss(alloc, &table, Form::Nfc, "a\u{302}\u{323}")?;
 //! ```

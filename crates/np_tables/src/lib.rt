@@ -3,9 +3,9 @@
 //! From two files to a table, where `data` and `exclusions` are readers:
 //!
 //! ```
-//! let rows = read_rows(alloc, &mut Watched::new(data))?;
+//! let rows = read_row_list(alloc, &mut Watched::new(data))?;
 //! let listed = read_exclusions(alloc, &mut Watched::new(exclusions))?;
-//! let version = Version::build(alloc, rows, listed)?;
+//! let version = Version::of_list(alloc, rows, listed)?;
 //! let table = PageTable::new(alloc, version)?;
 //! ```
 #![tactic(auto)]

@@ -5,14 +5,14 @@ use np_code_points::watched::Watched;
 use np_examples_shared::want;
 use np_forms::npss;
 use np_tables::{PageTable, Version};
-use np_ucd::{read_exclusions, read_rows};
+use np_ucd::{read_exclusions, read_row_list};
 use std::alloc::Global;
 use std::test::Fail;
 
 fn key_from(alloc: Global, data: &[u8], exclusions: &[u8]) -> Result<String, Fail> {
-    let rows = read_rows(alloc, &mut Watched::new(data))?;
+    let rows = read_row_list(alloc, &mut Watched::new(data))?;
     let listed = read_exclusions(alloc, &mut Watched::new(exclusions))?;
-    let version = Version::build(alloc, rows, listed)?;
+    let version = Version::of_list(alloc, rows, listed)?;
     let table = PageTable::new(alloc, version)?;
     let key = npss(alloc, &table, Form::Nfc, "a\u{302}\u{323}")?;
     Ok(key)
