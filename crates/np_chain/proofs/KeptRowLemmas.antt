@@ -14,7 +14,7 @@ use Rattle.np_code_points.specs.Hangul.{is_syllable}
 use Rattle.np_tables.specs.Conditions.{IsSound}
 use Rattle.np_tables.specs.Versions.{VersionData, entry_at, class_of, file_kind, file_mapping, has_hangul, is_assigned, is_canonical}
 use Rattle.np_tables.specs.declared.pairs.Composite.{Composite}
-use Rattle.np_tables.specs.inside.Pairs.{AreOfFile}
+use Rattle.np_tables.specs.CompositeLists.{AreOfFile}
 use Rattle.np_tables.specs.inside.Primaries.{is_primary, is_starter_pair}
 use Rattle.np_tables.proofs.AccessLemmas.{class_of-at, is_assigned-at}
 use Rattle.np_tables.proofs.CompositeLemmas.{primary-from, primary-test}

@@ -70,8 +70,8 @@ pub use Rattle.np_tables.specs.inside.PageProperties.{last_behind, lists_of, no_
 unfoldable pub use Rattle.np_tables.specs.inside.PageProperties.{row_properties}
 pub use Rattle.np_tables.specs.inside.Pages.{AreWithin}
 unfoldable pub use Rattle.np_tables.specs.inside.Pages.{property_place}
-pub use Rattle.np_tables.specs.inside.Pairs.{AreOfFile, AreOrdered, IsCompositeAt, IsInRange, Lists, composites_in, pair_in}
-pub use Rattle.np_tables.specs.inside.Pairs.{pair_rank, rank, slot_at}
+pub use Rattle.np_tables.specs.CompositeLists.{AreOfFile, AreOrdered, IsInRange, Lists, pair_rank, rank}
+pub use Rattle.np_tables.specs.inside.Pairs.{IsCompositeAt, composites_in, pair_in, slot_at}
 pub use Rattle.np_tables.specs.inside.Primaries.{is_starter_pair}
 unfoldable pub use Rattle.np_tables.specs.inside.Primaries.{is_primary}
 pub use Rattle.np_tables.specs.inside.RowPages.{AreBegun, AreFirstPages, ArePushed, AreRowPages, GoesOn, HasNoRow}

@@ -1,4 +1,5 @@
 pub mod Boundaries
+pub mod CompositeLists
 pub mod Composites
 pub mod Conditions
 pub mod Counts

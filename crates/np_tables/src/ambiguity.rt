@@ -2,7 +2,7 @@
 ghost use Rattle.std.specs.Prelude.{◌≡◌, ◌↔◌, ℕ, ◌<◌, length, IfSome, IsTrue};
 ghost use Rattle.np_tables.specs.Faults.{IsAmbiguous};
 ghost use Rattle.np_tables.specs.inside.FirstFaults.{IsFirst};
-ghost use Rattle.np_tables.specs.inside.Pairs.{AreOfFile};
+ghost use Rattle.np_tables.specs.CompositeLists.{AreOfFile};
 ghost use Rattle.np_tables.specs.inside.Suspects.{HasSmallerTwin, IsAtMost, IsSuspect, least_of};
 
 use crate::characters::CharacterData;

@@ -2,7 +2,7 @@
 ghost use Rattle.std.specs.Prelude.{IfOk, MatchOption};
 ghost use Rattle.np_tables.specs.TableFaults.{IsFaultless, IsLeastFault};
 ghost use Rattle.np_tables.specs.inside.FirstFaults.{AreFirsts};
-ghost use Rattle.np_tables.specs.inside.Pairs.{AreOfFile};
+ghost use Rattle.np_tables.specs.CompositeLists.{AreOfFile};
 
 use crate::ambiguity::first_ambiguous;
 use crate::characters::CharacterData;

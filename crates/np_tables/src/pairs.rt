@@ -4,7 +4,8 @@ ghost use Rattle.std.specs.List.{All};
 ghost use Rattle.std.specs.List.Sorted.{IsPermutation};
 ghost use Rattle.np_ucd.specs.Entries.{IsRow};
 ghost use Rattle.np_ucd.specs.RowValues.{lent_entry};
-ghost use Rattle.np_tables.specs.inside.Pairs.{AreOfFile, AreOrdered, HaveNumbers, IsCompositeAt, IsInRange, Lists, composites_in, pair_rank, slot_at};
+ghost use Rattle.np_tables.specs.CompositeLists.{AreOfFile, AreOrdered, IsInRange, Lists, pair_rank};
+ghost use Rattle.np_tables.specs.inside.Pairs.{HaveNumbers, IsCompositeAt, composites_in, slot_at};
 
 use crate::characters::CharacterData;
 use crate::row_places::{mapped_code, row_in};
@@ -106,7 +107,7 @@ impl Model for Pairs {
 
     ghost Value = { List Composite };
 
-    ghost use Rattle.np_tables.specs.inside.Pairs.{AreOrdered};
+    ghost use Rattle.np_tables.specs.CompositeLists.{AreOrdered};
 
     ghost view = { λ a. a.composites.items };
 

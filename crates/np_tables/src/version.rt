@@ -6,7 +6,7 @@ ghost use Rattle.np_tables.specs.Composites.{IsCompositeOf, IsPrimary};
 ghost use Rattle.np_tables.specs.inside.CompositeSearch.{composite};
 ghost use Rattle.np_tables.specs.inside.Primaries.{is_primary};
 ghost use Rattle.np_tables.specs.Conditions.{IsSound};
-ghost use Rattle.np_tables.specs.inside.Pairs.{AreOfFile, AreOrdered};
+ghost use Rattle.np_tables.specs.CompositeLists.{AreOfFile, AreOrdered};
 ghost use Rattle.np_tables.specs.Counts.{assigned_count};
 ghost use Rattle.np_tables.specs.Versions.{class_of, entry_at, file_kind, file_mapping, has_hangul, is_assigned, is_excluded};
 ghost use Rattle.np_ucd.specs.RowValues.{lent_entry};
@@ -33,7 +33,7 @@ pub struct Version {
 impl Model for Version {
     ghost use Rattle.np_tables.specs.Conditions.{IsSound};
     ghost use Rattle.np_tables.specs.Versions.{VersionData};
-    ghost use Rattle.np_tables.specs.inside.Pairs.{AreOfFile};
+    ghost use Rattle.np_tables.specs.CompositeLists.{AreOfFile};
 
     ghost Value = { VersionData };
 

@@ -8,7 +8,7 @@ use Rattle.np_tables.specs.Composites.{IsCompositeOf}
 use Rattle.np_tables.specs.Versions.{VersionData}
 use Rattle.np_tables.specs.declared.page_hints.Hints.{Hints}
 use Rattle.np_tables.specs.declared.pairs.Composite.{Composite}
-use Rattle.np_tables.specs.inside.Pairs.{Lists}
+use Rattle.np_tables.specs.CompositeLists.{Lists}
 
 -- the second part of no primary composite
 abbrev pub IsNeverSecond : VersionData → ℕ → Type 0
