@@ -5,9 +5,9 @@ use np_code_points::devices::{Failure, Room, Trickle};
 use np_code_points::fixtures::{V1_DATA, V1_EXCLUSIONS};
 use np_code_points::watched::Watched;
 use np_examples_shared::{again, want};
-use np_jobs::WordsFault;
 use np_lines::{LineEnd, Wanted};
 use np_lines_job::{Asked, LinesJob, REFUSED, lines_job, lines_usage_text, parse_lines};
+use np_words::WordsFault;
 use std::alloc::{AllocError, Global};
 use std::test::Fail;
 

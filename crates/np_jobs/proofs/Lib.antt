@@ -1,7 +1,6 @@
 pub mod AuditLemmas
 pub mod ChainLemmas
 pub mod EndLemmas
-pub mod MatchLemmas
 pub mod OpeningLemmas
 pub mod ReplayLemmas
 pub mod UnderLemmas

@@ -8,8 +8,8 @@ use Rattle.np_code_points.specs.declared.channels.watched.Watched.{Watched}
 use Rattle.np_jobs.specs.Chains.{readers_of}
 use Rattle.np_jobs.specs.Opening.{IsFirstUnopened, IsUnopened, Opens, both_files}
 use Rattle.np_jobs.specs.Streams.{Stream, stream_of}
-use Rattle.np_jobs.specs.Words.{names_of}
-use Rattle.np_jobs.specs.declared.words.files.VersionFiles.{VersionFiles}
+use Rattle.np_words.specs.Words.{names_of}
+use Rattle.np_words.specs.declared.files.VersionFiles.{VersionFiles}
 
 -- what ends so on a device ends so on the one that it was before
 pub ends_before : {D : Type 0} (tells : D → Option (List ℕ)) (EndsSo : Stream → Type 0) (old mid new : Watched D)

@@ -1,6 +1,5 @@
 pub mod Audits
 pub mod Chains
-pub mod Commands
 pub mod Comparisons
 pub mod Ends
 pub mod Keys
@@ -13,6 +12,5 @@ pub mod Streams
 pub mod Tellings
 pub mod Texts
 pub mod Versions
-pub mod Words
 pub mod Wraps
 pub mod inside

@@ -5,9 +5,9 @@ use Rattle.np_jobs.specs.Chains.{VersionReaders}
 use Rattle.np_jobs.specs.Ends.{IsTold, TellsRefusal}
 use Rattle.np_jobs.specs.Streams.{Stream}
 use Rattle.np_jobs.specs.Texts.{TextReaders}
-use Rattle.np_jobs.specs.Words.{names_of}
+use Rattle.np_words.specs.Words.{names_of}
 use Rattle.np_jobs.specs.declared.faults.JobFault.TheVariants.{Memory}
-use Rattle.np_jobs.specs.declared.words.files.VersionFiles.{VersionFiles}
+use Rattle.np_words.specs.declared.files.VersionFiles.{VersionFiles}
 
 -- the files of a version, in the order of the words
 abbrev pub both_files : VersionReaders → List Stream

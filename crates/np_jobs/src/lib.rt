@@ -1,6 +1,6 @@
 //! What each command of the program does, over any readers and writers: its output, its status, and
-//! the line in which a refusal is told. Beside that what a program over these jobs needs: the words of
-//! the command line, the opening of files, the standard streams.
+//! the line in which a refusal is told. Beside that what a program over these jobs needs: the opening of
+//! files, the standard streams.
 #![tactic(auto)]
 
 mod audit;
@@ -20,7 +20,6 @@ mod statuses;
 mod texts;
 mod usage;
 mod versions;
-mod words;
 
 pub use audit::audit_job;
 pub use compare::compare_job;
@@ -36,6 +35,3 @@ pub use standard::{Standard, StandardInput, take_standard};
 pub use statuses::{DONE, FAILED};
 pub use usage::{refuse_words, show_usage, tell_usage};
 pub use versions::read_table;
-pub use words::{
-    Job, VersionFiles, WordsFault, command_on_text, fault_from, form_and_files, parse,
-};

@@ -5,14 +5,14 @@ ghost use Rattle.np_code_points.specs.Watched.{device_of};
 ghost use Rattle.np_jobs.specs.Ends.{TellsRefusal};
 ghost use Rattle.np_jobs.specs.Opening.{IsUnopened};
 ghost use Rattle.np_jobs.specs.Streams.{stream_of};
-ghost use Rattle.np_jobs.specs.Words.{names_of};
+ghost use Rattle.np_words.specs.Words.{names_of};
 
 use crate::ending::{refuse, tell};
 use crate::faults::JobFault;
 use crate::openers::Opener;
 use crate::statuses::FAILED;
-use crate::words::VersionFiles;
 use np_code_points::watched::Watched;
+use np_words::VersionFiles;
 use std::alloc::Global;
 use std::io::Write;
 

@@ -2,7 +2,7 @@
 use Rattle.std.specs.Prelude.{true, Some, codes}
 use Rattle.clap.specs.Words.{App, Rule, Text, new_rule, with_rule}
 use Rattle.clap.specs.declared.builder.action.ArgAction.TheVariants.{SetTrue}
-use Rattle.np_jobs.specs.Commands.{text_app}
+use Rattle.np_words.specs.Commands.{text_app}
 
 -- a flag, at most once
 abbrev pub flag_rule : Text → Rule

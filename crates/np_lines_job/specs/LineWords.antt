@@ -4,7 +4,7 @@ use Rattle.clap.specs.Words.{Kinds, Row, Text, fault_of, first_of, matches_of}
 use Rattle.np_code_points.specs.declared.forms.Form.{Form}
 use Rattle.np_lines.specs.declared.lines.LineEnd.{LineEnd}
 use Rattle.np_lines.specs.declared.lines.LineEnd.TheVariants.{Lf, Nul}
-use Rattle.np_jobs.specs.Words.{is_given, names_of, text_asked}
+use Rattle.np_words.specs.Words.{is_given, names_of, text_asked}
 use Rattle.np_lines_job.specs.LineCommands.{lines_app}
 use Rattle.np_lines_job.specs.declared.words.LinesJob.{LinesJob}
 use Rattle.np_lines_job.specs.declared.words.LinesJob.TheVariants.{Help, Answer}

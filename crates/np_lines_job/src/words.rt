@@ -9,8 +9,8 @@ mod usage;
 use crate::job::Asked;
 use clap::ArgMatches;
 use command::matches_in;
-use np_jobs::{VersionFiles, WordsFault, fault_from, form_and_files};
 use np_lines::{LineEnd, Wanted};
+use np_words::{VersionFiles, WordsFault, fault_from, form_and_files};
 use std::alloc::Global;
 pub use usage::lines_usage_text;
 
@@ -40,7 +40,7 @@ fn matches_or_fault<'a>(alloc: Global, words: &'a [String]) -> Result<ArgMatches
 }
 
 /// Whether the words have the flag of this name.
-#[tactic(auto, using(np_jobs::proofs::MatchLemmas::first_value_in_rows))]
+#[tactic(auto, using(np_words::proofs::MatchLemmas::first_value_in_rows))]
 fn flag_in(found: &ArgMatches<'_>, name: &str) -> bool
     ensures { result ≡ has_flag name.now (rows_of (found_of found.now)) }
 {

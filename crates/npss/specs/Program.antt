@@ -11,11 +11,11 @@ use Rattle.np_jobs.specs.Opening.{AreTextReaders, IsUnopened, WereOpened, both_f
 use Rattle.np_jobs.specs.Replays.{ReplayEnds, ReplayReaders}
 use Rattle.np_jobs.specs.Streams.{Stream}
 use Rattle.np_jobs.specs.Texts.{TextReaders}
-use Rattle.np_jobs.specs.Words.{asked_by, asked_of, names_of}
+use Rattle.np_words.specs.Words.{asked_by, asked_of, names_of}
 use Rattle.np_jobs.specs.declared.faults.JobFault.TheVariants.{Memory}
-use Rattle.np_jobs.specs.declared.words.Job.{Job}
-use Rattle.np_jobs.specs.declared.words.Job.TheVariants.{Help, Normalize, Key, KeyUnder, Compare, Audit, Replay}
-use Rattle.np_jobs.specs.declared.words.files.VersionFiles.{VersionFiles}
+use Rattle.np_words.specs.declared.parsing.Job.{Job}
+use Rattle.np_words.specs.declared.parsing.Job.TheVariants.{Help, Normalize, Key, KeyUnder, Compare, Audit, Replay}
+use Rattle.np_words.specs.declared.files.VersionFiles.{VersionFiles}
 use Rattle.npss.specs.Usage.{usage_lines}
 
 -- the readers of two versions were opened by their names, the old one's first

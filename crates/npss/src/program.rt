@@ -9,7 +9,7 @@ ghost use Rattle.np_jobs.specs.Opening.{AreTextReaders, IsUnopened};
 ghost use Rattle.np_jobs.specs.Replays.{ReplayEnds, ReplayReaders};
 ghost use Rattle.np_jobs.specs.Streams.{stream_of};
 ghost use Rattle.np_jobs.specs.Texts.{TextReaders};
-ghost use Rattle.np_jobs.specs.Words.{HasVersions, asked_of, names_of};
+ghost use Rattle.np_words.specs.Words.{HasVersions, asked_of, names_of};
 ghost use Rattle.npss.specs.Program.{ArePair, AreReplayReaders, EndsOverFiles, IsRun, ProgramEnds};
 ghost use Rattle.npss.specs.Usage.{usage_lines};
 ghost use Rattle.npss.specs.inside.TextCommands.{TextCommandEnds};
@@ -18,10 +18,10 @@ use crate::usage::usage_text;
 use np_code_points::Form;
 use np_code_points::watched::Watched;
 use np_jobs::{
-    Job, JobFault, Opener, VersionFiles, WordsFault, audit_job, compare_job, key_job,
-    key_under_job, normalize_job, open_file, open_version, open_versions, parse, refuse,
-    replay_job, show_usage, tell_usage,
+    JobFault, Opener, audit_job, compare_job, key_job, key_under_job, normalize_job, open_file,
+    open_version, open_versions, refuse, replay_job, show_usage, tell_usage,
 };
+use np_words::{Job, VersionFiles, WordsFault, parse};
 use std::alloc::Global;
 use std::io::{Read, Write};
 

@@ -5,9 +5,10 @@ mod program;
 mod progress;
 
 use np_code_points::watched::Watched;
-use np_jobs::{JobFault, SystemFiles, WordsFault, refuse, refuse_words, take_standard};
+use np_jobs::{JobFault, SystemFiles, refuse, refuse_words, take_standard};
 use np_lines::LineEnd;
 use np_lines_job::{LinesJob, lines_usage_text, parse_lines};
+use np_words::WordsFault;
 use program::run_words;
 use progress::Progress;
 use std::alloc::Global;

@@ -1,5 +1,5 @@
 //! Which words name a job.
-use np_jobs::{WordsFault, parse};
+use np_words::{WordsFault, parse};
 use std::alloc::{AllocError, Global};
 use std::test::Fail;
 

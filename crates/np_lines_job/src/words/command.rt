@@ -4,7 +4,7 @@ ghost use Rattle.clap.specs.Words.{FailsBy, app_of, fault_of, found_of, matches_
 ghost use Rattle.np_lines_job.specs.LineCommands.{flag_rule, lines_app};
 
 use clap::{Arg, ArgAction, ArgMatches, Command, Error};
-use np_jobs::command_on_text;
+use np_words::command_on_text;
 use std::alloc::{AllocError, Global};
 
 /// A flag.

@@ -1,7 +1,7 @@
 use Rattle.std.proofs.Common.{flat_map, take, drop, suc, sym, ◌∙◌, arith}
 use Rattle.std.proofs.lemmas.Result.{err_from_is_err_and}
 use Rattle.np_jobs.proofs.OpeningLemmas.{names_at, opened_more, unopened_among}
-use Rattle.np_jobs.specs.Words.{names_of}
+use Rattle.np_words.specs.Words.{names_of}
 use Rattle.np_jobs.proofs.opening.open_versions.Goals as goal
 
 pub returns-in_err-data-clause-told : goal.returns-in_err-data-clause-told

@@ -1,7 +1,7 @@
 use Rattle.std.proofs.Common.{◌≡◌, ◌*◌, flat_map, map, take, vec_len}
 use Rattle.std.specs.List.{AllZip}
 use Rattle.np_code_points.specs.Watched.{device_of}
-use Rattle.np_jobs.specs.Words.{names_of}
+use Rattle.np_words.specs.Words.{names_of}
 use Rattle.np_jobs.proofs.opening.open_versions.Given as goal
 
 abbrev pub invariant-loop-version : goal.invariant-loop-version

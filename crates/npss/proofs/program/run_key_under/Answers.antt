@@ -5,7 +5,7 @@ use Rattle.np_jobs.proofs.OpeningLemmas.{all_zip-append, ends_before, unopened_a
 use Rattle.np_jobs.specs.KeysUnder.{KeyUnderEnds, UnderReaders}
 use Rattle.np_jobs.specs.Chains.{readers_of}
 use Rattle.np_jobs.specs.Streams.{stream_of}
-use Rattle.np_jobs.specs.Words.{names_of}
+use Rattle.np_words.specs.Words.{names_of}
 use Rattle.npss.proofs.program.run_key_under.Goals as goal
 
 pub returns-in_err-old_data-clause-unopened : goal.returns-in_err-old_data-clause-unopened

@@ -4,10 +4,10 @@ use Rattle.np_code_points.specs.Watched.{device_of}
 use Rattle.np_jobs.specs.Ends.{TellsRefusal, IsTold}
 use Rattle.np_jobs.specs.Streams.{Stream, stream_of}
 use Rattle.np_jobs.specs.declared.faults.JobFault.TheVariants.{Memory}
-use Rattle.np_jobs.specs.Words.{asked_by, asked_of}
-use Rattle.np_jobs.specs.declared.words.Job.{Job}
-use Rattle.np_jobs.specs.declared.words.faults.WordsFault.{WordsFault}
-use Rattle.np_jobs.specs.declared.words.faults.WordsFault.TheVariants as faults
+use Rattle.np_words.specs.Words.{asked_by, asked_of}
+use Rattle.np_words.specs.declared.parsing.Job.{Job}
+use Rattle.np_words.specs.declared.faults.WordsFault.{WordsFault}
+use Rattle.np_words.specs.declared.faults.WordsFault.TheVariants as faults
 use Rattle.npss.specs.Program.{IsRun, ProgramEnds}
 use Rattle.npss.specs.Usage.{usage_lines}
 use Rattle.npss.proofs.program.run_words.Goals as goal

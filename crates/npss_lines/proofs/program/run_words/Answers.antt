@@ -4,8 +4,8 @@ use Rattle.np_code_points.specs.Watched.{device_of}
 use Rattle.np_jobs.specs.Ends.{TellsRefusal, IsTold}
 use Rattle.np_jobs.specs.Streams.{Stream, stream_of}
 use Rattle.np_jobs.specs.declared.faults.JobFault.TheVariants.{Memory}
-use Rattle.np_jobs.specs.declared.words.faults.WordsFault.{WordsFault}
-use Rattle.np_jobs.specs.declared.words.faults.WordsFault.TheVariants as faults
+use Rattle.np_words.specs.declared.faults.WordsFault.{WordsFault}
+use Rattle.np_words.specs.declared.faults.WordsFault.TheVariants as faults
 use Rattle.np_lines_job.specs.LineWords.{asked_by, asked_of, lines_usage}
 use Rattle.np_lines_job.specs.declared.words.LinesJob.{LinesJob}
 use Rattle.npss_lines.specs.LinesProgram.{IsRun, ProgramEnds}

@@ -1,22 +1,15 @@
 //! What a command line asks for.
 ghost use Rattle.std.specs.Prelude.{◌≡◌, ◌≢◌, [], false, length, map, flat_map, IfOk, Some, None, Ok, Err, string_bytes};
 ghost use Rattle.clap.specs.Words.{found_of, rows_of, subcommand_rows_of};
-ghost use Rattle.np_jobs.specs.Words.{HasVersions, asked_among, asked_by, asked_in, asked_of, asked_unless, audit_asked, key_asked, replay_asked};
+ghost use Rattle.np_words.specs.Words.{HasVersions, asked_among, asked_by, asked_in, asked_of, asked_unless, audit_asked, key_asked, replay_asked};
 
-mod command;
-mod faults;
-mod files;
-mod versions;
-
+use crate::command::matches_in;
+use crate::faults::{WordsFault, fault_from};
+use crate::files::{VersionFiles, file_in, files_in, form_and_files, form_in};
+use crate::versions::{checks_under_in, one_version_in, two_versions_in, version_files_in};
 use clap::ArgMatches;
-pub use command::command_on_text;
-use command::matches_in;
-pub use faults::{WordsFault, fault_from};
-use files::{file_in, files_in, form_in};
-pub use files::{VersionFiles, form_and_files};
 use np_code_points::Form;
 use std::alloc::Global;
-use versions::{checks_under_in, one_version_in, two_versions_in, version_files_in};
 
 /// What is to be done. Files are in the order of the words.
 #[derive(Debug, Drop, PartialEq, Eq)]

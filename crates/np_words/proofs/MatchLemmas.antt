@@ -6,8 +6,8 @@ use Rattle.clap.specs.declared.error.Error.{Error}
 use Rattle.clap.specs.declared.error.kind.ErrorKind.TheVariants.{OutOfMemory}
 use Rattle.clap.proofs.WalkLemmas as clap
 use Rattle.clap.specs.Words.{is_simple_and_free}
-use Rattle.np_jobs.specs.Commands.{program_app}
-use Rattle.np_jobs.specs.Words.{asked_unless}
+use Rattle.np_words.specs.Commands.{program_app}
+use Rattle.np_words.specs.Words.{asked_unless}
 
 pub first_value_in_rows : (f : Found) (id : Text) → first_value f id ≡ first_of id (rows_of f)
 first_value_in_rows f id = clap.first_value-rows f id

@@ -1,16 +1,16 @@
 //! The files of several versions that words name.
 ghost use Rattle.std.specs.Prelude.{◌≡◌, ◌≤◌, ◌∷◌, ◌++◌, ◌/◌, ◌%◌, [], codes, length, vec_len, flat_map, map, IfOk, IfErr, IsTrue, Some, None, Err};
 ghost use Rattle.clap.specs.Words.{found_of, rows_of};
-ghost use Rattle.np_jobs.specs.Words.{are_paired, checks_under, counted, counted_files_of, names_of, paired_files_of};
+ghost use Rattle.np_words.specs.Words.{are_paired, checks_under, counted, counted_files_of, names_of, paired_files_of};
 
-use super::faults::WordsFault;
-use super::files::VersionFiles;
+use crate::faults::WordsFault;
+use crate::files::VersionFiles;
 use clap::ArgMatches;
 use std::alloc::{AllocError, Global};
 
 /// Whether the words have the flag `--check-under`.
 #[tactic(auto, using(crate::proofs::MatchLemmas::first_value_in_rows))]
-pub(super) fn checks_under_in(found: &ArgMatches<'_>) -> bool
+pub(crate) fn checks_under_in(found: &ArgMatches<'_>) -> bool
     ensures { result ≡ checks_under (rows_of (found_of found.now)) }
 {
     match found.get_str("check-under") {
@@ -69,7 +69,7 @@ fn two_versions_of(
 
 /// The two files of the one version that the words name.
 #[tactic(auto, using(crate::proofs::MatchLemmas::raw_values_in_rows))]
-pub(super) fn one_version_in(
+pub(crate) fn one_version_in(
     alloc: Global,
     found: &ArgMatches<'_>,
 ) -> Result<VersionFiles, WordsFault>
@@ -84,7 +84,7 @@ pub(super) fn one_version_in(
 
 /// The four files of the two versions that the words name.
 #[tactic(auto, using(crate::proofs::MatchLemmas::raw_values_in_rows))]
-pub(super) fn two_versions_in(
+pub(crate) fn two_versions_in(
     alloc: Global,
     found: &ArgMatches<'_>,
 ) -> Result<(VersionFiles, VersionFiles), WordsFault>
@@ -126,7 +126,7 @@ fn in_pairs(alloc: Global, names: &[&str]) -> Result<Vec<VersionFiles>, AllocErr
 
 /// The files of versions that the words name, two for each version.
 #[tactic(auto, using(crate::proofs::MatchLemmas::raw_values_in_rows))]
-pub(super) fn version_files_in(
+pub(crate) fn version_files_in(
     alloc: Global,
     found: &ArgMatches<'_>,
 ) -> Result<Vec<VersionFiles>, WordsFault>

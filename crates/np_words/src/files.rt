@@ -1,9 +1,9 @@
 //! The form and the files of a version that words name.
 ghost use Rattle.std.specs.Prelude.{◌≡◌, false, IfOk, Some, None, Err, string_bytes};
 ghost use Rattle.clap.specs.Words.{Text, first_of, found_of, rows_of};
-ghost use Rattle.np_jobs.specs.Words.{files_of, form_of, names_of, text_asked};
+ghost use Rattle.np_words.specs.Words.{files_of, form_of, names_of, text_asked};
 
-use super::faults::WordsFault;
+use crate::faults::WordsFault;
 use clap::ArgMatches;
 use np_code_points::Form;
 use std::alloc::Global;
@@ -17,7 +17,7 @@ pub struct VersionFiles {
 
 /// The form that the words name.
 #[tactic(auto, using(crate::proofs::MatchLemmas::first_value_in_rows))]
-pub(super) fn form_in(found: &ArgMatches<'_>) -> Option<Form>
+pub(crate) fn form_in(found: &ArgMatches<'_>) -> Option<Form>
     ensures { result ≡ form_of (rows_of (found_of found.now)) }
 {
     Form::of_name(found.get_str("form")?)
@@ -25,7 +25,7 @@ pub(super) fn form_in(found: &ArgMatches<'_>) -> Option<Form>
 
 /// The file that the words name at this place.
 #[tactic(auto, using(crate::proofs::MatchLemmas::first_value_in_rows))]
-pub(super) fn file_in(
+pub(crate) fn file_in(
     alloc: Global,
     found: &ArgMatches<'_>,
     place: &str,
@@ -43,7 +43,7 @@ pub(super) fn file_in(
 }
 
 /// The two files of a version that the words name at these places.
-pub(super) fn files_in(
+pub(crate) fn files_in(
     alloc: Global,
     found: &ArgMatches<'_>,
     data_place: &str,

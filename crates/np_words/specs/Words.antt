@@ -4,11 +4,11 @@ use Rattle.std.specs.Option.{option_zip}
 use Rattle.std.specs.Str.{bytes_eq}
 use Rattle.np_code_points.specs.declared.forms.Form.{Form}
 use Rattle.np_code_points.specs.Forms.{form_named}
-use Rattle.np_jobs.specs.declared.words.Job.{Job}
-use Rattle.np_jobs.specs.declared.words.files.VersionFiles.{VersionFiles}
-use Rattle.np_jobs.specs.declared.words.Job.TheVariants.{Help, Normalize, Key, KeyUnder, Compare, Audit, Replay}
+use Rattle.np_words.specs.declared.parsing.Job.{Job}
+use Rattle.np_words.specs.declared.files.VersionFiles.{VersionFiles}
+use Rattle.np_words.specs.declared.parsing.Job.TheVariants.{Help, Normalize, Key, KeyUnder, Compare, Audit, Replay}
 use Rattle.clap.specs.Words.{Kinds, Row, Text, all_of, fault_of, first_of, subcommand_of}
-use Rattle.np_jobs.specs.Commands.{program_app}
+use Rattle.np_words.specs.Commands.{program_app}
 
 -- a command with its form, where it has one, whether it has the flag --check-under, and its files in the order of the words
 pub record Asked : Type 0 where

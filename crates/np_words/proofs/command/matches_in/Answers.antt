@@ -1,7 +1,7 @@
 use Rattle.std.proofs.Common.{◌≡◌, true, map, subst, string_bytes}
 use Rattle.clap.specs.Words.{App, FailsBy, fault_of, is_simple_and_free}
-use Rattle.np_jobs.proofs.MatchLemmas.{program_is_simple}
-use Rattle.np_jobs.proofs.words.command.matches_in.Goals as goal
+use Rattle.np_words.proofs.MatchLemmas.{program_is_simple}
+use Rattle.np_words.proofs.command.matches_in.Goals as goal
 
 pub returns-clause-kinds : goal.returns-clause-kinds
 returns-clause-kinds c =

@@ -1,6 +1,6 @@
 use Rattle.std.proofs.Common.{◌≡◌, ◌*◌, map, flat_map, take, vec_len}
-use Rattle.np_jobs.specs.Words.{names_of}
-use Rattle.np_jobs.proofs.words.versions.in_pairs.Given as goal
+use Rattle.np_words.specs.Words.{names_of}
+use Rattle.np_words.proofs.versions.in_pairs.Given as goal
 
 abbrev pub invariant-loop-number : goal.invariant-loop-number
 invariant-loop-number l = record {
