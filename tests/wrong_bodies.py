@@ -65,7 +65,7 @@ CALLS = [
     Call("read_schedule", "np_world", "reading.rt", "Err(ScheduleFault::Memory)", "a_refused_read_schedule_"),
     Call("replay", "np_world", "replays.rt", "Err(Memory)", "a_refused_replay_"),
     Call("report_text", "np_world", "report_texts.rt", "Err(Memory)", "a_refused_report_text_"),
-    Call("parse", "np_jobs", "words.rt", "Err(WordsFault::Memory)", "a_refused_parse_"),
+    Call("parse", "np_words", "parsing.rt", "Err(WordsFault::Memory)", "a_refused_parse_"),
     Call("normalize_job", "np_jobs", "normalize.rt", "6", "normalize_answers_the_worked_examples"),
     Call("key_job", "np_jobs", "key.rt", "6", "key_answers_the_worked_examples"),
     Call("compare_job", "np_jobs", "compare.rt", "6", "compare_answers_the_worked_examples"),
