@@ -1,7 +1,7 @@
 //! Whether a version breaks nothing of another, asked of the old one's rows and of the new one's
 //! primary composites: a quick way to the answer that most pairs have. A published version has some
 //! 35,000 rows and 1,000 such composites, and there are 1,114,112 code points.
-ghost use Rattle.std.specs.Prelude.{◌≡◌, ◌≢◌, ◌↔◌, ℕ, IsTrue, None};
+ghost use Rattle.std.specs.Prelude.{◌≡◌, ◌≢◌, ℕ, IsTrue, None};
 ghost use Rattle.np_chain.specs.inside.BreakTests.{break_of};
 ghost use Rattle.np_chain.specs.inside.KeptRows.{AddsNoBreak, HasNoPair, IsKept, IsSameWithin, LiesSame};
 ghost use Rattle.np_ucd.specs.RowValues.{lent_entry};
@@ -13,7 +13,7 @@ use np_ucd::{MapKind, RowRef};
 
 /// Whether a row has no canonical mapping to two code points, as each primary composite of a data file has.
 fn has_no_pair(row: RowRef<'_>) -> bool
-    ensures { IsTrue result ↔ HasNoPair (lent_entry row.entry) }
+    ensures { IsTrue result → HasNoPair (lent_entry row.entry) }
 {
     match row.kind {
         MapKind::Plain | MapKind::Compatibility => true,
