@@ -1,18 +1,17 @@
 -- What a table of pages keeps of each form is so.
 use Rattle.std.proofs.Common.{◌≡◌, ℕ, ◌+◌, ◌*◌, ◌-◌, ◌/◌, ◌%◌, ◌≤◌, ◌==◌, ◌≢◌, Bool, true, false, not, ◌&&◌, Some, None, List, [], ◌∷◌, ◌++◌, flat_map, MatchBool, if◌then◌else◌, refl, sym, ap, subst, ◌∙◌, arith, inl, inr, eqb-true}
-use Rattle.np_tables.proofs.Words.{and_cases, and_from, and_parts, and_right, cond-true, both_ways, not-false, is_among}
-use Rattle.np_tables.proofs.Words.{is_syllable, syllable_pair, Form, is_compat, composes, Nfd, Nfc, Nfkd, Nfkc}
-use Rattle.np_tables.proofs.Words.{IsBoundary, IsYesStarter, NeverFalls, ComposesTo, IsCompositeOf, IsSound, counts}
-use Rattle.np_tables.proofs.Words.{is_final, parts, IsFullDecomposition, Entry, IsRow, VersionData, class_of, entry_at}
-use Rattle.np_tables.proofs.Words.{has_hangul, is_empty, Composite, full_of, table_full, AreBits, AreHints}
-use Rattle.np_tables.proofs.Words.{AreLeadingNeverSecond, ComposesByPairs, IsNeverSecond, bit, eight_bits, four_bits, has_bit, own_hints}
-use Rattle.np_tables.proofs.Words.{boundary_place, boundary_under, syllable_hints, yes_place, yes_under, AreRowBits}
-use Rattle.np_tables.proofs.Words.{touches, AreOfFile}
+use Rattle.np_tables.proofs.Words.{and_cases, and_from, and_parts, and_right, cond-true, both_ways, not-false, is_among, is_syllable, syllable_pair, Form}
+use Rattle.np_tables.proofs.Words.{is_compat, composes, Nfd, Nfc, Nfkd, Nfkc, IsBoundary, IsYesStarter, NeverFalls, ComposesTo, IsCompositeOf, IsSound}
+use Rattle.np_tables.proofs.Words.{counts, is_final, parts, IsFullDecomposition, Entry, IsRow, VersionData, class_of, entry_at, has_hangul, is_empty}
+use Rattle.np_tables.proofs.Words.{Composite, full_of, table_full, AreBits, AreHints, AreLeadingNeverSecond, ComposesByPairs, IsNeverSecond, bit, eight_bits}
+use Rattle.np_tables.proofs.Words.{four_bits, has_bit, own_hints, boundary_place, boundary_under, syllable_hints, yes_place, yes_under, AreRowBits, touches}
+use Rattle.np_tables.proofs.Words.{AreOfFile}
 use Rattle.np_code_points.proofs.HangulLemmas.{among_bounds, among_from_bounds, pair_exists, pair_kinds}
 use Rattle.np_tables.specs.declared.page_hints.Hints.{Hints}
 use Rattle.np_tables.proofs.FileRowLemmas.{file_kind-found, file_mapping-found, mapped-off}
 use Rattle.np_tables.proofs.FullListLemmas.{empty_parts, row-lent, parts-passed}
-use Rattle.np_tables.proofs.HangulLemmas.{IsJamo, IsLv, by_arithmetic, decomposition_kind-on, decomposition_mapping-on, jamo_bare, leading_jamo, lv_shape, trailing_jamo, vowel_jamo}
+use Rattle.np_tables.proofs.HangulLemmas.{IsJamo, IsLv, by_arithmetic, decomposition_kind-on, decomposition_mapping-on, jamo_bare, leading_jamo, lv_shape}
+use Rattle.np_tables.proofs.HangulLemmas.{trailing_jamo, vowel_jamo}
 use Rattle.np_tables.proofs.MappingLemmas.{IsFullDecomposition-full_of, full_of-final, full_of-mapped, is_empty_from, parts-cases}
 use Rattle.np_tables.proofs.PrimaryLemmas.{primary-syllable, never_second-unlisted, no_syllable}
 use Rattle.np_tables.proofs.RowLemmas.{entry_at-within}

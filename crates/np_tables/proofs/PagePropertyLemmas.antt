@@ -1,14 +1,11 @@
 -- Properties of code points, by rows and by blocks.
 use Rattle.std.proofs.Common.{◌≡◌, ℕ, suc, ◌+◌, ◌-◌, ◌/◌, ◌<◌, Bool, true, false, ◌&&◌, List, [], ◌∷◌, ◌++◌, length, get_or, set, slice_index, Some, None, sym, ap, subst, ◌∙◌, arith, inl, inr}
-use Rattle.np_tables.proofs.Words.{slice_get, is_some, mod-lt, get_or-append_seam, and_parts, cases_Bool, cases_eq}
-use Rattle.np_tables.proofs.Words.{cases_lt, both_ways, get_or_append_left, get_or-map, get_or-set_same}
-use Rattle.np_tables.proofs.Words.{get_or-set_other, length-append, length-map, length-set, none-some, same_Some}
-use Rattle.np_tables.proofs.Words.{slice_get_within, is_syllable, Form, Entry, AreRows, IsBoundary, VersionData}
-use Rattle.np_tables.proofs.Words.{class_of, class_in, entry_at, file_mapping, mapping_in, has_hangul, is_assigned}
-use Rattle.np_tables.proofs.Words.{is_empty, IsSound, IsCompositeOf, is_final, Properties, Composite, table_full, FullLists}
-use Rattle.np_tables.proofs.Words.{of_kind, has_bit, boundary_place, property_place, AreRowPages, IsRowNumber, AreAllRowProperties}
-use Rattle.np_tables.proofs.Words.{AreSecondRows, AreSeconds, AreSlots, AreRowProperties, ArePropertiesOf, ArePages, no_properties, row_properties}
-use Rattle.np_tables.proofs.Words.{paged_properties}
+use Rattle.np_tables.proofs.Words.{slice_get, is_some, mod-lt, get_or-append_seam, and_parts, cases_Bool, cases_eq, cases_lt, both_ways, get_or_append_left}
+use Rattle.np_tables.proofs.Words.{get_or-map, get_or-set_same, get_or-set_other, length-append, length-map, length-set, none-some, same_Some}
+use Rattle.np_tables.proofs.Words.{slice_get_within, is_syllable, Form, Entry, AreRows, IsBoundary, VersionData, class_of, class_in, entry_at, file_mapping}
+use Rattle.np_tables.proofs.Words.{mapping_in, has_hangul, is_assigned, is_empty, IsSound, IsCompositeOf, is_final, Properties, Composite, table_full}
+use Rattle.np_tables.proofs.Words.{FullLists, of_kind, has_bit, boundary_place, property_place, AreRowPages, IsRowNumber, AreAllRowProperties, AreSecondRows}
+use Rattle.np_tables.proofs.Words.{AreSeconds, AreSlots, AreRowProperties, ArePropertiesOf, ArePages, no_properties, row_properties, paged_properties}
 use Rattle.np_tables.proofs.FullListLemmas.{empty_parts}
 use Rattle.np_tables.proofs.HangulLemmas.{by_arithmetic, syllable_hangul}
 use Rattle.np_tables.proofs.PrimaryLemmas.{never_second-unlisted, row-never_second}

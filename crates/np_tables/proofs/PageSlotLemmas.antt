@@ -1,9 +1,8 @@
 -- Slots of full decompositions in one flat list.
 use Rattle.std.proofs.Common.{◌≡◌, ℕ, ◌+◌, ◌<◌, ◌≤◌, Bool, true, false, List, [], ◌∷◌, ◌++◌, length, map, take, get_or, slice_index, Some, refl, sym, ap, subst, ◌∙◌, arith, inl, inr}
-use Rattle.np_tables.proofs.Words.{slice_get, cases_lt, get_or_append_left, length-append, length-map, map_push}
-use Rattle.np_tables.proofs.Words.{All-push, get_or-append_seam, take-append_seam, same_Some, Entry, VersionData}
-use Rattle.np_tables.proofs.Words.{entry_at, is_empty, CodeRange, table_full, FullLists, of_kind, code_range_of, IsCodeRange, AreCodeRanges}
-use Rattle.np_tables.proofs.Words.{lists_of, IsSlotPushed, IsSlot, AreSlots, AreSlotsSoFar}
+use Rattle.np_tables.proofs.Words.{slice_get, cases_lt, get_or_append_left, length-append, length-map, map_push, All-push, get_or-append_seam}
+use Rattle.np_tables.proofs.Words.{take-append_seam, same_Some, Entry, VersionData, entry_at, is_empty, CodeRange, table_full, FullLists, of_kind}
+use Rattle.np_tables.proofs.Words.{code_range_of, IsCodeRange, AreCodeRanges, lists_of, IsSlotPushed, IsSlot, AreSlots, AreSlotsSoFar}
 use Rattle.np_tables.proofs.FileRowLemmas.{file_mapping-found}
 use Rattle.np_tables.proofs.FullListLemmas.{code_range_of-grown, parts-grown, AreCodeRanges-grown, code_range_of-new, lent-outside}
 

@@ -1,8 +1,7 @@
 -- Composites in the order of their pairs.
 use Rattle.std.proofs.Common.{◌≡◌, ℕ, ◌+◌, ◌<◌, ◌≤◌, ◌⊎◌, true, false, nat_lt, nat_eq, List, length, get_or, Some, sym, ap, ◌∙◌, arith, inl, inr}
-use Rattle.np_tables.proofs.Words.{cases_order, cases_lt, cond-true, cond-false, lt-ltb, le-ltb, eq-eqb, get_or_default}
-use Rattle.np_tables.proofs.Words.{slice_get-get_or, All, AllWithin, Composite, Lists, IsCompositeAt, pair_rank, rank}
-use Rattle.np_tables.proofs.Words.{IsInRange, AreOrdered}
+use Rattle.np_tables.proofs.Words.{cases_order, cases_lt, cond-true, cond-false, lt-ltb, le-ltb, eq-eqb, get_or_default, slice_get-get_or, All, AllWithin}
+use Rattle.np_tables.proofs.Words.{Composite, Lists, IsCompositeAt, pair_rank, rank, IsInRange, AreOrdered}
 use Rattle.std.proofs.lemmas.Bool.Decides.{nat_tests}
 use Rattle.std.proofs.lemmas.List.Sorted.{IsNonDecreasingBy-from_all_adjacent, All-permutation}
 use Rattle.std.specs.Ordering.{is_lt, ordering_then, nat_cmp}

@@ -1,13 +1,11 @@
 -- Primary composites by what the file says.
 use Rattle.std.proofs.Common.{◌≡◌, ℕ, ◌+◌, ◌<◌, ◌≤◌, true, false, not, ◌&&◌, ◌==◌, List, [], ◌∷◌, length, Option, Some, None, refl, sym, ap, ◌∙◌, arith, Bool, get_or, inl, inr}
-use Rattle.np_tables.proofs.Words.{cond-false, and_parts, leb-true, ltb-true, and_right, and_from, cases_Bool}
-use Rattle.np_tables.proofs.Words.{both_ways, le-leb, not-true, is_listed, Entry, IsRow, AreRows, HasLength, MapKind}
-use Rattle.np_tables.proofs.Words.{Plain, Canonical, Compatibility, is_syllable, syllable_pair, VersionData, entry_at}
-use Rattle.np_tables.proofs.Words.{class_of, file_kind, file_mapping, mapping_in, kind_in, is_canonical, is_empty}
-use Rattle.np_tables.proofs.Words.{is_excluded, decomposition_kind, decomposition_mapping, has_hangul, is_assigned}
-use Rattle.np_tables.proofs.Words.{is_starter_pair, is_primary, IsPrimary, IsCompositeOf, list_all, slice_get, is_some}
-use Rattle.np_tables.proofs.Words.{slice_get-get_or, IsSound, Composite, IsNeverSecond, is_late_jamo, AreSecondRows}
-use Rattle.np_tables.proofs.Words.{AreSeconds, is_row_never_second, touches, AreOfFile}
+use Rattle.np_tables.proofs.Words.{cond-false, and_parts, leb-true, ltb-true, and_right, and_from, cases_Bool, both_ways, le-leb, not-true, is_listed, Entry}
+use Rattle.np_tables.proofs.Words.{IsRow, AreRows, HasLength, MapKind, Plain, Canonical, Compatibility, is_syllable, syllable_pair, VersionData, entry_at}
+use Rattle.np_tables.proofs.Words.{class_of, file_kind, file_mapping, mapping_in, kind_in, is_canonical, is_empty, is_excluded, decomposition_kind}
+use Rattle.np_tables.proofs.Words.{decomposition_mapping, has_hangul, is_assigned, is_starter_pair, is_primary, IsPrimary, IsCompositeOf, list_all, slice_get}
+use Rattle.np_tables.proofs.Words.{is_some, slice_get-get_or, IsSound, Composite, IsNeverSecond, is_late_jamo, AreSecondRows, AreSeconds, is_row_never_second}
+use Rattle.np_tables.proofs.Words.{touches, AreOfFile}
 use Rattle.np_tables.specs.inside.Accessors.{is_file_primary}
 use Rattle.np_code_points.proofs.HangulLemmas.{among_bounds, pair_kinds}
 use Rattle.np_tables.proofs.RowLemmas.{entry_at-row, entry_at-within}

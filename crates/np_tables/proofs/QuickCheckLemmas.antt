@@ -1,8 +1,7 @@
 -- What a quick check says of its properties.
 use Rattle.std.proofs.Common.{◌≡◌, ℕ, ◌/◌, ◌<◌, ◌≤◌, ◌⊎◌, ◌&&◌, ◌||◌, ◌==◌, Bool, true, false, not, nat_lt, List, refl, sym, ap, ◌∙◌, arith, inl, inr}
-use Rattle.np_tables.proofs.Words.{and_parts, cases_Bool, cond-false, cond-true, eqb-true, ltb-true, Form, Nfd, Nfc}
-use Rattle.np_tables.proofs.Words.{Nfkd, Nfkc, composes, Properties, has_bit, yes_place, AreWithin, property_place}
-use Rattle.np_tables.proofs.Words.{assigned_quick_check, quick_check_in, quick_check_of, quick_checks_of}
+use Rattle.np_tables.proofs.Words.{and_parts, cases_Bool, cond-false, cond-true, eqb-true, ltb-true, Form, Nfd, Nfc, Nfkd, Nfkc, composes, Properties}
+use Rattle.np_tables.proofs.Words.{has_bit, yes_place, AreWithin, property_place, assigned_quick_check, quick_check_in, quick_check_of, quick_checks_of}
 
 pub yes_quick_check : (form : Form) → quick_check_in form 0xFFFFFFFF ≡ 255
 yes_quick_check Nfd = refl

@@ -1,15 +1,13 @@
 -- Runs of code points that may follow one another as they are.
 use Rattle.std.proofs.Common.{◌≡◌, ℕ, ◌-◌, ◌<◌, ◌≤◌, Bool, true, false, ◌&&◌, suc, List, [], ◌∷◌, ◌++◌, Option, Some, None, length, get_or, take, drop, drop_at, take_at, slice_range, chars, IsUtf8, encode_utf8, encode_utf8_all, All, sym, ap, subst, ◌∙◌, arith, append_assoc, append-nil, length-append, refl, inl, inr, ◌⊎◌, not}
-use Rattle.np_tables.proofs.Words.{list_all, IsAscii, IsCharBoundary, and_from, and_parts, cases_Bool, cond-false}
-use Rattle.np_tables.proofs.Words.{or_from, and_right, not-false, get_or_default, get_or-map, take-append-drop}
-use Rattle.np_tables.proofs.Words.{chars-append, chars_from_encodes, chars-IsAscii, chars_past_char, encodes-append}
-use Rattle.np_tables.proofs.Words.{encodes-IsAscii, IsCharBoundary-at_seam, IsCharBoundary-from_take, IsUtf8-drop}
-use Rattle.np_tables.proofs.Words.{IsUtf8-take, IsUtf8-from_ascii, IsUtf8-past_char, chars-nil, is_syllable, Form}
-use Rattle.np_tables.proofs.Words.{is_compat, BeginsAtBoundary, IsBoundary, IsYesStarter, is_final, VersionData}
-use Rattle.np_tables.proofs.Words.{class_of, has_hangul, is_assigned, Properties, full_of, table_full, FullLists, of_kind}
-use Rattle.np_tables.proofs.Words.{property_place, AreFollowing, ArePages, Follows, FollowsByQuickCheck, FollowsUncomposed}
-use Rattle.np_tables.proofs.Words.{IsAsciiYes, IsPast, IsWalkedTo, PassesUncomposed, last_behind, no_properties, CannotComposeByProperties}
-use Rattle.np_tables.proofs.Words.{ArePropertiesOf, all_quick_checks, quick_check_in, quick_check_of, quick_checks_of}
+use Rattle.np_tables.proofs.Words.{list_all, IsAscii, IsCharBoundary, and_from, and_parts, cases_Bool, cond-false, or_from, and_right, not-false}
+use Rattle.np_tables.proofs.Words.{get_or_default, get_or-map, take-append-drop, chars-append, chars_from_encodes, chars-IsAscii, chars_past_char}
+use Rattle.np_tables.proofs.Words.{encodes-append, encodes-IsAscii, IsCharBoundary-at_seam, IsCharBoundary-from_take, IsUtf8-drop, IsUtf8-take}
+use Rattle.np_tables.proofs.Words.{IsUtf8-from_ascii, IsUtf8-past_char, chars-nil, is_syllable, Form, is_compat, BeginsAtBoundary, IsBoundary, IsYesStarter}
+use Rattle.np_tables.proofs.Words.{is_final, VersionData, class_of, has_hangul, is_assigned, Properties, full_of, table_full, FullLists, of_kind}
+use Rattle.np_tables.proofs.Words.{property_place, AreFollowing, ArePages, Follows, FollowsByQuickCheck, FollowsUncomposed, IsAsciiYes, IsPast, IsWalkedTo}
+use Rattle.np_tables.proofs.Words.{PassesUncomposed, last_behind, no_properties, CannotComposeByProperties, ArePropertiesOf, all_quick_checks, quick_check_in}
+use Rattle.np_tables.proofs.Words.{quick_check_of, quick_checks_of}
 use Rattle.np_tables.specs.QuickSpans.{IsQuickSpan, MayFollow, Walks, CannotComposeAfter}
 use Rattle.np_tables.proofs.HangulLemmas.{by_arithmetic, syllable_hangul}
 use Rattle.np_tables.proofs.MappingLemmas.{full_of-some}

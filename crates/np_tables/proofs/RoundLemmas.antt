@@ -1,11 +1,10 @@
 -- The loops over the rows and over the parts of a mapping.
 use Rattle.std.proofs.Common.{◌≡◌, ◌≢◌, ℕ, zero, suc, ◌+◌, ◌-◌, ◌%◌, ◌<◌, ◌≤◌, Bool, true, false, ◌&&◌, ◌==◌, min, List, [], ◌∷◌, ◌++◌, map, flat_map, length, take, get_or, None, refl, sym, ap, ◌∙◌, arith, length-append, append-nil, cond, eqb, drop, Option, Some, subst}
-use Rattle.np_tables.proofs.Words.{cond-true, cond-false, and_from, eqb-true, eqb-false, eq-eqb, ne_eqb, le-leb, lt-leb}
-use Rattle.np_tables.proofs.Words.{take_more, take_all, length-map, length-drop, drop-drop, drop_at, drop-map}
-use Rattle.np_tables.proofs.Words.{flat_map-append, get_or_default_zero, min-le_right, list_all, slice_get, Entry}
-use Rattle.np_tables.proofs.Words.{AreRows, is_syllable, VersionData, entry_at, mapping_in, is_empty, has_hangul}
-use Rattle.np_tables.proofs.Words.{has_depth, full, marked, mark, parts_mark, mapping_mark, row_marks, syllable_depth}
-use Rattle.np_tables.proofs.Words.{syllable_mark, first_row, is_marked, take-add, option_map, before_byte, after_byte}
+use Rattle.np_tables.proofs.Words.{cond-true, cond-false, and_from, eqb-true, eqb-false, eq-eqb, ne_eqb, le-leb, lt-leb, take_more, take_all, length-map}
+use Rattle.np_tables.proofs.Words.{length-drop, drop-drop, drop_at, drop-map, flat_map-append, get_or_default_zero, min-le_right, list_all, slice_get, Entry}
+use Rattle.np_tables.proofs.Words.{AreRows, is_syllable, VersionData, entry_at, mapping_in, is_empty, has_hangul, has_depth, full, marked, mark, parts_mark}
+use Rattle.np_tables.proofs.Words.{mapping_mark, row_marks, syllable_depth, syllable_mark, first_row, is_marked, take-add, option_map, before_byte}
+use Rattle.np_tables.proofs.Words.{after_byte}
 use Rattle.std.proofs.lemmas.List.Folds.{list_all_at, list_all_more}
 use Rattle.np_code_points.proofs.LineGrammar.{joined_some, joined_none}
 use Rattle.np_tables.proofs.DepthLemmas.{mark-file, mark-zero, mark-more, mark-length, kept_mark}

@@ -1,8 +1,7 @@
 -- Finding the row of a code point.
 use Rattle.std.proofs.Common.{◌≡◌, ℕ, zero, suc, ◌+◌, ◌<◌, ◌≤◌, true, false, List, [], ◌∷◌, length, Some, None, refl, sym, ap, subst, ◌∙◌, arith, inl, inr, nat_le, le-leb}
-use Rattle.np_tables.proofs.Words.{slice_get, cond-true, cond-false, cases_Bool, and_parts, and_from, and_left}
-use Rattle.np_tables.proofs.Words.{and_right, leb-true, lt-leb, none-some, same_Some, Entry, IsRow, IsBefore, AreRows}
-use Rattle.np_tables.proofs.Words.{entry_at, lies_in}
+use Rattle.np_tables.proofs.Words.{slice_get, cond-true, cond-false, cases_Bool, and_parts, and_from, and_left, and_right, leb-true, lt-leb, none-some}
+use Rattle.np_tables.proofs.Words.{same_Some, Entry, IsRow, IsBefore, AreRows, entry_at, lies_in}
 
 pub entry_at-nil : (c : ℕ) → entry_at [] c ≡ None
 unfolding entry_at

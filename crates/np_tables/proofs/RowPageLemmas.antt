@@ -1,9 +1,8 @@
 -- The row of each code point, block by block.
 use Rattle.std.proofs.Common.{◌≡◌, ℕ, zero, suc, ◌+◌, ◌-◌, ◌*◌, ◌/◌, ◌%◌, ◌<◌, ◌≤◌, ◌⊎◌, List, [], ◌∷◌, ◌++◌, length, slice_index, Option, Some, None, refl, sym, ap, subst, ◌∙◌, arith, inl, inr}
-use Rattle.np_tables.proofs.Words.{slice_get, div-add-mod, mod-lt, cases_lt, get_or_append_left, length-append}
-use Rattle.np_tables.proofs.Words.{get_or-append_seam, none-some, same_Some, slice_get_within, Entry, AreRows, entry_at}
-use Rattle.np_tables.proofs.Words.{property_place, lies_in, IsRowNumber, IsRowBlock, AreRowPages, IsNextRow, AreFirstPages}
-use Rattle.np_tables.proofs.Words.{AreBegun, ArePushed, HasNoRow, GoesOn}
+use Rattle.np_tables.proofs.Words.{slice_get, div-add-mod, mod-lt, cases_lt, get_or_append_left, length-append, get_or-append_seam, none-some, same_Some}
+use Rattle.np_tables.proofs.Words.{slice_get_within, Entry, AreRows, entry_at, property_place, lies_in, IsRowNumber, IsRowBlock, AreRowPages, IsNextRow}
+use Rattle.np_tables.proofs.Words.{AreFirstPages, AreBegun, ArePushed, HasNoRow, GoesOn}
 use Rattle.np_tables.proofs.RowLemmas.{at-found, at-row, entry_at-row, entry_at-within, none-found, firsts-le, out_of, below_out}
 
 -- ---- rows by their places

@@ -1,15 +1,14 @@
 -- The marks of the syllables of the Hangul arithmetic.
 use Rattle.std.proofs.Common.{◌≡◌, ℕ, zero, suc, ◌+◌, ◌-◌, ◌%◌, ◌≤◌, true, false, [], ◌∷◌, ◌++◌, flat_map, length, refl, sym, ap, ◌∙◌, inl, inr, arith, leb, ◌==◌, cond, ◌≢◌, ◌<◌, ◌&&◌, List, Option, Some, None, subst, eqb, ◌⊎◌, Bool}
-use Rattle.np_tables.proofs.Words.{cond-true, cond-false, cond_both, cases_Bool, and_from, and_left, le-leb, eqb-true}
-use Rattle.np_tables.proofs.Words.{eqb-false, and_parts, eq-eqb, and_right, both_ways, leb-true, lt-leb, list_all}
-use Rattle.np_tables.proofs.Words.{AreRows, Entry, IsBefore, is_syllable, syllable_pair, VersionData, file_mapping}
-use Rattle.np_tables.proofs.Words.{has_hangul, decomposition_mapping, entry_at, mapping_in, has_depth, full, marked}
-use Rattle.np_tables.proofs.Words.{mark, parts_mark, mapping_mark, syllable_depth, syllable_mark, row_marks, first_row}
-use Rattle.np_tables.proofs.Words.{is_marked, IsTooDeep, IsTooLong, IsFirst}
+use Rattle.np_tables.proofs.Words.{cond-true, cond-false, cond_both, cases_Bool, and_from, and_left, le-leb, eqb-true, eqb-false, and_parts, eq-eqb}
+use Rattle.np_tables.proofs.Words.{and_right, both_ways, leb-true, lt-leb, list_all, AreRows, Entry, IsBefore, is_syllable, syllable_pair, VersionData}
+use Rattle.np_tables.proofs.Words.{file_mapping, has_hangul, decomposition_mapping, entry_at, mapping_in, has_depth, full, marked, mark, parts_mark}
+use Rattle.np_tables.proofs.Words.{mapping_mark, syllable_depth, syllable_mark, row_marks, first_row, is_marked, IsTooDeep, IsTooLong, IsFirst}
 use Rattle.std.specs.Cmp.Lexicographic.{pointwise}
 use Rattle.np_tables.proofs.HangulLemmas.{decomposition_mapping-on, hangul_parts, IsLv, jamo_bare, lv_shape, lvt_shape, shape_of, syllable_row}
 use Rattle.np_tables.proofs.MappingLemmas.{is_empty-true, decomposes_full, full-only}
-use Rattle.np_tables.proofs.DepthLemmas.{bare_depth, bare_full, parts-mapping, suc_depth, suc_full, zero_depth, mark-mapping, mark-file, marks-from_rows, settled_rows, mark-zero, mark-more, mark-deep, mark-length}
+use Rattle.np_tables.proofs.DepthLemmas.{bare_depth, bare_full, parts-mapping, suc_depth, suc_full, zero_depth, mark-mapping, mark-file, marks-from_rows}
+use Rattle.np_tables.proofs.DepthLemmas.{settled_rows, mark-zero, mark-more, mark-deep, mark-length}
 use Rattle.np_tables.proofs.RowLemmas.{entry_at-row, entry_at-within, entry_at-hit, entry_at-miss, entry_at-nil}
 
 -- ---- syllables have no mapping in the file

@@ -1,10 +1,9 @@
 -- What the plain table answers.
 use Rattle.std.proofs.Common.{◌≡◌, ℕ, zero, suc, ◌<◌, Bool, true, false, ◌&&◌, List, [], ◌∷◌, length, map, get_or, Some, None, Option, IfSome, IfNone, refl, sym, ap, subst, ◌∙◌, arith, inl, inr}
-use Rattle.np_tables.proofs.Words.{slice_get, cases_Bool, cond-true, cond-false, or_from, or_left, or_right, get_or-map}
-use Rattle.np_tables.proofs.Words.{get_or_from_slice_get, Entry, AreRows, is_syllable, syllable_pair, VersionData}
-use Rattle.np_tables.proofs.Words.{entry_at, file_mapping, mapping_in, is_empty, has_hangul, is_final, IsLent}
-use Rattle.np_tables.proofs.Words.{IsFullDecomposition, table_full, IsCompositeOf, composite, IsSound, Composite, Lists}
-use Rattle.np_tables.proofs.Words.{AreOfFile, FullLists, of_kind, row_full, AreFulls}
+use Rattle.np_tables.proofs.Words.{slice_get, cases_Bool, cond-true, cond-false, or_from, or_left, or_right, get_or-map, get_or_from_slice_get, Entry}
+use Rattle.np_tables.proofs.Words.{AreRows, is_syllable, syllable_pair, VersionData, entry_at, file_mapping, mapping_in, is_empty, has_hangul, is_final}
+use Rattle.np_tables.proofs.Words.{IsLent, IsFullDecomposition, table_full, IsCompositeOf, composite, IsSound, Composite, Lists, AreOfFile, FullLists}
+use Rattle.np_tables.proofs.Words.{of_kind, row_full, AreFulls}
 use Rattle.np_tables.proofs.RowLemmas.{at-row, entry_at-within}
 use Rattle.np_tables.proofs.MappingLemmas.{IsFullDecomposition-full_of, full_of-only, is_empty-false}
 use Rattle.np_tables.proofs.CompositeLemmas.{cases_Option, composite-some, composite_from}

@@ -2,8 +2,8 @@ use Rattle.std.proofs.Common.{◌≡◌, ◌∙◌, sym, ap, arith, None, option
 use Rattle.np_ucd.specs.RowValues.{lent_entry}
 use Rattle.np_tables.proofs.RowLemmas.{at-row}
 use Rattle.np_tables.proofs.CountLemmas.{sizes-count, sizes-le, sizes-drop, sizes-end, sizes-past}
-use Rattle.np_tables.proofs.counts.assigned_count.Goals as goal
 use Rattle.np_tables.proofs.counts.assigned_count.Goals.{in-Some, in_default}
+use Rattle.np_tables.proofs.counts.assigned_count.Goals as goal
 
 pub overflow_sub-count : goal.overflow_sub-count
 overflow_sub-count c =

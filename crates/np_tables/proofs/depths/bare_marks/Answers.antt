@@ -1,8 +1,8 @@
 use Rattle.std.proofs.Common.{◌≡◌, ◌<◌, length, sym, ap, ◌∙◌, arith}
 use Rattle.np_tables.specs.inside.Depths.{mapping_mark}
 use Rattle.np_tables.proofs.RoundLemmas.{row_marks_more, row_marks_all, bare_mapping, deep_mapping, empty_test, full_test}
-use Rattle.np_tables.proofs.depths.bare_marks.Goals as goal
 use Rattle.np_tables.proofs.depths.bare_marks.Goals.{then-is_empty, else-is_empty}
+use Rattle.np_tables.proofs.depths.bare_marks.Goals as goal
 
 pub loop-at-preserved : goal.loop-at-preserved
 loop-at-preserved c =

@@ -1,7 +1,5 @@
 use Rattle.std.proofs.Common.{ap, sym, ◌∙◌, arith}
-use Rattle.np_ucd.specs.RowValues.{lent_entry}
-use Rattle.np_tables.specs.inside.HangulRows.{is_right_at}
-use Rattle.np_tables.specs.Versions.{entry_at}
+use Rattle.np_tables.proofs.Words.{lent_entry, is_right_at, entry_at}
 use Rattle.np_tables.proofs.RightLemmas.{right_run, row_end}
 use Rattle.np_tables.proofs.hangul_rows.right_from.Goals as goal
 

@@ -2,8 +2,8 @@ use Rattle.std.proofs.Common.{◌≡◌, arith, ◌+◌, ◌∙◌, ap, sym, sub
 use Rattle.np_tables.proofs.Words.{entry_at, AreSecondRows}
 use Rattle.np_tables.proofs.PagePropertyLemmas.{seconds-more, seconds-past}
 use Rattle.np_tables.proofs.PrimaryLemmas.{seconds-all}
-use Rattle.np_tables.proofs.page_properties.second_rows.Goals as goal
 use Rattle.np_tables.proofs.page_properties.second_rows.Goals.{in-Some, in_default}
+use Rattle.np_tables.proofs.page_properties.second_rows.Goals as goal
 
 pub loop-place-preserved : goal.loop-place-preserved
 loop-place-preserved c =

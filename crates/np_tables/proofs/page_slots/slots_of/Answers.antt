@@ -3,8 +3,8 @@ use Rattle.np_tables.proofs.Words.{CodeRange, lent_entry, is_empty}
 use Rattle.np_tables.proofs.RowLemmas.{place-le}
 use Rattle.np_tables.proofs.FullListLemmas.{nil_from_test}
 use Rattle.np_tables.proofs.PageSlotLemmas.{slots-bare, slots-pushed, slots-moved}
-use Rattle.np_tables.proofs.page_slots.slots_of.Goals as goal
 use Rattle.np_tables.proofs.page_slots.slots_of.Goals.{then-is_empty+in_ok-push, else-is_empty+in_ok-push_row+in_ok-push-2}
+use Rattle.np_tables.proofs.page_slots.slots_of.Goals as goal
 
 pub overflow_cast-slot : goal.overflow_cast-slot
 overflow_cast-slot c =

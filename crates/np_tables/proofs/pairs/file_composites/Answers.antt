@@ -1,8 +1,8 @@
 use Rattle.std.proofs.Common.{◌≡◌, ◌++◌, ◌∷◌, [], ◌∙◌, sym, ap, append-nil, subst, List, Vec, Global}
 use Rattle.np_tables.proofs.Words.{All, All-push, lent_entry, Composite, IsInRange, composites_in}
 use Rattle.np_tables.proofs.FileCompositeLemmas.{flat_step}
-use Rattle.np_tables.proofs.pairs.file_composites.Goals as goal
 use Rattle.np_tables.proofs.pairs.file_composites.Goals.{in-Some+in_ok-push, in_default}
+use Rattle.np_tables.proofs.pairs.file_composites.Goals as goal
 
 pub loop-at-preserved : goal.loop-at-preserved
 loop-at-preserved c =
