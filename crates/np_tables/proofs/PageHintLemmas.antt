@@ -29,7 +29,8 @@ module _ (v : VersionData) (compat : Bool) (c first : ℕ) (rest : List ℕ) (fu
   boundary-of form kind starter never_second =
       record { first = first; rest = rest; decomposes = subst (λ b. IsFullDecomposition v b (c ∷ []) (first ∷ rest)) (sym kind) full; starter = starter; never_second = never_second }
 
-  module _ (h : Hints) (none : h.yes_starter ≡ false) (starter : h.boundary ≡ true → class_of v first ≡ 0) (both : h.boundary_composing ≡ true → h.boundary ≡ true) (never_second : h.boundary_composing ≡ true → IsNeverSecond v first)
+  module _ (h : Hints) (starter : h.boundary ≡ true → class_of v first ≡ 0) (both : h.boundary_composing ≡ true → h.boundary ≡ true) (never_second : h.boundary_composing ≡ true → IsNeverSecond v first)
+      (single : h.yes_starter ≡ true → (h.boundary ≡ true) × NeverFalls (class_of v) rest × (first ∷ rest ≡ c ∷ []))
       (too : h.yes_starter_composing ≡ true → h.boundary_composing ≡ true) (rises : h.yes_starter_composing ≡ true → NeverFalls (class_of v) rest) (folds : h.yes_starter_composing ≡ true → ComposesTo v first rest c) where
     by_parts : (form : Form) → is_compat form ≡ compat → (b : Bool) → composes form ≡ b → boundary_under b h ≡ true → IsBoundary v form c
     by_parts form kind false e is = boundary-of form kind (starter is) (λ on. absurd (both_ways _ e on))
@@ -37,7 +38,12 @@ module _ (v : VersionData) (compat : Bool) (c first : ℕ) (rest : List ℕ) (fu
 
     by_yes : (form : Form) → is_compat form ≡ compat → (b : Bool) → composes form ≡ b → yes_under b h ≡ true → IsYesStarter v form c
     unfolding boundary-of
-    by_yes form kind false e is = absurd (both_ways _ none is)
+    by_yes form kind false e is =
+        record {
+          boundary = boundary-of form kind (starter (single is).0) (λ on. absurd (both_ways _ e on));
+          rises = (single is).1;
+          returns = subst (λ b. MatchBool b (ComposesTo v first rest c) (first ∷ rest ≡ c ∷ [])) (sym e) (single is).2;
+        }
     by_yes form kind true e is =
         record {
           boundary = boundary-of form kind (starter (both (too is))) (λ on. never_second (too is));
@@ -45,44 +51,15 @@ module _ (v : VersionData) (compat : Bool) (c first : ℕ) (rest : List ℕ) (fu
           returns = subst (λ b. MatchBool b (ComposesTo v first rest c) (first ∷ rest ≡ c ∷ [])) (sym e) (folds is);
         }
 
-    -- it begins with a starter; that is no second part where the form composes; and what is left composes with it
+    -- it begins with a starter; that is no second part where the form composes; and what is left composes with it, or nothing is left
     pub hints-listed : AreHints v compat c h
     hints-listed = record { boundary = λ form kind is. by_parts form kind (composes form) refl is; yes_starter = λ form kind is. by_yes form kind (composes form) refl is }
 
--- ---- by itself
-
-starter_of : (b : Bool) (class : ℕ) (never_second : Bool) → boundary_under b (own_hints class never_second) ≡ true → class ≡ 0
-starter_of false class never_second is = eqb-true class 0 is
-starter_of true class never_second is = eqb-true class 0 (and_parts (class == 0) never_second is).0
-
-never_second_of : (b : Bool) (class : ℕ) (never_second : Bool) → boundary_under b (own_hints class never_second) ≡ true → b ≡ true → never_second ≡ true
-never_second_of false class never_second is on = absurd (both_ways _ refl on)
-never_second_of true class never_second is on = (and_parts (class == 0) never_second is).1
-
-yes_as : (b : Bool) (class : ℕ) (never_second : Bool) → yes_under b (own_hints class never_second) ≡ true → boundary_under b (own_hints class never_second) ≡ true
-yes_as false class never_second is = is
-yes_as true class never_second is = is
-
-returns_itself : (v : VersionData) (c : ℕ) (b : Bool) → MatchBool b (ComposesTo v c [] c) (c ∷ [] ≡ c ∷ [])
-returns_itself v c true = refl
-returns_itself v c false = refl
-
-module _ (v : VersionData) (compat : Bool) (c class : ℕ) (never_second : Bool) (final : is_final v compat c ≡ true) (same : class ≡ class_of v c) (alone : never_second ≡ true → IsNeverSecond v c) where
-  itself : IsFullDecomposition v compat (c ∷ []) (c ∷ [])
-  itself = record { reached = (0, refl); final = and_from _ _ final refl }
-
-  own-boundary : (form : Form) → is_compat form ≡ compat → boundary_under (composes form) (own_hints class never_second) ≡ true → IsBoundary v form c
-  unfolding boundary-of
-  own-boundary form kind is =
-      boundary-of v compat c c [] itself form kind (sym same ∙ starter_of (composes form) class never_second is) (λ on. alone (never_second_of (composes form) class never_second is on))
-
-  pub hints-own : AreHints v compat c (own_hints class never_second)
-  unfolding own-boundary boundary-of
-  hints-own =
-      record {
-        boundary = own-boundary;
-        yes_starter = λ form kind is. record { boundary = own-boundary form kind (yes_as (composes form) class never_second is); rises = tt; returns = returns_itself v c (composes form) };
-      }
+-- by itself
+pub hints-own : (v : VersionData) (compat : Bool) (c class : ℕ) (never_second : Bool) → is_final v compat c ≡ true → class ≡ class_of v c → (never_second ≡ true → IsNeverSecond v c) → AreHints v compat c (own_hints class never_second)
+hints-own v compat c class never_second final same alone =
+    hints-listed v compat c c [] (record { reached = (0, refl); final = and_from _ _ final refl }) (own_hints class never_second) (λ is. sym same ∙ eqb-true class 0 is)
+    (λ is. (and_parts (class == 0) never_second is).0) (λ is. alone (and_parts (class == 0) never_second is).1) (λ is. (is, tt, refl)) (λ is. is) (λ _. tt) (λ _. refl)
 
 -- ---- all but that it passes where the form composes
 
@@ -186,7 +163,7 @@ module _ (v : VersionData) (sound : IsSound v) (on : has_hangul v ≡ true) (com
       let range = among_bounds 0x1100 19 is.first is.is_leading in
       let back : 0x1100 + (is.first - 0x1100) ≡ is.first = omega arith in
       hints-listed v compat c is.first is.rest (subst (IsFullDecomposition v compat (c ∷ [])) is.full (IsFullDecomposition-full_of v compat sound.shallow c)) syllable_hints
-      refl (λ _. jamo_class is.first (leading_jamo is.first is.is_leading)) (λ _. refl) (λ _. subst (IsNeverSecond v) back (leading_consonants (is.first - 0x1100) (omega arith))) (λ _. refl) (λ _. is.rises) (λ _. is.folds)
+      (λ _. jamo_class is.first (leading_jamo is.first is.is_leading)) (λ _. refl) (λ _. subst (IsNeverSecond v) back (leading_consonants (is.first - 0x1100) (omega arith))) (λ on. absurd (both_ways _ refl on)) (λ _. refl) (λ _. is.rises) (λ _. is.folds)
 
 -- ---- both kinds in one number
 
@@ -198,70 +175,24 @@ bit-low : (b : Bool) → bit b ≤ 1
 bit-low false = omega arith
 bit-low true = omega arith
 
--- four bits and what stands above them
-bit_0 : (p q r s m : ℕ) → p ≤ 1 → (p + 2 * q + 4 * r + 8 * s + 16 * m) / 1 % 2 ≡ 1 → p ≡ 1
-bit_0 p q r s m lp h = omega arith
+bits-low : (h : Hints) → (bit h.boundary ≤ 1) × (bit h.boundary_composing ≤ 1) × (bit h.yes_starter ≤ 1) × (bit h.yes_starter_composing ≤ 1)
+bits-low h = (bit-low h.boundary, bit-low h.boundary_composing, bit-low h.yes_starter, bit-low h.yes_starter_composing)
 
-bit_1 : (p q r s m : ℕ) → p ≤ 1 → q ≤ 1 → (p + 2 * q + 4 * r + 8 * s + 16 * m) / 2 % 2 ≡ 1 → q ≡ 1
-bit_1 p q r s m lp lq h = omega arith
+module _ (a b : Hints) (v : VersionData) (c : ℕ) (canonical : AreHints v false c a) (compatible : AreHints v true c b) where
+  boundary-bit : (form : Form) → has_bit (eight_bits a b) (boundary_place form) ≡ true → IsBoundary v form c
+  boundary-bit Nfd h = canonical.boundary Nfd refl (bit-one a.boundary (omega (arith, bits-low a, bits-low b, eqb-true _ 1 h)))
+  boundary-bit Nfc h = canonical.boundary Nfc refl (bit-one a.boundary_composing (omega (arith, bits-low a, bits-low b, eqb-true _ 1 h)))
+  boundary-bit Nfkd h = compatible.boundary Nfkd refl (bit-one b.boundary (omega (arith, bits-low a, bits-low b, eqb-true _ 1 h)))
+  boundary-bit Nfkc h = compatible.boundary Nfkc refl (bit-one b.boundary_composing (omega (arith, bits-low a, bits-low b, eqb-true _ 1 h)))
 
-bit_2 : (p q r s m : ℕ) → p ≤ 1 → q ≤ 1 → r ≤ 1 → (p + 2 * q + 4 * r + 8 * s + 16 * m) / 4 % 2 ≡ 1 → r ≡ 1
-bit_2 p q r s m lp lq lr h = omega arith
+  yes_starter-bit : (form : Form) → has_bit (eight_bits a b) (yes_place form) ≡ true → IsYesStarter v form c
+  yes_starter-bit Nfd h = canonical.yes_starter Nfd refl (bit-one a.yes_starter (omega (arith, bits-low a, bits-low b, eqb-true _ 1 h)))
+  yes_starter-bit Nfc h = canonical.yes_starter Nfc refl (bit-one a.yes_starter_composing (omega (arith, bits-low a, bits-low b, eqb-true _ 1 h)))
+  yes_starter-bit Nfkd h = compatible.yes_starter Nfkd refl (bit-one b.yes_starter (omega (arith, bits-low a, bits-low b, eqb-true _ 1 h)))
+  yes_starter-bit Nfkc h = compatible.yes_starter Nfkc refl (bit-one b.yes_starter_composing (omega (arith, bits-low a, bits-low b, eqb-true _ 1 h)))
 
-bit_3 : (p q r s m : ℕ) → p ≤ 1 → q ≤ 1 → r ≤ 1 → s ≤ 1 → (p + 2 * q + 4 * r + 8 * s + 16 * m) / 8 % 2 ≡ 1 → s ≡ 1
-bit_3 p q r s m lp lq lr ls h = omega arith
-
-bit_4 : (n p q r s : ℕ) → n ≤ 15 → p ≤ 1 → (n + 16 * (p + 2 * q + 4 * r + 8 * s)) / 16 % 2 ≡ 1 → p ≡ 1
-bit_4 n p q r s ln lp h = omega arith
-
-bit_5 : (n p q r s : ℕ) → n ≤ 15 → p ≤ 1 → q ≤ 1 → (n + 16 * (p + 2 * q + 4 * r + 8 * s)) / 32 % 2 ≡ 1 → q ≡ 1
-bit_5 n p q r s ln lp lq h = omega arith
-
-bit_6 : (n p q r s : ℕ) → n ≤ 15 → p ≤ 1 → q ≤ 1 → r ≤ 1 → (n + 16 * (p + 2 * q + 4 * r + 8 * s)) / 64 % 2 ≡ 1 → r ≡ 1
-bit_6 n p q r s ln lp lq lr h = omega arith
-
-bit_7 : (n p q r s : ℕ) → n ≤ 15 → p ≤ 1 → q ≤ 1 → r ≤ 1 → s ≤ 1 → (n + 16 * (p + 2 * q + 4 * r + 8 * s)) / 128 % 2 ≡ 1 → s ≡ 1
-bit_7 n p q r s ln lp lq lr ls h = omega arith
-
-four_low : (h : Hints) → four_bits h ≤ 15
-four_low h =
-    let p = bit-low h.boundary in
-    let q = bit-low h.boundary_composing in
-    let r = bit-low h.yes_starter in
-    let s = bit-low h.yes_starter_composing in
-    omega arith
-
-module _ (a b : Hints) where
-  boundary-bit : (form : Form) → has_bit (eight_bits a b) (boundary_place form) ≡ true → boundary_under (composes form) (if is_compat form then b else a) ≡ true
-  boundary-bit Nfd h = bit-one a.boundary (bit_0 (bit a.boundary) (bit a.boundary_composing) (bit a.yes_starter) (bit a.yes_starter_composing) (four_bits b) (bit-low a.boundary) (eqb-true _ 1 h))
-  boundary-bit Nfc h = bit-one a.boundary_composing (bit_1 (bit a.boundary) (bit a.boundary_composing) (bit a.yes_starter) (bit a.yes_starter_composing) (four_bits b) (bit-low a.boundary) (bit-low a.boundary_composing) (eqb-true _ 1 h))
-  boundary-bit Nfkd h = bit-one b.boundary (bit_4 (four_bits a) (bit b.boundary) (bit b.boundary_composing) (bit b.yes_starter) (bit b.yes_starter_composing) (four_low a) (bit-low b.boundary) (eqb-true _ 1 h))
-  boundary-bit Nfkc h =
-      bit-one b.boundary_composing (bit_5 (four_bits a) (bit b.boundary) (bit b.boundary_composing) (bit b.yes_starter) (bit b.yes_starter_composing) (four_low a) (bit-low b.boundary) (bit-low b.boundary_composing) (eqb-true _ 1 h))
-
-  yes_starter-bit : (form : Form) → has_bit (eight_bits a b) (yes_place form) ≡ true → yes_under (composes form) (if is_compat form then b else a) ≡ true
-  yes_starter-bit Nfd h =
-      bit-one a.yes_starter (bit_2 (bit a.boundary) (bit a.boundary_composing) (bit a.yes_starter) (bit a.yes_starter_composing) (four_bits b) (bit-low a.boundary) (bit-low a.boundary_composing) (bit-low a.yes_starter) (eqb-true _ 1 h))
-  yes_starter-bit Nfc h =
-      bit-one a.yes_starter_composing
-      (bit_3 (bit a.boundary) (bit a.boundary_composing) (bit a.yes_starter) (bit a.yes_starter_composing) (four_bits b) (bit-low a.boundary) (bit-low a.boundary_composing) (bit-low a.yes_starter) (bit-low a.yes_starter_composing) (eqb-true _ 1 h))
-  yes_starter-bit Nfkd h =
-      bit-one b.yes_starter (bit_6 (four_bits a) (bit b.boundary) (bit b.boundary_composing) (bit b.yes_starter) (bit b.yes_starter_composing) (four_low a) (bit-low b.boundary) (bit-low b.boundary_composing) (bit-low b.yes_starter) (eqb-true _ 1 h))
-  yes_starter-bit Nfkc h =
-      bit-one b.yes_starter_composing
-      (bit_7 (four_bits a) (bit b.boundary) (bit b.boundary_composing) (bit b.yes_starter) (bit b.yes_starter_composing) (four_low a) (bit-low b.boundary) (bit-low b.boundary_composing) (bit-low b.yes_starter) (bit-low b.yes_starter_composing) (eqb-true _ 1 h))
-
-  module _ (v : VersionData) (c : ℕ) (canonical : AreHints v false c a) (compatible : AreHints v true c b) where
-    boundary-both : (form : Form) → (k : Bool) → is_compat form ≡ k → boundary_under (composes form) (if k then b else a) ≡ true → IsBoundary v form c
-    boundary-both form false e is = canonical.boundary form e is
-    boundary-both form true e is = compatible.boundary form e is
-
-    yes_starter-both : (form : Form) → (k : Bool) → is_compat form ≡ k → yes_under (composes form) (if k then b else a) ≡ true → IsYesStarter v form c
-    yes_starter-both form false e is = canonical.yes_starter form e is
-    yes_starter-both form true e is = compatible.yes_starter form e is
-
-    pub bits-hints : AreBits v c (eight_bits a b)
-    bits-hints = record { boundary = λ form is. boundary-both form (is_compat form) refl (boundary-bit form is); yes_starter = λ form is. yes_starter-both form (is_compat form) refl (yes_starter-bit form is) }
+  pub bits-hints : AreBits v c (eight_bits a b)
+  bits-hints = record { boundary = boundary-bit; yes_starter = yes_starter-bit }
 
 -- ---- the bits of rows
 

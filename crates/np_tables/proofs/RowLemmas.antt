@@ -1,7 +1,7 @@
 -- Finding the row of a code point.
 use Rattle.std.proofs.Common.{◌≡◌, ℕ, zero, suc, ◌+◌, ◌<◌, ◌≤◌, true, false, List, [], ◌∷◌, length, Some, None, refl, sym, ap, subst, ◌∙◌, arith, inl, inr, nat_le, le-leb}
-use Rattle.np_tables.proofs.Words.{slice_get, cond-true, cond-false, cases_Bool, and_parts, and_from, and_left, and_right, leb-true, lt-leb, none-some}
-use Rattle.np_tables.proofs.Words.{same_Some, Entry, IsRow, IsBefore, AreRows, entry_at, lies_in}
+use Rattle.np_tables.proofs.Words.{slice_get, cond-true, cond-false, cases_lt, cases_Bool, and_parts, and_from, and_left, and_right, leb-true, lt-leb}
+use Rattle.np_tables.proofs.Words.{none-some, same_Some, Entry, IsRow, IsBefore, AreRows, entry_at, lies_in}
 
 pub entry_at-nil : (c : ℕ) → entry_at [] c ≡ None
 unfolding entry_at
@@ -112,13 +112,27 @@ place_of_entry (x ∷ xs) c e h =
       | inr past ↦ (let rest = place_of_entry xs c e (sym (entry_at-miss x xs c past) ∙ h) in (suc rest.0, (let lt = rest.1 in omega arith), rest.2))
     ]
 
--- later rows begin later
-pub firsts-le : (es : List Entry) (i j : ℕ) (e f : Entry) → AreRows es → slice_get es i ≡ Some e → slice_get es j ≡ Some f → i ≤ j → e.first ≤ f.first
-firsts-le [] i j e f rows at bt le = absurd (none-some e at)
-firsts-le (x ∷ xs) zero zero e f rows at bt le = let same : e.first ≡ f.first = ap (λ (g : Entry). g.first) (same_Some e f (sym at ∙ bt)) in omega arith
-firsts-le (x ∷ xs) zero (suc j) e f rows at bt le =
-    let same : x.first ≡ e.first = ap (λ (g : Entry). g.first) (same_Some x e at) in
-    let r = rises xs (x.first + 1) j f rows.2 (from_before x xs x.first rows.1 rows.0.rises) bt in
+-- each row ends before later ones begin
+pub ends-before : (es : List Entry) (i j : ℕ) (e f : Entry) → AreRows es → slice_get es i ≡ Some e → slice_get es j ≡ Some f → i < j → e.last < f.first
+ends-before [] i j e f rows at bt lt = absurd (none-some e at)
+ends-before (x ∷ xs) i zero e f rows at bt lt = absurd (omega arith)
+ends-before (x ∷ xs) zero (suc j) e f rows at bt lt =
+    let same : x.last ≡ e.last = ap (λ (r : Entry). r.last) (same_Some x e at) in
+    let up = rises xs (x.last + 1) j f rows.2 (from_before x xs x.last rows.1 (omega arith)) bt in
     omega arith
-firsts-le (x ∷ xs) (suc i) zero e f rows at bt le = absurd (omega arith)
-firsts-le (x ∷ xs) (suc i) (suc j) e f rows at bt le = firsts-le xs i j e f rows.2 at bt (omega arith)
+ends-before (x ∷ xs) (suc i) (suc j) e f rows at bt lt = ends-before xs i j e f rows.2 at bt (omega arith)
+
+pub firsts-le : (es : List Entry) (i j : ℕ) (e f : Entry) → AreRows es → slice_get es i ≡ Some e → slice_get es j ≡ Some f → i ≤ j → e.first ≤ f.first
+firsts-le es i j e f rows at bt le =
+    elim (cases_lt i j) [
+      | inl less ↦ (let ends = ends-before es i j e f rows at bt less in let up = (at-row es i e rows at).rises in omega arith)
+      | inr more ↦ (let same : i ≡ j = omega arith in let one : e.first ≡ f.first = ap (λ (r : Entry). r.first) (same_Some e f (sym at ∙ ap (slice_get es) same ∙ bt)) in omega arith)
+    ]
+
+-- what is found in the later rows lies above this one
+pub found-above : (e : Entry) (es : List Entry) (c : ℕ) (r : Entry) → AreRows (e ∷ es) → entry_at es c ≡ Some r → e.last < c
+found-above e es c r rows found =
+    let at = place_of_entry es c r found in
+    let up = rises es (e.last + 1) at.0 r rows.2 (from_before e es e.last rows.1 (omega arith)) at.2 in
+    let low = (entry_at-within es c r found).0 in
+    omega arith
