@@ -4,8 +4,7 @@ use Rattle.np_tables.proofs.Words.{and_cases, and_from, and_parts, and_right, co
 use Rattle.np_tables.proofs.Words.{is_compat, composes, Nfd, Nfc, Nfkd, Nfkc, IsBoundary, IsYesStarter, NeverFalls, ComposesTo, IsCompositeOf, IsSound}
 use Rattle.np_tables.proofs.Words.{counts, is_final, parts, IsFullDecomposition, Entry, IsRow, VersionData, class_of, entry_at, has_hangul, is_empty}
 use Rattle.np_tables.proofs.Words.{Composite, full_of, table_full, AreBits, AreHints, AreLeadingNeverSecond, ComposesByPairs, IsNeverSecond, bit, eight_bits}
-use Rattle.np_tables.proofs.Words.{four_bits, has_bit, own_hints, boundary_place, boundary_under, syllable_hints, yes_place, yes_under, AreRowBits, touches}
-use Rattle.np_tables.proofs.Words.{AreOfFile}
+use Rattle.np_tables.proofs.Words.{has_bit, own_hints, boundary_place, boundary_under, syllable_hints, yes_place, yes_under, AreRowBits, touches, AreOfFile}
 use Rattle.np_code_points.proofs.HangulLemmas.{among_bounds, among_from_bounds, pair_exists, pair_kinds}
 use Rattle.np_tables.specs.declared.page_hints.Hints.{Hints}
 use Rattle.np_tables.proofs.FileRowLemmas.{file_kind-found, file_mapping-found, mapped-off}
@@ -129,32 +128,26 @@ module _ (v : VersionData) (sound : IsSound v) (on : has_hangul v ≡ true) (com
   jamo_class : (c : ℕ) → IsJamo c → class_of v c ≡ 0
   jamo_class c jamo = (by_arithmetic v on c jamo.hangul).class
 
-  unfolds-two : (c : ℕ) → IsLv c → Unfolds v compat c
-  unfolds-two c is =
-      record { first = is.leading; rest = is.vowel ∷ []; full = lv_full c is; is_leading = leading c is; rises = tt; folds = (c, pair_composite c is.leading is.vowel is.syllable is.pair, refl) }
-
-  unfolds-three : (c a b : ℕ) → is_syllable c ≡ true → syllable_pair c ≡ a ∷ b ∷ [] → IsLv a → IsJamo b → Unfolds v compat c
-  unfolds-three c a b h pair is jamo =
-      let vowel = jamo_class is.vowel is.second in
-      record {
-        first = is.leading;
-        rest = is.vowel ∷ b ∷ [];
-        full = pair_full c a b h pair ∙ ap (λ l. l ++ (full_of v compat b ++ [])) (lv_full a is) ∙ ap (λ l. (is.leading ∷ is.vowel ∷ []) ++ (l ++ [])) (jamo_full b jamo);
-        is_leading = leading a is;
-        rises = (omega arith, tt);
-        folds = (a, pair_composite a is.leading is.vowel is.syllable is.pair, (c, pair_composite c a b h pair, refl));
-      }
-
   pub unfolds : (c : ℕ) → is_syllable c ≡ true → Unfolds v compat c
   unfolds c h =
       let pair = pair_exists c in
       elim (pair_kinds c pair.0 pair.1 h pair.2) [
         | inl lv ↦
             let is : IsLv c = record { syllable = h; leading = pair.0; vowel = pair.1; pair = pair.2; first = leading_jamo pair.0 lv.0; second = vowel_jamo pair.1 lv.1 } in
-            unfolds-two c is
+            record { first = is.leading; rest = is.vowel ∷ []; full = lv_full c is; is_leading = lv.0; rises = tt; folds = (c, pair_composite c is.leading is.vowel h is.pair, refl) }
         | inr lvt ↦
             let front = and_parts (is_syllable pair.0) _ lvt.0 in
-            unfolds-three c pair.0 pair.1 h pair.2 (lv_shape pair.0 front.0 (eqb-true _ 0 front.1)) (trailing_jamo pair.1 lvt.1)
+            let is = lv_shape pair.0 front.0 (eqb-true _ 0 front.1) in
+            let jamo = trailing_jamo pair.1 lvt.1 in
+            let vowel = jamo_class is.vowel is.second in
+            record {
+              first = is.leading;
+              rest = is.vowel ∷ pair.1 ∷ [];
+              full = pair_full c pair.0 pair.1 h pair.2 ∙ ap (λ l. l ++ (full_of v compat pair.1 ++ [])) (lv_full pair.0 is) ∙ ap (λ l. (is.leading ∷ is.vowel ∷ []) ++ (l ++ [])) (jamo_full pair.1 jamo);
+              is_leading = leading pair.0 is;
+              rises = (omega arith, tt);
+              folds = (pair.0, pair_composite pair.0 is.leading is.vowel is.syllable is.pair, (c, pair_composite c pair.0 pair.1 h pair.2, refl));
+            }
       ]
 
   pub hints-syllable : (c : ℕ) → is_syllable c ≡ true → AreLeadingNeverSecond v → AreHints v compat c syllable_hints

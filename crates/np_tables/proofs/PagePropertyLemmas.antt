@@ -1,37 +1,29 @@
 -- Properties of code points, by rows and by blocks.
-use Rattle.std.proofs.Common.{◌≡◌, ℕ, suc, ◌+◌, ◌-◌, ◌/◌, ◌<◌, Bool, true, false, ◌&&◌, List, [], ◌∷◌, ◌++◌, length, get_or, set, slice_index, Some, None, sym, ap, subst, ◌∙◌, arith, inl, inr}
+use Rattle.std.proofs.Common.{◌≡◌, ℕ, ◌+◌, ◌-◌, ◌/◌, ◌<◌, Bool, true, false, ◌&&◌, List, [], ◌∷◌, ◌++◌, length, get_or, set, slice_index, Some, None, sym, ap, subst, ◌∙◌, arith, inl, inr}
 use Rattle.np_tables.proofs.Words.{slice_get, is_some, mod-lt, get_or-append_seam, and_parts, cases_Bool, cases_eq, cases_lt, both_ways, get_or_append_left}
 use Rattle.np_tables.proofs.Words.{get_or-map, get_or-set_same, get_or-set_other, length-append, length-map, length-set, none-some, same_Some}
-use Rattle.np_tables.proofs.Words.{slice_get_within, is_syllable, Form, Entry, AreRows, IsBoundary, VersionData, class_of, class_in, entry_at, file_mapping}
-use Rattle.np_tables.proofs.Words.{mapping_in, has_hangul, is_assigned, is_empty, IsSound, IsCompositeOf, is_final, Properties, Composite, table_full}
-use Rattle.np_tables.proofs.Words.{FullLists, of_kind, has_bit, boundary_place, property_place, AreRowPages, IsRowNumber, AreAllRowProperties, AreSecondRows}
-use Rattle.np_tables.proofs.Words.{AreSeconds, AreSlots, AreRowProperties, ArePropertiesOf, ArePages, no_properties, row_properties, paged_properties}
+use Rattle.np_tables.proofs.Words.{slice_get_within, is_syllable, Form, Entry, AreRows, IsBoundary, VersionData, class_of, class_in, entry_at, has_hangul}
+use Rattle.np_tables.proofs.Words.{is_assigned, IsSound, IsCompositeOf, is_final, Properties, Composite, table_full, FullLists, of_kind, has_bit}
+use Rattle.np_tables.proofs.Words.{boundary_place, property_place, AreRowPages, IsRowNumber, AreAllRowProperties, AreSecondRows, AreSeconds, AreSlots}
+use Rattle.np_tables.proofs.Words.{AreRowProperties, ArePropertiesOf, ArePages, no_properties, row_properties, paged_properties}
 use Rattle.np_tables.proofs.FullListLemmas.{empty_parts}
 use Rattle.np_tables.proofs.HangulLemmas.{by_arithmetic, syllable_hangul}
 use Rattle.np_tables.proofs.PrimaryLemmas.{never_second-unlisted, row-never_second}
 use Rattle.np_tables.proofs.PageHintLemmas.{bits-unlisted}
-use Rattle.np_tables.proofs.RowLemmas.{at-found, at-row, firsts-le}
-use Rattle.np_tables.proofs.RowPageLemmas.{ends-rise, some_at}
-use Rattle.np_tables.proofs.TableLemmas.{row-shares, full-none}
+use Rattle.np_tables.proofs.RowLemmas.{at-found, at-row, ends-before}
+use Rattle.np_tables.proofs.RowPageLemmas.{some_at}
+use Rattle.np_tables.proofs.TableLemmas.{row-shares, full-none, unlisted-bare}
 
 -- ---- rows that have second parts
 
 -- a row has one place
-early : (es : List Entry) (i j : ℕ) (e f : Entry) → AreRows es → slice_get es i ≡ Some e → slice_get es j ≡ Some f → i < j → e.last < f.first
-early es i j e f rows at bt lt =
-    let w = slice_get_within es j f bt in
-    let next = some_at es (suc i) (omega arith) in
-    let rise = ends-rise es i e next.0 rows at next.1 in
-    let le = firsts-le es (suc i) j next.0 f rows next.1 bt (omega arith) in
-    omega arith
-
 same_place : (es : List Entry) (i j : ℕ) (e : Entry) → AreRows es → slice_get es i ≡ Some e → slice_get es j ≡ Some e → i ≡ j
 same_place es i j e rows at bt =
     let up = (at-row es i e rows at).rises in
     elim (cases_lt i j) [
-      | inl less ↦ (let bad = early es i j e e rows at bt less in absurd (omega arith))
+      | inl less ↦ (let bad = ends-before es i j e e rows at bt less in absurd (omega arith))
       | inr other ↦ elim (cases_lt j i) [
-        | inl more ↦ (let bad = early es j i e e rows bt at more in absurd (omega arith))
+        | inl more ↦ (let bad = ends-before es j i e e rows bt at more in absurd (omega arith))
         | inr this ↦ omega arith
       ]
     ]
@@ -100,18 +92,6 @@ pub class-found : (v : VersionData) (c : ℕ) (e : Entry) → entry_at v.entries
 unfolding class_of
 class-found v c e h = sym (ap class_in h)
 
-class-none : (v : VersionData) (c : ℕ) → entry_at v.entries c ≡ None → 0 ≡ class_of v c
-unfolding class_of
-class-none v c h = sym (ap class_in h)
-
-assigned-found : (v : VersionData) (c : ℕ) (e : Entry) → entry_at v.entries c ≡ Some e → true ≡ is_assigned v c
-unfolding is_assigned
-assigned-found v c e h = sym (ap is_some h)
-
-assigned-none : (v : VersionData) (c : ℕ) → entry_at v.entries c ≡ None → false ≡ is_assigned v c
-unfolding is_assigned
-assigned-none v c h = sym (ap is_some h)
-
 unassigned_single : (v : VersionData) (c : ℕ) → is_assigned v c ≡ false → (has_hangul v && is_syllable c) ≡ false
 unassigned_single v c none =
     elim (cases_Bool (has_hangul v && is_syllable c)) [
@@ -119,35 +99,34 @@ unassigned_single v c none =
       | inr off ↦ off
     ]
 
-empty_file : (v : VersionData) (c : ℕ) → entry_at v.entries c ≡ None → is_empty (file_mapping v c) ≡ true
-unfolding file_mapping
-empty_file v c none = ap (λ o. is_empty (mapping_in o)) none
-
 module _ (v : VersionData) (sound : IsSound v) (lists : FullLists) (slots : List ℕ) (are_slots : AreSlots v (length v.entries) lists slots) (seconds : List Bool) (marks : AreSeconds v seconds) (all_properties : List Properties)
     (are_properties : AreAllRowProperties v slots seconds (length v.entries) all_properties) where
   -- of a code point that a row has
   properties-some : (c k : ℕ) (e : Entry) (w : Properties) → slice_get v.entries k ≡ Some e → entry_at v.entries c ≡ Some e → AreRowProperties v e (slice_index slots k) (get_or seconds k false) w → ArePropertiesOf v lists c w
-  unfolding row_properties
+  unfolding row_properties is_assigned
   properties-some c k e w here found row =
       let lt = slice_get_within v.entries k e here in
       let slot = are_slots.each k e lt here in
       subst (ArePropertiesOf v lists c) (sym row.properties) (record {
         class = class-found v c e found;
-        assigned = assigned-found v c e found;
+        assigned = sym (ap is_some found);
         slot = record { within = slot.within; lent = λ compat. slot.lent compat ∙ row-shares v compat c k e sound.rows here found };
         never_second = λ is. row-never_second v seconds k e c marks here found is;
         hints = row.hints c found;
       })
 
   properties-none : (c : ℕ) → entry_at v.entries c ≡ None → ArePropertiesOf v lists c no_properties
+  unfolding class_of is_assigned
   properties-none c none =
-      let final : (compat : Bool) → is_final v compat c ≡ true = λ compat. empty_parts v compat c (unassigned_single v c (sym (assigned-none v c none))) (empty_file v c none) in
+      let class : 0 ≡ class_of v c = sym (ap class_in none) in
+      let assigned : false ≡ is_assigned v c = sym (ap is_some none) in
+      let final : (compat : Bool) → is_final v compat c ≡ true = λ compat. empty_parts v compat c (unassigned_single v c (sym assigned)) (unlisted-bare v c none) in
       record {
-        class = class-none v c none;
-        assigned = assigned-none v c none;
+        class = class;
+        assigned = assigned;
         slot = record { within = are_slots.some; lent = λ compat. are_slots.none compat ∙ full-none v compat c none };
         never_second = λ _. never_second-unlisted v c sound none;
-        hints = bits-unlisted v c sound none (class-none v c none) final;
+        hints = bits-unlisted v c sound none class final;
       }
 
   properties-number : (c number : ℕ) → IsRowNumber v.entries c number → ArePropertiesOf v lists c (get_or all_properties number no_properties)

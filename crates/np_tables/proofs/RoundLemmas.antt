@@ -1,12 +1,13 @@
 -- The loops over the rows and over the parts of a mapping.
 use Rattle.std.proofs.Common.{◌≡◌, ◌≢◌, ℕ, zero, suc, ◌+◌, ◌-◌, ◌%◌, ◌<◌, ◌≤◌, Bool, true, false, ◌&&◌, ◌==◌, min, List, [], ◌∷◌, ◌++◌, map, flat_map, length, take, get_or, None, refl, sym, ap, ◌∙◌, arith, length-append, append-nil, cond, eqb, drop, Option, Some, subst}
-use Rattle.np_tables.proofs.Words.{cond-true, cond-false, and_from, eqb-true, eqb-false, eq-eqb, ne_eqb, le-leb, lt-leb, take_more, take_all, length-map}
-use Rattle.np_tables.proofs.Words.{length-drop, drop-drop, drop_at, drop-map, flat_map-append, get_or_default_zero, min-le_right, list_all, slice_get, Entry}
-use Rattle.np_tables.proofs.Words.{AreRows, is_syllable, VersionData, entry_at, mapping_in, is_empty, has_hangul, has_depth, full, marked, mark, parts_mark}
+use Rattle.np_tables.proofs.Words.{cond-true, cond-false, and_from, eqb-false, eq-eqb, ne_eqb, le-leb, lt-leb, take_more, take_all, length-map, length-drop}
+use Rattle.np_tables.proofs.Words.{drop-drop, drop_at, drop-map, flat_map-append, get_or_default_zero, min-le_right, list_all, slice_get, Entry, AreRows}
+use Rattle.np_tables.proofs.Words.{is_syllable, VersionData, entry_at, mapping_in, is_empty, has_hangul, has_depth, full, marked, mark, parts_mark}
 use Rattle.np_tables.proofs.Words.{mapping_mark, row_marks, syllable_depth, syllable_mark, first_row, is_marked, take-add, option_map, before_byte}
 use Rattle.np_tables.proofs.Words.{after_byte}
 use Rattle.std.proofs.lemmas.List.Folds.{list_all_at, list_all_more}
 use Rattle.np_code_points.proofs.LineGrammar.{joined_some, joined_none}
+use Rattle.np_tables.proofs.AccessLemmas.{length-empty}
 use Rattle.np_tables.proofs.DepthLemmas.{mark-file, mark-zero, mark-more, mark-length, kept_mark}
 
 -- ---- the marks of the rows, one by one
@@ -34,20 +35,15 @@ module _ (v : VersionData) (n : ℕ) where
   pub row_marks_all : (at : ℕ) (xs : List ℕ) → length v.entries ≤ at → xs ≡ take at (row_marks v n) → xs ≡ row_marks v n
   row_marks_all at xs le h = let count = length-row_marks in h ∙ take_all at (row_marks v n) (omega arith)
 
-pub bare_mapping : (v : VersionData) (xs : List ℕ) → is_empty xs ≡ true → mapping_mark v 0 xs ≡ 1
+pub mark-bare : (v : VersionData) (n : ℕ) (xs : List ℕ) → is_empty xs ≡ true → mapping_mark v n xs ≡ 1
 unfolding mapping_mark
-bare_mapping v [] h = refl
-bare_mapping v (x ∷ xs) h = cc
+mark-bare v n [] h = refl
+mark-bare v n (x ∷ xs) h = cc
 
 pub deep_mapping : (v : VersionData) (xs : List ℕ) → is_empty xs ≡ false → mapping_mark v 0 xs ≡ 0
 unfolding mapping_mark
 deep_mapping v [] h = cc
 deep_mapping v (x ∷ xs) h = refl
-
-pub next_bare : (v : VersionData) (n : ℕ) (xs : List ℕ) → is_empty xs ≡ true → mapping_mark v (n + 1) xs ≡ 1
-unfolding mapping_mark
-next_bare v n [] h = refl
-next_bare v n (x ∷ xs) h = cc
 
 pub next_parts : (v : VersionData) (n : ℕ) (xs : List ℕ) → is_empty xs ≡ false → mapping_mark v (n + 1) xs ≡ parts_mark v n xs
 unfolding mapping_mark
@@ -129,21 +125,9 @@ pub mark_hidden : (n c d : ℕ) → d ≡ syllable_depth c → n < d → 0 ≡ s
 unfolding syllable_mark
 mark_hidden n c d same lt = sym (cond-false _ _ _ (lt-leb (syllable_depth c) n (omega arith)))
 
--- ---- an empty list by its length
-
-pub empty_test : (xs : List ℕ) → (length xs == 0) ≡ true → is_empty xs ≡ true
-empty_test [] h = refl
-empty_test (x ∷ xs) h = let none = eqb-true (length (x ∷ xs)) 0 h in absurd (omega arith)
-
-pub full_test : (xs : List ℕ) → (length xs == 0) ≡ false → is_empty xs ≡ false
-full_test [] h = absurd (eqb-false 0 0 h refl)
-full_test (x ∷ xs) h = refl
-
 -- a list's item as the loop over it gives it
 pub part_at : (xs : List ℕ) (i code item : ℕ) → i < length xs → code ≡ item → item ≡ get_or xs i item → code ≡ get_or xs i 0
 part_at xs i code item lt same is = same ∙ is ∙ get_or_default_zero xs i item lt
-
--- ---- the marks of a round from those of the round before, which are cut at each that is not known
 
 -- ---- the known marks of a round are those of the next
 
@@ -250,4 +234,4 @@ unfolding row_marks
 first_cut v n m = first_before (λ e. mapping_mark v n e.mapping) m v.entries
 
 -- what the checks of functions cite
-pub ruleset round_answers = (empty_test, full_test, next_bare, next_parts)
+pub ruleset round_answers = (length-empty, mark-bare, next_parts)

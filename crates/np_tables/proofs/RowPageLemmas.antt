@@ -1,9 +1,9 @@
 -- The row of each code point, block by block.
-use Rattle.std.proofs.Common.{◌≡◌, ℕ, zero, suc, ◌+◌, ◌-◌, ◌*◌, ◌/◌, ◌%◌, ◌<◌, ◌≤◌, ◌⊎◌, List, [], ◌∷◌, ◌++◌, length, slice_index, Option, Some, None, refl, sym, ap, subst, ◌∙◌, arith, inl, inr}
+use Rattle.std.proofs.Common.{◌≡◌, ℕ, zero, suc, ◌+◌, ◌-◌, ◌*◌, ◌/◌, ◌%◌, ◌<◌, ◌≤◌, ◌⊎◌, List, [], ◌∷◌, ◌++◌, length, slice_index, Some, None, refl, sym, ap, subst, ◌∙◌, arith, inl, inr}
 use Rattle.np_tables.proofs.Words.{slice_get, div-add-mod, mod-lt, cases_lt, get_or_append_left, length-append, get_or-append_seam, none-some, same_Some}
 use Rattle.np_tables.proofs.Words.{slice_get_within, Entry, AreRows, entry_at, property_place, lies_in, IsRowNumber, IsRowBlock, AreRowPages, IsNextRow}
 use Rattle.np_tables.proofs.Words.{AreFirstPages, AreBegun, ArePushed, HasNoRow, GoesOn}
-use Rattle.np_tables.proofs.RowLemmas.{at-found, at-row, entry_at-row, entry_at-within, none-found, firsts-le, out_of, below_out}
+use Rattle.np_tables.proofs.RowLemmas.{at-found, at-row, none-found, ends-before, firsts-le, out_of, below_out}
 
 -- ---- rows by their places
 
@@ -11,17 +11,6 @@ pub some_at : (es : List Entry) (k : ℕ) → k < length es → (e : Entry) × (
 some_at [] k lt = absurd (omega arith)
 some_at (e ∷ es) zero lt = (e, refl)
 some_at (e ∷ es) (suc k) lt = some_at es k (omega arith)
-
--- each row ends before the next one begins
-pub ends-rise : (es : List Entry) (i : ℕ) (e f : Entry) → AreRows es → slice_get es i ≡ Some e → slice_get es (suc i) ≡ Some f → e.last < f.first
-ends-rise [] i e f rows at next = absurd (none-some e at)
-ends-rise (x ∷ []) zero e f rows at next = absurd (none-some f next)
-ends-rise (x ∷ y ∷ ys) zero e f rows at next =
-    let one : x.last ≡ e.last = ap (λ (r : Entry). r.last) (same_Some x e at) in
-    let two : y.first ≡ f.first = ap (λ (r : Entry). r.first) (same_Some y f next) in
-    let up = rows.1 in
-    omega arith
-ends-rise (x ∷ xs) (suc i) e f rows at next = ends-rise xs i e f rows.2 at next
 
 -- ---- the next row
 
@@ -73,7 +62,6 @@ next-left es at c d next none le = next-later es at c d next le (λ e h. absurd 
 
 pub next-behind : (es : List Entry) (at c : ℕ) (e : Entry) → AreRows es → IsNextRow es at c → slice_get es at ≡ Some e → e.last ≡ c → IsNextRow es (at + 1) (c + 1)
 next-behind es at c e rows next here end =
-    let after : suc at ≡ at + 1 = omega arith in
     record {
       past = λ k f lt h. elim (cases_lt k at) [
         | inl low ↦ let past = next.past k f low h in omega arith
@@ -83,7 +71,7 @@ next-behind es at c e rows next here end =
             omega arith
       ];
       here = λ f h. (
-          let rise = ends-rise es at e f rows here (ap (slice_get es) after ∙ h) in
+          let rise = ends-before es at (at + 1) e f rows here h (omega arith) in
           let s = slice_get_within es (at + 1) f h in
           let own = (at-row es (at + 1) f rows h).rises in
           omega arith);
@@ -193,14 +181,10 @@ pages-all es blocks numbers at begun size =
 
 -- ---- what is read
 
-cases_Entry : (o : Option Entry) → (o ≡ None) ⊎ ((e : Entry) × (o ≡ Some e))
-cases_Entry None = inl refl
-cases_Entry (Some e) = inr (e, refl)
-
 -- no row has a number past the code points
 pub past_code_points : (es : List Entry) (c : ℕ) → AreRows es → 0x110000 ≤ c → entry_at es c ≡ None
 past_code_points es c rows h =
-    elim (cases_Entry (entry_at es c)) [
-      | inl none ↦ none
-      | inr some ↦ (let bound = (entry_at-row es c some.0 rows some.1).bounded in let within = entry_at-within es c some.0 some.1 in absurd (omega arith))
-    ]
+    none-found es c (λ k lt.
+    let here = some_at es k lt in
+    let bound = (at-row es k here.0 rows here.1).bounded in
+    ap (λ o. lies_in o c) here.1 ∙ out_of here.0 c (omega arith))

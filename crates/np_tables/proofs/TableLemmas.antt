@@ -1,10 +1,11 @@
 -- What the plain table answers.
-use Rattle.std.proofs.Common.{◌≡◌, ℕ, zero, suc, ◌<◌, Bool, true, false, ◌&&◌, List, [], ◌∷◌, length, map, get_or, Some, None, Option, IfSome, IfNone, refl, sym, ap, subst, ◌∙◌, arith, inl, inr}
+use Rattle.std.proofs.Common.{◌≡◌, ℕ, ◌<◌, Bool, true, false, ◌&&◌, List, [], ◌∷◌, length, map, get_or, Some, None, Option, IfSome, IfNone, sym, ap, subst, ◌∙◌, arith, inl, inr}
 use Rattle.np_tables.proofs.Words.{slice_get, cases_Bool, cond-true, cond-false, or_from, or_left, or_right, get_or-map, get_or_from_slice_get, Entry}
 use Rattle.np_tables.proofs.Words.{AreRows, is_syllable, syllable_pair, VersionData, entry_at, file_mapping, mapping_in, is_empty, has_hangul, is_final}
 use Rattle.np_tables.proofs.Words.{IsLent, IsFullDecomposition, table_full, IsCompositeOf, composite, IsSound, Composite, Lists, AreOfFile, FullLists}
 use Rattle.np_tables.proofs.Words.{of_kind, row_full, AreFulls}
 use Rattle.np_tables.proofs.RowLemmas.{at-row, entry_at-within}
+use Rattle.np_tables.proofs.RowPageLemmas.{some_at}
 use Rattle.np_tables.proofs.MappingLemmas.{IsFullDecomposition-full_of, full_of-only, is_empty-false}
 use Rattle.np_tables.proofs.CompositeLemmas.{cases_Option, composite-some, composite_from}
 use Rattle.np_tables.proofs.PrimaryLemmas.{primary-syllable}
@@ -50,11 +51,6 @@ pub of_kind-is : (v : VersionData) (compat : Bool) (lists : FullLists) → AreFu
 of_kind-is v false lists h = h.canonical
 of_kind-is v true lists h = h.compatible
 
-entry_in : (es : List Entry) (at : ℕ) → at < length es → (e : Entry) × (slice_get es at ≡ Some e)
-entry_in [] at lt = absurd (omega arith)
-entry_in (e ∷ es) zero lt = (e, refl)
-entry_in (e ∷ es) (suc at) lt = entry_in es at (omega arith)
-
 -- a row lends to each of its code points what it lends to its first
 pub row-shares : (v : VersionData) (compat : Bool) (c at : ℕ) (e : Entry) → AreRows v.entries → slice_get v.entries at ≡ Some e → entry_at v.entries c ≡ Some e → table_full v compat e.first ≡ table_full v compat c
 row-shares v compat c at e rows place found =
@@ -72,17 +68,16 @@ row-shares v compat c at e rows place found =
 pub full-value : (v : VersionData) (compat : Bool) (c at : ℕ) (lists : List (List ℕ)) → AreRows v.entries → lists ≡ map (row_full v compat) v.entries → at < length v.entries → slice_get v.entries at ≡ entry_at v.entries c →
     get_or lists at [] ≡ table_full v compat c
 full-value v compat c at lists rows are lt place =
-    let here = entry_in v.entries at lt in
+    let here = some_at v.entries at lt in
     ap (λ l. get_or l at []) are ∙ get_or-map (row_full v compat) v.entries at here.0 [] lt ∙ ap (row_full v compat) (get_or_from_slice_get v.entries at here.0 here.0 here.1)
     ∙ row-shares v compat c at here.0 rows here.1 (sym place ∙ here.1)
 
-no_mapping : (o : Option Entry) → o ≡ None → is_empty (mapping_in o) ≡ true
-no_mapping None h = refl
-no_mapping (Some e) h = cc
+pub unlisted-bare : (v : VersionData) (c : ℕ) → entry_at v.entries c ≡ None → is_empty (file_mapping v c) ≡ true
+unfolding file_mapping
+unlisted-bare v c none = ap (λ o. is_empty (mapping_in o)) none
 
 pub full-none : (v : VersionData) (compat : Bool) (c : ℕ) → entry_at v.entries c ≡ None → [] ≡ table_full v compat c
-unfolding file_mapping
-full-none v compat c h = sym (lent-outside v compat c (no_mapping (entry_at v.entries c) h))
+full-none v compat c h = sym (lent-outside v compat c (unlisted-bare v c h))
 
 pub IsLent-table_full : (v : VersionData) (compat : Bool) (c : ℕ) → IsSound v → IsLent v compat c (table_full v compat c)
 unfolding table_full
