@@ -1,5 +1,5 @@
 -- Slots of full decompositions in one flat list.
-use Rattle.std.proofs.Common.{◌≡◌, ℕ, ◌+◌, ◌<◌, ◌≤◌, Bool, true, false, List, [], ◌∷◌, ◌++◌, length, map, take, get_or, slice_index, Some, refl, sym, ap, subst, ◌∙◌, arith, inl, inr}
+use Rattle.std.proofs.Common.{◌≡◌, ℕ, ◌+◌, ◌<◌, ◌≤◌, Bool, true, false, List, [], ◌∷◌, ◌++◌, length, map, take, append_assoc, get_or, slice_index, Some, refl, sym, ap, subst, ◌∙◌, arith, inl, inr}
 use Rattle.np_tables.proofs.Words.{slice_get, cases_lt, get_or_append_left, length-append, length-map, map_push, All-push, get_or-append_seam}
 use Rattle.np_tables.proofs.Words.{take-append_seam, same_Some, Entry, VersionData, entry_at, is_empty, CodeRange, table_full, FullLists, of_kind}
 use Rattle.np_tables.proofs.Words.{code_range_of, IsCodeRange, AreCodeRanges, lists_of, IsSlotPushed, IsSlot, AreSlots, AreSlotsSoFar}
@@ -8,71 +8,47 @@ use Rattle.np_tables.proofs.FullListLemmas.{code_range_of-grown, parts-grown, Ar
 
 -- ---- one slot more
 
--- the lists behind the old code points are a and b, or a alone where b is the same
-module _ (v : VersionData) (c : ℕ) (old a b : List ℕ) (canonical compatible : List CodeRange) (one two : CodeRange) where
-  pub pushed-two : AreCodeRanges old canonical → AreCodeRanges old compatible → a ≡ table_full v false c → b ≡ table_full v true c →
-      one.start ≡ length old → one.end ≡ length (old ++ a) → two.start ≡ length (old ++ a) → two.end ≡ length ((old ++ a) ++ b) →
-      IsSlotPushed v c old canonical compatible ((old ++ a) ++ b) (canonical ++ one ∷ []) (compatible ++ two ∷ [])
-  pushed-two in_canonical in_compatible first second start middle start_two end =
-      let size_a = length-append old a in
-      let size_b = length-append (old ++ a) b in
-      let one_fits : IsCodeRange (length (old ++ a)) one = (omega arith, omega arith) in
-      let grown = AreCodeRanges-grown (old ++ a) b canonical (AreCodeRanges-grown old a canonical in_canonical) in
-      let grown_two = AreCodeRanges-grown (old ++ a) b compatible (AreCodeRanges-grown old a compatible in_compatible) in
-      record {
-        canonical_within = All-push (IsCodeRange (length ((old ++ a) ++ b))) canonical one grown (omega arith, omega arith);
-        compatible_within = All-push (IsCodeRange (length ((old ++ a) ++ b))) compatible two grown_two (omega arith, omega arith);
-        canonical_grown = map_push (code_range_of ((old ++ a) ++ b)) canonical one
-            ∙ ap (λ l. l ++ code_range_of ((old ++ a) ++ b) one ∷ []) (parts-grown (old ++ a) b canonical (AreCodeRanges-grown old a canonical in_canonical) ∙ parts-grown old a canonical in_canonical)
-            ∙ ap (λ l. map (code_range_of old) canonical ++ l ∷ []) (code_range_of-grown (old ++ a) b one one_fits ∙ code_range_of-new old a one start middle ∙ first);
-        compatible_grown = map_push (code_range_of ((old ++ a) ++ b)) compatible two
-            ∙ ap (λ l. l ++ code_range_of ((old ++ a) ++ b) two ∷ []) (parts-grown (old ++ a) b compatible (AreCodeRanges-grown old a compatible in_compatible) ∙ parts-grown old a compatible in_compatible)
-            ∙ ap (λ l. map (code_range_of old) compatible ++ l ∷ []) (code_range_of-new (old ++ a) b two start_two end ∙ second);
-      }
+-- one range more, which has this list, over code points that begin with the old ones
+pushed : (old more list new : List ℕ) (ranges new_ranges : List CodeRange) (r : CodeRange) → new ≡ old ++ more → AreCodeRanges old ranges → new_ranges ≡ ranges ++ r ∷ [] → IsCodeRange (length new) r → code_range_of new r ≡ list →
+    AreCodeRanges new new_ranges × (map (code_range_of new) new_ranges ≡ map (code_range_of old) ranges ++ list ∷ [])
+pushed old more list new ranges new_ranges r grown within is fits here =
+    subst (λ l. AreCodeRanges new l × (map (code_range_of new) l ≡ map (code_range_of old) ranges ++ list ∷ [])) (sym is) (
+      All-push (IsCodeRange (length new)) ranges r (subst (λ n. AreCodeRanges n ranges) (sym grown) (AreCodeRanges-grown old more ranges within)) fits,
+      map_push (code_range_of new) ranges r ∙ ap (λ l. map (code_range_of new) ranges ++ l ∷ []) here
+      ∙ ap (λ l. l ++ list ∷ []) (ap (λ n. map (code_range_of n) ranges) grown ∙ parts-grown old more ranges within),
+    )
 
-  pub pushed-one : AreCodeRanges old canonical → AreCodeRanges old compatible → a ≡ table_full v false c → b ≡ table_full v true c →
-      one.start ≡ length old → one.end ≡ length (old ++ a) → two.start ≡ length (old ++ a) → two.end ≡ length ((old ++ a) ++ b) → code_range_of ((old ++ a) ++ b) one ≡ code_range_of ((old ++ a) ++ b) two →
-      IsSlotPushed v c old canonical compatible (old ++ a) (canonical ++ one ∷ []) (compatible ++ one ∷ [])
-  pushed-one in_canonical in_compatible first second start middle start_two end same =
-      let size_a = length-append old a in
-      let one_fits : IsCodeRange (length (old ++ a)) one = (omega arith, omega arith) in
-      let alike : a ≡ b = sym (code_range_of-new old a one start middle) ∙ sym (code_range_of-grown (old ++ a) b one one_fits) ∙ same ∙ code_range_of-new (old ++ a) b two start_two end in
-      let push : (kept : List CodeRange) → AreCodeRanges old kept → map (code_range_of (old ++ a)) (kept ++ one ∷ []) ≡ map (code_range_of old) kept ++ a ∷ [] = λ kept within.
-      map_push (code_range_of (old ++ a)) kept one
-      ∙ ap (λ l. l ++ code_range_of (old ++ a) one ∷ []) (parts-grown old a kept within)
-      ∙ ap (λ l. map (code_range_of old) kept ++ l ∷ []) (code_range_of-new old a one start middle) in
-      record {
-        canonical_within = All-push (IsCodeRange (length (old ++ a))) canonical one (AreCodeRanges-grown old a canonical in_canonical) one_fits;
-        compatible_within = All-push (IsCodeRange (length (old ++ a))) compatible one (AreCodeRanges-grown old a compatible in_compatible) one_fits;
-        canonical_grown = push canonical in_canonical ∙ ap (λ l. map (code_range_of old) canonical ++ l ∷ []) first;
-        compatible_grown = push compatible in_compatible ∙ ap (λ l. map (code_range_of old) compatible ++ l ∷ []) (alike ∙ second);
-      }
+module _ (v : VersionData) (c : ℕ) (old mid new : List ℕ) (one two : CodeRange) (first : mid ≡ old ++ table_full v false c) (second : new ≡ mid ++ table_full v true c)
+    (start : one.start ≡ length old) (middle : one.end ≡ length mid) (start_two : two.start ≡ length mid) (end : two.end ≡ length new) where
+  canonical_is : code_range_of new one ≡ table_full v false c
+  canonical_is =
+      let size = ap length first ∙ length-append old (table_full v false c) in
+      ap (λ n. code_range_of n one) second ∙ code_range_of-grown mid (table_full v true c) one (omega arith, omega arith)
+      ∙ ap (λ n. code_range_of n one) first ∙ code_range_of-new old (table_full v false c) one start (middle ∙ ap length first)
 
-pub pushed-apart : (v : VersionData) (c : ℕ) (old mid new : List ℕ) (canonical compatible new_canonical new_compatible : List CodeRange) (one two : CodeRange) → AreCodeRanges old canonical → AreCodeRanges old compatible →
-    mid ≡ old ++ table_full v false c → new ≡ mid ++ table_full v true c → one.start ≡ length old → one.end ≡ length mid → two.start ≡ length mid → two.end ≡ length new →
-    new_canonical ≡ canonical ++ one ∷ [] → new_compatible ≡ compatible ++ two ∷ [] → IsSlotPushed v c old canonical compatible new new_canonical new_compatible
-pushed-apart v c old mid new canonical compatible new_canonical new_compatible one two in_canonical in_compatible first second start middle start_two end grown grown_two =
-    let a = table_full v false c in
-    let b = table_full v true c in
-    let whole : new ≡ (old ++ a) ++ b = second ∙ ap (λ m. m ++ b) first in
-    subst (λ k. IsSlotPushed v c old canonical compatible new k new_compatible) (sym grown)
-    (subst (λ k. IsSlotPushed v c old canonical compatible new (canonical ++ one ∷ []) k) (sym grown_two)
-    (subst (λ n. IsSlotPushed v c old canonical compatible n (canonical ++ one ∷ []) (compatible ++ two ∷ [])) (sym whole)
-    (pushed-two v c old a b canonical compatible one two in_canonical in_compatible refl refl start (middle ∙ ap length first) (start_two ∙ ap length first) (end ∙ ap length whole))))
+  compatible_is : code_range_of new two ≡ table_full v true c
+  compatible_is = ap (λ n. code_range_of n two) second ∙ code_range_of-new mid (table_full v true c) two start_two (end ∙ ap length second)
 
-pub pushed-shared : (v : VersionData) (c : ℕ) (old mid new kept : List ℕ) (canonical compatible new_canonical new_compatible : List CodeRange) (one two : CodeRange) → AreCodeRanges old canonical → AreCodeRanges old compatible →
-    mid ≡ old ++ table_full v false c → new ≡ mid ++ table_full v true c → one.start ≡ length old → one.end ≡ length mid → two.start ≡ length mid → two.end ≡ length new → code_range_of new one ≡ code_range_of new two → kept ≡ take one.end new →
-    new_canonical ≡ canonical ++ one ∷ [] → new_compatible ≡ compatible ++ one ∷ [] → IsSlotPushed v c old canonical compatible kept new_canonical new_compatible
-pushed-shared v c old mid new kept canonical compatible new_canonical new_compatible one two in_canonical in_compatible first second start middle start_two end same cut grown grown_two =
-    let a = table_full v false c in
-    let b = table_full v true c in
-    let whole : new ≡ (old ++ a) ++ b = second ∙ ap (λ m. m ++ b) first in
-    let front : kept ≡ old ++ a = cut ∙ ap (take one.end) second ∙ ap (λ n. take n (mid ++ b)) middle ∙ take-append_seam mid b ∙ first in
-    subst (λ k. IsSlotPushed v c old canonical compatible kept k new_compatible) (sym grown)
-    (subst (λ k. IsSlotPushed v c old canonical compatible kept (canonical ++ one ∷ []) k) (sym grown_two)
-    (subst (λ n. IsSlotPushed v c old canonical compatible n (canonical ++ one ∷ []) (compatible ++ one ∷ [])) (sym front)
-    (pushed-one v c old a b canonical compatible one two in_canonical in_compatible refl refl start (middle ∙ ap length first) (start_two ∙ ap length first) (end ∙ ap length whole)
-    (subst (λ n. code_range_of n one ≡ code_range_of n two) whole same))))
+  module _ (canonical compatible new_canonical new_compatible : List CodeRange) (in_canonical : AreCodeRanges old canonical) (in_compatible : AreCodeRanges old compatible) (grown : new_canonical ≡ canonical ++ one ∷ []) where
+    pub pushed-apart : new_compatible ≡ compatible ++ two ∷ [] → IsSlotPushed v c old canonical compatible new new_canonical new_compatible
+    pushed-apart grown_two =
+        let a = table_full v false c in
+        let b = table_full v true c in
+        let sizes : (length mid ≡ length old + length a) × (length new ≡ length mid + length b) = (ap length first ∙ length-append old a, ap length second ∙ length-append mid b) in
+        let whole = second ∙ ap (λ m. m ++ b) first ∙ append_assoc old a b in
+        let left = pushed old (a ++ b) a new canonical new_canonical one whole in_canonical grown (omega arith, omega arith) canonical_is in
+        let right = pushed old (a ++ b) b new compatible new_compatible two whole in_compatible grown_two (omega arith, omega arith) compatible_is in
+        record { canonical_within = left.0; compatible_within = right.0; canonical_grown = left.1; compatible_grown = right.1 }
+
+    pub pushed-shared : (kept : List ℕ) → code_range_of new one ≡ code_range_of new two → kept ≡ take one.end new → new_compatible ≡ compatible ++ one ∷ [] → IsSlotPushed v c old canonical compatible kept new_canonical new_compatible
+    pushed-shared kept same cut grown_two =
+        let a = table_full v false c in
+        let front : kept ≡ mid = cut ∙ ap (take one.end) second ∙ ap (λ n. take n (mid ++ table_full v true c)) middle ∙ take-append_seam mid (table_full v true c) in
+        let sizes : (length mid ≡ length old + length a) × (length kept ≡ length mid) = (ap length first ∙ length-append old a, ap length front) in
+        let here = ap (λ n. code_range_of n one) (front ∙ first) ∙ code_range_of-new old a one start (middle ∙ ap length first) in
+        let left = pushed old a a kept canonical new_canonical one (front ∙ first) in_canonical grown (omega arith, omega arith) here in
+        let right = pushed old a (table_full v true c) kept compatible new_compatible one (front ∙ first) in_compatible grown_two (omega arith, omega arith) (here ∙ sym canonical_is ∙ same ∙ compatible_is) in
+        record { canonical_within = left.0; compatible_within = right.0; canonical_grown = left.1; compatible_grown = right.1 }
 
 -- ---- the slots of all rows
 
@@ -178,12 +154,3 @@ slots-pushed v count old codes old_canonical old_compatible canonical compatible
             lent = new-pushed before after (table_full v false e.first) (table_full v true e.first) pushed.canonical_grown pushed.compatible_grown v e.first refl refl alike;
           }));
     }
-
--- the same lists by other names
-pub slots-moved : (v : VersionData) (count : ℕ) (codes codes2 : List ℕ) (canonical canonical2 compatible compatible2 : List CodeRange) (slots slots2 : List ℕ) → codes2 ≡ codes → canonical2 ≡ canonical → compatible2 ≡ compatible → slots2 ≡ slots →
-    AreSlotsSoFar v count codes canonical compatible slots → AreSlotsSoFar v count codes2 canonical2 compatible2 slots2
-slots-moved v count codes codes2 canonical canonical2 compatible compatible2 slots slots2 one two three four so_far =
-    subst (λ l. AreSlotsSoFar v count l canonical2 compatible2 slots2) (sym one)
-    (subst (λ l. AreSlotsSoFar v count codes l compatible2 slots2) (sym two)
-    (subst (λ l. AreSlotsSoFar v count codes canonical l slots2) (sym three)
-    (subst (λ l. AreSlotsSoFar v count codes canonical compatible l) (sym four) so_far)))
