@@ -1,11 +1,11 @@
 -- Properties of code points, by rows and by blocks.
-use Rattle.std.proofs.Common.{◌≡◌, ℕ, ◌+◌, ◌-◌, ◌/◌, ◌<◌, Bool, true, false, ◌&&◌, List, [], ◌∷◌, ◌++◌, length, get_or, set, slice_index, Some, None, sym, ap, subst, ◌∙◌, arith, inl, inr}
-use Rattle.np_tables.proofs.Words.{slice_get, is_some, mod-lt, get_or-append_seam, and_parts, cases_Bool, cases_eq, cases_lt, both_ways, get_or_append_left}
-use Rattle.np_tables.proofs.Words.{get_or-map, get_or-set_same, get_or-set_other, length-append, length-map, length-set, none-some, same_Some}
-use Rattle.np_tables.proofs.Words.{slice_get_within, is_syllable, Form, Entry, AreRows, IsBoundary, VersionData, class_of, class_in, entry_at, has_hangul}
-use Rattle.np_tables.proofs.Words.{is_assigned, IsSound, IsCompositeOf, is_final, Properties, Composite, table_full, FullLists, of_kind, has_bit}
-use Rattle.np_tables.proofs.Words.{boundary_place, property_place, AreRowPages, IsRowNumber, AreAllRowProperties, AreSecondRows, AreSeconds, AreSlots}
-use Rattle.np_tables.proofs.Words.{AreRowProperties, ArePropertiesOf, ArePages, no_properties, row_properties, paged_properties}
+use Rattle.std.proofs.Common.{◌≡◌, ℕ, ◌+◌, ◌-◌, ◌/◌, ◌<◌, ◌≤◌, Bool, true, false, ◌&&◌, List, [], ◌∷◌, ◌++◌, length, get_or, set, slice_index, Some, None, sym, ap, subst, ◌∙◌, arith, inl, inr}
+use Rattle.np_tables.proofs.Words.{slice_get, is_some, mod-lt, false_from_ne_true, get_or-append_seam, and_parts, cases_eq, cases_lt, both_ways}
+use Rattle.np_tables.proofs.Words.{get_or_append_left, get_or-map, get_or-set_same, get_or-set_other, length-append, length-map, length-set, none-some}
+use Rattle.np_tables.proofs.Words.{same_Some, slice_get_within, is_syllable, Entry, AreRows, VersionData, class_of, class_in, entry_at, has_hangul}
+use Rattle.np_tables.proofs.Words.{is_assigned, IsSound, is_final, Properties, Composite, FullLists, property_place, AreRowPages, IsRowNumber}
+use Rattle.np_tables.proofs.Words.{AreAllRowProperties, AreSecondRows, AreSeconds, AreSlots, AreRowProperties, ArePropertiesOf, ArePages, no_properties}
+use Rattle.np_tables.proofs.Words.{row_properties, paged_properties}
 use Rattle.np_tables.proofs.FullListLemmas.{empty_parts}
 use Rattle.np_tables.proofs.HangulLemmas.{by_arithmetic, syllable_hangul}
 use Rattle.np_tables.proofs.PrimaryLemmas.{never_second-unlisted, row-never_second}
@@ -28,6 +28,12 @@ same_place es i j e rows at bt =
       ]
     ]
 
+-- the row that has the second part of a composite is the one that is found for it
+second_at : (es : List Entry) (cs : List Composite) (count j k : ℕ) (here x : Composite) (e : Entry) → AreRows es → slice_get cs count ≡ Some here → count ≡ j → slice_get cs j ≡ Some x → slice_get es k ≡ Some e → e.first ≤ x.second → x.second ≤ e.last →
+    entry_at es here.second ≡ Some e
+second_at es cs count j k here x e rows is there jt kt low high =
+    ap (λ (y : Composite). entry_at es y.second) (same_Some here x (sym is ∙ ap (slice_get cs) there ∙ jt)) ∙ sym (at-found es k x.second e rows kt low high) ∙ kt
+
 -- the place of the next one's second part is marked
 pub seconds-more : (es : List Entry) (cs : List Composite) (count at : ℕ) (seconds : List Bool) (here : Composite) → AreRows es → AreSecondRows es cs count seconds → slice_get cs count ≡ Some here → at < length es → slice_get es at ≡ entry_at es here.second →
     AreSecondRows es cs (count + 1) (set seconds at true)
@@ -39,13 +45,8 @@ seconds-more es cs count at seconds here rows so_far is lt found =
       each = λ j x k e less jt kt low high. elim (cases_eq k at) [
         | inl same ↦ ap (λ n. get_or (set seconds at true) n false) same ∙ get_or-set_same seconds at true false fits
         | inr other ↦ elim (cases_lt j count) [
-          | inl early_one ↦ get_or-set_other seconds at k true false other ∙ so_far.each j x k e early_one jt kt low high
-          | inr this ↦
-              let there : count ≡ j = omega arith in
-              let own : here ≡ x = same_Some here x (sym is ∙ ap (slice_get cs) there ∙ jt) in
-              let second : here.second ≡ x.second = ap (λ (y : Composite). y.second) own in
-              let at_too : slice_get es at ≡ Some e = found ∙ ap (entry_at es) second ∙ sym (at-found es k x.second e rows kt low high) ∙ kt in
-              absurd (other (same_place es k at e rows kt at_too))
+          | inl early ↦ get_or-set_other seconds at k true false other ∙ so_far.each j x k e early jt kt low high
+          | inr this ↦ absurd (other (same_place es k at e rows kt (found ∙ second_at es cs count j k here x e rows is (omega arith) jt kt low high)))
         ]
       ];
     }
@@ -57,12 +58,8 @@ seconds-past es cs count seconds here rows so_far is none =
     record {
       size = so_far.size;
       each = λ j x k e less jt kt low high. elim (cases_lt j count) [
-        | inl early_one ↦ so_far.each j x k e early_one jt kt low high
-        | inr this ↦
-            let there : count ≡ j = omega arith in
-            let own : here ≡ x = same_Some here x (sym is ∙ ap (slice_get cs) there ∙ jt) in
-            let second : here.second ≡ x.second = ap (λ (y : Composite). y.second) own in
-            absurd (none-some e (sym none ∙ ap (entry_at es) second ∙ sym (at-found es k x.second e rows kt low high) ∙ kt))
+        | inl early ↦ so_far.each j x k e early jt kt low high
+        | inr this ↦ absurd (none-some e (sym none ∙ second_at es cs count j k here x e rows is (omega arith) jt kt low high))
       ];
     }
 
@@ -94,10 +91,7 @@ class-found v c e h = sym (ap class_in h)
 
 unassigned_single : (v : VersionData) (c : ℕ) → is_assigned v c ≡ false → (has_hangul v && is_syllable c) ≡ false
 unassigned_single v c none =
-    elim (cases_Bool (has_hangul v && is_syllable c)) [
-      | inl on ↦ (let both = and_parts (has_hangul v) (is_syllable c) on in absurd (both_ways _ none (by_arithmetic v both.0 c (syllable_hangul c both.1)).assigned))
-      | inr off ↦ off
-    ]
+    false_from_ne_true _ (λ on. let both = and_parts (has_hangul v) (is_syllable c) on in both_ways _ none (by_arithmetic v both.0 c (syllable_hangul c both.1)).assigned)
 
 module _ (v : VersionData) (sound : IsSound v) (lists : FullLists) (slots : List ℕ) (are_slots : AreSlots v (length v.entries) lists slots) (seconds : List Bool) (marks : AreSeconds v seconds) (all_properties : List Properties)
     (are_properties : AreAllRowProperties v slots seconds (length v.entries) all_properties) where
@@ -161,22 +155,9 @@ module _ (v : VersionData) (sound : IsSound v) (lists : FullLists) (slots : List
 
 -- ---- what is read
 
-pub full-read : (v u : VersionData) → u ≡ v → (lists : FullLists) (blocks : List ℕ) (all_properties : List Properties) → ArePages u lists blocks all_properties → (c : ℕ) → c < 0x110000 → (w : Properties) → w ≡ get_or all_properties (property_place blocks c) no_properties →
-    (compat : Bool) (lent : List ℕ) → lent ≡ get_or (of_kind compat lists) w.fulls [] → lent ≡ table_full v compat c
-full-read v u same lists blocks all_properties pages c lt w is compat lent read =
-    let properties = subst (ArePropertiesOf u lists c) (sym is) (pages.each c lt) in
-    read ∙ properties.slot.lent compat ∙ ap (λ x. table_full x compat c) same
-
--- the second code point is the second part of no primary composite
-pub pair-never_second : (v u : VersionData) → u ≡ v → (lists : FullLists) (blocks : List ℕ) (all_properties : List Properties) → ArePages u lists blocks all_properties → (a b : ℕ) → b < 0x110000 → (properties : Properties) → properties ≡ get_or all_properties (property_place blocks b) no_properties → properties.never_second ≡ true →
-    (c : ℕ) → ¬ IsCompositeOf v a b c
-pair-never_second v u same lists blocks all_properties pages a b lt properties is never_second =
-    (subst (λ x. ArePropertiesOf x lists b properties) same (subst (ArePropertiesOf u lists b) (sym is) (pages.each b lt))).never_second never_second a
-
-pub boundary-read : (v u : VersionData) → u ≡ v → (lists : FullLists) (blocks : List ℕ) (all_properties : List Properties) → ArePages u lists blocks all_properties → (form : Form) (c : ℕ) → c < 0x110000 → (w : Properties) → w ≡ get_or all_properties (property_place blocks c) no_properties →
-    has_bit w.hints (boundary_place form) ≡ true → IsBoundary v form c
-boundary-read v u same lists blocks all_properties pages form c lt w is has =
-    subst (λ x. IsBoundary x form c) same ((subst (ArePropertiesOf u lists c) (sym is) (pages.each c lt)).hints.boundary form has)
+pub properties-read : (v u : VersionData) → u ≡ v → (lists : FullLists) (blocks : List ℕ) (all_properties : List Properties) → ArePages u lists blocks all_properties → (c : ℕ) → c < 0x110000 → (w : Properties) →
+    w ≡ get_or all_properties (property_place blocks c) no_properties → ArePropertiesOf v lists c w
+properties-read v u same lists blocks all_properties pages c lt w is = subst (λ x. ArePropertiesOf x lists c w) same (subst (ArePropertiesOf u lists c) (sym is) (pages.each c lt))
 
 -- what the checks of functions cite
 pub ruleset property_answers = (all_properties-more)

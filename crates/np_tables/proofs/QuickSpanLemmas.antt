@@ -1,16 +1,17 @@
 -- Runs of code points that may follow one another as they are.
 use Rattle.std.proofs.Common.{◌≡◌, ℕ, ◌-◌, ◌<◌, ◌≤◌, Bool, true, false, ◌&&◌, suc, List, [], ◌∷◌, ◌++◌, Option, Some, None, length, get_or, take, drop, drop_at, take_at, slice_range, chars, IsUtf8, encode_utf8, encode_utf8_all, All, sym, ap, subst, ◌∙◌, arith, append_assoc, append-nil, length-append, refl, inl, inr, ◌⊎◌, not}
-use Rattle.np_tables.proofs.Words.{list_all, IsAscii, IsCharBoundary, and_from, and_parts, cases_Bool, cond-false, or_from, and_right, not-false}
-use Rattle.np_tables.proofs.Words.{get_or_default, get_or-map, take-append-drop, chars-append, chars_from_encodes, chars-IsAscii, chars_past_char}
-use Rattle.np_tables.proofs.Words.{encodes-append, encodes-IsAscii, IsCharBoundary-at_seam, IsCharBoundary-from_take, IsUtf8-drop, IsUtf8-take}
-use Rattle.np_tables.proofs.Words.{IsUtf8-from_ascii, IsUtf8-past_char, chars-nil, is_syllable, Form, is_compat, BeginsAtBoundary, IsBoundary, IsYesStarter}
-use Rattle.np_tables.proofs.Words.{is_final, VersionData, class_of, has_hangul, is_assigned, Properties, full_of, table_full, FullLists, of_kind}
-use Rattle.np_tables.proofs.Words.{property_place, AreFollowing, ArePages, Follows, FollowsByQuickCheck, FollowsUncomposed, IsAsciiYes, IsPast, IsWalkedTo}
-use Rattle.np_tables.proofs.Words.{PassesUncomposed, last_behind, no_properties, CannotComposeByProperties, ArePropertiesOf, all_quick_checks, quick_check_in}
-use Rattle.np_tables.proofs.Words.{quick_check_of, quick_checks_of}
+use Rattle.np_tables.proofs.Words.{false_from_ne_true, true_from_ne_false, list_all, IsAscii, IsCharBoundary, and_from, and_parts, cond-false, or_from}
+use Rattle.np_tables.proofs.Words.{and_right, not-false, get_or_default, get_or-map, take-append-drop, chars-append, chars_from_encodes, chars-IsAscii}
+use Rattle.np_tables.proofs.Words.{chars_past_char, encodes-append, encodes-IsAscii, IsCharBoundary-at_seam, IsCharBoundary-from_take, IsUtf8-drop}
+use Rattle.np_tables.proofs.Words.{IsUtf8-take, IsUtf8-from_ascii, IsUtf8-past_char, chars-nil, is_syllable, Form, is_compat, BeginsAtBoundary, IsBoundary}
+use Rattle.np_tables.proofs.Words.{IsYesStarter, is_final, VersionData, class_of, has_hangul, is_assigned, Properties, full_of, table_full, FullLists}
+use Rattle.np_tables.proofs.Words.{of_kind, property_place, AreFollowing, ArePages, Follows, FollowsByQuickCheck, FollowsUncomposed, IsAsciiYes, IsPast}
+use Rattle.np_tables.proofs.Words.{IsWalkedTo, PassesUncomposed, last_behind, no_properties, CannotComposeByProperties, ArePropertiesOf, all_quick_checks}
+use Rattle.np_tables.proofs.Words.{quick_check_in, quick_check_of, quick_checks_of}
 use Rattle.np_tables.specs.QuickSpans.{IsQuickSpan, MayFollow, Walks, CannotComposeAfter}
 use Rattle.np_tables.proofs.HangulLemmas.{by_arithmetic, syllable_hangul}
 use Rattle.np_tables.proofs.MappingLemmas.{full_of-some}
+use Rattle.np_tables.proofs.PagePropertyLemmas.{properties-read}
 use Rattle.np_tables.proofs.QuickCheckLemmas.{place-within, quick_check_assigned, quick_check_at, quick_check_low, quick_check_yes, yes_quick_check}
 
 -- ---- walks over lists
@@ -134,20 +135,14 @@ begins-first v form rest here later c same utf8 parts at = subst (BeginsAtBounda
 
 plain_non_starter : (v : VersionData) (c : ℕ) → 0 < class_of v c → (has_hangul v && is_syllable c) ≡ false
 plain_non_starter v c non_starter =
-    elim (cases_Bool (has_hangul v && is_syllable c)) [
-      | inl on ↦ (let both = and_parts (has_hangul v) (is_syllable c) on in absurd (omega (arith, non_starter, (by_arithmetic v both.0 c (syllable_hangul c both.1)).class)))
-      | inr off ↦ off
-    ]
+    false_from_ne_true _ (λ on. let both = and_parts (has_hangul v) (is_syllable c) on in omega (arith, non_starter, (by_arithmetic v both.0 c (syllable_hangul c both.1)).class))
 
 pub final-lent : (v : VersionData) (compat : Bool) (c : ℕ) → table_full v compat c ≡ [] → (has_hangul v && is_syllable c) ≡ false → is_final v compat c ≡ true
 unfolding table_full
 final-lent v compat c none plain =
-    elim (cases_Bool (is_final v compat c)) [
-      | inl final ↦ final
-      | inr mapped ↦
-          let whole : table_full v compat c ≡ full_of v compat c = cond-false _ _ _ (or_from (is_final v compat c) (has_hangul v && is_syllable c) mapped plain) in
-          absurd (omega (arith, ap length (sym whole ∙ none), full_of-some v compat c))
-    ]
+    true_from_ne_false _ (λ mapped.
+    let whole : table_full v compat c ≡ full_of v compat c = cond-false _ _ _ (or_from (is_final v compat c) (has_hangul v && is_syllable c) mapped plain) in
+    omega (arith, ap length (sym whole ∙ none), full_of-some v compat c))
 
 -- ---- what the quick checks say is so
 
@@ -214,22 +209,22 @@ module _ (v u : VersionData) (same : u ≡ v) (lists : FullLists) (blocks : List
         place = are.place;
       }
 
--- ---- ASCII that passes under every form is assigned
+  -- ---- ASCII that passes under every form is assigned
 
-module _ (v u : VersionData) (same : u ≡ v) (lists : FullLists) (blocks : List ℕ) (all_properties : List Properties) (pages : ArePages u lists blocks all_properties) (quick_checks : List ℕ) (are_quick_checks : quick_checks ≡ all_quick_checks all_properties) (form : Form) (ascii : IsAsciiYes blocks quick_checks) where
-  -- its quick check is that of a starter that passes
-  ascii_quick_check : (c : ℕ) → c < 128 → quick_check_of form (get_or all_properties (property_place blocks c) no_properties) ≡ 255
-  ascii_quick_check c lt = sym (quick_check_read v u same lists blocks all_properties pages quick_checks are_quick_checks form c (omega (arith, lt))) ∙ ap (quick_check_in form) (ascii c lt) ∙ yes_quick_check form
+  module _ (ascii : IsAsciiYes blocks quick_checks) where
+    -- its quick check is that of a starter that passes
+    ascii_quick_check : (c : ℕ) → c < 128 → quick_check_of form (get_or all_properties (property_place blocks c) no_properties) ≡ 255
+    ascii_quick_check c lt = sym (quick_check_read c (omega (arith, lt))) ∙ ap (quick_check_in form) (ascii c lt) ∙ yes_quick_check form
 
-  pub ascii-assigned : (c : ℕ) → c < 128 → is_assigned v c ≡ true
-  ascii-assigned c lt =
-      let w = get_or all_properties (property_place blocks c) no_properties in
-      subst (λ x. is_assigned x c ≡ true) same (sym (pages.each c (omega (arith, lt))).assigned ∙ quick_check_assigned form w (omega (arith, ascii_quick_check c lt)))
+    pub ascii-assigned : (c : ℕ) → c < 128 → is_assigned v c ≡ true
+    ascii-assigned c lt =
+        let w = get_or all_properties (property_place blocks c) no_properties in
+        subst (λ x. is_assigned x c ≡ true) same (sym (pages.each c (omega (arith, lt))).assigned ∙ quick_check_assigned form w (omega (arith, ascii_quick_check c lt)))
 
-  pub ascii-yes_starter : (c : ℕ) → c < 128 → IsYesStarter v form c
-  ascii-yes_starter c lt =
-      let w = get_or all_properties (property_place blocks c) no_properties in
-      subst (λ x. IsYesStarter x form c) same ((pages.each c (omega (arith, lt))).hints.yes_starter form (quick_check_yes form w (ascii_quick_check c lt)))
+    pub ascii-yes_starter : (c : ℕ) → c < 128 → IsYesStarter v form c
+    ascii-yes_starter c lt =
+        let w = get_or all_properties (property_place blocks c) no_properties in
+        subst (λ x. IsYesStarter x form c) same ((pages.each c (omega (arith, lt))).hints.yes_starter form (quick_check_yes form w (ascii_quick_check c lt)))
 
 -- ---- code points that go into nothing behind the one before
 
@@ -248,9 +243,6 @@ last_behind-text s earlier c e utf8 of_earlier =
     ap (last_behind None) (ap chars e ∙ chars-append earlier back of_earlier ∙ ap (λ l. chars earlier ++ l) one) ∙ last_behind-more None (chars earlier) c
 
 module _ (v : VersionData) (lists : FullLists) (blocks : List ℕ) (all_properties : List Properties) (pages : ArePages v lists blocks all_properties) where
-  properties-read : (c : ℕ) → c < 0x110000 → (w : Properties) → w ≡ get_or all_properties (property_place blocks c) no_properties → ArePropertiesOf v lists c w
-  properties-read c lt w is = subst (ArePropertiesOf v lists c) (sym is) (pages.each c lt)
-
   -- what has no slot and is no syllable has no mapping
   final-read : (compat : Bool) (c : ℕ) (w : Properties) → ArePropertiesOf v lists c w → w.fulls ≡ 0 → is_syllable c ≡ false → is_final v compat c ≡ true
   final-read compat c w properties fulls plain =
@@ -267,8 +259,8 @@ module _ (v : VersionData) (lists : FullLists) (blocks : List ℕ) (all_properti
   pub passes_uncomposed : (form : Form) (front : List ℕ) (kept c low next : ℕ) → kept < 0x110000 → c < 0x110000 → (before w : Properties) → before ≡ get_or all_properties (property_place blocks kept) no_properties → w ≡ get_or all_properties (property_place blocks c) no_properties
       → w.fulls ≡ 0 → not w.assigned ≡ false → is_syllable c ≡ false → last_behind None front ≡ Some kept → CannotComposeByProperties v kept before c w.class → (w.class ≡ 0) ⊎ (low ≤ w.class) → w.class ≤ next → PassesUncomposed v form front c low next
   passes_uncomposed form front kept c low next of_kept of_c before w is_before is fulls assigned plain behind uncomposed order le last up_to =
-      let properties = properties-read c of_c w is in
-      let stands = stands-read form kept c before w (properties-read kept of_kept before is_before) properties uncomposed in (
+      let properties = properties-read v v refl lists blocks all_properties pages c of_c w is in
+      let stands = stands-read form kept c before w (properties-read v v refl lists blocks all_properties pages kept of_kept before is_before) properties uncomposed in (
         class_of v c,
         omega (arith, properties.class, le),
         (

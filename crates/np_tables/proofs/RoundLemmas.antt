@@ -1,10 +1,9 @@
 -- The loops over the rows and over the parts of a mapping.
 use Rattle.std.proofs.Common.{◌≡◌, ◌≢◌, ℕ, zero, suc, ◌+◌, ◌-◌, ◌%◌, ◌<◌, ◌≤◌, Bool, true, false, ◌&&◌, ◌==◌, min, List, [], ◌∷◌, ◌++◌, map, flat_map, length, take, get_or, None, refl, sym, ap, ◌∙◌, arith, length-append, append-nil, cond, eqb, drop, Option, Some, subst}
 use Rattle.np_tables.proofs.Words.{cond-true, cond-false, and_from, eqb-false, eq-eqb, ne_eqb, le-leb, lt-leb, take_more, take_all, length-map, length-drop}
-use Rattle.np_tables.proofs.Words.{drop-drop, drop_at, drop-map, flat_map-append, get_or_default_zero, min-le_right, list_all, slice_get, Entry, AreRows}
-use Rattle.np_tables.proofs.Words.{is_syllable, VersionData, entry_at, mapping_in, is_empty, has_hangul, has_depth, full, marked, mark, parts_mark}
-use Rattle.np_tables.proofs.Words.{mapping_mark, row_marks, syllable_depth, syllable_mark, first_row, is_marked, take-add, option_map, before_byte}
-use Rattle.np_tables.proofs.Words.{after_byte}
+use Rattle.np_tables.proofs.Words.{drop-drop, drop_at, drop-map, flat_map-append, min-le_right, list_all, slice_get, Entry, AreRows, is_syllable, VersionData}
+use Rattle.np_tables.proofs.Words.{entry_at, mapping_in, is_empty, has_hangul, has_depth, full, marked, mark, parts_mark, mapping_mark, row_marks}
+use Rattle.np_tables.proofs.Words.{syllable_depth, syllable_mark, first_row, is_marked, take-add, option_map, before_byte, after_byte}
 use Rattle.std.proofs.lemmas.List.Folds.{list_all_at, list_all_more}
 use Rattle.np_code_points.proofs.LineGrammar.{joined_some, joined_none}
 use Rattle.np_tables.proofs.AccessLemmas.{length-empty}
@@ -125,10 +124,6 @@ pub mark_hidden : (n c d : ℕ) → d ≡ syllable_depth c → n < d → 0 ≡ s
 unfolding syllable_mark
 mark_hidden n c d same lt = sym (cond-false _ _ _ (lt-leb (syllable_depth c) n (omega arith)))
 
--- a list's item as the loop over it gives it
-pub part_at : (xs : List ℕ) (i code item : ℕ) → i < length xs → code ≡ item → item ≡ get_or xs i item → code ≡ get_or xs i 0
-part_at xs i code item lt same is = same ∙ is ∙ get_or_default_zero xs i item lt
-
 -- ---- the known marks of a round are those of the next
 
 known_step : (t : Bool) (x y : ℕ) (before ys : List ℕ) → (t ≡ false → y ≡ x) → before ≡ take (length before) ys → cond t [] (x ∷ before) ≡ take (length (cond t [] (x ∷ before))) (y ∷ ys)
@@ -139,10 +134,6 @@ known_marks : (f g : Entry → ℕ) → ((e : Entry) → eqb (f e) 0 ≡ false �
 known_marks f g kept [] = refl
 known_marks f g kept (e ∷ es) =
     known_step (eqb (f e) 0) (f e) (g e) (before_byte 0 (map f es)) (map g es) (kept e) (known_marks f g kept es)
-
-some_from : (n : ℕ) → eqb n 0 ≡ false → 0 < n
-some_from zero h = absurd (eqb-false 0 0 h refl)
-some_from (suc n) h = omega arith
 
 glued : (marks done more : List ℕ) → done ≡ take (length done) marks → more ≡ take (length more) (drop (length done) marks) → done ++ more ≡ take (length (done ++ more)) marks
 glued marks done more first then =
@@ -164,7 +155,7 @@ module _ (v : VersionData) (n : ℕ) where
   kept_row : (e : Entry) → eqb (mapping_mark v n e.mapping) 0 ≡ false → mapping_mark v (n + 1) e.mapping ≡ mapping_mark v n e.mapping
   kept_row e h =
       let after : n + 1 ≡ suc n = omega arith in
-      ap (λ k. mapping_mark v k e.mapping) after ∙ kept_mark v n e.mapping (some_from (mapping_mark v n e.mapping) h)
+      ap (λ k. mapping_mark v k e.mapping) after ∙ kept_mark v n e.mapping (let some = eqb-false (mapping_mark v n e.mapping) 0 h in omega arith)
 
   kept_rows : (k : ℕ) (left : List ℕ) → left ≡ drop k (row_marks v n) → before_byte 0 left ≡ take (length (before_byte 0 left)) (drop k (row_marks v (n + 1)))
   unfolding row_marks

@@ -24,17 +24,13 @@ pub pair-found : (v u : VersionData) → u ≡ v → (cs : List Composite) → A
 pair-found v u same cs file a b None h = h
 pair-found v u same cs file a b (Some c) h = subst (λ x. IsCompositeOf x a b c) same (file.composites a b c h)
 
-not_here : (v w u : VersionData) → w ≡ v → u ≡ v → (cs : List Composite) → AreOfFile u cs → (a b : ℕ) →
-    ((s : ℕ) → (has_hangul w && is_syllable s) ≡ true → ¬ (syllable_pair s ≡ a ∷ b ∷ [])) → ((code : ℕ) → ¬ Lists cs a b code) → (c : ℕ) → ¬ IsCompositeOf v a b c
-not_here v w u same same_u cs file a b none lists c is =
+pub pair-none : (v w u : VersionData) → w ≡ v → u ≡ v → (cs : List Composite) → AreOfFile u cs → (a b : ℕ) →
+    ((s : ℕ) → (has_hangul w && is_syllable s) ≡ true → ¬ (syllable_pair s ≡ a ∷ b ∷ [])) → (r : Option ℕ) → IfNone r ((code : ℕ) → ¬ Lists cs a b code) → IfNone r ((c : ℕ) → ¬ IsCompositeOf v a b c)
+pair-none v w u same same_u cs file a b none None lists = λ c is.
     elim (cases_Bool (has_hangul v && is_syllable c)) [
       | inl on ↦ none c (subst (λ x. (has_hangul x && is_syllable c) ≡ true) (sym same) on) (sym (decomposition_mapping-on v c on) ∙ is.mapping)
       | inr off ↦ lists c (file.all a b c (subst (λ x. IsCompositeOf x a b c) (sym same_u) is) (subst (λ x. (has_hangul x && is_syllable c) ≡ false) (sym same_u) off))
     ]
-
-pub pair-none : (v w u : VersionData) → w ≡ v → u ≡ v → (cs : List Composite) → AreOfFile u cs → (a b : ℕ) →
-    ((s : ℕ) → (has_hangul w && is_syllable s) ≡ true → ¬ (syllable_pair s ≡ a ∷ b ∷ [])) → (r : Option ℕ) → IfNone r ((code : ℕ) → ¬ Lists cs a b code) → IfNone r ((c : ℕ) → ¬ IsCompositeOf v a b c)
-pair-none v w u same same_u cs file a b none None lists = λ c. not_here v w u same same_u cs file a b none lists c
 pair-none v w u same same_u cs file a b none (Some c) lists = lists
 
 pub pair-value : (v : VersionData) → IsSound v → (a b : ℕ) (r : Option ℕ) → IfSome r (IsCompositeOf v a b) → IfNone r ((c : ℕ) → ¬ IsCompositeOf v a b c) → r ≡ composite v a b

@@ -3,7 +3,7 @@ pub use Rattle.std.proofs.Math.Nat.{div-add-mod, div-div-eq-div-mul, div-one, mi
 pub use Rattle.std.proofs.Math.Seq.{get_or-append_seam, take-add, take-append_seam}
 pub use Rattle.std.proofs.lemmas.Bool.{and_cases, and_from, and_left, and_parts, and_right, both_ways, cases_Bool, cases_eq, cases_lt, cases_order}
 pub use Rattle.std.proofs.lemmas.Bool.{cond-false, cond-true, cond_both, eq-eqb, eqb-false, eqb-true, le-leb, le-ltb, leb-false, leb-true, lt-leb, lt-ltb}
-pub use Rattle.std.proofs.lemmas.Bool.{ltb-true, ne_eqb, not-false, not-true, or_from, or_left, or_right}
+pub use Rattle.std.proofs.lemmas.Bool.{ltb-true, ne_eqb, not-false, not-true, or_from, or_left, or_right, true_from_ne_false, false_from_ne_true}
 pub use Rattle.std.proofs.lemmas.Grind.{flat_map-append, get_or_default_zero}
 pub use Rattle.std.proofs.lemmas.List.{drop-append-le, drop-drop, drop-map, drop-take, drop_all, drop_at, get_or-drop, get_or-map, get_or-set_other}
 pub use Rattle.std.proofs.lemmas.List.{get_or-set_same, get_or_append_left, get_or_default, get_or_past, length-append, length-drop, length-map, length-set}
