@@ -1,48 +1,19 @@
 -- Composites in the order of their pairs.
-use Rattle.std.proofs.Common.{◌≡◌, ℕ, ◌+◌, ◌<◌, ◌≤◌, ◌⊎◌, true, false, nat_lt, nat_eq, List, length, get_or, Some, sym, ap, ◌∙◌, arith, inl, inr}
-use Rattle.np_tables.proofs.Words.{cases_order, cases_lt, cond-true, cond-false, lt-ltb, le-ltb, eq-eqb, get_or_default, slice_get-get_or, All, AllWithin}
-use Rattle.np_tables.proofs.Words.{Composite, Lists, IsCompositeAt, pair_rank, rank, IsInRange, AreOrdered}
+use Rattle.std.proofs.Common.{◌≡◌, ℕ, ◌+◌, ◌<◌, ◌≤◌, ◌⊎◌, false, List, length, get_or, Some, sym, ap, ◌∙◌, arith, inl, inr}
+use Rattle.np_tables.proofs.Words.{cases_lt, get_or_default, slice_get-get_or, All, AllWithin, Composite, Lists, IsCompositeAt, pair_rank, rank, IsInRange}
+use Rattle.np_tables.proofs.Words.{AreOrdered}
 use Rattle.std.proofs.lemmas.Bool.Decides.{nat_tests}
 use Rattle.std.proofs.lemmas.List.Sorted.{IsNonDecreasingBy-from_all_adjacent, All-permutation}
 use Rattle.std.specs.Ordering.{is_lt, ordering_then, nat_cmp}
 use Rattle.std.specs.declared.cmp.Ordering.{Ordering}
-use Rattle.std.specs.declared.cmp.Ordering.TheVariants.{Less, Equal}
 use Rattle.std.specs.List.Sorted.{IsPermutation, IsSorted}
 
 -- the order of the fields, one after another
 abbrev cmp : Composite → Composite → Ordering
 cmp x y = ordering_then (nat_cmp x.first y.first) (ordering_then (nat_cmp x.second y.second) (nat_cmp x.code y.code))
 
-le_from_cmp : (a b : ℕ) → is_lt (nat_cmp a b) ≡ false → b ≤ a
-le_from_cmp a b h = grind (arith, nat_tests)
-
--- a first field that settles the order, or equal ones
-then_cases : (a b : ℕ) (o : Ordering) → is_lt (ordering_then (nat_cmp a b) o) ≡ false → (b < a) ⊎ ((a ≡ b) × (is_lt o ≡ false))
-then_cases a b o h =
-    elim (cases_order a b) [
-      | inl same ↦
-          let lt : nat_lt a b ≡ false = le-ltb a b (omega arith) in
-          let eq : nat_eq a b ≡ true = eq-eqb a b same in
-          let e : nat_cmp a b ≡ Equal = cond-false _ _ _ lt ∙ cond-true _ _ _ eq in
-          inr (same, sym (ap (λ r. is_lt (ordering_then r o)) e) ∙ h)
-      | inr other ↦ elim other [
-        | inl less ↦
-            let e : nat_cmp a b ≡ Less = cond-true _ _ _ (lt-ltb a b less) in
-            let e2 : true ≡ false = sym (ap (λ r. is_lt (ordering_then r o)) e) ∙ h in
-            cc
-        | inr more ↦ inl more
-      ]
-    ]
-
 rank_from_cmp : (x y : Composite) → IsInRange x → IsInRange y → is_lt (cmp y x) ≡ false → rank x ≤ rank y
-rank_from_cmp x y p q h =
-    elim (then_cases y.first x.first _ h) [
-      | inl less ↦ omega arith
-      | inr same ↦ elim (then_cases y.second x.second _ same.1) [
-        | inl less ↦ omega arith
-        | inr both ↦ let le = le_from_cmp y.code x.code both.1 in omega arith
-      ]
-    ]
+rank_from_cmp x y p q h = grind (arith, nat_tests)
 
 pub AreOrdered-from_sort : (xs ys : List Composite) → All IsInRange xs → IsPermutation xs ys → IsSorted cmp ys → AreOrdered ys
 AreOrdered-from_sort xs ys range moved sorted =

@@ -1,7 +1,7 @@
 -- The marks of the syllables of the Hangul arithmetic.
 use Rattle.std.proofs.Common.{◌≡◌, ℕ, zero, suc, ◌+◌, ◌-◌, ◌%◌, ◌≤◌, true, false, [], ◌∷◌, ◌++◌, flat_map, length, refl, sym, ap, ◌∙◌, inl, inr, arith, leb, ◌==◌, ◌≢◌, ◌<◌, ◌&&◌, List, Option, Some, None, subst, eqb, ◌⊎◌, Bool}
 use Rattle.np_tables.proofs.Words.{cases_eq, same_Some, cond-true, cond-false, cond_both, cases_Bool, and_from, and_left, le-leb, eqb-true, and_parts, eq-eqb}
-use Rattle.np_tables.proofs.Words.{both_ways, leb-true, list_all, AreRows, Entry, is_syllable, syllable_pair, VersionData, file_mapping, has_hangul}
+use Rattle.np_tables.proofs.Words.{leb-true, list_all, AreRows, Entry, is_syllable, syllable_pair, VersionData, file_mapping, has_hangul}
 use Rattle.np_tables.proofs.Words.{decomposition_mapping, entry_at, mapping_in, has_depth, full, marked, mark, parts_mark, mapping_mark, syllable_depth}
 use Rattle.np_tables.proofs.Words.{syllable_mark, row_marks, first_row, is_marked, IsTooDeep, IsTooLong, IsFirst}
 use Rattle.std.specs.Cmp.Lexicographic.{pointwise}
@@ -134,29 +134,22 @@ module _ (p : Entry → Bool) where
   IsUpTo None d = ⊥
   IsUpTo (Some c) d = c ≤ d
 
-  at_least : (e : Entry) (es : List Entry) (d : ℕ) → AreRows (e ∷ es) → IsAt p (e ∷ es) d → e.first ≤ d
-  at_least e es d rows is =
-      elim (cases_Bool (leb e.first d && leb d e.last)) [
-        | inl here ↦ leb-true e.first d (and_parts _ _ here).0
-        | inr later ↦
-            let rises = rows.0.rises in
-            let over = found-above e es d is.row rows (sym (entry_at-miss e es d later) ∙ is.found) in
-            omega arith
-      ]
-
-  is_later : (e : Entry) (es : List Entry) (d : ℕ) → p e ≡ false → IsAt p (e ∷ es) d → IsAt p es d
-  is_later e es d miss is =
-      elim (cases_Bool (leb e.first d && leb d e.last)) [
-        | inl here ↦ absurd (both_ways _ miss (ap p (same_Some e is.row (sym (entry_at-hit e es d here) ∙ is.found)) ∙ is.passes))
-        | inr later ↦ record { row = is.row; found = sym (entry_at-miss e es d later) ∙ is.found; passes = is.passes; first = is.first }
-      ]
-
   first_row-least : (es : List Entry) (d : ℕ) → AreRows es → IsAt p es d → IsUpTo (first_row p es) d
   first_row-least [] d rows is = let none = entry_at-nil d in let some = is.found in absurd (cc)
   first_row-least (e ∷ es) d rows is =
-      elim (cases_Bool (p e)) [
-        | inl hit ↦ subst (λ o. IsUpTo o d) (sym (first_row-hit p e es hit)) (at_least e es d rows is)
-        | inr miss ↦ subst (λ o. IsUpTo o d) (sym (first_row-miss p e es miss)) (first_row-least es d rows.2 (is_later e es d miss is))
+      elim (cases_Bool (leb e.first d && leb d e.last)) [
+        | inl here ↦
+            let hit = ap p (same_Some e is.row (sym (entry_at-hit e es d here) ∙ is.found)) ∙ is.passes in
+            subst (λ o. IsUpTo o d) (sym (first_row-hit p e es hit)) (leb-true e.first d (and_parts _ _ here).0)
+        | inr later ↦
+            let found = sym (entry_at-miss e es d later) ∙ is.found in
+            let over = found-above e es d is.row rows found in
+            elim (cases_Bool (p e)) [
+              | inl hit ↦ (let rises = rows.0.rises in subst (λ o. IsUpTo o d) (sym (first_row-hit p e es hit)) (omega arith))
+              | inr miss ↦
+                  let is_later : IsAt p es d = record { row = is.row; found = found; passes = is.passes; first = is.first } in
+                  subst (λ o. IsUpTo o d) (sym (first_row-miss p e es miss)) (first_row-least es d rows.2 is_later)
+            ]
       ]
 
   pub first_of : (es : List Entry) → AreRows es → (o : Option ℕ) → first_row p es ≡ o → IsFirst (IsAt p es) o
