@@ -1,10 +1,11 @@
 -- What a table of pages keeps of each form is so.
 use Rattle.std.proofs.Common.{◌≡◌, ℕ, ◌+◌, ◌*◌, ◌-◌, ◌/◌, ◌%◌, ◌≤◌, ◌==◌, ◌≢◌, Bool, true, false, not, ◌&&◌, Some, None, List, [], ◌∷◌, ◌++◌, flat_map, MatchBool, if◌then◌else◌, refl, sym, ap, subst, ◌∙◌, arith, inl, inr, eqb-true}
-use Rattle.np_tables.proofs.Words.{and_cases, and_from, and_parts, and_right, cond-true, both_ways, not-false, is_among, is_syllable, syllable_pair, Form}
-use Rattle.np_tables.proofs.Words.{is_compat, composes, Nfd, Nfc, Nfkd, Nfkc, IsBoundary, IsYesStarter, NeverFalls, ComposesTo, IsCompositeOf, IsSound}
-use Rattle.np_tables.proofs.Words.{counts, is_final, parts, IsFullDecomposition, Entry, IsRow, VersionData, class_of, entry_at, has_hangul, is_empty}
-use Rattle.np_tables.proofs.Words.{Composite, full_of, table_full, AreBits, AreHints, AreLeadingNeverSecond, ComposesByPairs, IsNeverSecond, bit, eight_bits}
-use Rattle.np_tables.proofs.Words.{has_bit, own_hints, boundary_place, boundary_under, syllable_hints, yes_place, yes_under, AreRowBits, touches, AreOfFile}
+use Rattle.std.proofs.lemmas.Bool.Decides.{nat_tests}
+use Rattle.np_tables.proofs.Words.{and_from, and_parts, and_right, cond-true, both_ways, is_among, is_syllable, syllable_pair, Form, is_compat, composes, Nfd}
+use Rattle.np_tables.proofs.Words.{Nfc, Nfkd, Nfkc, IsBoundary, IsYesStarter, NeverFalls, ComposesTo, IsCompositeOf, IsSound, counts, is_final, parts}
+use Rattle.np_tables.proofs.Words.{IsFullDecomposition, Entry, IsRow, VersionData, class_of, entry_at, has_hangul, is_empty, Composite, full_of, table_full}
+use Rattle.np_tables.proofs.Words.{AreBits, AreHints, AreLeadingNeverSecond, ComposesByPairs, IsNeverSecond, bit, eight_bits, has_bit, own_hints}
+use Rattle.np_tables.proofs.Words.{boundary_place, boundary_under, syllable_hints, yes_place, yes_under, AreRowBits, touches, AreOfFile}
 use Rattle.np_code_points.proofs.HangulLemmas.{among_bounds, among_from_bounds, pair_exists, pair_kinds}
 use Rattle.np_tables.specs.declared.page_hints.Hints.{Hints}
 use Rattle.np_tables.proofs.FileRowLemmas.{file_kind-found, file_mapping-found, mapped-off}
@@ -224,10 +225,7 @@ module _ (v : VersionData) (e : Entry) where
   not_lent-final compat some found none =
       let mapping = file_mapping-found v e.first e found in
       let off = mapped-off v e.first (ap is_empty mapping ∙ is_empty_from e.mapping some) in
-      elim (and_cases (counts compat e.kind) (not (is_empty e.mapping)) none) [
-        | inl passed ↦ ap is_empty (parts-passed v compat e.first off (ap (counts compat) (file_kind-found v e.first e found) ∙ passed))
-        | inr empty ↦ empty_parts v compat e.first off (ap is_empty mapping ∙ not-false _ empty)
-      ]
+      grind (arith, nat_tests, mapping, off, parts-passed v compat e.first, file_kind-found v e.first e found, empty_parts v compat e.first off)
 
 -- a code point that no row has
 pub bits-unlisted : (v : VersionData) (c : ℕ) → IsSound v → entry_at v.entries c ≡ None → 0 ≡ class_of v c → ((compat : Bool) → is_final v compat c ≡ true) → AreBits v c 255

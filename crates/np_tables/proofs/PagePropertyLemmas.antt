@@ -1,11 +1,11 @@
 -- Properties of code points, by rows and by blocks.
 use Rattle.std.proofs.Common.{◌≡◌, ℕ, ◌+◌, ◌-◌, ◌/◌, ◌<◌, ◌≤◌, Bool, true, false, ◌&&◌, List, [], ◌∷◌, ◌++◌, length, get_or, set, slice_index, Some, None, sym, ap, subst, ◌∙◌, arith, inl, inr}
-use Rattle.np_tables.proofs.Words.{slice_get, is_some, mod-lt, false_from_ne_true, get_or-append_seam, and_parts, cases_eq, cases_lt, both_ways}
-use Rattle.np_tables.proofs.Words.{get_or_append_left, get_or-map, get_or-set_same, get_or-set_other, length-append, length-map, length-set, none-some}
-use Rattle.np_tables.proofs.Words.{same_Some, slice_get_within, is_syllable, Entry, AreRows, VersionData, class_of, class_in, entry_at, has_hangul}
-use Rattle.np_tables.proofs.Words.{is_assigned, IsSound, is_final, Properties, Composite, FullLists, property_place, AreRowPages, IsRowNumber}
-use Rattle.np_tables.proofs.Words.{AreAllRowProperties, AreSecondRows, AreSeconds, AreSlots, AreRowProperties, ArePropertiesOf, ArePages, no_properties}
-use Rattle.np_tables.proofs.Words.{row_properties, paged_properties}
+use Rattle.std.proofs.lemmas.Bool.Decides.{nat_tests}
+use Rattle.np_tables.proofs.Words.{slice_get, is_some, mod-lt, get_or-append_seam, cases_eq, cases_lt, get_or_append_left, get_or-map, get_or-set_same}
+use Rattle.np_tables.proofs.Words.{get_or-set_other, length-append, length-map, length-set, same_Some, slice_get_within, is_syllable, Entry, AreRows}
+use Rattle.np_tables.proofs.Words.{VersionData, class_of, class_in, entry_at, has_hangul, is_assigned, IsSound, is_final, Properties, Composite, FullLists}
+use Rattle.np_tables.proofs.Words.{property_place, AreRowPages, IsRowNumber, AreAllRowProperties, AreSecondRows, AreSeconds, AreSlots, AreRowProperties}
+use Rattle.np_tables.proofs.Words.{ArePropertiesOf, ArePages, no_properties, row_properties, paged_properties}
 use Rattle.np_tables.proofs.FullListLemmas.{empty_parts}
 use Rattle.np_tables.proofs.HangulLemmas.{by_arithmetic, syllable_hangul}
 use Rattle.np_tables.proofs.PrimaryLemmas.{never_second-unlisted, row-never_second}
@@ -18,15 +18,7 @@ use Rattle.np_tables.proofs.TableLemmas.{row-shares, full-none, unlisted-bare}
 
 -- a row has one place
 same_place : (es : List Entry) (i j : ℕ) (e : Entry) → AreRows es → slice_get es i ≡ Some e → slice_get es j ≡ Some e → i ≡ j
-same_place es i j e rows at bt =
-    let up = (at-row es i e rows at).rises in
-    elim (cases_lt i j) [
-      | inl less ↦ (let bad = ends-before es i j e e rows at bt less in absurd (omega arith))
-      | inr other ↦ elim (cases_lt j i) [
-        | inl more ↦ (let bad = ends-before es j i e e rows bt at more in absurd (omega arith))
-        | inr this ↦ omega arith
-      ]
-    ]
+same_place es i j e rows at bt = grind (arith, at-row es i e rows at, ends-before es i j e e rows at bt, ends-before es j i e e rows bt at)
 
 -- the row that has the second part of a composite is the one that is found for it
 second_at : (es : List Entry) (cs : List Composite) (count j k : ℕ) (here x : Composite) (e : Entry) → AreRows es → slice_get cs count ≡ Some here → count ≡ j → slice_get cs j ≡ Some x → slice_get es k ≡ Some e → e.first ≤ x.second → x.second ≤ e.last →
@@ -54,14 +46,7 @@ seconds-more es cs count at seconds here rows so_far is lt found =
 -- it has no row
 pub seconds-past : (es : List Entry) (cs : List Composite) (count : ℕ) (seconds : List Bool) (here : Composite) → AreRows es → AreSecondRows es cs count seconds → slice_get cs count ≡ Some here → entry_at es here.second ≡ None →
     AreSecondRows es cs (count + 1) seconds
-seconds-past es cs count seconds here rows so_far is none =
-    record {
-      size = so_far.size;
-      each = λ j x k e less jt kt low high. elim (cases_lt j count) [
-        | inl early ↦ so_far.each j x k e early jt kt low high
-        | inr this ↦ absurd (none-some e (sym none ∙ second_at es cs count j k here x e rows is (omega arith) jt kt low high))
-      ];
-    }
+seconds-past es cs count seconds here rows so_far is none = grind (arith, second_at, so_far.each)
 
 -- ---- properties by rows
 
@@ -90,8 +75,7 @@ unfolding class_of
 class-found v c e h = sym (ap class_in h)
 
 unassigned_single : (v : VersionData) (c : ℕ) → is_assigned v c ≡ false → (has_hangul v && is_syllable c) ≡ false
-unassigned_single v c none =
-    false_from_ne_true _ (λ on. let both = and_parts (has_hangul v) (is_syllable c) on in both_ways _ none (by_arithmetic v both.0 c (syllable_hangul c both.1)).assigned)
+unassigned_single v c none = grind (arith, nat_tests, by_arithmetic, syllable_hangul c)
 
 module _ (v : VersionData) (sound : IsSound v) (lists : FullLists) (slots : List ℕ) (are_slots : AreSlots v (length v.entries) lists slots) (seconds : List Bool) (marks : AreSeconds v seconds) (all_properties : List Properties)
     (are_properties : AreAllRowProperties v slots seconds (length v.entries) all_properties) where

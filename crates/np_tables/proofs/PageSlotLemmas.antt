@@ -57,11 +57,7 @@ record KeepLists (old new : FullLists) : Type 0 where
   same : (compat : Bool) (k : ℕ) → k < length (of_kind compat old) → get_or (of_kind compat new) k [] ≡ get_or (of_kind compat old) k []
 
 slot-kept : (v : VersionData) (old new : FullLists) (c slot : ℕ) → KeepLists old new → IsSlot v old c slot → IsSlot v new c slot
-slot-kept v old new c slot kept is =
-    record {
-      within = λ compat. (let lt = is.within compat in let le = kept.longer compat in omega arith);
-      lent = λ compat. kept.same compat slot (is.within compat) ∙ is.lent compat;
-    }
+slot-kept v old new c slot kept is = grind (arith, kept.longer, kept.same, is.within, is.lent)
 
 slots-more : (v : VersionData) (count : ℕ) (old new : FullLists) (slots : List ℕ) (slot : ℕ) (e : Entry) → AreSlots v count old slots → KeepLists old new → slice_get v.entries count ≡ Some e → IsSlot v new e.first slot →
     AreSlots v (count + 1) new (slots ++ slot ∷ [])
@@ -83,7 +79,7 @@ slots-more v count old new slots slot e are kept here is =
     }
 
 keep_all : (lists : FullLists) → KeepLists lists lists
-keep_all lists = record { longer = λ compat. omega arith; same = λ compat k lt. refl }
+keep_all lists = grind arith
 
 -- a row without a mapping
 pub slots-bare : (v : VersionData) (count : ℕ) (codes : List ℕ) (canonical compatible : List CodeRange) (slots : List ℕ) (e : Entry) → AreSlotsSoFar v count codes canonical compatible slots → slice_get v.entries count ≡ Some e →
@@ -106,8 +102,8 @@ module _ (old new : FullLists) (a b : List ℕ) (one : new.canonical ≡ old.can
   longer-pushed true = ap length two ∙ length-append old.compatible (b ∷ [])
 
   same-pushed : (compat : Bool) (k : ℕ) → k < length (of_kind compat old) → get_or (of_kind compat new) k [] ≡ get_or (of_kind compat old) k []
-  same-pushed false k lt = ap (λ l. get_or l k []) one ∙ get_or_append_left old.canonical (a ∷ []) [] k lt
-  same-pushed true k lt = ap (λ l. get_or l k []) two ∙ get_or_append_left old.compatible (b ∷ []) [] k lt
+  same-pushed false k lt = grind (arith, get_or_append_left)
+  same-pushed true k lt = grind (arith, get_or_append_left)
 
   kept-pushed : KeepLists old new
   kept-pushed = record { longer = λ compat. (let more = longer-pushed compat in omega arith); same = same-pushed }
@@ -119,8 +115,8 @@ module _ (old new : FullLists) (a b : List ℕ) (one : new.canonical ≡ old.can
       ap (λ n. get_or new.compatible n []) both ∙ ap (λ l. get_or l (length old.compatible) []) two ∙ get_or-append_seam old.compatible b [] [] ∙ second
 
   within-pushed : length old.canonical ≡ length old.compatible → (compat : Bool) → length old.canonical < length (of_kind compat new)
-  within-pushed both false = let more = longer-pushed false in omega arith
-  within-pushed both true = let more = longer-pushed true in omega arith
+  within-pushed both false = grind (arith, longer-pushed false)
+  within-pushed both true = grind (arith, longer-pushed true)
 
 length-parts : (codes : List ℕ) (ps : List CodeRange) → length (map (code_range_of codes) ps) ≡ length ps
 length-parts codes ps = length-map ps (code_range_of codes)

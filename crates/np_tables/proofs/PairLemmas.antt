@@ -1,5 +1,5 @@
 -- Composites in the order of their pairs.
-use Rattle.std.proofs.Common.{◌≡◌, ℕ, ◌+◌, ◌<◌, ◌≤◌, ◌⊎◌, false, List, length, get_or, Some, sym, ap, ◌∙◌, arith, inl, inr}
+use Rattle.std.proofs.Common.{◌≡◌, ℕ, ◌+◌, ◌<◌, ◌≤◌, ◌⊎◌, false, List, length, get_or, Some, ap, ◌∙◌, arith, inl, inr}
 use Rattle.np_tables.proofs.Words.{cases_lt, get_or_default, slice_get-get_or, All, AllWithin, Composite, Lists, IsCompositeAt, pair_rank, rank, IsInRange}
 use Rattle.np_tables.proofs.Words.{AreOrdered}
 use Rattle.std.proofs.lemmas.Bool.Decides.{nat_tests}
@@ -36,19 +36,11 @@ module _ (cs : List Composite) (order : AreOrdered cs) where
 
   -- what comes before a pair at a place does so at each earlier one
   pub before_more : (at : ℕ) (x : Composite) (r : ℕ) → at < length cs → x ≡ get_or cs at x → pair_rank x.first x.second < r → AllWithin (λ c. pair_rank c.first c.second < r) cs 0 (at + 1)
-  before_more at x r lt is less = λ k d low high.
-      let same : get_or cs at d ≡ x = get_or_default cs at d x lt ∙ sym is in
-      let here = ap (λ (c : Composite). pair_rank c.first c.second) same in
-      let up = pairs_rise k at d (omega arith) lt in
-      omega arith
+  before_more at x r lt is less = λ k d low high. grind (arith, get_or_default cs at d x lt, pairs_rise k at d)
 
   -- and what doesn't, at no later one
   pub after_more : (at : ℕ) (x : Composite) (r : ℕ) → at < length cs → x ≡ get_or cs at x → r ≤ pair_rank x.first x.second → AllWithin (λ c. r ≤ pair_rank c.first c.second) cs at (length cs)
-  after_more at x r lt is more = λ k d low high.
-      let same : get_or cs at d ≡ x = get_or_default cs at d x lt ∙ sym is in
-      let here = ap (λ (c : Composite). pair_rank c.first c.second) same in
-      let up = pairs_rise at k d low high in
-      omega arith
+  after_more at x r lt is more = λ k d low high. grind (arith, get_or_default cs at d x lt, pairs_rise at k d)
 
   -- where a pair stands anywhere, it stands at the first place with no earlier pair
   pub lists-place : (a b at : ℕ) → a < 0x110000 → b < 0x110000 → AllWithin (λ c. pair_rank c.first c.second < pair_rank a b) cs 0 at → AllWithin (λ c. pair_rank a b ≤ pair_rank c.first c.second) cs at (length cs) → (code : ℕ) → Lists cs a b code → (own : ℕ) × IsCompositeAt cs at a b own

@@ -1,13 +1,13 @@
 -- Primary composites by what the file says.
-use Rattle.std.proofs.Common.{◌≡◌, ℕ, ◌+◌, ◌<◌, ◌≤◌, true, false, not, ◌&&◌, ◌==◌, List, ◌∷◌, length, Option, Some, None, refl, sym, ap, ◌∙◌, arith, Bool, get_or, inl, inr}
-use Rattle.np_tables.proofs.Words.{false_from_ne_true, cond-false, and_parts, leb-true, ltb-true, and_right, and_from, cases_Bool, both_ways, le-leb}
-use Rattle.np_tables.proofs.Words.{not-true, is_listed, Entry, IsRow, AreRows, HasLength, MapKind, Plain, Canonical, Compatibility, is_syllable}
-use Rattle.np_tables.proofs.Words.{syllable_pair, VersionData, entry_at, class_of, file_kind, file_mapping, mapping_in, kind_in, is_canonical, is_empty}
-use Rattle.np_tables.proofs.Words.{is_excluded, decomposition_kind, decomposition_mapping, has_hangul, is_assigned, is_starter_pair, is_primary, IsPrimary}
-use Rattle.np_tables.proofs.Words.{IsCompositeOf, list_all, slice_get, is_some, slice_get-get_or, IsSound, Composite, IsNeverSecond, is_late_jamo}
-use Rattle.np_tables.proofs.Words.{AreSecondRows, AreSeconds, is_row_never_second, touches, AreOfFile}
+use Rattle.std.proofs.Common.{◌≡◌, ℕ, ◌+◌, ◌<◌, ◌≤◌, true, false, ◌&&◌, ◌==◌, List, ◌∷◌, length, Option, Some, None, refl, sym, ap, ◌∙◌, arith, Bool, get_or, inl, inr}
+use Rattle.std.proofs.lemmas.Bool.Decides.{nat_tests}
+use Rattle.np_tables.proofs.Words.{and_parts, and_right, cases_Bool, both_ways, is_listed, Entry, IsRow, AreRows, HasLength, MapKind, Plain, Canonical}
+use Rattle.np_tables.proofs.Words.{Compatibility, is_syllable, VersionData, entry_at, file_kind, file_mapping, mapping_in, kind_in, is_canonical, is_empty}
+use Rattle.np_tables.proofs.Words.{is_excluded, decomposition_kind, decomposition_mapping, has_hangul, is_assigned, is_primary, IsPrimary, IsCompositeOf}
+use Rattle.np_tables.proofs.Words.{list_all, slice_get, is_some, slice_get-get_or, IsSound, Composite, IsNeverSecond, is_late_jamo, AreSecondRows, AreSeconds}
+use Rattle.np_tables.proofs.Words.{is_row_never_second, touches, AreOfFile}
 use Rattle.np_tables.specs.inside.Accessors.{is_file_primary}
-use Rattle.np_code_points.proofs.HangulLemmas.{among_bounds, pair_kinds}
+use Rattle.np_code_points.proofs.HangulLemmas.{pair_kinds}
 use Rattle.np_tables.proofs.RowLemmas.{entry_at-row, entry_at-within}
 use Rattle.np_tables.proofs.HangulLemmas.{by_arithmetic, decomposition_kind-on, decomposition_mapping-on, hangul_parts, head_hangul, shape_of, syllable_row}
 use Rattle.np_tables.proofs.RowPageLemmas.{some_at}
@@ -15,11 +15,7 @@ use Rattle.np_tables.proofs.MappingLemmas.{is_empty-true}
 
 pub primary-file : (v : VersionData) (c : ℕ) → (has_hangul v && is_syllable c) ≡ false → is_file_primary v c ≡ is_primary v c
 unfolding is_primary decomposition_kind decomposition_mapping
-primary-file v c off =
-    let kind : file_kind v c ≡ decomposition_kind v c = sym (cond-false _ Canonical (file_kind v c) off) in
-    let mapping : file_mapping v c ≡ decomposition_mapping v c = sym (cond-false _ (syllable_pair c) (file_mapping v c) off) in
-    ap (λ k. (is_canonical k && is_starter_pair (class_of v) (file_mapping v c)) && (not (is_excluded v c) && class_of v c == 0)) kind
-    ∙ ap (λ m. (is_canonical (decomposition_kind v c) && is_starter_pair (class_of v) m) && (not (is_excluded v c) && class_of v c == 0)) mapping
+primary-file v c off = grind (arith, nat_tests)
 
 plain_of : (k : MapKind) (n : ℕ) → HasLength k n → n ≡ 0 → is_canonical k ≡ false
 plain_of Plain n h e = refl
@@ -36,11 +32,7 @@ unfolding file_mapping file_kind
 plain-at v c rows h = plain_in (entry_at v.entries c) (λ e is. entry_at-row v.entries c e rows is) h
 
 pub syllable_bounds : (c : ℕ) → is_syllable c ≡ true → (0xAC00 ≤ c) × (c < 0xD7A4)
-syllable_bounds c h =
-    let range = and_parts _ _ h in
-    let low = leb-true 0xAC00 c range.0 in
-    let high = ltb-true c (0xAC00 + 11172) range.1 in
-    (low, omega arith)
+syllable_bounds c h = grind (arith, nat_tests)
 
 -- a syllable of the arithmetic is a primary composite
 pub primary-syllable : (v : VersionData) (c : ℕ) → AreRows v.entries → (has_hangul v && is_syllable c) ≡ true → IsPrimary v c
@@ -75,10 +67,7 @@ never_second-unlisted v c sound none a p is = both_ways _ (ap is_some none) (sec
 late_jamo : (v : VersionData) (a c p : ℕ) → (has_hangul v && is_syllable p) ≡ true → IsCompositeOf v a c p → (0x1161 ≤ c) × (c ≤ 0x11C2)
 late_jamo v a c p on is =
     let pair = sym (decomposition_mapping-on v p on) ∙ is.mapping in
-    elim (pair_kinds p a c (and_parts (has_hangul v) (is_syllable p) on).1 pair) [
-      | inl lv ↦ (let range = among_bounds 0x1161 21 c lv.1 in (omega arith, omega arith))
-      | inr lvt ↦ (let range = among_bounds 0x11A8 27 c lvt.1 in (omega arith, omega arith))
-    ]
+    grind (arith, nat_tests, pair_kinds p a c (and_parts (has_hangul v) (is_syllable p) on).1 pair)
 
 -- a row that isn't marked
 module _ (v : VersionData) (seconds : List Bool) (marks : AreSeconds v seconds) (k : ℕ) (e : Entry) (here : slice_get v.entries k ≡ Some e) (c : ℕ) (found : entry_at v.entries c ≡ Some e) (none : get_or seconds k false ≡ false) where
@@ -92,15 +81,12 @@ module _ (v : VersionData) (seconds : List Bool) (marks : AreSeconds v seconds) 
 
 pub row-never_second : (v : VersionData) (seconds : List Bool) (k : ℕ) (e : Entry) (c : ℕ) → AreSeconds v seconds → slice_get v.entries k ≡ Some e → entry_at v.entries c ≡ Some e → is_row_never_second e (get_or seconds k false) ≡ true → IsNeverSecond v c
 row-never_second v seconds k e c marks here found is =
-    let both = and_parts (not (get_or seconds k false)) (not (touches 0x1161 0x11C2 e)) is in
-    let within = entry_at-within v.entries c e found in
-    never_second-row v seconds marks k e here c found (not-true _ both.0)
-    (λ low high. both_ways _ (not-true _ both.1) (and_from _ _ (le-leb e.first 0x11C2 (omega arith)) (le-leb 0x1161 e.last (omega arith))))
+    never_second-row v seconds marks k e here c found (grind (arith, nat_tests)) (grind (arith, nat_tests, entry_at-within v.entries c e found))
 
 pub never_second-unmarked : (v : VersionData) (seconds : List Bool) (c at : ℕ) → AreSeconds v seconds → at < length v.entries → slice_get v.entries at ≡ entry_at v.entries c → is_late_jamo c ≡ false → get_or seconds at false ≡ false → IsNeverSecond v c
 never_second-unmarked v seconds c at marks lt place early none =
     let here = some_at v.entries at lt in
-    never_second-row v seconds marks at here.0 here.1 c (sym place ∙ here.1) none (λ low high. both_ways _ early (and_from _ _ (le-leb 0x1161 c low) (le-leb c 0x11C2 high)))
+    never_second-row v seconds marks at here.0 here.1 c (sym place ∙ here.1) none (grind (arith, nat_tests))
 
 -- the marks of all composites are those of all second parts
 pub seconds-all : (v : VersionData) (cs : List Composite) (seconds : List Bool) → AreOfFile v cs → AreSecondRows v.entries cs (length cs) seconds → AreSeconds v seconds
@@ -115,5 +101,4 @@ seconds-all v cs seconds file marks =
 
 -- a row that holds no syllable
 pub no_syllable : (c : ℕ) (e : Entry) → e.first ≤ c → c ≤ e.last → touches 0xAC00 0xD7A3 e ≡ false → is_syllable c ≡ false
-no_syllable c e low high none =
-    false_from_ne_true _ (λ is. let range = among_bounds 0xAC00 11172 c is in both_ways _ none (and_from _ _ (le-leb e.first 0xD7A3 (omega arith)) (le-leb 0xAC00 e.last (omega arith))))
+no_syllable c e low high none = grind (arith, nat_tests)

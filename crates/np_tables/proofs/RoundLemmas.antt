@@ -1,6 +1,7 @@
 -- The loops over the rows and over the parts of a mapping.
 use Rattle.std.proofs.Common.{◌≡◌, ◌≢◌, ℕ, zero, suc, ◌+◌, ◌-◌, ◌%◌, ◌<◌, ◌≤◌, Bool, true, false, ◌&&◌, ◌==◌, min, List, [], ◌∷◌, ◌++◌, map, flat_map, length, take, get_or, None, refl, sym, ap, ◌∙◌, arith, length-append, append-nil, cond, eqb, drop, Option, Some, subst}
-use Rattle.np_tables.proofs.Words.{cond-true, cond-false, and_from, eqb-false, eq-eqb, ne_eqb, le-leb, lt-leb, take_more, take_all, length-map, length-drop}
+use Rattle.std.proofs.lemmas.Bool.Decides.{nat_tests}
+use Rattle.np_tables.proofs.Words.{cond-true, cond-false, and_from, eqb-false, ne_eqb, le-leb, lt-leb, take_more, take_all, length-map, length-drop}
 use Rattle.np_tables.proofs.Words.{drop-drop, drop_at, drop-map, flat_map-append, min-le_right, list_all, slice_get, Entry, AreRows, is_syllable, VersionData}
 use Rattle.np_tables.proofs.Words.{entry_at, mapping_in, is_empty, has_hangul, has_depth, full, marked, mark, parts_mark, mapping_mark, row_marks}
 use Rattle.np_tables.proofs.Words.{syllable_depth, syllable_mark, first_row, is_marked, take-add, option_map, before_byte, after_byte}
@@ -26,13 +27,10 @@ module _ (v : VersionData) (n : ℕ) where
   row_marks_at at d lt = marks_at (mapping_mark v n) v.entries at d lt
 
   pub row_marks_more : (at m : ℕ) (xs : List ℕ) → at < length v.entries → xs ≡ take at (row_marks v n) → m ≡ mapping_mark v n (mapping_in (slice_get v.entries at)) → xs ++ m ∷ [] ≡ take (at + 1) (row_marks v n)
-  row_marks_more at m xs lt before here =
-      let count = length-row_marks in
-      ap (λ l. l ++ m ∷ []) before ∙ ap (λ k. take at (row_marks v n) ++ k ∷ []) (here ∙ sym (row_marks_at at 0 lt))
-      ∙ sym (take_more (row_marks v n) at 0 (omega arith))
+  row_marks_more at m xs lt before here = grind (arith, length-row_marks, row_marks_at at 0 lt, take_more (row_marks v n) at 0)
 
   pub row_marks_all : (at : ℕ) (xs : List ℕ) → length v.entries ≤ at → xs ≡ take at (row_marks v n) → xs ≡ row_marks v n
-  row_marks_all at xs le h = let count = length-row_marks in h ∙ take_all at (row_marks v n) (omega arith)
+  row_marks_all at xs le h = grind (arith, length-row_marks, take_all at (row_marks v n))
 
 pub mark-bare : (v : VersionData) (n : ℕ) (xs : List ℕ) → is_empty xs ≡ true → mapping_mark v n xs ≡ 1
 unfolding mapping_mark
@@ -110,7 +108,7 @@ module _ (v : VersionData) (rows : AreRows v.entries) (n c : ℕ) (other : (has_
 
 pub depth_even : (c : ℕ) → (c - 0xAC00) % 28 ≡ 0 → syllable_depth c ≡ 1
 unfolding syllable_depth
-depth_even c h = cond-true _ 1 2 (eq-eqb ((c - 0xAC00) % 28) 0 h)
+depth_even c h = grind (arith, nat_tests)
 
 pub depth_odd : (c : ℕ) → (c - 0xAC00) % 28 ≢ 0 → syllable_depth c ≡ 2
 unfolding syllable_depth
@@ -180,11 +178,7 @@ module _ (v : VersionData) (n : ℕ) where
         ap length is.rest ∙ length-drop (length next) (row_marks v n) ∙ ap (λ k. k - length next) (length-row_marks v n)
 
     pub known_within : (later : List ℕ) → after_byte 0 left ≡ Some later → length known < length v.entries
-    known_within later found =
-        let cut : length left ≡ length (before_byte 0 left) + length (0 ∷ later) = ap length (joined_some 0 left later found) ∙ length-append (before_byte 0 left) (0 ∷ later) in
-        let count = length-known in
-        let rest = length-left in
-        omega arith
+    known_within later found = grind (arith, joined_some 0 left later found, length-append (before_byte 0 left) (0 ∷ later), length-known, length-left)
 
     pub round_more : (later : List ℕ) (m : ℕ) → after_byte 0 left ≡ Some later → m ≡ mapping_mark v (n + 1) (mapping_in (slice_get v.entries (length known))) → IsRound v n (known ++ m ∷ []) later
     round_more later m found here =
@@ -202,11 +196,7 @@ module _ (v : VersionData) (n : ℕ) where
         }
 
     pub round_done : after_byte 0 left ≡ None → known ≡ row_marks v (n + 1)
-    round_done none =
-        let all : length left ≡ length (before_byte 0 left) = ap length (joined_none 0 left none) in
-        let count = length-known in
-        let rest = length-left in
-        row_marks_all v (n + 1) (length known) known (omega arith) known_made
+    round_done none = row_marks_all v (n + 1) (length known) known (grind (arith, ap length (joined_none 0 left none), length-known, length-left)) known_made
 
 -- ---- the first row with a mark, by how many stand before it
 

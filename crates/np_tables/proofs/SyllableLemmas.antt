@@ -1,15 +1,16 @@
 -- The marks of the syllables of the Hangul arithmetic.
-use Rattle.std.proofs.Common.{◌≡◌, ℕ, zero, suc, ◌+◌, ◌-◌, ◌%◌, ◌≤◌, true, false, [], ◌∷◌, ◌++◌, flat_map, length, refl, sym, ap, ◌∙◌, inl, inr, arith, leb, ◌==◌, ◌≢◌, ◌<◌, ◌&&◌, List, Option, Some, None, subst, eqb, ◌⊎◌, Bool}
-use Rattle.np_tables.proofs.Words.{cases_eq, same_Some, cond-true, cond-false, cond_both, cases_Bool, and_from, and_left, le-leb, eqb-true, and_parts, eq-eqb}
-use Rattle.np_tables.proofs.Words.{leb-true, list_all, AreRows, Entry, is_syllable, syllable_pair, VersionData, file_mapping, has_hangul}
-use Rattle.np_tables.proofs.Words.{decomposition_mapping, entry_at, mapping_in, has_depth, full, marked, mark, parts_mark, mapping_mark, syllable_depth}
-use Rattle.np_tables.proofs.Words.{syllable_mark, row_marks, first_row, is_marked, IsTooDeep, IsTooLong, IsFirst}
+use Rattle.std.proofs.Common.{◌≡◌, ℕ, zero, suc, ◌+◌, ◌-◌, ◌%◌, ◌≤◌, true, false, [], ◌∷◌, ◌++◌, flat_map, length, refl, sym, ap, ◌∙◌, inl, inr, arith, ◌==◌, ◌≢◌, ◌<◌, ◌&&◌, List, Option, Some, None, subst, eqb, ◌⊎◌, Bool}
+use Rattle.std.proofs.lemmas.Bool.Decides.{nat_tests}
+use Rattle.np_tables.proofs.Words.{cases_eq, cond-true, cond-false, cond_both, cases_Bool, and_from, and_left, eqb-true, and_parts, list_all, AreRows, Entry}
+use Rattle.np_tables.proofs.Words.{is_syllable, syllable_pair, VersionData, file_mapping, has_hangul, decomposition_mapping, entry_at, mapping_in, has_depth}
+use Rattle.np_tables.proofs.Words.{full, marked, mark, parts_mark, mapping_mark, syllable_depth, syllable_mark, row_marks, first_row, is_marked, IsTooDeep}
+use Rattle.np_tables.proofs.Words.{IsTooLong, IsFirst}
 use Rattle.std.specs.Cmp.Lexicographic.{pointwise}
 use Rattle.np_tables.proofs.HangulLemmas.{decomposition_mapping-on, hangul_parts, IsLv, IsLvt, jamo_bare, lv_shape, lvt_shape, shape_of, syllable_row}
 use Rattle.np_tables.proofs.MappingLemmas.{is_empty-true, decomposes_full, full-only}
 use Rattle.np_tables.proofs.DepthLemmas.{bare_depth, bare_full, parts-mapping, suc_depth, suc_full, zero_depth, mark-mapping, mark-file, marks-from_rows}
 use Rattle.np_tables.proofs.DepthLemmas.{settled_rows, mark-zero, mark-more, mark-deep, mark-length}
-use Rattle.np_tables.proofs.RowLemmas.{entry_at-row, entry_at-within, entry_at-hit, entry_at-miss, entry_at-nil, found-above, out_of}
+use Rattle.np_tables.proofs.RowLemmas.{entry_at-row, entry_at-within, entry_at-hit, entry_at-miss, entry_at-nil, found-above}
 use Rattle.np_tables.proofs.RoundLemmas.{depth_even, depth_odd, mark_hidden, mark_shown}
 use Rattle.np_tables.proofs.FileRowLemmas.{file_mapping-found}
 
@@ -118,16 +119,7 @@ module _ (p : Entry → Bool) where
   first_row-at : (es : List Entry) (c : ℕ) → AreRows es → first_row p es ≡ Some c → IsAt p es c
   first_row-at [] c rows h = let none = first_row-nil p in absurd (cc)
   first_row-at (e ∷ es) c rows h =
-      elim (cases_Bool (p e)) [
-        | inl hit ↦
-            let same = same_Some e.first c (sym (first_row-hit p e es hit) ∙ h) in
-            let rises = rows.0.rises in
-            record { row = e; found = entry_at-hit e es c (and_from _ _ (le-leb e.first c (omega arith)) (le-leb c e.last (omega arith))); passes = hit; first = same }
-        | inr miss ↦
-            let is = first_row-at es c rows.2 (sym (first_row-miss p e es miss) ∙ h) in
-            let over = found-above e es c is.row rows is.found in
-            record { row = is.row; found = entry_at-miss e es c (out_of e c over) ∙ is.found; passes = is.passes; first = is.first }
-      ]
+      grind (arith, nat_tests, first_row-hit p e es, first_row-miss p e es, first_row-at es c rows.2, entry_at-hit e es c, entry_at-miss e es c, found-above e es c, rows.0.rises)
 
   -- whatever passes is no smaller than the answer, which there is
   abbrev IsUpTo : Option ℕ → ℕ → Type 0
@@ -137,20 +129,7 @@ module _ (p : Entry → Bool) where
   first_row-least : (es : List Entry) (d : ℕ) → AreRows es → IsAt p es d → IsUpTo (first_row p es) d
   first_row-least [] d rows is = let none = entry_at-nil d in let some = is.found in absurd (cc)
   first_row-least (e ∷ es) d rows is =
-      elim (cases_Bool (leb e.first d && leb d e.last)) [
-        | inl here ↦
-            let hit = ap p (same_Some e is.row (sym (entry_at-hit e es d here) ∙ is.found)) ∙ is.passes in
-            subst (λ o. IsUpTo o d) (sym (first_row-hit p e es hit)) (leb-true e.first d (and_parts _ _ here).0)
-        | inr later ↦
-            let found = sym (entry_at-miss e es d later) ∙ is.found in
-            let over = found-above e es d is.row rows found in
-            elim (cases_Bool (p e)) [
-              | inl hit ↦ (let rises = rows.0.rises in subst (λ o. IsUpTo o d) (sym (first_row-hit p e es hit)) (omega arith))
-              | inr miss ↦
-                  let is_later : IsAt p es d = record { row = is.row; found = found; passes = is.passes; first = is.first } in
-                  subst (λ o. IsUpTo o d) (sym (first_row-miss p e es miss)) (first_row-least es d rows.2 is_later)
-            ]
-      ]
+      grind (arith, nat_tests, first_row-hit p e es, first_row-miss p e es, first_row-least es d rows.2, entry_at-hit e es d, entry_at-miss e es d, found-above e es d, rows.0.rises)
 
   pub first_of : (es : List Entry) → AreRows es → (o : Option ℕ) → first_row p es ≡ o → IsFirst (IsAt p es) o
   first_of es rows None h = λ c is. subst (λ o. IsUpTo o c) h (first_row-least es c rows is)
@@ -177,9 +156,7 @@ module _ (v : VersionData) (rows : AreRows v.entries) where
   same_items [] [] h = refl
   same_items [] (y ∷ ys) h = cc
   same_items (x ∷ xs) [] h = cc
-  same_items (x ∷ xs) (y ∷ ys) h =
-      let halves = and_parts (eqb x y) (pointwise eqb xs ys) h in
-      ap (λ k. k ∷ xs) (eqb-true x y halves.0) ∙ ap (λ l. y ∷ l) (same_items xs ys halves.1)
+  same_items (x ∷ xs) (y ∷ ys) h = grind (arith, nat_tests, same_items xs ys)
 
   -- the same as a loop finds it: the lists that it compares are the marks of two rounds
   pub settled_at : (n : ℕ) (next last xs ys : List ℕ) → 2 ≤ n → n < 32 → next ≡ row_marks v (n + 1) → last ≡ row_marks v n → xs ≡ next → ys ≡ last → pointwise eqb xs ys ≡ true → next ≡ row_marks v 32
@@ -213,27 +190,15 @@ module _ (v : VersionData) (rows : AreRows v.entries) (n m : ℕ) (late : 2 ≤ 
   row_found : (c : ℕ) (o : Option Entry) → entry_at v.entries c ≡ o → mapping_mark v n (mapping_in o) ≡ m → IsAt (is_marked v n m) v.entries c
   row_found c None found h = absurd (marked_nonempty [] h refl)
   row_found c (Some e) found h =
-      let row = entry_at-row v.entries c e rows found in
-      let within = entry_at-within v.entries c e found in
-      let alone = row.alone (marked_nonempty e.mapping h) in
-      record { row = e; found = found; passes = eq-eqb _ m h; first = omega arith }
+      grind (arith, nat_tests, entry_at-row v.entries c e rows found, entry_at-within v.entries c e found, marked_nonempty e.mapping h)
 
   pub at_row : (c : ℕ) → mark v n c ≡ m → IsAt (is_marked v n m) v.entries c
-  at_row c h =
-      elim (cases_Bool (has_hangul v && is_syllable c)) [
-        | inl hangul ↦ absurd (no_syllable c h hangul)
-        | inr other ↦ row_found c _ refl (sym (mark-file v rows n c other) ∙ h)
-      ]
+  at_row c h = grind (arith, nat_tests, no_syllable c h, row_found c _ refl, mark-file v rows n c)
 
   pub from_row : (c : ℕ) → IsAt (is_marked v n m) v.entries c → mark v n c ≡ m
   from_row c is =
       let value = eqb-true _ m is.passes in
-      elim (cases_Bool (has_hangul v && is_syllable c)) [
-        | inl hangul ↦
-            let halves = and_parts _ _ hangul in
-            absurd (marked_nonempty is.row.mapping value (sym (file_mapping-found v c is.row is.found) ∙ syllable-bare v c halves.0 halves.1))
-        | inr other ↦ mark-file v rows n c other ∙ ap (λ o. mapping_mark v n (mapping_in o)) is.found ∙ value
-      ]
+      grind (arith, nat_tests, marked_nonempty is.row.mapping value, file_mapping-found v c is.row is.found, syllable-bare v c, mark-file v rows n c, is.found)
 
   first_marked : IsFirst (λ c. mark v n c ≡ m) (first_row (is_marked v n m) v.entries)
   first_marked =
@@ -243,17 +208,10 @@ module _ (v : VersionData) (rows : AreRows v.entries) (n m : ℕ) (late : 2 ≤ 
 -- ---- what the marks 0 and 65 of the last round tell
 
 too_long-mark : (v : VersionData) (c : ℕ) → mark v 32 c ≡ 65 → IsTooLong v c
-too_long-mark v c h =
-    let shallow = mark-more v 32 c (omega arith) in
-    let length_is = mark-length v 32 c shallow in
-    record { shallow = shallow; full = full v true 32 c; decomposes = decomposes_full v true 32 c shallow; long = omega arith }
+too_long-mark v c h = grind (arith, mark-more v 32 c, mark-length v 32 c, decomposes_full v true 32 c)
 
 mark-too_long : (v : VersionData) (c : ℕ) → IsTooLong v c → mark v 32 c ≡ 65
-mark-too_long v c is =
-    let length_is = mark-length v 32 c is.shallow in
-    let same = ap length (full-only v true 32 c is.full is.shallow is.decomposes) in
-    let long = is.long in
-    omega arith
+mark-too_long v c is = grind (arith, mark-length v 32 c is.shallow, ap length (full-only v true 32 c is.full is.shallow is.decomposes))
 
 module _ (v : VersionData) (rows : AreRows v.entries) where
   pub first_too_deep : (o : Option ℕ) → o ≡ first_row (is_marked v 32 0) v.entries → IsFirst (IsTooDeep v) o

@@ -1,9 +1,9 @@
 -- What the plain table answers.
 use Rattle.std.proofs.Common.{◌≡◌, ℕ, ◌<◌, Bool, true, false, ◌&&◌, List, [], ◌∷◌, length, map, get_or, Some, None, Option, IfSome, IfNone, sym, ap, subst, ◌∙◌, arith, inl, inr}
-use Rattle.np_tables.proofs.Words.{slice_get, cases_Bool, cond-true, cond-false, or_from, or_left, or_right, get_or-map, get_or_from_slice_get, Entry}
-use Rattle.np_tables.proofs.Words.{AreRows, is_syllable, syllable_pair, VersionData, entry_at, file_mapping, mapping_in, is_empty, has_hangul, is_final}
-use Rattle.np_tables.proofs.Words.{IsLent, IsFullDecomposition, table_full, IsCompositeOf, composite, IsSound, Composite, Lists, AreOfFile, FullLists}
-use Rattle.np_tables.proofs.Words.{of_kind, row_full, AreFulls}
+use Rattle.std.proofs.lemmas.Bool.Decides.{nat_tests}
+use Rattle.np_tables.proofs.Words.{slice_get, cases_Bool, get_or-map, get_or_from_slice_get, Entry, AreRows, is_syllable, syllable_pair, VersionData}
+use Rattle.np_tables.proofs.Words.{entry_at, file_mapping, mapping_in, is_empty, has_hangul, IsLent, table_full, IsCompositeOf, composite, IsSound, Composite}
+use Rattle.np_tables.proofs.Words.{Lists, AreOfFile, FullLists, of_kind, row_full, AreFulls}
 use Rattle.np_tables.proofs.RowLemmas.{at-row, entry_at-within}
 use Rattle.np_tables.proofs.RowPageLemmas.{some_at}
 use Rattle.np_tables.proofs.MappingLemmas.{IsFullDecomposition-full_of, full_of-only, is_empty-false}
@@ -49,17 +49,7 @@ of_kind-is v true lists h = h.compatible
 
 -- a row lends to each of its code points what it lends to its first
 pub row-shares : (v : VersionData) (compat : Bool) (c at : ℕ) (e : Entry) → AreRows v.entries → slice_get v.entries at ≡ Some e → entry_at v.entries c ≡ Some e → table_full v compat e.first ≡ table_full v compat c
-row-shares v compat c at e rows place found =
-    let own = file_mapping-found v e.first e (first-at v.entries at e rows place) in
-    let there = file_mapping-found v c e found in
-    elim (cases_Bool (is_empty e.mapping)) [
-      | inl none ↦ lent-outside v compat e.first (ap is_empty own ∙ none) ∙ sym (lent-outside v compat c (ap is_empty there ∙ none))
-      | inr some ↦
-          let alone = (at-row v.entries at e rows place).alone (is_empty-false e.mapping some) in
-          let lists = entry_at-within v.entries c e found in
-          let same : e.first ≡ c = omega arith in
-          ap (table_full v compat) same
-    ]
+row-shares v compat c at e rows place found = grind (arith, file_mapping-found v e.first e (first-at v.entries at e rows place), file_mapping-found v c e found, lent-outside, at-row v.entries at e rows place, entry_at-within v.entries c e found, cases_Bool (is_empty e.mapping), is_empty-false e.mapping)
 
 pub full-value : (v : VersionData) (compat : Bool) (c at : ℕ) (lists : List (List ℕ)) → AreRows v.entries → lists ≡ map (row_full v compat) v.entries → at < length v.entries → slice_get v.entries at ≡ entry_at v.entries c →
     get_or lists at [] ≡ table_full v compat c
@@ -77,15 +67,7 @@ full-none v compat c h = sym (lent-outside v compat c (unlisted-bare v c h))
 
 pub IsLent-table_full : (v : VersionData) (compat : Bool) (c : ℕ) → IsSound v → IsLent v compat c (table_full v compat c)
 unfolding table_full
-IsLent-table_full v compat c sound =
-    let by_hangul : Bool = has_hangul v && is_syllable c in
-    record {
-      final = λ h. cond-true _ _ _ (or_left (is_final v compat c) by_hangul h);
-      syllable = λ h. cond-true _ _ _ (or_right (is_final v compat c) by_hangul h);
-      full = λ h k.
-          subst (IsFullDecomposition v compat (c ∷ [])) (sym (cond-false _ _ _ (or_from (is_final v compat c) by_hangul h k)))
-          (IsFullDecomposition-full_of v compat sound.shallow c);
-    }
+IsLent-table_full v compat c sound = grind (arith, nat_tests, IsFullDecomposition-full_of v compat sound.shallow c)
 
 -- the same over a version that is this one
 pub full-some : (v w u : VersionData) (compat : Bool) (c d at : ℕ) (lists : FullLists) → w ≡ u → u ≡ v → d ≡ c → IsSound u → AreFulls u lists → at < length w.entries → slice_get w.entries at ≡ entry_at w.entries d →
@@ -104,16 +86,7 @@ lent-by_value v compat c lent sound is = subst (IsLent v compat c) (sym is) (IsL
 -- there is one such list
 pub lent-value : (v : VersionData) (compat : Bool) (c : ℕ) (lent : List ℕ) → IsSound v → IsLent v compat c lent → lent ≡ table_full v compat c
 unfolding table_full
-lent-value v compat c lent sound is =
-    let by_hangul : Bool = has_hangul v && is_syllable c in
-    elim (cases_Bool (is_final v compat c)) [
-      | inl final ↦ is.final final ∙ sym (cond-true _ _ _ (or_left (is_final v compat c) by_hangul final))
-      | inr mapped ↦
-          elim (cases_Bool by_hangul) [
-            | inl whole ↦ is.syllable whole ∙ sym (cond-true _ _ _ (or_right (is_final v compat c) by_hangul whole))
-            | inr plain ↦ full_of-only v compat sound.shallow c lent (is.full mapped plain) ∙ sym (cond-false _ _ _ (or_from (is_final v compat c) by_hangul mapped plain))
-          ]
-    ]
+lent-value v compat c lent sound is = grind (arith, nat_tests, is.final, is.syllable, full_of-only v compat sound.shallow c lent, is.full)
 
 -- what the checks of functions cite
 pub ruleset full_answers = (full-nothing, full-some, lent-by_value)

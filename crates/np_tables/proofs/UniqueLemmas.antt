@@ -1,6 +1,7 @@
 -- At most one full decomposition: two rewritings of one list meet again, so none is lost by another.
-use Rattle.std.proofs.Common.{◌≡◌, ℕ, zero, suc, ◌⊎◌, Bool, true, List, [], ◌∷◌, ◌++◌, refl, sym, ap, subst, ◌∙◌, inl, inr, append_assoc}
-use Rattle.np_tables.proofs.Words.{and_parts, list_all, AtMostOneDecomposition, parts, Rewrites, is_final, VersionData, is_empty}
+use Rattle.std.proofs.Common.{◌≡◌, ℕ, zero, suc, ◌⊎◌, Bool, true, List, [], ◌∷◌, ◌++◌, arith, refl, sym, ap, subst, ◌∙◌, inl, inr, append_assoc}
+use Rattle.std.proofs.lemmas.Bool.Decides.{nat_tests}
+use Rattle.np_tables.proofs.Words.{list_all, AtMostOneDecomposition, parts, Rewrites, is_final, VersionData, is_empty}
 use Rattle.np_code_points.specs.Steps.{ReachesIn}
 
 -- ---- two places of one list
@@ -31,8 +32,8 @@ places (x ∷ b) c a (y ∷ e) d f h =
     ]
 
 all_at : (p : ℕ → Bool) (b : List ℕ) (c : ℕ) (a : List ℕ) → list_all p (b ++ c ∷ a) ≡ true → p c ≡ true
-all_at p [] c a h = (and_parts (p c) (list_all p a) h).0
-all_at p (x ∷ b) c a h = all_at p b c a (and_parts (p x) (list_all p (b ++ c ∷ a)) h).1
+all_at p [] c a h = grind (arith, nat_tests)
+all_at p (x ∷ b) c a h = grind (arith, nat_tests, all_at p b c a)
 
 pub is_empty-true : (xs : List ℕ) → is_empty xs ≡ true → xs ≡ []
 is_empty-true [] h = refl
