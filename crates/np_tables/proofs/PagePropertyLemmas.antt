@@ -1,7 +1,7 @@
 -- Properties of code points, by rows and by blocks.
 use Rattle.std.proofs.Common.{◌≡◌, ℕ, ◌+◌, ◌-◌, ◌/◌, ◌<◌, ◌≤◌, Bool, true, false, ◌&&◌, List, [], ◌∷◌, ◌++◌, length, get_or, set, slice_index, Some, None, sym, ap, subst, ◌∙◌, arith, inl, inr}
 use Rattle.std.proofs.lemmas.Bool.Decides.{nat_tests}
-use Rattle.np_tables.proofs.Words.{slice_get, is_some, mod-lt, get_or-append_seam, cases_eq, cases_lt, get_or_append_left, get_or-map, get_or-set_same}
+use Rattle.np_tables.proofs.Words.{slice_get, is_some, mod-lt, get_or-append_seam, cases_lt, get_or_append_left, get_or-map, get_or-set_same}
 use Rattle.np_tables.proofs.Words.{get_or-set_other, length-append, length-map, length-set, same_Some, slice_get_within, is_syllable, Entry, AreRows}
 use Rattle.np_tables.proofs.Words.{VersionData, class_of, class_in, entry_at, has_hangul, is_assigned, IsSound, is_final, Properties, Composite, FullLists}
 use Rattle.np_tables.proofs.Words.{property_place, AreRowPages, IsRowNumber, AreAllRowProperties, AreSecondRows, AreSeconds, AreSlots, AreRowProperties}
@@ -30,18 +30,7 @@ second_at es cs count j k here x e rows is there jt kt low high =
 pub seconds-more : (es : List Entry) (cs : List Composite) (count at : ℕ) (seconds : List Bool) (here : Composite) → AreRows es → AreSecondRows es cs count seconds → slice_get cs count ≡ Some here → at < length es → slice_get es at ≡ entry_at es here.second →
     AreSecondRows es cs (count + 1) (set seconds at true)
 seconds-more es cs count at seconds here rows so_far is lt found =
-    let size = so_far.size in
-    let fits : at < length seconds = omega arith in
-    record {
-      size = length-set seconds at true ∙ size;
-      each = λ j x k e less jt kt low high. elim (cases_eq k at) [
-        | inl same ↦ ap (λ n. get_or (set seconds at true) n false) same ∙ get_or-set_same seconds at true false fits
-        | inr other ↦ elim (cases_lt j count) [
-          | inl early ↦ get_or-set_other seconds at k true false other ∙ so_far.each j x k e early jt kt low high
-          | inr this ↦ absurd (other (same_place es k at e rows kt (found ∙ second_at es cs count j k here x e rows is (omega arith) jt kt low high)))
-        ]
-      ];
-    }
+    grind (arith, so_far.size, length-set seconds at true, get_or-set_same, get_or-set_other, so_far.each, second_at es cs count, same_place es)
 
 -- it has no row
 pub seconds-past : (es : List Entry) (cs : List Composite) (count : ℕ) (seconds : List Bool) (here : Composite) → AreRows es → AreSecondRows es cs count seconds → slice_get cs count ≡ Some here → entry_at es here.second ≡ None →

@@ -1,8 +1,8 @@
 -- Slots of full decompositions in one flat list.
-use Rattle.std.proofs.Common.{◌≡◌, ℕ, ◌+◌, ◌<◌, ◌≤◌, Bool, true, false, List, [], ◌∷◌, ◌++◌, length, map, take, append_assoc, get_or, slice_index, Some, refl, sym, ap, subst, ◌∙◌, arith, inl, inr}
-use Rattle.np_tables.proofs.Words.{slice_get, cases_lt, get_or_append_left, length-append, length-map, map_push, All-push, get_or-append_seam}
-use Rattle.np_tables.proofs.Words.{take-append_seam, same_Some, Entry, VersionData, entry_at, is_empty, CodeRange, table_full, FullLists, of_kind}
-use Rattle.np_tables.proofs.Words.{code_range_of, IsCodeRange, AreCodeRanges, lists_of, IsSlotPushed, IsSlot, AreSlots, AreSlotsSoFar}
+use Rattle.std.proofs.Common.{◌≡◌, ℕ, ◌+◌, ◌<◌, ◌≤◌, Bool, true, false, List, [], ◌∷◌, ◌++◌, length, map, take, append_assoc, get_or, Some, refl, sym, ap, subst, ◌∙◌, arith}
+use Rattle.np_tables.proofs.Words.{slice_get, get_or_append_left, length-append, length-map, map_push, All-push, get_or-append_seam, take-append_seam, Entry}
+use Rattle.np_tables.proofs.Words.{VersionData, entry_at, is_empty, CodeRange, table_full, FullLists, of_kind, code_range_of, IsCodeRange, AreCodeRanges}
+use Rattle.np_tables.proofs.Words.{lists_of, IsSlotPushed, IsSlot, AreSlots, AreSlotsSoFar}
 use Rattle.np_tables.proofs.FileRowLemmas.{file_mapping-found}
 use Rattle.np_tables.proofs.FullListLemmas.{code_range_of-grown, parts-grown, AreCodeRanges-grown, code_range_of-new, lent-outside}
 
@@ -62,21 +62,7 @@ slot-kept v old new c slot kept is = grind (arith, kept.longer, kept.same, is.wi
 slots-more : (v : VersionData) (count : ℕ) (old new : FullLists) (slots : List ℕ) (slot : ℕ) (e : Entry) → AreSlots v count old slots → KeepLists old new → slice_get v.entries count ≡ Some e → IsSlot v new e.first slot →
     AreSlots v (count + 1) new (slots ++ slot ∷ [])
 slots-more v count old new slots slot e are kept here is =
-    let size = are.size in
-    record {
-      size = (let grown = length-append slots (slot ∷ []) in omega arith);
-      none = λ compat. kept.same compat 0 (are.some compat) ∙ are.none compat;
-      some = λ compat. (let lt = are.some compat in let le = kept.longer compat in omega arith);
-      each = λ k f lt h. elim (cases_lt k count) [
-        | inl less ↦ subst (IsSlot v new f.first) (sym (get_or_append_left slots (slot ∷ []) 0 k (omega arith))) (slot-kept v old new f.first (slice_index slots k) kept (are.each k f less h))
-        | inr past ↦
-            let there : count ≡ k = omega arith in
-            let place : length slots ≡ k = omega arith in
-            let read : slice_index (slots ++ slot ∷ []) k ≡ slot = sym (ap (slice_index (slots ++ slot ∷ [])) place) ∙ get_or-append_seam slots slot [] 0 in
-            let same : e ≡ f = same_Some e f (sym here ∙ ap (slice_get v.entries) there ∙ h) in
-            subst (IsSlot v new f.first) (sym read) (subst (λ (x : Entry). IsSlot v new x.first slot) same is)
-      ];
-    }
+    grind (arith, are.size, are.none, are.some, are.each, kept.same, kept.longer, length-append, get_or_append_left, get_or-append_seam, slot-kept v old new)
 
 keep_all : (lists : FullLists) → KeepLists lists lists
 keep_all lists = grind arith
@@ -85,16 +71,8 @@ keep_all lists = grind arith
 pub slots-bare : (v : VersionData) (count : ℕ) (codes : List ℕ) (canonical compatible : List CodeRange) (slots : List ℕ) (e : Entry) → AreSlotsSoFar v count codes canonical compatible slots → slice_get v.entries count ≡ Some e →
     entry_at v.entries e.first ≡ Some e → is_empty e.mapping ≡ true → AreSlotsSoFar v (count + 1) codes canonical compatible (slots ++ 0 ∷ [])
 slots-bare v count codes canonical compatible slots e so_far here found none =
-    let few = so_far.few in
     let lists = lists_of codes canonical compatible in
-    record {
-      canonical_within = so_far.canonical_within;
-      compatible_within = so_far.compatible_within;
-      both = so_far.both;
-      few = omega arith;
-      are_slots = slots-more v count lists lists slots 0 e so_far.are_slots (keep_all lists) here
-          (record { within = so_far.are_slots.some; lent = λ compat. so_far.are_slots.none compat ∙ sym (lent-outside v compat e.first (ap is_empty (file_mapping-found v e.first e found) ∙ none)) });
-    }
+    grind (arith, slots-more v count lists lists slots 0 e so_far.are_slots (keep_all lists) here, so_far.few, so_far.are_slots.some, so_far.are_slots.none, lent-outside, file_mapping-found v e.first e found)
 
 module _ (old new : FullLists) (a b : List ℕ) (one : new.canonical ≡ old.canonical ++ a ∷ []) (two : new.compatible ≡ old.compatible ++ b ∷ []) where
   longer-pushed : (compat : Bool) → length (of_kind compat new) ≡ length (of_kind compat old) + 1
@@ -106,7 +84,7 @@ module _ (old new : FullLists) (a b : List ℕ) (one : new.canonical ≡ old.can
   same-pushed true k lt = grind (arith, get_or_append_left)
 
   kept-pushed : KeepLists old new
-  kept-pushed = record { longer = λ compat. (let more = longer-pushed compat in omega arith); same = same-pushed }
+  kept-pushed = grind (arith, longer-pushed, same-pushed)
 
   -- the new slot
   new-pushed : (v : VersionData) (c : ℕ) → a ≡ table_full v false c → b ≡ table_full v true c → length old.canonical ≡ length old.compatible → (compat : Bool) → get_or (of_kind compat new) (length old.canonical) [] ≡ table_full v compat c

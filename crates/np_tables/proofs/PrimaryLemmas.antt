@@ -1,10 +1,10 @@
 -- Primary composites by what the file says.
-use Rattle.std.proofs.Common.{◌≡◌, ℕ, ◌+◌, ◌<◌, ◌≤◌, true, false, ◌&&◌, ◌==◌, List, ◌∷◌, length, Option, Some, None, refl, sym, ap, ◌∙◌, arith, Bool, get_or, inl, inr}
+use Rattle.std.proofs.Common.{◌≡◌, ℕ, ◌+◌, ◌<◌, ◌≤◌, true, false, ◌&&◌, ◌==◌, List, ◌∷◌, length, Option, Some, None, refl, sym, ap, ◌∙◌, arith, Bool, get_or}
 use Rattle.std.proofs.lemmas.Bool.Decides.{nat_tests}
-use Rattle.np_tables.proofs.Words.{and_parts, and_right, cases_Bool, both_ways, is_listed, Entry, IsRow, AreRows, HasLength, MapKind, Plain, Canonical}
-use Rattle.np_tables.proofs.Words.{Compatibility, is_syllable, VersionData, entry_at, file_kind, file_mapping, mapping_in, kind_in, is_canonical, is_empty}
-use Rattle.np_tables.proofs.Words.{is_excluded, decomposition_kind, decomposition_mapping, has_hangul, is_assigned, is_primary, IsPrimary, IsCompositeOf}
-use Rattle.np_tables.proofs.Words.{list_all, slice_get, is_some, slice_get-get_or, IsSound, Composite, IsNeverSecond, is_late_jamo, AreSecondRows, AreSeconds}
+use Rattle.np_tables.proofs.Words.{and_parts, and_right, both_ways, is_listed, Entry, IsRow, AreRows, HasLength, MapKind, Plain, Canonical, Compatibility}
+use Rattle.np_tables.proofs.Words.{is_syllable, VersionData, entry_at, file_kind, file_mapping, mapping_in, kind_in, is_canonical, is_empty, is_excluded}
+use Rattle.np_tables.proofs.Words.{decomposition_kind, decomposition_mapping, has_hangul, is_assigned, is_primary, IsPrimary, IsCompositeOf, list_all}
+use Rattle.np_tables.proofs.Words.{slice_get, is_some, slice_get-get_or, IsSound, Composite, IsNeverSecond, is_late_jamo, AreSecondRows, AreSeconds}
 use Rattle.np_tables.proofs.Words.{is_row_never_second, touches, AreOfFile}
 use Rattle.np_tables.specs.inside.Accessors.{is_file_primary}
 use Rattle.np_code_points.proofs.HangulLemmas.{pair_kinds}
@@ -73,11 +73,7 @@ late_jamo v a c p on is =
 module _ (v : VersionData) (seconds : List Bool) (marks : AreSeconds v seconds) (k : ℕ) (e : Entry) (here : slice_get v.entries k ≡ Some e) (c : ℕ) (found : entry_at v.entries c ≡ Some e) (none : get_or seconds k false ≡ false) where
   never_second-row : ((0x1161 ≤ c) → (c ≤ 0x11C2) → ⊥) → IsNeverSecond v c
   never_second-row early a p is =
-      let within = entry_at-within v.entries c e found in
-      elim (cases_Bool (has_hangul v && is_syllable p)) [
-        | inl on ↦ (let range = late_jamo v a c p on is in early range.0 range.1)
-        | inr off ↦ both_ways _ none (marks.each a c p k e is off here within.0 within.1)
-      ]
+      grind (arith, nat_tests, entry_at-within v.entries c e found, late_jamo v a c p, early, none, marks.each a c p k e is)
 
 pub row-never_second : (v : VersionData) (seconds : List Bool) (k : ℕ) (e : Entry) (c : ℕ) → AreSeconds v seconds → slice_get v.entries k ≡ Some e → entry_at v.entries c ≡ Some e → is_row_never_second e (get_or seconds k false) ≡ true → IsNeverSecond v c
 row-never_second v seconds k e c marks here found is =
@@ -91,13 +87,7 @@ never_second-unmarked v seconds c at marks lt place early none =
 -- the marks of all composites are those of all second parts
 pub seconds-all : (v : VersionData) (cs : List Composite) (seconds : List Bool) → AreOfFile v cs → AreSecondRows v.entries cs (length cs) seconds → AreSeconds v seconds
 seconds-all v cs seconds file marks =
-    record {
-      size = marks.size;
-      each = λ a b p k e is off here low high. (
-          let has = file.all a b p is off in
-          let x : Composite = record { first = a; second = b; code = p } in
-          marks.each has.0 x k e has.1 (slice_get-get_or cs has.0 x has.1 ∙ ap Some has.2) here low high);
-    }
+    record { size = marks.size; each = λ a b p k e is off here low high. grind (arith, file.all a b p is off, marks.each, slice_get-get_or, here, low, high) }
 
 -- a row that holds no syllable
 pub no_syllable : (c : ℕ) (e : Entry) → e.first ≤ c → c ≤ e.last → touches 0xAC00 0xD7A3 e ≡ false → is_syllable c ≡ false

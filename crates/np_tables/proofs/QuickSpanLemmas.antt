@@ -1,13 +1,13 @@
 -- Runs of code points that may follow one another as they are.
 use Rattle.std.proofs.Common.{◌≡◌, ℕ, ◌-◌, ◌<◌, ◌≤◌, Bool, true, false, ◌&&◌, suc, List, [], ◌∷◌, ◌++◌, Option, Some, None, length, get_or, take, drop, drop_at, take_at, slice_range, chars, IsUtf8, encode_utf8, encode_utf8_all, All, sym, ap, subst, ◌∙◌, arith, append_assoc, append-nil, length-append, refl, inl, inr, ◌⊎◌, not}
-use Rattle.np_tables.proofs.Words.{false_from_ne_true, true_from_ne_false, list_all, IsAscii, IsCharBoundary, and_from, and_parts, cond-false, or_from}
-use Rattle.np_tables.proofs.Words.{and_right, not-false, get_or_default, get_or-map, take-append-drop, chars-append, chars_from_encodes, chars-IsAscii}
-use Rattle.np_tables.proofs.Words.{chars_past_char, encodes-append, encodes-IsAscii, IsCharBoundary-at_seam, IsCharBoundary-from_take, IsUtf8-drop}
-use Rattle.np_tables.proofs.Words.{IsUtf8-take, IsUtf8-from_ascii, IsUtf8-past_char, chars-nil, is_syllable, Form, is_compat, BeginsAtBoundary, IsBoundary}
-use Rattle.np_tables.proofs.Words.{IsYesStarter, is_final, VersionData, class_of, has_hangul, is_assigned, Properties, full_of, table_full, FullLists}
-use Rattle.np_tables.proofs.Words.{of_kind, property_place, AreFollowing, ArePages, Follows, FollowsByQuickCheck, FollowsUncomposed, IsAsciiYes, IsPast}
-use Rattle.np_tables.proofs.Words.{IsWalkedTo, PassesUncomposed, last_behind, no_properties, CannotComposeByProperties, ArePropertiesOf, all_quick_checks}
-use Rattle.np_tables.proofs.Words.{quick_check_in, quick_check_of, quick_checks_of}
+use Rattle.std.proofs.lemmas.Bool.Decides.{nat_tests}
+use Rattle.np_tables.proofs.Words.{list_all, IsAscii, IsCharBoundary, and_from, and_right, not-false, get_or_default, get_or-map, take-append-drop}
+use Rattle.np_tables.proofs.Words.{chars-append, chars_from_encodes, chars-IsAscii, chars_past_char, encodes-append, encodes-IsAscii, IsCharBoundary-at_seam}
+use Rattle.np_tables.proofs.Words.{IsCharBoundary-from_take, IsUtf8-drop, IsUtf8-take, IsUtf8-from_ascii, IsUtf8-past_char, chars-nil, is_syllable, Form}
+use Rattle.np_tables.proofs.Words.{is_compat, BeginsAtBoundary, IsBoundary, IsYesStarter, is_final, VersionData, class_of, has_hangul, is_assigned}
+use Rattle.np_tables.proofs.Words.{Properties, table_full, FullLists, of_kind, property_place, AreFollowing, ArePages, Follows, FollowsByQuickCheck}
+use Rattle.np_tables.proofs.Words.{FollowsUncomposed, IsAsciiYes, IsPast, IsWalkedTo, PassesUncomposed, last_behind, no_properties, CannotComposeByProperties}
+use Rattle.np_tables.proofs.Words.{ArePropertiesOf, all_quick_checks, quick_check_in, quick_check_of, quick_checks_of}
 use Rattle.np_tables.specs.QuickSpans.{IsQuickSpan, MayFollow, Walks, CannotComposeAfter}
 use Rattle.np_tables.proofs.HangulLemmas.{by_arithmetic, syllable_hangul}
 use Rattle.np_tables.proofs.MappingLemmas.{full_of-some}
@@ -134,15 +134,11 @@ begins-first v form rest here later c same utf8 parts at = subst (BeginsAtBounda
 -- ---- a non-starter for which nothing is lent has no mapping
 
 plain_non_starter : (v : VersionData) (c : ℕ) → 0 < class_of v c → (has_hangul v && is_syllable c) ≡ false
-plain_non_starter v c non_starter =
-    false_from_ne_true _ (λ on. let both = and_parts (has_hangul v) (is_syllable c) on in omega (arith, non_starter, (by_arithmetic v both.0 c (syllable_hangul c both.1)).class))
+plain_non_starter v c non_starter = grind (arith, nat_tests, by_arithmetic v, syllable_hangul c)
 
 pub final-lent : (v : VersionData) (compat : Bool) (c : ℕ) → table_full v compat c ≡ [] → (has_hangul v && is_syllable c) ≡ false → is_final v compat c ≡ true
 unfolding table_full
-final-lent v compat c none plain =
-    true_from_ne_false _ (λ mapped.
-    let whole : table_full v compat c ≡ full_of v compat c = cond-false _ _ _ (or_from (is_final v compat c) (has_hangul v && is_syllable c) mapped plain) in
-    omega (arith, ap length (sym whole ∙ none), full_of-some v compat c))
+final-lent v compat c none plain = grind (arith, nat_tests, full_of-some v compat c, plain, none)
 
 -- ---- what the quick checks say is so
 
@@ -174,13 +170,7 @@ module _ (v u : VersionData) (same : u ≡ v) (lists : FullLists) (blocks : List
   follows_is least before last c n h = elim h [ inl by_quick_check ↦ quick_check_follows least before last c n by_quick_check | inr uncomposed ↦ inr (uncomposed.0, uncomposed.1, uncomposed.2, inr uncomposed.3) ]
 
   follows-assigned : (least : ℕ) (before : Option ℕ) (last c n : ℕ) → 2 ≤ least → Follows u least blocks quick_checks form before last c n → is_assigned u c ≡ true
-  follows-assigned least before last c n two h =
-      elim h [
-        | inl by_quick_check ↦
-            let w = get_or all_properties (property_place blocks c) no_properties in
-            sym (pages.each c by_quick_check.0).assigned ∙ quick_check_assigned form w (omega (arith, two, by_quick_check.1, quick_check_read c by_quick_check.0))
-        | inr uncomposed ↦ uncomposed.4
-      ]
+  follows-assigned least before last c n two h = grind (arith, h, λ (lt : c < 0x110000). (pages.each c lt).assigned, quick_check_assigned form, quick_check_read c)
 
   -- above the least quick check of what is not assigned each is
   walk-assigned : (least : ℕ) (before : Option ℕ) (last end : ℕ) (cs : List ℕ) → 2 ≤ least → Walks (Follows u least blocks quick_checks form) before last cs end → list_all (is_assigned u) cs ≡ true
@@ -250,11 +240,7 @@ module _ (v : VersionData) (lists : FullLists) (blocks : List ℕ) (all_properti
 
   -- what the properties of the code point before tell is so
   stands-read : (form : Form) (kept c : ℕ) (before w : Properties) → ArePropertiesOf v lists kept before → ArePropertiesOf v lists c w → CannotComposeByProperties v kept before c w.class → CannotComposeAfter v form kept c
-  stands-read form kept c before w of_before of_c uncomposed =
-      elim uncomposed [
-        | inl blocks ↦ inl (omega (arith, of_before.class, blocks.0), omega (arith, of_before.class, of_c.class, blocks.1))
-        | inr pair ↦ inr (sym of_before.class ∙ pair.0, final-read (is_compat form) kept before of_before pair.1 pair.2, pair.3)
-      ]
+  stands-read form kept c before w of_before of_c uncomposed = grind (arith, of_before.class, of_c.class, final-read (is_compat form) kept before of_before, uncomposed)
 
   pub passes_uncomposed : (form : Form) (front : List ℕ) (kept c low next : ℕ) → kept < 0x110000 → c < 0x110000 → (before w : Properties) → before ≡ get_or all_properties (property_place blocks kept) no_properties → w ≡ get_or all_properties (property_place blocks c) no_properties
       → w.fulls ≡ 0 → not w.assigned ≡ false → is_syllable c ≡ false → last_behind None front ≡ Some kept → CannotComposeByProperties v kept before c w.class → (w.class ≡ 0) ⊎ (low ≤ w.class) → w.class ≤ next → PassesUncomposed v form front c low next

@@ -64,27 +64,16 @@ module _ (v : VersionData) (n : ℕ) where
 
   pub IsSum-more : (xs : List ℕ) (i s m : ℕ) → i < length xs → IsSum v n (take i xs) s → m ≡ mark v n (get_or xs i 0) → 0 < m → IsSum v n (take (i + 1) xs) (min (s + m) 65)
   IsSum-more xs i s m lt before is more =
-      let x = get_or xs i 0 in
-      let known : has_depth v n x ≡ true = mark-more v n x (omega arith) in
-      let long = is ∙ mark-length v n x known in
-      record {
-        known = list_all_more (has_depth v n) xs i 0 lt ∙ and_from _ _ before.known known;
-        total =
-            sums _ _ s m before.total long
-            ∙ ap (λ k. min k 65) (sym (ap (λ l. length (flat_map (full v true n) l)) (take_more xs i 0 lt) ∙ flat_map-last (take i xs) x));
-      }
+      let known = mark-more v n (get_or xs i 0) (omega arith) in
+      grind (arith, known, before.known, before.total, mark-length v n (get_or xs i 0) known, list_all_more (has_depth v n) xs i 0 lt, take_more xs i 0 lt, flat_map-last (take i xs) (get_or xs i 0), and_from)
 
   pub parts-fail : (xs : List ℕ) (i : ℕ) → i < length xs → mark v n (get_or xs i 0) ≡ 0 → parts_mark v n xs ≡ 0
   unfolding parts_mark
-  parts-fail xs i lt h =
-      ap (λ b. marked b (length (flat_map (full v true n) xs))) (list_all_at (has_depth v n) xs i 0 lt (mark-zero v n (get_or xs i 0) h))
+  parts-fail xs i lt h = grind (arith, nat_tests, list_all_at (has_depth v n) xs i 0 lt, mark-zero v n (get_or xs i 0) h)
 
   pub parts-done : (xs : List ℕ) (i s : ℕ) → length xs ≤ i → IsSum v n (take i xs) s → parts_mark v n xs ≡ s
   unfolding parts_mark
-  parts-done xs i s le is =
-      let all = take_all i xs le in
-      ap (λ b. marked b (length (flat_map (full v true n) xs))) (sym (ap (list_all (has_depth v n)) all) ∙ is.known)
-      ∙ sym (is.total ∙ ap (λ l. min (length (flat_map (full v true n) l)) 65) all)
+  parts-done xs i s le is = grind (arith, take_all i xs le, is.known, is.total)
 
   marked-bound : (b : Bool) (k : ℕ) → marked b k ≤ 65
   marked-bound true k = min-le_right k 65
@@ -171,11 +160,10 @@ module _ (v : VersionData) (n : ℕ) where
         ∙ ap (λ l. take (length l) (row_marks v (n + 1))) (sym more)
 
     length-known : length known ≡ length next + length (before_byte 0 left)
-    length-known = ap length more ∙ length-append next (before_byte 0 left)
+    length-known = grind (arith, more, length-append next (before_byte 0 left))
 
     length-left : length left ≡ length v.entries - length next
-    length-left =
-        ap length is.rest ∙ length-drop (length next) (row_marks v n) ∙ ap (λ k. k - length next) (length-row_marks v n)
+    length-left = grind (arith, is.rest, length-drop (length next) (row_marks v n), length-row_marks v n)
 
     pub known_within : (later : List ℕ) → after_byte 0 left ≡ Some later → length known < length v.entries
     known_within later found = grind (arith, joined_some 0 left later found, length-append (before_byte 0 left) (0 ∷ later), length-known, length-left)

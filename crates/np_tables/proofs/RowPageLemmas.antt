@@ -123,10 +123,8 @@ begun-more es blocks old new block at pages kept fits is next =
 -- a new block
 pub begun-block : (es : List Entry) (blocks old new : List ℕ) (at to block : ℕ) → AreBegun es blocks old at → ArePushed es (length blocks * 256) 256 old new to → block * 256 ≡ length old → AreBegun es (blocks ++ block ∷ []) new to
 begun-block es blocks old new at to block begun pushed is =
-    let size = pushed.size in
-    begun-more es blocks old new block to begun.pages (record { count = 1; fits = omega arith; few = omega arith; same = pushed.kept }) (omega arith)
-    (λ low lt. subst (λ n. IsRowNumber es (length blocks * 256 + low) (slice_index new (n + low))) (sym is) (pushed.each low lt))
-    pushed.next
+    begun-more es blocks old new block to begun.pages (record { count = 1; fits = grind (arith, pushed.size); few = omega arith; same = pushed.kept }) (grind (arith, pushed.size))
+    (grind (arith, pushed.each)) pushed.next
 
 -- as many blocks as there are
 pub block_count : (es : List Entry) (blocks numbers : List ℕ) (at : ℕ) → AreBegun es blocks numbers at → (length numbers / 256 * 256 ≡ length numbers) × (length numbers / 256 ≤ length blocks + 1)

@@ -1,10 +1,10 @@
 -- The marks of the syllables of the Hangul arithmetic.
 use Rattle.std.proofs.Common.{◌≡◌, ℕ, zero, suc, ◌+◌, ◌-◌, ◌%◌, ◌≤◌, true, false, [], ◌∷◌, ◌++◌, flat_map, length, refl, sym, ap, ◌∙◌, inl, inr, arith, ◌==◌, ◌≢◌, ◌<◌, ◌&&◌, List, Option, Some, None, subst, eqb, ◌⊎◌, Bool}
 use Rattle.std.proofs.lemmas.Bool.Decides.{nat_tests}
-use Rattle.np_tables.proofs.Words.{cases_eq, cond-true, cond-false, cond_both, cases_Bool, and_from, and_left, eqb-true, and_parts, list_all, AreRows, Entry}
-use Rattle.np_tables.proofs.Words.{is_syllable, syllable_pair, VersionData, file_mapping, has_hangul, decomposition_mapping, entry_at, mapping_in, has_depth}
-use Rattle.np_tables.proofs.Words.{full, marked, mark, parts_mark, mapping_mark, syllable_depth, syllable_mark, row_marks, first_row, is_marked, IsTooDeep}
-use Rattle.np_tables.proofs.Words.{IsTooLong, IsFirst}
+use Rattle.np_tables.proofs.Words.{cases_eq, cond-true, cond-false, cond_both, and_from, and_left, eqb-true, and_parts, list_all, AreRows, Entry, is_syllable}
+use Rattle.np_tables.proofs.Words.{syllable_pair, VersionData, file_mapping, has_hangul, decomposition_mapping, entry_at, mapping_in, has_depth, full, marked}
+use Rattle.np_tables.proofs.Words.{mark, parts_mark, mapping_mark, syllable_depth, syllable_mark, row_marks, first_row, is_marked, IsTooDeep, IsTooLong}
+use Rattle.np_tables.proofs.Words.{IsFirst}
 use Rattle.std.specs.Cmp.Lexicographic.{pointwise}
 use Rattle.np_tables.proofs.HangulLemmas.{decomposition_mapping-on, hangul_parts, IsLv, IsLvt, jamo_bare, lv_shape, lvt_shape, shape_of, syllable_row}
 use Rattle.np_tables.proofs.MappingLemmas.{is_empty-true, decomposes_full, full-only}
@@ -51,9 +51,7 @@ module _ (v : VersionData) (rows : AreRows v.entries) (on : has_hangul v ≡ tru
 
   mark_lv : (n c : ℕ) → IsLv c → mark v (suc n) c ≡ 2
   unfolding mark
-  mark_lv n c is =
-      let two = lv n c is in
-      ap (λ b. marked b (length (full v true (suc n) c))) two.0 ∙ ap (λ l. marked true (length l)) two.1
+  mark_lv n c is = grind (arith, lv n c is)
 
   -- <LV, T>
   mark_parts : (n c : ℕ) (is : IsLvt c) → is_syllable c ≡ true → mark v (suc n) c ≡ parts_mark v n (is.base ∷ is.last ∷ [])
@@ -143,11 +141,7 @@ module _ (p : Entry → Bool) where
 
 module _ (v : VersionData) (rows : AreRows v.entries) where
   still : (n c : ℕ) → 2 ≤ n → row_marks v (suc n) ≡ row_marks v n → mark v (suc n) c ≡ mark v n c
-  still n c late same =
-      elim (cases_Bool (has_hangul v && is_syllable c)) [
-        | inl hangul ↦ let halves = and_parts _ _ hangul in mark-syllable_still v rows halves.0 n c halves.1 late
-        | inr other ↦ marks-from_rows v rows (suc n) n c same other
-      ]
+  still n c late same = grind (arith, nat_tests, mark-syllable_still v rows, marks-from_rows v rows (suc n) n c same)
 
   pub settled : (n : ℕ) → 2 ≤ n → n < 32 → row_marks v (suc n) ≡ row_marks v n → row_marks v (suc n) ≡ row_marks v 32
   settled n late early same = sym (settled_rows v n (λ c. still n c late same) 31 (omega arith))

@@ -26,11 +26,7 @@ pair-found v u same cs file a b (Some c) h = subst (λ x. IsCompositeOf x a b c)
 
 pub pair-none : (v w u : VersionData) → w ≡ v → u ≡ v → (cs : List Composite) → AreOfFile u cs → (a b : ℕ) →
     ((s : ℕ) → (has_hangul w && is_syllable s) ≡ true → ¬ (syllable_pair s ≡ a ∷ b ∷ [])) → (r : Option ℕ) → IfNone r ((code : ℕ) → ¬ Lists cs a b code) → IfNone r ((c : ℕ) → ¬ IsCompositeOf v a b c)
-pair-none v w u same same_u cs file a b none None lists = λ c is.
-    elim (cases_Bool (has_hangul v && is_syllable c)) [
-      | inl on ↦ none c (subst (λ x. (has_hangul x && is_syllable c) ≡ true) (sym same) on) (sym (decomposition_mapping-on v c on) ∙ is.mapping)
-      | inr off ↦ lists c (file.all a b c (subst (λ x. IsCompositeOf x a b c) (sym same_u) is) (subst (λ x. (has_hangul x && is_syllable c) ≡ false) (sym same_u) off))
-    ]
+pair-none v w u same same_u cs file a b none None lists = λ c is. grind (arith, nat_tests, same, same_u, none c, lists c, file.all a b c, decomposition_mapping-on v c, is.mapping)
 pair-none v w u same same_u cs file a b none (Some c) lists = lists
 
 pub pair-value : (v : VersionData) → IsSound v → (a b : ℕ) (r : Option ℕ) → IfSome r (IsCompositeOf v a b) → IfNone r ((c : ℕ) → ¬ IsCompositeOf v a b c) → r ≡ composite v a b
@@ -73,9 +69,7 @@ IsLent-table_full v compat c sound = grind (arith, nat_tests, IsFullDecompositio
 pub full-some : (v w u : VersionData) (compat : Bool) (c d at : ℕ) (lists : FullLists) → w ≡ u → u ≡ v → d ≡ c → IsSound u → AreFulls u lists → at < length w.entries → slice_get w.entries at ≡ entry_at w.entries d →
     get_or (of_kind compat lists) at [] ≡ table_full v compat c
 full-some v w u compat c d at lists same same_u code sound are lt place =
-    full-value u compat d at (of_kind compat lists) sound.rows (of_kind-is u compat lists are)
-    (subst (λ x. at < length x.entries) same lt) (subst (λ x. slice_get x.entries at ≡ entry_at x.entries d) same place)
-    ∙ ap (λ x. table_full x compat d) same_u ∙ ap (table_full v compat) code
+    grind (arith, same, same_u, code, of_kind-is u compat lists are, full-value u compat d at (of_kind compat lists) sound.rows)
 
 pub full-nothing : (v w : VersionData) (compat : Bool) (c d : ℕ) → w ≡ v → d ≡ c → entry_at w.entries d ≡ None → [] ≡ table_full v compat c
 full-nothing v w compat c d same code none = full-none w compat d none ∙ ap (λ x. table_full x compat d) same ∙ ap (table_full v compat) code
