@@ -209,10 +209,7 @@ module _ (v : VersionData) (e : Entry) where
   -- a code point with a mapping stands alone
   pub bits-mapped : (canonical compatible : Hints) → IsRow e → e.mapping ≢ [] → AreHints v false e.first canonical → AreHints v true e.first compatible → AreRowBits v e (eight_bits canonical compatible)
   bits-mapped canonical compatible row some one two c found =
-      let within = entry_at-within v.entries c e found in
-      let alone = row.alone some in
-      let same : e.first ≡ c = omega arith in
-      subst (λ d. AreBits v d (eight_bits canonical compatible)) same (bits-hints canonical compatible v e.first one two)
+      subst (λ d. AreBits v d (eight_bits canonical compatible)) (omega (arith, row.alone some, entry_at-within v.entries c e found)) (bits-hints canonical compatible v e.first one two)
 
   -- what a table lends is the full decomposition
   pub lent-decomposes : (compat : Bool) (lent : List ℕ) → IsSound v → entry_at v.entries e.first ≡ Some e → (counts compat e.kind && not (is_empty e.mapping)) ≡ true → lent ≡ table_full v compat e.first →

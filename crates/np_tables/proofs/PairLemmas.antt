@@ -28,11 +28,7 @@ AreOrdered-from_sort xs ys range moved sorted =
 module _ (cs : List Composite) (order : AreOrdered cs) where
   -- earlier places have no later pairs
   pub pairs_rise : (i j : ℕ) (d : Composite) → i ≤ j → j < length cs → pair_rank (get_or cs i d).first (get_or cs i d).second ≤ pair_rank (get_or cs j d).first (get_or cs j d).second
-  pairs_rise i j d le lt =
-      let up = order.rising i j d le lt in
-      let low = order.range i d (omega arith) in
-      let high = order.range j d lt in
-      omega arith
+  pairs_rise i j d le lt = omega (arith, order.rising i j d le lt, order.range i d (omega arith), order.range j d lt)
 
   -- what comes before a pair at a place does so at each earlier one
   pub before_more : (at : ℕ) (x : Composite) (r : ℕ) → at < length cs → x ≡ get_or cs at x → pair_rank x.first x.second < r → AllWithin (λ c. pair_rank c.first c.second < r) cs 0 (at + 1)

@@ -47,7 +47,7 @@ module _ (text : List ℕ) (n : ℕ) (utf8 : IsUtf8 text) (le : n ≤ length tex
         split = whole ∙ ap (λ l. l ++ rest) (sym (encodes-IsAscii front ascii));
         text_is = ap chars whole ∙ chars-append front rest (IsUtf8-from_ascii front ascii) ∙ ap (λ l. l ++ chars rest) (chars-IsAscii front ascii);
         utf8 = subst IsUtf8 (sym is) (IsUtf8-drop text n utf8 past_boundary);
-        passed = λ k d lt. each (get_or front k d) (let low = ascii k in let same = get_or_default front k d 0 lt in omega arith);
+        passed = λ k d lt. each (get_or front k d) (omega (arith, ascii k, get_or_default front k d 0 lt));
       }
 
 -- ---- what was read of a text is a walk, and `rest` is left
@@ -246,17 +246,9 @@ module _ (v : VersionData) (lists : FullLists) (blocks : List ℕ) (all_properti
       → w.fulls ≡ 0 → not w.assigned ≡ false → is_syllable c ≡ false → last_behind None front ≡ Some kept → CannotComposeByProperties v kept before c w.class → (w.class ≡ 0) ⊎ (low ≤ w.class) → w.class ≤ next → PassesUncomposed v form front c low next
   passes_uncomposed form front kept c low next of_kept of_c before w is_before is fulls assigned plain behind uncomposed order le last up_to =
       let properties = properties-read v v refl lists blocks all_properties pages c of_c w is in
-      let stands = stands-read form kept c before w (properties-read v v refl lists blocks all_properties pages kept of_kept before is_before) properties uncomposed in (
-        class_of v c,
-        omega (arith, properties.class, le),
-        (
-          final-read (is_compat form) c w properties fulls plain,
-          refl,
-          (elim order [ inl starter ↦ inl (sym properties.class ∙ starter) | inr above ↦ inr (omega (arith, properties.class, above, up_to)) ]),
-          (kept, behind, stands),
-          sym properties.assigned ∙ not-false w.assigned assigned,
-        ),
-      )
+      let stands = stands-read form kept c before w (properties-read v v refl lists blocks all_properties pages kept of_kept before is_before) properties uncomposed in
+      let final = final-read (is_compat form) c w properties fulls plain in
+      (class_of v c, omega (arith, properties.class, le), (final, refl, grind (arith, properties.class, order), (kept, behind, stands), sym properties.assigned ∙ not-false w.assigned assigned))
 
 -- what the checks of functions cite
 pub ruleset quick_span_answers = (IsPast-ascii, last_behind-text)

@@ -75,13 +75,9 @@ module _ (v : VersionData) (n : ℕ) where
   unfolding parts_mark
   parts-done xs i s le is = grind (arith, take_all i xs le, is.known, is.total)
 
-  marked-bound : (b : Bool) (k : ℕ) → marked b k ≤ 65
-  marked-bound true k = min-le_right k 65
-  marked-bound false k = omega arith
-
   pub mark-bound : (c : ℕ) → mark v n c ≤ 65
   unfolding mark
-  mark-bound c = marked-bound (has_depth v n c) _
+  mark-bound c = grind (arith, nat_tests, min-le_right (length (full v true n c)) 65)
 
 -- ---- the mark of a code point that is no syllable of the arithmetic
 

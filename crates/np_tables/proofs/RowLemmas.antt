@@ -46,9 +46,7 @@ unfolding IsFrom
 rises [] k i e rows from h = absurd (none-some e h)
 rises (x ∷ xs) k zero e rows from h = let same : x.first ≡ e.first = ap (λ (f : Entry). f.first) (same_Some x e h) in omega arith
 rises (x ∷ xs) k (suc i) e rows from h =
-    let up = rows.0.rises in
-    let r = rises xs (k + 1) i e rows.2 (from_before x xs k rows.1 (omega arith)) h in
-    omega arith
+    omega (arith, rows.0.rises, rises xs (k + 1) i e rows.2 (from_before x xs k rows.1 (omega arith)) h)
 
 from_zero : (es : List Entry) → IsFrom 0 es
 unfolding IsFrom

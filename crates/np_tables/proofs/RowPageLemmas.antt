@@ -96,9 +96,7 @@ begun-more es blocks old new block at pages kept fits is next =
         none = λ low lt. kept.same low (omega arith) ∙ pages.none low lt;
         within = λ k lt. elim (cases_lt k (length blocks)) [
           | inl less ↦
-              let same = get_or_append_left blocks (block ∷ []) 0 k less in
-              let le = pages.within k less in
-              omega arith
+              omega (arith, get_or_append_left blocks (block ∷ []) 0 k less, pages.within k less)
           | inr past ↦
               let place : length blocks ≡ k = omega arith in
               let same : slice_index (blocks ++ block ∷ []) k ≡ block = sym (ap (slice_index (blocks ++ block ∷ [])) place) ∙ get_or-append_seam blocks block [] 0 in

@@ -1,7 +1,7 @@
 -- The marks of the syllables of the Hangul arithmetic.
 use Rattle.std.proofs.Common.{◌≡◌, ℕ, zero, suc, ◌+◌, ◌-◌, ◌%◌, ◌≤◌, true, false, [], ◌∷◌, ◌++◌, flat_map, length, refl, sym, ap, ◌∙◌, inl, inr, arith, ◌==◌, ◌≢◌, ◌<◌, ◌&&◌, List, Option, Some, None, subst, eqb, ◌⊎◌, Bool}
 use Rattle.std.proofs.lemmas.Bool.Decides.{nat_tests}
-use Rattle.np_tables.proofs.Words.{cases_eq, cond-true, cond-false, cond_both, and_from, and_left, eqb-true, and_parts, list_all, AreRows, Entry, is_syllable}
+use Rattle.np_tables.proofs.Words.{cases_eq, cond-true, cond-false, cond_both, and_from, and_left, eqb-true, list_all, AreRows, Entry, is_syllable}
 use Rattle.np_tables.proofs.Words.{syllable_pair, VersionData, file_mapping, has_hangul, decomposition_mapping, entry_at, mapping_in, has_depth, full, marked}
 use Rattle.np_tables.proofs.Words.{mark, parts_mark, mapping_mark, syllable_depth, syllable_mark, row_marks, first_row, is_marked, IsTooDeep, IsTooLong}
 use Rattle.np_tables.proofs.Words.{IsFirst}
@@ -175,11 +175,7 @@ module _ (v : VersionData) (rows : AreRows v.entries) (n m : ℕ) (late : 2 ≤ 
   marked_nonempty xs h e = telling.no_bare (sym (ap (mapping_mark v n) e) ∙ h)
 
   no_syllable : (c : ℕ) → mark v n c ≡ m → (has_hangul v && is_syllable c) ≡ true → ⊥
-  no_syllable c h hangul =
-      let halves = and_parts _ _ hangul in
-      let value = sym (mark-syllable v rows halves.0 n c halves.1 ∙ syllable_mark-late n c late) ∙ h in
-      let bounds = depth_two c in
-      elim telling.no_syllable [ inl none ↦ omega arith | inr more ↦ omega arith ]
+  no_syllable c h hangul = grind (arith, nat_tests, mark-syllable v rows, syllable_mark-late n c late, depth_two c, telling.no_syllable)
 
   row_found : (c : ℕ) (o : Option Entry) → entry_at v.entries c ≡ o → mapping_mark v n (mapping_in o) ≡ m → IsAt (is_marked v n m) v.entries c
   row_found c None found h = absurd (marked_nonempty [] h refl)

@@ -8,9 +8,7 @@ use Rattle.np_tables.proofs.page_slots.slots_of.Goals as goal
 
 pub overflow_cast-slot : goal.overflow_cast-slot
 overflow_cast-slot c =
-    let low = place-le c.args.characters.now.entries c.loop-at.at (lent_entry c.row_in-row.result) c.len.ensures.rows c.row_in-row.ensures.place in
-    let size = c.len-slot.ensures ∙ c.loop-at.canonical.ok.0 in
-    omega arith
+    omega (arith, place-le c.args.characters.now.entries c.loop-at.at (lent_entry c.row_in-row.result) c.len.ensures.rows c.row_in-row.ensures.place, c.len-slot.ensures ∙ c.loop-at.canonical.ok.0)
 
 pub loop-at-preserved : goal.loop-at-preserved
 loop-at-preserved c =
