@@ -106,21 +106,14 @@ pub slots-pushed : (v : VersionData) (count : ℕ) (old codes : List ℕ) (old_c
 slots-pushed v count old codes old_canonical old_compatible canonical compatible slots slot e so_far pushed here is =
     let before = lists_of old old_canonical old_compatible in
     let after = lists_of codes canonical compatible in
-    let few = so_far.few in
-    let both = so_far.both in
-    let size_one = length-parts old old_canonical in
-    let size_two = length-parts old old_compatible in
-    let size_three = length-parts codes canonical in
-    let size_four = length-parts codes compatible in
-    let alike : length before.canonical ≡ length before.compatible = omega arith in
-    let place : length before.canonical ≡ slot = omega arith in
-    let long_one = longer-pushed before after (table_full v false e.first) (table_full v true e.first) pushed.canonical_grown pushed.compatible_grown false in
-    let long_two = longer-pushed before after (table_full v false e.first) (table_full v true e.first) pushed.canonical_grown pushed.compatible_grown true in
+    let grown = longer-pushed before after (table_full v false e.first) (table_full v true e.first) pushed.canonical_grown pushed.compatible_grown in
+    let alike : length before.canonical ≡ length before.compatible = omega (arith, length-parts, so_far.both) in
+    let place : length before.canonical ≡ slot = omega (arith, length-parts, is) in
     record {
       canonical_within = pushed.canonical_within;
       compatible_within = pushed.compatible_within;
-      both = omega arith;
-      few = omega arith;
+      both = omega (arith, length-parts, so_far.both, grown false, grown true);
+      few = omega (arith, length-parts, so_far.few, grown false);
       are_slots = slots-more v count before after slots slot e so_far.are_slots
           (kept-pushed before after (table_full v false e.first) (table_full v true e.first) pushed.canonical_grown pushed.compatible_grown) here
           (subst (IsSlot v after e.first) place (record {

@@ -3,8 +3,8 @@ use Rattle.std.proofs.Common.{◌≡◌, ◌≢◌, ℕ, zero, suc, ◌+◌, ◌
 use Rattle.std.proofs.lemmas.Bool.Decides.{nat_tests}
 use Rattle.np_tables.proofs.Words.{cond-true, cond-false, and_from, eqb-false, ne_eqb, le-leb, lt-leb, take_more, take_all, length-map, length-drop}
 use Rattle.np_tables.proofs.Words.{drop-drop, drop_at, drop-map, flat_map-append, min-le_right, list_all, slice_get, Entry, AreRows, is_syllable, VersionData}
-use Rattle.np_tables.proofs.Words.{entry_at, mapping_in, is_empty, has_hangul, has_depth, full, marked, mark, parts_mark, mapping_mark, row_marks}
-use Rattle.np_tables.proofs.Words.{syllable_depth, syllable_mark, first_row, is_marked, take-add, option_map, before_byte, after_byte}
+use Rattle.np_tables.proofs.Words.{entry_at, mapping_in, is_empty, has_hangul, has_depth, full, mark, parts_mark, mapping_mark, row_marks, syllable_depth}
+use Rattle.np_tables.proofs.Words.{syllable_mark, first_row, is_marked, take-add, option_map, before_byte, after_byte}
 use Rattle.std.proofs.lemmas.List.Folds.{list_all_at, list_all_more}
 use Rattle.np_code_points.proofs.LineGrammar.{joined_some, joined_none}
 use Rattle.np_tables.proofs.AccessLemmas.{length-empty}
@@ -58,9 +58,6 @@ module _ (v : VersionData) (n : ℕ) where
   flat_map-last xs x =
       ap length (flat_map-append (full v true n) xs (x ∷ []) ∙ ap (λ l. flat_map (full v true n) xs ++ l) (append-nil (full v true n x)))
       ∙ length-append (flat_map (full v true n) xs) (full v true n x)
-
-  sums : (a b s m : ℕ) → s ≡ min a 65 → m ≡ min b 65 → min (s + m) 65 ≡ min (a + b) 65
-  sums a b s m first second = omega arith
 
   pub IsSum-more : (xs : List ℕ) (i s m : ℕ) → i < length xs → IsSum v n (take i xs) s → m ≡ mark v n (get_or xs i 0) → 0 < m → IsSum v n (take (i + 1) xs) (min (s + m) 65)
   IsSum-more xs i s m lt before is more =
@@ -119,9 +116,7 @@ known_marks f g kept (e ∷ es) =
     known_step (eqb (f e) 0) (f e) (g e) (before_byte 0 (map f es)) (map g es) (kept e) (known_marks f g kept es)
 
 glued : (marks done more : List ℕ) → done ≡ take (length done) marks → more ≡ take (length more) (drop (length done) marks) → done ++ more ≡ take (length (done ++ more)) marks
-glued marks done more first then =
-    ap (λ l. l ++ more) first ∙ ap (λ l. take (length done) marks ++ l) then
-    ∙ sym (take-add (length done) (length more) marks) ∙ ap (λ k. take k marks) (sym (length-append done more))
+glued marks done more first then = grind (arith, first, then, take-add (length done) (length more) marks, length-append done more)
 
 later_is : (left later : List ℕ) → after_byte 0 left ≡ Some later → drop (length (before_byte 0 left) + 1) left ≡ later
 later_is left later h =

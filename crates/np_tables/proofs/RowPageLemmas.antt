@@ -33,10 +33,6 @@ pub number-some : (es : List Entry) (at c number : ℕ) (e : Entry) → AreRows 
 number-some es at c number e rows here low high is = grind (arith, slice_get_within es at e here, at-found es at c e rows here low high)
 
 -- the next row of a code point is that of a later one which it doesn't end before
-next-later : (es : List Entry) (at c d : ℕ) → IsNextRow es at c → c ≤ d → ((e : Entry) → slice_get es at ≡ Some e → d ≤ e.last) → IsNextRow es at d
-next-later es at c d next le here =
-    record { past = λ k e lt h. (let past = next.past k e lt h in omega arith); here = here }
-
 pub next-within : (es : List Entry) (at c d : ℕ) (e : Entry) → IsNextRow es at c → slice_get es at ≡ Some e → c ≤ d → d ≤ e.last → IsNextRow es at d
 next-within es at c d e next here le high = grind arith
 
