@@ -7,8 +7,7 @@ use Rattle.np_tables.proofs.Words.{Nfc, Nfkd, Nfkc, composes, is_compat, NeverFa
 use Rattle.np_tables.proofs.Words.{no_properties, property_place}
 use Rattle.np_tables.specs.declared.precomputed_forms.ByteRange.{ByteRange}
 use Rattle.np_tables.specs.declared.precomputed_tables.PrecomputedTables.{PrecomputedTables}
-use Rattle.np_tables.specs.inside.PrecomputedTables.{ArePrecomputedTables, IsPrecomputedOf, kept_of}
-use Rattle.np_tables.specs.inside.Tables.{ArePageTables}
+use Rattle.np_tables.specs.inside.PrecomputedTables.{ArePrecomputedTables, IsPrecomputedOf, kept_of, ArePageTables}
 use Rattle.np_tables.proofs.FullListLemmas.{code_range_of-grown}
 use Rattle.np_tables.proofs.CompositeLemmas.{composite-none, composite-some}
 use Rattle.np_tables.proofs.TableLemmas.{IsLent-table_full}

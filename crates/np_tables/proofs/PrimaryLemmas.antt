@@ -6,7 +6,7 @@ use Rattle.np_tables.proofs.Words.{is_syllable, VersionData, entry_at, file_kind
 use Rattle.np_tables.proofs.Words.{decomposition_kind, decomposition_mapping, has_hangul, is_assigned, is_primary, IsPrimary, IsCompositeOf, list_all}
 use Rattle.np_tables.proofs.Words.{slice_get, is_some, slice_get-get_or, IsSound, Composite, IsNeverSecond, is_late_jamo, AreSecondRows, AreSeconds}
 use Rattle.np_tables.proofs.Words.{is_row_never_second, touches, AreOfFile}
-use Rattle.np_tables.specs.inside.Accessors.{is_file_primary}
+use Rattle.np_tables.specs.inside.Primaries.{is_file_primary}
 use Rattle.np_code_points.proofs.HangulLemmas.{pair_kinds}
 use Rattle.np_tables.proofs.RowLemmas.{entry_at-row, entry_at-within}
 use Rattle.np_tables.proofs.HangulLemmas.{by_arithmetic, decomposition_kind-on, decomposition_mapping-on, hangul_parts, head_hangul, shape_of, syllable_row}
