@@ -1,5 +1,5 @@
 -- What a table of pages keeps of each form is so.
-use Rattle.std.proofs.Common.{◌≡◌, ℕ, ◌+◌, ◌*◌, ◌-◌, ◌/◌, ◌%◌, ◌≤◌, ◌==◌, ◌≢◌, Bool, true, false, not, ◌&&◌, Some, None, List, [], ◌∷◌, ◌++◌, flat_map, MatchBool, if◌then◌else◌, refl, sym, ap, subst, ◌∙◌, arith, inl, inr, eqb-true}
+use Rattle.std.proofs.Common.{◌≡◌, ℕ, ◌+◌, ◌-◌, ◌≤◌, ◌==◌, ◌≢◌, Bool, true, false, not, ◌&&◌, Some, None, List, [], ◌∷◌, ◌++◌, flat_map, MatchBool, refl, sym, ap, subst, ◌∙◌, arith, inl, inr, eqb-true}
 use Rattle.std.proofs.lemmas.Bool.Decides.{nat_tests}
 use Rattle.np_tables.proofs.Words.{and_from, and_parts, and_right, cond-true, both_ways, is_among, is_syllable, syllable_pair, Form, is_compat, composes, Nfd}
 use Rattle.np_tables.proofs.Words.{Nfc, Nfkd, Nfkc, IsBoundary, IsYesStarter, NeverFalls, ComposesTo, IsCompositeOf, IsSound, counts, is_final, parts}

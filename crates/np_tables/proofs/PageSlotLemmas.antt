@@ -15,7 +15,7 @@ pushed old more list new ranges new_ranges r grown within is fits here =
     subst (λ l. AreCodeRanges new l × (map (code_range_of new) l ≡ map (code_range_of old) ranges ++ list ∷ [])) (sym is) (
       All-push (IsCodeRange (length new)) ranges r (subst (λ n. AreCodeRanges n ranges) (sym grown) (AreCodeRanges-grown old more ranges within)) fits,
       map_push (code_range_of new) ranges r ∙ ap (λ l. map (code_range_of new) ranges ++ l ∷ []) here
-      ∙ ap (λ l. l ++ list ∷ []) (ap (λ n. map (code_range_of n) ranges) grown ∙ parts-grown old more ranges within),
+          ∙ ap (λ l. l ++ list ∷ []) (ap (λ n. map (code_range_of n) ranges) grown ∙ parts-grown old more ranges within),
     )
 
 module _ (v : VersionData) (c : ℕ) (old mid new : List ℕ) (one two : CodeRange) (first : mid ≡ old ++ table_full v false c) (second : new ≡ mid ++ table_full v true c)

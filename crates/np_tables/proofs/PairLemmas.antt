@@ -1,5 +1,5 @@
 -- Composites in the order of their pairs.
-use Rattle.std.proofs.Common.{◌≡◌, ℕ, ◌+◌, ◌<◌, ◌≤◌, ◌⊎◌, false, List, length, get_or, Some, ap, ◌∙◌, arith, inl, inr}
+use Rattle.std.proofs.Common.{◌≡◌, ℕ, ◌+◌, ◌<◌, ◌≤◌, false, List, length, get_or, Some, ap, ◌∙◌, arith, inl, inr}
 use Rattle.np_tables.proofs.Words.{cases_lt, get_or_default, slice_get-get_or, All, AllWithin, Composite, Lists, IsCompositeAt, pair_rank, rank, IsInRange}
 use Rattle.np_tables.proofs.Words.{AreOrdered}
 use Rattle.std.proofs.lemmas.Bool.Decides.{nat_tests}

@@ -1,5 +1,5 @@
 -- Primary composites by what the file says.
-use Rattle.std.proofs.Common.{◌≡◌, ℕ, ◌+◌, ◌<◌, ◌≤◌, true, false, ◌&&◌, ◌==◌, List, ◌∷◌, length, Option, Some, None, refl, sym, ap, ◌∙◌, arith, Bool, get_or}
+use Rattle.std.proofs.Common.{◌≡◌, ℕ, ◌<◌, ◌≤◌, true, false, ◌&&◌, List, length, Option, Some, None, refl, sym, ap, ◌∙◌, arith, Bool, get_or}
 use Rattle.std.proofs.lemmas.Bool.Decides.{nat_tests}
 use Rattle.np_tables.proofs.Words.{and_parts, and_right, both_ways, is_listed, Entry, IsRow, AreRows, HasLength, MapKind, Plain, Canonical, Compatibility}
 use Rattle.np_tables.proofs.Words.{is_syllable, VersionData, entry_at, file_kind, file_mapping, mapping_in, kind_in, is_canonical, is_empty, is_excluded}

@@ -1,5 +1,5 @@
 -- What a quick check says of its properties.
-use Rattle.std.proofs.Common.{◌≡◌, ℕ, ◌/◌, ◌<◌, ◌≤◌, ◌⊎◌, ◌&&◌, ◌||◌, ◌==◌, true, not, List, refl, ap, ◌∙◌, arith}
+use Rattle.std.proofs.Common.{◌≡◌, ℕ, ◌/◌, ◌<◌, ◌≤◌, ◌⊎◌, true, List, refl, ap, ◌∙◌, arith}
 use Rattle.std.proofs.lemmas.Bool.Decides.{nat_tests}
 use Rattle.np_tables.proofs.Words.{cond-true, Form, Nfd, Nfc, Nfkd, Nfkc, composes, Properties, has_bit, yes_place, AreWithin, property_place}
 use Rattle.np_tables.proofs.Words.{assigned_quick_check, quick_check_in, quick_check_of, quick_checks_of}

@@ -1,4 +1,4 @@
-use Rattle.std.proofs.Common.{◌≡◌, ◌∙◌, sym, ap, arith, option_map}
+use Rattle.std.proofs.Common.{◌∙◌, sym, ap, arith, option_map}
 use Rattle.np_ucd.specs.RowValues.{lent_entry}
 use Rattle.np_tables.proofs.RowLemmas.{at-row}
 use Rattle.np_tables.proofs.CountLemmas.{sizes-count, sizes-le, sizes-drop, sizes-end, sizes-past}

@@ -1,4 +1,4 @@
-use Rattle.std.proofs.Common.{◌≡◌, arith, ◌+◌, ◌∙◌, ap, sym, subst, length}
+use Rattle.std.proofs.Common.{◌≡◌, arith, ◌∙◌, ap, sym, subst, length}
 use Rattle.np_tables.proofs.Words.{entry_at, AreSecondRows}
 use Rattle.np_tables.proofs.PagePropertyLemmas.{seconds-more, seconds-past}
 use Rattle.np_tables.proofs.PrimaryLemmas.{seconds-all}

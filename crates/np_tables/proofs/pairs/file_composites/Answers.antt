@@ -1,4 +1,4 @@
-use Rattle.std.proofs.Common.{refl, ◌∷◌, [], ◌∙◌, sym, append-nil}
+use Rattle.std.proofs.Common.{refl, ◌∷◌, [], sym, append-nil}
 use Rattle.np_tables.proofs.Words.{All-push, lent_entry, IsInRange, composites_in}
 use Rattle.np_tables.proofs.FileCompositeLemmas.{flat_step}
 use Rattle.np_tables.proofs.pairs.file_composites.Goals.{in-Some+in_ok-push, in_default}
