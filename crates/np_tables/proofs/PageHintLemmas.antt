@@ -56,7 +56,8 @@ module _ (v : VersionData) (compat : Bool) (c first : ℕ) (rest : List ℕ) (fu
     hints-listed = record { boundary = λ form kind is. by_parts form kind (composes form) refl is; yes_starter = λ form kind is. by_yes form kind (composes form) refl is }
 
 -- by itself
-pub hints-own : (v : VersionData) (compat : Bool) (c class : ℕ) (never_second : Bool) → is_final v compat c ≡ true → class ≡ class_of v c → (never_second ≡ true → IsNeverSecond v c) → AreHints v compat c (own_hints class never_second)
+pub hints-own : (v : VersionData) (compat : Bool) (c class : ℕ) (never_second : Bool) → is_final v compat c ≡ true → class ≡ class_of v c →
+    (never_second ≡ true → IsNeverSecond v c) → AreHints v compat c (own_hints class never_second)
 hints-own v compat c class never_second final same alone =
     hints-listed v compat c c [] (record { reached = (0, refl); final = and_from _ _ final refl }) (own_hints class never_second) (λ is. sym same ∙ eqb-true class 0 is)
     (λ is. (and_parts (class == 0) never_second is).0) (λ is. alone (and_parts (class == 0) never_second is).1) (λ is. (is, tt, refl)) (λ is. is) (λ _. tt) (λ _. refl)
@@ -157,7 +158,8 @@ module _ (v : VersionData) (sound : IsSound v) (on : has_hangul v ≡ true) (com
       let range = among_bounds 0x1100 19 is.first is.is_leading in
       let back : 0x1100 + (is.first - 0x1100) ≡ is.first = omega arith in
       hints-listed v compat c is.first is.rest (subst (IsFullDecomposition v compat (c ∷ [])) is.full (IsFullDecomposition-full_of v compat sound.shallow c)) syllable_hints
-      (λ _. jamo_class is.first (leading_jamo is.first is.is_leading)) (λ _. refl) (λ _. subst (IsNeverSecond v) back (leading_consonants (is.first - 0x1100) (omega arith))) (λ on. absurd (both_ways _ refl on)) (λ _. refl) (λ _. is.rises) (λ _. is.folds)
+      (λ _. jamo_class is.first (leading_jamo is.first is.is_leading)) (λ _. refl) (λ _. subst (IsNeverSecond v) back (leading_consonants (is.first - 0x1100) (omega arith))) (λ on. absurd (both_ways _ refl on))
+      (λ _. refl) (λ _. is.rises) (λ _. is.folds)
 
 -- ---- both kinds in one number
 

@@ -21,8 +21,8 @@ same_place : (es : List Entry) (i j : ℕ) (e : Entry) → AreRows es → slice_
 same_place es i j e rows at bt = grind (arith, at-row es i e rows at, ends-before es i j e e rows at bt, ends-before es j i e e rows bt at)
 
 -- the row that has the second part of a composite is the one that is found for it
-second_at : (es : List Entry) (cs : List Composite) (count j k : ℕ) (here x : Composite) (e : Entry) → AreRows es → slice_get cs count ≡ Some here → count ≡ j → slice_get cs j ≡ Some x → slice_get es k ≡ Some e → e.first ≤ x.second → x.second ≤ e.last →
-    entry_at es here.second ≡ Some e
+second_at : (es : List Entry) (cs : List Composite) (count j k : ℕ) (here x : Composite) (e : Entry) → AreRows es → slice_get cs count ≡ Some here → count ≡ j →
+    slice_get cs j ≡ Some x → slice_get es k ≡ Some e → e.first ≤ x.second → x.second ≤ e.last → entry_at es here.second ≡ Some e
 second_at es cs count j k here x e rows is there jt kt low high =
     ap (λ (y : Composite). entry_at es y.second) (same_Some here x (sym is ∙ ap (slice_get cs) there ∙ jt)) ∙ sym (at-found es k x.second e rows kt low high) ∙ kt
 

@@ -9,8 +9,8 @@ use Rattle.np_tables.proofs.FullListLemmas.{code_range_of-grown, parts-grown, Ar
 -- ---- one slot more
 
 -- one range more, which has this list, over code points that begin with the old ones
-pushed : (old more list new : List ℕ) (ranges new_ranges : List CodeRange) (r : CodeRange) → new ≡ old ++ more → AreCodeRanges old ranges → new_ranges ≡ ranges ++ r ∷ [] → IsCodeRange (length new) r → code_range_of new r ≡ list →
-    AreCodeRanges new new_ranges × (map (code_range_of new) new_ranges ≡ map (code_range_of old) ranges ++ list ∷ [])
+pushed : (old more list new : List ℕ) (ranges new_ranges : List CodeRange) (r : CodeRange) → new ≡ old ++ more → AreCodeRanges old ranges →
+    new_ranges ≡ ranges ++ r ∷ [] → IsCodeRange (length new) r → code_range_of new r ≡ list → AreCodeRanges new new_ranges × (map (code_range_of new) new_ranges ≡ map (code_range_of old) ranges ++ list ∷ [])
 pushed old more list new ranges new_ranges r grown within is fits here =
     subst (λ l. AreCodeRanges new l × (map (code_range_of new) l ≡ map (code_range_of old) ranges ++ list ∷ [])) (sym is) (
       All-push (IsCodeRange (length new)) ranges r (subst (λ n. AreCodeRanges n ranges) (sym grown) (AreCodeRanges-grown old more ranges within)) fits,
@@ -40,7 +40,8 @@ module _ (v : VersionData) (c : ℕ) (old mid new : List ℕ) (one two : CodeRan
         let right = pushed old (a ++ b) b new compatible new_compatible two whole in_compatible grown_two (omega arith, omega arith) compatible_is in
         record { canonical_within = left.0; compatible_within = right.0; canonical_grown = left.1; compatible_grown = right.1 }
 
-    pub pushed-shared : (kept : List ℕ) → code_range_of new one ≡ code_range_of new two → kept ≡ take one.end new → new_compatible ≡ compatible ++ one ∷ [] → IsSlotPushed v c old canonical compatible kept new_canonical new_compatible
+    pub pushed-shared : (kept : List ℕ) → code_range_of new one ≡ code_range_of new two → kept ≡ take one.end new →
+        new_compatible ≡ compatible ++ one ∷ [] → IsSlotPushed v c old canonical compatible kept new_canonical new_compatible
     pushed-shared kept same cut grown_two =
         let a = table_full v false c in
         let front : kept ≡ mid = cut ∙ ap (take one.end) second ∙ ap (λ n. take n (mid ++ table_full v true c)) middle ∙ take-append_seam mid (table_full v true c) in

@@ -76,7 +76,8 @@ below_out e c h = and_left (nat_le e.first c) (nat_le c e.last) (lt-leb e.first 
 pub at-found : (es : List Entry) (i c : ℕ) (e : Entry) → AreRows es → slice_get es i ≡ Some e → e.first ≤ c → c ≤ e.last → slice_get es i ≡ entry_at es c
 at-found [] i c e rows h low high = cc
 at-found (x ∷ xs) zero c e rows h low high = grind (arith, nat_tests, entry_at-hit)
-at-found (x ∷ xs) (suc i) c e rows h low high = grind (arith, nat_tests, entry_at-miss, rises xs (x.last + 1) i e rows.2 (from_before x xs x.last rows.1 (omega arith)) h, at-found xs i c e rows.2 h low high)
+at-found (x ∷ xs) (suc i) c e rows h low high =
+    grind (arith, nat_tests, entry_at-miss, rises xs (x.last + 1) i e rows.2 (from_before x xs x.last rows.1 (omega arith)) h, at-found xs i c e rows.2 h low high)
 
 -- no row has the code point
 pub none-found : (es : List Entry) (c : ℕ) → ((k : ℕ) → k < length es → lies_in (slice_get es k) c ≡ false) → entry_at es c ≡ None

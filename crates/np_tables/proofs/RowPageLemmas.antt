@@ -59,7 +59,8 @@ next-behind es at c e rows next here end =
 -- ---- what serves 256 code points
 
 pub no_row-left : (es : List Entry) (at first : ℕ) → AreRows es → IsNextRow es at first → slice_get es at ≡ None → HasNoRow es at first
-no_row-left es at first rows next none = grind (arith, next-left es at first (first + 256) next none, λ (low : ℕ). none_left es at (first + low) rows (next-left es at first (first + low) next none (omega arith)) none)
+no_row-left es at first rows next none =
+    grind (arith, next-left es at first (first + 256) next none, λ (low : ℕ). none_left es at (first + low) rows (next-left es at first (first + low) next none (omega arith)) none)
 
 pub no_row-behind : (es : List Entry) (at first : ℕ) (e : Entry) → AreRows es → IsNextRow es at first → slice_get es at ≡ Some e → first + 256 ≤ e.first → HasNoRow es at first
 no_row-behind es at first e rows next here le = grind (arith, at-row es at e rows here, next-within, none_behind)

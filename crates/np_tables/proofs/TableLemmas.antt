@@ -45,7 +45,9 @@ of_kind-is v true lists h = h.compatible
 
 -- a row lends to each of its code points what it lends to its first
 pub row-shares : (v : VersionData) (compat : Bool) (c at : ℕ) (e : Entry) → AreRows v.entries → slice_get v.entries at ≡ Some e → entry_at v.entries c ≡ Some e → table_full v compat e.first ≡ table_full v compat c
-row-shares v compat c at e rows place found = grind (arith, file_mapping-found v e.first e (first-at v.entries at e rows place), file_mapping-found v c e found, lent-outside, at-row v.entries at e rows place, entry_at-within v.entries c e found, cases_Bool (is_empty e.mapping), is_empty-false e.mapping)
+row-shares v compat c at e rows place found =
+    let own = file_mapping-found v e.first e (first-at v.entries at e rows place) in
+    grind (arith, own, file_mapping-found v c e found, lent-outside, at-row v.entries at e rows place, entry_at-within v.entries c e found, cases_Bool (is_empty e.mapping), is_empty-false e.mapping)
 
 pub full-value : (v : VersionData) (compat : Bool) (c at : ℕ) (lists : List (List ℕ)) → AreRows v.entries → lists ≡ map (row_full v compat) v.entries → at < length v.entries → slice_get v.entries at ≡ entry_at v.entries c →
     get_or lists at [] ≡ table_full v compat c

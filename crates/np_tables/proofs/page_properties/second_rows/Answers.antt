@@ -12,9 +12,11 @@ loop-place-preserved c =
     let place = c.loop-place.place in
     elim c.match-place_of.branch [
       | in-Some w ↦
-          rw w.seconds-is (seconds-more es cs place w.in-Some.at c.loop-place.seconds.items c.at.result c.len.ensures.rows c.loop-place.invariant c.at.ensures.place w.in-Some.ensures.within (w.in-Some.ensures.row ∙ ap (entry_at es) c.from.ensures))
+          rw w.seconds-is
+          (seconds-more es cs place w.in-Some.at c.loop-place.seconds.items c.at.result c.len.ensures.rows c.loop-place.invariant c.at.ensures.place w.in-Some.ensures.within (w.in-Some.ensures.row ∙ ap (entry_at es) c.from.ensures))
       | in_default w ↦
-          rw w.seconds-is (seconds-past es cs place c.loop-place.seconds.items c.at.result c.len.ensures.rows c.loop-place.invariant c.at.ensures.place (sym (ap (entry_at es) c.from.ensures) ∙ w.in_default.ensures.none))
+          rw w.seconds-is
+          (seconds-past es cs place c.loop-place.seconds.items c.at.result c.len.ensures.rows c.loop-place.invariant c.at.ensures.place (sym (ap (entry_at es) c.from.ensures) ∙ w.in_default.ensures.none))
     ]
 
 pub returns : goal.returns
