@@ -4,7 +4,7 @@ use Rattle.np_tables.proofs.Words.{prefix_len, cases_lt, leb-false, length-map, 
 use Rattle.np_tables.proofs.Words.{run_in_chunk_fails, run_in_chunk_le, tops_compared, trailing_mask_l}
 use Rattle.np_tables.proofs.Words.{count_trailing_zeros, chunk, mask_l, top, zip2}
 use mir.Syntax.{w8}
-use Rattle.np_tables.specs.inside.AsciiBytes.{is_ascii_byte}
+use Rattle.np_tables.specs.inside.LeadBytes.{is_ascii_byte}
 
 pub zip2-splat : (t : ℕ → ℕ → Bool) (n y : ℕ) (xs : List ℕ) → length xs ≡ n → zip2 t (replicate n y) xs ≡ map (λ x. t y x) xs
 zip2-splat t zero y [] long = refl

@@ -1,18 +1,17 @@
 -- What a table of pages keeps of each form is so.
-use Rattle.std.proofs.Common.{◌≡◌, ℕ, ◌+◌, ◌*◌, ◌-◌, ◌/◌, ◌%◌, ◌≤◌, ◌==◌, ◌≢◌, Bool, true, false, not, ◌&&◌, Some, None, List, [], ◌∷◌, ◌++◌, flat_map, MatchBool, if◌then◌else◌, refl, sym, ap, subst, ◌∙◌, arith, inl, inr, eqb-true}
-use Rattle.np_tables.proofs.Words.{and_cases, and_from, and_parts, and_right, cond-true, both_ways, not-false, is_among}
-use Rattle.np_tables.proofs.Words.{is_syllable, syllable_pair, Form, is_compat, composes, Nfd, Nfc, Nfkd, Nfkc}
-use Rattle.np_tables.proofs.Words.{IsBoundary, IsYesStarter, NeverFalls, ComposesTo, IsCompositeOf, IsSound, counts}
-use Rattle.np_tables.proofs.Words.{is_final, parts, IsFullDecomposition, Entry, IsRow, VersionData, class_of, entry_at}
-use Rattle.np_tables.proofs.Words.{has_hangul, is_empty, Composite, full_of, table_full, AreBits, AreHints}
-use Rattle.np_tables.proofs.Words.{AreLeadingNeverSecond, ComposesByPairs, IsNeverSecond, bit, eight_bits, four_bits, has_bit, own_hints}
-use Rattle.np_tables.proofs.Words.{boundary_place, boundary_under, syllable_hints, yes_place, yes_under, AreRowBits}
-use Rattle.np_tables.proofs.Words.{touches, AreOfFile}
+use Rattle.std.proofs.Common.{◌≡◌, ℕ, ◌+◌, ◌-◌, ◌≤◌, ◌==◌, ◌≢◌, Bool, true, false, not, ◌&&◌, Some, None, List, [], ◌∷◌, ◌++◌, flat_map, MatchBool, refl, sym, ap, subst, ◌∙◌, arith, inl, inr, eqb-true}
+use Rattle.std.proofs.lemmas.Bool.Decides.{nat_tests}
+use Rattle.np_tables.proofs.Words.{and_from, and_parts, and_right, cond-true, both_ways, is_among, is_syllable, syllable_pair, Form, is_compat, composes, Nfd}
+use Rattle.np_tables.proofs.Words.{Nfc, Nfkd, Nfkc, IsBoundary, IsYesStarter, NeverFalls, ComposesTo, IsCompositeOf, IsSound, counts, is_final, parts}
+use Rattle.np_tables.proofs.Words.{IsFullDecomposition, Entry, IsRow, VersionData, class_of, entry_at, has_hangul, is_empty, Composite, full_of, table_full}
+use Rattle.np_tables.proofs.Words.{AreBits, AreHints, AreLeadingNeverSecond, ComposesByPairs, IsNeverSecond, bit, eight_bits, has_bit, own_hints}
+use Rattle.np_tables.proofs.Words.{boundary_place, boundary_under, syllable_hints, yes_place, yes_under, AreRowBits, touches, AreOfFile}
 use Rattle.np_code_points.proofs.HangulLemmas.{among_bounds, among_from_bounds, pair_exists, pair_kinds}
 use Rattle.np_tables.specs.declared.page_hints.Hints.{Hints}
 use Rattle.np_tables.proofs.FileRowLemmas.{file_kind-found, file_mapping-found, mapped-off}
 use Rattle.np_tables.proofs.FullListLemmas.{empty_parts, row-lent, parts-passed}
-use Rattle.np_tables.proofs.HangulLemmas.{IsJamo, IsLv, by_arithmetic, decomposition_kind-on, decomposition_mapping-on, jamo_bare, leading_jamo, lv_shape, trailing_jamo, vowel_jamo}
+use Rattle.np_tables.proofs.HangulLemmas.{IsJamo, IsLv, by_arithmetic, decomposition_kind-on, decomposition_mapping-on, jamo_bare, leading_jamo, lv_shape}
+use Rattle.np_tables.proofs.HangulLemmas.{trailing_jamo, vowel_jamo}
 use Rattle.np_tables.proofs.MappingLemmas.{IsFullDecomposition-full_of, full_of-final, full_of-mapped, is_empty_from, parts-cases}
 use Rattle.np_tables.proofs.PrimaryLemmas.{primary-syllable, never_second-unlisted, no_syllable}
 use Rattle.np_tables.proofs.RowLemmas.{entry_at-within}
@@ -30,7 +29,8 @@ module _ (v : VersionData) (compat : Bool) (c first : ℕ) (rest : List ℕ) (fu
   boundary-of form kind starter never_second =
       record { first = first; rest = rest; decomposes = subst (λ b. IsFullDecomposition v b (c ∷ []) (first ∷ rest)) (sym kind) full; starter = starter; never_second = never_second }
 
-  module _ (h : Hints) (none : h.yes_starter ≡ false) (starter : h.boundary ≡ true → class_of v first ≡ 0) (both : h.boundary_composing ≡ true → h.boundary ≡ true) (never_second : h.boundary_composing ≡ true → IsNeverSecond v first)
+  module _ (h : Hints) (starter : h.boundary ≡ true → class_of v first ≡ 0) (both : h.boundary_composing ≡ true → h.boundary ≡ true) (never_second : h.boundary_composing ≡ true → IsNeverSecond v first)
+      (single : h.yes_starter ≡ true → (h.boundary ≡ true) × NeverFalls (class_of v) rest × (first ∷ rest ≡ c ∷ []))
       (too : h.yes_starter_composing ≡ true → h.boundary_composing ≡ true) (rises : h.yes_starter_composing ≡ true → NeverFalls (class_of v) rest) (folds : h.yes_starter_composing ≡ true → ComposesTo v first rest c) where
     by_parts : (form : Form) → is_compat form ≡ compat → (b : Bool) → composes form ≡ b → boundary_under b h ≡ true → IsBoundary v form c
     by_parts form kind false e is = boundary-of form kind (starter is) (λ on. absurd (both_ways _ e on))
@@ -38,7 +38,12 @@ module _ (v : VersionData) (compat : Bool) (c first : ℕ) (rest : List ℕ) (fu
 
     by_yes : (form : Form) → is_compat form ≡ compat → (b : Bool) → composes form ≡ b → yes_under b h ≡ true → IsYesStarter v form c
     unfolding boundary-of
-    by_yes form kind false e is = absurd (both_ways _ none is)
+    by_yes form kind false e is =
+        record {
+          boundary = boundary-of form kind (starter (single is).0) (λ on. absurd (both_ways _ e on));
+          rises = (single is).1;
+          returns = subst (λ b. MatchBool b (ComposesTo v first rest c) (first ∷ rest ≡ c ∷ [])) (sym e) (single is).2;
+        }
     by_yes form kind true e is =
         record {
           boundary = boundary-of form kind (starter (both (too is))) (λ on. never_second (too is));
@@ -46,44 +51,16 @@ module _ (v : VersionData) (compat : Bool) (c first : ℕ) (rest : List ℕ) (fu
           returns = subst (λ b. MatchBool b (ComposesTo v first rest c) (first ∷ rest ≡ c ∷ [])) (sym e) (folds is);
         }
 
-    -- it begins with a starter; that is no second part where the form composes; and what is left composes with it
+    -- it begins with a starter; that is no second part where the form composes; and what is left composes with it, or nothing is left
     pub hints-listed : AreHints v compat c h
     hints-listed = record { boundary = λ form kind is. by_parts form kind (composes form) refl is; yes_starter = λ form kind is. by_yes form kind (composes form) refl is }
 
--- ---- by itself
-
-starter_of : (b : Bool) (class : ℕ) (never_second : Bool) → boundary_under b (own_hints class never_second) ≡ true → class ≡ 0
-starter_of false class never_second is = eqb-true class 0 is
-starter_of true class never_second is = eqb-true class 0 (and_parts (class == 0) never_second is).0
-
-never_second_of : (b : Bool) (class : ℕ) (never_second : Bool) → boundary_under b (own_hints class never_second) ≡ true → b ≡ true → never_second ≡ true
-never_second_of false class never_second is on = absurd (both_ways _ refl on)
-never_second_of true class never_second is on = (and_parts (class == 0) never_second is).1
-
-yes_as : (b : Bool) (class : ℕ) (never_second : Bool) → yes_under b (own_hints class never_second) ≡ true → boundary_under b (own_hints class never_second) ≡ true
-yes_as false class never_second is = is
-yes_as true class never_second is = is
-
-returns_itself : (v : VersionData) (c : ℕ) (b : Bool) → MatchBool b (ComposesTo v c [] c) (c ∷ [] ≡ c ∷ [])
-returns_itself v c true = refl
-returns_itself v c false = refl
-
-module _ (v : VersionData) (compat : Bool) (c class : ℕ) (never_second : Bool) (final : is_final v compat c ≡ true) (same : class ≡ class_of v c) (alone : never_second ≡ true → IsNeverSecond v c) where
-  itself : IsFullDecomposition v compat (c ∷ []) (c ∷ [])
-  itself = record { reached = (0, refl); final = and_from _ _ final refl }
-
-  own-boundary : (form : Form) → is_compat form ≡ compat → boundary_under (composes form) (own_hints class never_second) ≡ true → IsBoundary v form c
-  unfolding boundary-of
-  own-boundary form kind is =
-      boundary-of v compat c c [] itself form kind (sym same ∙ starter_of (composes form) class never_second is) (λ on. alone (never_second_of (composes form) class never_second is on))
-
-  pub hints-own : AreHints v compat c (own_hints class never_second)
-  unfolding own-boundary boundary-of
-  hints-own =
-      record {
-        boundary = own-boundary;
-        yes_starter = λ form kind is. record { boundary = own-boundary form kind (yes_as (composes form) class never_second is); rises = tt; returns = returns_itself v c (composes form) };
-      }
+-- by itself
+pub hints-own : (v : VersionData) (compat : Bool) (c class : ℕ) (never_second : Bool) → is_final v compat c ≡ true → class ≡ class_of v c →
+    (never_second ≡ true → IsNeverSecond v c) → AreHints v compat c (own_hints class never_second)
+hints-own v compat c class never_second final same alone =
+    hints-listed v compat c c [] (record { reached = (0, refl); final = and_from _ _ final refl }) (own_hints class never_second) (λ is. sym same ∙ eqb-true class 0 is)
+    (λ is. (and_parts (class == 0) never_second is).0) (λ is. alone (and_parts (class == 0) never_second is).1) (λ is. (is, tt, refl)) (λ is. is) (λ _. tt) (λ _. refl)
 
 -- ---- all but that it passes where the form composes
 
@@ -153,32 +130,26 @@ module _ (v : VersionData) (sound : IsSound v) (on : has_hangul v ≡ true) (com
   jamo_class : (c : ℕ) → IsJamo c → class_of v c ≡ 0
   jamo_class c jamo = (by_arithmetic v on c jamo.hangul).class
 
-  unfolds-two : (c : ℕ) → IsLv c → Unfolds v compat c
-  unfolds-two c is =
-      record { first = is.leading; rest = is.vowel ∷ []; full = lv_full c is; is_leading = leading c is; rises = tt; folds = (c, pair_composite c is.leading is.vowel is.syllable is.pair, refl) }
-
-  unfolds-three : (c a b : ℕ) → is_syllable c ≡ true → syllable_pair c ≡ a ∷ b ∷ [] → IsLv a → IsJamo b → Unfolds v compat c
-  unfolds-three c a b h pair is jamo =
-      let vowel = jamo_class is.vowel is.second in
-      record {
-        first = is.leading;
-        rest = is.vowel ∷ b ∷ [];
-        full = pair_full c a b h pair ∙ ap (λ l. l ++ (full_of v compat b ++ [])) (lv_full a is) ∙ ap (λ l. (is.leading ∷ is.vowel ∷ []) ++ (l ++ [])) (jamo_full b jamo);
-        is_leading = leading a is;
-        rises = (omega arith, tt);
-        folds = (a, pair_composite a is.leading is.vowel is.syllable is.pair, (c, pair_composite c a b h pair, refl));
-      }
-
   pub unfolds : (c : ℕ) → is_syllable c ≡ true → Unfolds v compat c
   unfolds c h =
       let pair = pair_exists c in
       elim (pair_kinds c pair.0 pair.1 h pair.2) [
         | inl lv ↦
             let is : IsLv c = record { syllable = h; leading = pair.0; vowel = pair.1; pair = pair.2; first = leading_jamo pair.0 lv.0; second = vowel_jamo pair.1 lv.1 } in
-            unfolds-two c is
+            record { first = is.leading; rest = is.vowel ∷ []; full = lv_full c is; is_leading = lv.0; rises = tt; folds = (c, pair_composite c is.leading is.vowel h is.pair, refl) }
         | inr lvt ↦
             let front = and_parts (is_syllable pair.0) _ lvt.0 in
-            unfolds-three c pair.0 pair.1 h pair.2 (lv_shape pair.0 front.0 (eqb-true _ 0 front.1)) (trailing_jamo pair.1 lvt.1)
+            let is = lv_shape pair.0 front.0 (eqb-true _ 0 front.1) in
+            let jamo = trailing_jamo pair.1 lvt.1 in
+            let vowel = jamo_class is.vowel is.second in
+            record {
+              first = is.leading;
+              rest = is.vowel ∷ pair.1 ∷ [];
+              full = pair_full c pair.0 pair.1 h pair.2 ∙ ap (λ l. l ++ (full_of v compat pair.1 ++ [])) (lv_full pair.0 is) ∙ ap (λ l. (is.leading ∷ is.vowel ∷ []) ++ (l ++ [])) (jamo_full pair.1 jamo);
+              is_leading = leading pair.0 is;
+              rises = (omega arith, tt);
+              folds = (pair.0, pair_composite pair.0 is.leading is.vowel is.syllable is.pair, (c, pair_composite c pair.0 pair.1 h pair.2, refl));
+            }
       ]
 
   pub hints-syllable : (c : ℕ) → is_syllable c ≡ true → AreLeadingNeverSecond v → AreHints v compat c syllable_hints
@@ -187,7 +158,8 @@ module _ (v : VersionData) (sound : IsSound v) (on : has_hangul v ≡ true) (com
       let range = among_bounds 0x1100 19 is.first is.is_leading in
       let back : 0x1100 + (is.first - 0x1100) ≡ is.first = omega arith in
       hints-listed v compat c is.first is.rest (subst (IsFullDecomposition v compat (c ∷ [])) is.full (IsFullDecomposition-full_of v compat sound.shallow c)) syllable_hints
-      refl (λ _. jamo_class is.first (leading_jamo is.first is.is_leading)) (λ _. refl) (λ _. subst (IsNeverSecond v) back (leading_consonants (is.first - 0x1100) (omega arith))) (λ _. refl) (λ _. is.rises) (λ _. is.folds)
+      (λ _. jamo_class is.first (leading_jamo is.first is.is_leading)) (λ _. refl) (λ _. subst (IsNeverSecond v) back (leading_consonants (is.first - 0x1100) (omega arith))) (λ on. absurd (both_ways _ refl on))
+      (λ _. refl) (λ _. is.rises) (λ _. is.folds)
 
 -- ---- both kinds in one number
 
@@ -199,70 +171,24 @@ bit-low : (b : Bool) → bit b ≤ 1
 bit-low false = omega arith
 bit-low true = omega arith
 
--- four bits and what stands above them
-bit_0 : (p q r s m : ℕ) → p ≤ 1 → (p + 2 * q + 4 * r + 8 * s + 16 * m) / 1 % 2 ≡ 1 → p ≡ 1
-bit_0 p q r s m lp h = omega arith
+bits-low : (h : Hints) → (bit h.boundary ≤ 1) × (bit h.boundary_composing ≤ 1) × (bit h.yes_starter ≤ 1) × (bit h.yes_starter_composing ≤ 1)
+bits-low h = (bit-low h.boundary, bit-low h.boundary_composing, bit-low h.yes_starter, bit-low h.yes_starter_composing)
 
-bit_1 : (p q r s m : ℕ) → p ≤ 1 → q ≤ 1 → (p + 2 * q + 4 * r + 8 * s + 16 * m) / 2 % 2 ≡ 1 → q ≡ 1
-bit_1 p q r s m lp lq h = omega arith
+module _ (a b : Hints) (v : VersionData) (c : ℕ) (canonical : AreHints v false c a) (compatible : AreHints v true c b) where
+  boundary-bit : (form : Form) → has_bit (eight_bits a b) (boundary_place form) ≡ true → IsBoundary v form c
+  boundary-bit Nfd h = canonical.boundary Nfd refl (bit-one a.boundary (omega (arith, bits-low a, bits-low b, eqb-true _ 1 h)))
+  boundary-bit Nfc h = canonical.boundary Nfc refl (bit-one a.boundary_composing (omega (arith, bits-low a, bits-low b, eqb-true _ 1 h)))
+  boundary-bit Nfkd h = compatible.boundary Nfkd refl (bit-one b.boundary (omega (arith, bits-low a, bits-low b, eqb-true _ 1 h)))
+  boundary-bit Nfkc h = compatible.boundary Nfkc refl (bit-one b.boundary_composing (omega (arith, bits-low a, bits-low b, eqb-true _ 1 h)))
 
-bit_2 : (p q r s m : ℕ) → p ≤ 1 → q ≤ 1 → r ≤ 1 → (p + 2 * q + 4 * r + 8 * s + 16 * m) / 4 % 2 ≡ 1 → r ≡ 1
-bit_2 p q r s m lp lq lr h = omega arith
+  yes_starter-bit : (form : Form) → has_bit (eight_bits a b) (yes_place form) ≡ true → IsYesStarter v form c
+  yes_starter-bit Nfd h = canonical.yes_starter Nfd refl (bit-one a.yes_starter (omega (arith, bits-low a, bits-low b, eqb-true _ 1 h)))
+  yes_starter-bit Nfc h = canonical.yes_starter Nfc refl (bit-one a.yes_starter_composing (omega (arith, bits-low a, bits-low b, eqb-true _ 1 h)))
+  yes_starter-bit Nfkd h = compatible.yes_starter Nfkd refl (bit-one b.yes_starter (omega (arith, bits-low a, bits-low b, eqb-true _ 1 h)))
+  yes_starter-bit Nfkc h = compatible.yes_starter Nfkc refl (bit-one b.yes_starter_composing (omega (arith, bits-low a, bits-low b, eqb-true _ 1 h)))
 
-bit_3 : (p q r s m : ℕ) → p ≤ 1 → q ≤ 1 → r ≤ 1 → s ≤ 1 → (p + 2 * q + 4 * r + 8 * s + 16 * m) / 8 % 2 ≡ 1 → s ≡ 1
-bit_3 p q r s m lp lq lr ls h = omega arith
-
-bit_4 : (n p q r s : ℕ) → n ≤ 15 → p ≤ 1 → (n + 16 * (p + 2 * q + 4 * r + 8 * s)) / 16 % 2 ≡ 1 → p ≡ 1
-bit_4 n p q r s ln lp h = omega arith
-
-bit_5 : (n p q r s : ℕ) → n ≤ 15 → p ≤ 1 → q ≤ 1 → (n + 16 * (p + 2 * q + 4 * r + 8 * s)) / 32 % 2 ≡ 1 → q ≡ 1
-bit_5 n p q r s ln lp lq h = omega arith
-
-bit_6 : (n p q r s : ℕ) → n ≤ 15 → p ≤ 1 → q ≤ 1 → r ≤ 1 → (n + 16 * (p + 2 * q + 4 * r + 8 * s)) / 64 % 2 ≡ 1 → r ≡ 1
-bit_6 n p q r s ln lp lq lr h = omega arith
-
-bit_7 : (n p q r s : ℕ) → n ≤ 15 → p ≤ 1 → q ≤ 1 → r ≤ 1 → s ≤ 1 → (n + 16 * (p + 2 * q + 4 * r + 8 * s)) / 128 % 2 ≡ 1 → s ≡ 1
-bit_7 n p q r s ln lp lq lr ls h = omega arith
-
-four_low : (h : Hints) → four_bits h ≤ 15
-four_low h =
-    let p = bit-low h.boundary in
-    let q = bit-low h.boundary_composing in
-    let r = bit-low h.yes_starter in
-    let s = bit-low h.yes_starter_composing in
-    omega arith
-
-module _ (a b : Hints) where
-  boundary-bit : (form : Form) → has_bit (eight_bits a b) (boundary_place form) ≡ true → boundary_under (composes form) (if is_compat form then b else a) ≡ true
-  boundary-bit Nfd h = bit-one a.boundary (bit_0 (bit a.boundary) (bit a.boundary_composing) (bit a.yes_starter) (bit a.yes_starter_composing) (four_bits b) (bit-low a.boundary) (eqb-true _ 1 h))
-  boundary-bit Nfc h = bit-one a.boundary_composing (bit_1 (bit a.boundary) (bit a.boundary_composing) (bit a.yes_starter) (bit a.yes_starter_composing) (four_bits b) (bit-low a.boundary) (bit-low a.boundary_composing) (eqb-true _ 1 h))
-  boundary-bit Nfkd h = bit-one b.boundary (bit_4 (four_bits a) (bit b.boundary) (bit b.boundary_composing) (bit b.yes_starter) (bit b.yes_starter_composing) (four_low a) (bit-low b.boundary) (eqb-true _ 1 h))
-  boundary-bit Nfkc h =
-      bit-one b.boundary_composing (bit_5 (four_bits a) (bit b.boundary) (bit b.boundary_composing) (bit b.yes_starter) (bit b.yes_starter_composing) (four_low a) (bit-low b.boundary) (bit-low b.boundary_composing) (eqb-true _ 1 h))
-
-  yes_starter-bit : (form : Form) → has_bit (eight_bits a b) (yes_place form) ≡ true → yes_under (composes form) (if is_compat form then b else a) ≡ true
-  yes_starter-bit Nfd h =
-      bit-one a.yes_starter (bit_2 (bit a.boundary) (bit a.boundary_composing) (bit a.yes_starter) (bit a.yes_starter_composing) (four_bits b) (bit-low a.boundary) (bit-low a.boundary_composing) (bit-low a.yes_starter) (eqb-true _ 1 h))
-  yes_starter-bit Nfc h =
-      bit-one a.yes_starter_composing
-      (bit_3 (bit a.boundary) (bit a.boundary_composing) (bit a.yes_starter) (bit a.yes_starter_composing) (four_bits b) (bit-low a.boundary) (bit-low a.boundary_composing) (bit-low a.yes_starter) (bit-low a.yes_starter_composing) (eqb-true _ 1 h))
-  yes_starter-bit Nfkd h =
-      bit-one b.yes_starter (bit_6 (four_bits a) (bit b.boundary) (bit b.boundary_composing) (bit b.yes_starter) (bit b.yes_starter_composing) (four_low a) (bit-low b.boundary) (bit-low b.boundary_composing) (bit-low b.yes_starter) (eqb-true _ 1 h))
-  yes_starter-bit Nfkc h =
-      bit-one b.yes_starter_composing
-      (bit_7 (four_bits a) (bit b.boundary) (bit b.boundary_composing) (bit b.yes_starter) (bit b.yes_starter_composing) (four_low a) (bit-low b.boundary) (bit-low b.boundary_composing) (bit-low b.yes_starter) (bit-low b.yes_starter_composing) (eqb-true _ 1 h))
-
-  module _ (v : VersionData) (c : ℕ) (canonical : AreHints v false c a) (compatible : AreHints v true c b) where
-    boundary-both : (form : Form) → (k : Bool) → is_compat form ≡ k → boundary_under (composes form) (if k then b else a) ≡ true → IsBoundary v form c
-    boundary-both form false e is = canonical.boundary form e is
-    boundary-both form true e is = compatible.boundary form e is
-
-    yes_starter-both : (form : Form) → (k : Bool) → is_compat form ≡ k → yes_under (composes form) (if k then b else a) ≡ true → IsYesStarter v form c
-    yes_starter-both form false e is = canonical.yes_starter form e is
-    yes_starter-both form true e is = compatible.yes_starter form e is
-
-    pub bits-hints : AreBits v c (eight_bits a b)
-    bits-hints = record { boundary = λ form is. boundary-both form (is_compat form) refl (boundary-bit form is); yes_starter = λ form is. yes_starter-both form (is_compat form) refl (yes_starter-bit form is) }
+  pub bits-hints : AreBits v c (eight_bits a b)
+  bits-hints = record { boundary = boundary-bit; yes_starter = yes_starter-bit }
 
 -- ---- the bits of rows
 
@@ -285,10 +211,7 @@ module _ (v : VersionData) (e : Entry) where
   -- a code point with a mapping stands alone
   pub bits-mapped : (canonical compatible : Hints) → IsRow e → e.mapping ≢ [] → AreHints v false e.first canonical → AreHints v true e.first compatible → AreRowBits v e (eight_bits canonical compatible)
   bits-mapped canonical compatible row some one two c found =
-      let within = entry_at-within v.entries c e found in
-      let alone = row.alone some in
-      let same : e.first ≡ c = omega arith in
-      subst (λ d. AreBits v d (eight_bits canonical compatible)) same (bits-hints canonical compatible v e.first one two)
+      subst (λ d. AreBits v d (eight_bits canonical compatible)) (omega (arith, row.alone some, entry_at-within v.entries c e found)) (bits-hints canonical compatible v e.first one two)
 
   -- what a table lends is the full decomposition
   pub lent-decomposes : (compat : Bool) (lent : List ℕ) → IsSound v → entry_at v.entries e.first ≡ Some e → (counts compat e.kind && not (is_empty e.mapping)) ≡ true → lent ≡ table_full v compat e.first →
@@ -301,10 +224,7 @@ module _ (v : VersionData) (e : Entry) where
   not_lent-final compat some found none =
       let mapping = file_mapping-found v e.first e found in
       let off = mapped-off v e.first (ap is_empty mapping ∙ is_empty_from e.mapping some) in
-      elim (and_cases (counts compat e.kind) (not (is_empty e.mapping)) none) [
-        | inl passed ↦ ap is_empty (parts-passed v compat e.first off (ap (counts compat) (file_kind-found v e.first e found) ∙ passed))
-        | inr empty ↦ empty_parts v compat e.first off (ap is_empty mapping ∙ not-false _ empty)
-      ]
+      grind (arith, nat_tests, mapping, off, parts-passed v compat e.first, file_kind-found v e.first e found, empty_parts v compat e.first off)
 
 -- a code point that no row has
 pub bits-unlisted : (v : VersionData) (c : ℕ) → IsSound v → entry_at v.entries c ≡ None → 0 ≡ class_of v c → ((compat : Bool) → is_final v compat c ≡ true) → AreBits v c 255

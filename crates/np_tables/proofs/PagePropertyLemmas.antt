@@ -1,81 +1,41 @@
 -- Properties of code points, by rows and by blocks.
-use Rattle.std.proofs.Common.{◌≡◌, ℕ, suc, ◌+◌, ◌-◌, ◌/◌, ◌<◌, Bool, true, false, ◌&&◌, List, [], ◌∷◌, ◌++◌, length, get_or, set, slice_index, Some, None, sym, ap, subst, ◌∙◌, arith, inl, inr}
-use Rattle.np_tables.proofs.Words.{slice_get, is_some, mod-lt, get_or-append_seam, and_parts, cases_Bool, cases_eq}
-use Rattle.np_tables.proofs.Words.{cases_lt, both_ways, get_or_append_left, get_or-map, get_or-set_same}
-use Rattle.np_tables.proofs.Words.{get_or-set_other, length-append, length-map, length-set, none-some, same_Some}
-use Rattle.np_tables.proofs.Words.{slice_get_within, is_syllable, Form, Entry, AreRows, IsBoundary, VersionData}
-use Rattle.np_tables.proofs.Words.{class_of, class_in, entry_at, file_mapping, mapping_in, has_hangul, is_assigned}
-use Rattle.np_tables.proofs.Words.{is_empty, IsSound, IsCompositeOf, is_final, Properties, Composite, table_full, FullLists}
-use Rattle.np_tables.proofs.Words.{of_kind, has_bit, boundary_place, property_place, AreRowPages, IsRowNumber, AreAllRowProperties}
-use Rattle.np_tables.proofs.Words.{AreSecondRows, AreSeconds, AreSlots, AreRowProperties, ArePropertiesOf, ArePages, no_properties, row_properties}
-use Rattle.np_tables.proofs.Words.{paged_properties}
+use Rattle.std.proofs.Common.{◌≡◌, ℕ, ◌+◌, ◌-◌, ◌/◌, ◌<◌, ◌≤◌, Bool, true, false, ◌&&◌, List, [], ◌∷◌, ◌++◌, length, get_or, set, slice_index, Some, None, sym, ap, subst, ◌∙◌, arith, inl, inr}
+use Rattle.std.proofs.lemmas.Bool.Decides.{nat_tests}
+use Rattle.np_tables.proofs.Words.{slice_get, is_some, mod-lt, get_or-append_seam, cases_lt, get_or_append_left, get_or-map, get_or-set_same}
+use Rattle.np_tables.proofs.Words.{get_or-set_other, length-append, length-map, length-set, same_Some, slice_get_within, is_syllable, Entry, AreRows}
+use Rattle.np_tables.proofs.Words.{VersionData, class_of, class_in, entry_at, has_hangul, is_assigned, IsSound, is_final, Properties, Composite, FullLists}
+use Rattle.np_tables.proofs.Words.{property_place, AreRowPages, IsRowNumber, AreAllRowProperties, AreSecondRows, AreSeconds, AreSlots, AreRowProperties}
+use Rattle.np_tables.proofs.Words.{ArePropertiesOf, ArePages, no_properties, row_properties, paged_properties}
 use Rattle.np_tables.proofs.FullListLemmas.{empty_parts}
 use Rattle.np_tables.proofs.HangulLemmas.{by_arithmetic, syllable_hangul}
 use Rattle.np_tables.proofs.PrimaryLemmas.{never_second-unlisted, row-never_second}
 use Rattle.np_tables.proofs.PageHintLemmas.{bits-unlisted}
-use Rattle.np_tables.proofs.RowLemmas.{at-found, at-row, firsts-le}
-use Rattle.np_tables.proofs.RowPageLemmas.{ends-rise, some_at}
-use Rattle.np_tables.proofs.TableLemmas.{row-shares, full-none}
+use Rattle.np_tables.proofs.RowLemmas.{at-found, at-row, ends-before}
+use Rattle.np_tables.proofs.RowPageLemmas.{some_at}
+use Rattle.np_tables.proofs.TableLemmas.{row-shares, full-none, unlisted-bare}
 
 -- ---- rows that have second parts
 
 -- a row has one place
-early : (es : List Entry) (i j : ℕ) (e f : Entry) → AreRows es → slice_get es i ≡ Some e → slice_get es j ≡ Some f → i < j → e.last < f.first
-early es i j e f rows at bt lt =
-    let w = slice_get_within es j f bt in
-    let next = some_at es (suc i) (omega arith) in
-    let rise = ends-rise es i e next.0 rows at next.1 in
-    let le = firsts-le es (suc i) j next.0 f rows next.1 bt (omega arith) in
-    omega arith
-
 same_place : (es : List Entry) (i j : ℕ) (e : Entry) → AreRows es → slice_get es i ≡ Some e → slice_get es j ≡ Some e → i ≡ j
-same_place es i j e rows at bt =
-    let up = (at-row es i e rows at).rises in
-    elim (cases_lt i j) [
-      | inl less ↦ (let bad = early es i j e e rows at bt less in absurd (omega arith))
-      | inr other ↦ elim (cases_lt j i) [
-        | inl more ↦ (let bad = early es j i e e rows bt at more in absurd (omega arith))
-        | inr this ↦ omega arith
-      ]
-    ]
+same_place es i j e rows at bt = grind (arith, at-row es i e rows at, ends-before es i j e e rows at bt, ends-before es j i e e rows bt at)
+
+-- the row that has the second part of a composite is the one that is found for it
+second_at : (es : List Entry) (cs : List Composite) (count j k : ℕ) (here x : Composite) (e : Entry) → AreRows es → slice_get cs count ≡ Some here → count ≡ j →
+    slice_get cs j ≡ Some x → slice_get es k ≡ Some e → e.first ≤ x.second → x.second ≤ e.last → entry_at es here.second ≡ Some e
+second_at es cs count j k here x e rows is there jt kt low high =
+    ap (λ (y : Composite). entry_at es y.second) (same_Some here x (sym is ∙ ap (slice_get cs) there ∙ jt)) ∙ sym (at-found es k x.second e rows kt low high) ∙ kt
 
 -- the place of the next one's second part is marked
 pub seconds-more : (es : List Entry) (cs : List Composite) (count at : ℕ) (seconds : List Bool) (here : Composite) → AreRows es → AreSecondRows es cs count seconds → slice_get cs count ≡ Some here → at < length es → slice_get es at ≡ entry_at es here.second →
     AreSecondRows es cs (count + 1) (set seconds at true)
 seconds-more es cs count at seconds here rows so_far is lt found =
-    let size = so_far.size in
-    let fits : at < length seconds = omega arith in
-    record {
-      size = length-set seconds at true ∙ size;
-      each = λ j x k e less jt kt low high. elim (cases_eq k at) [
-        | inl same ↦ ap (λ n. get_or (set seconds at true) n false) same ∙ get_or-set_same seconds at true false fits
-        | inr other ↦ elim (cases_lt j count) [
-          | inl early_one ↦ get_or-set_other seconds at k true false other ∙ so_far.each j x k e early_one jt kt low high
-          | inr this ↦
-              let there : count ≡ j = omega arith in
-              let own : here ≡ x = same_Some here x (sym is ∙ ap (slice_get cs) there ∙ jt) in
-              let second : here.second ≡ x.second = ap (λ (y : Composite). y.second) own in
-              let at_too : slice_get es at ≡ Some e = found ∙ ap (entry_at es) second ∙ sym (at-found es k x.second e rows kt low high) ∙ kt in
-              absurd (other (same_place es k at e rows kt at_too))
-        ]
-      ];
-    }
+    grind (arith, so_far.size, length-set seconds at true, get_or-set_same, get_or-set_other, so_far.each, second_at es cs count, same_place es)
 
 -- it has no row
 pub seconds-past : (es : List Entry) (cs : List Composite) (count : ℕ) (seconds : List Bool) (here : Composite) → AreRows es → AreSecondRows es cs count seconds → slice_get cs count ≡ Some here → entry_at es here.second ≡ None →
     AreSecondRows es cs (count + 1) seconds
-seconds-past es cs count seconds here rows so_far is none =
-    record {
-      size = so_far.size;
-      each = λ j x k e less jt kt low high. elim (cases_lt j count) [
-        | inl early_one ↦ so_far.each j x k e early_one jt kt low high
-        | inr this ↦
-            let there : count ≡ j = omega arith in
-            let own : here ≡ x = same_Some here x (sym is ∙ ap (slice_get cs) there ∙ jt) in
-            let second : here.second ≡ x.second = ap (λ (y : Composite). y.second) own in
-            absurd (none-some e (sym none ∙ ap (entry_at es) second ∙ sym (at-found es k x.second e rows kt low high) ∙ kt))
-      ];
-    }
+seconds-past es cs count seconds here rows so_far is none = grind (arith, second_at, so_far.each)
 
 -- ---- properties by rows
 
@@ -103,54 +63,37 @@ pub class-found : (v : VersionData) (c : ℕ) (e : Entry) → entry_at v.entries
 unfolding class_of
 class-found v c e h = sym (ap class_in h)
 
-class-none : (v : VersionData) (c : ℕ) → entry_at v.entries c ≡ None → 0 ≡ class_of v c
-unfolding class_of
-class-none v c h = sym (ap class_in h)
-
-assigned-found : (v : VersionData) (c : ℕ) (e : Entry) → entry_at v.entries c ≡ Some e → true ≡ is_assigned v c
-unfolding is_assigned
-assigned-found v c e h = sym (ap is_some h)
-
-assigned-none : (v : VersionData) (c : ℕ) → entry_at v.entries c ≡ None → false ≡ is_assigned v c
-unfolding is_assigned
-assigned-none v c h = sym (ap is_some h)
-
 unassigned_single : (v : VersionData) (c : ℕ) → is_assigned v c ≡ false → (has_hangul v && is_syllable c) ≡ false
-unassigned_single v c none =
-    elim (cases_Bool (has_hangul v && is_syllable c)) [
-      | inl on ↦ (let both = and_parts (has_hangul v) (is_syllable c) on in absurd (both_ways _ none (by_arithmetic v both.0 c (syllable_hangul c both.1)).assigned))
-      | inr off ↦ off
-    ]
-
-empty_file : (v : VersionData) (c : ℕ) → entry_at v.entries c ≡ None → is_empty (file_mapping v c) ≡ true
-unfolding file_mapping
-empty_file v c none = ap (λ o. is_empty (mapping_in o)) none
+unassigned_single v c none = grind (arith, nat_tests, by_arithmetic, syllable_hangul c)
 
 module _ (v : VersionData) (sound : IsSound v) (lists : FullLists) (slots : List ℕ) (are_slots : AreSlots v (length v.entries) lists slots) (seconds : List Bool) (marks : AreSeconds v seconds) (all_properties : List Properties)
     (are_properties : AreAllRowProperties v slots seconds (length v.entries) all_properties) where
   -- of a code point that a row has
   properties-some : (c k : ℕ) (e : Entry) (w : Properties) → slice_get v.entries k ≡ Some e → entry_at v.entries c ≡ Some e → AreRowProperties v e (slice_index slots k) (get_or seconds k false) w → ArePropertiesOf v lists c w
-  unfolding row_properties
+  unfolding row_properties is_assigned
   properties-some c k e w here found row =
       let lt = slice_get_within v.entries k e here in
       let slot = are_slots.each k e lt here in
       subst (ArePropertiesOf v lists c) (sym row.properties) (record {
         class = class-found v c e found;
-        assigned = assigned-found v c e found;
+        assigned = sym (ap is_some found);
         slot = record { within = slot.within; lent = λ compat. slot.lent compat ∙ row-shares v compat c k e sound.rows here found };
         never_second = λ is. row-never_second v seconds k e c marks here found is;
         hints = row.hints c found;
       })
 
   properties-none : (c : ℕ) → entry_at v.entries c ≡ None → ArePropertiesOf v lists c no_properties
+  unfolding class_of is_assigned
   properties-none c none =
-      let final : (compat : Bool) → is_final v compat c ≡ true = λ compat. empty_parts v compat c (unassigned_single v c (sym (assigned-none v c none))) (empty_file v c none) in
+      let class : 0 ≡ class_of v c = sym (ap class_in none) in
+      let assigned : false ≡ is_assigned v c = sym (ap is_some none) in
+      let final : (compat : Bool) → is_final v compat c ≡ true = λ compat. empty_parts v compat c (unassigned_single v c (sym assigned)) (unlisted-bare v c none) in
       record {
-        class = class-none v c none;
-        assigned = assigned-none v c none;
+        class = class;
+        assigned = assigned;
         slot = record { within = are_slots.some; lent = λ compat. are_slots.none compat ∙ full-none v compat c none };
         never_second = λ _. never_second-unlisted v c sound none;
-        hints = bits-unlisted v c sound none (class-none v c none) final;
+        hints = bits-unlisted v c sound none class final;
       }
 
   properties-number : (c number : ℕ) → IsRowNumber v.entries c number → ArePropertiesOf v lists c (get_or all_properties number no_properties)
@@ -185,22 +128,9 @@ module _ (v : VersionData) (sound : IsSound v) (lists : FullLists) (slots : List
 
 -- ---- what is read
 
-pub full-read : (v u : VersionData) → u ≡ v → (lists : FullLists) (blocks : List ℕ) (all_properties : List Properties) → ArePages u lists blocks all_properties → (c : ℕ) → c < 0x110000 → (w : Properties) → w ≡ get_or all_properties (property_place blocks c) no_properties →
-    (compat : Bool) (lent : List ℕ) → lent ≡ get_or (of_kind compat lists) w.fulls [] → lent ≡ table_full v compat c
-full-read v u same lists blocks all_properties pages c lt w is compat lent read =
-    let properties = subst (ArePropertiesOf u lists c) (sym is) (pages.each c lt) in
-    read ∙ properties.slot.lent compat ∙ ap (λ x. table_full x compat c) same
-
--- the second code point is the second part of no primary composite
-pub pair-never_second : (v u : VersionData) → u ≡ v → (lists : FullLists) (blocks : List ℕ) (all_properties : List Properties) → ArePages u lists blocks all_properties → (a b : ℕ) → b < 0x110000 → (properties : Properties) → properties ≡ get_or all_properties (property_place blocks b) no_properties → properties.never_second ≡ true →
-    (c : ℕ) → ¬ IsCompositeOf v a b c
-pair-never_second v u same lists blocks all_properties pages a b lt properties is never_second =
-    (subst (λ x. ArePropertiesOf x lists b properties) same (subst (ArePropertiesOf u lists b) (sym is) (pages.each b lt))).never_second never_second a
-
-pub boundary-read : (v u : VersionData) → u ≡ v → (lists : FullLists) (blocks : List ℕ) (all_properties : List Properties) → ArePages u lists blocks all_properties → (form : Form) (c : ℕ) → c < 0x110000 → (w : Properties) → w ≡ get_or all_properties (property_place blocks c) no_properties →
-    has_bit w.hints (boundary_place form) ≡ true → IsBoundary v form c
-boundary-read v u same lists blocks all_properties pages form c lt w is has =
-    subst (λ x. IsBoundary x form c) same ((subst (ArePropertiesOf u lists c) (sym is) (pages.each c lt)).hints.boundary form has)
+pub properties-read : (v u : VersionData) → u ≡ v → (lists : FullLists) (blocks : List ℕ) (all_properties : List Properties) → ArePages u lists blocks all_properties → (c : ℕ) → c < 0x110000 → (w : Properties) →
+    w ≡ get_or all_properties (property_place blocks c) no_properties → ArePropertiesOf v lists c w
+properties-read v u same lists blocks all_properties pages c lt w is = subst (λ x. ArePropertiesOf x lists c w) same (subst (ArePropertiesOf u lists c) (sym is) (pages.each c lt))
 
 -- what the checks of functions cite
 pub ruleset property_answers = (all_properties-more)

@@ -1,79 +1,55 @@
 -- Slots of full decompositions in one flat list.
-use Rattle.std.proofs.Common.{◌≡◌, ℕ, ◌+◌, ◌<◌, ◌≤◌, Bool, true, false, List, [], ◌∷◌, ◌++◌, length, map, take, get_or, slice_index, Some, refl, sym, ap, subst, ◌∙◌, arith, inl, inr}
-use Rattle.np_tables.proofs.Words.{slice_get, cases_lt, get_or_append_left, length-append, length-map, map_push}
-use Rattle.np_tables.proofs.Words.{All-push, get_or-append_seam, take-append_seam, same_Some, Entry, VersionData}
-use Rattle.np_tables.proofs.Words.{entry_at, is_empty, CodeRange, table_full, FullLists, of_kind, code_range_of, IsCodeRange, AreCodeRanges}
+use Rattle.std.proofs.Common.{◌≡◌, ℕ, ◌+◌, ◌<◌, ◌≤◌, Bool, true, false, List, [], ◌∷◌, ◌++◌, length, map, take, append_assoc, get_or, Some, refl, sym, ap, subst, ◌∙◌, arith}
+use Rattle.np_tables.proofs.Words.{slice_get, get_or_append_left, length-append, length-map, map_push, All-push, get_or-append_seam, take-append_seam, Entry}
+use Rattle.np_tables.proofs.Words.{VersionData, entry_at, is_empty, CodeRange, table_full, FullLists, of_kind, code_range_of, IsCodeRange, AreCodeRanges}
 use Rattle.np_tables.proofs.Words.{lists_of, IsSlotPushed, IsSlot, AreSlots, AreSlotsSoFar}
 use Rattle.np_tables.proofs.FileRowLemmas.{file_mapping-found}
 use Rattle.np_tables.proofs.FullListLemmas.{code_range_of-grown, parts-grown, AreCodeRanges-grown, code_range_of-new, lent-outside}
 
 -- ---- one slot more
 
--- the lists behind the old code points are a and b, or a alone where b is the same
-module _ (v : VersionData) (c : ℕ) (old a b : List ℕ) (canonical compatible : List CodeRange) (one two : CodeRange) where
-  pub pushed-two : AreCodeRanges old canonical → AreCodeRanges old compatible → a ≡ table_full v false c → b ≡ table_full v true c →
-      one.start ≡ length old → one.end ≡ length (old ++ a) → two.start ≡ length (old ++ a) → two.end ≡ length ((old ++ a) ++ b) →
-      IsSlotPushed v c old canonical compatible ((old ++ a) ++ b) (canonical ++ one ∷ []) (compatible ++ two ∷ [])
-  pushed-two in_canonical in_compatible first second start middle start_two end =
-      let size_a = length-append old a in
-      let size_b = length-append (old ++ a) b in
-      let one_fits : IsCodeRange (length (old ++ a)) one = (omega arith, omega arith) in
-      let grown = AreCodeRanges-grown (old ++ a) b canonical (AreCodeRanges-grown old a canonical in_canonical) in
-      let grown_two = AreCodeRanges-grown (old ++ a) b compatible (AreCodeRanges-grown old a compatible in_compatible) in
-      record {
-        canonical_within = All-push (IsCodeRange (length ((old ++ a) ++ b))) canonical one grown (omega arith, omega arith);
-        compatible_within = All-push (IsCodeRange (length ((old ++ a) ++ b))) compatible two grown_two (omega arith, omega arith);
-        canonical_grown = map_push (code_range_of ((old ++ a) ++ b)) canonical one
-            ∙ ap (λ l. l ++ code_range_of ((old ++ a) ++ b) one ∷ []) (parts-grown (old ++ a) b canonical (AreCodeRanges-grown old a canonical in_canonical) ∙ parts-grown old a canonical in_canonical)
-            ∙ ap (λ l. map (code_range_of old) canonical ++ l ∷ []) (code_range_of-grown (old ++ a) b one one_fits ∙ code_range_of-new old a one start middle ∙ first);
-        compatible_grown = map_push (code_range_of ((old ++ a) ++ b)) compatible two
-            ∙ ap (λ l. l ++ code_range_of ((old ++ a) ++ b) two ∷ []) (parts-grown (old ++ a) b compatible (AreCodeRanges-grown old a compatible in_compatible) ∙ parts-grown old a compatible in_compatible)
-            ∙ ap (λ l. map (code_range_of old) compatible ++ l ∷ []) (code_range_of-new (old ++ a) b two start_two end ∙ second);
-      }
+-- one range more, which has this list, over code points that begin with the old ones
+pushed : (old more list new : List ℕ) (ranges new_ranges : List CodeRange) (r : CodeRange) → new ≡ old ++ more → AreCodeRanges old ranges →
+    new_ranges ≡ ranges ++ r ∷ [] → IsCodeRange (length new) r → code_range_of new r ≡ list → AreCodeRanges new new_ranges × (map (code_range_of new) new_ranges ≡ map (code_range_of old) ranges ++ list ∷ [])
+pushed old more list new ranges new_ranges r grown within is fits here =
+    subst (λ l. AreCodeRanges new l × (map (code_range_of new) l ≡ map (code_range_of old) ranges ++ list ∷ [])) (sym is) (
+      All-push (IsCodeRange (length new)) ranges r (subst (λ n. AreCodeRanges n ranges) (sym grown) (AreCodeRanges-grown old more ranges within)) fits,
+      map_push (code_range_of new) ranges r ∙ ap (λ l. map (code_range_of new) ranges ++ l ∷ []) here
+          ∙ ap (λ l. l ++ list ∷ []) (ap (λ n. map (code_range_of n) ranges) grown ∙ parts-grown old more ranges within),
+    )
 
-  pub pushed-one : AreCodeRanges old canonical → AreCodeRanges old compatible → a ≡ table_full v false c → b ≡ table_full v true c →
-      one.start ≡ length old → one.end ≡ length (old ++ a) → two.start ≡ length (old ++ a) → two.end ≡ length ((old ++ a) ++ b) → code_range_of ((old ++ a) ++ b) one ≡ code_range_of ((old ++ a) ++ b) two →
-      IsSlotPushed v c old canonical compatible (old ++ a) (canonical ++ one ∷ []) (compatible ++ one ∷ [])
-  pushed-one in_canonical in_compatible first second start middle start_two end same =
-      let size_a = length-append old a in
-      let one_fits : IsCodeRange (length (old ++ a)) one = (omega arith, omega arith) in
-      let alike : a ≡ b = sym (code_range_of-new old a one start middle) ∙ sym (code_range_of-grown (old ++ a) b one one_fits) ∙ same ∙ code_range_of-new (old ++ a) b two start_two end in
-      let push : (kept : List CodeRange) → AreCodeRanges old kept → map (code_range_of (old ++ a)) (kept ++ one ∷ []) ≡ map (code_range_of old) kept ++ a ∷ [] = λ kept within.
-      map_push (code_range_of (old ++ a)) kept one
-      ∙ ap (λ l. l ++ code_range_of (old ++ a) one ∷ []) (parts-grown old a kept within)
-      ∙ ap (λ l. map (code_range_of old) kept ++ l ∷ []) (code_range_of-new old a one start middle) in
-      record {
-        canonical_within = All-push (IsCodeRange (length (old ++ a))) canonical one (AreCodeRanges-grown old a canonical in_canonical) one_fits;
-        compatible_within = All-push (IsCodeRange (length (old ++ a))) compatible one (AreCodeRanges-grown old a compatible in_compatible) one_fits;
-        canonical_grown = push canonical in_canonical ∙ ap (λ l. map (code_range_of old) canonical ++ l ∷ []) first;
-        compatible_grown = push compatible in_compatible ∙ ap (λ l. map (code_range_of old) compatible ++ l ∷ []) (alike ∙ second);
-      }
+module _ (v : VersionData) (c : ℕ) (old mid new : List ℕ) (one two : CodeRange) (first : mid ≡ old ++ table_full v false c) (second : new ≡ mid ++ table_full v true c)
+    (start : one.start ≡ length old) (middle : one.end ≡ length mid) (start_two : two.start ≡ length mid) (end : two.end ≡ length new) where
+  canonical_is : code_range_of new one ≡ table_full v false c
+  canonical_is =
+      let size = ap length first ∙ length-append old (table_full v false c) in
+      ap (λ n. code_range_of n one) second ∙ code_range_of-grown mid (table_full v true c) one (omega arith, omega arith)
+      ∙ ap (λ n. code_range_of n one) first ∙ code_range_of-new old (table_full v false c) one start (middle ∙ ap length first)
 
-pub pushed-apart : (v : VersionData) (c : ℕ) (old mid new : List ℕ) (canonical compatible new_canonical new_compatible : List CodeRange) (one two : CodeRange) → AreCodeRanges old canonical → AreCodeRanges old compatible →
-    mid ≡ old ++ table_full v false c → new ≡ mid ++ table_full v true c → one.start ≡ length old → one.end ≡ length mid → two.start ≡ length mid → two.end ≡ length new →
-    new_canonical ≡ canonical ++ one ∷ [] → new_compatible ≡ compatible ++ two ∷ [] → IsSlotPushed v c old canonical compatible new new_canonical new_compatible
-pushed-apart v c old mid new canonical compatible new_canonical new_compatible one two in_canonical in_compatible first second start middle start_two end grown grown_two =
-    let a = table_full v false c in
-    let b = table_full v true c in
-    let whole : new ≡ (old ++ a) ++ b = second ∙ ap (λ m. m ++ b) first in
-    subst (λ k. IsSlotPushed v c old canonical compatible new k new_compatible) (sym grown)
-    (subst (λ k. IsSlotPushed v c old canonical compatible new (canonical ++ one ∷ []) k) (sym grown_two)
-    (subst (λ n. IsSlotPushed v c old canonical compatible n (canonical ++ one ∷ []) (compatible ++ two ∷ [])) (sym whole)
-    (pushed-two v c old a b canonical compatible one two in_canonical in_compatible refl refl start (middle ∙ ap length first) (start_two ∙ ap length first) (end ∙ ap length whole))))
+  compatible_is : code_range_of new two ≡ table_full v true c
+  compatible_is = ap (λ n. code_range_of n two) second ∙ code_range_of-new mid (table_full v true c) two start_two (end ∙ ap length second)
 
-pub pushed-shared : (v : VersionData) (c : ℕ) (old mid new kept : List ℕ) (canonical compatible new_canonical new_compatible : List CodeRange) (one two : CodeRange) → AreCodeRanges old canonical → AreCodeRanges old compatible →
-    mid ≡ old ++ table_full v false c → new ≡ mid ++ table_full v true c → one.start ≡ length old → one.end ≡ length mid → two.start ≡ length mid → two.end ≡ length new → code_range_of new one ≡ code_range_of new two → kept ≡ take one.end new →
-    new_canonical ≡ canonical ++ one ∷ [] → new_compatible ≡ compatible ++ one ∷ [] → IsSlotPushed v c old canonical compatible kept new_canonical new_compatible
-pushed-shared v c old mid new kept canonical compatible new_canonical new_compatible one two in_canonical in_compatible first second start middle start_two end same cut grown grown_two =
-    let a = table_full v false c in
-    let b = table_full v true c in
-    let whole : new ≡ (old ++ a) ++ b = second ∙ ap (λ m. m ++ b) first in
-    let front : kept ≡ old ++ a = cut ∙ ap (take one.end) second ∙ ap (λ n. take n (mid ++ b)) middle ∙ take-append_seam mid b ∙ first in
-    subst (λ k. IsSlotPushed v c old canonical compatible kept k new_compatible) (sym grown)
-    (subst (λ k. IsSlotPushed v c old canonical compatible kept (canonical ++ one ∷ []) k) (sym grown_two)
-    (subst (λ n. IsSlotPushed v c old canonical compatible n (canonical ++ one ∷ []) (compatible ++ one ∷ [])) (sym front)
-    (pushed-one v c old a b canonical compatible one two in_canonical in_compatible refl refl start (middle ∙ ap length first) (start_two ∙ ap length first) (end ∙ ap length whole)
-    (subst (λ n. code_range_of n one ≡ code_range_of n two) whole same))))
+  module _ (canonical compatible new_canonical new_compatible : List CodeRange) (in_canonical : AreCodeRanges old canonical) (in_compatible : AreCodeRanges old compatible) (grown : new_canonical ≡ canonical ++ one ∷ []) where
+    pub pushed-apart : new_compatible ≡ compatible ++ two ∷ [] → IsSlotPushed v c old canonical compatible new new_canonical new_compatible
+    pushed-apart grown_two =
+        let a = table_full v false c in
+        let b = table_full v true c in
+        let sizes : (length mid ≡ length old + length a) × (length new ≡ length mid + length b) = (ap length first ∙ length-append old a, ap length second ∙ length-append mid b) in
+        let whole = second ∙ ap (λ m. m ++ b) first ∙ append_assoc old a b in
+        let left = pushed old (a ++ b) a new canonical new_canonical one whole in_canonical grown (omega arith, omega arith) canonical_is in
+        let right = pushed old (a ++ b) b new compatible new_compatible two whole in_compatible grown_two (omega arith, omega arith) compatible_is in
+        record { canonical_within = left.0; compatible_within = right.0; canonical_grown = left.1; compatible_grown = right.1 }
+
+    pub pushed-shared : (kept : List ℕ) → code_range_of new one ≡ code_range_of new two → kept ≡ take one.end new →
+        new_compatible ≡ compatible ++ one ∷ [] → IsSlotPushed v c old canonical compatible kept new_canonical new_compatible
+    pushed-shared kept same cut grown_two =
+        let a = table_full v false c in
+        let front : kept ≡ mid = cut ∙ ap (take one.end) second ∙ ap (λ n. take n (mid ++ table_full v true c)) middle ∙ take-append_seam mid (table_full v true c) in
+        let sizes : (length mid ≡ length old + length a) × (length kept ≡ length mid) = (ap length first ∙ length-append old a, ap length front) in
+        let here = ap (λ n. code_range_of n one) (front ∙ first) ∙ code_range_of-new old a one start (middle ∙ ap length first) in
+        let left = pushed old a a kept canonical new_canonical one (front ∙ first) in_canonical grown (omega arith, omega arith) here in
+        let right = pushed old a (table_full v true c) kept compatible new_compatible one (front ∙ first) in_compatible grown_two (omega arith, omega arith) (here ∙ sym canonical_is ∙ same ∙ compatible_is) in
+        record { canonical_within = left.0; compatible_within = right.0; canonical_grown = left.1; compatible_grown = right.1 }
 
 -- ---- the slots of all rows
 
@@ -82,48 +58,22 @@ record KeepLists (old new : FullLists) : Type 0 where
   same : (compat : Bool) (k : ℕ) → k < length (of_kind compat old) → get_or (of_kind compat new) k [] ≡ get_or (of_kind compat old) k []
 
 slot-kept : (v : VersionData) (old new : FullLists) (c slot : ℕ) → KeepLists old new → IsSlot v old c slot → IsSlot v new c slot
-slot-kept v old new c slot kept is =
-    record {
-      within = λ compat. (let lt = is.within compat in let le = kept.longer compat in omega arith);
-      lent = λ compat. kept.same compat slot (is.within compat) ∙ is.lent compat;
-    }
+slot-kept v old new c slot kept is = grind (arith, kept.longer, kept.same, is.within, is.lent)
 
 slots-more : (v : VersionData) (count : ℕ) (old new : FullLists) (slots : List ℕ) (slot : ℕ) (e : Entry) → AreSlots v count old slots → KeepLists old new → slice_get v.entries count ≡ Some e → IsSlot v new e.first slot →
     AreSlots v (count + 1) new (slots ++ slot ∷ [])
 slots-more v count old new slots slot e are kept here is =
-    let size = are.size in
-    record {
-      size = (let grown = length-append slots (slot ∷ []) in omega arith);
-      none = λ compat. kept.same compat 0 (are.some compat) ∙ are.none compat;
-      some = λ compat. (let lt = are.some compat in let le = kept.longer compat in omega arith);
-      each = λ k f lt h. elim (cases_lt k count) [
-        | inl less ↦ subst (IsSlot v new f.first) (sym (get_or_append_left slots (slot ∷ []) 0 k (omega arith))) (slot-kept v old new f.first (slice_index slots k) kept (are.each k f less h))
-        | inr past ↦
-            let there : count ≡ k = omega arith in
-            let place : length slots ≡ k = omega arith in
-            let read : slice_index (slots ++ slot ∷ []) k ≡ slot = sym (ap (slice_index (slots ++ slot ∷ [])) place) ∙ get_or-append_seam slots slot [] 0 in
-            let same : e ≡ f = same_Some e f (sym here ∙ ap (slice_get v.entries) there ∙ h) in
-            subst (IsSlot v new f.first) (sym read) (subst (λ (x : Entry). IsSlot v new x.first slot) same is)
-      ];
-    }
+    grind (arith, are.size, are.none, are.some, are.each, kept.same, kept.longer, length-append, get_or_append_left, get_or-append_seam, slot-kept v old new)
 
 keep_all : (lists : FullLists) → KeepLists lists lists
-keep_all lists = record { longer = λ compat. omega arith; same = λ compat k lt. refl }
+keep_all lists = grind arith
 
 -- a row without a mapping
 pub slots-bare : (v : VersionData) (count : ℕ) (codes : List ℕ) (canonical compatible : List CodeRange) (slots : List ℕ) (e : Entry) → AreSlotsSoFar v count codes canonical compatible slots → slice_get v.entries count ≡ Some e →
     entry_at v.entries e.first ≡ Some e → is_empty e.mapping ≡ true → AreSlotsSoFar v (count + 1) codes canonical compatible (slots ++ 0 ∷ [])
 slots-bare v count codes canonical compatible slots e so_far here found none =
-    let few = so_far.few in
     let lists = lists_of codes canonical compatible in
-    record {
-      canonical_within = so_far.canonical_within;
-      compatible_within = so_far.compatible_within;
-      both = so_far.both;
-      few = omega arith;
-      are_slots = slots-more v count lists lists slots 0 e so_far.are_slots (keep_all lists) here
-          (record { within = so_far.are_slots.some; lent = λ compat. so_far.are_slots.none compat ∙ sym (lent-outside v compat e.first (ap is_empty (file_mapping-found v e.first e found) ∙ none)) });
-    }
+    grind (arith, slots-more v count lists lists slots 0 e so_far.are_slots (keep_all lists) here, so_far.few, so_far.are_slots.some, so_far.are_slots.none, lent-outside, file_mapping-found v e.first e found)
 
 module _ (old new : FullLists) (a b : List ℕ) (one : new.canonical ≡ old.canonical ++ a ∷ []) (two : new.compatible ≡ old.compatible ++ b ∷ []) where
   longer-pushed : (compat : Bool) → length (of_kind compat new) ≡ length (of_kind compat old) + 1
@@ -131,11 +81,11 @@ module _ (old new : FullLists) (a b : List ℕ) (one : new.canonical ≡ old.can
   longer-pushed true = ap length two ∙ length-append old.compatible (b ∷ [])
 
   same-pushed : (compat : Bool) (k : ℕ) → k < length (of_kind compat old) → get_or (of_kind compat new) k [] ≡ get_or (of_kind compat old) k []
-  same-pushed false k lt = ap (λ l. get_or l k []) one ∙ get_or_append_left old.canonical (a ∷ []) [] k lt
-  same-pushed true k lt = ap (λ l. get_or l k []) two ∙ get_or_append_left old.compatible (b ∷ []) [] k lt
+  same-pushed false k lt = grind (arith, get_or_append_left)
+  same-pushed true k lt = grind (arith, get_or_append_left)
 
   kept-pushed : KeepLists old new
-  kept-pushed = record { longer = λ compat. (let more = longer-pushed compat in omega arith); same = same-pushed }
+  kept-pushed = grind (arith, longer-pushed, same-pushed)
 
   -- the new slot
   new-pushed : (v : VersionData) (c : ℕ) → a ≡ table_full v false c → b ≡ table_full v true c → length old.canonical ≡ length old.compatible → (compat : Bool) → get_or (of_kind compat new) (length old.canonical) [] ≡ table_full v compat c
@@ -144,8 +94,8 @@ module _ (old new : FullLists) (a b : List ℕ) (one : new.canonical ≡ old.can
       ap (λ n. get_or new.compatible n []) both ∙ ap (λ l. get_or l (length old.compatible) []) two ∙ get_or-append_seam old.compatible b [] [] ∙ second
 
   within-pushed : length old.canonical ≡ length old.compatible → (compat : Bool) → length old.canonical < length (of_kind compat new)
-  within-pushed both false = let more = longer-pushed false in omega arith
-  within-pushed both true = let more = longer-pushed true in omega arith
+  within-pushed both false = grind (arith, longer-pushed false)
+  within-pushed both true = grind (arith, longer-pushed true)
 
 length-parts : (codes : List ℕ) (ps : List CodeRange) → length (map (code_range_of codes) ps) ≡ length ps
 length-parts codes ps = length-map ps (code_range_of codes)
@@ -157,21 +107,14 @@ pub slots-pushed : (v : VersionData) (count : ℕ) (old codes : List ℕ) (old_c
 slots-pushed v count old codes old_canonical old_compatible canonical compatible slots slot e so_far pushed here is =
     let before = lists_of old old_canonical old_compatible in
     let after = lists_of codes canonical compatible in
-    let few = so_far.few in
-    let both = so_far.both in
-    let size_one = length-parts old old_canonical in
-    let size_two = length-parts old old_compatible in
-    let size_three = length-parts codes canonical in
-    let size_four = length-parts codes compatible in
-    let alike : length before.canonical ≡ length before.compatible = omega arith in
-    let place : length before.canonical ≡ slot = omega arith in
-    let long_one = longer-pushed before after (table_full v false e.first) (table_full v true e.first) pushed.canonical_grown pushed.compatible_grown false in
-    let long_two = longer-pushed before after (table_full v false e.first) (table_full v true e.first) pushed.canonical_grown pushed.compatible_grown true in
+    let grown = longer-pushed before after (table_full v false e.first) (table_full v true e.first) pushed.canonical_grown pushed.compatible_grown in
+    let alike : length before.canonical ≡ length before.compatible = omega (arith, length-parts, so_far.both) in
+    let place : length before.canonical ≡ slot = omega (arith, length-parts, is) in
     record {
       canonical_within = pushed.canonical_within;
       compatible_within = pushed.compatible_within;
-      both = omega arith;
-      few = omega arith;
+      both = omega (arith, length-parts, so_far.both, grown false, grown true);
+      few = omega (arith, length-parts, so_far.few, grown false);
       are_slots = slots-more v count before after slots slot e so_far.are_slots
           (kept-pushed before after (table_full v false e.first) (table_full v true e.first) pushed.canonical_grown pushed.compatible_grown) here
           (subst (IsSlot v after e.first) place (record {
@@ -179,12 +122,3 @@ slots-pushed v count old codes old_canonical old_compatible canonical compatible
             lent = new-pushed before after (table_full v false e.first) (table_full v true e.first) pushed.canonical_grown pushed.compatible_grown v e.first refl refl alike;
           }));
     }
-
--- the same lists by other names
-pub slots-moved : (v : VersionData) (count : ℕ) (codes codes2 : List ℕ) (canonical canonical2 compatible compatible2 : List CodeRange) (slots slots2 : List ℕ) → codes2 ≡ codes → canonical2 ≡ canonical → compatible2 ≡ compatible → slots2 ≡ slots →
-    AreSlotsSoFar v count codes canonical compatible slots → AreSlotsSoFar v count codes2 canonical2 compatible2 slots2
-slots-moved v count codes codes2 canonical canonical2 compatible compatible2 slots slots2 one two three four so_far =
-    subst (λ l. AreSlotsSoFar v count l canonical2 compatible2 slots2) (sym one)
-    (subst (λ l. AreSlotsSoFar v count codes l compatible2 slots2) (sym two)
-    (subst (λ l. AreSlotsSoFar v count codes canonical l slots2) (sym three)
-    (subst (λ l. AreSlotsSoFar v count codes canonical compatible l) (sym four) so_far)))

@@ -1,49 +1,19 @@
 -- Composites in the order of their pairs.
-use Rattle.std.proofs.Common.{◌≡◌, ℕ, ◌+◌, ◌<◌, ◌≤◌, ◌⊎◌, true, false, nat_lt, nat_eq, List, length, get_or, Some, sym, ap, ◌∙◌, arith, inl, inr}
-use Rattle.np_tables.proofs.Words.{cases_order, cases_lt, cond-true, cond-false, lt-ltb, le-ltb, eq-eqb, get_or_default}
-use Rattle.np_tables.proofs.Words.{slice_get-get_or, All, AllWithin, Composite, Lists, IsCompositeAt, pair_rank, rank}
-use Rattle.np_tables.proofs.Words.{IsInRange, AreOrdered}
+use Rattle.std.proofs.Common.{◌≡◌, ℕ, ◌+◌, ◌<◌, ◌≤◌, false, List, length, get_or, Some, ap, ◌∙◌, arith, inl, inr}
+use Rattle.np_tables.proofs.Words.{cases_lt, get_or_default, slice_get-get_or, All, AllWithin, Composite, Lists, IsCompositeAt, pair_rank, rank, IsInRange}
+use Rattle.np_tables.proofs.Words.{AreOrdered}
 use Rattle.std.proofs.lemmas.Bool.Decides.{nat_tests}
 use Rattle.std.proofs.lemmas.List.Sorted.{IsNonDecreasingBy-from_all_adjacent, All-permutation}
 use Rattle.std.specs.Ordering.{is_lt, ordering_then, nat_cmp}
 use Rattle.std.specs.declared.cmp.Ordering.{Ordering}
-use Rattle.std.specs.declared.cmp.Ordering.TheVariants.{Less, Equal}
 use Rattle.std.specs.List.Sorted.{IsPermutation, IsSorted}
 
 -- the order of the fields, one after another
 abbrev cmp : Composite → Composite → Ordering
 cmp x y = ordering_then (nat_cmp x.first y.first) (ordering_then (nat_cmp x.second y.second) (nat_cmp x.code y.code))
 
-le_from_cmp : (a b : ℕ) → is_lt (nat_cmp a b) ≡ false → b ≤ a
-le_from_cmp a b h = grind (arith, nat_tests)
-
--- a first field that settles the order, or equal ones
-then_cases : (a b : ℕ) (o : Ordering) → is_lt (ordering_then (nat_cmp a b) o) ≡ false → (b < a) ⊎ ((a ≡ b) × (is_lt o ≡ false))
-then_cases a b o h =
-    elim (cases_order a b) [
-      | inl same ↦
-          let lt : nat_lt a b ≡ false = le-ltb a b (omega arith) in
-          let eq : nat_eq a b ≡ true = eq-eqb a b same in
-          let e : nat_cmp a b ≡ Equal = cond-false _ _ _ lt ∙ cond-true _ _ _ eq in
-          inr (same, sym (ap (λ r. is_lt (ordering_then r o)) e) ∙ h)
-      | inr other ↦ elim other [
-        | inl less ↦
-            let e : nat_cmp a b ≡ Less = cond-true _ _ _ (lt-ltb a b less) in
-            let e2 : true ≡ false = sym (ap (λ r. is_lt (ordering_then r o)) e) ∙ h in
-            cc
-        | inr more ↦ inl more
-      ]
-    ]
-
 rank_from_cmp : (x y : Composite) → IsInRange x → IsInRange y → is_lt (cmp y x) ≡ false → rank x ≤ rank y
-rank_from_cmp x y p q h =
-    elim (then_cases y.first x.first _ h) [
-      | inl less ↦ omega arith
-      | inr same ↦ elim (then_cases y.second x.second _ same.1) [
-        | inl less ↦ omega arith
-        | inr both ↦ let le = le_from_cmp y.code x.code both.1 in omega arith
-      ]
-    ]
+rank_from_cmp x y p q h = grind (arith, nat_tests)
 
 pub AreOrdered-from_sort : (xs ys : List Composite) → All IsInRange xs → IsPermutation xs ys → IsSorted cmp ys → AreOrdered ys
 AreOrdered-from_sort xs ys range moved sorted =
@@ -58,27 +28,15 @@ AreOrdered-from_sort xs ys range moved sorted =
 module _ (cs : List Composite) (order : AreOrdered cs) where
   -- earlier places have no later pairs
   pub pairs_rise : (i j : ℕ) (d : Composite) → i ≤ j → j < length cs → pair_rank (get_or cs i d).first (get_or cs i d).second ≤ pair_rank (get_or cs j d).first (get_or cs j d).second
-  pairs_rise i j d le lt =
-      let up = order.rising i j d le lt in
-      let low = order.range i d (omega arith) in
-      let high = order.range j d lt in
-      omega arith
+  pairs_rise i j d le lt = omega (arith, order.rising i j d le lt, order.range i d (omega arith), order.range j d lt)
 
   -- what comes before a pair at a place does so at each earlier one
   pub before_more : (at : ℕ) (x : Composite) (r : ℕ) → at < length cs → x ≡ get_or cs at x → pair_rank x.first x.second < r → AllWithin (λ c. pair_rank c.first c.second < r) cs 0 (at + 1)
-  before_more at x r lt is less = λ k d low high.
-      let same : get_or cs at d ≡ x = get_or_default cs at d x lt ∙ sym is in
-      let here = ap (λ (c : Composite). pair_rank c.first c.second) same in
-      let up = pairs_rise k at d (omega arith) lt in
-      omega arith
+  before_more at x r lt is less = λ k d low high. grind (arith, get_or_default cs at d x lt, pairs_rise k at d)
 
   -- and what doesn't, at no later one
   pub after_more : (at : ℕ) (x : Composite) (r : ℕ) → at < length cs → x ≡ get_or cs at x → r ≤ pair_rank x.first x.second → AllWithin (λ c. r ≤ pair_rank c.first c.second) cs at (length cs)
-  after_more at x r lt is more = λ k d low high.
-      let same : get_or cs at d ≡ x = get_or_default cs at d x lt ∙ sym is in
-      let here = ap (λ (c : Composite). pair_rank c.first c.second) same in
-      let up = pairs_rise at k d low high in
-      omega arith
+  after_more at x r lt is more = λ k d low high. grind (arith, get_or_default cs at d x lt, pairs_rise at k d)
 
   -- where a pair stands anywhere, it stands at the first place with no earlier pair
   pub lists-place : (a b at : ℕ) → a < 0x110000 → b < 0x110000 → AllWithin (λ c. pair_rank c.first c.second < pair_rank a b) cs 0 at → AllWithin (λ c. pair_rank a b ≤ pair_rank c.first c.second) cs at (length cs) → (code : ℕ) → Lists cs a b code → (own : ℕ) × IsCompositeAt cs at a b own

@@ -1,15 +1,13 @@
 -- What code points compose to, written as UTF-8, and precomputed forms, slot by slot, in one flat list.
 use Rattle.std.proofs.Common.{◌≡◌, ℕ, ◌+◌, ◌-◌, ◌<◌, ◌≤◌, List, [], ◌∷◌, ◌++◌, None, length, map, get_or, encode_utf8, encode_utf8_all, IsUtf8, refl, sym, ap, subst, ◌∙◌, arith, inl, inr, append_assoc, append-nil, take_all, Bool, true, false, take, MatchBool, length-take-le}
-use Rattle.np_tables.proofs.Words.{slice_range, cases_lt, get_or_append_left, get_or_past, length-append, length-map}
-use Rattle.np_tables.proofs.Words.{map_push, All-head, All-tail, All-push, All-weaker, IsUtf8-nil, get_or-append_seam}
-use Rattle.np_tables.proofs.Words.{Form, VersionData, class_of, composite, AreByteRanges, ArePrecomputedForms, ArePrecomputedSoFar}
-use Rattle.np_tables.proofs.Words.{ComposesOn, IsByteRange, IsPrecomputedForm, Settles, Writes, byte_range_of, Composes, IsFront, Nfd}
-use Rattle.np_tables.proofs.Words.{Nfc, Nfkd, Nfkc, composes, is_compat, NeverFalls, IsSound, Properties, FullLists, of_kind}
-use Rattle.np_tables.proofs.Words.{table_full, ArePropertiesOf, no_properties, property_place}
+use Rattle.np_tables.proofs.Words.{slice_range, cases_lt, get_or_append_left, get_or_past, length-append, length-map, map_push, All-head, All-tail, All-push}
+use Rattle.np_tables.proofs.Words.{All-weaker, IsUtf8-nil, get_or-append_seam, Form, VersionData, class_of, composite, AreByteRanges, ArePrecomputedForms}
+use Rattle.np_tables.proofs.Words.{ArePrecomputedSoFar, ComposesOn, IsByteRange, IsPrecomputedForm, Settles, Writes, byte_range_of, Composes, IsFront, Nfd}
+use Rattle.np_tables.proofs.Words.{Nfc, Nfkd, Nfkc, composes, is_compat, NeverFalls, IsSound, Properties, FullLists, of_kind, table_full, ArePropertiesOf}
+use Rattle.np_tables.proofs.Words.{no_properties, property_place}
 use Rattle.np_tables.specs.declared.precomputed_forms.ByteRange.{ByteRange}
 use Rattle.np_tables.specs.declared.precomputed_tables.PrecomputedTables.{PrecomputedTables}
-use Rattle.np_tables.specs.inside.PrecomputedTables.{ArePrecomputedTables, IsPrecomputedOf, kept_of}
-use Rattle.np_tables.specs.inside.Tables.{ArePageTables}
+use Rattle.np_tables.specs.inside.PrecomputedTables.{ArePrecomputedTables, IsPrecomputedOf, kept_of, ArePageTables}
 use Rattle.np_tables.proofs.FullListLemmas.{code_range_of-grown}
 use Rattle.np_tables.proofs.CompositeLemmas.{composite-none, composite-some}
 use Rattle.np_tables.proofs.TableLemmas.{IsLent-table_full}

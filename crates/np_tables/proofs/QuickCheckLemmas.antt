@@ -1,7 +1,7 @@
 -- What a quick check says of its properties.
-use Rattle.std.proofs.Common.{◌≡◌, ℕ, ◌/◌, ◌<◌, ◌≤◌, ◌⊎◌, ◌&&◌, ◌||◌, ◌==◌, Bool, true, false, not, nat_lt, List, refl, sym, ap, ◌∙◌, arith, inl, inr}
-use Rattle.np_tables.proofs.Words.{and_parts, cases_Bool, cond-false, cond-true, eqb-true, ltb-true, Form, Nfd, Nfc}
-use Rattle.np_tables.proofs.Words.{Nfkd, Nfkc, composes, Properties, has_bit, yes_place, AreWithin, property_place}
+use Rattle.std.proofs.Common.{◌≡◌, ℕ, ◌/◌, ◌<◌, ◌≤◌, ◌⊎◌, true, List, refl, ap, ◌∙◌, arith}
+use Rattle.std.proofs.lemmas.Bool.Decides.{nat_tests}
+use Rattle.np_tables.proofs.Words.{cond-true, Form, Nfd, Nfc, Nfkd, Nfkc, composes, Properties, has_bit, yes_place, AreWithin, property_place}
 use Rattle.np_tables.proofs.Words.{assigned_quick_check, quick_check_in, quick_check_of, quick_checks_of}
 
 pub yes_quick_check : (form : Form) → quick_check_in form 0xFFFFFFFF ≡ 255
@@ -10,84 +10,23 @@ yes_quick_check Nfc = refl
 yes_quick_check Nfkd = refl
 yes_quick_check Nfkc = refl
 
-never_second_where : (never_second composing : Bool) → (never_second || not composing) ≡ true → composing ≡ true → never_second ≡ true
-never_second_where true composing h on = refl
-never_second_where false true h on = h
-never_second_where false false h on = on
-
--- ---- of what is assigned
-
--- what it was made of
-abbrev Cases : Form → Properties → Type 0
-Cases form w =
-    ((has_bit w.hints (yes_place form) ≡ true) × (assigned_quick_check form w ≡ 255))
-    ⊎ (((w.class < 255) × (w.fulls ≡ 0) × (composes form ≡ true → w.never_second ≡ true) × (assigned_quick_check form w ≡ w.class)) ⊎ (assigned_quick_check form w ≡ 0))
-
-cases : (form : Form) (w : Properties) → Cases form w
-unfolding assigned_quick_check
-cases form w =
-    elim (cases_Bool (has_bit w.hints (yes_place form))) [
-      | inl yes_starter ↦ inl (yes_starter, cond-true _ _ _ yes_starter)
-      | inr moves ↦ elim (cases_Bool (nat_lt w.class 255 && (w.fulls == 0 && (w.never_second || not (composes form))))) [
-        | inl inert ↦
-            let two = and_parts _ _ inert in
-            let three = and_parts _ _ two.1 in
-            inr (inl (ltb-true w.class 255 two.0, eqb-true w.fulls 0 three.0, never_second_where w.never_second (composes form) three.1, cond-false _ _ _ moves ∙ cond-true _ _ _ inert))
-        | inr none ↦ inr (inr (cond-false _ _ _ moves ∙ cond-false _ _ _ none))
-      ]
-    ]
-
-assigned_le : (form : Form) (w : Properties) → assigned_quick_check form w ≤ 255
-assigned_le form w = elim (cases form w) [ inl yes_starter ↦ omega (arith, yes_starter.1) | inr moves ↦ elim moves [ inl inert ↦ omega (arith, inert.0, inert.3) | inr none ↦ omega (arith, none) ] ]
-
-assigned_yes : (form : Form) (w : Properties) → assigned_quick_check form w ≡ 255 → has_bit w.hints (yes_place form) ≡ true
-assigned_yes form w h = elim (cases form w) [ inl yes_starter ↦ yes_starter.0 | inr moves ↦ elim moves [ inl inert ↦ absurd (omega (arith, h, inert.0, inert.3)) | inr none ↦ absurd (omega (arith, h, none)) ] ]
-
-assigned_inert : (form : Form) (w : Properties) → 0 < assigned_quick_check form w → assigned_quick_check form w < 255 → (w.class ≡ assigned_quick_check form w) × (w.fulls ≡ 0) × (composes form ≡ true → w.never_second ≡ true)
-assigned_inert form w some low =
-    elim (cases form w) [
-      | inl yes_starter ↦ absurd (omega (arith, low, yes_starter.1))
-      | inr moves ↦ elim moves [ inl inert ↦ (sym inert.3, inert.1, inert.2) | inr none ↦ absurd (omega (arith, some, none)) ]
-    ]
-
--- ---- of any
-
--- what it was made of
-abbrev Whole : Form → Properties → Type 0
-Whole form w = ((w.assigned ≡ true) × (quick_check_of form w ≡ assigned_quick_check form w)) ⊎ (((has_bit w.hints (yes_place form) ≡ true) × (quick_check_of form w ≡ 1)) ⊎ (quick_check_of form w ≡ 0))
-
-whole : (form : Form) (w : Properties) → Whole form w
-unfolding quick_check_of
-whole form w =
-    elim (cases_Bool w.assigned) [
-      | inl on ↦ inl (on, cond-true _ _ _ on)
-      | inr off ↦ elim (cases_Bool (has_bit w.hints (yes_place form))) [
-        | inl yes_starter ↦ inr (inl (yes_starter, cond-false _ _ _ off ∙ cond-true _ _ _ yes_starter))
-        | inr other ↦ inr (inr (cond-false _ _ _ off ∙ cond-false _ _ _ other))
-      ]
-    ]
-
-pub quick_check_le : (form : Form) (w : Properties) → quick_check_of form w ≤ 255
-quick_check_le form w = elim (whole form w) [ inl on ↦ omega (arith, on.1, assigned_le form w) | inr off ↦ elim off [ inl yes_starter ↦ omega (arith, yes_starter.1) | inr none ↦ omega (arith, none) ] ]
+quick_check_le : (form : Form) (w : Properties) → quick_check_of form w ≤ 255
+unfolding quick_check_of assigned_quick_check
+quick_check_le form w = grind (arith, nat_tests)
 
 -- above 1 it is assigned
 pub quick_check_assigned : (form : Form) (w : Properties) → 2 ≤ quick_check_of form w → w.assigned ≡ true
-quick_check_assigned form w h = elim (whole form w) [ inl on ↦ on.0 | inr off ↦ elim off [ inl yes_starter ↦ absurd (omega (arith, h, yes_starter.1)) | inr none ↦ absurd (omega (arith, h, none)) ] ]
+unfolding quick_check_of
+quick_check_assigned form w h = grind (arith, nat_tests)
 
 pub quick_check_yes : (form : Form) (w : Properties) → quick_check_of form w ≡ 255 → has_bit w.hints (yes_place form) ≡ true
-quick_check_yes form w h =
-    elim (whole form w) [
-      | inl on ↦ assigned_yes form w (sym on.1 ∙ h)
-      | inr off ↦ elim off [ inl yes_starter ↦ yes_starter.0 | inr none ↦ absurd (omega (arith, h, none)) ]
-    ]
+unfolding quick_check_of assigned_quick_check
+quick_check_yes form w h = grind (arith, nat_tests)
 
 -- an inert non-starter, or what is not assigned and passes
 pub quick_check_low : (form : Form) (w : Properties) → 0 < quick_check_of form w → quick_check_of form w < 255 → (has_bit w.hints (yes_place form) ≡ true) ⊎ ((w.class ≡ quick_check_of form w) × (w.fulls ≡ 0) × (composes form ≡ true → w.never_second ≡ true))
-quick_check_low form w some low =
-    elim (whole form w) [
-      | inl on ↦ (let inert = assigned_inert form w (omega (arith, some, on.1)) (omega (arith, low, on.1)) in inr (inert.0 ∙ sym on.1, inert.1, inert.2))
-      | inr off ↦ elim off [ inl yes_starter ↦ inl yes_starter.0 | inr none ↦ absurd (omega (arith, some, none)) ]
-    ]
+unfolding quick_check_of assigned_quick_check
+quick_check_low form w some low = grind (arith, nat_tests)
 
 -- each form's own quick check
 pub quick_check_at : (form : Form) (w : Properties) → quick_check_in form (quick_checks_of w) ≡ quick_check_of form w
@@ -117,5 +56,3 @@ quick_checks_of-yes_starters w on all = omega (arith, quick_check_of-yes_starter
 pub place-within : (blocks : List ℕ) (all_properties : ℕ) → AreWithin 4352 blocks all_properties → (c : ℕ) → c < 0x110000 → property_place blocks c < all_properties
 unfolding property_place
 place-within blocks all_properties within c lt = omega (arith, lt, within.each (c / 256) (omega (arith, lt)))
-
--- ---- the least quick check that may follow

@@ -1,18 +1,17 @@
 -- Runs of code points that may follow one another as they are.
 use Rattle.std.proofs.Common.{◌≡◌, ℕ, ◌-◌, ◌<◌, ◌≤◌, Bool, true, false, ◌&&◌, suc, List, [], ◌∷◌, ◌++◌, Option, Some, None, length, get_or, take, drop, drop_at, take_at, slice_range, chars, IsUtf8, encode_utf8, encode_utf8_all, All, sym, ap, subst, ◌∙◌, arith, append_assoc, append-nil, length-append, refl, inl, inr, ◌⊎◌, not}
-use Rattle.np_tables.proofs.Words.{list_all, IsAscii, IsCharBoundary, and_from, and_parts, cases_Bool, cond-false}
-use Rattle.np_tables.proofs.Words.{or_from, and_right, not-false, get_or_default, get_or-map, take-append-drop}
-use Rattle.np_tables.proofs.Words.{chars-append, chars_from_encodes, chars-IsAscii, chars_past_char, encodes-append}
-use Rattle.np_tables.proofs.Words.{encodes-IsAscii, IsCharBoundary-at_seam, IsCharBoundary-from_take, IsUtf8-drop}
-use Rattle.np_tables.proofs.Words.{IsUtf8-take, IsUtf8-from_ascii, IsUtf8-past_char, chars-nil, is_syllable, Form}
-use Rattle.np_tables.proofs.Words.{is_compat, BeginsAtBoundary, IsBoundary, IsYesStarter, is_final, VersionData}
-use Rattle.np_tables.proofs.Words.{class_of, has_hangul, is_assigned, Properties, full_of, table_full, FullLists, of_kind}
-use Rattle.np_tables.proofs.Words.{property_place, AreFollowing, ArePages, Follows, FollowsByQuickCheck, FollowsUncomposed}
-use Rattle.np_tables.proofs.Words.{IsAsciiYes, IsPast, IsWalkedTo, PassesUncomposed, last_behind, no_properties, CannotComposeByProperties}
+use Rattle.std.proofs.lemmas.Bool.Decides.{nat_tests}
+use Rattle.np_tables.proofs.Words.{list_all, IsAscii, IsCharBoundary, and_from, and_right, not-false, get_or_default, get_or-map, take-append-drop}
+use Rattle.np_tables.proofs.Words.{chars-append, chars_from_encodes, chars-IsAscii, chars_past_char, encodes-append, encodes-IsAscii, IsCharBoundary-at_seam}
+use Rattle.np_tables.proofs.Words.{IsCharBoundary-from_take, IsUtf8-drop, IsUtf8-take, IsUtf8-from_ascii, IsUtf8-past_char, chars-nil, is_syllable, Form}
+use Rattle.np_tables.proofs.Words.{is_compat, BeginsAtBoundary, IsBoundary, IsYesStarter, is_final, VersionData, class_of, has_hangul, is_assigned}
+use Rattle.np_tables.proofs.Words.{Properties, table_full, FullLists, of_kind, property_place, AreFollowing, ArePages, Follows, FollowsByQuickCheck}
+use Rattle.np_tables.proofs.Words.{FollowsUncomposed, IsAsciiYes, IsPast, IsWalkedTo, PassesUncomposed, last_behind, no_properties, CannotComposeByProperties}
 use Rattle.np_tables.proofs.Words.{ArePropertiesOf, all_quick_checks, quick_check_in, quick_check_of, quick_checks_of}
 use Rattle.np_tables.specs.QuickSpans.{IsQuickSpan, MayFollow, Walks, CannotComposeAfter}
 use Rattle.np_tables.proofs.HangulLemmas.{by_arithmetic, syllable_hangul}
 use Rattle.np_tables.proofs.MappingLemmas.{full_of-some}
+use Rattle.np_tables.proofs.PagePropertyLemmas.{properties-read}
 use Rattle.np_tables.proofs.QuickCheckLemmas.{place-within, quick_check_assigned, quick_check_at, quick_check_low, quick_check_yes, yes_quick_check}
 
 -- ---- walks over lists
@@ -48,7 +47,7 @@ module _ (text : List ℕ) (n : ℕ) (utf8 : IsUtf8 text) (le : n ≤ length tex
         split = whole ∙ ap (λ l. l ++ rest) (sym (encodes-IsAscii front ascii));
         text_is = ap chars whole ∙ chars-append front rest (IsUtf8-from_ascii front ascii) ∙ ap (λ l. l ++ chars rest) (chars-IsAscii front ascii);
         utf8 = subst IsUtf8 (sym is) (IsUtf8-drop text n utf8 past_boundary);
-        passed = λ k d lt. each (get_or front k d) (let low = ascii k in let same = get_or_default front k d 0 lt in omega arith);
+        passed = λ k d lt. each (get_or front k d) (omega (arith, ascii k, get_or_default front k d 0 lt));
       }
 
 -- ---- what was read of a text is a walk, and `rest` is left
@@ -135,21 +134,11 @@ begins-first v form rest here later c same utf8 parts at = subst (BeginsAtBounda
 -- ---- a non-starter for which nothing is lent has no mapping
 
 plain_non_starter : (v : VersionData) (c : ℕ) → 0 < class_of v c → (has_hangul v && is_syllable c) ≡ false
-plain_non_starter v c non_starter =
-    elim (cases_Bool (has_hangul v && is_syllable c)) [
-      | inl on ↦ (let both = and_parts (has_hangul v) (is_syllable c) on in absurd (omega (arith, non_starter, (by_arithmetic v both.0 c (syllable_hangul c both.1)).class)))
-      | inr off ↦ off
-    ]
+plain_non_starter v c non_starter = grind (arith, nat_tests, by_arithmetic v, syllable_hangul c)
 
 pub final-lent : (v : VersionData) (compat : Bool) (c : ℕ) → table_full v compat c ≡ [] → (has_hangul v && is_syllable c) ≡ false → is_final v compat c ≡ true
 unfolding table_full
-final-lent v compat c none plain =
-    elim (cases_Bool (is_final v compat c)) [
-      | inl final ↦ final
-      | inr mapped ↦
-          let whole : table_full v compat c ≡ full_of v compat c = cond-false _ _ _ (or_from (is_final v compat c) (has_hangul v && is_syllable c) mapped plain) in
-          absurd (omega (arith, ap length (sym whole ∙ none), full_of-some v compat c))
-    ]
+final-lent v compat c none plain = grind (arith, nat_tests, full_of-some v compat c, plain, none)
 
 -- ---- what the quick checks say is so
 
@@ -181,13 +170,7 @@ module _ (v u : VersionData) (same : u ≡ v) (lists : FullLists) (blocks : List
   follows_is least before last c n h = elim h [ inl by_quick_check ↦ quick_check_follows least before last c n by_quick_check | inr uncomposed ↦ inr (uncomposed.0, uncomposed.1, uncomposed.2, inr uncomposed.3) ]
 
   follows-assigned : (least : ℕ) (before : Option ℕ) (last c n : ℕ) → 2 ≤ least → Follows u least blocks quick_checks form before last c n → is_assigned u c ≡ true
-  follows-assigned least before last c n two h =
-      elim h [
-        | inl by_quick_check ↦
-            let w = get_or all_properties (property_place blocks c) no_properties in
-            sym (pages.each c by_quick_check.0).assigned ∙ quick_check_assigned form w (omega (arith, two, by_quick_check.1, quick_check_read c by_quick_check.0))
-        | inr uncomposed ↦ uncomposed.4
-      ]
+  follows-assigned least before last c n two h = grind (arith, h, λ (lt : c < 0x110000). (pages.each c lt).assigned, quick_check_assigned form, quick_check_read c)
 
   -- above the least quick check of what is not assigned each is
   walk-assigned : (least : ℕ) (before : Option ℕ) (last end : ℕ) (cs : List ℕ) → 2 ≤ least → Walks (Follows u least blocks quick_checks form) before last cs end → list_all (is_assigned u) cs ≡ true
@@ -216,22 +199,22 @@ module _ (v u : VersionData) (same : u ≡ v) (lists : FullLists) (blocks : List
         place = are.place;
       }
 
--- ---- ASCII that passes under every form is assigned
+  -- ---- ASCII that passes under every form is assigned
 
-module _ (v u : VersionData) (same : u ≡ v) (lists : FullLists) (blocks : List ℕ) (all_properties : List Properties) (pages : ArePages u lists blocks all_properties) (quick_checks : List ℕ) (are_quick_checks : quick_checks ≡ all_quick_checks all_properties) (form : Form) (ascii : IsAsciiYes blocks quick_checks) where
-  -- its quick check is that of a starter that passes
-  ascii_quick_check : (c : ℕ) → c < 128 → quick_check_of form (get_or all_properties (property_place blocks c) no_properties) ≡ 255
-  ascii_quick_check c lt = sym (quick_check_read v u same lists blocks all_properties pages quick_checks are_quick_checks form c (omega (arith, lt))) ∙ ap (quick_check_in form) (ascii c lt) ∙ yes_quick_check form
+  module _ (ascii : IsAsciiYes blocks quick_checks) where
+    -- its quick check is that of a starter that passes
+    ascii_quick_check : (c : ℕ) → c < 128 → quick_check_of form (get_or all_properties (property_place blocks c) no_properties) ≡ 255
+    ascii_quick_check c lt = sym (quick_check_read c (omega (arith, lt))) ∙ ap (quick_check_in form) (ascii c lt) ∙ yes_quick_check form
 
-  pub ascii-assigned : (c : ℕ) → c < 128 → is_assigned v c ≡ true
-  ascii-assigned c lt =
-      let w = get_or all_properties (property_place blocks c) no_properties in
-      subst (λ x. is_assigned x c ≡ true) same (sym (pages.each c (omega (arith, lt))).assigned ∙ quick_check_assigned form w (omega (arith, ascii_quick_check c lt)))
+    pub ascii-assigned : (c : ℕ) → c < 128 → is_assigned v c ≡ true
+    ascii-assigned c lt =
+        let w = get_or all_properties (property_place blocks c) no_properties in
+        subst (λ x. is_assigned x c ≡ true) same (sym (pages.each c (omega (arith, lt))).assigned ∙ quick_check_assigned form w (omega (arith, ascii_quick_check c lt)))
 
-  pub ascii-yes_starter : (c : ℕ) → c < 128 → IsYesStarter v form c
-  ascii-yes_starter c lt =
-      let w = get_or all_properties (property_place blocks c) no_properties in
-      subst (λ x. IsYesStarter x form c) same ((pages.each c (omega (arith, lt))).hints.yes_starter form (quick_check_yes form w (ascii_quick_check c lt)))
+    pub ascii-yes_starter : (c : ℕ) → c < 128 → IsYesStarter v form c
+    ascii-yes_starter c lt =
+        let w = get_or all_properties (property_place blocks c) no_properties in
+        subst (λ x. IsYesStarter x form c) same ((pages.each c (omega (arith, lt))).hints.yes_starter form (quick_check_yes form w (ascii_quick_check c lt)))
 
 -- ---- code points that go into nothing behind the one before
 
@@ -250,9 +233,6 @@ last_behind-text s earlier c e utf8 of_earlier =
     ap (last_behind None) (ap chars e ∙ chars-append earlier back of_earlier ∙ ap (λ l. chars earlier ++ l) one) ∙ last_behind-more None (chars earlier) c
 
 module _ (v : VersionData) (lists : FullLists) (blocks : List ℕ) (all_properties : List Properties) (pages : ArePages v lists blocks all_properties) where
-  properties-read : (c : ℕ) → c < 0x110000 → (w : Properties) → w ≡ get_or all_properties (property_place blocks c) no_properties → ArePropertiesOf v lists c w
-  properties-read c lt w is = subst (ArePropertiesOf v lists c) (sym is) (pages.each c lt)
-
   -- what has no slot and is no syllable has no mapping
   final-read : (compat : Bool) (c : ℕ) (w : Properties) → ArePropertiesOf v lists c w → w.fulls ≡ 0 → is_syllable c ≡ false → is_final v compat c ≡ true
   final-read compat c w properties fulls plain =
@@ -260,27 +240,15 @@ module _ (v : VersionData) (lists : FullLists) (blocks : List ℕ) (all_properti
 
   -- what the properties of the code point before tell is so
   stands-read : (form : Form) (kept c : ℕ) (before w : Properties) → ArePropertiesOf v lists kept before → ArePropertiesOf v lists c w → CannotComposeByProperties v kept before c w.class → CannotComposeAfter v form kept c
-  stands-read form kept c before w of_before of_c uncomposed =
-      elim uncomposed [
-        | inl blocks ↦ inl (omega (arith, of_before.class, blocks.0), omega (arith, of_before.class, of_c.class, blocks.1))
-        | inr pair ↦ inr (sym of_before.class ∙ pair.0, final-read (is_compat form) kept before of_before pair.1 pair.2, pair.3)
-      ]
+  stands-read form kept c before w of_before of_c uncomposed = grind (arith, of_before.class, of_c.class, final-read (is_compat form) kept before of_before, uncomposed)
 
   pub passes_uncomposed : (form : Form) (front : List ℕ) (kept c low next : ℕ) → kept < 0x110000 → c < 0x110000 → (before w : Properties) → before ≡ get_or all_properties (property_place blocks kept) no_properties → w ≡ get_or all_properties (property_place blocks c) no_properties
       → w.fulls ≡ 0 → not w.assigned ≡ false → is_syllable c ≡ false → last_behind None front ≡ Some kept → CannotComposeByProperties v kept before c w.class → (w.class ≡ 0) ⊎ (low ≤ w.class) → w.class ≤ next → PassesUncomposed v form front c low next
   passes_uncomposed form front kept c low next of_kept of_c before w is_before is fulls assigned plain behind uncomposed order le last up_to =
-      let properties = properties-read c of_c w is in
-      let stands = stands-read form kept c before w (properties-read kept of_kept before is_before) properties uncomposed in (
-        class_of v c,
-        omega (arith, properties.class, le),
-        (
-          final-read (is_compat form) c w properties fulls plain,
-          refl,
-          (elim order [ inl starter ↦ inl (sym properties.class ∙ starter) | inr above ↦ inr (omega (arith, properties.class, above, up_to)) ]),
-          (kept, behind, stands),
-          sym properties.assigned ∙ not-false w.assigned assigned,
-        ),
-      )
+      let properties = properties-read v v refl lists blocks all_properties pages c of_c w is in
+      let stands = stands-read form kept c before w (properties-read v v refl lists blocks all_properties pages kept of_kept before is_before) properties uncomposed in
+      let final = final-read (is_compat form) c w properties fulls plain in
+      (class_of v c, omega (arith, properties.class, le), (final, refl, grind (arith, properties.class, order), (kept, behind, stands), sym properties.assigned ∙ not-false w.assigned assigned))
 
 -- what the checks of functions cite
 pub ruleset quick_span_answers = (IsPast-ascii, last_behind-text)

@@ -1,12 +1,10 @@
 -- The arithmetic by the rows of the syllables and jamo alone.
-use Rattle.std.proofs.Common.{◌≡◌, ℕ, ◌+◌, ◌-◌, ◌<◌, ◌≤◌, ap, arith, inr, true, false, ◌&&◌, ◌==◌, List, Option, Some, None, is_some, refl, sym, ◌∙◌}
-use Rattle.np_tables.proofs.Words.{Entry, Span, VersionData, entry_at, class_in, class_of, file_mapping, has_hangul}
-use Rattle.np_tables.proofs.Words.{is_assigned, is_empty, is_hangul_row, mapping_in, hangul_at, is_right_at}
-use Rattle.np_tables.proofs.Words.{is_right_entry}
+use Rattle.std.proofs.Common.{◌≡◌, ℕ, ◌+◌, ◌-◌, ◌<◌, ◌≤◌, arith, inr, true, false, ◌&&◌, ◌==◌, List, Option, Some, None, is_some, refl, sym, ◌∙◌}
+use Rattle.np_tables.proofs.Words.{Entry, Span, VersionData, entry_at, class_in, class_of, file_mapping, has_hangul, is_assigned, is_empty, is_hangul_row}
+use Rattle.np_tables.proofs.Words.{mapping_in, hangul_at, is_right_at, is_right_entry, AreRows}
 use Rattle.np_tables.proofs.HangulLemmas.{has_hangul-fails, has_hangul-from}
 use Rattle.np_tables.proofs.HangulPlaces.{Stands, each_hangul, hangul_at-hangul, stands-is}
 use Rattle.np_tables.proofs.RowLemmas.{at-found, entry_at-row, entry_at-within, place_of_entry}
-use Rattle.np_tables.proofs.Words.{AreRows}
 
 right_entry-is : (o : Option Entry) → is_right_entry o ≡ (is_some o && class_in o == 0 && is_empty (mapping_in o))
 right_entry-is None = refl
@@ -23,19 +21,14 @@ syllable_at i far = sym (stands-is i (0xAC00 + (i - 67)) (inr (inr (inr (far, re
 
 -- where the row of a code point ends
 pub row_end : (es : List Entry) (c : ℕ) (e : Entry) → AreRows es → Some e ≡ entry_at es c → (c ≤ e.last) × (e.last < 0x110000)
-row_end es c e rows at = ((entry_at-within es c e (sym at)).1, (entry_at-row es c e rows (sym at)).bounded)
+row_end es c e rows at = grind (arith, entry_at-within es c e (sym at), entry_at-row es c e rows (sym at))
 
 -- all syllables up to the end of one's row are as it is
 pub right_run : (es : List Entry) (i k : ℕ) (e : Entry) → AreRows es → Some e ≡ entry_at es (hangul_at i) → 67 ≤ i → i ≤ k → k < i + (e.last - hangul_at i + 1) → is_right_at es (hangul_at i) ≡ true → is_right_at es (hangul_at k) ≡ true
 unfolding is_right_at
 right_run es i k e rows at far le lt right =
-    let here = syllable_at i far in
-    let there = syllable_at k (omega arith) in
     let place = place_of_entry es (hangul_at i) e (sym at) in
-    let within = entry_at-within es (hangul_at i) e (sym at) in
-    let low = within.0 in
-    let high = within.1 in
-    ap is_right_entry (sym (at-found es place.0 (hangul_at k) e rows place.2 (omega arith) (omega arith)) ∙ place.2 ∙ at) ∙ right
+    grind (arith, syllable_at i far, syllable_at k (omega arith), entry_at-within es (hangul_at i) e (sym at), at-found es place.0 (hangul_at k) e rows place.2, place.2, at, right)
 
 module _ (es : List Entry) (spans : List Span) where
   abbrev version : VersionData

@@ -1,13 +1,13 @@
 -- The loops over the rows and over the parts of a mapping.
-use Rattle.std.proofs.Common.{◌≡◌, ◌≢◌, ℕ, zero, suc, ◌+◌, ◌-◌, ◌%◌, ◌<◌, ◌≤◌, Bool, true, false, ◌&&◌, ◌==◌, min, List, [], ◌∷◌, ◌++◌, map, flat_map, length, take, get_or, None, refl, sym, ap, ◌∙◌, arith, length-append, append-nil, cond, eqb, drop, Option, Some, subst}
-use Rattle.np_tables.proofs.Words.{cond-true, cond-false, and_from, eqb-true, eqb-false, eq-eqb, ne_eqb, le-leb, lt-leb}
-use Rattle.np_tables.proofs.Words.{take_more, take_all, length-map, length-drop, drop-drop, drop_at, drop-map}
-use Rattle.np_tables.proofs.Words.{flat_map-append, get_or_default_zero, min-le_right, list_all, slice_get, Entry}
-use Rattle.np_tables.proofs.Words.{AreRows, is_syllable, VersionData, entry_at, mapping_in, is_empty, has_hangul}
-use Rattle.np_tables.proofs.Words.{has_depth, full, marked, mark, parts_mark, mapping_mark, row_marks, syllable_depth}
+use Rattle.std.proofs.Common.{◌≡◌, ◌≢◌, ℕ, zero, suc, ◌+◌, ◌-◌, ◌%◌, ◌<◌, ◌≤◌, Bool, true, false, ◌&&◌, min, List, [], ◌∷◌, ◌++◌, map, flat_map, length, take, get_or, None, refl, sym, ap, ◌∙◌, arith, length-append, append-nil, cond, eqb, drop, Option, Some, subst}
+use Rattle.std.proofs.lemmas.Bool.Decides.{nat_tests}
+use Rattle.np_tables.proofs.Words.{cond-true, cond-false, and_from, eqb-false, ne_eqb, le-leb, lt-leb, take_more, take_all, length-map, length-drop}
+use Rattle.np_tables.proofs.Words.{drop-drop, drop_at, drop-map, flat_map-append, min-le_right, list_all, slice_get, Entry, AreRows, is_syllable, VersionData}
+use Rattle.np_tables.proofs.Words.{entry_at, mapping_in, is_empty, has_hangul, has_depth, full, mark, parts_mark, mapping_mark, row_marks, syllable_depth}
 use Rattle.np_tables.proofs.Words.{syllable_mark, first_row, is_marked, take-add, option_map, before_byte, after_byte}
 use Rattle.std.proofs.lemmas.List.Folds.{list_all_at, list_all_more}
 use Rattle.np_code_points.proofs.LineGrammar.{joined_some, joined_none}
+use Rattle.np_tables.proofs.AccessLemmas.{length-empty}
 use Rattle.np_tables.proofs.DepthLemmas.{mark-file, mark-zero, mark-more, mark-length, kept_mark}
 
 -- ---- the marks of the rows, one by one
@@ -27,28 +27,20 @@ module _ (v : VersionData) (n : ℕ) where
   row_marks_at at d lt = marks_at (mapping_mark v n) v.entries at d lt
 
   pub row_marks_more : (at m : ℕ) (xs : List ℕ) → at < length v.entries → xs ≡ take at (row_marks v n) → m ≡ mapping_mark v n (mapping_in (slice_get v.entries at)) → xs ++ m ∷ [] ≡ take (at + 1) (row_marks v n)
-  row_marks_more at m xs lt before here =
-      let count = length-row_marks in
-      ap (λ l. l ++ m ∷ []) before ∙ ap (λ k. take at (row_marks v n) ++ k ∷ []) (here ∙ sym (row_marks_at at 0 lt))
-      ∙ sym (take_more (row_marks v n) at 0 (omega arith))
+  row_marks_more at m xs lt before here = grind (arith, length-row_marks, row_marks_at at 0 lt, take_more (row_marks v n) at 0)
 
   pub row_marks_all : (at : ℕ) (xs : List ℕ) → length v.entries ≤ at → xs ≡ take at (row_marks v n) → xs ≡ row_marks v n
-  row_marks_all at xs le h = let count = length-row_marks in h ∙ take_all at (row_marks v n) (omega arith)
+  row_marks_all at xs le h = grind (arith, length-row_marks, take_all at (row_marks v n))
 
-pub bare_mapping : (v : VersionData) (xs : List ℕ) → is_empty xs ≡ true → mapping_mark v 0 xs ≡ 1
+pub mark-bare : (v : VersionData) (n : ℕ) (xs : List ℕ) → is_empty xs ≡ true → mapping_mark v n xs ≡ 1
 unfolding mapping_mark
-bare_mapping v [] h = refl
-bare_mapping v (x ∷ xs) h = cc
+mark-bare v n [] h = refl
+mark-bare v n (x ∷ xs) h = cc
 
 pub deep_mapping : (v : VersionData) (xs : List ℕ) → is_empty xs ≡ false → mapping_mark v 0 xs ≡ 0
 unfolding mapping_mark
 deep_mapping v [] h = cc
 deep_mapping v (x ∷ xs) h = refl
-
-pub next_bare : (v : VersionData) (n : ℕ) (xs : List ℕ) → is_empty xs ≡ true → mapping_mark v (n + 1) xs ≡ 1
-unfolding mapping_mark
-next_bare v n [] h = refl
-next_bare v n (x ∷ xs) h = cc
 
 pub next_parts : (v : VersionData) (n : ℕ) (xs : List ℕ) → is_empty xs ≡ false → mapping_mark v (n + 1) xs ≡ parts_mark v n xs
 unfolding mapping_mark
@@ -67,40 +59,22 @@ module _ (v : VersionData) (n : ℕ) where
       ap length (flat_map-append (full v true n) xs (x ∷ []) ∙ ap (λ l. flat_map (full v true n) xs ++ l) (append-nil (full v true n x)))
       ∙ length-append (flat_map (full v true n) xs) (full v true n x)
 
-  sums : (a b s m : ℕ) → s ≡ min a 65 → m ≡ min b 65 → min (s + m) 65 ≡ min (a + b) 65
-  sums a b s m first second = omega arith
-
   pub IsSum-more : (xs : List ℕ) (i s m : ℕ) → i < length xs → IsSum v n (take i xs) s → m ≡ mark v n (get_or xs i 0) → 0 < m → IsSum v n (take (i + 1) xs) (min (s + m) 65)
   IsSum-more xs i s m lt before is more =
-      let x = get_or xs i 0 in
-      let known : has_depth v n x ≡ true = mark-more v n x (omega arith) in
-      let long = is ∙ mark-length v n x known in
-      record {
-        known = list_all_more (has_depth v n) xs i 0 lt ∙ and_from _ _ before.known known;
-        total =
-            sums _ _ s m before.total long
-            ∙ ap (λ k. min k 65) (sym (ap (λ l. length (flat_map (full v true n) l)) (take_more xs i 0 lt) ∙ flat_map-last (take i xs) x));
-      }
+      let known = mark-more v n (get_or xs i 0) (omega arith) in
+      grind (arith, known, before.known, before.total, mark-length v n (get_or xs i 0) known, list_all_more (has_depth v n) xs i 0 lt, take_more xs i 0 lt, flat_map-last (take i xs) (get_or xs i 0), and_from)
 
   pub parts-fail : (xs : List ℕ) (i : ℕ) → i < length xs → mark v n (get_or xs i 0) ≡ 0 → parts_mark v n xs ≡ 0
   unfolding parts_mark
-  parts-fail xs i lt h =
-      ap (λ b. marked b (length (flat_map (full v true n) xs))) (list_all_at (has_depth v n) xs i 0 lt (mark-zero v n (get_or xs i 0) h))
+  parts-fail xs i lt h = grind (arith, nat_tests, list_all_at (has_depth v n) xs i 0 lt, mark-zero v n (get_or xs i 0) h)
 
   pub parts-done : (xs : List ℕ) (i s : ℕ) → length xs ≤ i → IsSum v n (take i xs) s → parts_mark v n xs ≡ s
   unfolding parts_mark
-  parts-done xs i s le is =
-      let all = take_all i xs le in
-      ap (λ b. marked b (length (flat_map (full v true n) xs))) (sym (ap (list_all (has_depth v n)) all) ∙ is.known)
-      ∙ sym (is.total ∙ ap (λ l. min (length (flat_map (full v true n) l)) 65) all)
-
-  marked-bound : (b : Bool) (k : ℕ) → marked b k ≤ 65
-  marked-bound true k = min-le_right k 65
-  marked-bound false k = omega arith
+  parts-done xs i s le is = grind (arith, take_all i xs le, is.known, is.total)
 
   pub mark-bound : (c : ℕ) → mark v n c ≤ 65
   unfolding mark
-  mark-bound c = marked-bound (has_depth v n c) _
+  mark-bound c = grind (arith, nat_tests, min-le_right (length (full v true n c)) 65)
 
 -- ---- the mark of a code point that is no syllable of the arithmetic
 
@@ -116,7 +90,7 @@ module _ (v : VersionData) (rows : AreRows v.entries) (n c : ℕ) (other : (has_
 
 pub depth_even : (c : ℕ) → (c - 0xAC00) % 28 ≡ 0 → syllable_depth c ≡ 1
 unfolding syllable_depth
-depth_even c h = cond-true _ 1 2 (eq-eqb ((c - 0xAC00) % 28) 0 h)
+depth_even c h = grind (arith, nat_tests)
 
 pub depth_odd : (c : ℕ) → (c - 0xAC00) % 28 ≢ 0 → syllable_depth c ≡ 2
 unfolding syllable_depth
@@ -130,22 +104,6 @@ pub mark_hidden : (n c d : ℕ) → d ≡ syllable_depth c → n < d → 0 ≡ s
 unfolding syllable_mark
 mark_hidden n c d same lt = sym (cond-false _ _ _ (lt-leb (syllable_depth c) n (omega arith)))
 
--- ---- an empty list by its length
-
-pub empty_test : (xs : List ℕ) → (length xs == 0) ≡ true → is_empty xs ≡ true
-empty_test [] h = refl
-empty_test (x ∷ xs) h = let none = eqb-true (length (x ∷ xs)) 0 h in absurd (omega arith)
-
-pub full_test : (xs : List ℕ) → (length xs == 0) ≡ false → is_empty xs ≡ false
-full_test [] h = absurd (eqb-false 0 0 h refl)
-full_test (x ∷ xs) h = refl
-
--- a list's item as the loop over it gives it
-pub part_at : (xs : List ℕ) (i code item : ℕ) → i < length xs → code ≡ item → item ≡ get_or xs i item → code ≡ get_or xs i 0
-part_at xs i code item lt same is = same ∙ is ∙ get_or_default_zero xs i item lt
-
--- ---- the marks of a round from those of the round before, which are cut at each that is not known
-
 -- ---- the known marks of a round are those of the next
 
 known_step : (t : Bool) (x y : ℕ) (before ys : List ℕ) → (t ≡ false → y ≡ x) → before ≡ take (length before) ys → cond t [] (x ∷ before) ≡ take (length (cond t [] (x ∷ before))) (y ∷ ys)
@@ -157,14 +115,8 @@ known_marks f g kept [] = refl
 known_marks f g kept (e ∷ es) =
     known_step (eqb (f e) 0) (f e) (g e) (before_byte 0 (map f es)) (map g es) (kept e) (known_marks f g kept es)
 
-some_from : (n : ℕ) → eqb n 0 ≡ false → 0 < n
-some_from zero h = absurd (eqb-false 0 0 h refl)
-some_from (suc n) h = omega arith
-
 glued : (marks done more : List ℕ) → done ≡ take (length done) marks → more ≡ take (length more) (drop (length done) marks) → done ++ more ≡ take (length (done ++ more)) marks
-glued marks done more first then =
-    ap (λ l. l ++ more) first ∙ ap (λ l. take (length done) marks ++ l) then
-    ∙ sym (take-add (length done) (length more) marks) ∙ ap (λ k. take k marks) (sym (length-append done more))
+glued marks done more first then = grind (arith, first, then, take-add (length done) (length more) marks, length-append done more)
 
 later_is : (left later : List ℕ) → after_byte 0 left ≡ Some later → drop (length (before_byte 0 left) + 1) left ≡ later
 later_is left later h =
@@ -181,7 +133,7 @@ module _ (v : VersionData) (n : ℕ) where
   kept_row : (e : Entry) → eqb (mapping_mark v n e.mapping) 0 ≡ false → mapping_mark v (n + 1) e.mapping ≡ mapping_mark v n e.mapping
   kept_row e h =
       let after : n + 1 ≡ suc n = omega arith in
-      ap (λ k. mapping_mark v k e.mapping) after ∙ kept_mark v n e.mapping (some_from (mapping_mark v n e.mapping) h)
+      ap (λ k. mapping_mark v k e.mapping) after ∙ kept_mark v n e.mapping (let some = eqb-false (mapping_mark v n e.mapping) 0 h in omega arith)
 
   kept_rows : (k : ℕ) (left : List ℕ) → left ≡ drop k (row_marks v n) → before_byte 0 left ≡ take (length (before_byte 0 left)) (drop k (row_marks v (n + 1)))
   unfolding row_marks
@@ -199,18 +151,13 @@ module _ (v : VersionData) (n : ℕ) where
         ∙ ap (λ l. take (length l) (row_marks v (n + 1))) (sym more)
 
     length-known : length known ≡ length next + length (before_byte 0 left)
-    length-known = ap length more ∙ length-append next (before_byte 0 left)
+    length-known = grind (arith, more, length-append next (before_byte 0 left))
 
     length-left : length left ≡ length v.entries - length next
-    length-left =
-        ap length is.rest ∙ length-drop (length next) (row_marks v n) ∙ ap (λ k. k - length next) (length-row_marks v n)
+    length-left = grind (arith, is.rest, length-drop (length next) (row_marks v n), length-row_marks v n)
 
     pub known_within : (later : List ℕ) → after_byte 0 left ≡ Some later → length known < length v.entries
-    known_within later found =
-        let cut : length left ≡ length (before_byte 0 left) + length (0 ∷ later) = ap length (joined_some 0 left later found) ∙ length-append (before_byte 0 left) (0 ∷ later) in
-        let count = length-known in
-        let rest = length-left in
-        omega arith
+    known_within later found = grind (arith, joined_some 0 left later found, length-append (before_byte 0 left) (0 ∷ later), length-known, length-left)
 
     pub round_more : (later : List ℕ) (m : ℕ) → after_byte 0 left ≡ Some later → m ≡ mapping_mark v (n + 1) (mapping_in (slice_get v.entries (length known))) → IsRound v n (known ++ m ∷ []) later
     round_more later m found here =
@@ -228,11 +175,7 @@ module _ (v : VersionData) (n : ℕ) where
         }
 
     pub round_done : after_byte 0 left ≡ None → known ≡ row_marks v (n + 1)
-    round_done none =
-        let all : length left ≡ length (before_byte 0 left) = ap length (joined_none 0 left none) in
-        let count = length-known in
-        let rest = length-left in
-        row_marks_all v (n + 1) (length known) known (omega arith) known_made
+    round_done none = row_marks_all v (n + 1) (length known) known (grind (arith, ap length (joined_none 0 left none), length-known, length-left)) known_made
 
 -- ---- the first row with a mark, by how many stand before it
 
@@ -251,4 +194,4 @@ unfolding row_marks
 first_cut v n m = first_before (λ e. mapping_mark v n e.mapping) m v.entries
 
 -- what the checks of functions cite
-pub ruleset round_answers = (empty_test, full_test, next_bare, next_parts)
+pub ruleset round_answers = (length-empty, mark-bare, next_parts)

@@ -1,10 +1,10 @@
 -- The row of each code point, block by block.
-use Rattle.std.proofs.Common.{◌≡◌, ℕ, zero, suc, ◌+◌, ◌-◌, ◌*◌, ◌/◌, ◌%◌, ◌<◌, ◌≤◌, ◌⊎◌, List, [], ◌∷◌, ◌++◌, length, slice_index, Option, Some, None, refl, sym, ap, subst, ◌∙◌, arith, inl, inr}
-use Rattle.np_tables.proofs.Words.{slice_get, div-add-mod, mod-lt, cases_lt, get_or_append_left, length-append}
-use Rattle.np_tables.proofs.Words.{get_or-append_seam, none-some, same_Some, slice_get_within, Entry, AreRows, entry_at}
-use Rattle.np_tables.proofs.Words.{property_place, lies_in, IsRowNumber, IsRowBlock, AreRowPages, IsNextRow, AreFirstPages}
-use Rattle.np_tables.proofs.Words.{AreBegun, ArePushed, HasNoRow, GoesOn}
-use Rattle.np_tables.proofs.RowLemmas.{at-found, at-row, entry_at-row, entry_at-within, none-found, firsts-le, out_of, below_out}
+use Rattle.std.proofs.Common.{◌≡◌, ℕ, zero, suc, ◌+◌, ◌*◌, ◌/◌, ◌%◌, ◌<◌, ◌≤◌, List, [], ◌∷◌, ◌++◌, length, slice_index, Some, None, refl, sym, ap, subst, ◌∙◌, arith, inl, inr}
+use Rattle.std.proofs.lemmas.Bool.Decides.{nat_tests}
+use Rattle.np_tables.proofs.Words.{slice_get, div-add-mod, mod-lt, cases_lt, get_or_append_left, length-append, get_or-append_seam, same_Some}
+use Rattle.np_tables.proofs.Words.{slice_get_within, Entry, AreRows, entry_at, property_place, lies_in, IsRowNumber, IsRowBlock, AreRowPages, IsNextRow}
+use Rattle.np_tables.proofs.Words.{AreFirstPages, AreBegun, ArePushed, HasNoRow, GoesOn}
+use Rattle.np_tables.proofs.RowLemmas.{at-found, at-row, none-found, ends-before, firsts-le}
 
 -- ---- rows by their places
 
@@ -13,68 +13,34 @@ some_at [] k lt = absurd (omega arith)
 some_at (e ∷ es) zero lt = (e, refl)
 some_at (e ∷ es) (suc k) lt = some_at es k (omega arith)
 
--- each row ends before the next one begins
-pub ends-rise : (es : List Entry) (i : ℕ) (e f : Entry) → AreRows es → slice_get es i ≡ Some e → slice_get es (suc i) ≡ Some f → e.last < f.first
-ends-rise [] i e f rows at next = absurd (none-some e at)
-ends-rise (x ∷ []) zero e f rows at next = absurd (none-some f next)
-ends-rise (x ∷ y ∷ ys) zero e f rows at next =
-    let one : x.last ≡ e.last = ap (λ (r : Entry). r.last) (same_Some x e at) in
-    let two : y.first ≡ f.first = ap (λ (r : Entry). r.first) (same_Some y f next) in
-    let up = rows.1 in
-    omega arith
-ends-rise (x ∷ xs) (suc i) e f rows at next = ends-rise xs i e f rows.2 at next
-
 -- ---- the next row
 
 -- it begins behind the code point, so no row has it
 none_before : (es : List Entry) (at c : ℕ) → AreRows es → IsNextRow es at c → ((e : Entry) → slice_get es at ≡ Some e → c < e.first) → entry_at es c ≡ None
 none_before es at c rows next behind =
-    none-found es c (λ k lt.
-    let here = some_at es k lt in
-    ap (λ o. lies_in o c) here.1 ∙ elim (cases_lt k at) [
-      | inl low ↦ out_of here.0 c (next.past k here.0 low here.1)
-      | inr high ↦
-          let there = some_at es at (omega arith) in
-          let le = firsts-le es at k there.0 here.0 rows there.1 here.1 high in
-          let b = behind there.0 there.1 in
-          below_out here.0 c (omega arith)
-    ])
+    none-found es c (λ k lt. let here = some_at es k lt in ap (λ o. lies_in o c) here.1 ∙ grind (arith, nat_tests, some_at es at, firsts-le es at k, next.past k here.0, behind, here.1))
 
 pub none_behind : (es : List Entry) (at c : ℕ) (e : Entry) → AreRows es → IsNextRow es at c → slice_get es at ≡ Some e → c < e.first → entry_at es c ≡ None
-none_behind es at c e rows next here less =
-    none_before es at c rows next (λ f h. (let same : e.first ≡ f.first = ap (λ (r : Entry). r.first) (same_Some e f (sym here ∙ h)) in omega arith))
+none_behind es at c e rows next here less = none_before es at c rows next (grind arith)
 
 pub none_left : (es : List Entry) (at c : ℕ) → AreRows es → IsNextRow es at c → slice_get es at ≡ None → entry_at es c ≡ None
-none_left es at c rows next none = none_before es at c rows next (λ e h. absurd (none-some e (sym none ∙ h)))
+none_left es at c rows next none = none_before es at c rows next (grind arith)
 
 pub number-none : (es : List Entry) (c number : ℕ) → entry_at es c ≡ None → number ≡ 0 → IsRowNumber es c number
-number-none es c number none is =
-    record { none = λ _. none; within = λ lt. absurd (omega arith); row = λ lt. absurd (omega arith) }
+number-none es c number none is = grind arith
 
 pub number-some : (es : List Entry) (at c number : ℕ) (e : Entry) → AreRows es → slice_get es at ≡ Some e → e.first ≤ c → c ≤ e.last → number ≡ at + 1 → IsRowNumber es c number
-number-some es at c number e rows here low high is =
-    let same : number - 1 ≡ at = omega arith in
-    record {
-      none = λ z. absurd (omega arith);
-      within = λ lt. let w = slice_get_within es at e here in omega arith;
-      row = λ lt. ap (slice_get es) same ∙ at-found es at c e rows here low high;
-    }
+number-some es at c number e rows here low high is = grind (arith, slice_get_within es at e here, at-found es at c e rows here low high)
 
 -- the next row of a code point is that of a later one which it doesn't end before
-next-later : (es : List Entry) (at c d : ℕ) → IsNextRow es at c → c ≤ d → ((e : Entry) → slice_get es at ≡ Some e → d ≤ e.last) → IsNextRow es at d
-next-later es at c d next le here =
-    record { past = λ k e lt h. (let past = next.past k e lt h in omega arith); here = here }
-
 pub next-within : (es : List Entry) (at c d : ℕ) (e : Entry) → IsNextRow es at c → slice_get es at ≡ Some e → c ≤ d → d ≤ e.last → IsNextRow es at d
-next-within es at c d e next here le high =
-    next-later es at c d next le (λ f h. (let same : e.last ≡ f.last = ap (λ (r : Entry). r.last) (same_Some e f (sym here ∙ h)) in omega arith))
+next-within es at c d e next here le high = grind arith
 
 pub next-left : (es : List Entry) (at c d : ℕ) → IsNextRow es at c → slice_get es at ≡ None → c ≤ d → IsNextRow es at d
-next-left es at c d next none le = next-later es at c d next le (λ e h. absurd (none-some e (sym none ∙ h)))
+next-left es at c d next none le = grind arith
 
 pub next-behind : (es : List Entry) (at c : ℕ) (e : Entry) → AreRows es → IsNextRow es at c → slice_get es at ≡ Some e → e.last ≡ c → IsNextRow es (at + 1) (c + 1)
 next-behind es at c e rows next here end =
-    let after : suc at ≡ at + 1 = omega arith in
     record {
       past = λ k f lt h. elim (cases_lt k at) [
         | inl low ↦ let past = next.past k f low h in omega arith
@@ -84,7 +50,7 @@ next-behind es at c e rows next here end =
             omega arith
       ];
       here = λ f h. (
-          let rise = ends-rise es at e f rows here (ap (slice_get es) after ∙ h) in
+          let rise = ends-before es at (at + 1) e f rows here h (omega arith) in
           let s = slice_get_within es (at + 1) f h in
           let own = (at-row es (at + 1) f rows h).rises in
           omega arith);
@@ -94,26 +60,13 @@ next-behind es at c e rows next here end =
 
 pub no_row-left : (es : List Entry) (at first : ℕ) → AreRows es → IsNextRow es at first → slice_get es at ≡ None → HasNoRow es at first
 no_row-left es at first rows next none =
-    record {
-      next = next-left es at first (first + 256) next none (omega arith);
-      none = λ low lt. none_left es at (first + low) rows (next-left es at first (first + low) next none (omega arith)) none;
-    }
+    grind (arith, next-left es at first (first + 256) next none, λ (low : ℕ). none_left es at (first + low) rows (next-left es at first (first + low) next none (omega arith)) none)
 
 pub no_row-behind : (es : List Entry) (at first : ℕ) (e : Entry) → AreRows es → IsNextRow es at first → slice_get es at ≡ Some e → first + 256 ≤ e.first → HasNoRow es at first
-no_row-behind es at first e rows next here le =
-    let up = (at-row es at e rows here).rises in
-    record {
-      next = next-within es at first (first + 256) e next here (omega arith) (omega arith);
-      none = λ low lt. none_behind es at (first + low) e rows (next-within es at first (first + low) e next here (omega arith) (omega arith)) here (omega arith);
-    }
+no_row-behind es at first e rows next here le = grind (arith, at-row es at e rows here, next-within, none_behind)
 
 pub goes_on-within : (es : List Entry) (at first : ℕ) (e : Entry) → AreRows es → IsNextRow es at first → slice_get es at ≡ Some e → e.first + 256 ≤ first → first + 256 ≤ e.last → GoesOn es at first
-goes_on-within es at first e rows next here low high =
-    record {
-      next = next-within es at first (first + 256) e next here (omega arith) high;
-      before = omega arith;
-      same = λ i lt. sym (at-found es at (first + i) e rows here (omega arith) (omega arith)) ∙ at-found es at (first - 256 + i) e rows here (omega arith) (omega arith);
-    }
+goes_on-within es at first e rows next here low high = grind (arith, next-within, at-found)
 
 -- ---- pages that grow
 
@@ -140,9 +93,7 @@ begun-more es blocks old new block at pages kept fits is next =
         none = λ low lt. kept.same low (omega arith) ∙ pages.none low lt;
         within = λ k lt. elim (cases_lt k (length blocks)) [
           | inl less ↦
-              let same = get_or_append_left blocks (block ∷ []) 0 k less in
-              let le = pages.within k less in
-              omega arith
+              omega (arith, get_or_append_left blocks (block ∷ []) 0 k less, pages.within k less)
           | inr past ↦
               let place : length blocks ≡ k = omega arith in
               let same : slice_index (blocks ++ block ∷ []) k ≡ block = sym (ap (slice_index (blocks ++ block ∷ [])) place) ∙ get_or-append_seam blocks block [] 0 in
@@ -167,17 +118,12 @@ begun-more es blocks old new block at pages kept fits is next =
 -- a new block
 pub begun-block : (es : List Entry) (blocks old new : List ℕ) (at to block : ℕ) → AreBegun es blocks old at → ArePushed es (length blocks * 256) 256 old new to → block * 256 ≡ length old → AreBegun es (blocks ++ block ∷ []) new to
 begun-block es blocks old new at to block begun pushed is =
-    let size = pushed.size in
-    begun-more es blocks old new block to begun.pages (record { count = 1; fits = omega arith; few = omega arith; same = pushed.kept }) (omega arith)
-    (λ low lt. subst (λ n. IsRowNumber es (length blocks * 256 + low) (slice_index new (n + low))) (sym is) (pushed.each low lt))
-    pushed.next
+    begun-more es blocks old new block to begun.pages (record { count = 1; fits = grind (arith, pushed.size); few = omega arith; same = pushed.kept }) (grind (arith, pushed.size))
+    (grind (arith, pushed.each)) pushed.next
 
 -- as many blocks as there are
 pub block_count : (es : List Entry) (blocks numbers : List ℕ) (at : ℕ) → AreBegun es blocks numbers at → (length numbers / 256 * 256 ≡ length numbers) × (length numbers / 256 ≤ length blocks + 1)
-block_count es blocks numbers at begun =
-    let long = begun.pages.counted.length in
-    let few = begun.pages.counted.fits in
-    (omega arith, omega arith)
+block_count es blocks numbers at begun = grind arith
 
 -- all block numbers are there
 pub pages-all : (es : List Entry) (blocks numbers : List ℕ) (at : ℕ) → AreBegun es blocks numbers at → length blocks ≡ 4352 → AreRowPages es blocks numbers
@@ -194,14 +140,6 @@ pages-all es blocks numbers at begun size =
 
 -- ---- what is read
 
-cases_Entry : (o : Option Entry) → (o ≡ None) ⊎ ((e : Entry) × (o ≡ Some e))
-cases_Entry None = inl refl
-cases_Entry (Some e) = inr (e, refl)
-
 -- no row has a number past the code points
 pub past_code_points : (es : List Entry) (c : ℕ) → AreRows es → 0x110000 ≤ c → entry_at es c ≡ None
-past_code_points es c rows h =
-    elim (cases_Entry (entry_at es c)) [
-      | inl none ↦ none
-      | inr some ↦ (let bound = (entry_at-row es c some.0 rows some.1).bounded in let within = entry_at-within es c some.0 some.1 in absurd (omega arith))
-    ]
+past_code_points es c rows h = none-found es c (λ k lt. let here = some_at es k lt in grind (arith, nat_tests, at-row es k here.0 rows here.1, here.1))

@@ -1,32 +1,30 @@
 -- The marks of the syllables of the Hangul arithmetic.
-use Rattle.std.proofs.Common.{◌≡◌, ℕ, zero, suc, ◌+◌, ◌-◌, ◌%◌, ◌≤◌, true, false, [], ◌∷◌, ◌++◌, flat_map, length, refl, sym, ap, ◌∙◌, inl, inr, arith, leb, ◌==◌, cond, ◌≢◌, ◌<◌, ◌&&◌, List, Option, Some, None, subst, eqb, ◌⊎◌, Bool}
-use Rattle.np_tables.proofs.Words.{cond-true, cond-false, cond_both, cases_Bool, and_from, and_left, le-leb, eqb-true}
-use Rattle.np_tables.proofs.Words.{eqb-false, and_parts, eq-eqb, and_right, both_ways, leb-true, lt-leb, list_all}
-use Rattle.np_tables.proofs.Words.{AreRows, Entry, IsBefore, is_syllable, syllable_pair, VersionData, file_mapping}
-use Rattle.np_tables.proofs.Words.{has_hangul, decomposition_mapping, entry_at, mapping_in, has_depth, full, marked}
-use Rattle.np_tables.proofs.Words.{mark, parts_mark, mapping_mark, syllable_depth, syllable_mark, row_marks, first_row}
-use Rattle.np_tables.proofs.Words.{is_marked, IsTooDeep, IsTooLong, IsFirst}
+use Rattle.std.proofs.Common.{◌≡◌, ℕ, zero, suc, ◌+◌, ◌-◌, ◌%◌, ◌≤◌, true, false, [], ◌∷◌, ◌++◌, flat_map, length, refl, sym, ap, ◌∙◌, inl, inr, arith, ◌==◌, ◌≢◌, ◌<◌, ◌&&◌, List, Option, Some, None, subst, eqb, ◌⊎◌, Bool}
+use Rattle.std.proofs.lemmas.Bool.Decides.{nat_tests}
+use Rattle.np_tables.proofs.Words.{cases_eq, cond-true, cond-false, cond_both, and_from, and_left, eqb-true, list_all, AreRows, Entry, is_syllable}
+use Rattle.np_tables.proofs.Words.{syllable_pair, VersionData, file_mapping, has_hangul, decomposition_mapping, entry_at, mapping_in, has_depth, full, marked}
+use Rattle.np_tables.proofs.Words.{mark, parts_mark, mapping_mark, syllable_depth, syllable_mark, row_marks, first_row, is_marked, IsTooDeep, IsTooLong}
+use Rattle.np_tables.proofs.Words.{IsFirst}
 use Rattle.std.specs.Cmp.Lexicographic.{pointwise}
-use Rattle.np_tables.proofs.HangulLemmas.{decomposition_mapping-on, hangul_parts, IsLv, jamo_bare, lv_shape, lvt_shape, shape_of, syllable_row}
+use Rattle.np_tables.proofs.HangulLemmas.{decomposition_mapping-on, hangul_parts, IsLv, IsLvt, jamo_bare, lv_shape, lvt_shape, shape_of, syllable_row}
 use Rattle.np_tables.proofs.MappingLemmas.{is_empty-true, decomposes_full, full-only}
-use Rattle.np_tables.proofs.DepthLemmas.{bare_depth, bare_full, parts-mapping, suc_depth, suc_full, zero_depth, mark-mapping, mark-file, marks-from_rows, settled_rows, mark-zero, mark-more, mark-deep, mark-length}
-use Rattle.np_tables.proofs.RowLemmas.{entry_at-row, entry_at-within, entry_at-hit, entry_at-miss, entry_at-nil}
+use Rattle.np_tables.proofs.DepthLemmas.{bare_depth, bare_full, parts-mapping, suc_depth, suc_full, zero_depth, mark-mapping, mark-file, marks-from_rows}
+use Rattle.np_tables.proofs.DepthLemmas.{settled_rows, mark-zero, mark-more, mark-deep, mark-length}
+use Rattle.np_tables.proofs.RowLemmas.{entry_at-row, entry_at-within, entry_at-hit, entry_at-miss, entry_at-nil, found-above}
+use Rattle.np_tables.proofs.RoundLemmas.{depth_even, depth_odd, mark_hidden, mark_shown}
+use Rattle.np_tables.proofs.FileRowLemmas.{file_mapping-found}
 
 -- ---- syllables have no mapping in the file
 
 pub syllable-bare : (v : VersionData) (c : ℕ) → has_hangul v ≡ true → is_syllable c ≡ true → file_mapping v c ≡ []
 syllable-bare v c on h = is_empty-true _ (hangul_parts v c (syllable_row v c on h)).mapping
 
-pub depth_two : (c : ℕ) → syllable_depth c ≤ 2
+pub depth_two : (c : ℕ) → (1 ≤ syllable_depth c) × (syllable_depth c ≤ 2)
 unfolding syllable_depth
-depth_two c = cond_both ((c - 0xAC00) % 28 == 0) 1 2 (λ d. d ≤ 2) (λ e. omega arith) (λ e. omega arith)
+depth_two c = cond_both ((c - 0xAC00) % 28 == 0) 1 2 (λ d. (1 ≤ d) × (d ≤ 2)) (λ e. (omega arith, omega arith)) (λ e. (omega arith, omega arith))
 
 pub syllable_mark-late : (n c : ℕ) → 2 ≤ n → syllable_mark n c ≡ syllable_depth c + 1
-unfolding syllable_mark
-syllable_mark-late n c late = let two = depth_two c in cond-true _ _ _ (le-leb (syllable_depth c) n (omega arith))
-
-syllable_mark-still : (n c : ℕ) → 2 ≤ n → syllable_mark (suc n) c ≡ syllable_mark n c
-syllable_mark-still n c late = syllable_mark-late (suc n) c (omega arith) ∙ sym (syllable_mark-late n c late)
+syllable_mark-late n c late = let bounds = depth_two c in sym (mark_shown n c (syllable_depth c) refl (omega arith))
 
 module _ (v : VersionData) (rows : AreRows v.entries) (on : has_hangul v ≡ true) where
   -- a list of two code points without mappings
@@ -42,98 +40,57 @@ module _ (v : VersionData) (rows : AreRows v.entries) (on : has_hangul v ≡ tru
   syllable_mapping c h = decomposition_mapping-on v c (and_from _ _ on h)
 
   -- <L, V>
-  record Lv (n c : ℕ) : Type 0 where
-    known : has_depth v (suc n) c ≡ true
-    parts : ℕ
-    last : ℕ
-    whole : full v true (suc n) c ≡ parts ∷ last ∷ []
-
-  lv : (n c : ℕ) → IsLv c → Lv n c
+  lv : (n c : ℕ) (is : IsLv c) → (has_depth v (suc n) c ≡ true) × (full v true (suc n) c ≡ is.leading ∷ is.vowel ∷ [])
   lv n c is =
       let pair = syllable_mapping c is.syllable ∙ is.pair in
       let two = bare_two n is.leading is.vowel (jamo_bare v is.leading on is.first) (jamo_bare v is.vowel on is.second) in
-      record {
-        known = suc_depth v n c _ pair ∙ two.0;
-        parts = is.leading;
-        last = is.vowel;
-        whole = suc_full v n c _ _ (parts-mapping v rows c ∙ pair) ∙ two.1;
-      }
-
-  zero-syllable : (c : ℕ) → is_syllable c ≡ true → has_depth v zero c ≡ false
-  zero-syllable c h = let shape = shape_of c h in zero_depth v c _ _ (syllable_mapping c h ∙ shape.pair)
-
-  -- <LV, T>
-  record Lvt (c : ℕ) : Type 0 where
-    base : ℕ
-    last : ℕ
-    front : IsLv base
-    bare : decomposition_mapping v last ≡ []
-    pair : decomposition_mapping v c ≡ base ∷ last ∷ []
-
-  lvt : (c : ℕ) → is_syllable c ≡ true → ((c - 0xAC00) % 28 == 0) ≡ false → Lvt c
-  lvt c h odd =
-      let is = lvt_shape c h (eqb-false _ 0 odd) in
-      record { base = is.base; last = is.last; front = is.front; bare = jamo_bare v is.last on is.back; pair = syllable_mapping c h ∙ is.pair }
-
-  mark_parts : (n c a b : ℕ) → decomposition_mapping v c ≡ a ∷ b ∷ [] → mark v (suc n) c ≡ parts_mark v n (a ∷ b ∷ [])
-  unfolding mapping_mark
-  mark_parts n c a b pair = mark-mapping v rows (suc n) c ∙ ap (mapping_mark v (suc n)) pair
+      (suc_depth v n c _ pair ∙ two.0, suc_full v n c _ _ (parts-mapping v rows c ∙ pair) ∙ two.1)
 
   mark_zero : (c : ℕ) → is_syllable c ≡ true → mark v zero c ≡ 0
+  mark_zero c h = let shape = shape_of c h in mark-deep v zero c (zero_depth v c _ _ (syllable_mapping c h ∙ shape.pair))
+
+  mark_lv : (n c : ℕ) → IsLv c → mark v (suc n) c ≡ 2
   unfolding mark
-  mark_zero c h = ap (λ b. marked b (length (full v true zero c))) (zero-syllable c h)
+  mark_lv n c is = grind (arith, lv n c is)
 
-  mark_lv : (n c : ℕ) → is_syllable c ≡ true → (c - 0xAC00) % 28 ≡ 0 → mark v (suc n) c ≡ 2
-  unfolding mark
-  mark_lv n c h even =
-      let is = lv n c (lv_shape c h even) in
-      ap (λ b. marked b (length (full v true (suc n) c))) is.known ∙ ap (λ l. marked true (length l)) is.whole
+  -- <LV, T>
+  mark_parts : (n c : ℕ) (is : IsLvt c) → is_syllable c ≡ true → mark v (suc n) c ≡ parts_mark v n (is.base ∷ is.last ∷ [])
+  unfolding mapping_mark
+  mark_parts n c is h = mark-mapping v rows (suc n) c ∙ ap (mapping_mark v (suc n)) (syllable_mapping c h ∙ is.pair)
 
-  mark_lvt_one : (c : ℕ) → is_syllable c ≡ true → ((c - 0xAC00) % 28 == 0) ≡ false → mark v (suc zero) c ≡ 0
+  mark_lvt : (n c : ℕ) → IsLvt c → is_syllable c ≡ true → syllable_depth c ≡ 2 → mark v (suc n) c ≡ syllable_mark (suc n) c
   unfolding parts_mark
-  mark_lvt_one c h odd =
-      let is = lvt c h odd in
-      mark_parts zero c is.base is.last is.pair
-      ∙ ap (λ b. marked b (length (flat_map (full v true zero) (is.base ∷ is.last ∷ [])))) (and_left _ _ (zero-syllable is.base is.front.syllable))
-
-  mark_lvt : (n c : ℕ) → is_syllable c ≡ true → ((c - 0xAC00) % 28 == 0) ≡ false → mark v (suc (suc n)) c ≡ 3
-  unfolding parts_mark
-  mark_lvt n c h odd =
-      let is = lvt c h odd in
+  mark_lvt zero c is h two =
+      let base = is.front in
+      let shape = shape_of is.base base.syllable in
+      mark_parts zero c is h
+      ∙ ap (λ b. marked b (length (flat_map (full v true zero) (is.base ∷ is.last ∷ [])))) (and_left _ _ (zero_depth v is.base _ _ (syllable_mapping is.base base.syllable ∙ shape.pair)))
+      ∙ mark_hidden 1 c 2 (sym two) (omega arith)
+  mark_lvt (suc n) c is h two =
+      let bare = jamo_bare v is.last on is.back in
       let front = lv n is.base is.front in
-      let back = bare_full v (suc n) is.last (parts-mapping v rows is.last ∙ is.bare) in
-      let known = and_from _ _ front.known (and_from _ _ (bare_depth v (suc n) is.last is.bare) refl) in
-      mark_parts (suc n) c is.base is.last is.pair
+      let back = bare_full v (suc n) is.last (parts-mapping v rows is.last ∙ bare) in
+      let known = and_from _ _ front.0 (and_from _ _ (bare_depth v (suc n) is.last bare) refl) in
+      mark_parts (suc n) c is h
       ∙ ap (λ b. marked b (length (flat_map (full v true (suc n)) (is.base ∷ is.last ∷ [])))) known
-      ∙ ap (λ l. marked true (length (l ++ (full v true (suc n) is.last ++ [])))) front.whole
-      ∙ ap (λ l. marked true (length ((front.parts ∷ front.last ∷ []) ++ (l ++ [])))) back
+      ∙ ap (λ l. marked true (length (l ++ (full v true (suc n) is.last ++ [])))) front.1
+      ∙ ap (λ l. marked true (length ((is.front.leading ∷ is.front.vowel ∷ []) ++ (l ++ [])))) back
+      ∙ mark_shown (suc (suc n)) c 2 (sym two) (omega arith)
 
   -- ---- in one formula
 
-  even_mark : (n c : ℕ) → is_syllable c ≡ true → ((c - 0xAC00) % 28 == 0) ≡ true → mark v n c ≡ syllable_mark n c
-  unfolding syllable_mark syllable_depth
-  even_mark zero c h even = mark_zero c h ∙ sym (ap (λ d. cond (leb d zero) (d + 1) 0) (cond-true _ 1 2 even))
-  even_mark (suc n) c h even =
-      mark_lv n c h (eqb-true _ 0 even) ∙ sym (ap (λ d. cond (leb d (suc n)) (d + 1) 0) (cond-true _ 1 2 even) ∙ cond-true _ _ _ (le-leb 1 (suc n) (omega arith)))
-
-  odd_mark : (n c : ℕ) → is_syllable c ≡ true → ((c - 0xAC00) % 28 == 0) ≡ false → mark v n c ≡ syllable_mark n c
-  unfolding syllable_mark syllable_depth
-  odd_mark zero c h odd = mark_zero c h ∙ sym (ap (λ d. cond (leb d zero) (d + 1) 0) (cond-false _ 1 2 odd))
-  odd_mark (suc zero) c h odd = mark_lvt_one c h odd ∙ sym (ap (λ d. cond (leb d 1) (d + 1) 0) (cond-false _ 1 2 odd))
-  odd_mark (suc (suc n)) c h odd =
-      mark_lvt n c h odd ∙ sym (ap (λ d. cond (leb d (suc (suc n))) (d + 1) 0) (cond-false _ 1 2 odd) ∙ cond-true _ _ _ (le-leb 2 (suc (suc n)) (omega arith)))
-
   pub mark-syllable : (n c : ℕ) → is_syllable c ≡ true → mark v n c ≡ syllable_mark n c
-  mark-syllable n c h =
-      elim (cases_Bool ((c - 0xAC00) % 28 == 0)) [ inl even ↦ even_mark n c h even | inr odd ↦ odd_mark n c h odd ]
+  mark-syllable zero c h = let bounds = depth_two c in mark_zero c h ∙ mark_hidden zero c (syllable_depth c) refl (omega arith)
+  mark-syllable (suc n) c h =
+      elim (cases_eq ((c - 0xAC00) % 28) 0) [
+        | inl even ↦ mark_lv n c (lv_shape c h even) ∙ mark_shown (suc n) c 1 (sym (depth_even c even)) (omega arith)
+        | inr odd ↦ mark_lvt n c (lvt_shape c h odd) h (depth_odd c odd)
+      ]
 
   -- from round 2 on
-  pub mark-syllable_still : (n c : ℕ) → is_syllable c ≡ true → 2 ≤ n → mark v (suc n) c ≡ mark v n c
-  mark-syllable_still n c h late = mark-syllable (suc n) c h ∙ syllable_mark-still n c late ∙ sym (mark-syllable n c h)
-
--- ---- the marks of the last round tell what is too deep and what is too long
-
--- ---- the first row with a mark has the least code point with it
+  mark-syllable_still : (n c : ℕ) → is_syllable c ≡ true → 2 ≤ n → mark v (suc n) c ≡ mark v n c
+  mark-syllable_still n c h late =
+      mark-syllable (suc n) c h ∙ syllable_mark-late (suc n) c (omega arith) ∙ sym (syllable_mark-late n c late) ∙ sym (mark-syllable n c h)
 
 -- ---- the first row that passes
 
@@ -144,109 +101,33 @@ pub record IsAt (p : Entry → Bool) (es : List Entry) (c : ℕ) : Type 0 where
   pub passes : p row ≡ true
   pub first : row.first ≡ c
 
--- the rows begin above a
-abbrev IsAbove : ℕ → List Entry → Type 0
-IsAbove a [] = Unit {0}
-IsAbove a (e ∷ es) = a < e.first
-
-above_from : (a b : ℕ) (es : List Entry) → a ≤ b → IsAbove b es → IsAbove a es
-above_from a b [] le h = tt
-above_from a b (e ∷ es) le h = omega arith
-
-above_before : (e : Entry) (es : List Entry) → IsBefore e es → IsAbove e.last es
-above_before e [] h = tt
-above_before e (f ∷ fs) h = h
-
-above_next : (e : Entry) (es : List Entry) (a : ℕ) → AreRows (e ∷ es) → a < e.first → IsAbove a es
-above_next e es a rows h =
-    let rises = rows.0.rises in above_from a e.last es (omega arith) (above_before e es rows.1)
-
--- what is found lies above every row before it
-entry_at-above : (es : List Entry) (a c : ℕ) (r : Entry) → AreRows es → IsAbove a es → entry_at es c ≡ Some r → a < c
-entry_at-above [] a c r rows above found = let none = entry_at-nil c in cc
-entry_at-above (e ∷ es) a c r rows above found =
-    elim (cases_Bool (leb e.first c && leb c e.last)) [
-      | inl here ↦ let low = leb-true e.first c (and_parts _ _ here).0 in omega arith
-      | inr later ↦
-          entry_at-above es a c r rows.2 (above_next e es a rows above) (sym (entry_at-miss e es c later) ∙ found)
-    ]
-
-pub first_row-hit : (p : Entry → Bool) (e : Entry) (es : List Entry) → p e ≡ true → first_row p (e ∷ es) ≡ Some e.first
+first_row-hit : (p : Entry → Bool) (e : Entry) (es : List Entry) → p e ≡ true → first_row p (e ∷ es) ≡ Some e.first
 unfolding first_row
 first_row-hit p e es h = cond-true _ _ _ h
 
-pub first_row-miss : (p : Entry → Bool) (e : Entry) (es : List Entry) → p e ≡ false → first_row p (e ∷ es) ≡ first_row p es
+first_row-miss : (p : Entry → Bool) (e : Entry) (es : List Entry) → p e ≡ false → first_row p (e ∷ es) ≡ first_row p es
 unfolding first_row
 first_row-miss p e es h = cond-false _ _ _ h
 
-pub first_row-nil : (p : Entry → Bool) → first_row p [] ≡ None
+first_row-nil : (p : Entry → Bool) → first_row p [] ≡ None
 unfolding first_row
 first_row-nil p = refl
 
 module _ (p : Entry → Bool) where
-  is_at-later : (e : Entry) (es : List Entry) (c : ℕ) → AreRows (e ∷ es) → IsAt p es c → IsAt p (e ∷ es) c
-  is_at-later e es c rows is =
-      let over = entry_at-above es e.last c is.row rows.2 (above_before e es rows.1) is.found in
-      record {
-        row = is.row;
-        found = entry_at-miss e es c (and_right _ _ (lt-leb c e.last over)) ∙ is.found;
-        passes = is.passes;
-        first = is.first;
-      }
-
-  is_at-here : (e : Entry) (es : List Entry) (c : ℕ) → AreRows (e ∷ es) → p e ≡ true → e.first ≡ c → IsAt p (e ∷ es) c
-  is_at-here e es c rows h same =
-      let rises = rows.0.rises in
-      record {
-        row = e;
-        found = entry_at-hit e es c (and_from _ _ (le-leb e.first c (omega arith)) (le-leb c e.last (omega arith)));
-        passes = h;
-        first = same;
-      }
-
-  some_first : (a b : ℕ) (o : Option ℕ) → o ≡ Some a → o ≡ Some b → a ≡ b
-  some_first a b o h k = cc
-
   first_row-at : (es : List Entry) (c : ℕ) → AreRows es → first_row p es ≡ Some c → IsAt p es c
   first_row-at [] c rows h = let none = first_row-nil p in absurd (cc)
   first_row-at (e ∷ es) c rows h =
-      elim (cases_Bool (p e)) [
-        | inl hit ↦ is_at-here e es c rows hit (some_first e.first c _ (first_row-hit p e es hit) h)
-        | inr miss ↦ is_at-later e es c rows (first_row-at es c rows.2 (sym (first_row-miss p e es miss) ∙ h))
-      ]
+      grind (arith, nat_tests, first_row-hit p e es, first_row-miss p e es, first_row-at es c rows.2, entry_at-hit e es c, entry_at-miss e es c, found-above e es c, rows.0.rises)
 
   -- whatever passes is no smaller than the answer, which there is
   abbrev IsUpTo : Option ℕ → ℕ → Type 0
   IsUpTo None d = ⊥
   IsUpTo (Some c) d = c ≤ d
 
-  at_least : (e : Entry) (es : List Entry) (d : ℕ) → AreRows (e ∷ es) → IsAt p (e ∷ es) d → e.first ≤ d
-  at_least e es d rows is =
-      elim (cases_Bool (leb e.first d && leb d e.last)) [
-        | inl here ↦ leb-true e.first d (and_parts _ _ here).0
-        | inr later ↦
-            let rises = rows.0.rises in
-            let over = entry_at-above es e.last d is.row rows.2 (above_before e es rows.1) (sym (entry_at-miss e es d later) ∙ is.found) in
-            omega arith
-      ]
-
-  same_row : (e r : Entry) (o : Option Entry) → o ≡ Some e → o ≡ Some r → e ≡ r
-  same_row e r o h k = cc
-
-  is_later : (e : Entry) (es : List Entry) (d : ℕ) → p e ≡ false → IsAt p (e ∷ es) d → IsAt p es d
-  is_later e es d miss is =
-      elim (cases_Bool (leb e.first d && leb d e.last)) [
-        | inl here ↦ absurd (both_ways _ miss (ap p (same_row e is.row _ (entry_at-hit e es d here) is.found) ∙ is.passes))
-        | inr later ↦ record { row = is.row; found = sym (entry_at-miss e es d later) ∙ is.found; passes = is.passes; first = is.first }
-      ]
-
   first_row-least : (es : List Entry) (d : ℕ) → AreRows es → IsAt p es d → IsUpTo (first_row p es) d
   first_row-least [] d rows is = let none = entry_at-nil d in let some = is.found in absurd (cc)
   first_row-least (e ∷ es) d rows is =
-      elim (cases_Bool (p e)) [
-        | inl hit ↦ subst (λ o. IsUpTo o d) (sym (first_row-hit p e es hit)) (at_least e es d rows is)
-        | inr miss ↦ subst (λ o. IsUpTo o d) (sym (first_row-miss p e es miss)) (first_row-least es d rows.2 (is_later e es d miss is))
-      ]
+      grind (arith, nat_tests, first_row-hit p e es, first_row-miss p e es, first_row-least es d rows.2, entry_at-hit e es d, entry_at-miss e es d, found-above e es d, rows.0.rises)
 
   pub first_of : (es : List Entry) → AreRows es → (o : Option ℕ) → first_row p es ≡ o → IsFirst (IsAt p es) o
   first_of es rows None h = λ c is. subst (λ o. IsUpTo o c) h (first_row-least es c rows is)
@@ -260,11 +141,7 @@ module _ (p : Entry → Bool) where
 
 module _ (v : VersionData) (rows : AreRows v.entries) where
   still : (n c : ℕ) → 2 ≤ n → row_marks v (suc n) ≡ row_marks v n → mark v (suc n) c ≡ mark v n c
-  still n c late same =
-      elim (cases_Bool (has_hangul v && is_syllable c)) [
-        | inl hangul ↦ let halves = and_parts _ _ hangul in mark-syllable_still v rows halves.0 n c halves.1 late
-        | inr other ↦ marks-from_rows v rows (suc n) n c same other
-      ]
+  still n c late same = grind (arith, nat_tests, mark-syllable_still v rows, marks-from_rows v rows (suc n) n c same)
 
   pub settled : (n : ℕ) → 2 ≤ n → n < 32 → row_marks v (suc n) ≡ row_marks v n → row_marks v (suc n) ≡ row_marks v 32
   settled n late early same = sym (settled_rows v n (λ c. still n c late same) 31 (omega arith))
@@ -273,9 +150,7 @@ module _ (v : VersionData) (rows : AreRows v.entries) where
   same_items [] [] h = refl
   same_items [] (y ∷ ys) h = cc
   same_items (x ∷ xs) [] h = cc
-  same_items (x ∷ xs) (y ∷ ys) h =
-      let halves = and_parts (eqb x y) (pointwise eqb xs ys) h in
-      ap (λ k. k ∷ xs) (eqb-true x y halves.0) ∙ ap (λ l. y ∷ l) (same_items xs ys halves.1)
+  same_items (x ∷ xs) (y ∷ ys) h = grind (arith, nat_tests, same_items xs ys)
 
   -- the same as a loop finds it: the lists that it compares are the marks of two rounds
   pub settled_at : (n : ℕ) (next last xs ys : List ℕ) → 2 ≤ n → n < 32 → next ≡ row_marks v (n + 1) → last ≡ row_marks v n → xs ≡ next → ys ≡ last → pointwise eqb xs ys ≡ true → next ≡ row_marks v 32
@@ -290,53 +165,30 @@ pub record IsTelling (m : ℕ) : Type 0 where
   pub no_bare : 1 ≢ m
   pub no_syllable : (m ≡ 0) ⊎ (3 < m)
 
-bare_one : (v : VersionData) (n : ℕ) → mapping_mark v n [] ≡ 1
-unfolding mapping_mark
-bare_one v n = refl
-
 IsFirst-along : (P Q : ℕ → Type 0) → ((c : ℕ) → P c → Q c) → ((c : ℕ) → Q c → P c) → (o : Option ℕ) → IsFirst P o → IsFirst Q o
 IsFirst-along P Q there back None h = λ c q. h c (back c q)
 IsFirst-along P Q there back (Some c) h = record { holds = there c h.holds; least = λ d q. h.least d (back d q) }
 
 module _ (v : VersionData) (rows : AreRows v.entries) (n m : ℕ) (late : 2 ≤ n) (telling : IsTelling m) where
   marked_nonempty : (xs : List ℕ) → mapping_mark v n xs ≡ m → xs ≢ []
-  marked_nonempty xs h e = telling.no_bare (sym (bare_one v n) ∙ sym (ap (mapping_mark v n) e) ∙ h)
+  unfolding mapping_mark
+  marked_nonempty xs h e = telling.no_bare (sym (ap (mapping_mark v n) e) ∙ h)
 
   no_syllable : (c : ℕ) → mark v n c ≡ m → (has_hangul v && is_syllable c) ≡ true → ⊥
-  no_syllable c h hangul =
-      let halves = and_parts _ _ hangul in
-      let value = sym (mark-syllable v rows halves.0 n c halves.1 ∙ syllable_mark-late n c late) ∙ h in
-      let two = depth_two c in
-      elim telling.no_syllable [ inl none ↦ omega arith | inr more ↦ omega arith ]
+  no_syllable c h hangul = grind (arith, nat_tests, mark-syllable v rows, syllable_mark-late n c late, depth_two c, telling.no_syllable)
 
   row_found : (c : ℕ) (o : Option Entry) → entry_at v.entries c ≡ o → mapping_mark v n (mapping_in o) ≡ m → IsAt (is_marked v n m) v.entries c
   row_found c None found h = absurd (marked_nonempty [] h refl)
   row_found c (Some e) found h =
-      let row = entry_at-row v.entries c e rows found in
-      let within = entry_at-within v.entries c e found in
-      let alone = row.alone (marked_nonempty e.mapping h) in
-      record { row = e; found = found; passes = eq-eqb _ m h; first = omega arith }
+      grind (arith, nat_tests, entry_at-row v.entries c e rows found, entry_at-within v.entries c e found, marked_nonempty e.mapping h)
 
   pub at_row : (c : ℕ) → mark v n c ≡ m → IsAt (is_marked v n m) v.entries c
-  at_row c h =
-      elim (cases_Bool (has_hangul v && is_syllable c)) [
-        | inl hangul ↦ absurd (no_syllable c h hangul)
-        | inr other ↦ row_found c _ refl (sym (mark-file v rows n c other) ∙ h)
-      ]
-
-  file_in : (c : ℕ) (e : Entry) → entry_at v.entries c ≡ Some e → file_mapping v c ≡ e.mapping
-  unfolding file_mapping
-  file_in c e found = ap mapping_in found
+  at_row c h = grind (arith, nat_tests, no_syllable c h, row_found c _ refl, mark-file v rows n c)
 
   pub from_row : (c : ℕ) → IsAt (is_marked v n m) v.entries c → mark v n c ≡ m
   from_row c is =
       let value = eqb-true _ m is.passes in
-      elim (cases_Bool (has_hangul v && is_syllable c)) [
-        | inl hangul ↦
-            let halves = and_parts _ _ hangul in
-            absurd (marked_nonempty is.row.mapping value (sym (file_in c is.row is.found) ∙ syllable-bare v c halves.0 halves.1))
-        | inr other ↦ mark-file v rows n c other ∙ ap (λ o. mapping_mark v n (mapping_in o)) is.found ∙ value
-      ]
+      grind (arith, nat_tests, marked_nonempty is.row.mapping value, file_mapping-found v c is.row is.found, syllable-bare v c, mark-file v rows n c, is.found)
 
   first_marked : IsFirst (λ c. mark v n c ≡ m) (first_row (is_marked v n m) v.entries)
   first_marked =
@@ -346,17 +198,10 @@ module _ (v : VersionData) (rows : AreRows v.entries) (n m : ℕ) (late : 2 ≤ 
 -- ---- what the marks 0 and 65 of the last round tell
 
 too_long-mark : (v : VersionData) (c : ℕ) → mark v 32 c ≡ 65 → IsTooLong v c
-too_long-mark v c h =
-    let shallow = mark-more v 32 c (omega arith) in
-    let length_is = mark-length v 32 c shallow in
-    record { shallow = shallow; full = full v true 32 c; decomposes = decomposes_full v true 32 c shallow; long = omega arith }
+too_long-mark v c h = grind (arith, mark-more v 32 c, mark-length v 32 c, decomposes_full v true 32 c)
 
 mark-too_long : (v : VersionData) (c : ℕ) → IsTooLong v c → mark v 32 c ≡ 65
-mark-too_long v c is =
-    let length_is = mark-length v 32 c is.shallow in
-    let same = ap length (full-only v true 32 c is.full is.shallow is.decomposes) in
-    let long = is.long in
-    omega arith
+mark-too_long v c is = grind (arith, mark-length v 32 c is.shallow, ap length (full-only v true 32 c is.full is.shallow is.decomposes))
 
 module _ (v : VersionData) (rows : AreRows v.entries) where
   pub first_too_deep : (o : Option ℕ) → o ≡ first_row (is_marked v 32 0) v.entries → IsFirst (IsTooDeep v) o

@@ -1,11 +1,11 @@
 -- What the plain table answers.
-use Rattle.std.proofs.Common.{◌≡◌, ℕ, zero, suc, ◌<◌, Bool, true, false, ◌&&◌, List, [], ◌∷◌, length, map, get_or, Some, None, Option, IfSome, IfNone, refl, sym, ap, subst, ◌∙◌, arith, inl, inr}
-use Rattle.np_tables.proofs.Words.{slice_get, cases_Bool, cond-true, cond-false, or_from, or_left, or_right, get_or-map}
-use Rattle.np_tables.proofs.Words.{get_or_from_slice_get, Entry, AreRows, is_syllable, syllable_pair, VersionData}
-use Rattle.np_tables.proofs.Words.{entry_at, file_mapping, mapping_in, is_empty, has_hangul, is_final, IsLent}
-use Rattle.np_tables.proofs.Words.{IsFullDecomposition, table_full, IsCompositeOf, composite, IsSound, Composite, Lists}
-use Rattle.np_tables.proofs.Words.{AreOfFile, FullLists, of_kind, row_full, AreFulls}
+use Rattle.std.proofs.Common.{◌≡◌, ℕ, ◌<◌, Bool, true, false, ◌&&◌, List, [], ◌∷◌, length, map, get_or, Some, None, Option, IfSome, IfNone, sym, ap, subst, ◌∙◌, arith, inl, inr}
+use Rattle.std.proofs.lemmas.Bool.Decides.{nat_tests}
+use Rattle.np_tables.proofs.Words.{slice_get, cases_Bool, get_or-map, get_or_from_slice_get, Entry, AreRows, is_syllable, syllable_pair, VersionData}
+use Rattle.np_tables.proofs.Words.{entry_at, file_mapping, mapping_in, is_empty, has_hangul, IsLent, table_full, IsCompositeOf, composite, IsSound, Composite}
+use Rattle.np_tables.proofs.Words.{Lists, AreOfFile, FullLists, of_kind, row_full, AreFulls}
 use Rattle.np_tables.proofs.RowLemmas.{at-row, entry_at-within}
+use Rattle.np_tables.proofs.RowPageLemmas.{some_at}
 use Rattle.np_tables.proofs.MappingLemmas.{IsFullDecomposition-full_of, full_of-only, is_empty-false}
 use Rattle.np_tables.proofs.CompositeLemmas.{cases_Option, composite-some, composite_from}
 use Rattle.np_tables.proofs.PrimaryLemmas.{primary-syllable}
@@ -24,17 +24,9 @@ pub pair-found : (v u : VersionData) → u ≡ v → (cs : List Composite) → A
 pair-found v u same cs file a b None h = h
 pair-found v u same cs file a b (Some c) h = subst (λ x. IsCompositeOf x a b c) same (file.composites a b c h)
 
-not_here : (v w u : VersionData) → w ≡ v → u ≡ v → (cs : List Composite) → AreOfFile u cs → (a b : ℕ) →
-    ((s : ℕ) → (has_hangul w && is_syllable s) ≡ true → ¬ (syllable_pair s ≡ a ∷ b ∷ [])) → ((code : ℕ) → ¬ Lists cs a b code) → (c : ℕ) → ¬ IsCompositeOf v a b c
-not_here v w u same same_u cs file a b none lists c is =
-    elim (cases_Bool (has_hangul v && is_syllable c)) [
-      | inl on ↦ none c (subst (λ x. (has_hangul x && is_syllable c) ≡ true) (sym same) on) (sym (decomposition_mapping-on v c on) ∙ is.mapping)
-      | inr off ↦ lists c (file.all a b c (subst (λ x. IsCompositeOf x a b c) (sym same_u) is) (subst (λ x. (has_hangul x && is_syllable c) ≡ false) (sym same_u) off))
-    ]
-
 pub pair-none : (v w u : VersionData) → w ≡ v → u ≡ v → (cs : List Composite) → AreOfFile u cs → (a b : ℕ) →
     ((s : ℕ) → (has_hangul w && is_syllable s) ≡ true → ¬ (syllable_pair s ≡ a ∷ b ∷ [])) → (r : Option ℕ) → IfNone r ((code : ℕ) → ¬ Lists cs a b code) → IfNone r ((c : ℕ) → ¬ IsCompositeOf v a b c)
-pair-none v w u same same_u cs file a b none None lists = λ c. not_here v w u same same_u cs file a b none lists c
+pair-none v w u same same_u cs file a b none None lists = λ c is. grind (arith, nat_tests, same, same_u, none c, lists c, file.all a b c, decomposition_mapping-on v c, is.mapping)
 pair-none v w u same same_u cs file a b none (Some c) lists = lists
 
 pub pair-value : (v : VersionData) → IsSound v → (a b : ℕ) (r : Option ℕ) → IfSome r (IsCompositeOf v a b) → IfNone r ((c : ℕ) → ¬ IsCompositeOf v a b c) → r ≡ composite v a b
@@ -51,59 +43,35 @@ pub of_kind-is : (v : VersionData) (compat : Bool) (lists : FullLists) → AreFu
 of_kind-is v false lists h = h.canonical
 of_kind-is v true lists h = h.compatible
 
-entry_in : (es : List Entry) (at : ℕ) → at < length es → (e : Entry) × (slice_get es at ≡ Some e)
-entry_in [] at lt = absurd (omega arith)
-entry_in (e ∷ es) zero lt = (e, refl)
-entry_in (e ∷ es) (suc at) lt = entry_in es at (omega arith)
-
 -- a row lends to each of its code points what it lends to its first
 pub row-shares : (v : VersionData) (compat : Bool) (c at : ℕ) (e : Entry) → AreRows v.entries → slice_get v.entries at ≡ Some e → entry_at v.entries c ≡ Some e → table_full v compat e.first ≡ table_full v compat c
 row-shares v compat c at e rows place found =
     let own = file_mapping-found v e.first e (first-at v.entries at e rows place) in
-    let there = file_mapping-found v c e found in
-    elim (cases_Bool (is_empty e.mapping)) [
-      | inl none ↦ lent-outside v compat e.first (ap is_empty own ∙ none) ∙ sym (lent-outside v compat c (ap is_empty there ∙ none))
-      | inr some ↦
-          let alone = (at-row v.entries at e rows place).alone (is_empty-false e.mapping some) in
-          let lists = entry_at-within v.entries c e found in
-          let same : e.first ≡ c = omega arith in
-          ap (table_full v compat) same
-    ]
+    grind (arith, own, file_mapping-found v c e found, lent-outside, at-row v.entries at e rows place, entry_at-within v.entries c e found, cases_Bool (is_empty e.mapping), is_empty-false e.mapping)
 
 pub full-value : (v : VersionData) (compat : Bool) (c at : ℕ) (lists : List (List ℕ)) → AreRows v.entries → lists ≡ map (row_full v compat) v.entries → at < length v.entries → slice_get v.entries at ≡ entry_at v.entries c →
     get_or lists at [] ≡ table_full v compat c
 full-value v compat c at lists rows are lt place =
-    let here = entry_in v.entries at lt in
+    let here = some_at v.entries at lt in
     ap (λ l. get_or l at []) are ∙ get_or-map (row_full v compat) v.entries at here.0 [] lt ∙ ap (row_full v compat) (get_or_from_slice_get v.entries at here.0 here.0 here.1)
     ∙ row-shares v compat c at here.0 rows here.1 (sym place ∙ here.1)
 
-no_mapping : (o : Option Entry) → o ≡ None → is_empty (mapping_in o) ≡ true
-no_mapping None h = refl
-no_mapping (Some e) h = cc
+pub unlisted-bare : (v : VersionData) (c : ℕ) → entry_at v.entries c ≡ None → is_empty (file_mapping v c) ≡ true
+unfolding file_mapping
+unlisted-bare v c none = ap (λ o. is_empty (mapping_in o)) none
 
 pub full-none : (v : VersionData) (compat : Bool) (c : ℕ) → entry_at v.entries c ≡ None → [] ≡ table_full v compat c
-unfolding file_mapping
-full-none v compat c h = sym (lent-outside v compat c (no_mapping (entry_at v.entries c) h))
+full-none v compat c h = sym (lent-outside v compat c (unlisted-bare v c h))
 
 pub IsLent-table_full : (v : VersionData) (compat : Bool) (c : ℕ) → IsSound v → IsLent v compat c (table_full v compat c)
 unfolding table_full
-IsLent-table_full v compat c sound =
-    let by_hangul : Bool = has_hangul v && is_syllable c in
-    record {
-      final = λ h. cond-true _ _ _ (or_left (is_final v compat c) by_hangul h);
-      syllable = λ h. cond-true _ _ _ (or_right (is_final v compat c) by_hangul h);
-      full = λ h k.
-          subst (IsFullDecomposition v compat (c ∷ [])) (sym (cond-false _ _ _ (or_from (is_final v compat c) by_hangul h k)))
-          (IsFullDecomposition-full_of v compat sound.shallow c);
-    }
+IsLent-table_full v compat c sound = grind (arith, nat_tests, IsFullDecomposition-full_of v compat sound.shallow c)
 
 -- the same over a version that is this one
 pub full-some : (v w u : VersionData) (compat : Bool) (c d at : ℕ) (lists : FullLists) → w ≡ u → u ≡ v → d ≡ c → IsSound u → AreFulls u lists → at < length w.entries → slice_get w.entries at ≡ entry_at w.entries d →
     get_or (of_kind compat lists) at [] ≡ table_full v compat c
 full-some v w u compat c d at lists same same_u code sound are lt place =
-    full-value u compat d at (of_kind compat lists) sound.rows (of_kind-is u compat lists are)
-    (subst (λ x. at < length x.entries) same lt) (subst (λ x. slice_get x.entries at ≡ entry_at x.entries d) same place)
-    ∙ ap (λ x. table_full x compat d) same_u ∙ ap (table_full v compat) code
+    grind (arith, same, same_u, code, of_kind-is u compat lists are, full-value u compat d at (of_kind compat lists) sound.rows)
 
 pub full-nothing : (v w : VersionData) (compat : Bool) (c d : ℕ) → w ≡ v → d ≡ c → entry_at w.entries d ≡ None → [] ≡ table_full v compat c
 full-nothing v w compat c d same code none = full-none w compat d none ∙ ap (λ x. table_full x compat d) same ∙ ap (table_full v compat) code
@@ -114,16 +82,7 @@ lent-by_value v compat c lent sound is = subst (IsLent v compat c) (sym is) (IsL
 -- there is one such list
 pub lent-value : (v : VersionData) (compat : Bool) (c : ℕ) (lent : List ℕ) → IsSound v → IsLent v compat c lent → lent ≡ table_full v compat c
 unfolding table_full
-lent-value v compat c lent sound is =
-    let by_hangul : Bool = has_hangul v && is_syllable c in
-    elim (cases_Bool (is_final v compat c)) [
-      | inl final ↦ is.final final ∙ sym (cond-true _ _ _ (or_left (is_final v compat c) by_hangul final))
-      | inr mapped ↦
-          elim (cases_Bool by_hangul) [
-            | inl whole ↦ is.syllable whole ∙ sym (cond-true _ _ _ (or_right (is_final v compat c) by_hangul whole))
-            | inr plain ↦ full_of-only v compat sound.shallow c lent (is.full mapped plain) ∙ sym (cond-false _ _ _ (or_from (is_final v compat c) by_hangul mapped plain))
-          ]
-    ]
+lent-value v compat c lent sound is = grind (arith, nat_tests, is.final, is.syllable, full_of-only v compat sound.shallow c lent, is.full)
 
 -- what the checks of functions cite
 pub ruleset full_answers = (full-nothing, full-some, lent-by_value)

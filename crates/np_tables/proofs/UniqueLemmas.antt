@@ -1,7 +1,7 @@
 -- At most one full decomposition: two rewritings of one list meet again, so none is lost by another.
-use Rattle.std.proofs.Common.{◌≡◌, ℕ, zero, suc, ◌⊎◌, Bool, true, List, [], ◌∷◌, ◌++◌, refl, sym, ap, subst, ◌∙◌, inl, inr, append_assoc}
-use Rattle.np_tables.proofs.Words.{and_parts, list_all, AtMostOneDecomposition, parts, Rewrites, is_final, VersionData}
-use Rattle.np_tables.proofs.Words.{is_empty}
+use Rattle.std.proofs.Common.{◌≡◌, ℕ, zero, suc, ◌⊎◌, Bool, true, List, [], ◌∷◌, ◌++◌, arith, refl, sym, ap, subst, ◌∙◌, inl, inr, append_assoc}
+use Rattle.std.proofs.lemmas.Bool.Decides.{nat_tests}
+use Rattle.np_tables.proofs.Words.{list_all, AtMostOneDecomposition, parts, Rewrites, is_final, VersionData, is_empty}
 use Rattle.np_code_points.specs.Steps.{ReachesIn}
 
 -- ---- two places of one list
@@ -17,35 +17,23 @@ record AreOne (b : List ℕ) (c : ℕ) (a e : List ℕ) (d : ℕ) (f : List ℕ)
   code : c ≡ d
   back : a ≡ f
 
-head_same : (x y : ℕ) (xs ys : List ℕ) → x ∷ xs ≡ y ∷ ys → x ≡ y
-head_same x y xs ys h = cc
-
-tail_same : (x y : ℕ) (xs ys : List ℕ) → x ∷ xs ≡ y ∷ ys → xs ≡ ys
-tail_same x y xs ys h = cc
-
-apart_behind : (x y : ℕ) (b : List ℕ) (c : ℕ) (a e : List ℕ) (d : ℕ) (f : List ℕ) → x ≡ y → AreApart b c a e d f → AreApart (y ∷ b) c a (x ∷ e) d f
-apart_behind x y b c a e d f same h = record { mid = h.mid; front = ap (λ k. k ∷ e) same ∙ ap (λ l. y ∷ l) h.front; back = h.back }
-
-one_behind : (x y : ℕ) (b : List ℕ) (c : ℕ) (a e : List ℕ) (d : ℕ) (f : List ℕ) → x ≡ y → AreOne b c a e d f → AreOne (x ∷ b) c a (y ∷ e) d f
-one_behind x y b c a e d f same h = record { front = ap (λ k. k ∷ b) same ∙ ap (λ l. y ∷ l) h.front; code = h.code; back = h.back }
-
 places : (b : List ℕ) (c : ℕ) (a e : List ℕ) (d : ℕ) (f : List ℕ) → b ++ c ∷ a ≡ e ++ d ∷ f → AreOne b c a e d f ⊎ (AreApart b c a e d f ⊎ AreApart e d f b c a)
-places [] c a [] d f h = inl (record { front = refl; code = head_same _ _ _ _ h; back = tail_same _ _ _ _ h })
-places [] c a (y ∷ e) d f h = inr (inl (record { mid = e; front = ap (λ k. k ∷ e) (sym (head_same _ _ _ _ h)); back = tail_same _ _ _ _ h }))
-places (x ∷ b) c a [] d f h = inr (inr (record { mid = b; front = ap (λ k. k ∷ b) (head_same _ _ _ _ h); back = sym (tail_same _ _ _ _ h) }))
+places [] c a [] d f h = inl (record { front = refl; code = cc; back = cc })
+places [] c a (y ∷ e) d f h = inr (inl (record { mid = e; front = cc; back = cc }))
+places (x ∷ b) c a [] d f h = inr (inr (record { mid = b; front = cc; back = cc }))
 places (x ∷ b) c a (y ∷ e) d f h =
-    let same : x ≡ y = head_same _ _ _ _ h in
-    elim (places b c a e d f (tail_same _ _ _ _ h)) [
-      | inl one ↦ inl (one_behind x y b c a e d f same one)
+    let rest : b ++ c ∷ a ≡ e ++ d ∷ f = cc in
+    elim (places b c a e d f rest) [
+      | inl one ↦ (let front = one.front in inl (record { front = cc; code = one.code; back = one.back }))
       | inr other ↦ elim other [
-        | inl before ↦ inr (inl (apart_behind y x b c a e d f (sym same) before))
-        | inr after ↦ inr (inr (apart_behind x y e d f b c a same after))
+        | inl before ↦ (let front = before.front in inr (inl (record { mid = before.mid; front = cc; back = before.back })))
+        | inr after ↦ (let front = after.front in inr (inr (record { mid = after.mid; front = cc; back = after.back })))
       ]
     ]
 
 all_at : (p : ℕ → Bool) (b : List ℕ) (c : ℕ) (a : List ℕ) → list_all p (b ++ c ∷ a) ≡ true → p c ≡ true
-all_at p [] c a h = (and_parts (p c) (list_all p a) h).0
-all_at p (x ∷ b) c a h = all_at p b c a (and_parts (p x) (list_all p (b ++ c ∷ a)) h).1
+all_at p [] c a h = grind (arith, nat_tests)
+all_at p (x ∷ b) c a h = grind (arith, nat_tests, all_at p b c a)
 
 pub is_empty-true : (xs : List ℕ) → is_empty xs ≡ true → xs ≡ []
 is_empty-true [] h = refl

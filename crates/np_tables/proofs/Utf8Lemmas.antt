@@ -1,7 +1,6 @@
 -- The bytes of a character, by how many it has.
 use Rattle.std.proofs.Common.{◌≡◌, ℕ, ◌+◌, ◌*◌, ◌/◌, ◌%◌, ◌<◌, ◌≤◌, true, List, [], ◌∷◌, ◌++◌, length, get_or, drop, length-append, encode_utf8_all, IsUtf8, refl, sym, ap, subst, ◌∙◌, arith, inl, inr}
-use Rattle.np_tables.proofs.Words.{and_parts, cases_lt, cond-false, cond-true, le-ltb, lt-ltb, drop_at}
-use Rattle.np_tables.proofs.Words.{IsCharBoundary-at_seam, IsScalar, IsCharBoundary}
+use Rattle.np_tables.proofs.Words.{and_parts, cases_lt, cond-false, cond-true, le-ltb, lt-ltb, drop_at, IsCharBoundary-at_seam, IsScalar, IsCharBoundary}
 use Rattle.std.specs.Char.{encode_utf8}
 use lib.Utf8.{scalars}
 

@@ -1,5 +1,3 @@
-pub mod Accessors
-pub mod AsciiBytes
 pub mod CompositeSearch
 pub mod Depths
 pub mod FirstFaults
@@ -21,4 +19,3 @@ pub mod RowPages
 pub mod RowPlaces
 pub mod Scans
 pub mod Suspects
-pub mod Tables

@@ -2,7 +2,7 @@
 ghost use Rattle.std.specs.Prelude.{◌≡◌, ◌+◌, ◌≤◌, length, take, IsAscii};
 ghost use Rattle.std.specs.List.{prefix_len};
 ghost use lib.Lanes.{chunk};
-ghost use Rattle.np_tables.specs.inside.AsciiBytes.{is_ascii_byte};
+ghost use Rattle.np_tables.specs.inside.LeadBytes.{is_ascii_byte};
 
 use std::simd::prelude::*;
 

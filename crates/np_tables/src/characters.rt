@@ -2,9 +2,8 @@
 ghost use Rattle.std.specs.Prelude.{◌≡◌, ◌<◌, ◌&&◌, length, option_map, slice_get, IfOk, IfSome, IfNone, None};
 ghost use Rattle.np_ucd.specs.Entries.{AreRows};
 ghost use Rattle.np_ucd.specs.RowValues.{lent_entry};
-ghost use Rattle.np_tables.specs.inside.Primaries.{is_primary, is_starter_pair};
+ghost use Rattle.np_tables.specs.inside.Primaries.{is_file_primary, is_primary, is_starter_pair};
 ghost use Rattle.np_tables.specs.Versions.{VersionData, class_of, entry_at, file_kind, file_mapping, has_hangul, is_assigned, is_canonical as canonical, is_excluded, is_hangul_row};
-ghost use Rattle.np_tables.specs.inside.Accessors.{is_file_primary};
 ghost use Rattle.np_tables.specs.inside.RowPages.{AreRowPages};
 ghost use Rattle.np_ucd.specs.Listed.{is_listed};
 ghost use Rattle.np_code_points.specs.Hangul.{is_syllable as in_block};

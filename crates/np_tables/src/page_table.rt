@@ -54,7 +54,7 @@ pub struct PageTable {
 }
 
 impl Model for PageTable {
-    ghost use Rattle.np_tables.specs.inside.Tables.{ArePageTables};
+    ghost use Rattle.np_tables.specs.inside.PrecomputedTables.{ArePageTables};
     ghost use Rattle.np_tables.specs.Versions.{VersionData};
 
     ghost Value = { VersionData };

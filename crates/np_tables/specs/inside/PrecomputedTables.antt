@@ -4,9 +4,11 @@ use Rattle.np_code_points.specs.declared.forms.Form.{Form}
 use Rattle.np_code_points.specs.declared.forms.Form.TheVariants.{Nfd, Nfc, Nfkd, Nfkc}
 use Rattle.np_code_points.specs.Forms.{is_compat}
 use Rattle.np_tables.specs.Versions.{VersionData}
+use Rattle.np_tables.specs.declared.page_properties.Properties.{Properties}
 use Rattle.np_tables.specs.declared.precomputed_tables.PrecomputedTables.{PrecomputedTables}
 use Rattle.np_tables.specs.inside.FullDecompositions.{table_full}
 use Rattle.np_tables.specs.inside.FullLists.{FullLists, of_kind}
+use Rattle.np_tables.specs.inside.PageProperties.{ArePages}
 use Rattle.np_tables.specs.inside.PrecomputedForms.{ArePrecomputedForms, Settles}
 
 -- ---- each form
@@ -19,6 +21,12 @@ kept_of Nfkc s = s.nfkc
 
 abbrev pub ArePrecomputedTables : VersionData → FullLists → PrecomputedTables → Type 0
 ArePrecomputedTables v lists s = (form : Form) → ArePrecomputedForms v form (of_kind (is_compat form) lists) (kept_of form s)
+
+-- what a table of pages keeps
+pub record ArePageTables (v : VersionData) (lists : FullLists)
+    (blocks : List ℕ) (all_properties : List Properties) (precomputed : PrecomputedTables) : Type 0 where
+  pub pages : ArePages v lists blocks all_properties
+  pub precomputed_is : ArePrecomputedTables v lists precomputed
 
 -- ---- what a table answers
 

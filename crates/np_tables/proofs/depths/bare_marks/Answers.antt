@@ -1,8 +1,9 @@
 use Rattle.std.proofs.Common.{◌≡◌, ◌<◌, length, sym, ap, ◌∙◌, arith}
 use Rattle.np_tables.specs.inside.Depths.{mapping_mark}
-use Rattle.np_tables.proofs.RoundLemmas.{row_marks_more, row_marks_all, bare_mapping, deep_mapping, empty_test, full_test}
-use Rattle.np_tables.proofs.depths.bare_marks.Goals as goal
+use Rattle.np_tables.proofs.RoundLemmas.{row_marks_more, row_marks_all, mark-bare, deep_mapping}
+use Rattle.np_tables.proofs.AccessLemmas.{length-empty}
 use Rattle.np_tables.proofs.depths.bare_marks.Goals.{then-is_empty, else-is_empty}
+use Rattle.np_tables.proofs.depths.bare_marks.Goals as goal
 
 pub loop-at-preserved : goal.loop-at-preserved
 loop-at-preserved c =
@@ -10,8 +11,8 @@ loop-at-preserved c =
     let lt : c.loop-at.at < length c.args.characters.now.entries = omega arith in
     let mark : c.if-is_empty.push ≡ mapping_mark _ 0 xs =
     elim c.if-is_empty.branch [
-      | then-is_empty w ↦ w.push-is ∙ sym (bare_mapping _ xs (empty_test xs (sym w.if-is_empty.ensures)))
-      | else-is_empty w ↦ w.push-is ∙ sym (deep_mapping _ xs (full_test xs (sym w.if-is_empty.ensures)))
+      | then-is_empty w ↦ w.push-is ∙ sym (mark-bare _ 0 xs (sym (length-empty xs) ∙ sym w.if-is_empty.ensures))
+      | else-is_empty w ↦ w.push-is ∙ sym (deep_mapping _ xs (sym (length-empty xs) ∙ sym w.if-is_empty.ensures))
     ]
     in
     c.in_ok-push.ensures.items

@@ -11,15 +11,11 @@ returns-then-is_composed-clause-value c =
 
 pub returns-then-is_composed-clause-bound : goal.returns-then-is_composed-clause-bound
 returns-then-is_composed-clause-bound c =
-    let same = returns-then-is_composed-clause-value c in
-    let bound = mark-bound c.args.characters.now c.args.round c.args.code in
-    omega arith
+    omega (arith, returns-then-is_composed-clause-value c, mark-bound c.args.characters.now c.args.round c.args.code)
 
 pub bounds-marks-at : goal.bounds-marks-at
 bounds-marks-at c =
-    let count = ap length c.requires.marks ∙ length-row_marks c.args.characters.now c.args.round in
-    let within = c.in-Some.ensures.within in
-    omega arith
+    omega (arith, ap length c.requires.marks ∙ length-row_marks c.args.characters.now c.args.round, c.in-Some.ensures.within)
 
 pub returns-in-Some-clause-value : goal.returns-in-Some-clause-value
 returns-in-Some-clause-value c =
@@ -29,9 +25,7 @@ returns-in-Some-clause-value c =
 
 pub returns-in-Some-clause-bound : goal.returns-in-Some-clause-bound
 returns-in-Some-clause-bound c =
-    let same = returns-in-Some-clause-value c in
-    let bound = mark-bound c.args.characters.now c.args.round c.args.code in
-    omega arith
+    omega (arith, returns-in-Some-clause-value c, mark-bound c.args.characters.now c.args.round c.args.code)
 
 pub returns-in-None-clause-value : goal.returns-in-None-clause-value
 returns-in-None-clause-value c =

@@ -1,10 +1,9 @@
 use Rattle.std.proofs.Common.{◌∙◌, sym, subst, ap, arith}
 use Rattle.np_tables.proofs.Words.{IsHangulWrong, IsLeastOf, is_hangul_row, both_ways}
-use Rattle.np_tables.proofs.HangulPlaces.{first_wrong-some, first_wrong-none}
+use Rattle.np_tables.proofs.HangulPlaces.{first_wrong-some, first_wrong-none, none_assigned}
 use Rattle.np_tables.proofs.HangulLemmas.{has_hangul-at}
-use Rattle.np_tables.proofs.HangulPlaces.{none_assigned}
-use Rattle.np_tables.proofs.hangul_faults.first_wrong.Goals as goal
 use Rattle.np_tables.proofs.hangul_faults.first_wrong.Goals.{then-has_hangul-via-then-has_hangul, then-has_hangul-via-else-has_hangul+then-not-has_some}
+use Rattle.np_tables.proofs.hangul_faults.first_wrong.Goals as goal
 
 pub returns-then-has_hangul : goal.returns-then-has_hangul
 returns-then-has_hangul c =

@@ -1,7 +1,5 @@
 use Rattle.std.proofs.Common.{ap, sym, ◌∙◌, arith}
-use Rattle.np_ucd.specs.RowValues.{lent_entry}
-use Rattle.np_tables.specs.inside.HangulRows.{is_right_at}
-use Rattle.np_tables.specs.Versions.{entry_at}
+use Rattle.np_tables.proofs.Words.{lent_entry, is_right_at, entry_at}
 use Rattle.np_tables.proofs.RightLemmas.{right_run, row_end}
 use Rattle.np_tables.proofs.hangul_rows.right_from.Goals as goal
 
@@ -9,16 +7,10 @@ pub overflow_sub-result : goal.overflow_sub-result
 overflow_sub-result c = (row_end c.args.rows.now c.hangul_at-code.result (lent_entry c.in-Some.row) c.requires.rows c.in-Some.ensures.row).0
 
 pub overflow_add-result : goal.overflow_add-result
-overflow_add-result c =
-    let end = row_end c.args.rows.now c.hangul_at-code.result (lent_entry c.in-Some.row) c.requires.rows c.in-Some.ensures.row in
-    let bound = end.1 in
-    omega arith
+overflow_add-result c = omega (arith, row_end c.args.rows.now c.hangul_at-code.result (lent_entry c.in-Some.row) c.requires.rows c.in-Some.ensures.row)
 
 pub returns-in-Some-clause-bound : goal.returns-in-Some-clause-bound
-returns-in-Some-clause-bound c =
-    let end = row_end c.args.rows.now c.hangul_at-code.result (lent_entry c.in-Some.row) c.requires.rows c.in-Some.ensures.row in
-    let bound = end.1 in
-    omega arith
+returns-in-Some-clause-bound c = omega (arith, row_end c.args.rows.now c.hangul_at-code.result (lent_entry c.in-Some.row) c.requires.rows c.in-Some.ensures.row)
 
 pub returns-in-Some-clause-right : goal.returns-in-Some-clause-right
 returns-in-Some-clause-right c = λ k le lt.

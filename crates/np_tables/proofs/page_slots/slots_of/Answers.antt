@@ -1,16 +1,14 @@
-use Rattle.std.proofs.Common.{◌∙◌, ap, Vec, Global, ℕ, arith}
-use Rattle.np_tables.proofs.Words.{CodeRange, lent_entry, is_empty}
+use Rattle.std.proofs.Common.{◌∙◌, ap, arith}
+use Rattle.np_tables.proofs.Words.{lent_entry, is_empty}
 use Rattle.np_tables.proofs.RowLemmas.{place-le}
 use Rattle.np_tables.proofs.FullListLemmas.{nil_from_test}
-use Rattle.np_tables.proofs.PageSlotLemmas.{slots-bare, slots-pushed, slots-moved}
-use Rattle.np_tables.proofs.page_slots.slots_of.Goals as goal
+use Rattle.np_tables.proofs.PageSlotLemmas.{slots-bare, slots-pushed}
 use Rattle.np_tables.proofs.page_slots.slots_of.Goals.{then-is_empty+in_ok-push, else-is_empty+in_ok-push_row+in_ok-push-2}
+use Rattle.np_tables.proofs.page_slots.slots_of.Goals as goal
 
 pub overflow_cast-slot : goal.overflow_cast-slot
 overflow_cast-slot c =
-    let low = place-le c.args.characters.now.entries c.loop-at.at (lent_entry c.row_in-row.result) c.len.ensures.rows c.row_in-row.ensures.place in
-    let size = c.len-slot.ensures ∙ c.loop-at.canonical.ok.0 in
-    omega arith
+    omega (arith, place-le c.args.characters.now.entries c.loop-at.at (lent_entry c.row_in-row.result) c.len.ensures.rows c.row_in-row.ensures.place, c.len-slot.ensures ∙ c.loop-at.canonical.ok.0)
 
 pub loop-at-preserved : goal.loop-at-preserved
 loop-at-preserved c =
@@ -18,15 +16,11 @@ loop-at-preserved c =
     let e = lent_entry c.row_in-row.result in
     elim c.if-is_empty.branch [
       | then-is_empty+in_ok-push w ↦
-          slots-moved _ _ c.loop-at.codes.items _ c.loop-at.canonical.items _ c.loop-at.compatible.items _ _ _
-          (ap (λ (x : Vec ℕ Global). x.items) w.codes-is) (ap (λ (x : Vec CodeRange Global). x.items) w.canonical-is) (ap (λ (x : Vec CodeRange Global). x.items) w.compatible-is)
-          (ap (λ (x : Vec ℕ Global). x.items) w.slots-is ∙ w.in_ok-push.ensures.items)
+          rw (w.codes-is, w.canonical-is, w.compatible-is, w.slots-is, w.in_ok-push.ensures.items)
           (slots-bare _ at c.loop-at.codes.items c.loop-at.canonical.items c.loop-at.compatible.items c.loop-at.slots.items e c.loop-at.invariant c.row_in-row.ensures.place c.row_in-row.ensures.first
           (ap is_empty (nil_from_test e.mapping c.is_empty.result c.is_empty.ensures w.if-is_empty.true)))
       | else-is_empty+in_ok-push_row+in_ok-push-2 w ↦
-          slots-moved _ _ _ _ _ _ _ _ _ _
-          (ap (λ (x : Vec ℕ Global). x.items) w.codes-is) (ap (λ (x : Vec CodeRange Global). x.items) w.canonical-is) (ap (λ (x : Vec CodeRange Global). x.items) w.compatible-is)
-          (ap (λ (x : Vec ℕ Global). x.items) w.slots-is ∙ w.in_ok-push-2.ensures.items)
+          rw (w.codes-is, w.canonical-is, w.compatible-is, w.slots-is, w.in_ok-push-2.ensures.items)
           (slots-pushed _ at c.loop-at.codes.items _ c.loop-at.canonical.items c.loop-at.compatible.items _ _ c.loop-at.slots.items _ e c.loop-at.invariant w.in_ok-push_row.ensures c.row_in-row.ensures.place
           (c.len-slot.ensures ∙ c.loop-at.canonical.ok.0))
     ]

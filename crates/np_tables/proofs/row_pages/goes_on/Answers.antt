@@ -6,8 +6,7 @@ use Rattle.np_tables.proofs.row_pages.goes_on.Goals as goal
 
 pub overflow_add-row : goal.overflow_add-row
 overflow_add-row c =
-    let row = at-row c.args.rows.now c.args.at (lent_entry c.in-Some.row) c.requires.rows (sym c.in-Some.ensures.row) in
-    omega arith
+    omega (arith, at-row c.args.rows.now c.args.at (lent_entry c.in-Some.row) c.requires.rows (sym c.in-Some.ensures.row))
 
 pub returns-then-row-first : goal.returns-then-row-first
 returns-then-row-first c = λ is.

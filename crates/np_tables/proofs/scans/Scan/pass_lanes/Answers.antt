@@ -16,56 +16,48 @@ range_from-here-requires c = λ _.
 pub pass_multibyte-requires-clause-long : goal.pass_multibyte-requires-clause-long
 pass_multibyte-requires-clause-long c =
     let text = c.args.text.now in
-    let left = c.lead_bytes.left in
     let long : 64 ≤ length text = omega (arith, c.requires.long) in
     let inv = c.lead_bytes.invariant in
-    omega (arith, c.range_from-here.ensures.len, c.requires.long, found_within text c.lead_bytes.from left (count_trailing_zeros 64 left) long inv.inside inv.bits c.lead_bytes-test.true refl)
+    omega (arith, c.range_from-here.ensures.len, c.requires.long, found_within text _ _ _ long inv.inside inv.bits c.lead_bytes-test.true refl)
 
 pub pass_multibyte-requires-clause-lead_byte : goal.pass_multibyte-requires-clause-lead_byte
 pass_multibyte-requires-clause-lead_byte c =
     let text = c.args.text.now in
-    let from = c.lead_bytes.from in
-    let left = c.lead_bytes.left in
-    let skip = count_trailing_zeros 64 left in
+    let at = c.lead_bytes.from + count_trailing_zeros 64 c.lead_bytes.left in
     let long : 64 ≤ length text = omega (arith, c.requires.long) in
     let inv = c.lead_bytes.invariant in
-    let place : from + skip + 0 ≡ from + skip = omega arith in
-    let first = ap (λ l. get_or l 0 0) c.range_from-here.ensures.value ∙ get_or-drop (from + skip) text 0 0 ∙ ap (λ n. get_or text n 0) place in
-    omega (arith, first, found_lead_byte text from left skip long inv.inside inv.bits c.lead_bytes-test.true refl)
+    let place : at + 0 ≡ at = omega arith in
+    let first = ap (λ l. get_or l 0 0) c.range_from-here.ensures.value ∙ get_or-drop at text 0 0 ∙ ap (λ n. get_or text n 0) place in
+    omega (arith, first, found_lead_byte text _ _ _ long inv.inside inv.bits c.lead_bytes-test.true refl)
 
 pub returns-in_default-clause-goes_on : goal.returns-in_default-clause-goes_on
 returns-in_default-clause-goes_on c =
     let text = c.args.text.now in
-    let from = c.lead_bytes.from in
-    let left = c.lead_bytes.left in
-    let skip = count_trailing_zeros 64 left in
+    let at = c.lead_bytes.from + count_trailing_zeros 64 c.lead_bytes.left in
     let long : 64 ≤ length text = omega (arith, c.requires.long) in
     let inv = c.lead_bytes.invariant in
-    goes-at c.args.self.now c.requires.ascii (omega arith) text c.range_from-here.result.now c.lead_bytes.end (from + skip) c.args.low c.lead_bytes.now c.low_at-behind.result
-    (found_behind text from left skip long inv.inside inv.bits c.lead_bytes-test.true refl c.lead_bytes.end inv.none)
-    (omega (arith, c.requires.long, found_within text from left skip long inv.inside inv.bits c.lead_bytes-test.true refl)) c.range_from-here.ensures.value
-    (λ k ge lt. found_first text from left skip long inv.inside inv.bits c.lead_bytes-test.true refl k (omega (arith, ge, inv.behind)) lt)
+    goes-at c.args.self.now c.requires.ascii (omega arith) text c.range_from-here.result.now c.lead_bytes.end at c.args.low c.lead_bytes.now c.low_at-behind.result
+    (found_behind text _ _ _ long inv.inside inv.bits c.lead_bytes-test.true refl c.lead_bytes.end inv.none)
+    (omega (arith, c.requires.long, found_within text _ _ _ long inv.inside inv.bits c.lead_bytes-test.true refl)) c.range_from-here.ensures.value
+    (λ k ge lt. found_first text _ _ _ long inv.inside inv.bits c.lead_bytes-test.true refl k (omega (arith, ge, inv.behind)) lt)
     c.low_at-behind.ensures.least c.low_at-behind.ensures.ascii c.low_at-behind.ensures.same c.range_from-here.utf8 inv.goes_on
 
 pub lead_bytes-preserved : goal.lead_bytes-preserved
 lead_bytes-preserved c =
     let text = c.args.text.now in
-    let from = c.lead_bytes.from in
-    let left = c.lead_bytes.left in
-    let skip = count_trailing_zeros 64 left in
+    let at = c.lead_bytes.from + count_trailing_zeros 64 c.lead_bytes.left in
     let long : 64 ≤ length text = omega (arith, c.requires.long) in
     let inv = c.lead_bytes.invariant in
-    let at = from + skip in
     let here = c.range_from-here.result.now in
     let count = c.in-Some.found.count in
-    let within = found_within text from left skip long inv.inside inv.bits c.lead_bytes-test.true refl in
+    let within = found_within text _ _ _ long inv.inside inv.bits c.lead_bytes-test.true refl in
     let passes = c.in-Some.ensures.passes in
     let begins = passes.1 in
     let past : drop count here ≡ drop (at + count) text = ap (drop count) c.range_from-here.ensures.value ∙ drop-drop count at text in
     let to_here =
     goes-at c.args.self.now c.requires.ascii (omega arith) text here c.lead_bytes.end at c.args.low c.lead_bytes.now c.low_at-behind.result
-    (found_behind text from left skip long inv.inside inv.bits c.lead_bytes-test.true refl c.lead_bytes.end inv.none) (omega (arith, c.requires.long, within)) c.range_from-here.ensures.value
-    (λ k ge lt. found_first text from left skip long inv.inside inv.bits c.lead_bytes-test.true refl k (omega (arith, ge, inv.behind)) lt)
+    (found_behind text _ _ _ long inv.inside inv.bits c.lead_bytes-test.true refl c.lead_bytes.end inv.none) (omega (arith, c.requires.long, within)) c.range_from-here.ensures.value
+    (λ k ge lt. found_first text _ _ _ long inv.inside inv.bits c.lead_bytes-test.true refl k (omega (arith, ge, inv.behind)) lt)
     c.low_at-behind.ensures.least c.low_at-behind.ensures.ascii c.low_at-behind.ensures.same c.range_from-here.utf8 inv.goes_on in
     record {
       inside = omega (arith, within);
@@ -80,7 +72,7 @@ lead_bytes-preserved c =
           let whole : at + (k - at) ≡ k = omega (arith, ge) in
           let same = ap (λ l. get_or l (k - at) 0) c.range_from-here.ensures.value ∙ get_or-drop at text (k - at) 0 ∙ ap (λ n. get_or text n 0) whole in
           omega (arith, inside, same));
-      bits = found_gone text from left skip long inv.inside inv.bits c.lead_bytes-test.true refl;
+      bits = found_gone text _ _ _ long inv.inside inv.bits c.lead_bytes-test.true refl;
     }
 
 pub range_from-requires : goal.range_from-requires

@@ -1,7 +1,7 @@
 use Rattle.std.proofs.Common.{◌∙◌, ◌++◌, length, encode_utf8, refl, sym, ap, arith}
 use Rattle.std.specs.Str.Iter.{chars_rest}
 use Rattle.np_tables.proofs.Words.{has_bit, Follows}
-use Rattle.np_tables.proofs.PagePropertyLemmas.{boundary-read}
+use Rattle.np_tables.proofs.PagePropertyLemmas.{properties-read}
 use Rattle.np_tables.proofs.QuickSpanLemmas.{begins-first, following-stop, walked-front, walked-rest, walked-seam, walked-uncomposed}
 use Rattle.np_tables.proofs.scans.Scan.pass_span.Goals as goal
 
@@ -32,7 +32,7 @@ returns-then-has_bit-clause-boundary c = λ _.
     let on = c.pass_by_quick_check-passed.ensures.walks _ _ c.scan.invariant.0 c.scan.invariant.1 c.scan.invariant.3 in
     let left = walked-rest (Follows _ c.args.self.now.least c.args.self.now.index.now c.args.self.now.quick_checks.now _) _ _ on.0 on.1.1 (length c.range-front.result.now) (omega (arith, c.range-front.ensures.len)) in
     begins-first _ _ _ _ (chars_rest c.next.new.self) c.in-Some.c left on.1.1.utf8 (sym c.chars-iter.ensures.rest ∙ c.in-Some.ensures.steps.0)
-    (boundary-read _ _ refl c.requires.0 c.args.self.now.index.now c.args.self.now.all_properties.now c.requires.1 _ c.in-Some.c c.properties_at-properties.ensures.scalar properties c.properties_at-properties.ensures.properties
+    ((properties-read _ _ refl c.requires.0 c.args.self.now.index.now c.args.self.now.all_properties.now c.requires.1 c.in-Some.c c.properties_at-properties.ensures.scalar properties c.properties_at-properties.ensures.properties).hints.boundary _
     (ap (has_bit properties.hints) (sym c.boundary_place.ensures.place) ∙ sym c.has_bit.ensures ∙ c.if-has_bit.true))
 
 pub scan-preserved : goal.scan-preserved
