@@ -1,9 +1,9 @@
 -- What a stream holds back: the last starter, which may be a composite already, and the non-starters after it, not yet in order.
 use Rattle.std.proofs.Common.{◌≡◌, ℕ, ◌≤◌, true, List, [], ◌∷◌, ◌++◌, Option, Some, None, refl, sym, ap, ap₂, ◌∙◌, arith, inl, inr}
-use Rattle.np_forms.proofs.Words.{and_parts, not-true, list_all, VersionData, class_of, canonical_order, composite}
-use Rattle.np_forms.proofs.Words.{joined, compose_after, compose, IsSound, is_non_starter}
+use Rattle.np_forms.proofs.Words.{and_parts, not-true, list_all, VersionData, class_of, canonical_order, composite, joined, compose_after, compose, IsSound}
+use Rattle.np_forms.proofs.Words.{is_non_starter}
 use Rattle.np_forms.proofs.OrderLemmas.{canonical_order-at_starter, canonical_order-nil, list_all-canonical_order}
-use Rattle.np_forms.proofs.ComposeLemmas.{is_starter-false, joined-free, compose_after-nil, compose_after-joined, compose_after-starter, compose_after-kept, compose-starter, compose-non_starter}
+use Rattle.np_forms.proofs.ComposeLemmas.{is_starter-false, joined-free, compose_after-nil, compose_after-joined, compose_after-starter, compose_after-kept, compose-starter, compose-non_starters}
 use Rattle.np_tables.proofs.CompositeLemmas.{cases_Option, composite-starter}
 
 module _ (v : VersionData) (sound : IsSound v) where
@@ -42,15 +42,13 @@ module _ (v : VersionData) (sound : IsSound v) where
             record { head = r.head; kept = r.kept; is = goes ms ∙ r.is; goes_on = λ zs. goes (ms ++ zs) ∙ r.goes_on zs }
       ]
 
-  -- the order of a starter, non-starters and a further starter
-  order_starters : (s : ℕ) (ms : List ℕ) (d : ℕ) (zs : List ℕ) → class_of v s ≤ 0 → class_of v d ≤ 0 → order ((s ∷ ms) ++ d ∷ zs) ≡ s ∷ (order ms ++ d ∷ order zs)
-  order_starters s ms d zs of_s of_d =
-      canonical_order-at_starter ccc [] s (ms ++ d ∷ zs) of_s
-      ∙ ap (λ l. l ++ s ∷ order (ms ++ d ∷ zs)) (canonical_order-nil ccc)
-      ∙ ap (λ l. s ∷ l) (canonical_order-at_starter ccc ms d zs of_d)
-
+  -- a starter stands before the order of what follows
   pub order_starter : (s : ℕ) (zs : List ℕ) → class_of v s ≤ 0 → order (s ∷ zs) ≡ s ∷ order zs
   order_starter s zs of_s = canonical_order-at_starter ccc [] s zs of_s ∙ ap (λ l. l ++ s ∷ order zs) (canonical_order-nil ccc)
+
+  -- so it does before non-starters and a further starter
+  order_starters : (s : ℕ) (ms : List ℕ) (d : ℕ) (zs : List ℕ) → class_of v s ≤ 0 → class_of v d ≤ 0 → order ((s ∷ ms) ++ d ∷ zs) ≡ s ∷ (order ms ++ d ∷ order zs)
+  order_starters s ms d zs of_s of_d = order_starter s (ms ++ d ∷ zs) of_s ∙ ap (λ l. s ∷ l) (canonical_order-at_starter ccc ms d zs of_d)
 
   pub composed_starter : (s : ℕ) (zs : List ℕ) → class_of v s ≤ 0 → compose ccc join (order (s ∷ zs)) ≡ after s [] (order zs)
   composed_starter s zs of_s = ap (compose ccc join) (order_starter s zs of_s) ∙ compose-starter ccc join s (order zs) of_s
@@ -75,17 +73,10 @@ module _ (v : VersionData) (sound : IsSound v) where
       ∙ r.goes_on (d ∷ order zs) ∙ compose_after-starter ccc join r.head r.kept d (order zs) (apart r.head r.kept r.is) of_d
       ∙ ap₂ (λ l m. l ++ m) (sym (composed_starter s ms of_s ∙ r.is)) (sym (composed_starter d zs of_d))
 
-  -- non-starters before the first starter
-  pub compose-non_starters : (ms zs : List ℕ) → list_all (is_non_starter v) ms ≡ true → compose ccc join (ms ++ zs) ≡ ms ++ compose ccc join zs
-  compose-non_starters [] zs h = refl
-  compose-non_starters (m ∷ ms) zs h =
-      let halves = and_parts (is_non_starter v m) (list_all (is_non_starter v) ms) h in
-      compose-non_starter ccc join m (ms ++ zs) (is_starter-false ccc m (not-true _ halves.0)) ∙ ap (λ l. m ∷ l) (compose-non_starters ms zs halves.1)
-
   pub push_first : (ms : List ℕ) (d : ℕ) (zs : List ℕ) → list_all (is_non_starter v) ms ≡ true → class_of v d ≤ 0 → compose ccc join (order (ms ++ d ∷ zs)) ≡ order ms ++ compose ccc join (order (d ∷ zs))
   push_first ms d zs non_starters of_d =
       ap (compose ccc join) (canonical_order-at_starter ccc ms d zs of_d)
-      ∙ compose-non_starters (order ms) (d ∷ order zs) (list_all-canonical_order ccc (is_non_starter v) ms non_starters)
+      ∙ compose-non_starters ccc join (order ms) (d ∷ order zs) (list_all-canonical_order ccc (is_non_starter v) ms non_starters)
       ∙ ap (λ l. order ms ++ compose ccc join l) (sym (order_starter d zs of_d))
 
   -- without composition, each starter ends what was held back
