@@ -7,8 +7,7 @@ use Rattle.np_tables.proofs.CompositeLemmas.{composite-never}
 use Rattle.np_forms.proofs.ComposeLemmas.{compose-starter}
 use Rattle.np_forms.proofs.CopyLemmas.{parts-at, some_chars}
 use Rattle.np_forms.proofs.FormLemmas.{normal_form_is, IsNormalForm-value}
-use Rattle.np_forms.proofs.HeldLemmas.{IsStreaming-held, held_streaming, non_starters_ended}
-use Rattle.np_forms.proofs.PendingLemmas.{order_starter}
+use Rattle.np_forms.proofs.HeldLemmas.{IsStreaming-held, held_streaming, non_starters_ended, order_starter}
 use Rattle.np_forms.proofs.OrderLemmas.{canonical_order-at_starter, list_all-canonical_order}
 use Rattle.np_forms.proofs.StreamLemmas.{compose_of_is, last_after, non_starter_or_starter, ended-boundary, full_of-boundary}
 use Rattle.np_forms.proofs.WrittenLemmas.{same_streaming, more_bytes, Writes-held, Writes-next, Writes-start}
