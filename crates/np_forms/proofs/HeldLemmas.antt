@@ -197,11 +197,8 @@ module _ (v : VersionData) (sound : IsSound v) where
   shape_behind out ms pending (starter before s ns low) = inr (s, omega arith, refl)
 
   behind_shape : (out ms pending : List ℕ) → ((out ≡ []) × (pending ≡ ms)) ⊎ ((s : ℕ) × (class_of v s ≡ 0) × (pending ≡ s ∷ ms)) → Shape v out ms pending
-  behind_shape out ms pending h =
-      elim h [
-        | inl none ↦ subst (λ l. Shape v l ms pending) (sym none.0) (subst (λ l. Shape v [] ms l) (sym none.1) (no_starter ms))
-        | inr some ↦ subst (λ l. Shape v out ms l) (sym some.2) (starter out some.0 ms (let z = some.1 in omega arith))
-      ]
+  behind_shape out ms pending (inl none) = subst (λ l. Shape v l ms pending) (sym none.0) (subst (λ l. Shape v [] ms l) (sym none.1) (no_starter ms))
+  behind_shape out ms pending (inr some) = subst (λ l. Shape v out ms l) (sym some.2) (starter out some.0 ms (let z = some.1 in omega arith))
 
   -- the state of the stream that has read the whole decomposition
   pub IsStreaming-held : (form : Form) (fed out pending : List ℕ) → IsHeld v (composes form) (flat_map (full_of v (is_compat form)) fed) out pending → IsStreaming v form fed out pending
