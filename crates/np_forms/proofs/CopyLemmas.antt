@@ -142,13 +142,9 @@ module _ (v : VersionData) (form : Form) (text : List ℕ) (n : ℕ) (h : IsQuic
       elim (cases_lt 0 (length own)) [
         | inr none ↦
             let empty : own ≡ [] = nil_from_length own (omega arith) in
-            let nothing : first ≡ [] = of_first ∙ ap (λ l. take (length l) text) empty in
             let all : later ≡ text = of_later ∙ ap (λ l. drop (length l) text) empty in
-            record {
-              parts = ap (λ l. l ++ text) (sym nothing) ∙ ap (λ l. first ++ l) (sym all);
-              utf8 = subst IsUtf8 (sym all) utf8;
-              copied = ap (λ l. encode_utf8_all (normal_form v form (chars l))) (sym all) ∙ ap (λ l. l ++ encode_utf8_all (normal_form v form (chars later))) (sym nothing);
-            }
+            subst (λ l. IsCopied v form text first l) (sym all)
+            (subst (λ l. IsCopied v form text l text) (sym (of_first ∙ ap (λ l. take (length l) text) empty)) (record { parts = refl; utf8 = utf8; copied = refl }))
         | inl more ↦
             let mine : first ≡ own = of_first ∙ own-front in
             let its : later ≡ part ++ h.back = of_later ∙ own-drop in
