@@ -91,7 +91,7 @@ boundary-front : (v : VersionData) (form : Form) (xs ys : List ℕ) → BeginsAt
 boundary-front v form [] ys at = tt
 boundary-front v form (x ∷ xs) ys at = at
 
--- a text beside the same version and form
+-- the same under an equal version and form
 boundary-same : (v w : VersionData) (form other : Form) (xs : List ℕ) → v ≡ w → form ≡ other → BeginsAtBoundary v form xs → BeginsAtBoundary w other xs
 boundary-same v w form other xs version same at = subst (λ q. BeginsAtBoundary q other xs) version (subst (λ q. BeginsAtBoundary v q xs) same at)
 
@@ -170,7 +170,8 @@ Writes-text a b c d w x y z u v form text head body middle tail sound version sa
     let closes = closes_made a of_a w y z (chars head) (chars middle) (closes_fed a of_a b w x y (chars head) first brk.ends)
     (made ∙ ap₂ (λ q f. y ++ encode_utf8_all (normal_form q f (chars middle))) version same) (boundary-same v a.version form a.form (chars middle) version same at_middle) in
     subst (Writes a d w u) (sym text_is)
-    (writes_anew a of_a c d w z u (chars head ++ chars middle) (chars tail) closes (same_streaming b c [] [] c.pending brk.version brk.form brk.begins) (brk.version ∙ first.version) (brk.form ∙ first.form)
+    (writes_anew a of_a c d w z u (chars head ++ chars middle) (chars tail) closes
+    (same_streaming b c [] [] c.pending brk.version brk.form brk.begins) (brk.version ∙ first.version) (brk.form ∙ first.form)
     last (some_chars tail of_tail some) (boundary-same v a.version form a.form (chars tail) version same at_tail))
 
 -- ---- the last piece of a text, with which the rest of its normal form is written

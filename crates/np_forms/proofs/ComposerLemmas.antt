@@ -179,4 +179,6 @@ module _ (v : VersionData) (whole : List ℕ) (list : List CodeAndClass) (kept a
 
   -- the code point is kept, and is the last starter where it is one
   pub in_place_stays : (place : Option ℕ) → (x.class ≡ 0 × place ≡ Some kept) ⊎ (0 < x.class × place ≡ starter) → (x.class ≡ class_of v x.code → pair_with_last v done starter last x.code ≡ None) → IsInPlace v whole (at + 1) (set list kept x) (kept + 1) place x.class
-  in_place_stays place stands none = record { rest = next.ds; left = left kept x behind; composing = subst (λ l. IsComposing v whole l place x.class next.ds) (sym more) (in_place_composes place stands (none class_is)) }
+  in_place_stays place stands none =
+      let composing = subst (λ l. IsComposing v whole l place x.class next.ds) (sym more) (in_place_composes place stands (none class_is)) in
+      record { rest = next.ds; left = left kept x behind; composing = composing }

@@ -39,7 +39,8 @@ module _ (v : VersionData) (sound : IsSound v) (form : Form) where
       record {
         parts = parts;
         utf8 = utf8;
-        copied = ap (λ l. encode_utf8_all (normal_form v form l)) text_is ∙ ap encode_utf8_all (parts-at cs (chars back) at ∙ ap (λ l. l ++ normal_form v form (chars back)) (quick_span_form v sound form cs end walk))
+        copied = ap (λ l. encode_utf8_all (normal_form v form l)) text_is
+            ∙ ap encode_utf8_all (parts-at cs (chars back) at ∙ ap (λ l. l ++ normal_form v form (chars back)) (quick_span_form v sound form cs end walk))
             ∙ encodes-append cs (normal_form v form (chars back)) ∙ ap (λ l. l ++ encode_utf8_all (normal_form v form (chars back))) (sym encoded);
       }
 

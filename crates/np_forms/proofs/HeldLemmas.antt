@@ -253,7 +253,8 @@ module _ (v : VersionData) (sound : IsSound v) where
       let more : flat_map each fed ++ parts ≡ flat_map each (fed ++ cs) =
       ap (λ l. flat_map each fed ++ l) (of_cs ∙ ap (λ b. flat_map (full_of v b) cs) kind) ∙ sym (flat_map-append each fed cs) in
       IsStreaming-held form (fed ++ cs) (out ++ a.more) pending_after
-      (subst (λ l. IsHeld v (composes form) l (out ++ a.more) pending_after) more (subst (λ b. IsHeld v b (flat_map each fed ++ parts) (out ++ a.more) pending_after) comp (a.carries (flat_map each fed) out h)))
+      (subst (λ l. IsHeld v (composes form) l (out ++ a.more) pending_after) more
+      (subst (λ b. IsHeld v b (flat_map each fed ++ parts) (out ++ a.more) pending_after) comp (a.carries (flat_map each fed) out h)))
 
   pub TakesIn-advances : (form : Form) (c : ℕ) {compat e : Bool} {parts ready pending ready_after pending_after : List ℕ} → compat ≡ is_compat form → e ≡ composes form → parts ≡ full_of v compat c → Advances v e parts ready pending ready_after pending_after
       → TakesIn (record { version = v; form = form; ready = ready; pending = pending }) (record { version = v; form = form; ready = ready_after; pending = pending_after }) c

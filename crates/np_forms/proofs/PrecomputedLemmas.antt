@@ -61,7 +61,8 @@ module _ (v : VersionData) (sound : IsSound v) where
         composed = subst (λ l. IsComposedOf v l (before ++ list) (Some (length before)) 0 last) (sym (append-nil done)) (subst (λ l. IsComposedOf v done (before ++ l) (Some (length before)) 0 last) (sym is) a);
       }
   held-composes done before held last (d ∷ ds) list a (inl (p, found, up, later)) =
-      subst (λ l. IsComposedTo v l (before ++ list)) (append_assoc done (d ∷ []) ds) (held-composes (done ++ d ∷ []) before p (class_of v d) ds list (held-joins done before held last d p (composite_from v sound held d p found) up a) later)
+      subst (λ l. IsComposedTo v l (before ++ list)) (append_assoc done (d ∷ []) ds)
+      (held-composes (done ++ d ∷ []) before p (class_of v d) ds list (held-joins done before held last d p (composite_from v sound held d p found) up a) later)
   held-composes done before held last (d ∷ ds) list a (inr (later, starter, none, same, is)) =
       subst (λ l. IsComposedTo v l (before ++ list)) (append_assoc done (d ∷ []) ds)
       (subst (λ l. IsComposedTo v ((done ++ d ∷ []) ++ ds) l) (append_assoc before (held ∷ []) later ∙ ap (λ l. before ++ l) (sym same))
