@@ -27,7 +27,7 @@ use Rattle.np_forms.proofs.FormLemmas.{IsNormalForm-normal_form, normal_form_is}
 use Rattle.np_forms.proofs.KeptLemmas.{is_ordered-decomposed, all_final, decomposed-final, decomposed-composed, normal_form-twice}
 use Rattle.np_chain.proofs.StabilityLemmas.{normal_form-same}
 use Rattle.np_forms.proofs.StreamLemmas.{list_all-back, compose_of_is}
-use Rattle.np_forms.proofs.CutLemmas.{list_all-front}
+use Rattle.np_forms.proofs.TextLemmas.{list_all-front}
 use Rattle.np_forms.proofs.CutLemmas.{front_of, back_of}
 
 -- ---- a piece of a form is a form

@@ -1,49 +1,29 @@
 -- A stream that is begun anew at a boundary, behind the form of what came before.
-use Rattle.std.proofs.Common.{◌≡◌, ℕ, ◌<◌, ◌≤◌, Bool, true, false, List, [], ◌∷◌, ◌++◌, length, IsUtf8, chars, encode_utf8_all, flat_map, refl, sym, ap, subst, ◌∙◌, arith, append_assoc, append-nil}
-use Rattle.np_forms.proofs.Words.{flat_map-append, chars-append, encodes-chars, list_all, is_compat, composes, Form}
-use Rattle.np_forms.proofs.Words.{IsSound, VersionData, class_of, composite, full_of, IsNormalForm, is_non_starter}
-use Rattle.np_forms.proofs.Words.{IsStreaming, StreamState, IsOrderedAndComposed, canonical_order, compose_after}
-use Rattle.np_forms.proofs.Words.{BeginsAtBoundary, IsBoundary, Shape, no_starter, starter, IsHeld, decomposed, ended}
-use Rattle.np_forms.proofs.Words.{normal_form, Writes, Breaks, Closes, HoldsFront, WritesEnd, IsFullDecomposition}
-use Rattle.np_tables.proofs.CompositeLemmas.{composite-never, composite-starter}
-use Rattle.np_tables.proofs.MappingLemmas.{IsFullDecomposition-flat_map, full_decomposition-flat_map}
-use Rattle.np_forms.proofs.ComposeLemmas.{compose-starter, compose_after-nil, compose_after-cases}
-use Rattle.np_forms.proofs.CopyLemmas.{normal_form-nil}
-use Rattle.np_forms.proofs.FormLemmas.{normal_form_is, IsNormalForm-normal_form}
-use Rattle.np_forms.proofs.HeldLemmas.{IsStreaming-held, held_streaming, non_starters_ended}
-use Rattle.np_forms.proofs.OrderLemmas.{canonical_order-at_starter, canonical_order-nil, list_all-canonical_order}
-use Rattle.np_forms.proofs.StreamLemmas.{compose_of_is, non_starter_or_starter, ended-boundary, full_of-boundary, normal_form-parts}
+use Rattle.std.proofs.Common.{◌≡◌, ℕ, ◌<◌, ◌≤◌, Bool, true, false, List, [], ◌∷◌, ◌++◌, length, IsUtf8, chars, encode_utf8_all, flat_map, refl, sym, ap, ap₂, subst, ◌∙◌, arith, inl, inr, append_assoc, append-nil}
+use Rattle.np_forms.proofs.Words.{flat_map-append, chars-append, list_all, is_compat, composes, Form, IsSound, VersionData, class_of, composite, full_of}
+use Rattle.np_forms.proofs.Words.{IsNormalForm, is_non_starter, IsStreaming, StreamState, canonical_order, compose_after, BeginsAtBoundary, IsBoundary, Shape}
+use Rattle.np_forms.proofs.Words.{no_starter, starter, IsHeld, decomposed, ended, normal_form, Writes, Breaks, Closes, HoldsFront, WritesEnd}
+use Rattle.np_tables.proofs.CompositeLemmas.{composite-never}
+use Rattle.np_forms.proofs.ComposeLemmas.{compose-starter}
+use Rattle.np_forms.proofs.CopyLemmas.{parts-at, some_chars}
+use Rattle.np_forms.proofs.FormLemmas.{normal_form_is, IsNormalForm-value}
+use Rattle.np_forms.proofs.HeldLemmas.{IsStreaming-held, held_streaming, non_starters_ended, order_starter}
+use Rattle.np_forms.proofs.OrderLemmas.{canonical_order-at_starter, list_all-canonical_order}
+use Rattle.np_forms.proofs.StreamLemmas.{compose_of_is, last_after, non_starter_or_starter, ended-boundary, full_of-boundary}
 use Rattle.np_forms.proofs.WrittenLemmas.{same_streaming, more_bytes, Writes-held, Writes-next, Writes-start}
 
--- a list that begins with a starter
-record BeginsWithStarter (v : VersionData) (xs : List ℕ) : Type 0 where
-  pub head : ℕ
-  pub rest : List ℕ
-  pub split : xs ≡ head ∷ rest
-  pub low : class_of v head ≤ 0
-
 module _ (v : VersionData) (sound : IsSound v) where
-  -- composition behind a starter begins with one
-  compose_after-begins : (s : ℕ) (bs cs : List ℕ) → class_of v s ≤ 0 → BeginsWithStarter v (compose_after (class_of v) (composite v) s bs cs)
-  compose_after-begins s bs [] low = record { head = s; rest = bs; split = compose_after-nil (class_of v) (composite v) s bs; low = low }
-  compose_after-begins s bs (c ∷ cs) low =
-      compose_after-cases (class_of v) (composite v) s bs c cs (BeginsWithStarter v)
-      (λ p free pair. compose_after-begins p bs cs (let z = composite-starter v sound s c p pair in omega arith))
-      (λ none first. record { head = s; rest = bs ++ compose_after (class_of v) (composite v) c [] cs; split = refl; low = low })
-      (λ none kept. compose_after-begins s (bs ++ c ∷ []) cs low)
-
-  ended-begins : (e : Bool) (s : ℕ) (cs : List ℕ) → class_of v s ≤ 0 → BeginsWithStarter v (ended v e (s ∷ cs))
-  ended-begins false s cs low = record { head = s; rest = cs; split = refl; low = low }
-  ended-begins true s cs low =
-      subst (BeginsWithStarter v) (sym (compose_of_is v sound (s ∷ cs) ∙ compose-starter (class_of v) (composite v) s cs low)) (compose_after-begins s [] cs low)
-
-  -- non-starters alone begin with none
-  no_begin : (ms : List ℕ) → list_all (is_non_starter v) ms ≡ true → BeginsWithStarter v ms → ⊥
-  no_begin ms all b =
-      non_starter_or_starter v sound b.head [] b.rest (let z = b.low in omega arith) (ap (list_all (is_non_starter v)) (sym b.split) ∙ all)
-
-  order_begins : (s : ℕ) (cs : List ℕ) → class_of v s ≤ 0 → canonical_order (class_of v) (s ∷ cs) ≡ s ∷ canonical_order (class_of v) cs
-  order_begins s cs low = canonical_order-at_starter (class_of v) [] s cs low ∙ ap (λ l. l ++ s ∷ canonical_order (class_of v) cs) (canonical_order-nil (class_of v))
+  -- what begins with a starter does not end as non-starters alone
+  no_non_starters : (e : Bool) (s : ℕ) (cs : List ℕ) → class_of v s ≤ 0 → list_all (is_non_starter v) (ended v e (s ∷ cs)) ≡ true → ⊥
+  no_non_starters false s cs low all = non_starter_or_starter v sound s [] cs (omega arith) all
+  no_non_starters true s cs low all =
+      let same = compose_of_is v sound (s ∷ cs) ∙ compose-starter (class_of v) (composite v) s cs low in
+      elim (last_after v sound s [] cs low refl) [
+        | inl whole ↦ non_starter_or_starter v sound whole.s [] whole.ms whole.starter (ap (list_all (is_non_starter v)) (sym (same ∙ whole.split)) ∙ all)
+        | inr part ↦
+            let split = ap (compose_after (class_of v) (composite v) s []) part.split ∙ part.goes_on part.rest ∙ ap (λ l. part.out ++ l) part.last.split in
+            non_starter_or_starter v sound part.last.s part.out part.last.ms part.last.starter (ap (list_all (is_non_starter v)) (sym (same ∙ split)) ∙ all)
+      ]
 
   shape_behind : (done out ms pending : List ℕ) → (out ≡ [] → pending ≡ ms → ⊥) → Shape v out ms pending → Shape v (done ++ out) ms pending
   shape_behind done out ms pending none (no_starter ns) = absurd (none refl refl)
@@ -52,6 +32,12 @@ module _ (v : VersionData) (sound : IsSound v) where
   module _ (form : Form) (pre : List ℕ) (c : ℕ) (cs mt pending : List ℕ) (at : IsBoundary v form c) where
     abbrev each : ℕ → List ℕ
     each = full_of v (is_compat form)
+
+    abbrev order : List ℕ → List ℕ
+    order = canonical_order (class_of v)
+
+    abbrev e : Bool
+    e = composes form
 
     abbrev behind : List ℕ
     behind = at.rest ++ flat_map each cs
@@ -63,34 +49,25 @@ module _ (v : VersionData) (sound : IsSound v) where
     low = let z = at.starter in omega arith
 
     -- what comes behind the boundary parts from what stands before it
-    parted : (zs : List ℕ) → ended v (composes form) (canonical_order (class_of v) (flat_map each pre ++ (flat_map each (c ∷ cs) ++ zs)))
-        ≡ normal_form v form pre ++ ended v (composes form) (canonical_order (class_of v) (flat_map each (c ∷ cs) ++ zs))
+    parted : (zs : List ℕ) → ended v e (order (flat_map each pre ++ (flat_map each (c ∷ cs) ++ zs))) ≡ normal_form v form pre ++ ended v e (order (flat_map each (c ∷ cs) ++ zs))
     unfolding normal_form decomposed
     parted zs =
-        let order = canonical_order (class_of v) in
-        let e = composes form in
         let begin : flat_map each (c ∷ cs) ++ zs ≡ at.first ∷ (behind ++ zs) = ap (λ l. l ++ zs) first_is in
         ap (λ l. ended v e (order (flat_map each pre ++ l))) begin
         ∙ ap (ended v e) (canonical_order-at_starter (class_of v) (flat_map each pre) at.first (behind ++ zs) low)
         ∙ ended-boundary v e (order (flat_map each pre)) at.first (order (behind ++ zs)) at.starter (λ on. composite-never v at.first (at.never_second on))
-        ∙ ap (λ l. ended v e (order (flat_map each pre)) ++ ended v e l) (sym (order_begins at.first (behind ++ zs) low))
-        ∙ ap (λ l. ended v e (order (flat_map each pre)) ++ ended v e (order l)) (sym begin)
+        ∙ ap (λ l. ended v e (order (flat_map each pre)) ++ ended v e l) (sym (order_starter v sound at.first (behind ++ zs) low) ∙ ap order (sym begin))
 
     -- a starter came, so one is held back
-    not_bare : (ms : List ℕ) → list_all (is_non_starter v) ms ≡ true → IsHeld v (composes form) (flat_map each (c ∷ cs)) [] ms → ⊥
+    not_bare : (ms : List ℕ) → list_all (is_non_starter v) ms ≡ true → IsHeld v e (flat_map each (c ∷ cs)) [] ms → ⊥
     not_bare ms all h =
-        let order = canonical_order (class_of v) in
-        let e = composes form in
         let same : ended v e (at.first ∷ order behind) ≡ order ms =
-        ap (ended v e) (sym (order_begins at.first behind low)) ∙ ap (λ l. ended v e (order l)) (sym first_is)
-        ∙ ap (λ l. ended v e (order l)) (sym (append-nil (flat_map each (c ∷ cs)))) ∙ h.goes_on [] ∙ ap (λ l. ended v e (order l)) (append-nil ms) ∙ non_starters_ended v sound e ms all in
-        no_begin (order ms) (list_all-canonical_order (class_of v) (is_non_starter v) ms all)
-        (subst (BeginsWithStarter v) same (ended-begins e at.first (order behind) low))
+        ap (ended v e) (sym (order_starter v sound at.first behind low)) ∙ ap (λ l. ended v e (order l)) (sym first_is ∙ sym (append-nil (flat_map each (c ∷ cs))))
+        ∙ h.goes_on [] ∙ ap (λ l. ended v e (order l)) (append-nil ms) ∙ non_starters_ended v sound e ms all in
+        no_non_starters e at.first (order behind) low (ap (list_all (is_non_starter v)) same ∙ list_all-canonical_order (class_of v) (is_non_starter v) ms all)
 
-    IsHeld-behind : IsHeld v (composes form) (flat_map each (c ∷ cs)) mt pending → IsHeld v (composes form) (flat_map each (pre ++ c ∷ cs)) (normal_form v form pre ++ mt) pending
+    IsHeld-behind : IsHeld v e (flat_map each (c ∷ cs)) mt pending → IsHeld v e (flat_map each (pre ++ c ∷ cs)) (normal_form v form pre ++ mt) pending
     IsHeld-behind h =
-        let order = canonical_order (class_of v) in
-        let e = composes form in
         let ds = flat_map each (c ∷ cs) in
         let whole = flat_map-append each pre (c ∷ cs) in
         record {
@@ -106,152 +83,116 @@ module _ (v : VersionData) (sound : IsSound v) where
         }
 
     -- a stream of what begins there, behind the form of what came before
-    pub streams_behind : IsStreaming v form (c ∷ cs) mt pending → IsStreaming v form (pre ++ c ∷ cs) (normal_form v form pre ++ mt) pending
+    streams_behind : IsStreaming v form (c ∷ cs) mt pending → IsStreaming v form (pre ++ c ∷ cs) (normal_form v form pre ++ mt) pending
     streams_behind s = IsStreaming-held v sound form (pre ++ c ∷ cs) (normal_form v form pre ++ mt) pending (IsHeld-behind (held_streaming v sound form (c ∷ cs) mt pending s))
 
--- a first part and what begins at a boundary, or is empty, have their forms each for itself
-pub parts_of : (v : VersionData) (sound : IsSound v) (form : Form) (xs ys : List ℕ) → BeginsAtBoundary v form ys → normal_form v form (xs ++ ys) ≡ normal_form v form xs ++ normal_form v form ys
-parts_of v sound form xs [] at = ap (normal_form v form) (append-nil xs) ∙ sym (append-nil (normal_form v form xs)) ∙ ap (λ l. normal_form v form xs ++ l) (sym (normal_form-nil v form))
-parts_of v sound form xs (c ∷ cs) at = normal_form-parts v sound form xs c cs at
-
 -- the front of what begins at a boundary begins there, or is empty
-pub boundary-front : (v : VersionData) (form : Form) (xs ys : List ℕ) → BeginsAtBoundary v form (xs ++ ys) → BeginsAtBoundary v form xs
+boundary-front : (v : VersionData) (form : Form) (xs ys : List ℕ) → BeginsAtBoundary v form (xs ++ ys) → BeginsAtBoundary v form xs
 boundary-front v form [] ys at = tt
 boundary-front v form (x ∷ xs) ys at = at
 
--- a stream that was fed a first part, was broken off, and was begun anew behind a part whose form was made by itself
-pub Writes-parted : (a b c d : StreamState) (w x y z u : List ℕ) (v : VersionData) (form : Form) (head middle : List ℕ) (t : ℕ) (tail : List ℕ) → IsSound v → v ≡ a.version → form ≡ a.form →
-    Writes a b w x head → Breaks b c x y → z ≡ y ++ encode_utf8_all (normal_form v form middle) → Writes c d z u (t ∷ tail) →
-    BeginsAtBoundary v form middle → IsBoundary v form t → Writes a d w u (head ++ (middle ++ t ∷ tail))
-Writes-parted a b c d w x y z u v form head middle t tail sound version same first brk made last at_middle at_tail =
-    let made_middle = normal_form v form middle in
-    record {
-      more = first.more ++ (brk.ends.more ++ (made_middle ++ last.more));
-      written = more_bytes w x u first.more _ first.written (more_bytes x y u brk.ends.more _ brk.ends.written (more_bytes y z u made_middle last.more made last.written));
-      version = last.version ∙ brk.version ∙ first.version;
-      form = last.form ∙ brk.form ∙ first.form;
-      moved = last.moved;
-      carries = λ fed out h.
-          let fed_head = same_streaming a b (fed ++ head) (out ++ first.more) b.pending first.version first.form (first.carries fed out h) in
-          let of_b : v ≡ b.version = version ∙ sym first.version in
-          let form_b : form ≡ b.form = same ∙ sym first.form in
-          let before : IsNormalForm v form (fed ++ head) ((out ++ first.more) ++ brk.ends.more) =
-          subst (λ q. IsNormalForm q form (fed ++ head) ((out ++ first.more) ++ brk.ends.more)) (sym of_b)
-          (subst (λ q. IsNormalForm b.version q (fed ++ head) ((out ++ first.more) ++ brk.ends.more)) (sym form_b) (brk.ends.whole (fed ++ head) (out ++ first.more) fed_head)) in
-          let value = normal_form_is v sound form (fed ++ head) ((out ++ first.more) ++ brk.ends.more) before in
-          let anew : IsStreaming c.version c.form [] [] c.pending = same_streaming b c [] [] c.pending brk.version brk.form brk.begins in
-          let of_c : v ≡ c.version = of_b ∙ sym brk.version in
-          let form_c : form ≡ c.form = form_b ∙ sym brk.form in
-          let taken : IsStreaming v form (t ∷ tail) last.more d.pending =
-          subst (λ q. IsStreaming q form (t ∷ tail) last.more d.pending) (sym of_c)
-          (subst (λ q. IsStreaming c.version q (t ∷ tail) last.more d.pending) (sym form_c) (last.carries [] [] anew)) in
-          let behind = streams_behind v sound form ((fed ++ head) ++ middle) t tail last.more d.pending at_tail taken in
-          let text : ((fed ++ head) ++ middle) ++ t ∷ tail ≡ fed ++ (head ++ (middle ++ t ∷ tail)) =
-          append_assoc (fed ++ head) middle (t ∷ tail) ∙ append_assoc fed head (middle ++ t ∷ tail) in
-          let done : normal_form v form ((fed ++ head) ++ middle) ++ last.more ≡ out ++ (first.more ++ (brk.ends.more ++ (made_middle ++ last.more))) =
-          ap (λ l. l ++ last.more) (parts_of v sound form (fed ++ head) middle at_middle ∙ ap (λ l. l ++ made_middle) (sym value))
-          ∙ append_assoc ((out ++ first.more) ++ brk.ends.more) made_middle last.more ∙ append_assoc (out ++ first.more) brk.ends.more (made_middle ++ last.more)
-          ∙ append_assoc out first.more (brk.ends.more ++ (made_middle ++ last.more)) in
-          subst (λ q. IsStreaming q a.form (fed ++ (head ++ (middle ++ t ∷ tail))) (out ++ (first.more ++ (brk.ends.more ++ (made_middle ++ last.more)))) d.pending) version
-          (subst (λ q. IsStreaming v q (fed ++ (head ++ (middle ++ t ∷ tail))) (out ++ (first.more ++ (brk.ends.more ++ (made_middle ++ last.more)))) d.pending) same
-          (subst (λ l. IsStreaming v form l (out ++ (first.more ++ (brk.ends.more ++ (made_middle ++ last.more)))) d.pending) text
-          (subst (λ l. IsStreaming v form (((fed ++ head) ++ middle) ++ t ∷ tail) l d.pending) done behind)));
-    }
+-- the same under an equal version and form
+boundary-same : (v w : VersionData) (form other : Form) (xs : List ℕ) → v ≡ w → form ≡ other → BeginsAtBoundary v form xs → BeginsAtBoundary w other xs
+boundary-same v w form other xs version same at = subst (λ q. BeginsAtBoundary q other xs) version (subst (λ q. BeginsAtBoundary v q xs) same at)
 
--- a text that is not empty has a first code point
-record HasFirst (xs : List ℕ) : Type 0 where
-  pub first : ℕ
-  pub rest : List ℕ
-  pub split : xs ≡ first ∷ rest
+-- ---- a stream that is broken off, and what stands behind it
 
-has_first_of : (xs cs : List ℕ) → cs ≡ chars xs → IsUtf8 xs → 0 < length xs → HasFirst cs
-has_first_of xs [] e utf8 some = absurd (let n = ap length (sym (encodes-chars xs utf8) ∙ ap encode_utf8_all (sym e)) in omega (arith, n, some))
-has_first_of xs (c ∷ cs) e utf8 some = record { first = c; rest = cs; split = refl }
+module _ (a : StreamState) (sound : IsSound a.version) where
+  -- the end, behind a first part that was fed
+  closes_fed : (b : StreamState) (w x y head : List ℕ) → Writes a b w x head → WritesEnd b x y → Closes a w y head
+  closes_fed b w x y head first ends =
+      record {
+        more = first.more ++ ends.more;
+        written = more_bytes w x y first.more ends.more first.written ends.written;
+        whole = λ fed out h.
+            let fed_head = same_streaming a b (fed ++ head) (out ++ first.more) b.pending first.version first.form (first.carries fed out h) in
+            subst (λ q. IsNormalForm q a.form (fed ++ head) (out ++ (first.more ++ ends.more))) first.version
+            (subst (λ q. IsNormalForm b.version q (fed ++ head) (out ++ (first.more ++ ends.more))) first.form
+            (subst (IsNormalForm b.version b.form (fed ++ head)) (append_assoc out first.more ends.more) (ends.whole (fed ++ head) (out ++ first.more) fed_head)));
+      }
 
--- the same of the bytes of a text and of its three parts
+  -- and behind it a part whose form was made by itself
+  closes_made : (w y z head body : List ℕ) → Closes a w y head → z ≡ y ++ encode_utf8_all (normal_form a.version a.form body) → BeginsAtBoundary a.version a.form body → Closes a w z (head ++ body)
+  closes_made w y z head body closes made at =
+      let last = normal_form a.version a.form body in
+      record {
+        more = closes.more ++ last;
+        written = more_bytes w y z closes.more last closes.written made;
+        whole = λ fed out h.
+            IsNormalForm-value a.version sound a.form (fed ++ (head ++ body)) (out ++ (closes.more ++ last))
+            (sym (append_assoc out closes.more last) ∙ ap (λ l. l ++ last) (normal_form_is a.version sound a.form (fed ++ head) (out ++ closes.more) (closes.whole fed out h))
+            ∙ sym (parts-at a.version sound a.form (fed ++ head) body at) ∙ ap (normal_form a.version a.form) (append_assoc fed head body));
+      }
+
+  -- a text that comes where nothing is held back has its form for itself
+  closes_alone : (before after text : List ℕ) → a.pending ≡ [] → after ≡ before ++ encode_utf8_all (normal_form a.version a.form text) → Closes a before after text
+  unfolding normal_form decomposed
+  closes_alone before after text nothing written =
+      let each = full_of a.version (is_compat a.form) in
+      record {
+        more = normal_form a.version a.form text;
+        written = written;
+        whole = λ fed out h.
+            IsNormalForm-value a.version sound a.form (fed ++ text) (out ++ normal_form a.version a.form text)
+            (sym (ap (λ l. ended a.version (composes a.form) (canonical_order (class_of a.version) l)) (flat_map-append each fed text)
+            ∙ (held_streaming a.version sound a.form fed out [] (subst (IsStreaming a.version a.form fed out) nothing h)).goes_on (flat_map each text)));
+      }
+
+  -- and a stream that was begun anew there
+  writes_anew : (c d : StreamState) (w z u text tail : List ℕ) → Closes a w z text → IsStreaming c.version c.form [] [] c.pending → c.version ≡ a.version → c.form ≡ a.form →
+      Writes c d z u tail → 0 < length tail → BeginsAtBoundary a.version a.form tail → Writes a d w u (text ++ tail)
+  writes_anew c d w z u text [] closes begins version same last some at = absurd (omega arith)
+  writes_anew c d w z u text (t ∷ tail) closes begins version same last some at =
+      record {
+        more = closes.more ++ last.more;
+        written = more_bytes w z u closes.more last.more closes.written last.written;
+        version = last.version ∙ version;
+        form = last.form ∙ same;
+        moved = last.moved;
+        carries = λ fed out h.
+            let taken = same_streaming c a (t ∷ tail) last.more d.pending (sym version) (sym same) (last.carries [] [] begins) in
+            let value = normal_form_is a.version sound a.form (fed ++ text) (out ++ closes.more) (closes.whole fed out h) in
+            subst (λ l. IsStreaming a.version a.form l (out ++ (closes.more ++ last.more)) d.pending) (append_assoc fed text (t ∷ tail))
+            (subst (λ l. IsStreaming a.version a.form ((fed ++ text) ++ t ∷ tail) l d.pending) (ap (λ l. l ++ last.more) (sym value) ∙ append_assoc out closes.more last.more)
+            (streams_behind a.version sound a.form (fed ++ text) t tail last.more d.pending at taken));
+      }
+
+-- a text in three parts: the first was fed to a stream that was broken off, the form of the second was made by itself, and the last was fed anew
 pub Writes-text : (a b c d : StreamState) (w x y z u : List ℕ) (v : VersionData) (form : Form) (text head body middle tail : List ℕ) → IsSound v → v ≡ a.version → form ≡ a.form →
     text ≡ head ++ body → body ≡ middle ++ tail → IsUtf8 head → IsUtf8 middle → IsUtf8 tail → 0 < length tail → BeginsAtBoundary v form (chars body) → BeginsAtBoundary v form (chars tail) →
     Writes a b w x (chars head) → Breaks b c x y → z ≡ y ++ encode_utf8_all (normal_form v form (chars middle)) → Writes c d z u (chars tail) → Writes a d w u (chars text)
 Writes-text a b c d w x y z u v form text head body middle tail sound version same parts inner of_head of_middle of_tail some at_body at_tail first brk made last =
-    let start = has_first_of tail (chars tail) refl of_tail some in
-    let body_is : chars body ≡ chars middle ++ start.first ∷ start.rest = ap chars inner ∙ chars-append middle tail of_middle ∙ ap (λ l. chars middle ++ l) start.split in
-    let text_is : chars text ≡ chars head ++ (chars middle ++ start.first ∷ start.rest) = ap chars parts ∙ chars-append head body of_head ∙ ap (λ l. chars head ++ l) body_is in
+    let of_a = subst IsSound version sound in
+    let body_is : chars body ≡ chars middle ++ chars tail = ap chars inner ∙ chars-append middle tail of_middle in
+    let text_is : chars text ≡ (chars head ++ chars middle) ++ chars tail =
+    ap chars parts ∙ chars-append head body of_head ∙ ap (λ l. chars head ++ l) body_is ∙ sym (append_assoc (chars head) (chars middle) (chars tail)) in
+    let at_middle = boundary-front v form (chars middle) (chars tail) (subst (BeginsAtBoundary v form) body_is at_body) in
+    let closes = closes_made a of_a w y z (chars head) (chars middle) (closes_fed a of_a b w x y (chars head) first brk.ends)
+    (made ∙ ap₂ (λ q f. y ++ encode_utf8_all (normal_form q f (chars middle))) version same) (boundary-same v a.version form a.form (chars middle) version same at_middle) in
     subst (Writes a d w u) (sym text_is)
-    (Writes-parted a b c d w x y z u v form (chars head) (chars middle) start.first start.rest sound version same first brk made
-    (subst (Writes c d z u) start.split last) (boundary-front v form (chars middle) (start.first ∷ start.rest) (subst (BeginsAtBoundary v form) body_is at_body))
-    (subst (BeginsAtBoundary v form) start.split at_tail))
+    (writes_anew a of_a c d w z u (chars head ++ chars middle) (chars tail) closes
+    (same_streaming b c [] [] c.pending brk.version brk.form brk.begins) (brk.version ∙ first.version) (brk.form ∙ first.form)
+    last (some_chars tail of_tail some) (boundary-same v a.version form a.form (chars tail) version same at_tail))
 
 -- ---- the last piece of a text, with which the rest of its normal form is written
 
 module _ (v : VersionData) (sound : IsSound v) (form : Form) where
-  -- the full decompositions of two texts, one behind the other
-  decomposes_both : (xs ys us ws : List ℕ) → IsFullDecomposition v (is_compat form) xs us → IsFullDecomposition v (is_compat form) ys ws → IsFullDecomposition v (is_compat form) (xs ++ ys) (us ++ ws)
-  decomposes_both xs ys us ws first second =
-      let each = full_of v (is_compat form) in
-      let left = full_decomposition-flat_map v (is_compat form) sound.shallow xs us first in
-      let right = full_decomposition-flat_map v (is_compat form) sound.shallow ys ws second in
-      subst (IsFullDecomposition v (is_compat form) (xs ++ ys))
-      (flat_map-append each xs ys ∙ ap (λ l. l ++ flat_map each ys) (sym left) ∙ ap (λ l. us ++ l) (sym right))
-      (IsFullDecomposition-flat_map v (is_compat form) sound.shallow (xs ++ ys))
-
-  -- a text that comes where nothing is held back has its form for itself
-  whole_at_once : (fed out pending text : List ℕ) → pending ≡ [] → IsStreaming v form fed out pending → IsNormalForm v form (fed ++ text) (out ++ normal_form v form text)
-  whole_at_once fed out pending text nothing s =
-      let made = IsNormalForm-normal_form v sound form text in
-      let full = made.first.full in
-      let alone : IsOrderedAndComposed v form (pending ++ full) (normal_form v form text) =
-      subst (λ l. IsOrderedAndComposed v form (l ++ full) (normal_form v form text)) (sym nothing) (record { ordered = made.decomposed; orders = made.first.orders; ends = made.last }) in
-      let whole = s.goes_on full (normal_form v form text) alone in
-      record {
-        decomposed = whole.ordered;
-        first = record { full = s.full ++ full; decomposes = decomposes_both fed text s.full full s.decomposes made.first.decomposes; orders = whole.orders };
-        last = whole.ends;
-      }
-
+  -- the whole text, where nothing is held back
   pub Closes-at_once : (s : StreamState) (before after text : List ℕ) → v ≡ s.version → form ≡ s.form → s.pending ≡ [] → after ≡ before ++ encode_utf8_all (normal_form v form text) → Closes s before after text
   Closes-at_once s before after text version same nothing written =
-      record {
-        more = normal_form v form text;
-        written = written;
-        whole = λ fed out h.
-            subst (λ q. IsNormalForm q s.form (fed ++ text) (out ++ normal_form v form text)) version
-            (subst (λ q. IsNormalForm v q (fed ++ text) (out ++ normal_form v form text)) same
-            (whole_at_once fed out s.pending text nothing
-            (subst (λ q. IsStreaming q form fed out s.pending) (sym version) (subst (λ q. IsStreaming s.version q fed out s.pending) (sym same) h))));
-      }
+      closes_alone s (subst IsSound version sound) before after text nothing (written ∙ ap₂ (λ q f. before ++ encode_utf8_all (normal_form q f text)) version same)
 
-  -- a stream that was fed a first part and was broken off, and behind it a part whose form was made by itself
-  Closes-parted : (a b c : StreamState) (w x y z head body : List ℕ) → v ≡ a.version → form ≡ a.form →
-      Writes a b w x head → Breaks b c x y → z ≡ y ++ encode_utf8_all (normal_form v form body) → BeginsAtBoundary v form body → Closes a w z (head ++ body)
-  Closes-parted a b c w x y z head body version same first brk made at =
-      let last = normal_form v form body in
-      record {
-        more = first.more ++ (brk.ends.more ++ last);
-        written = more_bytes w x z first.more _ first.written (more_bytes x y z brk.ends.more last brk.ends.written made);
-        whole = λ fed out h.
-            let fed_head = same_streaming a b (fed ++ head) (out ++ first.more) b.pending first.version first.form (first.carries fed out h) in
-            let before : IsNormalForm v form (fed ++ head) ((out ++ first.more) ++ brk.ends.more) =
-            subst (λ q. IsNormalForm q form (fed ++ head) ((out ++ first.more) ++ brk.ends.more)) (sym (version ∙ sym first.version))
-            (subst (λ q. IsNormalForm b.version q (fed ++ head) ((out ++ first.more) ++ brk.ends.more)) (sym (same ∙ sym first.form)) (brk.ends.whole (fed ++ head) (out ++ first.more) fed_head)) in
-            let value = normal_form_is v sound form (fed ++ head) ((out ++ first.more) ++ brk.ends.more) before in
-            let bytes : normal_form v form ((fed ++ head) ++ body) ≡ out ++ (first.more ++ (brk.ends.more ++ last)) =
-            parts_of v sound form (fed ++ head) body at ∙ ap (λ l. l ++ last) (sym value)
-            ∙ append_assoc (out ++ first.more) brk.ends.more last ∙ append_assoc out first.more (brk.ends.more ++ last) in
-            subst (λ q. IsNormalForm q a.form (fed ++ (head ++ body)) (out ++ (first.more ++ (brk.ends.more ++ last)))) version
-            (subst (λ q. IsNormalForm v q (fed ++ (head ++ body)) (out ++ (first.more ++ (brk.ends.more ++ last)))) same
-            (subst (λ l. IsNormalForm v form l (out ++ (first.more ++ (brk.ends.more ++ last)))) (append_assoc fed head body)
-            (subst (IsNormalForm v form ((fed ++ head) ++ body)) bytes (IsNormalForm-normal_form v sound form ((fed ++ head) ++ body)))));
-      }
-
-  -- the same of the bytes of a text, whose front is held back
+  -- a text whose front is held back; behind what was fed, the stream is broken off, and the form of the rest was made by itself
   pub Closes-held : (a b c d : StreamState) (w x y z text rest head body : List ℕ) → v ≡ a.version → form ≡ a.form → a.ready ≡ [] →
       HoldsFront a b text rest → rest ≡ head ++ body → IsUtf8 head → BeginsAtBoundary v form (chars body) →
       Writes b c w x (chars head) → Breaks c d x y → z ≡ y ++ encode_utf8_all (normal_form v form (chars body)) → Closes a w z (chars text)
   Closes-held a b c d w x y z text rest head body version same empty h parts utf8 at first brk made =
+      let of_a = subst IsSound version sound in
       let front = Writes-held a a b w w [] text rest (Writes-start a w empty) h in
       let begun = Writes-next a b c w w x h.front (chars head) front first in
       subst (Closes a w z) (append_assoc h.front (chars head) (chars body) ∙ ap (λ l. h.front ++ l) (sym (ap chars parts ∙ chars-append head body utf8)) ∙ sym h.reads.split)
-      (Closes-parted a c d w x y z (h.front ++ chars head) (chars body) version same begun brk made at)
+      (closes_made a of_a w y z (h.front ++ chars head) (chars body) (closes_fed a of_a c w x y (h.front ++ chars head) begun brk.ends)
+      (made ∙ ap₂ (λ q f. y ++ encode_utf8_all (normal_form q f (chars body))) version same) (boundary-same v a.version form a.form (chars body) version same at))
 
 -- where nothing comes, the text ends
 pub closes_end : (s : StreamState) (before after text : List ℕ) → text ≡ [] → Closes s before after text → WritesEnd s before after

@@ -1,7 +1,7 @@
 -- Lists of code points beside their classes.
 use Rattle.std.proofs.Common.{◌≡◌, ℕ, ◌+◌, ◌<◌, List, [], ◌∷◌, ◌++◌, length, get_or, take, drop, refl, sym, ap, ap₂, ◌∙◌, arith}
-use Rattle.np_forms.proofs.Words.{map-append, map_more, get_or-map, length-map, take-map, drop-map, AreClassed}
-use Rattle.np_forms.proofs.Words.{CodeAndClass, codes_of, with_class, with_classes, VersionData}
+use Rattle.np_forms.proofs.Words.{map-append, map_more, get_or-map, length-map, take-map, drop-map, AreClassed, CodeAndClass, codes_of, with_class}
+use Rattle.np_forms.proofs.Words.{with_classes, VersionData}
 
 module _ (v : VersionData) where
   pub codes-with_classes : (cs : List ℕ) → codes_of (with_classes v cs) ≡ cs

@@ -1,8 +1,7 @@
 -- Composition of a list, from its last starter on.
-use Rattle.std.proofs.Common.{◌≡◌, ℕ, ◌<◌, ◌≤◌, Bool, true, false, List, [], ◌∷◌, ◌++◌, flat_map, Option, Some, None, refl, sym, ap, subst, ◌∙◌, arith, inl, inr, append_assoc, append-nil, eq-eqb}
-use Rattle.np_forms.proofs.Words.{cases_Bool, cases_lt, cond-true, cond-false, and_parts, and_from, eqb-false, ne_eqb}
-use Rattle.np_forms.proofs.Words.{flat_map-append, list_all, is_reorderable, is_ordered, canonical_order, is_free}
-use Rattle.np_forms.proofs.Words.{joined, compose_after, compose, is_starter}
+use Rattle.std.proofs.Common.{◌≡◌, ℕ, ◌<◌, ◌≤◌, Bool, true, false, not, List, [], ◌∷◌, ◌++◌, flat_map, Option, Some, None, refl, sym, ap, subst, ◌∙◌, arith, inl, inr, append_assoc, append-nil, eq-eqb}
+use Rattle.np_forms.proofs.Words.{cases_Bool, cases_lt, cond-true, cond-false, and_parts, and_from, eqb-false, ne_eqb, not-true, flat_map-append, list_all}
+use Rattle.np_forms.proofs.Words.{is_reorderable, is_ordered, canonical_order, is_free, joined, compose_after, compose, is_starter}
 use Rattle.np_tables.proofs.MappingLemmas.{list_all-append}
 use Rattle.np_tables.proofs.CompositeLemmas.{cases_Option}
 use Rattle.np_forms.proofs.OrderLemmas.{is_reorderable-true, is_ordered-tail, is_ordered-without_non_starter, canonical_order-behind, canonical_order-over}
@@ -90,6 +89,13 @@ module _ (ccc : ℕ → ℕ) (join : ℕ → ℕ → Option ℕ) where
   unfolding compose
   compose-non_starter c cs non_starter = let no_starter = not_starter_from ccc c non_starter in rw (no_starter, compose)
 
+  -- so do some
+  pub compose-non_starters : (ms zs : List ℕ) → list_all (λ m. not (is_starter ccc m)) ms ≡ true → compose ccc join (ms ++ zs) ≡ ms ++ compose ccc join zs
+  compose-non_starters [] zs h = refl
+  compose-non_starters (m ∷ ms) zs h =
+      let halves = and_parts (not (is_starter ccc m)) (list_all (λ b. not (is_starter ccc b)) ms) h in
+      compose-non_starter m (ms ++ zs) (is_starter-false ccc m (not-true _ halves.0)) ∙ ap (λ l. m ∷ l) (compose-non_starters ms zs halves.1)
+
   -- what holds in each of the three cases
   pub compose_after-cases : (s : ℕ) (bs : List ℕ) (c : ℕ) (cs : List ℕ) (Q : List ℕ → Type 0) → ((p : ℕ) → is_free ccc bs c ≡ true → join s c ≡ Some p → Q (compose_after ccc join p bs cs)) → (joined ccc join s bs c ≡ None → ccc c ≤ 0 → Q (s ∷ (bs ++ compose_after ccc join c [] cs))) → (joined ccc join s bs c ≡ None → 0 < ccc c → Q (compose_after ccc join s (bs ++ c ∷ []) cs)) → Q (compose_after ccc join s bs (c ∷ cs))
   compose_after-cases s bs c cs Q in_composite in_starter in_non_starter =
@@ -118,11 +124,12 @@ module _ (ccc : ℕ → ℕ) (join : ℕ → ℕ → Option ℕ) where
   IsNeverSecond x = (a : ℕ) → join a x ≡ None
 
   -- behind a starter
-  compose_after-at_boundary : (s : ℕ) (bs xs : List ℕ) (x : ℕ) (ys : List ℕ) → ccc x ≤ 0 → IsNeverSecond x → compose_after ccc join s bs (xs ++ x ∷ ys) ≡ compose_after ccc join s bs xs ++ compose_after ccc join x [] ys
+  compose_after-at_boundary : (s : ℕ) (bs xs : List ℕ) (x : ℕ) (ys : List ℕ) → ccc x ≤ 0 → IsNeverSecond x → compose_after ccc join s bs (xs ++ x ∷ ys) ≡ compose_after ccc join s bs xs ++ compose ccc join (x ∷ ys)
   compose_after-at_boundary s bs [] x ys low never =
-      compose_after-starter s bs x ys (joined-none s bs x (never s)) low ∙ ap (λ l. l ++ compose_after ccc join x [] ys) (sym (compose_after-nil s bs))
+      compose_after-starter s bs x ys (joined-none s bs x (never s)) low
+      ∙ ap (λ l. s ∷ (bs ++ l)) (sym (compose-starter x ys low)) ∙ ap (λ l. l ++ compose ccc join (x ∷ ys)) (sym (compose_after-nil s bs))
   compose_after-at_boundary s bs (c ∷ cs) x ys low never =
-      let end = compose_after ccc join x [] ys in
+      let end = compose ccc join (x ∷ ys) in
       compose_after-cases s bs c cs (λ l. compose_after ccc join s bs (c ∷ (cs ++ x ∷ ys)) ≡ l ++ end)
       (λ p free pair. compose_after-joined s bs c p (cs ++ x ∷ ys) (joined-free s bs c free ∙ pair) ∙ compose_after-at_boundary p bs cs x ys low never)
       (λ none starts.
@@ -130,17 +137,13 @@ module _ (ccc : ℕ → ℕ) (join : ℕ → ℕ → Option ℕ) where
       ∙ sym (append_assoc (s ∷ bs) (compose_after ccc join c [] cs) end))
       (λ none non_starter. compose_after-kept s bs c (cs ++ x ∷ ys) none non_starter ∙ compose_after-at_boundary s (bs ++ c ∷ []) cs x ys low never)
 
-  -- x is the next starter
-  compose-at_boundary_of : (xs : List ℕ) (x : ℕ) (ys : List ℕ) → ccc x ≤ 0 → IsNeverSecond x → compose ccc join (xs ++ x ∷ ys) ≡ compose ccc join xs ++ compose_after ccc join x [] ys
-  compose-at_boundary_of [] x ys low never = compose-starter x ys low ∙ ap (λ l. l ++ compose_after ccc join x [] ys) (sym compose-nil)
-  compose-at_boundary_of (c ∷ cs) x ys low never =
-      compose-cases c cs (λ l. compose ccc join (c ∷ (cs ++ x ∷ ys)) ≡ l ++ compose_after ccc join x [] ys)
-      (λ starts. compose-starter c (cs ++ x ∷ ys) starts ∙ compose_after-at_boundary c [] cs x ys low never)
-      (λ non_starter. compose-non_starter c (cs ++ x ∷ ys) non_starter ∙ ap (λ l. c ∷ l) (compose-at_boundary_of cs x ys low never))
-
   -- so the parts compose each for itself
   pub compose-at_boundary : (xs : List ℕ) (x : ℕ) (ys : List ℕ) → ccc x ≤ 0 → IsNeverSecond x → compose ccc join (xs ++ x ∷ ys) ≡ compose ccc join xs ++ compose ccc join (x ∷ ys)
-  compose-at_boundary xs x ys low never = compose-at_boundary_of xs x ys low never ∙ ap (λ l. compose ccc join xs ++ l) (sym (compose-starter x ys low))
+  compose-at_boundary [] x ys low never = ap (λ l. l ++ compose ccc join (x ∷ ys)) (sym compose-nil)
+  compose-at_boundary (c ∷ cs) x ys low never =
+      compose-cases c cs (λ l. compose ccc join (c ∷ (cs ++ x ∷ ys)) ≡ l ++ compose ccc join (x ∷ ys))
+      (λ starts. compose-starter c (cs ++ x ∷ ys) starts ∙ compose_after-at_boundary c [] cs x ys low never)
+      (λ non_starter. compose-non_starter c (cs ++ x ∷ ys) non_starter ∙ ap (λ l. c ∷ l) (compose-at_boundary cs x ys low never))
 
   -- ---- composites decompose to what went into them
 
@@ -156,10 +159,6 @@ module _ (ccc : ℕ → ℕ) (join : ℕ → ℕ → Option ℕ) where
       abbrev order : List ℕ → List ℕ
       order = canonical_order ccc
 
-      -- c may be ordered where it stands, or before bs
-      order_free : (xs bs : List ℕ) (c : ℕ) (cs : List ℕ) → is_free ccc bs c ≡ true → order ((xs ++ c ∷ []) ++ (bs ++ cs)) ≡ order (xs ++ (bs ++ c ∷ cs))
-      order_free xs bs c cs free = ap order (append_assoc xs (c ∷ []) (bs ++ cs)) ∙ canonical_order-behind ccc xs _ _ (canonical_order-over ccc c bs cs free)
-
       -- the parts of the composition are, in order, those of the starter and all that follows
       decomposed-compose_after : (s : ℕ) (bs cs : List ℕ) → list_all final bs ≡ true → list_all final cs ≡ true → order (flat_map parts_of (compose_after ccc join s bs cs)) ≡ order (parts_of s ++ (bs ++ cs))
       decomposed-compose_after s bs [] of_bs of_cs =
@@ -170,7 +169,7 @@ module _ (ccc : ℕ → ℕ) (join : ℕ → ℕ → Option ℕ) where
           (λ p free pair.
           decomposed-compose_after p bs cs of_bs both.1
           ∙ ap (λ l. order (l ++ (bs ++ cs))) (splits s c p pair ∙ ap (λ l. parts_of s ++ l) (itself c both.0))
-          ∙ order_free (parts_of s) bs c cs free)
+          ∙ ap order (append_assoc (parts_of s) (c ∷ []) (bs ++ cs)) ∙ canonical_order-behind ccc (parts_of s) _ _ (canonical_order-over ccc c bs cs free))
           (λ none low.
           let rest = compose_after ccc join c [] cs in
           let later = decomposed-compose_after c [] cs refl both.1 ∙ ap (λ l. order (l ++ cs)) (itself c both.0) in

@@ -1,10 +1,9 @@
 -- The steps of a composition in one pass.
-use Rattle.std.proofs.Common.{◌≡◌, ℕ, ◌<◌, ◌≤◌, Bool, true, false, ◌&&◌, ◌||◌, ◌==◌, nat_lt, List, [], ◌∷◌, ◌++◌, length, get_or, set, Option, Some, None, unwrap_or, refl, sym, ap, ◌∙◌, arith, inl, inr, append_assoc, append-nil, zero-le, suc, ◌+◌, take, drop, ◌⊎◌, subst}
-use Rattle.np_forms.proofs.Words.{cond-true, cond-false, cases_Bool, nat_tests, get_or_at, set_at, take_more_set}
-use Rattle.np_forms.proofs.Words.{drop-set-lt, length-take-le, length-map, map-set, map_push, VersionData, class_of}
-use Rattle.np_forms.proofs.Words.{is_ordered, is_reorderable, is_free, joined, compose_after, compose, compose_of}
-use Rattle.np_forms.proofs.Words.{composite, IsAfterStarter, IsComposing, and_place, pair_with_last, drop-cons}
-use Rattle.np_forms.proofs.Words.{take-set-lt, CodeAndClass, codes_of, with_class, with_classes, IsInPlace}
+use Rattle.std.proofs.Common.{◌≡◌, ℕ, ◌<◌, ◌≤◌, Bool, true, ◌&&◌, ◌||◌, ◌==◌, nat_lt, List, [], ◌∷◌, ◌++◌, length, get_or, set, Option, Some, None, unwrap_or, refl, sym, ap, ◌∙◌, arith, inl, inr, append_assoc, append-nil, zero-le, suc, ◌+◌, take, drop, ◌⊎◌, subst}
+use Rattle.np_forms.proofs.Words.{cond-true, cond-false, cases_Bool, nat_tests, get_or_at, set_at, take_more_set, drop-set-lt, length-take-le, length-map}
+use Rattle.np_forms.proofs.Words.{map-set, map_push, VersionData, class_of, is_ordered, is_reorderable, is_free, joined, compose_after, compose, compose_of}
+use Rattle.np_forms.proofs.Words.{composite, IsAfterStarter, IsComposing, and_place, pair_with_last, drop-cons, take-set-lt, CodeAndClass, codes_of}
+use Rattle.np_forms.proofs.Words.{with_class, with_classes, IsInPlace}
 use Rattle.std.proofs.lemmas.List.Folds.{list_all-append}
 use Rattle.np_forms.proofs.OrderLemmas.{is_reorderable-false, is_ordered-parts, is_ordered-tail, is_ordered-back}
 use Rattle.np_forms.proofs.ComposeLemmas.{joined-free, joined-blocked, compose_after-nil, compose_after-joined, compose_after-starter, compose_after-kept, compose-nil, compose-starter, compose-non_starter, is_ordered-remove}
@@ -24,9 +23,6 @@ module _ (v : VersionData) where
   and_place-none : (q : ℕ) (o : Option ℕ) → and_place q o ≡ None → o ≡ None
   and_place-none q None h = refl
   and_place-none q (Some x) h = cc
-
-  rising : (c d : ℕ) → is_reorderable ccc c d ≡ false → 0 < class_of v d → class_of v c ≤ class_of v d
-  rising c d h positive = elim (is_reorderable-false ccc c d h) [ inl low ↦ absurd (omega arith) | inr up ↦ up ]
 
   tests : (last k m : ℕ) (b : Bool) → b ≡ (last == 0 || nat_lt last m) → last ≤ k → 0 < k → (b && ((nat_lt 0 k && nat_lt k m) && true)) ≡ (k == 0 || nat_lt k m)
   tests last k m b e up positive = grind (arith, nat_tests)
@@ -89,7 +85,8 @@ module _ (v : VersionData) where
           gives = a.gives ∙ ap (λ l. a.done ++ l) (compose_after-kept ccc join a.s a.bs c rest (apart h) non_starter);
           free = λ x. pushed a.bs last c x (a.free x) up non_starter;
           rises = λ d ds ordered positive.
-              rising c d (is_ordered-parts ccc c d ds (is_ordered-back ccc a.bs (c ∷ d ∷ ds) (ap (is_ordered ccc) (sym (append_assoc a.bs (c ∷ []) (d ∷ ds))) ∙ ordered))).0 positive;
+              let parts = is_ordered-parts ccc c d ds (is_ordered-back ccc a.bs (c ∷ d ∷ ds) (ap (is_ordered ccc) (sym (append_assoc a.bs (c ∷ []) (d ∷ ds))) ∙ ordered)) in
+              elim (is_reorderable-false ccc c d parts.0) [ inl low ↦ absurd (omega arith) | inr up ↦ up ];
           ordered = ap (is_ordered ccc) (append_assoc a.bs (c ∷ []) rest) ∙ a.ordered;
         }
 
@@ -171,27 +168,17 @@ module _ (v : VersionData) (whole : List ℕ) (list : List CodeAndClass) (kept a
       let shown : codes_of (take kept (set list q y)) ≡ set done q p = ap codes_of (take-set-lt kept list q y low) ∙ map-set code (take kept list) q y ∙ ap (set done q) is in
       record { rest = next.ds; left = left q y (omega arith); composing = subst (λ l. IsComposing v whole l starter last next.ds) (sym shown) step }
 
-  in_place_starts : pair_with_last v done starter last x.code ≡ None → class_of v x.code ≡ 0 → IsAfterStarter v whole (codes_of (take (kept + 1) (set list kept x))) kept 0 next.ds
-  in_place_starts none first =
-      let step = push_starts v whole done starter last x.code next.ds none first reads in
+  in_place_composes : (place : Option ℕ) → (x.class ≡ 0 × place ≡ Some kept) ⊎ (0 < x.class × place ≡ starter) → pair_with_last v done starter last x.code ≡ None → IsComposing v whole (done ++ x.code ∷ []) place x.class next.ds
+  in_place_composes place (inl (zero_class, here_place)) none =
       let stands : length done ≡ kept = length-map (take kept list) code ∙ length-take-le kept list (omega arith) in
-      subst (λ l. IsAfterStarter v whole l kept 0 next.ds) (sym more) (subst (λ q. IsAfterStarter v whole (done ++ x.code ∷ []) q 0 next.ds) stands step)
-
-  in_place_keeps : pair_with_last v done starter last x.code ≡ None → 0 < class_of v x.code → IsComposing v whole (codes_of (take (kept + 1) (set list kept x))) starter (class_of v x.code) next.ds
-  in_place_keeps none non_starter =
-      subst (λ l. IsComposing v whole l starter (class_of v x.code) next.ds) (sym more) (push_keeps v whole done starter last x.code next.ds none non_starter reads)
-
-  in_place_composes : (place : Option ℕ) → (x.class ≡ 0 × place ≡ Some kept) ⊎ (0 < x.class × place ≡ starter) → pair_with_last v done starter last x.code ≡ None → IsComposing v whole (codes_of (take (kept + 1) (set list kept x))) place x.class next.ds
-  in_place_composes place stands none =
-      elim stands [
-        | inl (zero_class, here_place) ↦
-            subst (λ p. IsComposing v whole (codes_of (take (kept + 1) (set list kept x))) p x.class next.ds) (sym here_place)
-            (subst (λ k. IsComposing v whole (codes_of (take (kept + 1) (set list kept x))) (Some kept) k next.ds) (sym zero_class) (in_place_starts none (sym class_is ∙ zero_class)))
-        | inr (some_class, kept_place) ↦
-            subst (λ p. IsComposing v whole (codes_of (take (kept + 1) (set list kept x))) p x.class next.ds) (sym kept_place)
-            (subst (λ k. IsComposing v whole (codes_of (take (kept + 1) (set list kept x))) starter k next.ds) (sym class_is) (in_place_keeps none (omega (arith, some_class, class_is))))
-      ]
+      subst (λ p. IsComposing v whole (done ++ x.code ∷ []) p x.class next.ds) (ap (λ q. Some q) stands ∙ sym here_place)
+      (subst (λ k. IsAfterStarter v whole (done ++ x.code ∷ []) (length done) k next.ds) (sym zero_class) (push_starts v whole done starter last x.code next.ds none (sym class_is ∙ zero_class) reads))
+  in_place_composes place (inr (some_class, kept_place)) none =
+      subst (λ p. IsComposing v whole (done ++ x.code ∷ []) p x.class next.ds) (sym kept_place)
+      (subst (λ k. IsComposing v whole (done ++ x.code ∷ []) starter k next.ds) (sym class_is) (push_keeps v whole done starter last x.code next.ds none (omega (arith, some_class, class_is)) reads))
 
   -- the code point is kept, and is the last starter where it is one
   pub in_place_stays : (place : Option ℕ) → (x.class ≡ 0 × place ≡ Some kept) ⊎ (0 < x.class × place ≡ starter) → (x.class ≡ class_of v x.code → pair_with_last v done starter last x.code ≡ None) → IsInPlace v whole (at + 1) (set list kept x) (kept + 1) place x.class
-  in_place_stays place stands none = record { rest = next.ds; left = left kept x behind; composing = in_place_composes place stands (none class_is) }
+  in_place_stays place stands none =
+      let composing = subst (λ l. IsComposing v whole l place x.class next.ds) (sym more) (in_place_composes place stands (none class_is)) in
+      record { rest = next.ds; left = left kept x behind; composing = composing }

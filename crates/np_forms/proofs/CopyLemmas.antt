@@ -1,12 +1,10 @@
 -- What passes the quick check is copied, and segments are made each for itself.
-use Rattle.std.proofs.Common.{◌≡◌, ◌≢◌, ℕ, ◌-◌, ◌<◌, ◌⊎◌, List, [], ◌∷◌, ◌++◌, None, length, chars, IsUtf8, encode_utf8, encode_utf8_all, refl, sym, ap, subst, ◌∙◌, arith, inl, inr, append_assoc, append-nil, length-append, take_at, drop_at, Bool, true, false, take, drop, slice_range, IsCharBoundary, flat_map, suc, Option, Some, All, get_or}
-use Rattle.np_forms.proofs.Words.{append_cancel_right, nil_from_length, cases_lt, and_from, chars-nil, chars-append}
-use Rattle.np_forms.proofs.Words.{IsUtf8-string_bytes, chars_past_char, encodes-append, encodes-chars}
-use Rattle.np_forms.proofs.Words.{IsCharBoundary-at_seam, IsCharBoundary-from_take, IsUtf8-drop, IsUtf8-take, Form}
-use Rattle.np_forms.proofs.Words.{IsAssigned, canonical_order, compose_of, IsCopied, ArePassing, AsciiPasses, IsPassing}
-use Rattle.np_forms.proofs.Words.{decomposed, ended, normal_form, IsReadAssigned, BeginsAtBoundary, IsBoundary, IsSound}
-use Rattle.np_forms.proofs.Words.{VersionData, class_of, full_of, IsQuickSpan, MayFollow, Walks, is_compat, composes}
-use Rattle.np_forms.proofs.Words.{composite}
+use Rattle.std.proofs.Common.{◌≡◌, ℕ, ◌-◌, ◌<◌, ◌⊎◌, List, [], ◌∷◌, ◌++◌, None, length, chars, IsUtf8, encode_utf8, encode_utf8_all, refl, sym, ap, subst, ◌∙◌, arith, inl, inr, append_assoc, append-nil, length-append, take_at, drop_at, Bool, true, false, take, drop, slice_range, IsCharBoundary, flat_map, suc, Option, Some, All, get_or}
+use Rattle.np_forms.proofs.Words.{append_cancel_right, nil_from_length, cases_lt, and_from, chars-nil, chars-append, IsUtf8-string_bytes, chars_past_char}
+use Rattle.np_forms.proofs.Words.{encodes-append, encodes-chars, IsCharBoundary-at_seam, IsCharBoundary-from_take, IsUtf8-drop, IsUtf8-take, Form, IsAssigned}
+use Rattle.np_forms.proofs.Words.{canonical_order, compose_of, IsCopied, ArePassing, AsciiPasses, IsPassing, decomposed, ended, normal_form, IsReadAssigned}
+use Rattle.np_forms.proofs.Words.{BeginsAtBoundary, IsBoundary, IsSound, VersionData, class_of, full_of, IsQuickSpan, MayFollow, Walks, is_compat, composes}
+use Rattle.np_forms.proofs.Words.{composite, form_bytes}
 use Rattle.np_tables.proofs.QuickSpanLemmas.{Walks-front}
 use Rattle.np_tables.specs.inside.PageProperties.{IsPast}
 use Rattle.np_forms.proofs.StreamLemmas.{normal_form-parts}
@@ -24,15 +22,16 @@ pub normal_form-nil : (v : VersionData) (form : Form) → normal_form v form [] 
 unfolding normal_form decomposed
 normal_form-nil v form = ap (ended v (composes form)) (canonical_order-nil (class_of v)) ∙ ended-nil v (composes form)
 
+-- nothing is left of the form
+pub rest_nil : (v : VersionData) (form : Form) (rest : List ℕ) → length rest ≡ 0 → form_bytes v form rest ≡ []
+rest_nil v form rest none =
+    ap (λ l. encode_utf8_all (normal_form v form l)) (ap chars (nil_from_length rest none) ∙ chars-nil) ∙ ap encode_utf8_all (normal_form-nil v form)
+
 module _ (v : VersionData) (sound : IsSound v) (form : Form) where
   -- at a boundary forms are made each for itself
   pub parts-at : (xs rest : List ℕ) → BeginsAtBoundary v form rest → normal_form v form (xs ++ rest) ≡ normal_form v form xs ++ normal_form v form rest
   parts-at xs [] at = ap (normal_form v form) (append-nil xs) ∙ sym (append-nil _) ∙ ap (λ l. normal_form v form xs ++ l) (sym (normal_form-nil v form))
   parts-at xs (c ∷ cs) at = normal_form-parts v sound form xs c cs at
-
-  -- a walk stands there as it is
-  copies : (cs : List ℕ) (end : ℕ) (rest : List ℕ) → Walks (MayFollow v form) None 0 cs end → BeginsAtBoundary v form rest → normal_form v form (cs ++ rest) ≡ cs ++ normal_form v form rest
-  copies cs end rest walk at = parts-at cs rest at ∙ ap (λ l. l ++ normal_form v form rest) (quick_span_form v sound form cs end walk)
 
   -- a text whose front passes the quick check, cut behind it
   pub IsCopied-at : (text front back : List ℕ) (cs : List ℕ) (end : ℕ) → text ≡ front ++ back → IsUtf8 back → front ≡ encode_utf8_all cs → chars text ≡ cs ++ chars back → Walks (MayFollow v form) None 0 cs end → BeginsAtBoundary v form (chars back) → IsCopied v form text front back
@@ -40,7 +39,8 @@ module _ (v : VersionData) (sound : IsSound v) (form : Form) where
       record {
         parts = parts;
         utf8 = utf8;
-        copied = ap (λ l. encode_utf8_all (normal_form v form l)) text_is ∙ ap encode_utf8_all (copies cs end (chars back) walk at)
+        copied = ap (λ l. encode_utf8_all (normal_form v form l)) text_is
+            ∙ ap encode_utf8_all (parts-at cs (chars back) at ∙ ap (λ l. l ++ normal_form v form (chars back)) (quick_span_form v sound form cs end walk))
             ∙ encodes-append cs (normal_form v form (chars back)) ∙ ap (λ l. l ++ encode_utf8_all (normal_form v form (chars back))) (sym encoded);
       }
 
@@ -60,6 +60,11 @@ front_of s front back e =
     let n : length front ≡ length s - length back - 0 = omega (arith, ap length e, length-append front back) in
     ap (take (length s - length back - 0)) e ∙ take_at front back _ n
 
+pub front_boundary : (text front rest : List ℕ) → text ≡ front ++ rest → IsUtf8 text → IsUtf8 front → IsCharBoundary text (length front)
+front_boundary text front rest e utf8 of_front =
+    IsCharBoundary-from_take text (length front) utf8 (omega (arith, ap length e, length-append front rest))
+    (subst IsUtf8 (sym (ap (take (length front)) e ∙ take_at front rest (length front) refl)) of_front)
+
 module _ (v : VersionData) (form : Form) (text : List ℕ) (n : ℕ) (h : IsQuickSpan v form text n) where
   pub cut_boundary : IsCharBoundary text n
   cut_boundary = subst (IsCharBoundary text) (sym h.place) (IsCharBoundary-at_seam text (encode_utf8_all h.front) h.back h.split h.utf8)
@@ -67,15 +72,10 @@ module _ (v : VersionData) (form : Form) (text : List ℕ) (n : ℕ) (h : IsQuic
   pub cut_at-front : take n text ≡ encode_utf8_all h.front
   cut_at-front = ap (take n) h.split ∙ take_at (encode_utf8_all h.front) h.back n (sym h.place)
 
-  pub cut_at-back : drop n text ≡ h.back
-  cut_at-back = ap (drop n) h.split ∙ drop_at (encode_utf8_all h.front) h.back n (sym h.place)
-
 -- where nothing is behind it, the text is its own form
 pub IsCopied-own : (v : VersionData) (form : Form) (text stays behind : List ℕ) → IsCopied v form text stays behind → length behind ≡ 0 → text ≡ encode_utf8_all (normal_form v form (chars text))
 IsCopied-own v form text stays behind copied none =
-    let empty = nil_from_length behind none in
-    let after : encode_utf8_all (normal_form v form (chars behind)) ≡ [] = ap (λ l. encode_utf8_all (normal_form v form l)) (ap chars empty ∙ chars-nil) ∙ ap encode_utf8_all (normal_form-nil v form) in
-    copied.parts ∙ ap (λ l. stays ++ l) (empty ∙ sym after) ∙ sym copied.copied
+    copied.parts ∙ ap (λ l. stays ++ l) (nil_from_length behind none ∙ sym (rest_nil v form behind none)) ∙ sym copied.copied
 
 -- what stands is read, where each code point of it is assigned
 pub IsCopied-read : (v : VersionData) (form : Form) (text stays behind : List ℕ) → IsUtf8 text → IsCopied v form text stays behind → IsAssigned v (chars stays) → IsReadAssigned v text behind
@@ -90,25 +90,23 @@ module _ (v : VersionData) (sound : IsSound v) (form : Form) (text : List ℕ) (
   cut-front = of_front ∙ cut_at-front v form text n h
 
   cut-back : back ≡ h.back
-  cut-back = of_back ∙ cut_at-back v form text n h
-
-  cut-parts : text ≡ front ++ back
-  cut-parts = h.split ∙ ap (λ l. l ++ h.back) (sym cut-front) ∙ ap (λ l. front ++ l) (sym cut-back)
+  cut-back = of_back ∙ ap (drop n) h.split ∙ drop_at (encode_utf8_all h.front) h.back n (sym h.place)
 
   pub IsCopied-cut : BeginsAtBoundary v form (chars back) → IsCopied v form text front back
   IsCopied-cut at =
-      IsCopied-at v sound form text front back h.front h.end cut-parts (subst IsUtf8 (sym cut-back) h.utf8) cut-front (h.text ∙ ap (λ l. h.front ++ chars l) (sym cut-back)) h.walk at
-
-some_list : (cs : List ℕ) → (cs ≢ []) → 0 < length cs
-some_list [] h = absurd (h refl)
-some_list (c ∷ cs) h = omega arith
+      let parts = h.split ∙ ap (λ l. l ++ h.back) (sym cut-front) ∙ ap (λ l. front ++ l) (sym cut-back) in
+      IsCopied-at v sound form text front back h.front h.end parts (subst IsUtf8 (sym cut-back) h.utf8) cut-front (h.text ∙ ap (λ l. h.front ++ chars l) (sym cut-back)) h.walk at
 
 begins_with : (v : VersionData) (form : Form) (cs ds : List ℕ) → 0 < length cs → BeginsAtBoundary v form cs → BeginsAtBoundary v form (cs ++ ds)
 begins_with v form [] ds some at = absurd (omega arith)
 begins_with v form (c ∷ cs) ds some at = at
 
-some_chars : (text : List ℕ) → IsUtf8 text → 0 < length text → 0 < length (chars text)
-some_chars text utf8 some = some_list (chars text) (λ none. omega (arith, some, ap length (sym (encodes-chars text utf8) ∙ ap encode_utf8_all none)))
+pub some_chars : (text : List ℕ) → IsUtf8 text → 0 < length text → 0 < length (chars text)
+some_chars text utf8 some =
+    elim (cases_lt 0 (length (chars text))) [
+      | inl more ↦ more
+      | inr none ↦ absurd (omega (arith, some, ap length (sym (encodes-chars text utf8) ∙ ap encode_utf8_all (nil_from_length (chars text) (omega arith)))))
+    ]
 
 -- else it is cut before the last boundary, where there is one
 module _ (v : VersionData) (form : Form) (text : List ℕ) (n : ℕ) (h : IsQuickSpan v form text n) (front own part : List ℕ) (of_front : front ≡ take n text) (utf8 : IsUtf8 text) (of_own : IsUtf8 own) (of_part : IsUtf8 part)
@@ -120,9 +118,7 @@ module _ (v : VersionData) (form : Form) (text : List ℕ) (n : ℕ) (h : IsQuic
   own-front = ap (take (length own)) own-text ∙ take_at own (part ++ h.back) (length own) refl
 
   pub own-boundary : IsCharBoundary text (length own)
-  own-boundary =
-      IsCharBoundary-from_take text (length own) utf8 (omega (arith, ap length own-text, length-append own (part ++ h.back)))
-      (subst IsUtf8 (sym own-front) of_own)
+  own-boundary = front_boundary text own (part ++ h.back) own-text utf8 of_own
 
   -- the text behind what is cut off
   own-drop : drop (length own) text ≡ part ++ h.back
@@ -147,15 +143,11 @@ module _ (v : VersionData) (form : Form) (text : List ℕ) (n : ℕ) (h : IsQuic
       elim (cases_lt 0 (length own)) [
         | inr none ↦
             let empty : own ≡ [] = nil_from_length own (omega arith) in
-            let nothing : first ≡ [] = of_first ∙ ap (λ l. take (length l) text) empty in
             let all : later ≡ text = of_later ∙ ap (λ l. drop (length l) text) empty in
-            record {
-              parts = ap (λ l. l ++ text) (sym nothing) ∙ ap (λ l. first ++ l) (sym all);
-              utf8 = subst IsUtf8 (sym all) utf8;
-              copied = ap (λ l. encode_utf8_all (normal_form v form (chars l))) (sym all) ∙ ap (λ l. l ++ encode_utf8_all (normal_form v form (chars later))) (sym nothing);
-            }
+            subst (λ l. IsCopied v form text first l) (sym all)
+            (subst (λ l. IsCopied v form text l text) (sym (of_first ∙ ap (λ l. take (length l) text) empty)) (record { parts = refl; utf8 = utf8; copied = refl }))
         | inl more ↦
-            let mine : first ≡ own = of_first ∙ ap (take (length own)) own-text ∙ take_at own (part ++ h.back) (length own) refl in
+            let mine : first ≡ own = of_first ∙ own-front in
             let its : later ≡ part ++ h.back = of_later ∙ own-drop in
             let long = some (omega (arith, more, ap length e, length-append own part)) in
             let at : BeginsAtBoundary v form (chars part) = elim cut [ inl empty ↦ absurd (omega (arith, more, ap length empty)) | inr begins ↦ begins ] in
@@ -173,25 +165,17 @@ settled-is_form v form xs list made compat composed kind last full is =
 
 pub form-end : (v : VersionData) (form : Form) (whole out rest : List ℕ) → out ++ encode_utf8_all (normal_form v form (chars rest)) ≡ whole → length rest ≡ 0 → out ≡ whole
 form-end v form whole out rest all none =
-    sym (append-nil out) ∙ ap (λ l. out ++ l) (sym (ap (λ l. encode_utf8_all (normal_form v form l)) (ap chars (nil_from_length rest none) ∙ chars-nil) ∙ ap encode_utf8_all (normal_form-nil v form))) ∙ all
+    sym (append-nil out) ∙ ap (λ l. out ++ l) (sym (rest_nil v form rest none)) ∙ all
 
 -- ---- where a text is cut behind a front of its own
-
-pub front_boundary : (text front rest : List ℕ) → text ≡ front ++ rest → IsUtf8 text → IsUtf8 front → IsCharBoundary text (length front)
-front_boundary text front rest e utf8 of_front =
-    IsCharBoundary-from_take text (length front) utf8 (omega (arith, ap length e, length-append front rest))
-    (subst IsUtf8 (sym (ap (take (length front)) e ∙ take_at front rest (length front) refl)) of_front)
-
-pub utf8_behind : (text front later rest : List ℕ) → text ≡ front ++ rest → IsUtf8 text → IsUtf8 front → later ≡ drop (length front) text → IsUtf8 later
-utf8_behind text front later rest e utf8 of_front is =
-    subst IsUtf8 (sym is) (IsUtf8-drop text (length front) utf8 (front_boundary text front rest e utf8 of_front))
 
 pub begins_behind : (v : VersionData) (form : Form) (text front later : List ℕ) (c : ℕ) (back : List ℕ) → text ≡ front ++ (encode_utf8 c ++ back) → IsUtf8 text → IsUtf8 front → later ≡ drop (length front) text →
     IsBoundary v form c → BeginsAtBoundary v form (chars later)
 begins_behind v form text front later c back e utf8 of_front is at =
     let rest = encode_utf8 c ++ back in
+    let of_later = subst IsUtf8 (sym is) (IsUtf8-drop text (length front) utf8 (front_boundary text front rest e utf8 of_front)) in
     let its : later ≡ rest = is ∙ ap (drop (length front)) e ∙ drop_at front rest (length front) refl in
-    subst (BeginsAtBoundary v form) (sym (chars_past_char later back c (utf8_behind text front later rest e utf8 of_front is) its)) at
+    subst (BeginsAtBoundary v form) (sym (chars_past_char later back c of_later its)) at
 
 -- ---- code points that stay, one behind the other
 

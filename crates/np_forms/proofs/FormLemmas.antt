@@ -1,8 +1,7 @@
 -- The relation of the normal form and the function are one.
-use Rattle.std.proofs.Common.{◌≡◌, ℕ, Bool, true, false, List, flat_map, refl, ap, ◌∙◌, ◌↔◌, IsTrue, sym, subst}
-use Rattle.np_forms.proofs.Words.{VersionData, class_of, full_of, canonical_order, IsSound, Form, is_compat, composes}
-use Rattle.np_forms.proofs.Words.{IsDecomposed, EndsAs, IsNormalForm, IsEquivalent, decomposed, ended, normal_form}
-use Rattle.np_forms.proofs.Words.{Exchanges, IsOrderedForm}
+use Rattle.std.proofs.Common.{◌≡◌, ℕ, Bool, true, false, List, flat_map, refl, ap, ◌∙◌, ◌↔◌, sym, subst}
+use Rattle.np_forms.proofs.Words.{VersionData, class_of, full_of, canonical_order, IsSound, Form, is_compat, composes, IsDecomposed, EndsAs, IsNormalForm}
+use Rattle.np_forms.proofs.Words.{IsEquivalent, decomposed, ended, normal_form, Exchanges, IsOrderedForm}
 use Rattle.np_forms.specs.Laws.{OneForm, OneOrderedForm}
 use Rattle.np_tables.proofs.MappingLemmas.{IsFullDecomposition-flat_map, full_decomposition-flat_map}
 use Rattle.np_code_points.proofs.StepsLemmas.{keeps}
@@ -12,13 +11,11 @@ use Rattle.np_forms.proofs.OrderLemmas.{canonical_order-exchange, canonical_orde
 -- ---- the ordered form: there is one, and only one
 
 module _ (ccc : ℕ → ℕ) where
-  exchange_keeps : (xs ys : List ℕ) → Exchanges ccc xs ys → canonical_order ccc xs ≡ canonical_order ccc ys
-  exchange_keeps xs ys e =
-      ap (canonical_order ccc) e.old ∙ canonical_order-exchange ccc e.before e.a e.b e.after e.pair ∙ ap (canonical_order ccc) (sym e.new)
-
   pub ordered_form-canonical_order : (xs ys : List ℕ) → IsOrderedForm ccc xs ys → ys ≡ canonical_order ccc xs
   ordered_form-canonical_order xs ys h =
-      sym (keeps (Exchanges ccc) (canonical_order ccc) exchange_keeps xs ys h.reached ∙ canonical_order-ordered ccc ys h.ordered)
+      let order = canonical_order ccc in
+      sym (keeps (Exchanges ccc) order (λ us vs e. ap order e.old ∙ canonical_order-exchange ccc e.before e.a e.b e.after e.pair ∙ ap order (sym e.new)) xs ys h.reached
+      ∙ canonical_order-ordered ccc ys h.ordered)
 
   pub IsOrderedForm-canonical_order : (xs : List ℕ) → IsOrderedForm ccc xs (canonical_order ccc xs)
   IsOrderedForm-canonical_order xs = record { reached = reaches_canonical_order ccc xs; ordered = is_ordered-canonical_order ccc xs }
@@ -77,8 +74,8 @@ module _ (v : VersionData) (sound : IsSound v) where
   IsNormalForm-value form xs ys e = subst (λ l. IsNormalForm v form xs l) (sym e) (IsNormalForm-normal_form v sound form xs)
 
   -- two texts are equivalent exactly where their ordered full decompositions are one list
-  pub IsEquivalent-lists : (compat : Bool) (xs ys ds es : List ℕ) (b : Bool) → ds ≡ decomposed v compat xs → es ≡ decomposed v compat ys → (IsTrue b ↔ (ds ≡ es)) → IsTrue b ↔ IsEquivalent v compat xs ys
-  IsEquivalent-lists compat xs ys ds es b of_xs of_ys same = (
+  pub IsEquivalent-lists : (compat : Bool) (xs ys ds es : List ℕ) (P : Type 0) → ds ≡ decomposed v compat xs → es ≡ decomposed v compat ys → (P ↔ (ds ≡ es)) → P ↔ IsEquivalent v compat xs ys
+  IsEquivalent-lists compat xs ys ds es P of_xs of_ys same = (
     λ yes.
         record {
           decomposed = decomposed v compat ys;
@@ -88,10 +85,3 @@ module _ (v : VersionData) (sound : IsSound v) where
     λ alike.
         same.1 (of_xs ∙ sym (decomposed_is v sound compat xs alike.decomposed alike.left) ∙ decomposed_is v sound compat ys alike.decomposed alike.right ∙ sym of_ys),
   )
-
-module _ (v : VersionData) where
-  -- the ordered full decomposition itself, where it does not
-  pub normal_form-decomposed : (form : Form) (xs ds : List ℕ) (compat : Bool) → compat ≡ is_compat form → composes form ≡ false → ds ≡ decomposed v compat xs → ds ≡ normal_form v form xs
-  unfolding normal_form
-  normal_form-decomposed form xs ds compat kind off is =
-      is ∙ ap (λ b. decomposed v b xs) kind ∙ ap (λ b. ended v b (decomposed v (is_compat form) xs)) (sym off)

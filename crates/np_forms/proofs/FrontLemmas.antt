@@ -1,8 +1,7 @@
 -- Non-starters at the front of a text, which are held back.
 use Rattle.std.proofs.Common.{◌≡◌, ℕ, Bool, true, List, [], ◌∷◌, ◌++◌, encode_utf8, refl, sym, ap, ap₂, subst, ◌∙◌, append_assoc, append-nil}
-use Rattle.np_forms.proofs.Words.{and_from, flat_map-append, map-append, is_non_starter, IsStreaming, AreClassed}
-use Rattle.np_forms.proofs.Words.{CodeAndClass, codes_of, with_class, with_classes, IsFrontHeld, HoldsFront, is_compat}
-use Rattle.np_forms.proofs.Words.{Form, IsSound, VersionData, full_of}
+use Rattle.np_forms.proofs.Words.{and_from, flat_map-append, map-append, is_non_starter, IsStreaming, AreClassed, CodeAndClass, codes_of, with_class}
+use Rattle.np_forms.proofs.Words.{with_classes, IsFrontHeld, HoldsFront, is_compat, Form, IsSound, VersionData, full_of}
 use Rattle.np_forms.proofs.ClassLemmas.{AreClassed-append, AreClassed-with_classes, codes-append, codes-with_classes}
 use Rattle.np_forms.proofs.HeldLemmas.{holds_non_starters}
 use Rattle.np_forms.proofs.TextLemmas.{IsRead-next}

@@ -1,21 +1,92 @@
 -- The state of a stream, which each code point of the full decomposition carries on.
-use Rattle.std.proofs.Common.{◌≡◌, ℕ, ◌+◌, ◌<◌, ◌≤◌, ◌⊎◌, Bool, true, false, List, [], ◌∷◌, ◌++◌, length, flat_map, refl, sym, ap, subst, ◌∙◌, arith, inl, inr, append_assoc, append-nil, Some, None}
-use Rattle.np_forms.proofs.Words.{and_from, and_parts, cases_lt, not-true, not_from_false, and_left, flat_map-append}
-use Rattle.np_forms.proofs.Words.{list_all, is_compat, composes, Form, IsSound, VersionData, class_of, composite}
-use Rattle.np_forms.proofs.Words.{full_of, IsNormalForm, is_non_starter, IsCutAtLastStarter, IsOrderedAndComposed}
-use Rattle.np_forms.proofs.Words.{IsStreaming, TakesIn, canonical_order, compose, joined, Shape, no_starter, starter}
-use Rattle.np_forms.proofs.Words.{IsHeld, Advances, decomposed, ended, normal_form}
+use Rattle.std.proofs.Common.{◌≡◌, ℕ, ◌+◌, ◌<◌, ◌≤◌, ◌⊎◌, Bool, true, false, List, [], ◌∷◌, ◌++◌, length, flat_map, refl, sym, ap, subst, ◌∙◌, arith, inl, inr, append_assoc, append-nil, Some, None, Option, ap₂}
+use Rattle.np_forms.proofs.Words.{and_from, and_parts, cases_lt, not-true, not_from_false, and_left, flat_map-append, list_all, is_compat, composes, Form}
+use Rattle.np_forms.proofs.Words.{IsSound, VersionData, class_of, composite, full_of, IsNormalForm, is_non_starter, IsCutAtLastStarter, IsOrderedAndComposed}
+use Rattle.np_forms.proofs.Words.{IsStreaming, TakesIn, canonical_order, compose, joined, Shape, no_starter, starter, IsHeld, Advances, decomposed, ended}
+use Rattle.np_forms.proofs.Words.{normal_form, compose_after}
 use Rattle.np_tables.proofs.MappingLemmas.{list_all-append, IsFullDecomposition-flat_map, full_decomposition-flat_map}
-use Rattle.np_tables.proofs.CompositeLemmas.{composite_first, composite-some, composite-starter}
-use Rattle.np_forms.proofs.OrderLemmas.{list_all-canonical_order, not_reorderable_rising}
-use Rattle.np_forms.proofs.ComposeLemmas.{is_starter-false, not_starter_from, compose-nil, joined-none, joined-blocked}
+use Rattle.np_tables.proofs.CompositeLemmas.{composite_first, composite-some, composite-starter, cases_Option}
+use Rattle.np_forms.proofs.OrderLemmas.{list_all-canonical_order, not_reorderable_rising, canonical_order-at_starter, canonical_order-nil}
+use Rattle.np_forms.proofs.ComposeLemmas.{is_starter-false, not_starter_from, compose-nil, compose-non_starters, joined-none, joined-blocked, joined-free, compose_after-nil, compose_after-joined, compose_after-starter, compose_after-kept, compose-starter}
 use Rattle.np_forms.proofs.FormLemmas.{EndsAs-ended, ended_is, IsNormalForm-normal_form, ordered_form-canonical_order, IsOrderedForm-canonical_order}
 use Rattle.np_forms.proofs.StreamLemmas.{compose_of_is, IsLastRun, last_after, non_starter_or_starter}
-use Rattle.np_forms.proofs.PendingLemmas.{order_starter, composed_starter, compose-non_starters, push_joins, push_parts, push_first, push_plain}
 
 module _ (v : VersionData) (sound : IsSound v) where
-  pub held_start : (e : Bool) → IsHeld v e [] [] []
-  held_start e = record { front = []; non_starters = []; split = refl; all = refl; shape = no_starter []; goes_on = λ zs. refl }
+  -- ---- the last starter, which may be a composite already, and the non-starters after it, not yet in order
+
+  abbrev ccc : ℕ → ℕ
+  ccc = class_of v
+
+  abbrev join : ℕ → ℕ → Option ℕ
+  join = composite v
+
+  abbrev order : List ℕ → List ℕ
+  order = canonical_order ccc
+
+  abbrev after : ℕ → List ℕ → List ℕ → List ℕ
+  after = compose_after ccc join
+
+  -- the starter and what was kept, once these non-starters are through
+  record Settled (s : ℕ) (bs ms : List ℕ) : Type 0 where
+    head : ℕ
+    kept : List ℕ
+    is : after s bs ms ≡ head ∷ kept
+    goes_on : (zs : List ℕ) → after s bs (ms ++ zs) ≡ after head kept zs
+
+  settled : (s : ℕ) (bs ms : List ℕ) → list_all (is_non_starter v) ms ≡ true → Settled s bs ms
+  settled s bs [] non_starters = record { head = s; kept = bs; is = compose_after-nil ccc join s bs; goes_on = λ zs. refl }
+  settled s bs (m ∷ ms) non_starters =
+      let halves = and_parts (is_non_starter v m) (list_all (is_non_starter v) ms) non_starters in
+      let non_starter = is_starter-false ccc m (not-true _ halves.0) in
+      elim (cases_Option (joined ccc join s bs m)) [
+        | inr some ↦
+            let goes = λ (zs : List ℕ). compose_after-joined ccc join s bs m some.0 zs some.1 in
+            let r = settled some.0 bs ms halves.1 in
+            record { head = r.head; kept = r.kept; is = goes ms ∙ r.is; goes_on = λ zs. goes (ms ++ zs) ∙ r.goes_on zs }
+        | inl none ↦
+            let goes = λ (zs : List ℕ). compose_after-kept ccc join s bs m zs none non_starter in
+            let r = settled s (bs ++ m ∷ []) ms halves.1 in
+            record { head = r.head; kept = r.kept; is = goes ms ∙ r.is; goes_on = λ zs. goes (ms ++ zs) ∙ r.goes_on zs }
+      ]
+
+  -- a starter stands before the order of what follows
+  pub order_starter : (s : ℕ) (zs : List ℕ) → class_of v s ≤ 0 → order (s ∷ zs) ≡ s ∷ order zs
+  order_starter s zs of_s = canonical_order-at_starter ccc [] s zs of_s ∙ ap (λ l. l ++ s ∷ order zs) (canonical_order-nil ccc)
+
+  -- so it does before non-starters and a further starter
+  order_starters : (s : ℕ) (ms : List ℕ) (d : ℕ) (zs : List ℕ) → class_of v s ≤ 0 → class_of v d ≤ 0 → order ((s ∷ ms) ++ d ∷ zs) ≡ s ∷ (order ms ++ d ∷ order zs)
+  order_starters s ms d zs of_s of_d = order_starter s (ms ++ d ∷ zs) of_s ∙ ap (λ l. s ∷ l) (canonical_order-at_starter ccc ms d zs of_d)
+
+  composed_starter : (s : ℕ) (zs : List ℕ) → class_of v s ≤ 0 → compose ccc join (order (s ∷ zs)) ≡ after s [] (order zs)
+  composed_starter s zs of_s = ap (compose ccc join) (order_starter s zs of_s) ∙ compose-starter ccc join s (order zs) of_s
+
+  -- the next starter composes with the one held back, where no non-starter is left between
+  push_joins : (s : ℕ) (ms : List ℕ) (head d p : ℕ) (zs : List ℕ) → class_of v s ≤ 0 → list_all (is_non_starter v) ms ≡ true → class_of v d ≤ 0 → after s [] (order ms) ≡ head ∷ [] → composite v head d ≡ Some p → compose ccc join (order ((s ∷ ms) ++ d ∷ zs)) ≡ compose ccc join (order (p ∷ zs))
+  push_joins s ms head d p zs of_s non_starters of_d is both =
+      let r = settled s [] (order ms) (list_all-canonical_order ccc (is_non_starter v) ms non_starters) in
+      let same = sym r.is ∙ is in
+      let heads : r.head ≡ head = cc in
+      let nothing : r.kept ≡ [] = cc in
+      ap (compose ccc join) (order_starters s ms d zs of_s of_d) ∙ compose-starter ccc join s (order ms ++ d ∷ order zs) of_s
+      ∙ r.goes_on (d ∷ order zs) ∙ ap₂ (λ x l. after x l (d ∷ order zs)) heads nothing
+      ∙ compose_after-joined ccc join head [] d p (order zs) (joined-free ccc join head [] d refl ∙ both)
+      ∙ sym (composed_starter p zs (let e = composite-starter v sound head d p both in omega arith))
+
+  -- else what was held back is ready
+  push_parts : (s : ℕ) (ms : List ℕ) (d : ℕ) (zs : List ℕ) → class_of v s ≤ 0 → list_all (is_non_starter v) ms ≡ true → class_of v d ≤ 0 → ((head : ℕ) (kept : List ℕ) → after s [] (order ms) ≡ head ∷ kept → joined ccc join head kept d ≡ None) → compose ccc join (order ((s ∷ ms) ++ d ∷ zs)) ≡ compose ccc join (order (s ∷ ms)) ++ compose ccc join (order (d ∷ zs))
+  push_parts s ms d zs of_s non_starters of_d apart =
+      let r = settled s [] (order ms) (list_all-canonical_order ccc (is_non_starter v) ms non_starters) in
+      ap (compose ccc join) (order_starters s ms d zs of_s of_d) ∙ compose-starter ccc join s (order ms ++ d ∷ order zs) of_s
+      ∙ r.goes_on (d ∷ order zs) ∙ compose_after-starter ccc join r.head r.kept d (order zs) (apart r.head r.kept r.is) of_d
+      ∙ ap₂ (λ l m. l ++ m) (sym (composed_starter s ms of_s ∙ r.is)) (sym (composed_starter d zs of_d))
+
+  push_first : (ms : List ℕ) (d : ℕ) (zs : List ℕ) → list_all (is_non_starter v) ms ≡ true → class_of v d ≤ 0 → compose ccc join (order (ms ++ d ∷ zs)) ≡ order ms ++ compose ccc join (order (d ∷ zs))
+  push_first ms d zs non_starters of_d =
+      ap (compose ccc join) (canonical_order-at_starter ccc ms d zs of_d)
+      ∙ compose-non_starters ccc join (order ms) (d ∷ order zs) (list_all-canonical_order ccc (is_non_starter v) ms non_starters)
+      ∙ ap (λ l. order ms ++ compose ccc join l) (sym (order_starter d zs of_d))
+
+  -- ---- what is held back
 
   shape_non_starter : (out ms pending : List ℕ) (d : ℕ) → Shape v out ms pending → Shape v out (ms ++ d ∷ []) (pending ++ d ∷ [])
   shape_non_starter out ms pending d (no_starter ns) = no_starter (ns ++ d ∷ [])
@@ -56,23 +127,6 @@ module _ (v : VersionData) (sound : IsSound v) where
         goes_on = λ zs. ap (λ l. ended v e (canonical_order (class_of v) l)) (append_assoc ds (d ∷ []) zs) ∙ h.goes_on (d ∷ zs) ∙ goes zs;
       }
 
-  -- it takes the place of what was held back, which is ready
-  pub held_flush : (e : Bool) (ds out pending : List ℕ) (d : ℕ) → class_of v d ≤ 0 → IsHeld v e ds out pending → ((zs : List ℕ) → ended v e (canonical_order (class_of v) (pending ++ d ∷ zs)) ≡ ended v e (canonical_order (class_of v) pending) ++ ended v e (canonical_order (class_of v) (d ∷ zs))) → IsHeld v e (ds ++ d ∷ []) (out ++ ended v e (canonical_order (class_of v) pending)) (d ∷ [])
-  held_flush e ds out pending d low h parts =
-      held_alone e ds out pending (out ++ ended v e (canonical_order (class_of v) pending)) d d low h (λ zs. ap (λ l. out ++ l) (parts zs) ∙ sym (append_assoc out _ _))
-
-  -- or composes with the starter that was held back alone
-  pub held_join : (e : Bool) (ds out pending : List ℕ) (d p : ℕ) → class_of v p ≤ 0 → IsHeld v e ds out pending → ((zs : List ℕ) → ended v e (canonical_order (class_of v) (pending ++ d ∷ zs)) ≡ ended v e (canonical_order (class_of v) (p ∷ zs))) → IsHeld v e (ds ++ d ∷ []) out (p ∷ [])
-  held_join e ds out pending d p low h joins = held_alone e ds out pending out d p low h (λ zs. ap (λ l. out ++ l) (joins zs))
-
-  pub Advances-start : (e : Bool) (ready pending : List ℕ) → Advances v e [] ready pending ready pending
-  Advances-start e ready pending =
-      record {
-        more = [];
-        ready_is = sym (append-nil ready);
-        carries = λ ds out h. subst (λ l. IsHeld v e l (out ++ []) pending) (sym (append-nil ds)) (subst (λ l. IsHeld v e ds l pending) (sym (append-nil out)) h);
-      }
-
   -- nothing became ready
   pub Advances-kept : (e : Bool) (parts ready pending after : List ℕ) → ((ds out : List ℕ) → IsHeld v e ds out pending → IsHeld v e (ds ++ parts) out after) → Advances v e parts ready pending ready after
   Advances-kept e parts ready pending after carries =
@@ -81,6 +135,9 @@ module _ (v : VersionData) (sound : IsSound v) where
         ready_is = sym (append-nil ready);
         carries = λ ds out h. subst (λ l. IsHeld v e (ds ++ parts) l after) (sym (append-nil out)) (carries ds out h);
       }
+
+  pub Advances-start : (e : Bool) (ready pending : List ℕ) → Advances v e [] ready pending ready pending
+  Advances-start e ready pending = Advances-kept e [] ready pending pending (λ ds out h. subst (λ l. IsHeld v e l out pending) (sym (append-nil ds)) h)
 
   pub Advances-non_starters : (e : Bool) (ready pending parts : List ℕ) → list_all (is_non_starter v) parts ≡ true → Advances v e parts ready pending ready (pending ++ parts)
   Advances-non_starters e ready pending parts all = Advances-kept e parts ready pending (pending ++ parts) (λ ds out h. held_all e ds out pending parts all h)
@@ -103,15 +160,15 @@ module _ (v : VersionData) (sound : IsSound v) where
   non_starters_ended false ms h = refl
   non_starters_ended true ms h =
       let sorted = list_all-canonical_order (class_of v) (is_non_starter v) ms h in
-      compose_of_is v sound _ ∙ ap (compose (class_of v) (composite v)) (sym (append-nil _)) ∙ compose-non_starters v sound _ [] sorted
+      compose_of_is v sound _ ∙ ap (compose (class_of v) (composite v)) (sym (append-nil _)) ∙ compose-non_starters (class_of v) (composite v) _ [] sorted
       ∙ ap (λ l. canonical_order (class_of v) ms ++ l) (compose-nil (class_of v) (composite v)) ∙ append-nil _
 
   starter_ended : (e : Bool) (s : ℕ) (ms : List ℕ) → class_of v s ≤ 0 → list_all (is_non_starter v) ms ≡ true → IsLastRun v sound (ended v e (canonical_order (class_of v) (s ∷ ms)))
   starter_ended false s ms low h =
-      record { s = s; ms = canonical_order (class_of v) ms; split = order_starter v sound s ms low; starter = omega arith; non_starters = list_all-canonical_order (class_of v) (is_non_starter v) ms h }
+      record { s = s; ms = canonical_order (class_of v) ms; split = order_starter s ms low; starter = omega arith; non_starters = list_all-canonical_order (class_of v) (is_non_starter v) ms h }
   starter_ended true s ms low h =
       let sorted = list_all-canonical_order (class_of v) (is_non_starter v) ms h in
-      let e = compose_of_is v sound _ ∙ composed_starter v sound s ms low in
+      let e = compose_of_is v sound _ ∙ composed_starter s ms low in
       elim (last_after v sound s [] (canonical_order (class_of v) ms) low refl) [
         | inl whole ↦ subst (IsLastRun v sound) (sym e) whole
         | inr part ↦
@@ -140,11 +197,8 @@ module _ (v : VersionData) (sound : IsSound v) where
   shape_behind out ms pending (starter before s ns low) = inr (s, omega arith, refl)
 
   behind_shape : (out ms pending : List ℕ) → ((out ≡ []) × (pending ≡ ms)) ⊎ ((s : ℕ) × (class_of v s ≡ 0) × (pending ≡ s ∷ ms)) → Shape v out ms pending
-  behind_shape out ms pending h =
-      elim h [
-        | inl none ↦ subst (λ l. Shape v l ms pending) (sym none.0) (subst (λ l. Shape v [] ms l) (sym none.1) (no_starter ms))
-        | inr some ↦ subst (λ l. Shape v out ms l) (sym some.2) (starter out some.0 ms (let z = some.1 in omega arith))
-      ]
+  behind_shape out ms pending (inl none) = subst (λ l. Shape v l ms pending) (sym none.0) (subst (λ l. Shape v [] ms l) (sym none.1) (no_starter ms))
+  behind_shape out ms pending (inr some) = subst (λ l. Shape v out ms l) (sym some.2) (starter out some.0 ms (let z = some.1 in omega arith))
 
   -- the state of the stream that has read the whole decomposition
   pub IsStreaming-held : (form : Form) (fed out pending : List ℕ) → IsHeld v (composes form) (flat_map (full_of v (is_compat form)) fed) out pending → IsStreaming v form fed out pending
@@ -189,18 +243,18 @@ module _ (v : VersionData) (sound : IsSound v) where
       }
 
   pub IsStreaming-start : (form : Form) → IsStreaming v form [] [] []
-  IsStreaming-start form = IsStreaming-held form [] [] [] (held_start (composes form))
+  IsStreaming-start form = IsStreaming-held form [] [] [] (record { front = []; non_starters = []; split = refl; all = refl; shape = no_starter []; goes_on = λ zs. refl })
 
-  -- what one more code point of the text does
-  streams_on : (form : Form) (compat e : Bool) (c : ℕ) (parts ready pending ready_after pending_after : List ℕ) → compat ≡ is_compat form → e ≡ composes form → parts ≡ full_of v compat c → (a : Advances v e parts ready pending ready_after pending_after) → (fed out : List ℕ) → IsStreaming v form fed out pending → IsStreaming v form (fed ++ c ∷ []) (out ++ a.more) pending_after
-  streams_on form compat e c parts ready pending ready_after pending_after kind comp of_c a fed out s =
+  -- what more code points of the text do
+  streams_on : (form : Form) (compat e : Bool) (cs parts ready pending ready_after pending_after : List ℕ) → compat ≡ is_compat form → e ≡ composes form → parts ≡ flat_map (full_of v compat) cs → (a : Advances v e parts ready pending ready_after pending_after) → (fed out : List ℕ) → IsStreaming v form fed out pending → IsStreaming v form (fed ++ cs) (out ++ a.more) pending_after
+  streams_on form compat e cs parts ready pending ready_after pending_after kind comp of_cs a fed out s =
       let each = full_of v (is_compat form) in
       let h = subst (λ b. IsHeld v b (flat_map each fed) out pending) (sym comp) (held_streaming form fed out pending s) in
-      let later = a.carries (flat_map each fed) out h in
-      let more : flat_map each fed ++ parts ≡ flat_map each (fed ++ c ∷ []) =
-      ap (λ l. flat_map each fed ++ l) (of_c ∙ ap (λ b. full_of v b c) kind ∙ sym (append-nil (each c))) ∙ sym (flat_map-append each fed (c ∷ [])) in
-      IsStreaming-held form (fed ++ c ∷ []) (out ++ a.more) pending_after
-      (subst (λ l. IsHeld v (composes form) l (out ++ a.more) pending_after) more (subst (λ b. IsHeld v b (flat_map each fed ++ parts) (out ++ a.more) pending_after) comp later))
+      let more : flat_map each fed ++ parts ≡ flat_map each (fed ++ cs) =
+      ap (λ l. flat_map each fed ++ l) (of_cs ∙ ap (λ b. flat_map (full_of v b) cs) kind) ∙ sym (flat_map-append each fed cs) in
+      IsStreaming-held form (fed ++ cs) (out ++ a.more) pending_after
+      (subst (λ l. IsHeld v (composes form) l (out ++ a.more) pending_after) more
+      (subst (λ b. IsHeld v b (flat_map each fed ++ parts) (out ++ a.more) pending_after) comp (a.carries (flat_map each fed) out h)))
 
   pub TakesIn-advances : (form : Form) (c : ℕ) {compat e : Bool} {parts ready pending ready_after pending_after : List ℕ} → compat ≡ is_compat form → e ≡ composes form → parts ≡ full_of v compat c → Advances v e parts ready pending ready_after pending_after
       → TakesIn (record { version = v; form = form; ready = ready; pending = pending }) (record { version = v; form = form; ready = ready_after; pending = pending_after }) c
@@ -210,7 +264,7 @@ module _ (v : VersionData) (sound : IsSound v) where
         ready = a.ready_is;
         version = refl;
         form = refl;
-        carries = streams_on form compat e c parts ready pending ready_after pending_after kind comp of_c a;
+        carries = streams_on form compat e (c ∷ []) parts ready pending ready_after pending_after kind comp (of_c ∙ sym (append-nil (full_of v compat c))) a;
       }
 
   -- a code point of non-starters alone is held back
@@ -221,12 +275,10 @@ module _ (v : VersionData) (sound : IsSound v) where
 
   -- non-starters that are their own full decompositions are held back
   pub holds_non_starters : (form : Form) (compat : Bool) (cs pending fed out : List ℕ) → compat ≡ is_compat form → flat_map (full_of v compat) cs ≡ cs → list_all (is_non_starter v) cs ≡ true → IsStreaming v form fed out pending → IsStreaming v form (fed ++ cs) out (pending ++ cs)
+  unfolding Advances-non_starters Advances-kept
   holds_non_starters form compat cs pending fed out kind own all s =
-      let each = full_of v (is_compat form) in
-      let later = held_all (composes form) (flat_map each fed) out pending cs all (held_streaming form fed out pending s) in
-      let more : flat_map each fed ++ cs ≡ flat_map each (fed ++ cs) =
-      ap (λ l. flat_map each fed ++ l) (sym own ∙ ap (λ b. flat_map (full_of v b) cs) kind) ∙ sym (flat_map-append each fed cs) in
-      IsStreaming-held form (fed ++ cs) out (pending ++ cs) (subst (λ l. IsHeld v (composes form) l out (pending ++ cs)) more later)
+      let held = Advances-non_starters (composes form) [] pending cs all in
+      subst (λ l. IsStreaming v form (fed ++ cs) l (pending ++ cs)) (append-nil out) (streams_on form compat (composes form) cs cs [] pending [] (pending ++ cs) kind refl (sym own) held fed out s)
 
   -- what the end of the text does
   pub whole_streams : (form : Form) (e : Bool) (pending fed out : List ℕ) → e ≡ composes form → IsStreaming v form fed out pending → IsNormalForm v form fed (out ++ ended v e (canonical_order (class_of v) pending))
@@ -234,55 +286,43 @@ module _ (v : VersionData) (sound : IsSound v) where
       subst (λ l. IsNormalForm v form fed (out ++ l))
       (ordered_value form pending s.held s.holds ∙ ap (λ b. ended v b (canonical_order (class_of v) pending)) (sym comp)) s.whole
 
--- ---- a stream's state, where a starter comes: it composes with the starter that is held back, or what is held back is ready
+  -- ---- a stream's state, where a starter comes: it composes with the starter that is held back, or what is held back is ready
 
-module _ (v : VersionData) (sound : IsSound v) where
-  abbrev ccc : ℕ → ℕ
-  ccc = class_of v
-
-  abbrev order : List ℕ → List ℕ
-  order = canonical_order (class_of v)
-
-  -- a non-starter is the first part of no composite
-  no_first : (m d p : ℕ) → list_all (is_non_starter v) (m ∷ []) ≡ true → composite v m d ≡ Some p → ⊥
-  no_first m d p all both =
-      let non_starter = is_starter-false ccc m (not-true _ (and_parts (is_non_starter v m) true all).0) in
-      let first = composite_first v m d p (composite-some v m d p both) in
-      absurd (omega arith)
+  joins_by : (out ms pending : List ℕ) (head d p : ℕ) → Shape v out ms pending → list_all (is_non_starter v) ms ≡ true → class_of v d ≤ 0 → ended v true (order pending) ≡ head ∷ [] → composite v head d ≡ Some p → (zs : List ℕ) → ended v true (order (pending ++ d ∷ zs)) ≡ ended v true (order (p ∷ zs))
+  joins_by out ms pending head d p (no_starter ns) all low is both zs =
+      let one : list_all (is_non_starter v) (head ∷ []) ≡ true =
+      sym (ap (list_all (is_non_starter v)) (sym (non_starters_ended true ns all) ∙ is)) ∙ list_all-canonical_order ccc (is_non_starter v) ns all in
+      let first = composite_first v head d p (composite-some v head d p both) in
+      absurd (non_starter_or_starter v sound head [] [] (omega arith) one)
+  joins_by out ms pending head d p (starter before s ns of_s) all low is both zs =
+      compose_of_is v sound _ ∙ push_joins s ns head d p zs of_s all low (sym (composed_starter s ns of_s) ∙ sym (compose_of_is v sound _) ∙ is) both
+      ∙ sym (compose_of_is v sound _)
 
   -- a starter is blocked by whatever was kept
   blocked_starter : (head : ℕ) (kept : List ℕ) (d : ℕ) → class_of v d ≤ 0 → (kept ≡ [] → composite v head d ≡ None) → joined ccc (composite v) head kept d ≡ None
   blocked_starter head [] d low apart = joined-none ccc (composite v) head [] d (apart refl)
-  blocked_starter head (b ∷ bs) d low apart =
-      joined-blocked ccc (composite v) head (b ∷ bs) d (and_left _ _ (not_reorderable_rising ccc d b (omega arith)))
-
-  joins_by : (out ms pending : List ℕ) (head d p : ℕ) → Shape v out ms pending → list_all (is_non_starter v) ms ≡ true → class_of v d ≤ 0 → ended v true (order pending) ≡ head ∷ [] → composite v head d ≡ Some p → (zs : List ℕ) → ended v true (order (pending ++ d ∷ zs)) ≡ ended v true (order (p ∷ zs))
-  joins_by out ms pending head d p (no_starter ns) all low is both zs =
-      let sorted = list_all-canonical_order ccc (is_non_starter v) ns all in
-      let one = sym (non_starters_ended v sound true ns all) ∙ is in
-      absurd (no_first head d p (sym (ap (list_all (is_non_starter v)) one) ∙ sorted) both)
-  joins_by out ms pending head d p (starter before s ns of_s) all low is both zs =
-      compose_of_is v sound _ ∙ push_joins v sound s ns head d p zs of_s all low (sym (composed_starter v sound s ns of_s) ∙ sym (compose_of_is v sound _) ∙ is) both
-      ∙ sym (compose_of_is v sound _)
+  blocked_starter head (b ∷ bs) d low apart = joined-blocked ccc (composite v) head (b ∷ bs) d (and_left _ _ (not_reorderable_rising ccc d b (omega arith)))
 
   parts_by : (e : Bool) (out ms pending : List ℕ) (d : ℕ) → Shape v out ms pending → list_all (is_non_starter v) ms ≡ true → class_of v d ≤ 0 → ((head : ℕ) → e ≡ true → ended v true (order pending) ≡ head ∷ [] → composite v head d ≡ None) → (zs : List ℕ) → ended v e (order (pending ++ d ∷ zs)) ≡ ended v e (order pending) ++ ended v e (order (d ∷ zs))
-  parts_by false out ms pending d shape all low apart zs = push_plain v sound pending d zs low
+  parts_by false out ms pending d shape all low apart zs = canonical_order-at_starter ccc pending d zs low ∙ ap (λ l. order pending ++ l) (sym (order_starter d zs low))
   parts_by true out ms pending d (no_starter ns) all low apart zs =
-      compose_of_is v sound _ ∙ push_first v sound ns d zs all low
-      ∙ ap (λ l. l ++ compose ccc (composite v) (order (d ∷ zs))) (sym (non_starters_ended v sound true ns all)) ∙ ap (λ l. ended v true (order ns) ++ l) (sym (compose_of_is v sound _))
+      compose_of_is v sound _ ∙ push_first ns d zs all low
+      ∙ ap (λ l. l ++ compose ccc (composite v) (order (d ∷ zs))) (sym (non_starters_ended true ns all)) ∙ ap (λ l. ended v true (order ns) ++ l) (sym (compose_of_is v sound _))
   parts_by true out ms pending d (starter before s ns of_s) all low apart zs =
       compose_of_is v sound _
-      ∙ push_parts v sound s ns d zs of_s all low
+      ∙ push_parts s ns d zs of_s all low
       (λ head kept is. blocked_starter head kept d low
-      (λ none. apart head refl (compose_of_is v sound _ ∙ composed_starter v sound s ns of_s ∙ is ∙ ap (λ l. head ∷ l) none)))
+      (λ none. apart head refl (compose_of_is v sound _ ∙ composed_starter s ns of_s ∙ is ∙ ap (λ l. head ∷ l) none)))
       ∙ ap (λ l. l ++ compose ccc (composite v) (order (d ∷ zs))) (sym (compose_of_is v sound _)) ∙ ap (λ l. ended v true (order (s ∷ ns)) ++ l) (sym (compose_of_is v sound _))
 
   -- the starter composes with the one that is held back, where no non-starter is left between
   pub held_joins : (ds out pending : List ℕ) (head d p : ℕ) → class_of v d ≤ 0 → IsHeld v true ds out pending → ended v true (order pending) ≡ head ∷ [] → composite v head d ≡ Some p → IsHeld v true (ds ++ d ∷ []) out (p ∷ [])
   held_joins ds out pending head d p low h is both =
-      held_join v sound true ds out pending d p (let e = composite-starter v sound head d p both in omega arith) h
-      (joins_by out h.non_starters pending head d p h.shape h.all low is both)
+      held_alone true ds out pending out d p (let e = composite-starter v sound head d p both in omega arith) h
+      (λ zs. ap (λ l. out ++ l) (joins_by out h.non_starters pending head d p h.shape h.all low is both zs))
 
   -- else what is held back is ready
   pub held_parts : (e : Bool) (ds out pending : List ℕ) (d : ℕ) → class_of v d ≤ 0 → IsHeld v e ds out pending → ((head : ℕ) → e ≡ true → ended v true (order pending) ≡ head ∷ [] → composite v head d ≡ None) → IsHeld v e (ds ++ d ∷ []) (out ++ ended v e (order pending)) (d ∷ [])
-  held_parts e ds out pending d low h apart = held_flush v sound e ds out pending d low h (parts_by e out h.non_starters pending d h.shape h.all low apart)
+  held_parts e ds out pending d low h apart =
+      held_alone e ds out pending (out ++ ended v e (order pending)) d d low h
+      (λ zs. ap (λ l. out ++ l) (parts_by e out h.non_starters pending d h.shape h.all low apart zs) ∙ sym (append_assoc out _ _))

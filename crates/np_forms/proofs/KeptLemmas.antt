@@ -1,14 +1,13 @@
 -- What a normal form keeps: its decomposition, and a property of each code point.
-use Rattle.std.proofs.Common.{◌≡◌, ℕ, Bool, true, false, List, sym, ap, subst, ◌∙◌}
-use Rattle.np_forms.proofs.Words.{list_all, VersionData, class_of, is_final, full_of, is_ordered, canonical_order}
-use Rattle.np_forms.proofs.Words.{composite, compose_of, IsSound, Form, is_compat, composes, IsDecomposed, IsNormalForm}
-use Rattle.np_forms.proofs.Words.{decomposed, ended, normal_form}
+use Rattle.std.proofs.Common.{◌≡◌, ℕ, Bool, true, false, List, refl, sym, ap, subst, ◌∙◌}
+use Rattle.np_forms.proofs.Words.{list_all, VersionData, class_of, is_final, full_of, is_ordered, canonical_order, composite, compose_of, IsSound, Form}
+use Rattle.np_forms.proofs.Words.{is_compat, composes, IsDecomposed, IsNormalForm, decomposed, ended, normal_form}
 use Rattle.np_forms.specs.Laws.{Idempotence, SameForms}
 use Rattle.np_forms.proofs.OrderLemmas.{canonical_order-ordered, is_ordered-canonical_order, list_all-canonical_order}
 use Rattle.np_forms.proofs.ComposeLemmas.{decomposed-compose}
 use Rattle.np_tables.proofs.MappingLemmas.{full_of-final, final-decomposed, flat_map-final}
 use Rattle.np_tables.proofs.CompositeLemmas.{composite-splits}
-use Rattle.np_forms.proofs.FormLemmas.{IsDecomposed-decomposed, decomposed_is, IsNormalForm-normal_form, normal_form_is}
+use Rattle.np_forms.proofs.FormLemmas.{IsDecomposed-decomposed, decomposed_is, IsEquivalent-lists, IsNormalForm-normal_form, normal_form_is}
 
 module _ (v : VersionData) (sound : IsSound v) where
   pub is_ordered-decomposed : (compat : Bool) (xs : List ℕ) → is_ordered (class_of v) (decomposed v compat xs) ≡ true
@@ -44,10 +43,6 @@ module _ (v : VersionData) (sound : IsSound v) where
   unfolding normal_form
   normal_form-twice form xs = ap (ended v (composes form)) (decomposed-normal_form form xs)
 
-form_from_decomposed : (v : VersionData) (form : Form) (xs ys : List ℕ) → decomposed v (is_compat form) xs ≡ decomposed v (is_compat form) ys → normal_form v form xs ≡ normal_form v form ys
-unfolding normal_form
-form_from_decomposed v form xs ys e = ap (ended v (composes form)) e
-
 pub idempotence : Idempotence
 idempotence v form xs ys ds sound is of_xs =
     let same = normal_form_is v sound form xs ys is in
@@ -57,19 +52,12 @@ idempotence v form xs ys ds sound is of_xs =
     (subst (λ l. IsNormalForm v form ys l) twice (IsNormalForm-normal_form v sound form ys), subst (λ l. IsDecomposed v (is_compat form) ys l) kept (IsDecomposed-decomposed v sound (is_compat form) ys))
 
 pub same_forms : SameForms
+unfolding normal_form
 same_forms v form xs ys ks ls sound of_xs of_ys =
     let k = normal_form_is v sound form xs ks of_xs in
     let l = normal_form_is v sound form ys ls of_ys in
-    let compat = is_compat form in (
-      λ same.
-          let one : decomposed v compat xs ≡ decomposed v compat ys =
-          sym (decomposed-normal_form v sound form xs) ∙ ap (decomposed v compat) (sym k ∙ same ∙ l) ∙ decomposed-normal_form v sound form ys in
-          record {
-            decomposed = decomposed v compat ys;
-            left = subst (λ z. IsDecomposed v compat xs z) one (IsDecomposed-decomposed v sound compat xs);
-            right = IsDecomposed-decomposed v sound compat ys;
-          },
-      λ alike.
-          let one = sym (decomposed_is v sound compat xs alike.decomposed alike.left) ∙ decomposed_is v sound compat ys alike.decomposed alike.right in
-          k ∙ form_from_decomposed v form xs ys one ∙ sym l,
+    let compat = is_compat form in
+    IsEquivalent-lists v sound compat xs ys (decomposed v compat xs) (decomposed v compat ys) (ks ≡ ls) refl refl (
+      λ same. sym (decomposed-normal_form v sound form xs) ∙ ap (decomposed v compat) (sym k ∙ same ∙ l) ∙ decomposed-normal_form v sound form ys,
+      λ one. k ∙ ap (ended v (composes form)) one ∙ sym l,
     )

@@ -1,31 +1,29 @@
 -- A normal form is at most so long: 64 code points for each code point of the text, and 256 bytes for each byte.
 use Rattle.std.proofs.Common.{◌≡◌, ◌≢◌, ℕ, zero, suc, ◌+◌, ◌*◌, ◌≤◌, Bool, true, false, List, [], ◌∷◌, ◌++◌, length, flat_map, Option, chars, IsUtf8, encode_utf8, encode_utf8_all, refl, sym, ap, ◌∙◌, inl, inr, arith, length-append, append-nil}
-use Rattle.np_forms.proofs.Words.{cond-true, cond-false, cases_Bool, encodes-chars, length-encode, len_utf8_bounds}
-use Rattle.np_forms.proofs.Words.{length-le-encodes, is_compat, composes, ReachesIn, Form, IsNormalForm, compose_after}
-use Rattle.np_forms.proofs.Words.{compose, compose_of, decomposed, ended, normal_form, composite, IsSound, counts}
-use Rattle.np_forms.proofs.Words.{parts, Rewrites, is_final, IsFullDecomposition, VersionData, class_of}
-use Rattle.np_forms.proofs.Words.{decomposition_kind, full, full_of}
-use Rattle.np_code_points.proofs.StepsLemmas.{join}
+use Rattle.np_forms.proofs.Words.{cond-true, cond-false, cases_Bool, encodes-chars, length-encode, len_utf8_bounds, length-le-encodes, is_compat, composes}
+use Rattle.np_forms.proofs.Words.{Form, IsNormalForm, compose_after, compose, compose_of, decomposed, ended, normal_form, composite, IsSound, counts, parts}
+use Rattle.np_forms.proofs.Words.{is_empty, is_final, VersionData, class_of, decomposition_kind, full, full_of}
 use Rattle.np_forms.proofs.ComposeLemmas.{compose_after-nil, compose_after-cases, compose-nil, compose-cases}
 use Rattle.np_forms.proofs.FormLemmas.{normal_form_is}
 use Rattle.np_forms.proofs.OrderLemmas.{length-canonical_order}
-use Rattle.np_tables.proofs.MappingLemmas.{is_empty-false, full-final, full-mapped, IsFullDecomposition-flat_map, full_decomposition-flat_map}
+use Rattle.np_tables.proofs.MappingLemmas.{is_empty-false, full-final, full-mapped, IsFullDecomposition-flat_map}
 use Rattle.np_ucd.specs.declared.rows.MapKind.{MapKind}
 use Rattle.np_ucd.specs.declared.rows.MapKind.TheVariants.{Plain, Canonical, Compatibility}
 
 -- ---- lists
 
-length-flat_map-some : (f : ℕ → List ℕ) → ((c : ℕ) → 1 ≤ length (f c)) → (xs : List ℕ) → length xs ≤ length (flat_map f xs)
-length-flat_map-some f some [] = omega arith
-length-flat_map-some f some (x ∷ xs) = omega (arith, some x, length-flat_map-some f some xs, length-append (f x) (flat_map f xs))
+length-flat_map-some : (f : ℕ → List ℕ) → ((c : ℕ) → 1 ≤ length (f c)) → (xs : List ℕ) → xs ≢ [] → 1 ≤ length (flat_map f xs)
+length-flat_map-some f some [] h = absurd (h refl)
+length-flat_map-some f some (x ∷ xs) h = omega (arith, some x, length-append (f x) (flat_map f xs))
 
 length-flat_map-most : (f : ℕ → List ℕ) → ((c : ℕ) → length (f c) ≤ 64) → (xs : List ℕ) → length (flat_map f xs) ≤ 64 * length xs
 length-flat_map-most f most [] = omega arith
 length-flat_map-most f most (x ∷ xs) = omega (arith, most x, length-flat_map-most f most xs, length-append (f x) (flat_map f xs))
 
-some-length : (xs : List ℕ) → xs ≢ [] → 1 ≤ length xs
-some-length [] h = absurd (h refl)
-some-length (x ∷ xs) h = omega arith
+length-flat_map-more : (f g : ℕ → List ℕ) → ((c : ℕ) → length (f c) ≤ length (g c)) → (xs : List ℕ) → length (flat_map f xs) ≤ length (flat_map g xs)
+length-flat_map-more f g more [] = omega arith
+length-flat_map-more f g more (x ∷ xs) =
+    omega (arith, more x, length-flat_map-more f g more xs, length-append (f x) (flat_map f xs), length-append (g x) (flat_map g xs))
 
 -- ---- full decompositions
 
@@ -36,18 +34,8 @@ module _ (v : VersionData) where
   length-full compat (suc n) c =
       elim (cases_Bool (is_final v compat c)) [
         | inl final ↦ omega (arith, ap length (full-final v compat (suc n) c final))
-        | inr mapped ↦
-            omega (
-              arith,
-              ap length (full-mapped v compat n c mapped),
-              some-length (parts v compat c) (is_empty-false _ mapped),
-              length-flat_map-some (full v compat n) (length-full compat n) (parts v compat c),
-            )
+        | inr mapped ↦ omega (arith, ap length (full-mapped v compat n c mapped), length-flat_map-some (full v compat n) (length-full compat n) (parts v compat c) (is_empty-false _ mapped))
       ]
-
-  length-full_of : (compat : Bool) (c : ℕ) → 1 ≤ length (full_of v compat c)
-  unfolding full_of
-  length-full_of compat c = length-full compat 32 c
 
   counts-more : (kind : MapKind) → counts false kind ≡ true → counts true kind ≡ true
   counts-more Plain h = h
@@ -62,47 +50,27 @@ module _ (v : VersionData) where
         | inr off ↦ absurd (some (cond-false _ _ _ off))
       ]
 
-  rewrites-more : (xs ys : List ℕ) → Rewrites v false xs ys → Rewrites v true xs ys
-  rewrites-more xs ys r =
-      let same = parts-more r.code r.maps in
-      record {
-        before = r.before;
-        code = r.code;
-        after = r.after;
-        maps = λ none. r.maps (sym same ∙ none);
-        old = r.old;
-        new = r.new ∙ ap (λ l. r.before ++ (l ++ r.after)) (sym same);
-      }
-
-  reaches-more : (n : ℕ) (xs ys : List ℕ) → ReachesIn (Rewrites v false) n xs ys → ReachesIn (Rewrites v true) n xs ys
-  reaches-more zero xs ys e = e
-  reaches-more (suc n) xs ys s = (s.0, rewrites-more xs s.0 s.1, reaches-more n s.0 ys s.2)
+  -- no canonical decomposition is longer than the compatibility decomposition
+  full-more : (n c : ℕ) → length (full v false n c) ≤ length (full v true n c)
+  unfolding full
+  full-more zero c = omega arith
+  full-more (suc n) c =
+      elim (cases_Bool (is_final v false c)) [
+        | inl final ↦ omega (arith, ap length (full-final v false (suc n) c final), length-full true (suc n) c)
+        | inr mapped ↦
+            let same = parts-more c (is_empty-false _ mapped) in
+            let more = full-mapped v true n c (ap is_empty same ∙ mapped) ∙ ap (flat_map (full v true n)) same in
+            omega (arith, ap length (full-mapped v false n c mapped), ap length more, length-flat_map-more (full v false n) (full v true n) (full-more n) (parts v false c))
+      ]
 
   module _ (sound : IsSound v) where
-    -- the canonical decomposition, decomposed compatibly
-    further : (c : ℕ) → flat_map (full_of v true) (full_of v false c) ≡ full_of v true c
-    further c =
-        let shallow = sound.shallow in
-        let first = IsFullDecomposition-flat_map v false shallow (c ∷ []) in
-        let front = flat_map (full_of v false) (c ∷ []) in
-        let then_ = IsFullDecomposition-flat_map v true shallow front in
-        let is : IsFullDecomposition v true (c ∷ []) (flat_map (full_of v true) front) =
-        record {
-          reached = join (Rewrites v true) (c ∷ []) front _ (first.reached.0, reaches-more first.reached.0 (c ∷ []) front first.reached.1) then_.reached;
-          final = then_.final;
-        } in
-        ap (flat_map (full_of v true)) (sym (append-nil (full_of v false c)))
-        ∙ full_decomposition-flat_map v true shallow (c ∷ []) _ is ∙ append-nil (full_of v true c)
-
     short-compatible : (c : ℕ) → length (full_of v true c) ≤ 64
-    short-compatible c =
-        let whole = sound.short c (flat_map (full_of v true) (c ∷ [])) (IsFullDecomposition-flat_map v true sound.shallow (c ∷ [])) in
-        omega (arith, whole, ap length (append-nil (full_of v true c)))
+    short-compatible c = omega (arith, sound.short c _ (IsFullDecomposition-flat_map v true sound.shallow (c ∷ [])), ap length (append-nil (full_of v true c)))
 
     short : (compat : Bool) (c : ℕ) → length (full_of v compat c) ≤ 64
+    unfolding full_of
     short true c = short-compatible c
-    short false c =
-        omega (arith, short-compatible c, ap length (further c), length-flat_map-some (full_of v true) (length-full_of true) (full_of v false c))
+    short false c = omega (arith, short-compatible c, full-more 32 c)
 
     length-decomposed : (compat : Bool) (xs : List ℕ) → length (decomposed v compat xs) ≤ 64 * length xs
     unfolding decomposed

@@ -12,7 +12,6 @@ pub mod LengthLemmas
 pub mod MachineLemmas
 pub mod OrderLemmas
 pub mod OutTextLemmas
-pub mod PendingLemmas
 pub mod PieceLemmas
 pub mod PrecomputedLemmas
 pub mod QuickSpanLemmas

@@ -1,17 +1,15 @@
 -- The machine of composition stops with one list, which `compose` computes.
-use Rattle.std.proofs.Common.{◌≡◌, ◌≢◌, ℕ, zero, suc, ◌+◌, ◌-◌, ◌<◌, ◌≤◌, ◌⊎◌, Bool, true, false, not, List, [], ◌∷◌, ◌++◌, length, get_or, drop, set, Option, Some, None, refl, sym, ap, ap₂, subst, ◌∙◌, arith, inl, inr, append_assoc, append-nil, length-append}
-use Rattle.np_forms.proofs.Words.{cases_Bool, cases_lt, cases_order, and_parts, and_from, not-true, not_from_false}
-use Rattle.np_forms.proofs.Words.{and_cases, eqb-false, both_ways, get_or-append-add, get_or_append_left, get_or_at}
-use Rattle.np_forms.proofs.Words.{set_at, take_at, list_all, remove, Reaches, ReachesIn, VersionData, class_of}
-use Rattle.np_forms.proofs.Words.{is_reorderable, is_free, joined, compose_after, compose, compose_of, is_starter}
-use Rattle.np_forms.proofs.Words.{composite, IsSound}
+use Rattle.std.proofs.Common.{◌≡◌, ◌≢◌, ℕ, zero, suc, ◌+◌, ◌-◌, ◌<◌, ◌≤◌, ◌⊎◌, Bool, true, false, not, List, [], ◌∷◌, ◌++◌, length, get_or, set, Option, Some, None, refl, sym, ap, ap₂, subst, ◌∙◌, arith, inl, inr, append_assoc, append-nil, length-append}
+use Rattle.np_forms.proofs.Words.{cases_Bool, cases_order, and_parts, and_from, not-true, not_from_false, and_cases, eqb-false, both_ways, get_or-append-add}
+use Rattle.np_forms.proofs.Words.{get_or_append_left, get_or_at, set_at, list_all, remove, Reaches, ReachesIn, VersionData, class_of, is_reorderable, is_free}
+use Rattle.np_forms.proofs.Words.{joined, compose_after, compose, compose_of, is_starter, composite, IsSound}
 use Rattle.std.proofs.lemmas.List.Edits.{remove-append_right}
 use Rattle.np_forms.specs.Composition.{IsBlocked, IsLastStarter, Joins, Stage, ComposeStep, IsComposed}
 use Rattle.np_code_points.proofs.StepsLemmas.{stays, one_more}
 use Rattle.np_tables.proofs.MappingLemmas.{list_all-append}
 use Rattle.np_forms.proofs.OrderLemmas.{is_reorderable-false, not_reorderable_starter, not_reorderable_rising}
-use Rattle.np_forms.proofs.ComposeLemmas.{not_starter_from, joined-some, joined-free, compose_after-nil, compose_after-joined, compose_after-starter, compose_after-kept, compose-nil, compose-starter, compose-non_starter}
-use Rattle.np_tables.proofs.CompositeLemmas.{cases_Option, composite-some, composite-none}
+use Rattle.np_forms.proofs.ComposeLemmas.{not_starter_from, joined-some, joined-free, compose_after-nil, compose_after-cases, compose-nil, compose-cases}
+use Rattle.np_tables.proofs.CompositeLemmas.{composite-some, composite-none}
 
 -- ---- tests along a list, by index
 
@@ -28,10 +26,6 @@ list_all-fails p (x ∷ xs) h =
       | inl here ↦ (zero, omega arith, here)
       | inr later ↦ let found = list_all-fails p xs later in (suc found.0, omega (arith, found.1), found.2)
     ]
-
-drop_past : (bs : List ℕ) (c : ℕ) (cs : List ℕ) → drop (suc (length bs)) (bs ++ c ∷ cs) ≡ cs
-drop_past [] c cs = refl
-drop_past (b ∷ bs) c cs = drop_past bs c cs
 
 -- the machine, begun at this stage, stops with ys
 record Halts (v : VersionData) (start : Stage) (ys : List ℕ) : Type 0 where
@@ -50,6 +44,13 @@ module _ (v : VersionData) (sound : IsSound v) where
 
   abbrev are_non_starters : List ℕ → Bool
   are_non_starters bs = list_all (λ b. not (is_starter ccc b)) bs
+
+  one_starter : (xs : List ℕ) (n q r : ℕ) → IsLastStarter v xs n q → IsLastStarter v xs n r → q ≡ r
+  one_starter xs n q r h k =
+      elim (cases_order q r) [
+        | inl same ↦ same
+        | inr other ↦ elim other [ inl below ↦ absurd (h.greatest r below k.below k.starter) | inr above ↦ absurd (k.greatest q above h.below h.starter) ]
+      ]
 
   module _ (done : List ℕ) (s : ℕ) (bs : List ℕ) (c : ℕ) (cs : List ℕ) where
     abbrev shown : List ℕ
@@ -89,19 +90,6 @@ module _ (v : VersionData) (sound : IsSound v) where
             greatest = between (λ x. class_of v x ≢ 0) (λ j lt e. eqb-false (ccc (get_or bs j 0)) 0 (not-true _ (list_all-at (λ b. not (is_starter ccc b)) bs j non_starters lt)) e);
           }
 
-      last_starter_is : (q' : ℕ) → IsLastStarter v shown p q' → q' ≡ q
-      last_starter_is q' h =
-          elim (cases_order q' q) [
-            | inl same ↦ same
-            | inr other ↦ elim other [ inl below ↦ absurd (h.greatest q below last_starter.below last_starter.starter) | inr above ↦ absurd (last_starter.greatest q' above h.below h.starter) ]
-          ]
-
-      blocks_at : (b : ℕ) → is_reorderable ccc c b ≡ false → (class_of v b ≡ 0) ⊎ (class_of v c ≤ class_of v b)
-      blocks_at b h = elim (is_reorderable-false ccc c b h) [ inl low ↦ inl (omega arith) | inr high ↦ inr high ]
-
-      blocks_from : (b : ℕ) → (class_of v b ≡ 0) ⊎ (class_of v c ≤ class_of v b) → is_reorderable ccc c b ≡ false
-      blocks_from b h = elim h [ inl zero_class ↦ not_reorderable_starter ccc c b (omega arith) | inr high ↦ not_reorderable_rising ccc c b high ]
-
       blocked : is_free ccc bs c ≡ false → IsBlocked v shown q p
       blocked h =
           let found = list_all-fails (is_reorderable ccc c) bs h in
@@ -111,55 +99,54 @@ module _ (v : VersionData) (sound : IsSound v) where
             behind = omega arith;
             before = omega (arith, found.1);
             blocks = subst (λ x. (class_of v x ≡ 0) ⊎ (class_of v (get_or shown p 0) ≤ class_of v x)) (sym here)
-                (subst (λ y. (class_of v (get_or bs found.0 0) ≡ 0) ⊎ (class_of v y ≤ class_of v (get_or bs found.0 0))) (sym at_p) (blocks_at (get_or bs found.0 0) found.2));
+                (subst (λ y. (class_of v (get_or bs found.0 0) ≡ 0) ⊎ (class_of v y ≤ class_of v (get_or bs found.0 0))) (sym at_p)
+                (elim (is_reorderable-false ccc c (get_or bs found.0 0) found.2) [ inl low ↦ inl (omega arith) | inr high ↦ inr high ]));
           }
 
       free : is_free ccc bs c ≡ true → ¬ IsBlocked v shown q p
       free h b =
           between (λ x. ((class_of v x ≡ 0) ⊎ (class_of v (get_or shown p 0) ≤ class_of v x)) → ⊥)
           (λ j lt w. both_ways _
-          (blocks_from (get_or bs j 0) (subst (λ y. (class_of v (get_or bs j 0) ≡ 0) ⊎ (class_of v y ≤ class_of v (get_or bs j 0))) at_p w))
+          (elim (subst (λ y. (class_of v (get_or bs j 0) ≡ 0) ⊎ (class_of v y ≤ class_of v (get_or bs j 0))) at_p w) [
+            | inl zero_class ↦ not_reorderable_starter ccc c (get_or bs j 0) (omega arith)
+            | inr high ↦ not_reorderable_rising ccc c (get_or bs j 0) high
+          ])
           (list_all-at (is_reorderable ccc c) bs j h lt))
           b.at b.behind b.before b.blocks
 
-      joins_in : (k : ℕ) → joined ccc join s bs c ≡ Some k → Joins v shown p q k
-      joins_in k h =
+      step_in : (k : ℕ) → joined ccc join s bs c ≡ Some k → ComposeStep v (record { text = shown; place = p }) (record { text = done ++ k ∷ (bs ++ cs); place = p })
+      step_in k h =
+          let removed : remove (set shown q k) p ≡ done ++ k ∷ (bs ++ cs) =
+          ap (λ l. remove l p) (set_at done s (bs ++ c ∷ cs) k (length done) refl ∙ sym (append_assoc done (k ∷ bs) (c ∷ cs)))
+          ∙ remove-append_right (done ++ k ∷ bs) (c ∷ cs) p p (omega (arith, length-append done (k ∷ bs))) (omega arith)
+          ∙ ap (λ i. (done ++ k ∷ bs) ++ remove (c ∷ cs) i) (let e : p - p ≡ 0 = omega arith in e) ∙ append_assoc done (k ∷ bs) cs in
           let halves = joined-some ccc join s bs c k h in
           let is = composite-some v s c k halves.1 in
-          record {
-            seek = last_starter;
-            free = free halves.0;
-            pair = record { primary = is.primary; mapping = is.mapping ∙ ap₂ (λ x y. x ∷ y ∷ []) (sym at_q) (sym at_p) };
-          }
+          let mapping = is.mapping ∙ ap₂ (λ x y. x ∷ y ∷ []) (sym at_q) (sym at_p) in
+          let joins : Joins v shown p q k = record { seek = last_starter; free = free halves.0; pair = record { primary = is.primary; mapping = mapping } } in
+          (p_within, inl (record { q = q; c = k; joins = joins; text = sym removed; place = refl }))
 
-      joins_out : joined ccc join s bs c ≡ None → (q' k : ℕ) → ¬ Joins v shown p q' k
-      joins_out h q' k j =
-          let same = last_starter_is q' j.seek in
+      step_on : joined ccc join s bs c ≡ None → ComposeStep v (record { text = shown; place = p }) (record { text = shown; place = p + 1 })
+      step_on h =
+          let none : (q' k : ℕ) → ¬ Joins v shown p q' k = λ q' k j.
+          let same = one_starter shown p q' q j.seek last_starter in
           elim (cases_Bool (is_free ccc bs c)) [
             | inl is ↦
                 composite-none v sound s c k (sym (joined-free ccc join s bs c is) ∙ h)
                 (record { primary = j.pair.primary; mapping = j.pair.mapping ∙ ap₂ (λ x y. x ∷ y ∷ []) (ap (λ i. get_or shown i 0) same ∙ at_q) at_p })
             | inr isnt ↦ j.free (subst (λ i. IsBlocked v shown i p) (sym same) (blocked isnt))
-          ]
-
-      after_join : (k : ℕ) → remove (set shown q k) p ≡ done ++ k ∷ (bs ++ cs)
-      after_join k =
-          ap (λ l. remove l p) (set_at done s (bs ++ c ∷ cs) k (length done) refl)
-          ∙ remove-append_right done (k ∷ (bs ++ c ∷ cs)) (length done) p refl (omega arith)
-          ∙ ap (λ l. done ++ l) (ap (remove (k ∷ (bs ++ c ∷ cs))) (let e : p - length done ≡ suc (length bs) = omega arith in e)
-          ∙ ap (λ l. k ∷ l) (ap₂ (λ l m. l ++ m) (take_at bs (c ∷ cs) (length bs) refl) (drop_past bs c cs)))
-
-      step_in : (k : ℕ) → joined ccc join s bs c ≡ Some k → ComposeStep v (record { text = shown; place = p }) (record { text = done ++ k ∷ (bs ++ cs); place = p })
-      step_in k h = (p_within, inl (record { q = q; c = k; joins = joins_in k h; text = sym (after_join k); place = refl }))
-
-      step_on : joined ccc join s bs c ≡ None → ComposeStep v (record { text = shown; place = p }) (record { text = shown; place = p + 1 })
-      step_on h = (p_within, inr (record { none = joins_out h; text = refl; place = refl }))
+          ] in
+          (p_within, inr (record { none = none; text = refl; place = refl }))
 
   halts_after_step : (a b : Stage) (ys : List ℕ) → ComposeStep v a b → Halts v b ys → Halts v a ys
   halts_after_step a b ys s h = record { place = h.place; reached = one_more (ComposeStep v) a b _ s h.reached; ended = h.ended }
 
   abbrev at_stage : List ℕ → ℕ → List ℕ → Type 0
   at_stage xs n ys = Halts v (record { text = xs; place = n }) ys
+
+  one_more_non_starter : (bs : List ℕ) (c : ℕ) → are_non_starters bs ≡ true → 0 < class_of v c → are_non_starters (bs ++ c ∷ []) ≡ true
+  one_more_non_starter bs c non_starters non_starter =
+      list_all-append (λ b. not (is_starter ccc b)) bs (c ∷ []) non_starters (and_from _ _ (not_from_false _ (not_starter_from ccc c non_starter)) refl)
 
   -- from a last starter on
   run_after : (done : List ℕ) (s : ℕ) (bs cs : List ℕ) → class_of v s ≤ 0 → are_non_starters bs ≡ true → at_stage (done ++ s ∷ (bs ++ cs)) (length done + suc (length bs)) (done ++ compose_after ccc join s bs cs)
@@ -170,34 +157,24 @@ module _ (v : VersionData) (sound : IsSound v) where
       subst (λ l. at_stage (done ++ s ∷ (bs ++ [])) (length done + suc (length bs)) l) same
       (record { place = length done + suc (length bs); reached = stays (ComposeStep v) _; ended = size })
   run_after done s bs (c ∷ cs) starter non_starters =
-      let here = done ++ s ∷ (bs ++ c ∷ cs) in
       let place = length done + suc (length bs) in
-      elim (cases_Option (joined ccc join s bs c)) [
-        | inl none ↦
-            elim (cases_lt 0 (class_of v c)) [
-              | inl non_starter ↦
-                  subst (λ l. at_stage here place (done ++ l)) (sym (compose_after-kept ccc join s bs c cs none non_starter))
-                  (halts_after_step _ _ _ (step_on done s bs c cs starter non_starters none)
-                  (subst (λ l. at_stage (done ++ s ∷ l) (place + 1) (done ++ compose_after ccc join s (bs ++ c ∷ []) cs)) (append_assoc bs (c ∷ []) cs)
-                  (let size : length done + suc (length (bs ++ c ∷ [])) ≡ place + 1 = omega (arith, length-append bs (c ∷ [])) in
-                  subst (λ n. at_stage (done ++ s ∷ ((bs ++ c ∷ []) ++ cs)) n (done ++ compose_after ccc join s (bs ++ c ∷ []) cs)) size
-                  (run_after done s (bs ++ c ∷ []) cs starter
-                  (list_all-append (λ b. not (is_starter ccc b)) bs (c ∷ []) non_starters (and_from _ _ (not_from_false _ (not_starter_from ccc c non_starter)) refl))))))
-              | inr starts ↦
-                  subst (λ l. at_stage here place (done ++ l)) (sym (compose_after-starter ccc join s bs c cs none starts))
-                  (halts_after_step _ _ _ (step_on done s bs c cs starter non_starters none)
-                  (subst (λ l. at_stage l (place + 1) (done ++ s ∷ (bs ++ compose_after ccc join c [] cs))) (append_assoc done (s ∷ bs) (c ∷ cs))
-                  (subst (λ l. at_stage ((done ++ s ∷ bs) ++ c ∷ cs) (place + 1) l) (append_assoc done (s ∷ bs) (compose_after ccc join c [] cs))
-                  (let size : length (done ++ s ∷ bs) + 1 ≡ place + 1 = omega (arith, length-append done (s ∷ bs)) in
-                  subst (λ n. at_stage ((done ++ s ∷ bs) ++ c ∷ cs) n ((done ++ s ∷ bs) ++ compose_after ccc join c [] cs)) size
-                  (run_after (done ++ s ∷ bs) c [] cs starts refl)))))
-            ]
-        | inr some ↦
-            let is = composite-some v s c some.0 (joined-some ccc join s bs c some.0 some.1).1 in
-            subst (λ l. at_stage here place (done ++ l)) (sym (compose_after-joined ccc join s bs c some.0 cs some.1))
-            (halts_after_step _ _ _ (step_in done s bs c cs starter non_starters some.0 some.1)
-            (run_after done some.0 bs cs (let e = is.primary.starter in omega arith) non_starters))
-      ]
+      compose_after-cases ccc join s bs c cs (λ l. at_stage (done ++ s ∷ (bs ++ c ∷ cs)) place (done ++ l))
+      (λ k free pair.
+      let is = composite-some v s c k pair in
+      halts_after_step _ _ _ (step_in done s bs c cs starter non_starters k (joined-free ccc join s bs c free ∙ pair))
+      (run_after done k bs cs (let e = is.primary.starter in omega arith) non_starters))
+      (λ none starts.
+      halts_after_step _ _ _ (step_on done s bs c cs starter non_starters none)
+      (subst (λ l. at_stage l (place + 1) (done ++ s ∷ (bs ++ compose_after ccc join c [] cs))) (append_assoc done (s ∷ bs) (c ∷ cs))
+      (subst (λ l. at_stage ((done ++ s ∷ bs) ++ c ∷ cs) (place + 1) l) (append_assoc done (s ∷ bs) (compose_after ccc join c [] cs))
+      (let size : length (done ++ s ∷ bs) + 1 ≡ place + 1 = omega (arith, length-append done (s ∷ bs)) in
+      subst (λ n. at_stage ((done ++ s ∷ bs) ++ c ∷ cs) n ((done ++ s ∷ bs) ++ compose_after ccc join c [] cs)) size (run_after (done ++ s ∷ bs) c [] cs starts refl)))))
+      (λ none non_starter.
+      halts_after_step _ _ _ (step_on done s bs c cs starter non_starters none)
+      (subst (λ l. at_stage (done ++ s ∷ l) (place + 1) (done ++ compose_after ccc join s (bs ++ c ∷ []) cs)) (append_assoc bs (c ∷ []) cs)
+      (let size : length done + suc (length (bs ++ c ∷ [])) ≡ place + 1 = omega (arith, length-append bs (c ∷ [])) in
+      subst (λ n. at_stage (done ++ s ∷ ((bs ++ c ∷ []) ++ cs)) n (done ++ compose_after ccc join s (bs ++ c ∷ []) cs)) size
+      (run_after done s (bs ++ c ∷ []) cs starter (one_more_non_starter bs c non_starters non_starter)))))
 
   -- no starter yet
   no_starter : (ms cs : List ℕ) → are_non_starters ms ≡ true → (q k : ℕ) → ¬ Joins v (ms ++ cs) (length ms) q k
@@ -213,49 +190,26 @@ module _ (v : VersionData) (sound : IsSound v) where
   run_before ms (c ∷ cs) non_starters =
       let step : ComposeStep v (record { text = ms ++ c ∷ cs; place = length ms }) (record { text = ms ++ c ∷ cs; place = length ms + 1 }) =
       (omega (arith, length-append ms (c ∷ cs)), inr (record { none = no_starter ms (c ∷ cs) non_starters; text = refl; place = refl })) in
-      elim (cases_lt 0 (class_of v c)) [
-        | inl non_starter ↦
-            subst (λ l. at_stage (ms ++ c ∷ cs) (length ms) (ms ++ l)) (sym (compose-non_starter ccc join c cs non_starter))
-            (halts_after_step _ _ _ step
-            (subst (λ l. at_stage l (length ms + 1) (ms ++ c ∷ compose ccc join cs)) (append_assoc ms (c ∷ []) cs)
-            (subst (λ l. at_stage ((ms ++ c ∷ []) ++ cs) (length ms + 1) l) (append_assoc ms (c ∷ []) (compose ccc join cs))
-            (let size : length (ms ++ c ∷ []) ≡ length ms + 1 = omega (arith, length-append ms (c ∷ [])) in
-            subst (λ n. at_stage ((ms ++ c ∷ []) ++ cs) n ((ms ++ c ∷ []) ++ compose ccc join cs)) size
-            (run_before (ms ++ c ∷ []) cs (list_all-append (λ b. not (is_starter ccc b)) ms (c ∷ []) non_starters (and_from _ _ (not_from_false _ (not_starter_from ccc c non_starter)) refl)))))))
-        | inr starts ↦
-            subst (λ l. at_stage (ms ++ c ∷ cs) (length ms) (ms ++ l)) (sym (compose-starter ccc join c cs starts))
-            (halts_after_step _ _ _ step (run_after ms c [] cs starts refl))
-      ]
+      compose-cases ccc join c cs (λ l. at_stage (ms ++ c ∷ cs) (length ms) (ms ++ l))
+      (λ starts. halts_after_step _ _ _ step (run_after ms c [] cs starts refl))
+      (λ non_starter.
+      halts_after_step _ _ _ step
+      (subst (λ l. at_stage l (length ms + 1) (ms ++ c ∷ compose ccc join cs)) (append_assoc ms (c ∷ []) cs)
+      (subst (λ l. at_stage ((ms ++ c ∷ []) ++ cs) (length ms + 1) l) (append_assoc ms (c ∷ []) (compose ccc join cs))
+      (let size : length (ms ++ c ∷ []) ≡ length ms + 1 = omega (arith, length-append ms (c ∷ [])) in
+      subst (λ n. at_stage ((ms ++ c ∷ []) ++ cs) n ((ms ++ c ∷ []) ++ compose ccc join cs)) size (run_before (ms ++ c ∷ []) cs (one_more_non_starter ms c non_starters non_starter))))))
 
   run_from_one : (xs : List ℕ) → at_stage xs 1 (compose ccc join xs)
   run_from_one [] =
       subst (λ l. at_stage [] 1 l) (sym (compose-nil ccc join)) (record { place = 1; reached = stays (ComposeStep v) _; ended = omega arith })
   run_from_one (x ∷ xs) =
-      elim (cases_lt 0 (class_of v x)) [
-        | inl non_starter ↦
-            subst (λ l. at_stage (x ∷ xs) 1 l) (sym (compose-non_starter ccc join x xs non_starter))
-            (run_before (x ∷ []) xs (and_from _ _ (not_from_false _ (not_starter_from ccc x non_starter)) refl))
-        | inr starts ↦
-            subst (λ l. at_stage (x ∷ xs) 1 l) (sym (compose-starter ccc join x xs starts)) (run_after [] x [] xs starts refl)
-      ]
+      compose-cases ccc join x xs (λ l. at_stage (x ∷ xs) 1 l) (λ starts. run_after [] x [] xs starts refl) (λ non_starter. run_before (x ∷ []) xs (one_more_non_starter [] x refl non_starter))
 
   pub IsComposed-compose_of : (xs : List ℕ) → IsComposed v xs (compose_of v xs)
   unfolding compose_of
   IsComposed-compose_of xs = let h = run_from_one xs in record { place = h.place; reached = h.reached; ended = h.ended }
 
   -- ---- no other list
-
-  one_starter : (xs : List ℕ) (n q r : ℕ) → IsLastStarter v xs n q → IsLastStarter v xs n r → q ≡ r
-  one_starter xs n q r h k =
-      elim (cases_order q r) [
-        | inl same ↦ same
-        | inr other ↦ elim other [ inl below ↦ absurd (h.greatest r below k.below k.starter) | inr above ↦ absurd (k.greatest q above h.below h.starter) ]
-      ]
-
-  one_composite : (xs : List ℕ) (n q r c d : ℕ) → Joins v xs n q c → Joins v xs n r d → q ≡ r → c ≡ d
-  one_composite xs n q r c d j k e =
-      sound.unlike (get_or xs q 0) (get_or xs n 0) c d j.pair
-      (record { primary = k.pair.primary; mapping = k.pair.mapping ∙ ap (λ i. get_or xs i 0 ∷ get_or xs n 0 ∷ []) (sym e) })
 
   same_stage : (a b : Stage) → a.text ≡ b.text → a.place ≡ b.place → a ≡ b
   same_stage a b e f = λ i. record { text = e i; place = f i }
@@ -267,7 +221,8 @@ module _ (v : VersionData) (sound : IsSound v) where
             elim t.1 [
               | inl too ↦
                   let e = one_starter a.text a.place into.q too.q into.joins.seek too.joins.seek in
-                  let f = one_composite a.text a.place into.q too.q into.c too.c into.joins too.joins e in
+                  let f = sound.unlike (get_or a.text into.q 0) (get_or a.text a.place 0) into.c too.c into.joins.pair
+                  (record { primary = too.joins.pair.primary; mapping = too.joins.pair.mapping ∙ ap (λ i. get_or a.text i 0 ∷ get_or a.text a.place 0 ∷ []) (sym e) }) in
                   same_stage b c (into.text ∙ ap₂ (λ x y. remove (set a.text x y) a.place) e f ∙ sym too.text) (into.place ∙ sym too.place)
               | inr on ↦ absurd (on.none into.q into.c into.joins)
             ]

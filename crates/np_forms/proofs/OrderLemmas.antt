@@ -1,8 +1,7 @@
 -- Canonical ordering: sliding a code point into place, and what exchanges keep.
 use Rattle.std.proofs.Common.{◌≡◌, ℕ, ◌<◌, ◌≤◌, ◌⊎◌, Bool, true, false, not, ◌&&◌, nat_lt, List, [], ◌∷◌, ◌++◌, length, refl, sym, ap, ◌∙◌, arith, inl, inr, append_assoc, length-append}
-use Rattle.np_forms.proofs.Words.{cases_Bool, and_parts, and_from, and_cases, and_left, and_right, not-true}
-use Rattle.np_forms.proofs.Words.{not_from_false, ltb-true, ltb-false, lt-ltb, le-ltb, list_all, Reaches}
-use Rattle.np_forms.proofs.Words.{is_reorderable, is_ordered, Exchanges, slide, canonical_order}
+use Rattle.np_forms.proofs.Words.{cases_Bool, and_parts, and_from, and_cases, and_left, and_right, not-true, not_from_false, ltb-true, ltb-false, lt-ltb}
+use Rattle.np_forms.proofs.Words.{le-ltb, list_all, Reaches, is_reorderable, is_ordered, Exchanges, slide, canonical_order}
 use Rattle.std.proofs.lemmas.List.Folds.{list_all-append}
 use Rattle.np_code_points.proofs.StepsLemmas.{stays_at, one_more, join, keeps, along}
 
@@ -222,14 +221,11 @@ module _ (ccc : ℕ → ℕ) where
 
   -- ---- exchanges lead to the canonical order
 
-  -- an exchange behind x
-  exchange_behind : (x : ℕ) (xs ys : List ℕ) → Exchanges ccc xs ys → Exchanges ccc (x ∷ xs) (x ∷ ys)
-  exchange_behind x xs ys e =
-      record { before = x ∷ e.before; a = e.a; b = e.b; after = e.after; pair = e.pair; old = ap (λ l. x ∷ l) e.old; new = ap (λ l. x ∷ l) e.new }
-
   -- exchanges behind x
   reaches_behind : (x : ℕ) (xs ys : List ℕ) → Reaches (Exchanges ccc) xs ys → Reaches (Exchanges ccc) (x ∷ xs) (x ∷ ys)
-  reaches_behind x = along (Exchanges ccc) (λ l. x ∷ l) (exchange_behind x)
+  reaches_behind x =
+      along (Exchanges ccc) (λ l. x ∷ l)
+      (λ us vs e. record { before = x ∷ e.before; a = e.a; b = e.b; after = e.after; pair = e.pair; old = ap (λ l. x ∷ l) e.old; new = ap (λ l. x ∷ l) e.new })
 
   -- a slide is some exchanges
   reaches_slide : (c : ℕ) (ds : List ℕ) → Reaches (Exchanges ccc) (c ∷ ds) (slide ccc c ds)

@@ -1,16 +1,14 @@
 -- A code point whose form by itself is known.
 use Rattle.std.proofs.Common.{Option, None, Some, ◌⊎◌, inl, inr, ◌≡◌, ℕ, ◌≤◌, Bool, true, false, List, [], ◌∷◌, ◌++◌, length, chars, MatchBool, IsUtf8, encode_utf8, flat_map, refl, sym, ap, subst, ◌∙◌, arith, append_assoc, append-nil, take}
 use Rattle.std.specs.Option.{is_some}
-use Rattle.np_forms.proofs.Words.{get_or_at, set_at, chars_past_char, IsUtf8-past_char, chars_from_encodes, IsUtf8-take}
-use Rattle.np_forms.proofs.Words.{is_compat, composes, Form, and_place, pair_with_last, normal_form, IsComposedOf}
-use Rattle.np_forms.proofs.Words.{IsFirstMade, IsFirstPrecomputed, BeginsAtBoundary, NeverFalls, IsSound, VersionData}
-use Rattle.np_forms.proofs.Words.{class_of, entry_at, is_assigned, composite, full_of, IsQuickSpan, MayFollow, Walks}
-use Rattle.np_forms.proofs.Words.{IsAssigned, IsNormalForm}
+use Rattle.np_forms.proofs.Words.{get_or_at, set_at, chars_past_char, IsUtf8-past_char, chars_from_encodes, IsUtf8-take, is_compat, composes, Form, and_place}
+use Rattle.np_forms.proofs.Words.{pair_with_last, normal_form, IsComposedOf, IsFirstMade, IsFirstPrecomputed, BeginsAtBoundary, NeverFalls, IsSound}
+use Rattle.np_forms.proofs.Words.{VersionData, class_of, entry_at, is_assigned, composite, full_of, IsQuickSpan, MayFollow, Walks, IsAssigned, IsNormalForm}
 use Rattle.np_tables.proofs.TableLemmas.{full-none, lent-value, pair-value}
+use Rattle.np_tables.proofs.QuickSpanLemmas.{Walks-front}
 use Rattle.np_ucd.specs.Entries.{Entry}
-use Rattle.np_tables.specs.Precomputed.{IsPrecomputed}
+use Rattle.np_tables.specs.Precomputed.{Composes, ComposesOn, IsPrecomputed}
 use Rattle.np_tables.proofs.CompositeLemmas.{composite_from}
-use Rattle.np_tables.specs.inside.PrecomputedForms.{Composes, ComposesOn}
 use Rattle.np_forms.specs.Parts.{IsEachPartStable}
 use Rattle.np_forms.proofs.StreamLemmas.{is_ordered-never_falls}
 use Rattle.np_forms.proofs.CopyLemmas.{parts-at, settled-is_form, cut_at-front, cut_boundary}
@@ -20,7 +18,6 @@ use Rattle.np_forms.proofs.SyllableLemmas.{lent_some}
 use Rattle.np_forms.proofs.FormLemmas.{IsNormalForm-value}
 use Rattle.np_forms.proofs.QuickSpanLemmas.{quick_span_form, walked_form}
 use Rattle.np_forms.proofs.TextLemmas.{list_all-back, list_all-front}
-use Rattle.np_tables.specs.Precomputed as public
 
 cases_entry : (o : Option Entry) → (o ≡ None) ⊎ ((e : Entry) × (o ≡ Some e))
 cases_entry None = inl refl
@@ -33,7 +30,7 @@ record IsComposedTo (v : VersionData) (done list : List ℕ) : Type 0 where
   read : ℕ
   composed : IsComposedOf v done list starter kept read
 
-module _ (v : VersionData) where
+module _ (v : VersionData) (sound : IsSound v) where
   -- ---- code points that compose one after the other
 
   -- the next one composes with the last starter
@@ -64,33 +61,18 @@ module _ (v : VersionData) where
         composed = subst (λ l. IsComposedOf v l (before ++ list) (Some (length before)) 0 last) (sym (append-nil done)) (subst (λ l. IsComposedOf v done (before ++ l) (Some (length before)) 0 last) (sym is) a);
       }
   held-composes done before held last (d ∷ ds) list a (inl (p, found, up, later)) =
-      subst (λ l. IsComposedTo v l (before ++ list)) (append_assoc done (d ∷ []) ds) (held-composes (done ++ d ∷ []) before p (class_of v d) ds list (held-joins done before held last d p found up a) later)
+      subst (λ l. IsComposedTo v l (before ++ list)) (append_assoc done (d ∷ []) ds)
+      (held-composes (done ++ d ∷ []) before p (class_of v d) ds list (held-joins done before held last d p (composite_from v sound held d p found) up a) later)
   held-composes done before held last (d ∷ ds) list a (inr (later, starter, none, same, is)) =
       subst (λ l. IsComposedTo v l (before ++ list)) (append_assoc done (d ∷ []) ds)
       (subst (λ l. IsComposedTo v ((done ++ d ∷ []) ++ ds) l) (append_assoc before (held ∷ []) later ∙ ap (λ l. before ++ l) (sym same))
-      (held-composes (done ++ d ∷ []) (before ++ held ∷ []) d 0 ds later (held-starts done before held last d starter none a) is))
+      (held-composes (done ++ d ∷ []) (before ++ held ∷ []) d 0 ds later (held-starts done before held last d starter (sym (pair-value v sound held d None tt none)) a) is))
 
   composes-composed : (lent list : List ℕ) → Composes v lent list → IsComposedTo v lent list
   composes-composed [] list none = absurd none
   composes-composed (c ∷ cs) list (starter, is) = held-composes (c ∷ []) [] c 0 cs list (folded-starts v [] c starter (composed-start v)) is
 
-  -- ---- what the relations say is so by the functions
-
-  module _ (sound : IsSound v) where
-    composes_on : (held last : ℕ) (ds list : List ℕ) → public.ComposesOn v held last ds list → ComposesOn v held last ds list
-    composes_on held last [] list is = is
-    composes_on held last (d ∷ ds) list (inl (p, found, up, later)) = inl (p, composite_from v sound held d p found, up, composes_on p (class_of v d) ds list later)
-    composes_on held last (d ∷ ds) list (inr (later, starter, none, same, is)) = inr (later, starter, sym (pair-value v sound held d None tt none), same, composes_on d 0 ds later is)
-
-    composes_of : (full list : List ℕ) → public.Composes v full list → Composes v full list
-    composes_of [] list none = none
-    composes_of (c ∷ cs) list (starter, is) = (starter, composes_on c 0 cs list is)
-
-    settles_of : (b : Bool) (full list : List ℕ) → MatchBool b (public.Composes v full list) (NeverFalls (class_of v) full × (list ≡ full)) → MatchBool b (Composes v full list) (NeverFalls (class_of v) full × (list ≡ full))
-    settles_of true full list is = composes_of full list is
-    settles_of false full list is = is
-
-  module _ (sound : IsSound v) (form : Form) where
+  module _ (form : Form) where
     -- ---- what a full decomposition settles to is the form
 
     settled-form : (b : Bool) (c : ℕ) (lent list : List ℕ) → b ≡ composes form → lent ≡ flat_map (full_of v (is_compat form)) (c ∷ []) → MatchBool b (Composes v lent list) (NeverFalls (class_of v) lent × (list ≡ lent)) →
@@ -116,7 +98,7 @@ module _ (v : VersionData) where
     precomputed-form c bytes count precomputed =
         let lent = lent-value v (is_compat form) c precomputed.full sound precomputed.lent in
         let full : precomputed.full ≡ flat_map (full_of v (is_compat form)) (c ∷ []) = lent_some v (is_compat form) c precomputed.full lent precomputed.some ∙ sym (append-nil (full_of v (is_compat form) c)) in
-        settled-form (composes form) c precomputed.full precomputed.list refl full (settles_of sound (composes form) precomputed.full precomputed.list precomputed.settles)
+        settled-form (composes form) c precomputed.full precomputed.list refl full precomputed.settles
 
     pub first-precomputed : (text later : List ℕ) (c : ℕ) → IsUtf8 text → text ≡ encode_utf8 c ++ later → BeginsAtBoundary v form (chars later) → (bytes : List ℕ) (count : ℕ) → IsPrecomputed v form c bytes count → IsFirstPrecomputed v form text later bytes count
     first-precomputed text later c utf8 begins at bytes count precomputed =
@@ -142,32 +124,14 @@ walked_back : (Step : Option ℕ → ℕ → ℕ → ℕ → Type 0) (before : O
 walked_back Step before last [] ys end walk = record { before = before; last = last; end = end; walk = walk }
 walked_back Step before last (x ∷ xs) ys end walk = walked_back Step (Some x) walk.0 xs ys end walk.2
 
-walked_front : (Step : Option ℕ → ℕ → ℕ → ℕ → Type 0) (before : Option ℕ) (last : ℕ) (xs ys : List ℕ) (end : ℕ) → Walks Step before last (xs ++ ys) end → (n : ℕ) × Walks Step before last xs n
-walked_front Step before last [] ys end walk = (last, refl)
-walked_front Step before last (x ∷ xs) ys end walk =
-    let rest = walked_front Step (Some x) walk.0 xs ys end walk.2 in
-    (rest.0, (walk.0, walk.1, rest.1))
-
--- ---- parts of what stands
-
-module _ (v : VersionData) (sound : IsSound v) (form : Form) (cs : List ℕ) (end : ℕ) (walk : Walks (MayFollow v form) None 0 cs end) where
-  part_is_form : (before part after : List ℕ) → cs ≡ before ++ (part ++ after) → IsAssigned v cs → IsAssigned v part × (Walked (MayFollow v form) part)
-  part_is_form before part after e all =
-      let behind = walked_back (MayFollow v form) None 0 before (part ++ after) end (subst (λ l. Walks (MayFollow v form) None 0 l end) e walk) in
-      let here = walked_front (MayFollow v form) behind.before behind.last part after behind.end behind.walk in
-      let rest = list_all-back (is_assigned v) before (part ++ after) (subst (IsAssigned v) e all) in
-      (list_all-front (is_assigned v) part after rest, record { before = behind.before; last = behind.last; end = here.0; walk = here.1 })
-
-  pub parts_are_forms : IsAssigned v cs → IsEachPartStable v form cs
-  parts_are_forms all before part after e =
-      let w = part_is_form before part after e all in
-      (w.0, IsNormalForm-value v sound form part part (sym (walked_form v sound form w.1.before w.1.last part w.1.end w.1.walk)))
-
 -- the code points at the front of a text that stands
 pub stable_parts : (v : VersionData) (sound : IsSound v) (form : Form) (text : List ℕ) (n : ℕ) (h : IsQuickSpan v form text n) (front : List ℕ) → front ≡ take n text → IsUtf8 front → IsAssigned v (chars front) → IsEachPartStable v form (chars front)
-stable_parts v sound form text n h front of_front utf8 all =
+stable_parts v sound form text n h front of_front utf8 all before part after e =
     let same : h.front ≡ chars front = chars_from_encodes h.front front utf8 (sym (of_front ∙ cut_at-front v form text n h)) in
-    subst (IsEachPartStable v form) same (parts_are_forms v sound form h.front h.end h.walk (subst (IsAssigned v) (sym same) all))
+    let behind = walked_back (MayFollow v form) None 0 before (part ++ after) h.end (subst (λ l. Walks (MayFollow v form) None 0 l h.end) (same ∙ e) h.walk) in
+    let here = Walks-front (MayFollow v form) behind.before behind.last behind.end part after behind.walk in
+    let rest = list_all-back (is_assigned v) before (part ++ after) (subst (IsAssigned v) e all) in
+    (list_all-front (is_assigned v) part after rest, IsNormalForm-value v sound form part part (sym (walked_form v sound form behind.before behind.last part here.0 here.1)))
 
 -- the whole of it is its own form
 pub quick_span_front : (v : VersionData) (sound : IsSound v) (form : Form) (text : List ℕ) (n : ℕ) → IsUtf8 text → IsQuickSpan v form text n → IsNormalForm v form (chars (take n text)) (chars (take n text))
