@@ -14,6 +14,7 @@ use Rattle.np_forms.specs.declared.runs.RunFault.{RunFault}
 use Rattle.np_forms.specs.declared.runs.RunFault.TheVariants.{NotUtf8, ReadFailed, WriteFailed, TooLarge, Memory}
 use Rattle.np_forms.proofs.FormLemmas.{IsNormalForm-normal_form, normal_form_is}
 use Rattle.np_forms.proofs.HeldLemmas.{held_streaming}
+use Rattle.np_forms.proofs.WrittenLemmas.{under}
 use Rattle.np_forms.proofs.RunTextLemmas.{take_past, prefix_past, prefix_left, one_prefix, longest_prefix, whole_prefix}
 
 abbrev pub ends_of : Option (List ℕ) → Option (List ℕ) → Option (List ℕ) → Option (List ℕ) → Ends
@@ -46,19 +47,6 @@ begins_past a b n utf8 h = ap utf8_error_len (left_past a b n utf8 h.prefix) ∙
 
 not_begins_past : (a b : List ℕ) (n : ℕ) → IsUtf8 a → MayNotBegin b n → ¬ BeginsText (a ++ b)
 not_begins_past a b n utf8 h = λ begins. h.ends (ap utf8_error_len (sym (left_past a b n utf8 h.prefix)) ∙ begins)
-
--- a stream under the version and the form that it has
-to_state : (v : VersionData) (form : Form) (s : StreamState) (fed out pending : List ℕ) → s.version ≡ v → s.form ≡ form → IsStreaming v form fed out pending → IsStreaming s.version s.form fed out pending
-to_state v form s fed out pending version same h =
-    subst (λ u. IsStreaming u s.form fed out pending) (sym version) (subst (λ f. IsStreaming v f fed out pending) (sym same) h)
-
-from_state : (v : VersionData) (form : Form) (s : StreamState) (fed out pending : List ℕ) → s.version ≡ v → s.form ≡ form → IsStreaming s.version s.form fed out pending → IsStreaming v form fed out pending
-from_state v form s fed out pending version same h =
-    subst (λ u. IsStreaming u form fed out pending) version (subst (λ f. IsStreaming s.version f fed out pending) same h)
-
-form_from_state : (v : VersionData) (form : Form) (s : StreamState) (fed list : List ℕ) → s.version ≡ v → s.form ≡ form → IsNormalForm s.version s.form fed list → IsNormalForm v form fed list
-form_from_state v form s fed list version same h =
-    subst (λ u. IsNormalForm u form fed list) version (subst (λ f. IsNormalForm s.version f fed list) same h)
 
 module _ {v : VersionData} (sound : IsSound v) where
   -- what was ever ready begins the form of the text, whatever follows
@@ -94,40 +82,65 @@ module _ {v : VersionData} (sound : IsSound v) where
     taken_with : (i₂ : Option (List ℕ)) (came : List ℕ) → Consumes i₁ i₂ came → Consumes i₀ i₂ (r.done ++ (kept ++ came))
     taken_with i₂ came taken = subst (Consumes i₀ i₂) (append_assoc r.done kept came) (Consumes-trans i₀ i₁ i₂ (r.done ++ kept) came r.taken taken)
 
+    -- the stream under the version and the form that it has
+    fed : IsStreaming s.version s.form (chars r.done) r.ready s.pending
+    fed = under (λ u f. IsStreaming u f (chars r.done) r.ready s.pending) (sym r.version) (sym r.form_is) r.streaming
+
+    -- where nothing of the last chunk was fed
+    unfed : normal_form v form (chars r.done ++ chars (take 0 kept)) ≡ normal_form v form (chars r.done)
+    unfed = ap (normal_form v form) (ap (λ l. chars r.done ++ l) chars-nil ∙ append-nil (chars r.done))
+
+    -- what was ready begins the form
+    ready_begins : (text : List ℕ) → IsFrontOfForm (normal_form v form (chars r.done ++ text)) (encode_utf8_all r.ready)
+    ready_begins text =
+        let front = form_front form (chars r.done) r.ready s.pending text r.streaming in
+        ready_front _ r.ready front.0 (encode_utf8_all r.ready) [] front.1 (sym (append-nil (encode_utf8_all r.ready)))
+
+    module _ (i₂ o₂ : Option (List ℕ)) (chunk : List ℕ) (n : ℕ) (taken : Consumes i₀ i₂ (r.done ++ chunk)) (h : IsLongestValidPrefix chunk n) (size : length r.done + length chunk ≤ 4294967296) where
+      cut_at : (fault : RunFault) (out : List ℕ) → IsCauseOf (ends_of i₀ i₂ o₀ o₂) (r.done ++ chunk) (length r.done + n) fault → Appends o₀ o₂ out → IsWrittenOf v (normal_form v form (chars r.done ++ chars (take n chunk))) out fault → IsRunCut v form (ends_of i₀ i₂ o₀ o₂) fault
+      cut_at fault out cause written front =
+          record {
+            bytes = r.done ++ chunk;
+            at = length r.done + n;
+            list = normal_form v form (chars r.done ++ chars (take n chunk));
+            read = read_to form (ends_of i₀ i₂ o₀ o₂) r.done chunk n taken r.utf8 h size;
+            cause = cause;
+            out = out;
+            written = written;
+            front = front;
+          }
+
+      -- what became ready was written in part, or nothing more was written
+      cut_in_part : (fault : RunFault) → (fault ≡ WriteFailed) ⊎ (fault ≡ Memory) → (out : List ℕ) → Appends o₁ o₂ out →
+          (out ≡ []) ⊎ ((more : List ℕ) × ((rest : List ℕ) × (encode_utf8_all more ≡ out ++ rest) × ((after : List ℕ) × (normal_form v form (chars r.done ++ chars (take n chunk)) ≡ (r.ready ++ more) ++ after)))) → IsRunCut v form (ends_of i₀ i₂ o₀ o₂) fault
+      cut_in_part fault by out written parts =
+          let old = encode_utf8_all r.ready in
+          let list = normal_form v form (chars r.done ++ chars (take n chunk)) in
+          let front : IsFrontOfForm list (old ++ out) =
+          elim parts [
+            | inl none ↦ subst (IsFrontOfForm list) (sym (ap (λ l. old ++ l) none ∙ append-nil old)) (ready_begins (chars (take n chunk)))
+            | inr some ↦
+                let bytes = encodes-append r.ready some.0 ∙ ap (λ l. old ++ l) some.1.1 ∙ sym (append_assoc old out some.1.0) in
+                ready_front list (r.ready ++ some.0) some.1.2.0 (old ++ out) some.1.0 some.1.2.1 bytes
+          ] in
+          let all = Appends-trans o₀ o₁ o₂ old out r.written written in
+          elim by [
+            | inl write ↦ subst (IsRunCut v form (ends_of i₀ i₂ o₀ o₂)) (sym write) (cut_at WriteFailed (old ++ out) tt all front)
+            | inr none ↦ subst (IsRunCut v form (ends_of i₀ i₂ o₀ o₂)) (sym none) (cut_at Memory (old ++ out) tt all front)
+          ]
+
     -- nothing more was fed or written
     cut_early : (i₂ : Option (List ℕ)) (came : List ℕ) (n : ℕ) (fault : RunFault) → Consumes i₁ i₂ came → IsLongestValidPrefix (kept ++ came) n → total + length came ≤ 4294967296 → IsCauseOf (ends_of i₀ i₂ o₀ o₁) (r.done ++ (kept ++ came)) (length r.done + n) fault → ((list out : List ℕ) → IsFrontOfForm list out → IsWrittenOf v list out fault) → IsRunCut v form (ends_of i₀ i₂ o₀ o₁) fault
     cut_early i₂ came n fault taken h size cause written =
-        let chunk = kept ++ came in
-        let front = form_front form (chars r.done) r.ready s.pending (chars (take n chunk)) r.streaming in
-        record {
-          bytes = r.done ++ chunk;
-          at = length r.done + n;
-          list = normal_form v form (chars r.done ++ chars (take n chunk));
-          read = read_to form (ends_of i₀ i₂ o₀ o₁) r.done chunk n (taken_with i₂ came taken) r.utf8 h (omega (arith, r.size, length-append kept came));
-          cause = cause;
-          out = encode_utf8_all r.ready;
-          written = r.written;
-          front = written _ _ (ready_front _ r.ready front.0 (encode_utf8_all r.ready) [] front.1 (sym (append-nil (encode_utf8_all r.ready))));
-        }
+        cut_at i₂ o₁ (kept ++ came) n (taken_with i₂ came taken) h (omega (arith, r.size, length-append kept came)) fault (encode_utf8_all r.ready) cause r.written (written _ _ (ready_begins (chars (take n (kept ++ came)))))
 
     -- a failed read: all of the text was fed, and all that is ready is written
     cut_read : (i₂ : Option (List ℕ)) → Consumes i₁ i₂ [] → total ≤ 4294967296 → IsRunCut v form (ends_of i₀ i₂ o₀ o₁) ReadFailed
     cut_read i₂ taken size =
         let all = subst (λ l. Consumes i₀ i₂ (r.done ++ l)) (append-nil kept) (taken_with i₂ [] taken) in
-        let read = read_to form (ends_of i₀ i₂ o₀ o₁) r.done kept 0 all r.utf8 r.cut (omega (arith, r.size)) in
         let streaming = r.streaming in
-        let list : normal_form v form (chars r.done ++ chars (take 0 kept)) ≡ r.ready ++ streaming.held =
-        ap (λ l. normal_form v form (chars r.done ++ l)) chars-nil ∙ ap (normal_form v form) (append-nil (chars r.done)) ∙ sym (normal_form_is v sound form (chars r.done) (r.ready ++ streaming.held) streaming.whole) in
-        record {
-          bytes = r.done ++ kept;
-          at = length r.done + 0;
-          list = normal_form v form (chars r.done ++ chars (take 0 kept));
-          read = read;
-          cause = tt;
-          out = encode_utf8_all r.ready;
-          written = r.written;
-          front = record { x = r.ready; y = streaming.held; split = list; cut = streaming.cut; out_is = refl };
-        }
+        let list = unfed ∙ sym (normal_form_is v sound form (chars r.done) (r.ready ++ streaming.held) streaming.whole) in
+        cut_at i₂ o₁ kept 0 all r.cut (omega (arith, r.size)) ReadFailed (encode_utf8_all r.ready) tt r.written (record { x = r.ready; y = streaming.held; split = list; cut = streaming.cut; out_is = refl })
 
     pub cut_input : (i₂ : Option (List ℕ)) (fault : RunFault) → IsInputFault i₁ i₂ kept total fault → IsRunCut v form (ends_of i₀ i₂ o₀ o₁) fault
     cut_input i₂ (NotUtf8 place) f =
@@ -174,27 +187,37 @@ module _ {v : VersionData} (sound : IsSound v) where
     -- the end of the input within a character
     pub cut_end : (place : ℕ) → place + length kept ≡ total → 0 < length kept → total ≤ 4294967295 → IsAtEnd i₁ → IsRunCut v form (ends_of i₀ i₁ o₀ o₁) (NotUtf8 place)
     cut_end place here some fits end =
-        let read = read_to form (ends_of i₀ i₁ o₀ o₁) r.done kept 0 r.taken r.utf8 r.cut (omega (arith, r.size)) in
-        let front = form_front form (chars r.done) r.ready s.pending (chars (take 0 kept)) r.streaming in
+        let whole = prefix_past r.done kept 0 r.utf8 r.cut in
         let all = length-append r.done kept in
+        let no_text = λ (utf8 : IsUtf8 (r.done ++ kept)).
+        let most = whole.longest (length (r.done ++ kept)) (omega arith) (subst IsUtf8 (sym (take_all (length (r.done ++ kept)) (r.done ++ kept) (omega arith))) utf8) in
+        absurd (omega (arith, most, all)) in
+        cut_at i₁ o₁ kept 0 r.taken r.cut (omega (arith, r.size)) (NotUtf8 place) (encode_utf8_all r.ready) (omega (arith, r.size), inr (end, omega (arith, r.size, all), no_text)) r.written (ready_begins (chars (take 0 kept)))
+
+    -- the rest was written in part
+    pub cut_rest : {o₂ : Option (List ℕ)} {fault : RunFault} → total ≤ 4294967295 → (fault ≡ WriteFailed) ⊎ (fault ≡ Memory) → IsRestCut s o₁ o₂ → IsRunCut v form (ends_of i₀ i₁ o₀ o₂) fault
+    cut_rest {o₂} {fault} fits by w =
+        cut_in_part i₁ o₂ kept 0 r.taken r.cut (omega (arith, r.size)) fault by w.out w.written
+        (elim w.front [
+          | inl none ↦ inl none
+          | inr some ↦
+              let whole = under (λ u f. IsNormalForm u f (chars r.done) (r.ready ++ some.0)) r.version r.form_is (some.1.2 (chars r.done) r.ready fed) in
+              inr (some.0, (some.1.0, some.1.1, ([], unfed ∙ sym (append-nil (r.ready ++ some.0) ∙ normal_form_is v sound form (chars r.done) (r.ready ++ some.0) whole))))
+        ])
+
+    -- no byte is left, and the rest was written
+    pub run_whole : {o₂ : Option (List ℕ)} {after : ℕ} → length kept ≡ 0 → IsAtEnd i₁ → total ≤ 4294967295 → IsRestWritten s o₁ o₂ count after → IsRunWhole v form (ends_of i₀ i₁ o₀ o₂) after
+    run_whole {o₂} {after} none end fits w =
         record {
-          bytes = r.done ++ kept;
-          at = length r.done + 0;
-          list = normal_form v form (chars r.done ++ chars (take 0 kept));
-          read = read;
-          cause = (
-            omega (arith, r.size),
-            inr (
-              end,
-              omega (arith, r.size, all),
-              λ utf8.
-                  let most = read.valid.longest (length (r.done ++ kept)) (omega arith) (subst IsUtf8 (sym (take_all (length (r.done ++ kept)) (r.done ++ kept) (omega arith))) utf8) in
-                  absurd (omega (arith, most, all)),
-            ),
-          );
-          out = encode_utf8_all r.ready;
-          written = r.written;
-          front = ready_front _ r.ready front.0 (encode_utf8_all r.ready) [] front.1 (sym (append-nil (encode_utf8_all r.ready)));
+          bytes = r.done;
+          taken = subst (Consumes i₀ i₁) (ap (λ l. r.done ++ l) (nil_from_length kept none) ∙ append-nil r.done) r.taken;
+          end = end;
+          size = omega (arith, r.size, none);
+          utf8 = r.utf8;
+          list = r.ready ++ w.more;
+          normal = under (λ u f. IsNormalForm u f (chars r.done) (r.ready ++ w.more)) r.version r.form_is (w.whole (chars r.done) r.ready fed);
+          written = subst (Appends o₀ o₂) (sym (encodes-append r.ready w.more)) (Appends-trans o₀ o₁ o₂ (encode_utf8_all r.ready) (encode_utf8_all w.more) r.written w.written);
+          count_is = omega (arith, w.count_is, r.count_is, ap length (encodes-append r.ready w.more), length-append (encode_utf8_all r.ready) (encode_utf8_all w.more));
         }
 
     module _ {i₂ : Option (List ℕ)} {chunk left : List ℕ} {new n : ℕ} (next : IsNextChunk i₁ i₂ kept chunk left total new n) {l : List ℕ} (text_is : l ≡ take n chunk) where
@@ -210,8 +233,7 @@ module _ {v : VersionData} (sound : IsSound v) where
           let w = subst (λ x. IsPieceWritten s t o₁ o₂ count after (chars x)) text_is written in
           let parts : take n chunk ++ left ≡ chunk = ap (λ l. take n chunk ++ l) next.left_is ∙ take-append-drop n chunk in
           let done = r.done ++ take n chunk in
-          let fed = to_state v form s (chars r.done) r.ready s.pending r.version r.form_is r.streaming in
-          let streaming = from_state v form s (chars r.done ++ chars (take n chunk)) (r.ready ++ w.more) t.pending r.version r.form_is (w.carries (chars r.done) r.ready fed) in
+          let streaming = under (λ u f. IsStreaming u f (chars r.done ++ chars (take n chunk)) (r.ready ++ w.more) t.pending) r.version r.form_is (w.carries (chars r.done) r.ready fed) in
           record {
             done = done;
             taken = subst (Consumes i₀ i₂) (sym (append_assoc r.done (take n chunk) left ∙ ap (λ l. r.done ++ l) parts)) taken_chunk;
@@ -228,104 +250,18 @@ module _ {v : VersionData} (sound : IsSound v) where
           }
 
       -- it was fed or written in part
-      pub cut_piece : (o₂ : Option (List ℕ)) (fault : RunFault) → IsPieceCut s o₁ o₂ (chars (take n chunk)) → IsCauseOf (ends_of i₀ i₂ o₀ o₂) (r.done ++ chunk) (length r.done + n) fault → ((list out : List ℕ) → IsFrontOfForm list out → IsWrittenOf v list out fault) → IsRunCut v form (ends_of i₀ i₂ o₀ o₂) fault
-      cut_piece o₂ fault w cause written =
-          let text = chars (take n chunk) in
-          let list = normal_form v form (chars r.done ++ text) in
-          let out = encode_utf8_all r.ready ++ w.out in
-          let front : IsFrontOfForm list out =
-          elim w.front [
-            | inl none ↦
-                let f = form_front form (chars r.done) r.ready s.pending text r.streaming in
-                ready_front list r.ready f.0 out [] f.1 (sym (append-nil out ∙ ap (λ l. encode_utf8_all r.ready ++ l) none ∙ append-nil (encode_utf8_all r.ready)))
-            | inr some ↦
-                let fed = to_state v form s (chars r.done) r.ready s.pending r.version r.form_is r.streaming in
-                let later = some.1.2 (chars r.done) r.ready fed in
-                let streaming = from_state v form s (chars r.done ++ text) (r.ready ++ some.0) later.0 r.version r.form_is later.1 in
-                let f = form_front form (chars r.done ++ text) (r.ready ++ some.0) later.0 [] streaming in
-                ready_front list (r.ready ++ some.0) f.0 out some.1.0 (ap (normal_form v form) (sym (append-nil (chars r.done ++ text))) ∙ f.1)
-                (encodes-append r.ready some.0 ∙ ap (λ l. encode_utf8_all r.ready ++ l) some.1.1 ∙ sym (append_assoc (encode_utf8_all r.ready) w.out some.1.0))
-          ] in
-          record {
-            bytes = r.done ++ chunk;
-            at = length r.done + n;
-            list = list;
-            read = read_to form (ends_of i₀ i₂ o₀ o₂) r.done chunk n taken_chunk r.utf8 next.prefix (omega (arith, chunk_size, next.fits));
-            cause = cause;
-            out = out;
-            written = Appends-trans o₀ o₁ o₂ (encode_utf8_all r.ready) w.out r.written w.written;
-            front = written list out front;
-          }
-
-      pub cut_piece_by : {o₂ : Option (List ℕ)} {fault : RunFault} → (fault ≡ WriteFailed) ⊎ (fault ≡ Memory) → IsPieceCut s o₁ o₂ (chars l) → IsRunCut v form (ends_of i₀ i₂ o₀ o₂) fault
-      cut_piece_by {o₂} {fault} by cut =
+      pub cut_piece : {o₂ : Option (List ℕ)} {fault : RunFault} → (fault ≡ WriteFailed) ⊎ (fault ≡ Memory) → IsPieceCut s o₁ o₂ (chars l) → IsRunCut v form (ends_of i₀ i₂ o₀ o₂) fault
+      cut_piece {o₂} {fault} by cut =
           let w = subst (λ x. IsPieceCut s o₁ o₂ (chars x)) text_is cut in
-          elim by [
-            | inl write ↦ subst (IsRunCut v form (ends_of i₀ i₂ o₀ o₂)) (sym write) (cut_piece o₂ WriteFailed w tt (λ list out h. h))
-            | inr none ↦ subst (IsRunCut v form (ends_of i₀ i₂ o₀ o₂)) (sym none) (cut_piece o₂ Memory w tt (λ list out h. h))
-          ]
-
-  -- ---- the end of the input, where no byte is left
-
-  module _ {form : Form} {i₀ i₁ o₀ o₁ : Option (List ℕ)} {kept : List ℕ} {total count : ℕ} {s : StreamState} (r : IsRunning v form i₀ i₁ o₀ o₁ kept total count s) (none : length kept ≡ 0) (end : IsAtEnd i₁) (fits : total ≤ 4294967295) where
-    fed : IsStreaming s.version s.form (chars r.done) r.ready s.pending
-    fed = to_state v form s (chars r.done) r.ready s.pending r.version r.form_is r.streaming
-
-    taken_whole : Consumes i₀ i₁ r.done
-    taken_whole = subst (Consumes i₀ i₁) (ap (λ l. r.done ++ l) (nil_from_length kept none) ∙ append-nil r.done) r.taken
-
-    pub run_whole : {o₂ : Option (List ℕ)} {after : ℕ} → IsRestWritten s o₁ o₂ count after → IsRunWhole v form (ends_of i₀ i₁ o₀ o₂) after
-    run_whole {o₂} {after} w =
-        record {
-          bytes = r.done;
-          taken = taken_whole;
-          end = end;
-          size = omega (arith, r.size, none);
-          utf8 = r.utf8;
-          list = r.ready ++ w.more;
-          normal = form_from_state v form s (chars r.done) (r.ready ++ w.more) r.version r.form_is (w.whole (chars r.done) r.ready fed);
-          written = subst (Appends o₀ o₂) (sym (encodes-append r.ready w.more)) (Appends-trans o₀ o₁ o₂ (encode_utf8_all r.ready) (encode_utf8_all w.more) r.written w.written);
-          count_is = omega (arith, w.count_is, r.count_is, ap length (encodes-append r.ready w.more), length-append (encode_utf8_all r.ready) (encode_utf8_all w.more));
-        }
-
-    pub cut_rest : (o₂ : Option (List ℕ)) (fault : RunFault) → IsRestCut s o₁ o₂ → IsCauseOf (ends_of i₀ i₁ o₀ o₂) r.done (length r.done) fault → ((list out : List ℕ) → IsFrontOfForm list out → IsWrittenOf v list out fault) → IsRunCut v form (ends_of i₀ i₁ o₀ o₂) fault
-    cut_rest o₂ fault w cause written =
-        let list = normal_form v form (chars r.done) in
-        let out = encode_utf8_all r.ready ++ w.out in
-        let all : take (length r.done) r.done ≡ r.done = take_all (length r.done) r.done (omega arith) in
-        let front : IsFrontOfForm list out =
-        elim w.front [
-          | inl none ↦
-              let f = form_front form (chars r.done) r.ready s.pending [] r.streaming in
-              ready_front list r.ready f.0 out [] (ap (normal_form v form) (sym (append-nil (chars r.done))) ∙ f.1)
-              (sym (append-nil out ∙ ap (λ l. encode_utf8_all r.ready ++ l) none ∙ append-nil (encode_utf8_all r.ready)))
-          | inr some ↦
-              let whole = form_from_state v form s (chars r.done) (r.ready ++ some.0) r.version r.form_is (some.1.2 (chars r.done) r.ready fed) in
-              ready_front list (r.ready ++ some.0) [] out some.1.0 (sym (append-nil (r.ready ++ some.0) ∙ normal_form_is v sound form (chars r.done) (r.ready ++ some.0) whole))
-              (encodes-append r.ready some.0 ∙ ap (λ l. encode_utf8_all r.ready ++ l) some.1.1 ∙ sym (append_assoc (encode_utf8_all r.ready) w.out some.1.0))
-        ] in
-        record {
-          bytes = r.done;
-          at = length r.done;
-          list = list;
-          read = record {
-            taken = taken_whole;
-            size = omega (arith, r.size, none);
-            valid = whole_prefix r.done (length r.done) refl r.utf8;
-            normal = subst (λ l. IsNormalForm v form (chars l) list) (sym all) (IsNormalForm-normal_form v sound form (chars r.done));
-          };
-          cause = cause;
-          out = out;
-          written = Appends-trans o₀ o₁ o₂ (encode_utf8_all r.ready) w.out r.written w.written;
-          front = written list out front;
-        }
-
-    pub cut_rest_by : {o₂ : Option (List ℕ)} {fault : RunFault} → (fault ≡ WriteFailed) ⊎ (fault ≡ Memory) → IsRestCut s o₁ o₂ → IsRunCut v form (ends_of i₀ i₁ o₀ o₂) fault
-    cut_rest_by {o₂} {fault} by w =
-        elim by [
-          | inl write ↦ subst (IsRunCut v form (ends_of i₀ i₁ o₀ o₂)) (sym write) (cut_rest o₂ WriteFailed w tt (λ list out h. h))
-          | inr none ↦ subst (IsRunCut v form (ends_of i₀ i₁ o₀ o₂)) (sym none) (cut_rest o₂ Memory w tt (λ list out h. h))
-        ]
+          let text = chars r.done ++ chars (take n chunk) in
+          cut_in_part i₂ o₂ chunk n taken_chunk next.prefix (omega (arith, chunk_size, next.fits)) fault by w.out w.written
+          (elim w.front [
+            | inl none ↦ inl none
+            | inr some ↦
+                let later = some.1.2 (chars r.done) r.ready fed in
+                let streaming = under (λ u f. IsStreaming u f text (r.ready ++ some.0) later.0) r.version r.form_is later.1 in
+                inr (some.0, (some.1.0, some.1.1, (streaming.held, sym (normal_form_is v sound form text ((r.ready ++ some.0) ++ streaming.held) streaming.whole))))
+          ])
 
   -- nothing was read or written
   pub run_start : (form : Form) (i₀ o₀ : Option (List ℕ)) (s : StreamState) → s.version ≡ v → s.form ≡ form → s.ready ≡ [] → IsStreaming v form [] [] s.pending → IsRunning v form i₀ i₀ o₀ o₀ [] 0 0 s

@@ -37,9 +37,6 @@ module _ (ccc : ℕ → ℕ) where
   abbrev pub IsClosed : List ℕ → Type 0
   IsClosed xs = (later : List ℕ) → Rises ccc 0 later → Rises ccc 0 (xs ++ later)
 
-  pub closed-nil : IsClosed []
-  closed-nil later rises = rises
-
   pub closed-starter : (s : ℕ) (xs : List ℕ) → ccc s ≡ 0 → IsClosed xs → IsClosed (s ∷ xs)
   closed-starter s xs starter closed later rises = (inl starter, subst (λ k. Rises ccc k (xs ++ later)) (sym starter) (closed later rises))
 

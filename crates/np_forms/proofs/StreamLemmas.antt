@@ -12,11 +12,8 @@ use Rattle.np_forms.specs.Boundaries.{FormsAtBoundary, YesStarterForm}
 use Rattle.np_forms.proofs.OrderLemmas.{canonical_order-front, canonical_order-at_starter, canonical_order-ordered, is_ordered-front, is_ordered-back, canonical_order-nil, is_ordered-cons, is_ordered-nil, is_ordered-one, not_reorderable_rising}
 use Rattle.np_forms.proofs.ComposeLemmas.{not_starter_from, compose_after-nil, compose_after-joined, compose_after-starter, compose_after-kept, compose-nil, compose-starter, compose-non_starter, joined-some, compose-at_boundary, joined-free}
 use Rattle.np_forms.proofs.FormLemmas.{IsNormalForm-normal_form, normal_form_is}
+pub use Rattle.np_forms.proofs.TextLemmas.{list_all-back}
 use Rattle.np_forms.proofs.KeptLemmas.{is_ordered-decomposed, all_final, decomposed-final, decomposed-composed, decomposed-normal_form}
-
-pub list_all-back : (p : ℕ → Bool) (xs ys : List ℕ) → list_all p (xs ++ ys) ≡ true → list_all p ys ≡ true
-list_all-back p [] ys h = h
-list_all-back p (x ∷ xs) ys h = list_all-back p xs ys (and_parts (p x) (list_all p (xs ++ ys)) h).1
 
 module _ (v : VersionData) (sound : IsSound v) where
   abbrev ccc : ℕ → ℕ

@@ -56,13 +56,11 @@ module _ (v : VersionData) (on : has_hangul v ≡ true) where
   syllable-read text later s begins =
       record {
         before = begins.front;
-        bytes = begins.bytes;
-        text = begins.text_is;
+        reads = record { utf8 = begins.utf8; bytes = begins.bytes; split = begins.text_is };
         assigned = elim begins.spells [
           | inl jamo ↦ subst (IsAssigned v) (sym jamo) (parts-assigned v on s begins.syllable)
           | inr itself ↦ subst (IsAssigned v) (sym itself) (and_from (is_assigned v s) true (syllable-assigned v on s begins.syllable) refl)
         ];
-        utf8 = begins.utf8;
       }
 
 module _ (v : VersionData) (sound : IsSound v) (on : has_hangul v ≡ true) (form : Form) where

@@ -37,15 +37,6 @@ module _ (v : VersionData) (text front back : List ℕ) (utf8 : IsUtf8 front) (p
 pub IsRead-start : (text : List ℕ) → IsUtf8 text → IsRead text text []
 IsRead-start text utf8 = record { utf8 = utf8; bytes = refl; split = refl }
 
-pub IsRead-next : (text rest : List ℕ) (c : ℕ) (later front : List ℕ) → rest ≡ encode_utf8 c ++ later → IsRead text rest front → IsRead text later (front ++ c ∷ [])
-IsRead-next text rest c later front begins r =
-    record {
-      utf8 = IsUtf8-past_char rest later c r.utf8 begins;
-      bytes = r.bytes ∙ ap (λ l. encode_utf8_all front ++ l) begins ∙ sym (append_assoc (encode_utf8_all front) (encode_utf8 c) later)
-          ∙ ap (λ l. l ++ later) (ap (λ l. encode_utf8_all front ++ l) (sym (append-nil (encode_utf8 c))) ∙ sym (encodes-append front (c ∷ [])));
-      split = r.split ∙ ap (λ l. front ++ l) (chars_past_char rest later c r.utf8 begins) ∙ sym (append_assoc front (c ∷ []) (chars later));
-    }
-
 pub IsRead-both : (text middle rest one two : List ℕ) → IsRead text middle one → IsRead middle rest two → IsRead text rest (one ++ two)
 IsRead-both text middle rest one two first second =
     record {
@@ -54,61 +45,55 @@ IsRead-both text middle rest one two first second =
       split = first.split ∙ ap (λ l. one ++ l) second.split ∙ sym (append_assoc one two (chars rest));
     }
 
+pub IsRead-next : (text rest : List ℕ) (c : ℕ) (later front : List ℕ) → rest ≡ encode_utf8 c ++ later → IsRead text rest front → IsRead text later (front ++ c ∷ [])
+IsRead-next text rest c later front begins r =
+    let bytes = begins ∙ ap (λ l. l ++ later) (sym (append-nil (encode_utf8 c))) in
+    IsRead-both text rest later front (c ∷ []) r (record { utf8 = IsUtf8-past_char rest later c r.utf8 begins; bytes = bytes; split = chars_past_char rest later c r.utf8 begins })
+
 pub IsRead-end : (text rest front : List ℕ) → IsRead text rest front → IsEndOf text rest
 IsRead-end text rest front r = record { front = encode_utf8_all front; parts = r.bytes; utf8 = r.utf8 }
 
 module _ (v : VersionData) where
   pub IsReadAssigned-start : (s : List ℕ) → IsUtf8 s → IsReadAssigned v s s
-  IsReadAssigned-start s utf8 = record { before = []; bytes = refl; text = refl; assigned = refl; utf8 = utf8 }
+  IsReadAssigned-start s utf8 = record { before = []; reads = IsRead-start s utf8; assigned = refl }
 
   pub IsReadAssigned-both : (s middle rest : List ℕ) → IsReadAssigned v s middle → IsReadAssigned v middle rest → IsReadAssigned v s rest
   IsReadAssigned-both s middle rest one two =
       record {
         before = one.before ++ two.before;
-        bytes = one.bytes ∙ ap (λ l. encode_utf8_all one.before ++ l) two.bytes ∙ sym (append_assoc (encode_utf8_all one.before) (encode_utf8_all two.before) rest)
-            ∙ ap (λ l. l ++ rest) (sym (encodes-append one.before two.before));
-        text = one.text ∙ ap (λ l. one.before ++ l) two.text ∙ sym (append_assoc one.before two.before (chars rest));
+        reads = IsRead-both s middle rest one.before two.before one.reads two.reads;
         assigned = list_all-append (is_assigned v) one.before two.before one.assigned two.assigned;
-        utf8 = two.utf8;
       }
 
   -- behind a front that is assigned
   pub IsReadAssigned-front : (s front rest : List ℕ) → s ≡ front ++ rest → IsUtf8 front → IsUtf8 rest → IsAssigned v (chars front) → IsReadAssigned v s rest
   IsReadAssigned-front s front rest parts of_front of_rest all =
-      record {
-        before = chars front;
-        bytes = parts ∙ ap (λ l. l ++ rest) (sym (encodes-chars front of_front));
-        text = ap chars parts ∙ chars-append front rest of_front;
-        assigned = all;
-        utf8 = of_rest;
-      }
+      let bytes = parts ∙ ap (λ l. l ++ rest) (sym (encodes-chars front of_front)) in
+      record { before = chars front; reads = record { utf8 = of_rest; bytes = bytes; split = ap chars parts ∙ chars-append front rest of_front }; assigned = all }
 
   -- what is left of an assigned text is assigned
   pub IsReadAssigned-rest : (s rest : List ℕ) → IsReadAssigned v s rest → IsAssigned v (chars s) → IsAssigned v (chars rest)
-  IsReadAssigned-rest s rest r all = list_all-back (is_assigned v) r.before (chars rest) (ap (list_all (is_assigned v)) (sym r.text) ∙ all)
+  IsReadAssigned-rest s rest r all = list_all-back (is_assigned v) r.before (chars rest) (ap (list_all (is_assigned v)) (sym r.reads.split) ∙ all)
 
   pub IsReadAssigned-next : (s rest : List ℕ) (c : ℕ) (later : List ℕ) → IsReadAssigned v s rest → rest ≡ encode_utf8 c ++ later → is_assigned v c ≡ true → IsReadAssigned v s later
   IsReadAssigned-next s rest c later r e has =
       record {
         before = r.before ++ c ∷ [];
-        bytes = r.bytes ∙ ap (λ l. encode_utf8_all r.before ++ l) e ∙ sym (append_assoc (encode_utf8_all r.before) (encode_utf8 c) later)
-            ∙ ap (λ l. l ++ later) (ap (λ l. encode_utf8_all r.before ++ l) (sym (append-nil (encode_utf8 c))) ∙ sym (encodes-append r.before (c ∷ [])));
-        text = r.text ∙ ap (λ l. r.before ++ l) (chars_past_char rest later c r.utf8 e) ∙ sym (append_assoc r.before (c ∷ []) (chars later));
+        reads = IsRead-next s rest c later r.before e r.reads;
         assigned = list_all-append (is_assigned v) r.before (c ∷ []) r.assigned (and_from _ _ has refl);
-        utf8 = IsUtf8-past_char rest later c r.utf8 e;
       }
 
   pub IsReadAssigned-end : (s rest : List ℕ) → IsReadAssigned v s rest → length rest ≡ 0 → IsAssigned v (chars s)
   IsReadAssigned-end s rest r none =
-      ap (list_all (is_assigned v)) (r.text ∙ ap (λ l. r.before ++ l) (ap chars (nil_from_length rest none) ∙ chars-nil) ∙ append-nil r.before) ∙ r.assigned
+      ap (list_all (is_assigned v)) (r.reads.split ∙ ap (λ l. r.before ++ l) (ap chars (nil_from_length rest none) ∙ chars-nil) ∙ append-nil r.before) ∙ r.assigned
 
   pub IsReadAssigned-stop : (s rest : List ℕ) (c : ℕ) (later : List ℕ) → IsReadAssigned v s rest → rest ≡ encode_utf8 c ++ later → is_assigned v c ≡ false → IsFirstUnassigned v (chars s) (length s - length rest) c
   IsReadAssigned-stop s rest c later r e lacks =
       record {
         before = r.before;
         after = chars later;
-        split = r.text ∙ ap (λ l. r.before ++ l) (chars_past_char rest later c r.utf8 e);
+        split = r.reads.split ∙ ap (λ l. r.before ++ l) (chars_past_char rest later c r.reads.utf8 e);
         assigned = r.assigned;
         lacks = lacks;
-        place = omega (arith, ap length r.bytes, length-append (encode_utf8_all r.before) rest);
+        place = omega (arith, ap length r.reads.bytes, length-append (encode_utf8_all r.before) rest);
       }

@@ -6,10 +6,13 @@ use Rattle.np_forms.proofs.Words.{Breaks, HoldsFront, Writes}
 use Rattle.np_forms.proofs.HeldLemmas.{IsStreaming-start, whole_streams}
 use Rattle.np_forms.proofs.FormLemmas.{IsNormalForm-normal_form}
 
+-- what holds under a version and a form, under equal ones
+pub under : (P : VersionData → Form → Type 0) {v w : VersionData} {f g : Form} → v ≡ w → f ≡ g → P v f → P w g
+under P {v} {w} {f} {g} version form h = subst (λ u. P u g) version (subst (P v) form h)
+
 -- a stream under the version and the form of another state
 pub same_streaming : (a b : StreamState) (fed out pending : List ℕ) → b.version ≡ a.version → b.form ≡ a.form → IsStreaming a.version a.form fed out pending → IsStreaming b.version b.form fed out pending
-same_streaming a b fed out pending version form s =
-    subst (λ v. IsStreaming v b.form fed out pending) (sym version) (subst (λ f. IsStreaming a.version f fed out pending) (sym form) s)
+same_streaming a b fed out pending version form s = under (λ v f. IsStreaming v f fed out pending) (sym version) (sym form) s
 
 pub Writes-start : (s : StreamState) (bytes : List ℕ) → s.ready ≡ [] → Writes s s bytes bytes []
 Writes-start s bytes empty =
