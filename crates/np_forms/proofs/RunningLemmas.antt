@@ -1,12 +1,10 @@
 -- A run over a whole input, chunk by chunk.
 use Rattle.std.proofs.Common.{◌≡◌, ℕ, ◌+◌, ◌<◌, ◌≤◌, ◌⊎◌, List, [], ◌++◌, length, take, drop, chars, encode_utf8_all, flat_map, IsUtf8, Option, None, Some, Result, refl, sym, ap, subst, ◌∙◌, arith, inl, inr, append_assoc, append-nil, length-append}
-use Rattle.std.proofs.KnownBytes.{Appends-trans, Consumes-trans}
-use Rattle.np_forms.proofs.Words.{flat_map-append, nil_from_length, take_all, take-append-drop, drop_at, drop-drop}
-use Rattle.np_forms.proofs.Words.{chars-nil, chars-append, IsUtf8-nil, encodes-append, IsUtf8-append, utf8_valid_len}
-use Rattle.np_forms.proofs.Words.{utf8_error_len, is_compat, composes, Form, IsSound, VersionData, class_of, full_of}
-use Rattle.np_forms.proofs.Words.{IsNormalForm, IsStreaming, StreamState, canonical_order, decomposed, ended}
-use Rattle.np_forms.proofs.Words.{normal_form, IsRunning, MayBegin, MayNotBegin, IsNextChunk, IsInputFault}
-use Rattle.np_forms.proofs.Words.{IsPieceWritten, IsPieceCut, IsRestWritten, IsRestCut, Stops}
+use Rattle.std.proofs.KnownBytes.{Appends-nil, Appends-trans, Consumes-nil, Consumes-trans}
+use Rattle.np_forms.proofs.Words.{flat_map-append, nil_from_length, take_all, take-append-drop, drop_at, drop-drop, chars-nil, chars-append, IsUtf8-nil}
+use Rattle.np_forms.proofs.Words.{encodes-append, IsUtf8-append, utf8_valid_len, utf8_error_len, is_compat, composes, Form, IsSound, VersionData, class_of}
+use Rattle.np_forms.proofs.Words.{full_of, IsNormalForm, IsStreaming, StreamState, canonical_order, decomposed, ended, normal_form, IsRunning, MayBegin}
+use Rattle.np_forms.proofs.Words.{MayNotBegin, IsNextChunk, IsInputFault, IsPieceWritten, IsPieceCut, IsRestWritten, IsRestCut, Stops}
 use Rattle.std.specs.Io.KnownBytes.{Appends, Consumes, IsAtEnd, Keeps}
 use Rattle.np_code_points.specs.Text.{IsLongestValidPrefix}
 use Rattle.np_forms.specs.RunEnds.{BeginsText, Ends, IsRunWhole, IsReadTo, IsCauseOf, IsFrontOfForm, IsWrittenOf, IsRunCut, RunEnds}
@@ -20,62 +18,20 @@ use Rattle.np_forms.proofs.RunTextLemmas.{take_past, prefix_past, prefix_left, o
 abbrev pub ends_of : Option (List ℕ) → Option (List ℕ) → Option (List ℕ) → Option (List ℕ) → Ends
 ends_of i₀ i₁ o₀ o₁ = record { in_before = i₀; in_after = i₁; out_before = o₀; out_after = o₁ }
 
--- known bytes that grew stay as they are
-pub appended : (o₁ o₂ o₃ : Option (List ℕ)) (bytes : List ℕ) → Appends o₁ o₂ bytes → Keeps o₂ o₃ → Appends o₁ o₃ bytes
-appended None o₂ o₃ bytes a k = tt
-appended (Some xs) None o₃ bytes a k = absurd a
-appended (Some xs) (Some ys) None bytes a k = absurd k
-appended (Some xs) (Some ys) (Some zs) bytes a k = k ∙ a
-
-Consumes-nothing : (i : Option (List ℕ)) → Consumes i i []
-Consumes-nothing None = tt
-Consumes-nothing (Some xs) = refl
-
-Appends-nothing : (o : Option (List ℕ)) → Appends o o []
-Appends-nothing None = tt
-Appends-nothing (Some xs) = sym (append-nil xs)
-
-drop_past : (a b : List ℕ) (n : ℕ) → drop (length a + n) (a ++ b) ≡ drop n b
-drop_past a b n = sym (drop-drop n (length a) (a ++ b)) ∙ ap (drop n) (drop_at a b (length a) refl)
-
 -- what follows the longest prefix of a text and of what follows it
 left_past : (a b : List ℕ) (n : ℕ) → IsUtf8 a → IsLongestValidPrefix b n → drop (utf8_valid_len (a ++ b)) (a ++ b) ≡ drop n b
-left_past a b n utf8 h = ap (λ k. drop k (a ++ b)) (one_prefix (a ++ b) (length a + n) (prefix_past a b n utf8 h)) ∙ drop_past a b n
-
-begins_past : (a b : List ℕ) (n : ℕ) → IsUtf8 a → MayBegin b n → BeginsText (a ++ b)
-begins_past a b n utf8 h = ap utf8_error_len (left_past a b n utf8 h.prefix) ∙ h.begins
+left_past a b n utf8 h = ap (λ k. drop k (a ++ b)) (one_prefix (a ++ b) (length a + n) (prefix_past a b n utf8 h)) ∙ sym (drop-drop n (length a) (a ++ b)) ∙ ap (drop n) (drop_at a b (length a) refl)
 
 not_begins_past : (a b : List ℕ) (n : ℕ) → IsUtf8 a → MayNotBegin b n → ¬ BeginsText (a ++ b)
 not_begins_past a b n utf8 h = λ begins. h.ends (ap utf8_error_len (sym (left_past a b n utf8 h.prefix)) ∙ begins)
 
 module _ {v : VersionData} (sound : IsSound v) where
-  -- what was ever ready begins the form of the text, whatever follows
-  form_front : (form : Form) (fed ready pending text : List ℕ) → IsStreaming v form fed ready pending → (rest : List ℕ) × (normal_form v form (fed ++ text) ≡ ready ++ rest)
-  unfolding normal_form decomposed
-  form_front form fed ready pending text s =
-      let each = full_of v (is_compat form) in
-      let h = held_streaming v sound form fed ready pending s in (
-        ended v (composes form) (canonical_order (class_of v) (pending ++ flat_map each text)),
-        ap (λ l. ended v (composes form) (canonical_order (class_of v) l)) (flat_map-append each fed text) ∙ h.goes_on (flat_map each text),
-      )
-
   -- these first bytes of what is ready
   ready_front : (list ready rest out behind : List ℕ) → list ≡ ready ++ rest → encode_utf8_all ready ≡ out ++ behind → IsFrontOfForm list out
   ready_front list ready rest out behind is of_ready =
       record {
         rest = behind ++ encode_utf8_all rest;
         split = ap encode_utf8_all is ∙ encodes-append ready rest ∙ ap (λ l. l ++ encode_utf8_all rest) of_ready ∙ append_assoc out behind (encode_utf8_all rest);
-      }
-
-  -- what was read, where n bytes of the last chunk are a text
-  read_to : (form : Form) (ends : Ends) (done chunk : List ℕ) (n : ℕ) → Consumes ends.in_before ends.in_after (done ++ chunk) → IsUtf8 done → IsLongestValidPrefix chunk n → length done + length chunk ≤ 4294967296 → IsReadTo v form ends (done ++ chunk) (normal_form v form (chars done ++ chars (take n chunk))) (length done + n)
-  read_to form ends done chunk n taken utf8 h size =
-      let text : chars (take (length done + n) (done ++ chunk)) ≡ chars done ++ chars (take n chunk) = ap chars (take_past done chunk n) ∙ chars-append done (take n chunk) utf8 in
-      record {
-        taken = taken;
-        size = omega (arith, length-append done chunk);
-        valid = prefix_past done chunk n utf8 h;
-        normal = subst (λ l. IsNormalForm v form l (normal_form v form (chars done ++ chars (take n chunk)))) (sym text) (IsNormalForm-normal_form v sound form _);
       }
 
   module _ {form : Form} {i₀ i₁ o₀ o₁ : Option (List ℕ)} {kept : List ℕ} {total count : ℕ} {s : StreamState} (r : IsRunning v form i₀ i₁ o₀ o₁ kept total count s) where
@@ -92,18 +48,29 @@ module _ {v : VersionData} (sound : IsSound v) where
 
     -- what was ready begins the form
     ready_begins : (text : List ℕ) → IsFrontOfForm (normal_form v form (chars r.done ++ text)) (encode_utf8_all r.ready)
+    unfolding normal_form decomposed
     ready_begins text =
-        let front = form_front form (chars r.done) r.ready s.pending text r.streaming in
-        ready_front _ r.ready front.0 (encode_utf8_all r.ready) [] front.1 (sym (append-nil (encode_utf8_all r.ready)))
+        let each = full_of v (is_compat form) in
+        let rest = ended v (composes form) (canonical_order (class_of v) (s.pending ++ flat_map each text)) in
+        let held = held_streaming v sound form (chars r.done) r.ready s.pending r.streaming in
+        let is = ap (λ l. ended v (composes form) (canonical_order (class_of v) l)) (flat_map-append each (chars r.done) text) ∙ held.goes_on (flat_map each text) in
+        ready_front _ r.ready rest (encode_utf8_all r.ready) [] is (sym (append-nil (encode_utf8_all r.ready)))
 
     module _ (i₂ o₂ : Option (List ℕ)) (chunk : List ℕ) (n : ℕ) (taken : Consumes i₀ i₂ (r.done ++ chunk)) (h : IsLongestValidPrefix chunk n) (size : length r.done + length chunk ≤ 4294967296) where
       cut_at : (fault : RunFault) (out : List ℕ) → IsCauseOf (ends_of i₀ i₂ o₀ o₂) (r.done ++ chunk) (length r.done + n) fault → Appends o₀ o₂ out → IsWrittenOf v (normal_form v form (chars r.done ++ chars (take n chunk))) out fault → IsRunCut v form (ends_of i₀ i₂ o₀ o₂) fault
       cut_at fault out cause written front =
+          let list = normal_form v form (chars r.done ++ chars (take n chunk)) in
+          let text : chars (take (length r.done + n) (r.done ++ chunk)) ≡ chars r.done ++ chars (take n chunk) = ap chars (take_past r.done chunk n) ∙ chars-append r.done (take n chunk) r.utf8 in
           record {
             bytes = r.done ++ chunk;
             at = length r.done + n;
-            list = normal_form v form (chars r.done ++ chars (take n chunk));
-            read = read_to form (ends_of i₀ i₂ o₀ o₂) r.done chunk n taken r.utf8 h size;
+            list = list;
+            read = record {
+              taken = taken;
+              size = omega (arith, length-append r.done chunk);
+              valid = prefix_past r.done chunk n r.utf8 h;
+              normal = subst (λ l. IsNormalForm v form l list) (sym text) (IsNormalForm-normal_form v sound form _);
+            };
             cause = cause;
             out = out;
             written = written;
@@ -153,19 +120,11 @@ module _ {v : VersionData} (sound : IsSound v) where
           here,
           elim f.cause.cause.1 [
             | inl whole ↦
-                inl (
-                  length (r.done ++ chunk),
-                  omega (arith, whole.0, r.size, sizes, all),
-                  omega arith,
-                  λ begins. not_begins_past r.done chunk n r.utf8 whole.1 (subst BeginsText (take_all (length (r.done ++ chunk)) (r.done ++ chunk) (omega arith)) begins),
-                )
+                let none = λ (begins : BeginsText (take (length (r.done ++ chunk)) (r.done ++ chunk))). not_begins_past r.done chunk n r.utf8 whole.1 (subst BeginsText (take_all (length (r.done ++ chunk)) (r.done ++ chunk) (omega arith)) begins) in
+                inl (length (r.done ++ chunk), omega (arith, whole.0, r.size, sizes, all), omega arith, none)
             | inr past ↦
-                inl (
-                  length r.done + past.1.m,
-                  omega (arith, past.0, past.1.size, r.size, sizes),
-                  omega (arith, past.1.size, all),
-                  λ begins. not_begins_past r.done (take past.1.m chunk) past.1.k r.utf8 past.1.front (subst BeginsText (take_past r.done chunk past.1.m) begins),
-                )
+                let none = λ (begins : BeginsText (take (length r.done + past.1.m) (r.done ++ chunk))). not_begins_past r.done (take past.1.m chunk) past.1.k r.utf8 past.1.front (subst BeginsText (take_past r.done chunk past.1.m) begins) in
+                inl (length r.done + past.1.m, omega (arith, past.0, past.1.size, r.size, sizes), omega (arith, past.1.size, all), none)
           ],
         )
         (λ list out h. h)
@@ -179,7 +138,7 @@ module _ {v : VersionData} (sound : IsSound v) where
         let last : length r.done + large.1.m ≡ 4294967295 = omega (arith, large.0, large.1.size, r.size, sizes) in
         cut_early i₂ f.came n TooLarge f.taken f.cause.prefix f.size (
           omega (arith, large.0, r.size, sizes, length-append r.done chunk),
-          subst BeginsText (sym (take_past r.done chunk large.1.m) ∙ ap (λ k. take k (r.done ++ chunk)) last) (begins_past r.done (take large.1.m chunk) large.1.k r.utf8 large.1.front),
+          subst BeginsText (sym (take_past r.done chunk large.1.m) ∙ ap (λ k. take k (r.done ++ chunk)) last) (ap utf8_error_len (left_past r.done (take large.1.m chunk) large.1.k r.utf8 large.1.front.prefix) ∙ large.1.front.begins),
         )
         (λ list out h. h)
     cut_input i₂ Memory f = cut_early i₂ f.came (utf8_valid_len (kept ++ f.came)) Memory f.taken (longest_prefix (kept ++ f.came)) f.size tt (λ list out h. h)
@@ -268,12 +227,12 @@ module _ {v : VersionData} (sound : IsSound v) where
   run_start form i₀ o₀ s version same moved begins =
       record {
         done = [];
-        taken = Consumes-nothing i₀;
+        taken = Consumes-nil i₀;
         utf8 = IsUtf8-nil;
         cut = whole_prefix [] 0 refl IsUtf8-nil;
         size = omega arith;
         ready = [];
-        written = Appends-nothing o₀;
+        written = Appends-nil o₀;
         count_is = refl;
         streaming = subst (λ l. IsStreaming v form l [] s.pending) (sym chars-nil) begins;
         version = version;
@@ -289,7 +248,7 @@ module _ {v : VersionData} (sound : IsSound v) where
     cut_start =
         subst (λ x. IsRunCut v form (ends_of x i' o o') Memory) same_in
         (subst (λ x. IsRunCut v form (ends_of i' i' x o') Memory) same_out
-        (cut_input (run_start form i' o' s version form_is moved begins) i' Memory (record { came = []; taken = Consumes-nothing i'; size = omega arith; cause = tt })))
+        (cut_input (run_start form i' o' s version form_is moved begins) i' Memory (record { came = []; taken = Consumes-nil i'; size = omega arith; cause = tt })))
 
     -- a whole run
     pub run_all : {kept : List ℕ} {total : ℕ} → kept ≡ [] → total ≡ 0 → (i₂ o₂ : Option (List ℕ)) (result : Result ℕ RunFault) → Stops s i' i₂ o' o₂ kept total 0 result → RunEnds v form (ends_of i i₂ o o₂) result

@@ -1,9 +1,7 @@
 -- A text that was read up to some place.
 use Rattle.std.proofs.Common.{◌≡◌, ℕ, ◌-◌, Bool, true, false, List, [], ◌∷◌, ◌++◌, length, chars, IsUtf8, encode_utf8, encode_utf8_all, refl, sym, ap, ◌∙◌, arith, append_assoc, append-nil, length-append}
-use Rattle.np_forms.proofs.Words.{and_from, and_parts, both_ways, nil_from_length, chars-append, chars-nil}
-use Rattle.np_forms.proofs.Words.{chars_past_char, encodes-append, encodes-chars, IsUtf8-past_char, list_all}
-use Rattle.np_forms.proofs.Words.{VersionData, is_assigned, IsAssigned, IsFirstUnassigned, IsEndOf, IsRead}
-use Rattle.np_forms.proofs.Words.{IsReadAssigned}
+use Rattle.np_forms.proofs.Words.{and_from, and_parts, both_ways, nil_from_length, chars-append, chars-nil, chars_past_char, encodes-append, encodes-chars}
+use Rattle.np_forms.proofs.Words.{IsUtf8-past_char, list_all, VersionData, is_assigned, IsAssigned, IsFirstUnassigned, IsEndOf, IsRead, IsReadAssigned}
 use Rattle.np_tables.proofs.MappingLemmas.{list_all-append}
 
 pub list_all-front : (p : ℕ → Bool) (xs ys : List ℕ) → list_all p (xs ++ ys) ≡ true → list_all p xs ≡ true

@@ -1,6 +1,5 @@
 use Rattle.std.proofs.Common.{◌≡◌, ◌+◌, ◌-◌, ◌<◌, ◌≤◌, ◌++◌, true, length, take, drop, get_or, refl, sym, ap, ◌∙◌, arith}
-use Rattle.np_forms.proofs.Words.{take_rest, take-append-drop, drop-drop, class_of, is_ordered, canonical_order}
-use Rattle.np_forms.proofs.Words.{with_classes}
+use Rattle.np_forms.proofs.Words.{take_rest, take-append-drop, drop-drop, class_of, is_ordered, canonical_order, with_classes}
 use borrow.Rule.Slice.PartMut.{put_mid}
 use Rattle.np_forms.proofs.ClassLemmas.{back_part, front_part, put_in, same_length}
 use Rattle.np_forms.proofs.OrderLemmas.{canonical_order-ordered}
