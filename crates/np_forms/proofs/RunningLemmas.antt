@@ -114,10 +114,9 @@ module _ {v : VersionData} (sound : IsSound v) where
         let chunk = kept ++ f.came in
         let n = f.cause.n in
         let sizes = length-append kept f.came in
-        let here : place ≡ length r.done + n = omega (arith, r.size, f.cause.cause.0, sizes) in
         let all = length-append r.done chunk in
         cut_early i₂ f.came n (NotUtf8 place) f.taken f.cause.prefix f.size (
-          here,
+          omega (arith, r.size, f.cause.cause.0, sizes),
           elim f.cause.cause.1 [
             | inl whole ↦
                 let none = λ (begins : BeginsText (take (length (r.done ++ chunk)) (r.done ++ chunk))). not_begins_past r.done chunk n r.utf8 whole.1 (subst BeginsText (take_all (length (r.done ++ chunk)) (r.done ++ chunk) (omega arith)) begins) in

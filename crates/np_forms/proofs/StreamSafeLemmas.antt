@@ -87,8 +87,7 @@ module _ (v : VersionData) where
                   elim (run_of n 0 cs rest) [ inl some ↦ inl (shifted n c cs some) | inr front ↦ inl (shifted n c cs (front_is_run n cs front)) ]
             ]
         | inr non_starter ↦
-            let rest : n < longest_run ccc (suc k) cs = omega (arith, longest-non_starter k c cs non_starter) in
-            elim (run_of n (suc k) cs rest) [
+            elim (run_of n (suc k) cs (omega (arith, longest-non_starter k c cs non_starter))) [
               | inl some ↦ inl (shifted n c cs some)
               | inr front ↦ inr (record {
                 run = c ∷ front.run;

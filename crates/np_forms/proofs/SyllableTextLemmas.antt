@@ -52,14 +52,12 @@ module _ (s : ℕ) (h : is_syllable s ≡ true) where
       let lv = shape.front in
       let pair = sym shape.pair ∙ pair_of_lvt s odd in
       let base : shape.base ≡ s - (s - 0xAC00) % 28 = ap (λ l. get_or l 0 0) pair in
-      let last : shape.last ≡ 0x11A7 + (s - 0xAC00) % 28 = ap (λ l. get_or l 1 0) pair in
-      let even : (shape.base - 0xAC00) % 28 ≡ 0 = omega (arith, base) in
-      let again = sym lv.pair ∙ pair_of_lv shape.base even in
+      let again = sym lv.pair ∙ pair_of_lv shape.base (omega (arith, base)) in
       let leading : lv.leading ≡ 0x1100 + (s - 0xAC00) / 28 / 21 = omega (arith, base, ap (λ l. get_or l 0 0) again) in
       let vowel : lv.vowel ≡ 0x1161 + (s - 0xAC00) / 28 % 21 = omega (arith, base, ap (λ l. get_or l 1 0) again) in
       syllable_parts-three s shape.base shape.last lv.leading lv.vowel h shape.pair lv.syllable lv.pair
       ∙ ap (λ x. x ∷ lv.vowel ∷ shape.last ∷ []) leading ∙ ap (λ x. (0x1100 + (s - 0xAC00) / 28 / 21) ∷ x ∷ shape.last ∷ []) vowel
-      ∙ ap (λ x. (0x1100 + (s - 0xAC00) / 28 / 21) ∷ (0x1161 + (s - 0xAC00) / 28 % 21) ∷ x ∷ []) last
+      ∙ ap (λ x. (0x1100 + (s - 0xAC00) / 28 / 21) ∷ (0x1161 + (s - 0xAC00) / 28 % 21) ∷ x ∷ []) (ap (λ l. get_or l 1 0) pair)
 
 -- ---- syllables from the bytes of their jamo
 

@@ -6,8 +6,7 @@ use Rattle.np_forms.proofs.decomposing.append.Goals.{else-hangul-via-then-hangul
 
 pub returns-then-not-is_empty : goal.returns-then-not-is_empty
 returns-then-not-is_empty g c =
-    let some : 0 < length c.lent-full.result.now = omega (arith, eqb-false _ 0 (sym c.is_empty.ensures ∙ c.if-not-is_empty.true)) in
-    rw (← lent_some _ _ _ _ c.lent-full.ensures some) c.push_classed.ensures
+    rw (← lent_some _ _ _ _ c.lent-full.ensures (omega (arith, eqb-false _ 0 (sym c.is_empty.ensures ∙ c.if-not-is_empty.true)))) c.push_classed.ensures
 
 pub returns-then-is_syllable : goal.returns-then-is_syllable
 returns-then-is_syllable g c =
