@@ -148,7 +148,8 @@ module _ (v : VersionData) (sound : IsSound v) where
       uncomposed_blocked t bs fs a c same stands =
           let fails : is_reorderable ccc c a ≡ false =
           elim stands [ inl blocks ↦ not_reorderable_rising ccc c a blocks.1 | inr pair ↦ not_reorderable_starter ccc c a (omega (arith, pair.0)) ] in
-          joined-blocked ccc (composite v) t bs c (ap (λ l. is_free ccc l c) same ∙ list_all-append (is_reorderable ccc c) fs (a ∷ []) ∙ and_right (is_free ccc fs c) _ (and_left (is_reorderable ccc c a) true fails))
+          joined-blocked ccc (composite v) t bs c
+          (ap (λ l. is_free ccc l c) same ∙ list_all-append (is_reorderable ccc c) fs (a ∷ []) ∙ and_right (is_free ccc fs c) _ (and_left (is_reorderable ccc c a) true fails))
 
       -- what stands behind the last starter s, and bs, which were kept, ends with a
       abbrev EndsWith : ℕ → List ℕ → ℕ → Type 0

@@ -22,8 +22,8 @@ ends_of i₀ i₁ o₀ o₁ = record { in_before = i₀; in_after = i₁; out_be
 left_past : (a b : List ℕ) (n : ℕ) → IsUtf8 a → IsLongestValidPrefix b n → drop (utf8_valid_len (a ++ b)) (a ++ b) ≡ drop n b
 left_past a b n utf8 h = ap (λ k. drop k (a ++ b)) (one_prefix (a ++ b) (length a + n) (prefix_past a b n utf8 h)) ∙ sym (drop-drop n (length a) (a ++ b)) ∙ ap (drop n) (drop_at a b (length a) refl)
 
-not_begins_past : (a b : List ℕ) (n : ℕ) → IsUtf8 a → MayNotBegin b n → ¬ BeginsText (a ++ b)
-not_begins_past a b n utf8 h = λ begins. h.ends (ap utf8_error_len (sym (left_past a b n utf8 h.prefix)) ∙ begins)
+not_begins_past : (a b : List ℕ) (n : ℕ) (text : List ℕ) → IsUtf8 a → MayNotBegin b n → text ≡ a ++ b → ¬ BeginsText text
+not_begins_past a b n text utf8 h is = λ begins. h.ends (ap utf8_error_len (sym (left_past a b n utf8 h.prefix)) ∙ subst BeginsText is begins)
 
 module _ {v : VersionData} (sound : IsSound v) where
   -- these first bytes of what is ready
@@ -57,7 +57,8 @@ module _ {v : VersionData} (sound : IsSound v) where
         ready_front _ r.ready rest (encode_utf8_all r.ready) [] is (sym (append-nil (encode_utf8_all r.ready)))
 
     module _ (i₂ o₂ : Option (List ℕ)) (chunk : List ℕ) (n : ℕ) (taken : Consumes i₀ i₂ (r.done ++ chunk)) (h : IsLongestValidPrefix chunk n) (size : length r.done + length chunk ≤ 4294967296) where
-      cut_at : (fault : RunFault) (out : List ℕ) → IsCauseOf (ends_of i₀ i₂ o₀ o₂) (r.done ++ chunk) (length r.done + n) fault → Appends o₀ o₂ out → IsWrittenOf v (normal_form v form (chars r.done ++ chars (take n chunk))) out fault → IsRunCut v form (ends_of i₀ i₂ o₀ o₂) fault
+      cut_at : (fault : RunFault) (out : List ℕ) → IsCauseOf (ends_of i₀ i₂ o₀ o₂) (r.done ++ chunk) (length r.done + n) fault → Appends o₀ o₂ out →
+          IsWrittenOf v (normal_form v form (chars r.done ++ chars (take n chunk))) out fault → IsRunCut v form (ends_of i₀ i₂ o₀ o₂) fault
       cut_at fault out cause written front =
           let list = normal_form v form (chars r.done ++ chars (take n chunk)) in
           let text : chars (take (length r.done + n) (r.done ++ chunk)) ≡ chars r.done ++ chars (take n chunk) = ap chars (take_past r.done chunk n) ∙ chars-append r.done (take n chunk) r.utf8 in
@@ -79,7 +80,8 @@ module _ {v : VersionData} (sound : IsSound v) where
 
       -- what became ready was written in part, or nothing more was written
       cut_in_part : (fault : RunFault) → (fault ≡ WriteFailed) ⊎ (fault ≡ Memory) → (out : List ℕ) → Appends o₁ o₂ out →
-          (out ≡ []) ⊎ ((more : List ℕ) × ((rest : List ℕ) × (encode_utf8_all more ≡ out ++ rest) × ((after : List ℕ) × (normal_form v form (chars r.done ++ chars (take n chunk)) ≡ (r.ready ++ more) ++ after)))) → IsRunCut v form (ends_of i₀ i₂ o₀ o₂) fault
+          (out ≡ []) ⊎ ((more : List ℕ) × ((rest : List ℕ) × (encode_utf8_all more ≡ out ++ rest) × ((after : List ℕ) × (normal_form v form (chars r.done ++ chars (take n chunk)) ≡ (r.ready ++ more) ++ after)))) →
+          IsRunCut v form (ends_of i₀ i₂ o₀ o₂) fault
       cut_in_part fault by out written parts =
           let old = encode_utf8_all r.ready in
           let list = normal_form v form (chars r.done ++ chars (take n chunk)) in
@@ -99,7 +101,8 @@ module _ {v : VersionData} (sound : IsSound v) where
     -- nothing more was fed or written
     cut_early : (i₂ : Option (List ℕ)) (came : List ℕ) (n : ℕ) (fault : RunFault) → Consumes i₁ i₂ came → IsLongestValidPrefix (kept ++ came) n → total + length came ≤ 4294967296 → IsCauseOf (ends_of i₀ i₂ o₀ o₁) (r.done ++ (kept ++ came)) (length r.done + n) fault → ((list out : List ℕ) → IsFrontOfForm list out → IsWrittenOf v list out fault) → IsRunCut v form (ends_of i₀ i₂ o₀ o₁) fault
     cut_early i₂ came n fault taken h size cause written =
-        cut_at i₂ o₁ (kept ++ came) n (taken_with i₂ came taken) h (omega (arith, r.size, length-append kept came)) fault (encode_utf8_all r.ready) cause r.written (written _ _ (ready_begins (chars (take n (kept ++ came)))))
+        cut_at i₂ o₁ (kept ++ came) n (taken_with i₂ came taken) h (omega (arith, r.size, length-append kept came))
+        fault (encode_utf8_all r.ready) cause r.written (written _ _ (ready_begins (chars (take n (kept ++ came)))))
 
     -- a failed read: all of the text was fed, and all that is ready is written
     cut_read : (i₂ : Option (List ℕ)) → Consumes i₁ i₂ [] → total ≤ 4294967296 → IsRunCut v form (ends_of i₀ i₂ o₀ o₁) ReadFailed
@@ -107,7 +110,8 @@ module _ {v : VersionData} (sound : IsSound v) where
         let all = subst (λ l. Consumes i₀ i₂ (r.done ++ l)) (append-nil kept) (taken_with i₂ [] taken) in
         let streaming = r.streaming in
         let list = unfed ∙ sym (normal_form_is v sound form (chars r.done) (r.ready ++ streaming.held) streaming.whole) in
-        cut_at i₂ o₁ kept 0 all r.cut (omega (arith, r.size)) ReadFailed (encode_utf8_all r.ready) tt r.written (record { x = r.ready; y = streaming.held; split = list; cut = streaming.cut; out_is = refl })
+        cut_at i₂ o₁ kept 0 all r.cut (omega (arith, r.size))
+        ReadFailed (encode_utf8_all r.ready) tt r.written (record { x = r.ready; y = streaming.held; split = list; cut = streaming.cut; out_is = refl })
 
     pub cut_input : (i₂ : Option (List ℕ)) (fault : RunFault) → IsInputFault i₁ i₂ kept total fault → IsRunCut v form (ends_of i₀ i₂ o₀ o₁) fault
     cut_input i₂ (NotUtf8 place) f =
@@ -119,10 +123,10 @@ module _ {v : VersionData} (sound : IsSound v) where
           omega (arith, r.size, f.cause.cause.0, sizes),
           elim f.cause.cause.1 [
             | inl whole ↦
-                let none = λ (begins : BeginsText (take (length (r.done ++ chunk)) (r.done ++ chunk))). not_begins_past r.done chunk n r.utf8 whole.1 (subst BeginsText (take_all (length (r.done ++ chunk)) (r.done ++ chunk) (omega arith)) begins) in
+                let none = not_begins_past r.done chunk n _ r.utf8 whole.1 (take_all (length (r.done ++ chunk)) (r.done ++ chunk) (omega arith)) in
                 inl (length (r.done ++ chunk), omega (arith, whole.0, r.size, sizes, all), omega arith, none)
             | inr past ↦
-                let none = λ (begins : BeginsText (take (length r.done + past.1.m) (r.done ++ chunk))). not_begins_past r.done (take past.1.m chunk) past.1.k r.utf8 past.1.front (subst BeginsText (take_past r.done chunk past.1.m) begins) in
+                let none = not_begins_past r.done (take past.1.m chunk) past.1.k _ r.utf8 past.1.front (take_past r.done chunk past.1.m) in
                 inl (length r.done + past.1.m, omega (arith, past.0, past.1.size, r.size, sizes), omega (arith, past.1.size, all), none)
           ],
         )
@@ -137,7 +141,8 @@ module _ {v : VersionData} (sound : IsSound v) where
         let last : length r.done + large.1.m ≡ 4294967295 = omega (arith, large.0, large.1.size, r.size, sizes) in
         cut_early i₂ f.came n TooLarge f.taken f.cause.prefix f.size (
           omega (arith, large.0, r.size, sizes, length-append r.done chunk),
-          subst BeginsText (sym (take_past r.done chunk large.1.m) ∙ ap (λ k. take k (r.done ++ chunk)) last) (ap utf8_error_len (left_past r.done (take large.1.m chunk) large.1.k r.utf8 large.1.front.prefix) ∙ large.1.front.begins),
+          subst BeginsText (sym (take_past r.done chunk large.1.m) ∙ ap (λ k. take k (r.done ++ chunk)) last)
+              (ap utf8_error_len (left_past r.done (take large.1.m chunk) large.1.k r.utf8 large.1.front.prefix) ∙ large.1.front.begins),
         )
         (λ list out h. h)
     cut_input i₂ Memory f = cut_early i₂ f.came (utf8_valid_len (kept ++ f.came)) Memory f.taken (longest_prefix (kept ++ f.came)) f.size tt (λ list out h. h)
@@ -150,7 +155,8 @@ module _ {v : VersionData} (sound : IsSound v) where
         let no_text = λ (utf8 : IsUtf8 (r.done ++ kept)).
         let most = whole.longest (length (r.done ++ kept)) (omega arith) (subst IsUtf8 (sym (take_all (length (r.done ++ kept)) (r.done ++ kept) (omega arith))) utf8) in
         absurd (omega (arith, most, all)) in
-        cut_at i₁ o₁ kept 0 r.taken r.cut (omega (arith, r.size)) (NotUtf8 place) (encode_utf8_all r.ready) (omega (arith, r.size), inr (end, omega (arith, r.size, all), no_text)) r.written (ready_begins (chars (take 0 kept)))
+        cut_at i₁ o₁ kept 0 r.taken r.cut (omega (arith, r.size))
+        (NotUtf8 place) (encode_utf8_all r.ready) (omega (arith, r.size), inr (end, omega (arith, r.size, all), no_text)) r.written (ready_begins (chars (take 0 kept)))
 
     -- the rest was written in part
     pub cut_rest : {o₂ : Option (List ℕ)} {fault : RunFault} → total ≤ 4294967295 → (fault ≡ WriteFailed) ⊎ (fault ≡ Memory) → IsRestCut s o₁ o₂ → IsRunCut v form (ends_of i₀ i₁ o₀ o₂) fault

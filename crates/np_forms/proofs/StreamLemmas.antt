@@ -243,7 +243,8 @@ full_of-boundary v form c sound at =
     sym (append-nil (full_of v (is_compat form) c)) ∙ sym (full_decomposition-flat_map v (is_compat form) sound.shallow (c ∷ []) (at.first ∷ at.rest) at.decomposes)
 
 -- before a boundary, what was written stands
-pub normal_form-parts : (v : VersionData) (sound : IsSound v) (form : Form) (xs : List ℕ) (c : ℕ) (ys : List ℕ) → IsBoundary v form c → normal_form v form (xs ++ c ∷ ys) ≡ normal_form v form xs ++ normal_form v form (c ∷ ys)
+pub normal_form-parts : (v : VersionData) (sound : IsSound v) (form : Form) (xs : List ℕ) (c : ℕ) (ys : List ℕ) → IsBoundary v form c →
+    normal_form v form (xs ++ c ∷ ys) ≡ normal_form v form xs ++ normal_form v form (c ∷ ys)
 unfolding normal_form
 normal_form-parts v sound form xs c ys at =
     let compat = is_compat form in

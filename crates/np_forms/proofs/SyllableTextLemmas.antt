@@ -95,8 +95,8 @@ take-bytes (suc n) at l long =
 
 -- bytes that encode a leading consonant and a vowel, of which a syllable is made with a trailing consonant or none
 module _ (bytes : List ℕ) (leading vowel trailing : ℕ) (long : 9 ≤ length bytes) (leading_consonants : leading < 19) (vowels : vowel < 21) (trailings : trailing < 28)
-         (first : encode_utf8 (0x1100 + leading) ≡ get_or bytes 0 0 ∷ get_or bytes 1 0 ∷ get_or bytes 2 0 ∷ [])
-         (second : encode_utf8 (0x1161 + vowel) ≡ get_or bytes 3 0 ∷ get_or bytes 4 0 ∷ get_or bytes 5 0 ∷ []) where
+    (first : encode_utf8 (0x1100 + leading) ≡ get_or bytes 0 0 ∷ get_or bytes 1 0 ∷ get_or bytes 2 0 ∷ [])
+    (second : encode_utf8 (0x1161 + vowel) ≡ get_or bytes 3 0 ∷ get_or bytes 4 0 ∷ get_or bytes 5 0 ∷ []) where
   abbrev s : ℕ
   s = 0xAC00 + (leading * 21 + vowel) * 28 + trailing
 

@@ -8,7 +8,8 @@ append_bytes-requires c = (
   c.args.a ∷ c.args.b ∷ [],
   (
     and_from _ _ (middle-scalar c.args.a c.requires.first) (and_from _ _ (middle-scalar c.args.b c.requires.second) refl),
-    two_encoded _ _ _ _ _ _ _ _ c.requires.first c.requires.second (c.lead_byte.ensures, c.middle_byte.ensures, c.last_byte.ensures) (c.lead_byte-2.ensures, c.middle_byte-2.ensures, c.last_byte-2.ensures),
+    two_encoded _ _ _ _ _ _ _ _ c.requires.first c.requires.second (c.lead_byte.ensures, c.middle_byte.ensures, c.last_byte.ensures)
+        (c.lead_byte-2.ensures, c.middle_byte-2.ensures, c.last_byte-2.ensures),
   ),
 )
 
