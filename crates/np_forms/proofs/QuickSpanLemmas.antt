@@ -1,6 +1,6 @@
 -- Code points that may follow one another as they are are their own form.
 use Rattle.std.proofs.Common.{◌≡◌, ℕ, ◌≤◌, ◌⊎◌, Bool, true, false, List, [], ◌∷◌, ◌++◌, Option, Some, None, length, flat_map, unwrap_or, MatchBool, refl, sym, ap, subst, ◌∙◌, arith, inl, inr, append_assoc, append-nil, ◌<◌}
-use Rattle.np_forms.proofs.Words.{is_compat, composes, Form, and_left, and_right, cases_Bool, cases_lt, and_from, list_all, is_reorderable, canonical_order}
+use Rattle.np_forms.proofs.Words.{is_compat, composes, Form, and_left, and_right, cases_Bool, cases_lt, and_from, is_reorderable, canonical_order}
 use Rattle.np_forms.proofs.Words.{slide, compose, compose_after, compose_of, is_free, joined, decomposed, ended, normal_form, ComposesTo, IsBoundary}
 use Rattle.np_forms.proofs.Words.{NeverFalls, IsYesStarter, IsSound, is_final, VersionData, class_of, composite, full_of, NeverComposesBackward, MayFollow}
 use Rattle.np_forms.proofs.Words.{CannotComposeAfter, Walks}

@@ -1,13 +1,13 @@
 -- A run over a whole input, chunk by chunk.
-use Rattle.std.proofs.Common.{◌≡◌, ℕ, ◌+◌, ◌<◌, ◌≤◌, ◌⊎◌, List, [], ◌++◌, length, take, drop, chars, encode_utf8_all, flat_map, IsUtf8, Option, None, Some, Result, refl, sym, ap, subst, ◌∙◌, arith, inl, inr, append_assoc, append-nil, length-append}
+use Rattle.std.proofs.Common.{◌≡◌, ℕ, ◌+◌, ◌<◌, ◌≤◌, ◌⊎◌, List, [], ◌++◌, length, take, drop, chars, encode_utf8_all, flat_map, IsUtf8, Option, Result, refl, sym, ap, subst, ◌∙◌, arith, inl, inr, append_assoc, append-nil, length-append}
 use Rattle.std.proofs.KnownBytes.{Appends-nil, Appends-trans, Consumes-nil, Consumes-trans}
 use Rattle.np_forms.proofs.Words.{flat_map-append, nil_from_length, take_all, take-append-drop, drop_at, drop-drop, chars-nil, chars-append, IsUtf8-nil}
 use Rattle.np_forms.proofs.Words.{encodes-append, IsUtf8-append, utf8_valid_len, utf8_error_len, is_compat, composes, Form, IsSound, VersionData, class_of}
-use Rattle.np_forms.proofs.Words.{full_of, IsNormalForm, IsStreaming, StreamState, canonical_order, decomposed, ended, normal_form, IsRunning, MayBegin}
+use Rattle.np_forms.proofs.Words.{full_of, IsNormalForm, IsStreaming, StreamState, canonical_order, decomposed, ended, normal_form, IsRunning}
 use Rattle.np_forms.proofs.Words.{MayNotBegin, IsNextChunk, IsInputFault, IsPieceWritten, IsPieceCut, IsRestWritten, IsRestCut, Stops}
-use Rattle.std.specs.Io.KnownBytes.{Appends, Consumes, IsAtEnd, Keeps}
+use Rattle.std.specs.Io.KnownBytes.{Appends, Consumes, IsAtEnd}
 use Rattle.np_code_points.specs.Text.{IsLongestValidPrefix}
-use Rattle.np_forms.specs.RunEnds.{BeginsText, Ends, IsRunWhole, IsReadTo, IsCauseOf, IsFrontOfForm, IsWrittenOf, IsRunCut, RunEnds}
+use Rattle.np_forms.specs.RunEnds.{BeginsText, Ends, IsRunWhole, IsCauseOf, IsFrontOfForm, IsWrittenOf, IsRunCut, RunEnds}
 use Rattle.np_forms.specs.declared.runs.RunFault.{RunFault}
 use Rattle.np_forms.specs.declared.runs.RunFault.TheVariants.{NotUtf8, ReadFailed, WriteFailed, TooLarge, Memory}
 use Rattle.np_forms.proofs.FormLemmas.{IsNormalForm-normal_form, normal_form_is}

@@ -1,8 +1,7 @@
 -- The longest run of non-starters, counted and as a relation.
 use Rattle.std.proofs.Common.{◌≡◌, ℕ, suc, ◌+◌, ◌<◌, ◌≤◌, ◌⊎◌, ◌↔◌, Bool, true, false, not, nat_lt, max, IsTrue, List, [], ◌∷◌, ◌++◌, length, flat_map, refl, sym, ap, subst, ◌∙◌, arith, inl, inr, eq-eqb}
 use Rattle.np_forms.proofs.Words.{cases_Bool, cond-true, cond-false, and_parts, and_from, not-true, ltb-true, ltb-false, lt-ltb, le-ltb, list_all, IsSound}
-use Rattle.np_forms.proofs.Words.{VersionData, class_of, is_starter, is_non_starter, decomposed, normal_form, canonical_order, longest_run, runs_over}
-use Rattle.np_forms.proofs.Words.{is_reorderable, full_of}
+use Rattle.np_forms.proofs.Words.{VersionData, class_of, is_starter, is_non_starter, decomposed, normal_form, longest_run, runs_over, is_reorderable, full_of}
 use Rattle.np_code_points.specs.declared.forms.Form.TheVariants.{Nfkd}
 use Rattle.np_forms.specs.StreamSafe.{HasRunOver, IsStreamSafe}
 use Rattle.np_forms.proofs.OrderLemmas.{canonical_order-keeps, is_reorderable-true}

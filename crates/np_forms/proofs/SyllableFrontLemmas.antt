@@ -2,7 +2,7 @@
 use Rattle.std.proofs.Common.{◌≡◌, ℕ, ◌<◌, get_or, true, false, MatchBool, List, [], ◌∷◌, ◌++◌, length, chars, IsUtf8, encode_utf8_all, drop, encode_utf8, flat_map, inl, inr, refl, sym, ap, subst, ◌∙◌, arith, append-nil, length-append, length-drop}
 use Rattle.np_forms.proofs.Words.{and_from, chars-append, chars-encodes, chars_past_char, IsUtf8-drop, IsUtf8-past_char, length-le-encodes, list_all}
 use Rattle.np_forms.proofs.Words.{is_compat, composes, is_among, is_syllable, Form, IsAssigned, AsciiIsCopiedAlone, AppendsForm, IsCopied}
-use Rattle.np_forms.proofs.Words.{LeadingAreBoundaries, IsCopiedAlone, canonical_order, decomposed, ended, normal_form, IsReadAssigned, IsFirstMade}
+use Rattle.np_forms.proofs.Words.{LeadingAreBoundaries, IsCopiedAlone, canonical_order, decomposed, ended, normal_form, IsReadAssigned}
 use Rattle.np_forms.proofs.Words.{BeginsWithJamo, BeginsWithSyllable, syllable_parts, BeginsAtBoundary, ComposesTo, IsBoundary, IsYesStarter, IsSound}
 use Rattle.np_forms.proofs.Words.{IsFullDecomposition, is_final, VersionData, class_of, has_hangul, is_assigned, full_of}
 use lib.Utf8.{low_scalar}

@@ -1,9 +1,9 @@
 -- Syllables written as the bytes of their jamo.
 use Rattle.std.proofs.Common.{◌≡◌, ℕ, ◌+◌, ◌-◌, ◌*◌, ◌/◌, ◌%◌, ◌<◌, ◌≤◌, ◌≢◌, true, List, [], ◌∷◌, ◌++◌, length, get_or, chars, IsCharBoundary, IsUtf8, encode_utf8_all, drop, encode_utf8, inl, inr, refl, zero, suc, sym, take, ap, subst, ◌∙◌, arith}
 use Rattle.np_forms.proofs.Words.{and_from, cases_eq, drop-cons, le-leb, lt-ltb, take-append-drop, chars-append, chars-encodes, IsCharBoundary-from_take}
-use Rattle.np_forms.proofs.Words.{list_all, is_syllable, IsAssigned, BeginsWithJamo, syllable_parts, VersionData, class_of, has_hangul, is_assigned}
+use Rattle.np_forms.proofs.Words.{is_syllable, IsAssigned, BeginsWithJamo, syllable_parts, VersionData, class_of, has_hangul, is_assigned}
 use lib.Utf8.{low_scalar, scalar, scalars}
-use Rattle.np_code_points.proofs.HangulLemmas.{among_bounds, pair_of_lv, pair_of_lvt}
+use Rattle.np_code_points.proofs.HangulLemmas.{pair_of_lv, pair_of_lvt}
 use Rattle.np_forms.proofs.SegmentLemmas.{IsClosed, closed-starter}
 use Rattle.np_tables.proofs.Utf8Lemmas.{encode_three}
 use Rattle.np_forms.proofs.SyllableLemmas.{syllable_parts-two, syllable_parts-three}

@@ -1,4 +1,4 @@
-use Rattle.std.proofs.Common.{◌≡◌, ◌<◌, ◌++◌, ◌∷◌, [], List, ℕ, true, false, ◌&&◌, length, OnOk, sym, ap, subst, ◌∙◌, arith, eqb-true}
+use Rattle.std.proofs.Common.{◌≡◌, ◌++◌, ◌∷◌, [], false, ◌&&◌, sym, ap, ◌∙◌, arith, eqb-true}
 use Rattle.np_forms.proofs.Words.{eqb-false, and_left, and_right, is_syllable, has_hangul, with_classes}
 use Rattle.np_forms.proofs.SyllableLemmas.{lent_some, lent_none, full_of-syllable}
 use Rattle.np_forms.proofs.decomposing.append.Goals as goal

@@ -1,5 +1,5 @@
-use Rattle.std.proofs.Common.{◌≡◌, ◌++◌, ◌∷◌, [], List, ℕ, true, false, OnOk, inl, inr, refl, sym, subst}
-use Rattle.np_forms.proofs.Words.{cases_Bool, is_syllable, syllable_pair, with_classes}
+use Rattle.std.proofs.Common.{◌≡◌, ◌∷◌, [], false, inl, inr, refl}
+use Rattle.np_forms.proofs.Words.{cases_Bool, is_syllable, syllable_pair}
 use Rattle.np_forms.proofs.SyllableLemmas.{syllable_parts-two, syllable_parts-three}
 use Rattle.np_forms.proofs.decomposing.append_syllable.Goals as goal
 

@@ -1,4 +1,4 @@
-use Rattle.std.proofs.Common.{◌≡◌, ◌<◌, ◌≤◌, ◌++◌, ◌∷◌, [], true, get_or, take, ◌+◌, sym, ap, subst, ◌∙◌, arith}
+use Rattle.std.proofs.Common.{◌≡◌, ◌<◌, ◌≤◌, ◌++◌, ◌∷◌, [], true, get_or, take, sym, ap, subst, ◌∙◌, arith}
 use Rattle.np_forms.proofs.Words.{both_ways, take_more, class_of, CodeAndClass}
 use Rattle.np_forms.proofs.ClassLemmas.{at_place, same_length}
 use Rattle.np_forms.proofs.SortLemmas.{IsRunTo, IsRunTo-start, IsRunTo-next}

@@ -1,5 +1,5 @@
-use Rattle.std.proofs.Common.{◌≡◌, ◌<◌, ◌++◌, true, false, ◌&&◌, length, sym, ap, ◌∙◌, arith, eqb-true}
-use Rattle.np_forms.proofs.Words.{eqb-false, and_left, and_right, is_syllable, class_of, has_hangul, runs_over}
+use Rattle.std.proofs.Common.{◌≡◌, ◌<◌, true, false, ◌&&◌, length, sym, ◌∙◌, arith, eqb-true}
+use Rattle.np_forms.proofs.Words.{eqb-false, and_left, and_right, is_syllable, has_hangul}
 use Rattle.np_forms.proofs.SyllableLemmas.{lent_some, lent_none, full_of-syllable}
 use Rattle.np_forms.proofs.stream_safety.run_past_full.Goals as goal
 use Rattle.np_forms.proofs.stream_safety.run_past_full.Goals.{else-hangul-via-then-hangul+else-is_syllable, else-hangul-via-else-hangul}

@@ -1,5 +1,5 @@
-use Rattle.std.proofs.Common.{◌≡◌, ◌++◌, ◌∷◌, [], true, false, inl, inr, refl, sym, ap, ◌∙◌}
-use Rattle.np_forms.proofs.Words.{cases_Bool, is_syllable, syllable_pair, class_of, runs_over}
+use Rattle.std.proofs.Common.{◌≡◌, ◌∷◌, [], false, inl, inr, refl}
+use Rattle.np_forms.proofs.Words.{cases_Bool, is_syllable, syllable_pair}
 use Rattle.np_forms.proofs.SyllableLemmas.{syllable_parts-two, syllable_parts-three}
 use Rattle.np_forms.proofs.stream_safety.run_past_syllable.Goals as goal
 

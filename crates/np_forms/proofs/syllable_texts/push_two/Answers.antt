@@ -1,4 +1,4 @@
-use Rattle.std.proofs.Common.{◌≡◌, ◌++◌, ◌∷◌, [], ℕ, List, refl, sym, subst, OnOk}
+use Rattle.std.proofs.Common.{◌∷◌, [], refl}
 use Rattle.std.proofs.lemmas.Bool.{and_from}
 use Rattle.np_forms.proofs.SyllableTextLemmas.{middle-scalar, two_encoded}
 use Rattle.np_forms.proofs.syllable_texts.push_two.Goals as goal

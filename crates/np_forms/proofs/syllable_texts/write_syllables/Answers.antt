@@ -1,5 +1,5 @@
-use Rattle.std.proofs.Common.{◌≡◌, ◌∙◌, true, sym, subst, IfNone, IfSome}
-use Rattle.np_forms.proofs.Words.{AppendsForm, IsReadAssigned, BeginsWithSyllable, has_hangul}
+use Rattle.std.proofs.Common.{◌≡◌, ◌∙◌, sym, subst, IfNone, IfSome}
+use Rattle.np_forms.proofs.Words.{AppendsForm, IsReadAssigned, BeginsWithSyllable}
 use Rattle.np_forms.proofs.SegmentLemmas.{goes-both}
 use Rattle.np_forms.proofs.SyllableFrontLemmas.{goes-syllable, syllable-read}
 use Rattle.np_forms.proofs.TextLemmas.{IsReadAssigned-both}
