@@ -2,15 +2,13 @@
 use Rattle.std.proofs.Common.{◌≡◌, ℕ, ◌-◌, Bool, true, false, List, [], ◌∷◌, ◌++◌, length, chars, IsUtf8, encode_utf8, encode_utf8_all, refl, sym, ap, ◌∙◌, arith, append_assoc, append-nil, length-append}
 use Rattle.np_forms.proofs.Words.{and_from, and_parts, both_ways, nil_from_length, chars-append, chars-nil, chars_past_char, encodes-append, encodes-chars}
 use Rattle.np_forms.proofs.Words.{IsUtf8-past_char, list_all, VersionData, is_assigned, IsAssigned, IsFirstUnassigned, IsEndOf, IsRead, IsReadAssigned}
-use Rattle.np_tables.proofs.MappingLemmas.{list_all-append}
+use Rattle.std.proofs.lemmas.List.Folds.{list_all-append}
 
 pub list_all-front : (p : ℕ → Bool) (xs ys : List ℕ) → list_all p (xs ++ ys) ≡ true → list_all p xs ≡ true
-list_all-front p [] ys all = refl
-list_all-front p (x ∷ xs) ys all = let halves = and_parts (p x) (list_all p (xs ++ ys)) all in and_from _ _ halves.0 (list_all-front p xs ys halves.1)
+list_all-front p xs ys all = (and_parts _ _ (sym (list_all-append p xs ys) ∙ all)).0
 
 pub list_all-back : (p : ℕ → Bool) (xs ys : List ℕ) → list_all p (xs ++ ys) ≡ true → list_all p ys ≡ true
-list_all-back p [] ys all = all
-list_all-back p (x ∷ xs) ys all = list_all-back p xs ys (and_parts (p x) (list_all p (xs ++ ys)) all).1
+list_all-back p xs ys all = (and_parts _ _ (sym (list_all-append p xs ys) ∙ all)).1
 
 -- what has a code point that is not assigned is not assigned
 pub lacks-unassigned : (v : VersionData) (xs : List ℕ) (at code : ℕ) → IsFirstUnassigned v xs at code → IsAssigned v xs → ⊥
@@ -28,7 +26,7 @@ module _ (v : VersionData) (text front back : List ℕ) (utf8 : IsUtf8 front) (p
   assigned-back all = list_all-back (is_assigned v) (chars front) (chars back) (ap (list_all (is_assigned v)) (sym (chars-append front back utf8) ∙ sym (ap chars parts)) ∙ all)
 
   pub assigned-both : IsAssigned v (chars front) → IsAssigned v (chars back) → IsAssigned v (chars text)
-  assigned-both one two = ap (list_all (is_assigned v)) (ap chars parts ∙ chars-append front back utf8) ∙ list_all-append (is_assigned v) (chars front) (chars back) one two
+  assigned-both one two = ap (list_all (is_assigned v)) (ap chars parts ∙ chars-append front back utf8) ∙ list_all-append (is_assigned v) (chars front) (chars back) ∙ and_from _ _ one two
 
 -- ---- texts that were read up to some place
 
@@ -60,7 +58,7 @@ module _ (v : VersionData) where
       record {
         before = one.before ++ two.before;
         reads = IsRead-both s middle rest one.before two.before one.reads two.reads;
-        assigned = list_all-append (is_assigned v) one.before two.before one.assigned two.assigned;
+        assigned = list_all-append (is_assigned v) one.before two.before ∙ and_from _ _ one.assigned two.assigned;
       }
 
   -- behind a front that is assigned
@@ -78,7 +76,7 @@ module _ (v : VersionData) where
       record {
         before = r.before ++ c ∷ [];
         reads = IsRead-next s rest c later r.before e r.reads;
-        assigned = list_all-append (is_assigned v) r.before (c ∷ []) r.assigned (and_from _ _ has refl);
+        assigned = list_all-append (is_assigned v) r.before (c ∷ []) ∙ and_from _ _ r.assigned (and_from _ _ has refl);
       }
 
   pub IsReadAssigned-end : (s rest : List ℕ) → IsReadAssigned v s rest → length rest ≡ 0 → IsAssigned v (chars s)
