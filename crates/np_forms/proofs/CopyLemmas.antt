@@ -201,7 +201,7 @@ module _ (v : VersionData) (form : Form) where
 
   module _ (text rest : List ℕ) (past : ArePassing v form text rest) where
     pub passing_read : IsReadAssigned v text rest
-    passing_read = record { before = past.front; bytes = past.split; text = past.text_is; assigned = all_assigned past.front past.passed; utf8 = past.utf8 }
+    passing_read = record { before = past.front; reads = record { utf8 = past.utf8; bytes = past.split; split = past.text_is }; assigned = all_assigned past.front past.passed }
 
     pub passing_front : (n : ℕ) → n ≡ length text - length rest → take n text ≡ encode_utf8_all past.front
     passing_front n is =

@@ -1,13 +1,13 @@
 -- Code points that may follow one another as they are are their own form.
 use Rattle.std.proofs.Common.{◌≡◌, ℕ, ◌≤◌, ◌⊎◌, Bool, true, false, List, [], ◌∷◌, ◌++◌, Option, Some, None, length, flat_map, unwrap_or, MatchBool, refl, sym, ap, subst, ◌∙◌, arith, inl, inr, append_assoc, append-nil, ◌<◌}
-use Rattle.np_forms.proofs.Words.{is_compat, composes, Form, and_left, and_right, cases_Bool, cases_lt, and_from}
-use Rattle.np_forms.proofs.Words.{list_all, is_reorderable, canonical_order, slide, compose, compose_after, compose_of}
-use Rattle.np_forms.proofs.Words.{is_free, joined, decomposed, ended, normal_form, ComposesTo, IsBoundary, NeverFalls}
-use Rattle.np_forms.proofs.Words.{IsYesStarter, IsSound, is_final, VersionData, class_of, composite, full_of}
-use Rattle.np_forms.proofs.Words.{NeverComposesBackward, MayFollow, CannotComposeAfter, Walks}
+use Rattle.np_forms.proofs.Words.{is_compat, composes, Form, and_left, and_right, cases_Bool, cases_lt, and_from, is_reorderable, canonical_order}
+use Rattle.np_forms.proofs.Words.{slide, compose, compose_after, compose_of, is_free, joined, decomposed, ended, normal_form, ComposesTo, IsBoundary}
+use Rattle.np_forms.proofs.Words.{NeverFalls, IsYesStarter, IsSound, is_final, VersionData, class_of, composite, full_of, NeverComposesBackward, MayFollow}
+use Rattle.np_forms.proofs.Words.{CannotComposeAfter, Walks}
+use Rattle.std.proofs.lemmas.List.Folds.{list_all-append}
 use Rattle.np_tables.proofs.CompositeLemmas.{composite-never, composite_from}
 use Rattle.np_tables.proofs.TableLemmas.{pair-value}
-use Rattle.np_tables.proofs.MappingLemmas.{full_of-final, list_all-append}
+use Rattle.np_tables.proofs.MappingLemmas.{full_of-final}
 use Rattle.np_tables.specs.Composites.{IsCompositeOf}
 use Rattle.np_forms.proofs.StreamLemmas.{full_of-boundary}
 use Rattle.np_forms.proofs.ComposeLemmas.{compose-nil, compose-non_starter, compose-starter, compose_after-kept, compose_after-nil, compose_after-starter, joined-blocked, joined-none, compose_after-joined, joined-free}
@@ -32,7 +32,7 @@ module _ (ccc : ℕ → ℕ) (join : ℕ → ℕ → Option ℕ) where
             let none = kept falls.0 falls.1 in
             ap (compose_after ccc join s bs) (slide-over ccc m x xs past)
             ∙ compose_after-kept ccc join s bs x (slide ccc m xs) (none.0 s) falls.0
-            ∙ slides_in s m p (bs ++ x ∷ []) xs pair (list_all-append (is_reorderable ccc m) bs (x ∷ []) free (and_from _ _ past refl)) none.1
+            ∙ slides_in s m p (bs ++ x ∷ []) xs pair (list_all-append (is_reorderable ccc m) bs (x ∷ []) ∙ and_from _ _ free (and_from _ _ past refl)) none.1
             ∙ sym (compose_after-kept ccc join p bs x xs (none.0 p) falls.0)
         | inr stays ↦
             ap (compose_after ccc join s bs) (slide-stays ccc m x xs stays)
@@ -132,10 +132,6 @@ module _ (v : VersionData) (sound : IsSound v) where
       comes_back : (c : ℕ) (stays : IsYesStarter v form c) → ComposesTo v stays.boundary.first stays.boundary.rest c
       comes_back c stays = subst (λ b. MatchBool b (ComposesTo v stays.boundary.first stays.boundary.rest c) (stays.boundary.first ∷ stays.boundary.rest ≡ c ∷ [])) on stays.returns
 
-      last_fails : (p : ℕ → Bool) (fs : List ℕ) (a : ℕ) → p a ≡ false → list_all p (fs ++ a ∷ []) ≡ false
-      last_fails p [] a fails = and_left (p a) true fails
-      last_fails p (x ∷ xs) a fails = and_right (p x) (list_all p (xs ++ a ∷ [])) (last_fails p xs a fails)
-
       -- what may follow a, but is no starter that passes, does not compose
       abbrev GoesBehind : ℕ → ℕ → Type 0
       GoesBehind a c = NeverComposesBackward v form c ⊎ CannotComposeAfter v form a c
@@ -152,7 +148,8 @@ module _ (v : VersionData) (sound : IsSound v) where
       uncomposed_blocked t bs fs a c same stands =
           let fails : is_reorderable ccc c a ≡ false =
           elim stands [ inl blocks ↦ not_reorderable_rising ccc c a blocks.1 | inr pair ↦ not_reorderable_starter ccc c a (omega (arith, pair.0)) ] in
-          joined-blocked ccc (composite v) t bs c (ap (λ l. is_free ccc l c) same ∙ last_fails (is_reorderable ccc c) fs a fails)
+          joined-blocked ccc (composite v) t bs c
+          (ap (λ l. is_free ccc l c) same ∙ list_all-append (is_reorderable ccc c) fs (a ∷ []) ∙ and_right (is_free ccc fs c) _ (and_left (is_reorderable ccc c a) true fails))
 
       -- what stands behind the last starter s, and bs, which were kept, ends with a
       abbrev EndsWith : ℕ → List ℕ → ℕ → Type 0
@@ -203,20 +200,14 @@ module _ (v : VersionData) (sound : IsSound v) where
                 (λ some below. (λ t. never_follows t bs a c ends (goes_behind a c goes.3), walk_kept c (bs ++ c ∷ []) k walk.0 cs end (inr (bs, refl)) walk.2))
           ]
 
-      -- what has two code points in its full decomposition has a mapping
-      mapped : (c first m : ℕ) (ms : List ℕ) → full c ≡ first ∷ m ∷ ms → is_final v (is_compat form) c ≡ false
-      mapped c first m ms whole =
-          elim (cases_Bool (is_final v (is_compat form) c)) [
-            | inl final ↦ absurd (omega (arith, ap length (sym (full_of-final v (is_compat form) sound.shallow c final) ∙ whole)))
-            | inr off ↦ off
-          ]
-
       -- a starter that passes comes back, whatever follows it
       returns_before : (c first : ℕ) (rest : List ℕ) (n : ℕ) (cs : List ℕ) (end : ℕ) → full c ≡ first ∷ rest → ccc c ≡ 0 → NeverFalls ccc rest → ComposesTo v first rest c → Walks May (Some c) n cs end
           → compose_after ccc (composite v) first [] (canonical_order ccc (rest ++ flat_map full cs)) ≡ compose_after ccc (composite v) c [] (order cs)
       returns_before c first [] n cs end whole starter rises folds walk = ap (λ x. compose_after ccc (composite v) x [] (order cs)) folds
       returns_before c first (m ∷ ms) n cs end whole starter rises folds walk =
-          folds_over v sound first (m ∷ ms) c (flat_map full cs) folds rises (λ k. walk_kept c [] k n cs end (inl (starter, mapped c first m ms whole)) walk)
+          let mapped : is_final v (is_compat form) c ≡ false =
+          elim (cases_Bool (is_final v (is_compat form) c)) [ inl final ↦ absurd (omega (arith, ap length (sym (full_of-final v (is_compat form) sound.shallow c final) ∙ whole))) | inr off ↦ off ] in
+          folds_over v sound first (m ∷ ms) c (flat_map full cs) folds rises (λ k. walk_kept c [] k n cs end (inl (starter, mapped)) walk)
 
       returns : (c n : ℕ) (cs : List ℕ) (end : ℕ) (stays : IsYesStarter v form c) → Walks May (Some c) n cs end
           → compose_after ccc (composite v) stays.boundary.first [] (canonical_order ccc (stays.boundary.rest ++ flat_map full cs)) ≡ compose_after ccc (composite v) c [] (order cs)

@@ -1,7 +1,6 @@
 -- Bytes that were read up to some place, and what is a text of them.
 use Rattle.std.proofs.Common.{◌≡◌, ℕ, zero, suc, ◌+◌, ◌-◌, ◌≤◌, true, false, List, ◌++◌, length, take, drop, IsUtf8, refl, sym, ap, subst, ◌∙◌, arith, inl, inr, length-append}
-use Rattle.std.proofs.lemmas.Bool.{cases_Bool, cases_lt, cond-true, cond-false}
-use Rattle.std.proofs.lemmas.List.{take_all, take_at, drop_at, length-drop}
+use Rattle.np_forms.proofs.Words.{cases_Bool, cases_lt, cond-true, cond-false, take_all, take_at, drop_at, length-drop}
 use Rattle.std.proofs.lemmas.Str.{IsUtf8-nil, IsUtf8-append, IsUtf8-drop, IsCharBoundary-from_take, IsUtf8-from_is_utf8, is_utf8-from_IsUtf8}
 use Rattle.std.proofs.Math.Seq.{take-add}
 use Rattle.std.specs.Str.{is_utf8}
@@ -90,5 +89,3 @@ one_prefix bs n h =
 pub whole_prefix : (bs : List ℕ) (n : ℕ) → n ≡ length bs → IsUtf8 bs → IsLongestValidPrefix bs n
 whole_prefix bs n is utf8 =
     record { within = omega arith; valid = subst IsUtf8 (sym (take_all n bs (omega arith))) utf8; longest = λ m within valid. omega arith }
-
--- ---- what may begin a character has at most three bytes

@@ -1,76 +1,31 @@
 -- A run over a whole input, chunk by chunk.
-use Rattle.std.proofs.Common.{◌≡◌, ℕ, ◌+◌, ◌<◌, ◌≤◌, ◌⊎◌, List, [], ◌++◌, length, take, drop, chars, encode_utf8_all, flat_map, IsUtf8, Option, None, Some, Result, refl, sym, ap, subst, ◌∙◌, arith, inl, inr, append_assoc, append-nil, length-append}
-use Rattle.std.proofs.KnownBytes.{Appends-trans, Consumes-trans}
-use Rattle.np_forms.proofs.Words.{flat_map-append, nil_from_length, take_all, take-append-drop, drop_at, drop-drop}
-use Rattle.np_forms.proofs.Words.{chars-nil, chars-append, IsUtf8-nil, encodes-append, IsUtf8-append, utf8_valid_len}
-use Rattle.np_forms.proofs.Words.{utf8_error_len, is_compat, composes, Form, IsSound, VersionData, class_of, full_of}
-use Rattle.np_forms.proofs.Words.{IsNormalForm, IsStreaming, StreamState, canonical_order, decomposed, ended}
-use Rattle.np_forms.proofs.Words.{normal_form, IsRunning, MayBegin, MayNotBegin, IsNextChunk, IsInputFault}
-use Rattle.np_forms.proofs.Words.{IsPieceWritten, IsPieceCut, IsRestWritten, IsRestCut, Stops}
-use Rattle.std.specs.Io.KnownBytes.{Appends, Consumes, IsAtEnd, Keeps}
+use Rattle.std.proofs.Common.{◌≡◌, ℕ, ◌+◌, ◌<◌, ◌≤◌, ◌⊎◌, List, [], ◌++◌, length, take, drop, chars, encode_utf8_all, flat_map, IsUtf8, Option, Result, refl, sym, ap, subst, ◌∙◌, arith, inl, inr, append_assoc, append-nil, length-append}
+use Rattle.std.proofs.KnownBytes.{Appends-nil, Appends-trans, Consumes-nil, Consumes-trans}
+use Rattle.np_forms.proofs.Words.{flat_map-append, nil_from_length, take_all, take-append-drop, drop_at, drop-drop, chars-nil, chars-append, IsUtf8-nil}
+use Rattle.np_forms.proofs.Words.{encodes-append, IsUtf8-append, utf8_valid_len, utf8_error_len, is_compat, composes, Form, IsSound, VersionData, class_of}
+use Rattle.np_forms.proofs.Words.{full_of, IsNormalForm, IsStreaming, StreamState, canonical_order, decomposed, ended, normal_form, IsRunning}
+use Rattle.np_forms.proofs.Words.{MayNotBegin, IsNextChunk, IsInputFault, IsPieceWritten, IsPieceCut, IsRestWritten, IsRestCut, Stops}
+use Rattle.std.specs.Io.KnownBytes.{Appends, Consumes, IsAtEnd}
 use Rattle.np_code_points.specs.Text.{IsLongestValidPrefix}
-use Rattle.np_forms.specs.RunEnds.{BeginsText, Ends, IsRunWhole, IsReadTo, IsCauseOf, IsFrontOfForm, IsWrittenOf, IsRunCut, RunEnds}
+use Rattle.np_forms.specs.RunEnds.{BeginsText, Ends, IsRunWhole, IsCauseOf, IsFrontOfForm, IsWrittenOf, IsRunCut, RunEnds}
 use Rattle.np_forms.specs.declared.runs.RunFault.{RunFault}
 use Rattle.np_forms.specs.declared.runs.RunFault.TheVariants.{NotUtf8, ReadFailed, WriteFailed, TooLarge, Memory}
 use Rattle.np_forms.proofs.FormLemmas.{IsNormalForm-normal_form, normal_form_is}
 use Rattle.np_forms.proofs.HeldLemmas.{held_streaming}
+use Rattle.np_forms.proofs.WrittenLemmas.{under}
 use Rattle.np_forms.proofs.RunTextLemmas.{take_past, prefix_past, prefix_left, one_prefix, longest_prefix, whole_prefix}
 
 abbrev pub ends_of : Option (List ℕ) → Option (List ℕ) → Option (List ℕ) → Option (List ℕ) → Ends
 ends_of i₀ i₁ o₀ o₁ = record { in_before = i₀; in_after = i₁; out_before = o₀; out_after = o₁ }
 
--- known bytes that grew stay as they are
-pub appended : (o₁ o₂ o₃ : Option (List ℕ)) (bytes : List ℕ) → Appends o₁ o₂ bytes → Keeps o₂ o₃ → Appends o₁ o₃ bytes
-appended None o₂ o₃ bytes a k = tt
-appended (Some xs) None o₃ bytes a k = absurd a
-appended (Some xs) (Some ys) None bytes a k = absurd k
-appended (Some xs) (Some ys) (Some zs) bytes a k = k ∙ a
-
-Consumes-nothing : (i : Option (List ℕ)) → Consumes i i []
-Consumes-nothing None = tt
-Consumes-nothing (Some xs) = refl
-
-Appends-nothing : (o : Option (List ℕ)) → Appends o o []
-Appends-nothing None = tt
-Appends-nothing (Some xs) = sym (append-nil xs)
-
-drop_past : (a b : List ℕ) (n : ℕ) → drop (length a + n) (a ++ b) ≡ drop n b
-drop_past a b n = sym (drop-drop n (length a) (a ++ b)) ∙ ap (drop n) (drop_at a b (length a) refl)
-
 -- what follows the longest prefix of a text and of what follows it
 left_past : (a b : List ℕ) (n : ℕ) → IsUtf8 a → IsLongestValidPrefix b n → drop (utf8_valid_len (a ++ b)) (a ++ b) ≡ drop n b
-left_past a b n utf8 h = ap (λ k. drop k (a ++ b)) (one_prefix (a ++ b) (length a + n) (prefix_past a b n utf8 h)) ∙ drop_past a b n
+left_past a b n utf8 h = ap (λ k. drop k (a ++ b)) (one_prefix (a ++ b) (length a + n) (prefix_past a b n utf8 h)) ∙ sym (drop-drop n (length a) (a ++ b)) ∙ ap (drop n) (drop_at a b (length a) refl)
 
-begins_past : (a b : List ℕ) (n : ℕ) → IsUtf8 a → MayBegin b n → BeginsText (a ++ b)
-begins_past a b n utf8 h = ap utf8_error_len (left_past a b n utf8 h.prefix) ∙ h.begins
-
-not_begins_past : (a b : List ℕ) (n : ℕ) → IsUtf8 a → MayNotBegin b n → ¬ BeginsText (a ++ b)
-not_begins_past a b n utf8 h = λ begins. h.ends (ap utf8_error_len (sym (left_past a b n utf8 h.prefix)) ∙ begins)
-
--- a stream under the version and the form that it has
-to_state : (v : VersionData) (form : Form) (s : StreamState) (fed out pending : List ℕ) → s.version ≡ v → s.form ≡ form → IsStreaming v form fed out pending → IsStreaming s.version s.form fed out pending
-to_state v form s fed out pending version same h =
-    subst (λ u. IsStreaming u s.form fed out pending) (sym version) (subst (λ f. IsStreaming v f fed out pending) (sym same) h)
-
-from_state : (v : VersionData) (form : Form) (s : StreamState) (fed out pending : List ℕ) → s.version ≡ v → s.form ≡ form → IsStreaming s.version s.form fed out pending → IsStreaming v form fed out pending
-from_state v form s fed out pending version same h =
-    subst (λ u. IsStreaming u form fed out pending) version (subst (λ f. IsStreaming s.version f fed out pending) same h)
-
-form_from_state : (v : VersionData) (form : Form) (s : StreamState) (fed list : List ℕ) → s.version ≡ v → s.form ≡ form → IsNormalForm s.version s.form fed list → IsNormalForm v form fed list
-form_from_state v form s fed list version same h =
-    subst (λ u. IsNormalForm u form fed list) version (subst (λ f. IsNormalForm s.version f fed list) same h)
+not_begins_past : (a b : List ℕ) (n : ℕ) (text : List ℕ) → IsUtf8 a → MayNotBegin b n → text ≡ a ++ b → ¬ BeginsText text
+not_begins_past a b n text utf8 h is = λ begins. h.ends (ap utf8_error_len (sym (left_past a b n utf8 h.prefix)) ∙ subst BeginsText is begins)
 
 module _ {v : VersionData} (sound : IsSound v) where
-  -- what was ever ready begins the form of the text, whatever follows
-  form_front : (form : Form) (fed ready pending text : List ℕ) → IsStreaming v form fed ready pending → (rest : List ℕ) × (normal_form v form (fed ++ text) ≡ ready ++ rest)
-  unfolding normal_form decomposed
-  form_front form fed ready pending text s =
-      let each = full_of v (is_compat form) in
-      let h = held_streaming v sound form fed ready pending s in (
-        ended v (composes form) (canonical_order (class_of v) (pending ++ flat_map each text)),
-        ap (λ l. ended v (composes form) (canonical_order (class_of v) l)) (flat_map-append each fed text) ∙ h.goes_on (flat_map each text),
-      )
-
   -- these first bytes of what is ready
   ready_front : (list ready rest out behind : List ℕ) → list ≡ ready ++ rest → encode_utf8_all ready ≡ out ++ behind → IsFrontOfForm list out
   ready_front list ready rest out behind is of_ready =
@@ -79,80 +34,100 @@ module _ {v : VersionData} (sound : IsSound v) where
         split = ap encode_utf8_all is ∙ encodes-append ready rest ∙ ap (λ l. l ++ encode_utf8_all rest) of_ready ∙ append_assoc out behind (encode_utf8_all rest);
       }
 
-  -- what was read, where n bytes of the last chunk are a text
-  read_to : (form : Form) (ends : Ends) (done chunk : List ℕ) (n : ℕ) → Consumes ends.in_before ends.in_after (done ++ chunk) → IsUtf8 done → IsLongestValidPrefix chunk n → length done + length chunk ≤ 4294967296 → IsReadTo v form ends (done ++ chunk) (normal_form v form (chars done ++ chars (take n chunk))) (length done + n)
-  read_to form ends done chunk n taken utf8 h size =
-      let text : chars (take (length done + n) (done ++ chunk)) ≡ chars done ++ chars (take n chunk) = ap chars (take_past done chunk n) ∙ chars-append done (take n chunk) utf8 in
-      record {
-        taken = taken;
-        size = omega (arith, length-append done chunk);
-        valid = prefix_past done chunk n utf8 h;
-        normal = subst (λ l. IsNormalForm v form l (normal_form v form (chars done ++ chars (take n chunk)))) (sym text) (IsNormalForm-normal_form v sound form _);
-      }
-
   module _ {form : Form} {i₀ i₁ o₀ o₁ : Option (List ℕ)} {kept : List ℕ} {total count : ℕ} {s : StreamState} (r : IsRunning v form i₀ i₁ o₀ o₁ kept total count s) where
     taken_with : (i₂ : Option (List ℕ)) (came : List ℕ) → Consumes i₁ i₂ came → Consumes i₀ i₂ (r.done ++ (kept ++ came))
     taken_with i₂ came taken = subst (Consumes i₀ i₂) (append_assoc r.done kept came) (Consumes-trans i₀ i₁ i₂ (r.done ++ kept) came r.taken taken)
 
+    -- the stream under the version and the form that it has
+    fed : IsStreaming s.version s.form (chars r.done) r.ready s.pending
+    fed = under (λ u f. IsStreaming u f (chars r.done) r.ready s.pending) (sym r.version) (sym r.form_is) r.streaming
+
+    -- where nothing of the last chunk was fed
+    unfed : normal_form v form (chars r.done ++ chars (take 0 kept)) ≡ normal_form v form (chars r.done)
+    unfed = ap (normal_form v form) (ap (λ l. chars r.done ++ l) chars-nil ∙ append-nil (chars r.done))
+
+    -- what was ready begins the form
+    ready_begins : (text : List ℕ) → IsFrontOfForm (normal_form v form (chars r.done ++ text)) (encode_utf8_all r.ready)
+    unfolding normal_form decomposed
+    ready_begins text =
+        let each = full_of v (is_compat form) in
+        let rest = ended v (composes form) (canonical_order (class_of v) (s.pending ++ flat_map each text)) in
+        let held = held_streaming v sound form (chars r.done) r.ready s.pending r.streaming in
+        let is = ap (λ l. ended v (composes form) (canonical_order (class_of v) l)) (flat_map-append each (chars r.done) text) ∙ held.goes_on (flat_map each text) in
+        ready_front _ r.ready rest (encode_utf8_all r.ready) [] is (sym (append-nil (encode_utf8_all r.ready)))
+
+    module _ (i₂ o₂ : Option (List ℕ)) (chunk : List ℕ) (n : ℕ) (taken : Consumes i₀ i₂ (r.done ++ chunk)) (h : IsLongestValidPrefix chunk n) (size : length r.done + length chunk ≤ 4294967296) where
+      cut_at : (fault : RunFault) (out : List ℕ) → IsCauseOf (ends_of i₀ i₂ o₀ o₂) (r.done ++ chunk) (length r.done + n) fault → Appends o₀ o₂ out →
+          IsWrittenOf v (normal_form v form (chars r.done ++ chars (take n chunk))) out fault → IsRunCut v form (ends_of i₀ i₂ o₀ o₂) fault
+      cut_at fault out cause written front =
+          let list = normal_form v form (chars r.done ++ chars (take n chunk)) in
+          let text : chars (take (length r.done + n) (r.done ++ chunk)) ≡ chars r.done ++ chars (take n chunk) = ap chars (take_past r.done chunk n) ∙ chars-append r.done (take n chunk) r.utf8 in
+          record {
+            bytes = r.done ++ chunk;
+            at = length r.done + n;
+            list = list;
+            read = record {
+              taken = taken;
+              size = omega (arith, length-append r.done chunk);
+              valid = prefix_past r.done chunk n r.utf8 h;
+              normal = subst (λ l. IsNormalForm v form l list) (sym text) (IsNormalForm-normal_form v sound form _);
+            };
+            cause = cause;
+            out = out;
+            written = written;
+            front = front;
+          }
+
+      -- what became ready was written in part, or nothing more was written
+      cut_in_part : (fault : RunFault) → (fault ≡ WriteFailed) ⊎ (fault ≡ Memory) → (out : List ℕ) → Appends o₁ o₂ out →
+          (out ≡ []) ⊎ ((more : List ℕ) × ((rest : List ℕ) × (encode_utf8_all more ≡ out ++ rest) × ((after : List ℕ) × (normal_form v form (chars r.done ++ chars (take n chunk)) ≡ (r.ready ++ more) ++ after)))) →
+          IsRunCut v form (ends_of i₀ i₂ o₀ o₂) fault
+      cut_in_part fault by out written parts =
+          let old = encode_utf8_all r.ready in
+          let list = normal_form v form (chars r.done ++ chars (take n chunk)) in
+          let front : IsFrontOfForm list (old ++ out) =
+          elim parts [
+            | inl none ↦ subst (IsFrontOfForm list) (sym (ap (λ l. old ++ l) none ∙ append-nil old)) (ready_begins (chars (take n chunk)))
+            | inr some ↦
+                let bytes = encodes-append r.ready some.0 ∙ ap (λ l. old ++ l) some.1.1 ∙ sym (append_assoc old out some.1.0) in
+                ready_front list (r.ready ++ some.0) some.1.2.0 (old ++ out) some.1.0 some.1.2.1 bytes
+          ] in
+          let all = Appends-trans o₀ o₁ o₂ old out r.written written in
+          elim by [
+            | inl write ↦ subst (IsRunCut v form (ends_of i₀ i₂ o₀ o₂)) (sym write) (cut_at WriteFailed (old ++ out) tt all front)
+            | inr none ↦ subst (IsRunCut v form (ends_of i₀ i₂ o₀ o₂)) (sym none) (cut_at Memory (old ++ out) tt all front)
+          ]
+
     -- nothing more was fed or written
     cut_early : (i₂ : Option (List ℕ)) (came : List ℕ) (n : ℕ) (fault : RunFault) → Consumes i₁ i₂ came → IsLongestValidPrefix (kept ++ came) n → total + length came ≤ 4294967296 → IsCauseOf (ends_of i₀ i₂ o₀ o₁) (r.done ++ (kept ++ came)) (length r.done + n) fault → ((list out : List ℕ) → IsFrontOfForm list out → IsWrittenOf v list out fault) → IsRunCut v form (ends_of i₀ i₂ o₀ o₁) fault
     cut_early i₂ came n fault taken h size cause written =
-        let chunk = kept ++ came in
-        let front = form_front form (chars r.done) r.ready s.pending (chars (take n chunk)) r.streaming in
-        record {
-          bytes = r.done ++ chunk;
-          at = length r.done + n;
-          list = normal_form v form (chars r.done ++ chars (take n chunk));
-          read = read_to form (ends_of i₀ i₂ o₀ o₁) r.done chunk n (taken_with i₂ came taken) r.utf8 h (omega (arith, r.size, length-append kept came));
-          cause = cause;
-          out = encode_utf8_all r.ready;
-          written = r.written;
-          front = written _ _ (ready_front _ r.ready front.0 (encode_utf8_all r.ready) [] front.1 (sym (append-nil (encode_utf8_all r.ready))));
-        }
+        cut_at i₂ o₁ (kept ++ came) n (taken_with i₂ came taken) h (omega (arith, r.size, length-append kept came))
+        fault (encode_utf8_all r.ready) cause r.written (written _ _ (ready_begins (chars (take n (kept ++ came)))))
 
     -- a failed read: all of the text was fed, and all that is ready is written
     cut_read : (i₂ : Option (List ℕ)) → Consumes i₁ i₂ [] → total ≤ 4294967296 → IsRunCut v form (ends_of i₀ i₂ o₀ o₁) ReadFailed
     cut_read i₂ taken size =
         let all = subst (λ l. Consumes i₀ i₂ (r.done ++ l)) (append-nil kept) (taken_with i₂ [] taken) in
-        let read = read_to form (ends_of i₀ i₂ o₀ o₁) r.done kept 0 all r.utf8 r.cut (omega (arith, r.size)) in
         let streaming = r.streaming in
-        let list : normal_form v form (chars r.done ++ chars (take 0 kept)) ≡ r.ready ++ streaming.held =
-        ap (λ l. normal_form v form (chars r.done ++ l)) chars-nil ∙ ap (normal_form v form) (append-nil (chars r.done)) ∙ sym (normal_form_is v sound form (chars r.done) (r.ready ++ streaming.held) streaming.whole) in
-        record {
-          bytes = r.done ++ kept;
-          at = length r.done + 0;
-          list = normal_form v form (chars r.done ++ chars (take 0 kept));
-          read = read;
-          cause = tt;
-          out = encode_utf8_all r.ready;
-          written = r.written;
-          front = record { x = r.ready; y = streaming.held; split = list; cut = streaming.cut; out_is = refl };
-        }
+        let list = unfed ∙ sym (normal_form_is v sound form (chars r.done) (r.ready ++ streaming.held) streaming.whole) in
+        cut_at i₂ o₁ kept 0 all r.cut (omega (arith, r.size))
+        ReadFailed (encode_utf8_all r.ready) tt r.written (record { x = r.ready; y = streaming.held; split = list; cut = streaming.cut; out_is = refl })
 
     pub cut_input : (i₂ : Option (List ℕ)) (fault : RunFault) → IsInputFault i₁ i₂ kept total fault → IsRunCut v form (ends_of i₀ i₂ o₀ o₁) fault
     cut_input i₂ (NotUtf8 place) f =
         let chunk = kept ++ f.came in
         let n = f.cause.n in
         let sizes = length-append kept f.came in
-        let here : place ≡ length r.done + n = omega (arith, r.size, f.cause.cause.0, sizes) in
         let all = length-append r.done chunk in
         cut_early i₂ f.came n (NotUtf8 place) f.taken f.cause.prefix f.size (
-          here,
+          omega (arith, r.size, f.cause.cause.0, sizes),
           elim f.cause.cause.1 [
             | inl whole ↦
-                inl (
-                  length (r.done ++ chunk),
-                  omega (arith, whole.0, r.size, sizes, all),
-                  omega arith,
-                  λ begins. not_begins_past r.done chunk n r.utf8 whole.1 (subst BeginsText (take_all (length (r.done ++ chunk)) (r.done ++ chunk) (omega arith)) begins),
-                )
+                let none = not_begins_past r.done chunk n _ r.utf8 whole.1 (take_all (length (r.done ++ chunk)) (r.done ++ chunk) (omega arith)) in
+                inl (length (r.done ++ chunk), omega (arith, whole.0, r.size, sizes, all), omega arith, none)
             | inr past ↦
-                inl (
-                  length r.done + past.1.m,
-                  omega (arith, past.0, past.1.size, r.size, sizes),
-                  omega (arith, past.1.size, all),
-                  λ begins. not_begins_past r.done (take past.1.m chunk) past.1.k r.utf8 past.1.front (subst BeginsText (take_past r.done chunk past.1.m) begins),
-                )
+                let none = not_begins_past r.done (take past.1.m chunk) past.1.k _ r.utf8 past.1.front (take_past r.done chunk past.1.m) in
+                inl (length r.done + past.1.m, omega (arith, past.0, past.1.size, r.size, sizes), omega (arith, past.1.size, all), none)
           ],
         )
         (λ list out h. h)
@@ -166,7 +141,8 @@ module _ {v : VersionData} (sound : IsSound v) where
         let last : length r.done + large.1.m ≡ 4294967295 = omega (arith, large.0, large.1.size, r.size, sizes) in
         cut_early i₂ f.came n TooLarge f.taken f.cause.prefix f.size (
           omega (arith, large.0, r.size, sizes, length-append r.done chunk),
-          subst BeginsText (sym (take_past r.done chunk large.1.m) ∙ ap (λ k. take k (r.done ++ chunk)) last) (begins_past r.done (take large.1.m chunk) large.1.k r.utf8 large.1.front),
+          subst BeginsText (sym (take_past r.done chunk large.1.m) ∙ ap (λ k. take k (r.done ++ chunk)) last)
+              (ap utf8_error_len (left_past r.done (take large.1.m chunk) large.1.k r.utf8 large.1.front.prefix) ∙ large.1.front.begins),
         )
         (λ list out h. h)
     cut_input i₂ Memory f = cut_early i₂ f.came (utf8_valid_len (kept ++ f.came)) Memory f.taken (longest_prefix (kept ++ f.came)) f.size tt (λ list out h. h)
@@ -174,27 +150,38 @@ module _ {v : VersionData} (sound : IsSound v) where
     -- the end of the input within a character
     pub cut_end : (place : ℕ) → place + length kept ≡ total → 0 < length kept → total ≤ 4294967295 → IsAtEnd i₁ → IsRunCut v form (ends_of i₀ i₁ o₀ o₁) (NotUtf8 place)
     cut_end place here some fits end =
-        let read = read_to form (ends_of i₀ i₁ o₀ o₁) r.done kept 0 r.taken r.utf8 r.cut (omega (arith, r.size)) in
-        let front = form_front form (chars r.done) r.ready s.pending (chars (take 0 kept)) r.streaming in
+        let whole = prefix_past r.done kept 0 r.utf8 r.cut in
         let all = length-append r.done kept in
+        let no_text = λ (utf8 : IsUtf8 (r.done ++ kept)).
+        let most = whole.longest (length (r.done ++ kept)) (omega arith) (subst IsUtf8 (sym (take_all (length (r.done ++ kept)) (r.done ++ kept) (omega arith))) utf8) in
+        absurd (omega (arith, most, all)) in
+        cut_at i₁ o₁ kept 0 r.taken r.cut (omega (arith, r.size))
+        (NotUtf8 place) (encode_utf8_all r.ready) (omega (arith, r.size), inr (end, omega (arith, r.size, all), no_text)) r.written (ready_begins (chars (take 0 kept)))
+
+    -- the rest was written in part
+    pub cut_rest : {o₂ : Option (List ℕ)} {fault : RunFault} → total ≤ 4294967295 → (fault ≡ WriteFailed) ⊎ (fault ≡ Memory) → IsRestCut s o₁ o₂ → IsRunCut v form (ends_of i₀ i₁ o₀ o₂) fault
+    cut_rest {o₂} {fault} fits by w =
+        cut_in_part i₁ o₂ kept 0 r.taken r.cut (omega (arith, r.size)) fault by w.out w.written
+        (elim w.front [
+          | inl none ↦ inl none
+          | inr some ↦
+              let whole = under (λ u f. IsNormalForm u f (chars r.done) (r.ready ++ some.0)) r.version r.form_is (some.1.2 (chars r.done) r.ready fed) in
+              inr (some.0, (some.1.0, some.1.1, ([], unfed ∙ sym (append-nil (r.ready ++ some.0) ∙ normal_form_is v sound form (chars r.done) (r.ready ++ some.0) whole))))
+        ])
+
+    -- no byte is left, and the rest was written
+    pub run_whole : {o₂ : Option (List ℕ)} {after : ℕ} → length kept ≡ 0 → IsAtEnd i₁ → total ≤ 4294967295 → IsRestWritten s o₁ o₂ count after → IsRunWhole v form (ends_of i₀ i₁ o₀ o₂) after
+    run_whole {o₂} {after} none end fits w =
         record {
-          bytes = r.done ++ kept;
-          at = length r.done + 0;
-          list = normal_form v form (chars r.done ++ chars (take 0 kept));
-          read = read;
-          cause = (
-            omega (arith, r.size),
-            inr (
-              end,
-              omega (arith, r.size, all),
-              λ utf8.
-                  let most = read.valid.longest (length (r.done ++ kept)) (omega arith) (subst IsUtf8 (sym (take_all (length (r.done ++ kept)) (r.done ++ kept) (omega arith))) utf8) in
-                  absurd (omega (arith, most, all)),
-            ),
-          );
-          out = encode_utf8_all r.ready;
-          written = r.written;
-          front = ready_front _ r.ready front.0 (encode_utf8_all r.ready) [] front.1 (sym (append-nil (encode_utf8_all r.ready)));
+          bytes = r.done;
+          taken = subst (Consumes i₀ i₁) (ap (λ l. r.done ++ l) (nil_from_length kept none) ∙ append-nil r.done) r.taken;
+          end = end;
+          size = omega (arith, r.size, none);
+          utf8 = r.utf8;
+          list = r.ready ++ w.more;
+          normal = under (λ u f. IsNormalForm u f (chars r.done) (r.ready ++ w.more)) r.version r.form_is (w.whole (chars r.done) r.ready fed);
+          written = subst (Appends o₀ o₂) (sym (encodes-append r.ready w.more)) (Appends-trans o₀ o₁ o₂ (encode_utf8_all r.ready) (encode_utf8_all w.more) r.written w.written);
+          count_is = omega (arith, w.count_is, r.count_is, ap length (encodes-append r.ready w.more), length-append (encode_utf8_all r.ready) (encode_utf8_all w.more));
         }
 
     module _ {i₂ : Option (List ℕ)} {chunk left : List ℕ} {new n : ℕ} (next : IsNextChunk i₁ i₂ kept chunk left total new n) {l : List ℕ} (text_is : l ≡ take n chunk) where
@@ -210,8 +197,7 @@ module _ {v : VersionData} (sound : IsSound v) where
           let w = subst (λ x. IsPieceWritten s t o₁ o₂ count after (chars x)) text_is written in
           let parts : take n chunk ++ left ≡ chunk = ap (λ l. take n chunk ++ l) next.left_is ∙ take-append-drop n chunk in
           let done = r.done ++ take n chunk in
-          let fed = to_state v form s (chars r.done) r.ready s.pending r.version r.form_is r.streaming in
-          let streaming = from_state v form s (chars r.done ++ chars (take n chunk)) (r.ready ++ w.more) t.pending r.version r.form_is (w.carries (chars r.done) r.ready fed) in
+          let streaming = under (λ u f. IsStreaming u f (chars r.done ++ chars (take n chunk)) (r.ready ++ w.more) t.pending) r.version r.form_is (w.carries (chars r.done) r.ready fed) in
           record {
             done = done;
             taken = subst (Consumes i₀ i₂) (sym (append_assoc r.done (take n chunk) left ∙ ap (λ l. r.done ++ l) parts)) taken_chunk;
@@ -228,116 +214,30 @@ module _ {v : VersionData} (sound : IsSound v) where
           }
 
       -- it was fed or written in part
-      pub cut_piece : (o₂ : Option (List ℕ)) (fault : RunFault) → IsPieceCut s o₁ o₂ (chars (take n chunk)) → IsCauseOf (ends_of i₀ i₂ o₀ o₂) (r.done ++ chunk) (length r.done + n) fault → ((list out : List ℕ) → IsFrontOfForm list out → IsWrittenOf v list out fault) → IsRunCut v form (ends_of i₀ i₂ o₀ o₂) fault
-      cut_piece o₂ fault w cause written =
-          let text = chars (take n chunk) in
-          let list = normal_form v form (chars r.done ++ text) in
-          let out = encode_utf8_all r.ready ++ w.out in
-          let front : IsFrontOfForm list out =
-          elim w.front [
-            | inl none ↦
-                let f = form_front form (chars r.done) r.ready s.pending text r.streaming in
-                ready_front list r.ready f.0 out [] f.1 (sym (append-nil out ∙ ap (λ l. encode_utf8_all r.ready ++ l) none ∙ append-nil (encode_utf8_all r.ready)))
-            | inr some ↦
-                let fed = to_state v form s (chars r.done) r.ready s.pending r.version r.form_is r.streaming in
-                let later = some.1.2 (chars r.done) r.ready fed in
-                let streaming = from_state v form s (chars r.done ++ text) (r.ready ++ some.0) later.0 r.version r.form_is later.1 in
-                let f = form_front form (chars r.done ++ text) (r.ready ++ some.0) later.0 [] streaming in
-                ready_front list (r.ready ++ some.0) f.0 out some.1.0 (ap (normal_form v form) (sym (append-nil (chars r.done ++ text))) ∙ f.1)
-                (encodes-append r.ready some.0 ∙ ap (λ l. encode_utf8_all r.ready ++ l) some.1.1 ∙ sym (append_assoc (encode_utf8_all r.ready) w.out some.1.0))
-          ] in
-          record {
-            bytes = r.done ++ chunk;
-            at = length r.done + n;
-            list = list;
-            read = read_to form (ends_of i₀ i₂ o₀ o₂) r.done chunk n taken_chunk r.utf8 next.prefix (omega (arith, chunk_size, next.fits));
-            cause = cause;
-            out = out;
-            written = Appends-trans o₀ o₁ o₂ (encode_utf8_all r.ready) w.out r.written w.written;
-            front = written list out front;
-          }
-
-      pub cut_piece_by : {o₂ : Option (List ℕ)} {fault : RunFault} → (fault ≡ WriteFailed) ⊎ (fault ≡ Memory) → IsPieceCut s o₁ o₂ (chars l) → IsRunCut v form (ends_of i₀ i₂ o₀ o₂) fault
-      cut_piece_by {o₂} {fault} by cut =
+      pub cut_piece : {o₂ : Option (List ℕ)} {fault : RunFault} → (fault ≡ WriteFailed) ⊎ (fault ≡ Memory) → IsPieceCut s o₁ o₂ (chars l) → IsRunCut v form (ends_of i₀ i₂ o₀ o₂) fault
+      cut_piece {o₂} {fault} by cut =
           let w = subst (λ x. IsPieceCut s o₁ o₂ (chars x)) text_is cut in
-          elim by [
-            | inl write ↦ subst (IsRunCut v form (ends_of i₀ i₂ o₀ o₂)) (sym write) (cut_piece o₂ WriteFailed w tt (λ list out h. h))
-            | inr none ↦ subst (IsRunCut v form (ends_of i₀ i₂ o₀ o₂)) (sym none) (cut_piece o₂ Memory w tt (λ list out h. h))
-          ]
-
-  -- ---- the end of the input, where no byte is left
-
-  module _ {form : Form} {i₀ i₁ o₀ o₁ : Option (List ℕ)} {kept : List ℕ} {total count : ℕ} {s : StreamState} (r : IsRunning v form i₀ i₁ o₀ o₁ kept total count s) (none : length kept ≡ 0) (end : IsAtEnd i₁) (fits : total ≤ 4294967295) where
-    fed : IsStreaming s.version s.form (chars r.done) r.ready s.pending
-    fed = to_state v form s (chars r.done) r.ready s.pending r.version r.form_is r.streaming
-
-    taken_whole : Consumes i₀ i₁ r.done
-    taken_whole = subst (Consumes i₀ i₁) (ap (λ l. r.done ++ l) (nil_from_length kept none) ∙ append-nil r.done) r.taken
-
-    pub run_whole : {o₂ : Option (List ℕ)} {after : ℕ} → IsRestWritten s o₁ o₂ count after → IsRunWhole v form (ends_of i₀ i₁ o₀ o₂) after
-    run_whole {o₂} {after} w =
-        record {
-          bytes = r.done;
-          taken = taken_whole;
-          end = end;
-          size = omega (arith, r.size, none);
-          utf8 = r.utf8;
-          list = r.ready ++ w.more;
-          normal = form_from_state v form s (chars r.done) (r.ready ++ w.more) r.version r.form_is (w.whole (chars r.done) r.ready fed);
-          written = subst (Appends o₀ o₂) (sym (encodes-append r.ready w.more)) (Appends-trans o₀ o₁ o₂ (encode_utf8_all r.ready) (encode_utf8_all w.more) r.written w.written);
-          count_is = omega (arith, w.count_is, r.count_is, ap length (encodes-append r.ready w.more), length-append (encode_utf8_all r.ready) (encode_utf8_all w.more));
-        }
-
-    pub cut_rest : (o₂ : Option (List ℕ)) (fault : RunFault) → IsRestCut s o₁ o₂ → IsCauseOf (ends_of i₀ i₁ o₀ o₂) r.done (length r.done) fault → ((list out : List ℕ) → IsFrontOfForm list out → IsWrittenOf v list out fault) → IsRunCut v form (ends_of i₀ i₁ o₀ o₂) fault
-    cut_rest o₂ fault w cause written =
-        let list = normal_form v form (chars r.done) in
-        let out = encode_utf8_all r.ready ++ w.out in
-        let all : take (length r.done) r.done ≡ r.done = take_all (length r.done) r.done (omega arith) in
-        let front : IsFrontOfForm list out =
-        elim w.front [
-          | inl none ↦
-              let f = form_front form (chars r.done) r.ready s.pending [] r.streaming in
-              ready_front list r.ready f.0 out [] (ap (normal_form v form) (sym (append-nil (chars r.done))) ∙ f.1)
-              (sym (append-nil out ∙ ap (λ l. encode_utf8_all r.ready ++ l) none ∙ append-nil (encode_utf8_all r.ready)))
-          | inr some ↦
-              let whole = form_from_state v form s (chars r.done) (r.ready ++ some.0) r.version r.form_is (some.1.2 (chars r.done) r.ready fed) in
-              ready_front list (r.ready ++ some.0) [] out some.1.0 (sym (append-nil (r.ready ++ some.0) ∙ normal_form_is v sound form (chars r.done) (r.ready ++ some.0) whole))
-              (encodes-append r.ready some.0 ∙ ap (λ l. encode_utf8_all r.ready ++ l) some.1.1 ∙ sym (append_assoc (encode_utf8_all r.ready) w.out some.1.0))
-        ] in
-        record {
-          bytes = r.done;
-          at = length r.done;
-          list = list;
-          read = record {
-            taken = taken_whole;
-            size = omega (arith, r.size, none);
-            valid = whole_prefix r.done (length r.done) refl r.utf8;
-            normal = subst (λ l. IsNormalForm v form (chars l) list) (sym all) (IsNormalForm-normal_form v sound form (chars r.done));
-          };
-          cause = cause;
-          out = out;
-          written = Appends-trans o₀ o₁ o₂ (encode_utf8_all r.ready) w.out r.written w.written;
-          front = written list out front;
-        }
-
-    pub cut_rest_by : {o₂ : Option (List ℕ)} {fault : RunFault} → (fault ≡ WriteFailed) ⊎ (fault ≡ Memory) → IsRestCut s o₁ o₂ → IsRunCut v form (ends_of i₀ i₁ o₀ o₂) fault
-    cut_rest_by {o₂} {fault} by w =
-        elim by [
-          | inl write ↦ subst (IsRunCut v form (ends_of i₀ i₁ o₀ o₂)) (sym write) (cut_rest o₂ WriteFailed w tt (λ list out h. h))
-          | inr none ↦ subst (IsRunCut v form (ends_of i₀ i₁ o₀ o₂)) (sym none) (cut_rest o₂ Memory w tt (λ list out h. h))
-        ]
+          let text = chars r.done ++ chars (take n chunk) in
+          cut_in_part i₂ o₂ chunk n taken_chunk next.prefix (omega (arith, chunk_size, next.fits)) fault by w.out w.written
+          (elim w.front [
+            | inl none ↦ inl none
+            | inr some ↦
+                let later = some.1.2 (chars r.done) r.ready fed in
+                let streaming = under (λ u f. IsStreaming u f text (r.ready ++ some.0) later.0) r.version r.form_is later.1 in
+                inr (some.0, (some.1.0, some.1.1, (streaming.held, sym (normal_form_is v sound form text ((r.ready ++ some.0) ++ streaming.held) streaming.whole))))
+          ])
 
   -- nothing was read or written
   pub run_start : (form : Form) (i₀ o₀ : Option (List ℕ)) (s : StreamState) → s.version ≡ v → s.form ≡ form → s.ready ≡ [] → IsStreaming v form [] [] s.pending → IsRunning v form i₀ i₀ o₀ o₀ [] 0 0 s
   run_start form i₀ o₀ s version same moved begins =
       record {
         done = [];
-        taken = Consumes-nothing i₀;
+        taken = Consumes-nil i₀;
         utf8 = IsUtf8-nil;
         cut = whole_prefix [] 0 refl IsUtf8-nil;
         size = omega arith;
         ready = [];
-        written = Appends-nothing o₀;
+        written = Appends-nil o₀;
         count_is = refl;
         streaming = subst (λ l. IsStreaming v form l [] s.pending) (sym chars-nil) begins;
         version = version;
@@ -353,7 +253,7 @@ module _ {v : VersionData} (sound : IsSound v) where
     cut_start =
         subst (λ x. IsRunCut v form (ends_of x i' o o') Memory) same_in
         (subst (λ x. IsRunCut v form (ends_of i' i' x o') Memory) same_out
-        (cut_input (run_start form i' o' s version form_is moved begins) i' Memory (record { came = []; taken = Consumes-nothing i'; size = omega arith; cause = tt })))
+        (cut_input (run_start form i' o' s version form_is moved begins) i' Memory (record { came = []; taken = Consumes-nil i'; size = omega arith; cause = tt })))
 
     -- a whole run
     pub run_all : {kept : List ℕ} {total : ℕ} → kept ≡ [] → total ≡ 0 → (i₂ o₂ : Option (List ℕ)) (result : Result ℕ RunFault) → Stops s i' i₂ o' o₂ kept total 0 result → RunEnds v form (ends_of i i₂ o o₂) result

@@ -1,16 +1,13 @@
 -- Segments that are composed code point by code point.
 use Rattle.std.proofs.Common.{◌≡◌, ℕ, ◌≤◌, ◌⊎◌, Bool, true, List, [], ◌∷◌, ◌++◌, ◌==◌, ◌||◌, nat_lt, length, get_or, set, chars, IsUtf8, encode_utf8, flat_map, Option, Some, None, refl, sym, ap, ap₂, subst, ◌∙◌, inl, inr, append_assoc, append-nil, false, encode_utf8_all, arith}
-use Rattle.np_forms.proofs.Words.{cases_Bool, cond-false, cond-true, flat_map-append, map-append, is_compat, composes}
-use Rattle.np_forms.proofs.Words.{Form, is_ordered, IsComposing, and_place, pair_with_last, compose_of, canonical_order}
-use Rattle.np_forms.proofs.Words.{CodeAndClass, with_class, with_classes, ended, normal_form, decomposed, IsComposedOf}
-use Rattle.np_forms.proofs.Words.{IsDecomposedUpTo, IsFirstMade, IsFullUpTo, Rises, BeginsAtBoundary, IsSound}
-use Rattle.np_forms.proofs.Words.{VersionData, class_of, composite, full_of, encodes-append, AppendsForm, IsCopied}
+use Rattle.np_forms.proofs.Words.{cases_Bool, cond-false, cond-true, flat_map-append, map-append, is_compat, composes, Form, is_ordered, IsComposing}
+use Rattle.np_forms.proofs.Words.{and_place, pair_with_last, compose_of, canonical_order, CodeAndClass, with_class, with_classes, ended, normal_form}
+use Rattle.np_forms.proofs.Words.{decomposed, IsComposedOf, IsDecomposedUpTo, IsFirstMade, IsFullUpTo, Rises, BeginsAtBoundary, IsSound, VersionData}
+use Rattle.np_forms.proofs.Words.{class_of, composite, full_of, encodes-append, AppendsForm, IsCopied}
 use Rattle.np_forms.proofs.TextLemmas.{IsRead-both, IsRead-start, IsRead-next, IsRead-end}
 use Rattle.np_forms.proofs.ComposerLemmas.{push_joins, push_starts, IsComposing-start, IsComposing-end}
 use Rattle.np_forms.proofs.CopyLemmas.{parts-at, settled-is_form}
 use Rattle.np_forms.proofs.OrderLemmas.{canonical_order-ordered, canonical_order-behind, is_ordered-canonical_order, is_ordered-cons, is_ordered-nil, is_ordered-one, is_ordered-parts, is_reorderable-false, not_reorderable_rising, not_reorderable_starter}
-
--- ---- forms that only decompose, written front by front
 
 -- ---- classes that rise
 
@@ -36,9 +33,6 @@ module _ (ccc : ℕ → ℕ) where
   -- nothing moves into a list
   abbrev pub IsClosed : List ℕ → Type 0
   IsClosed xs = (later : List ℕ) → Rises ccc 0 later → Rises ccc 0 (xs ++ later)
-
-  pub closed-nil : IsClosed []
-  closed-nil later rises = rises
 
   pub closed-starter : (s : ℕ) (xs : List ℕ) → ccc s ≡ 0 → IsClosed xs → IsClosed (s ∷ xs)
   closed-starter s xs starter closed later rises = (inl starter, subst (λ k. Rises ccc k (xs ++ later)) (sym starter) (closed later rises))
@@ -158,32 +152,6 @@ module _ (v : VersionData) where
         IsComposing-end v (done ++ []) list starter kept (a.composing [] (ap (is_ordered ccc) whole ∙ ordered)) ∙ ap (compose_of v) whole in
         settled-is_form v form xs done list (is_compat form) true refl (sym on) refl (made ∙ ap (compose_of v) (sym (canonical_order-ordered ccc done ordered)))
 
-    full-more : (front : List ℕ) (c : ℕ) → flat_map full front ++ full c ≡ flat_map full (front ++ c ∷ [])
-    full-more front c = ap (λ l. flat_map full front ++ l) (sym (append-nil (full c))) ∙ sym (flat_map-append full front (c ∷ []))
-
-    -- ---- the full decomposition of what was read
-
-    pub decomposed-start : (text : List ℕ) → IsUtf8 text → IsDecomposedUpTo v form text text []
-    decomposed-start text utf8 = record { front = []; reads = IsRead-start text utf8; is = refl }
-
-    pub decomposed-more : (text rest later : List ℕ) (c : ℕ) (list made : List CodeAndClass) → rest ≡ encode_utf8 c ++ later → IsDecomposedUpTo v form text rest list → made ≡ list ++ with_classes v (full c) → IsDecomposedUpTo v form text later made
-    decomposed-more text rest later c list made begins a more =
-        record {
-          front = a.front ++ c ∷ [];
-          reads = IsRead-next text rest c later a.front begins a.reads;
-          is = more ∙ ap (λ l. l ++ with_classes v (full c)) a.is ∙ sym (map-append (with_class v) (flat_map full a.front) (full c)) ∙ ap (with_classes v) (full-more a.front c);
-        }
-
-    -- settled, it is the form of a front, where a boundary follows
-    pub decomposed-made : (text rest : List ℕ) (list : List CodeAndClass) (codes : List ℕ) (composed : Bool) → composed ≡ composes form → IsDecomposedUpTo v form text rest list → BeginsAtBoundary v form (chars rest) →
-        ((cs : List ℕ) → list ≡ with_classes v cs → codes ≡ ended v composed (canonical_order ccc cs)) → IsFirstMade v form text rest codes
-    decomposed-made text rest list codes composed last a at settled =
-        let made = settled-is_form v form a.front (flat_map full a.front) codes (is_compat form) composed refl last refl (settled (flat_map full a.front) a.is) in
-        record {
-          end = IsRead-end text rest a.front a.reads;
-          made = ap (normal_form v form) a.reads.split ∙ parts-at v sound form a.front (chars rest) at ∙ ap (λ l. l ++ normal_form v form (chars rest)) (sym made);
-        }
-
     -- ---- a full decomposition of a few code points
 
     -- the first code point of a text was read
@@ -208,6 +176,21 @@ module _ (v : VersionData) where
           end = IsRead-end text rest a.front a.reads;
           made = ap (normal_form v form) a.reads.split ∙ parts-at v sound form a.front (chars rest) at ∙ ap (λ l. l ++ normal_form v form (chars rest)) (sym made);
         }
+
+    -- ---- the same beside the classes
+
+    pub decomposed-start : (text : List ℕ) → IsUtf8 text → IsDecomposedUpTo v form text text []
+    decomposed-start text utf8 = ([], record { front = []; reads = IsRead-start text utf8; is = refl }, refl)
+
+    pub decomposed-more : (text rest later : List ℕ) (c : ℕ) (list made : List CodeAndClass) → rest ≡ encode_utf8 c ++ later → IsDecomposedUpTo v form text rest list → made ≡ list ++ with_classes v (full c) → IsDecomposedUpTo v form text later made
+    decomposed-more text rest later c list made begins a more =
+        let one : IsFullUpTo v form rest later (full c) = record { front = c ∷ []; reads = IsRead-next rest rest c later [] begins (IsRead-start rest a.1.reads.utf8); is = append-nil (full c) } in
+        (a.0 ++ full c, full-both text rest later a.0 (full c) a.1 one, more ∙ ap (λ l. l ++ with_classes v (full c)) a.2 ∙ sym (map-append (with_class v) a.0 (full c)))
+
+    pub decomposed-made : (text rest : List ℕ) (list : List CodeAndClass) (codes : List ℕ) (composed : Bool) → composed ≡ composes form → IsDecomposedUpTo v form text rest list → BeginsAtBoundary v form (chars rest) →
+        ((cs : List ℕ) → list ≡ with_classes v cs → codes ≡ ended v composed (canonical_order ccc cs)) → IsFirstMade v form text rest codes
+    decomposed-made text rest list codes composed last a at settled =
+        subst (IsFirstMade v form text rest) (sym (settled a.0 a.2 ∙ ap (λ b. ended v b (canonical_order ccc a.0)) last)) (full-made text rest a.0 (canonical_order ccc a.0) a.1 refl at)
 
 -- what the checks of functions cite
 pub ruleset segment_answers = (full-first)

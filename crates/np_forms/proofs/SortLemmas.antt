@@ -1,10 +1,9 @@
 -- A stable sort of non-starters by their classes puts them in canonical order.
 use Rattle.std.proofs.Common.{◌≡◌, ℕ, ◌<◌, ◌≤◌, Bool, true, not, ◌&&◌, ◌==◌, List, [], ◌∷◌, ◌++◌, refl, sym, ap, ap₂, ◌∙◌, arith, inl, inr, eqb-true, eq-eqb, ◌+◌, length, take, drop, get_or, append_assoc, append-nil, length-append}
-use Rattle.np_forms.proofs.Words.{cases_Bool, cases_order, cond-true, cond-false, and_parts, not-true, ne_eqb, and_from}
-use Rattle.np_forms.proofs.Words.{nat_tests, list_all, filter, is_reorderable, is_ordered, canonical_order}
-use Rattle.np_forms.proofs.Words.{CodeAndClass, with_class, with_classes, is_starter, is_non_starter, VersionData}
-use Rattle.np_forms.proofs.Words.{class_of, take_all, drop_all, take_at, drop_at, length-take, length-drop, drop-drop}
-use Rattle.np_forms.proofs.Words.{get_or-drop, take-append-drop}
+use Rattle.np_forms.proofs.Words.{cases_Bool, cases_order, cond-true, cond-false, and_parts, not-true, ne_eqb, and_from, nat_tests, list_all, filter}
+use Rattle.np_forms.proofs.Words.{is_reorderable, is_ordered, canonical_order, CodeAndClass, with_class, with_classes, is_starter, is_non_starter}
+use Rattle.np_forms.proofs.Words.{VersionData, class_of, take_all, drop_all, take_at, drop_at, length-take, length-drop, drop-drop, get_or-drop}
+use Rattle.np_forms.proofs.Words.{take-append-drop}
 use Rattle.std.proofs.lemmas.List.Elements.{filter-append, filter_agree}
 use Rattle.std.proofs.lemmas.List.Sorted.{IsNonDecreasingBy-drop}
 use Rattle.std.specs.List.Sorted.{IsNonDecreasingBy, IsStableByKey, ties}

@@ -1,10 +1,9 @@
 -- More text changes a normal form from its last starter on alone.
 use Rattle.std.proofs.Common.{◌≡◌, ℕ, ◌<◌, ◌≤◌, ◌⊎◌, Bool, true, false, List, [], ◌∷◌, ◌++◌, flat_map, Option, refl, sym, ap, ap₂, subst, ◌∙◌, arith, inl, inr, append_assoc, None, append-nil, MatchBool}
-use Rattle.np_forms.proofs.Words.{cases_lt, and_parts, and_from, not-true, not_from_false, eqb-false, flat_map-append}
-use Rattle.np_forms.proofs.Words.{list_all, VersionData, class_of, is_final, full_of, is_ordered, canonical_order}
-use Rattle.np_forms.proofs.Words.{composite, joined, compose_after, compose, compose_of, IsSound, Form, is_compat}
-use Rattle.np_forms.proofs.Words.{composes, decomposed, ended, normal_form, is_non_starter, IsNormalForm}
-use Rattle.np_forms.proofs.Words.{BeginsAtLastStarter, HasNoStarter, IsBoundary, NeverFalls, ComposesTo, IsYesStarter}
+use Rattle.np_forms.proofs.Words.{cases_lt, and_parts, and_from, not-true, not_from_false, eqb-false, flat_map-append, list_all, VersionData, class_of}
+use Rattle.np_forms.proofs.Words.{is_final, full_of, is_ordered, canonical_order, composite, joined, compose_after, compose, compose_of, IsSound, Form}
+use Rattle.np_forms.proofs.Words.{is_compat, composes, decomposed, ended, normal_form, is_non_starter, IsNormalForm, BeginsAtLastStarter, HasNoStarter}
+use Rattle.np_forms.proofs.Words.{IsBoundary, NeverFalls, ComposesTo, IsYesStarter}
 use Rattle.np_forms.specs.StreamLaws.{OneMore}
 use Rattle.np_tables.proofs.MappingLemmas.{list_all-append, full_decomposition-flat_map}
 use Rattle.np_tables.proofs.CompositeLemmas.{cases_Option, composite-starter, composite-never, composite_from}
@@ -12,11 +11,8 @@ use Rattle.np_forms.specs.Boundaries.{FormsAtBoundary, YesStarterForm}
 use Rattle.np_forms.proofs.OrderLemmas.{canonical_order-front, canonical_order-at_starter, canonical_order-ordered, is_ordered-front, is_ordered-back, canonical_order-nil, is_ordered-cons, is_ordered-nil, is_ordered-one, not_reorderable_rising}
 use Rattle.np_forms.proofs.ComposeLemmas.{not_starter_from, compose_after-nil, compose_after-joined, compose_after-starter, compose_after-kept, compose-nil, compose-starter, compose-non_starter, joined-some, compose-at_boundary, joined-free}
 use Rattle.np_forms.proofs.FormLemmas.{IsNormalForm-normal_form, normal_form_is}
+pub use Rattle.np_forms.proofs.TextLemmas.{list_all-back}
 use Rattle.np_forms.proofs.KeptLemmas.{is_ordered-decomposed, all_final, decomposed-final, decomposed-composed, decomposed-normal_form}
-
-pub list_all-back : (p : ℕ → Bool) (xs ys : List ℕ) → list_all p (xs ++ ys) ≡ true → list_all p ys ≡ true
-list_all-back p [] ys h = h
-list_all-back p (x ∷ xs) ys h = list_all-back p xs ys (and_parts (p x) (list_all p (xs ++ ys)) h).1
 
 module _ (v : VersionData) (sound : IsSound v) where
   abbrev ccc : ℕ → ℕ
@@ -227,15 +223,12 @@ module _ (v : VersionData) where
       ap (canonical_order (class_of v)) (flat_map-append f xs (c ∷ ys) ∙ ap (λ l. flat_map f xs ++ (l ++ flat_map f ys)) full)
       ∙ canonical_order-at_starter (class_of v) (flat_map f xs) s (rest ++ flat_map f ys) low
 
-  decomposed-nil : (compat : Bool) → decomposed v compat [] ≡ []
-  unfolding decomposed
-  decomposed-nil compat = canonical_order-nil (class_of v)
-
   -- where nothing stands before it
   pub decomposed-begins : (compat : Bool) (c s : ℕ) (rest ys : List ℕ) → full_of v compat c ≡ s ∷ rest → class_of v s ≡ 0 →
       decomposed v compat (c ∷ ys) ≡ s ∷ canonical_order (class_of v) (rest ++ flat_map (full_of v compat) ys)
+  unfolding decomposed
   decomposed-begins compat c s rest ys full starter =
-      decomposed-boundary compat [] c s rest ys full starter ∙ ap (λ l. l ++ s ∷ canonical_order (class_of v) (rest ++ flat_map (full_of v compat) ys)) (decomposed-nil compat)
+      decomposed-boundary compat [] c s rest ys full starter ∙ ap (λ l. l ++ s ∷ canonical_order (class_of v) (rest ++ flat_map (full_of v compat) ys)) (canonical_order-nil (class_of v))
 
   -- composition is cut before a starter that never composes backward
   pub ended-boundary : (b : Bool) (xs : List ℕ) (s : ℕ) (ys : List ℕ) → class_of v s ≡ 0 → (b ≡ true → (a : ℕ) → composite v a s ≡ None) →
@@ -244,26 +237,27 @@ module _ (v : VersionData) where
   ended-boundary true xs s ys starter apart = compose-at_boundary (class_of v) (composite v) xs s ys (omega arith) (apart refl)
   ended-boundary false xs s ys starter apart = refl
 
-  pub normal_form-boundary : (form : Form) (xs : List ℕ) (c s : ℕ) (rest ys : List ℕ) → full_of v (is_compat form) c ≡ s ∷ rest → class_of v s ≡ 0 →
-      (composes form ≡ true → (a : ℕ) → composite v a s ≡ None) → normal_form v form (xs ++ c ∷ ys) ≡ normal_form v form xs ++ normal_form v form (c ∷ ys)
-  unfolding normal_form
-  normal_form-boundary form xs c s rest ys full starter apart =
-      let compat = is_compat form in
-      let b = composes form in
-      ap (ended v b) (decomposed-boundary compat xs c s rest ys full starter)
-      ∙ ended-boundary b (decomposed v compat xs) s (canonical_order (class_of v) (rest ++ flat_map (full_of v compat) ys)) starter apart
-      ∙ ap (λ l. ended v b (decomposed v compat xs) ++ ended v b l) (sym (decomposed-begins compat c s rest ys full starter))
-
 -- the full decomposition that a boundary names is that of the function
 pub full_of-boundary : (v : VersionData) (form : Form) (c : ℕ) → IsSound v → (at : IsBoundary v form c) → full_of v (is_compat form) c ≡ at.first ∷ at.rest
 full_of-boundary v form c sound at =
     sym (append-nil (full_of v (is_compat form) c)) ∙ sym (full_decomposition-flat_map v (is_compat form) sound.shallow (c ∷ []) (at.first ∷ at.rest) at.decomposes)
 
+-- before a boundary, what was written stands
+pub normal_form-parts : (v : VersionData) (sound : IsSound v) (form : Form) (xs : List ℕ) (c : ℕ) (ys : List ℕ) → IsBoundary v form c →
+    normal_form v form (xs ++ c ∷ ys) ≡ normal_form v form xs ++ normal_form v form (c ∷ ys)
+unfolding normal_form
+normal_form-parts v sound form xs c ys at =
+    let compat = is_compat form in
+    let b = composes form in
+    let full = full_of-boundary v form c sound at in
+    ap (ended v b) (decomposed-boundary v compat xs c at.first at.rest ys full at.starter)
+    ∙ ended-boundary v b (decomposed v compat xs) at.first (canonical_order (class_of v) (at.rest ++ flat_map (full_of v compat) ys)) at.starter (λ on. composite-never v at.first (at.never_second on))
+    ∙ ap (λ l. ended v b (decomposed v compat xs) ++ ended v b l) (sym (decomposed-begins v compat c at.first at.rest ys full at.starter))
+
 pub forms_at_boundary : FormsAtBoundary
 forms_at_boundary v form xs c ys before after sound at of_before of_after =
-    let parts = normal_form-boundary v form xs c at.first at.rest ys (full_of-boundary v form c sound at) at.starter (λ on. composite-never v at.first (at.never_second on)) in
     let same : normal_form v form (xs ++ c ∷ ys) ≡ before ++ after =
-    parts ∙ ap (λ l. l ++ normal_form v form (c ∷ ys)) (sym (normal_form_is v sound form xs before of_before))
+    normal_form-parts v sound form xs c ys at ∙ ap (λ l. l ++ normal_form v form (c ∷ ys)) (sym (normal_form_is v sound form xs before of_before))
     ∙ ap (λ l. before ++ l) (sym (normal_form_is v sound form (c ∷ ys) after of_after)) in
     subst (λ l. IsNormalForm v form (xs ++ c ∷ ys) l) same (IsNormalForm-normal_form v sound form (xs ++ c ∷ ys))
 
@@ -293,23 +287,14 @@ module _ (v : VersionData) (sound : IsSound v) where
   ended-folds true s rest c starter folds = compose-starter (class_of v) (composite v) s rest (omega arith) ∙ compose_after-folds s rest c folds
   ended-folds false s rest c starter same = same
 
-  decomposed-one : (compat : Bool) (c s : ℕ) (rest : List ℕ) → full_of v compat c ≡ s ∷ rest → class_of v s ≡ 0 → NeverFalls (class_of v) rest → decomposed v compat (c ∷ []) ≡ s ∷ rest
-  decomposed-one compat c s rest full starter rises =
-      decomposed-begins v compat c s rest [] full starter
-      ∙ ap (λ l. s ∷ canonical_order (class_of v) l) (append-nil rest)
-      ∙ ap (λ l. s ∷ l) (canonical_order-ordered (class_of v) rest (is_ordered-never_falls (class_of v) rest rises))
-
   pub normal_form-stays : (form : Form) (c : ℕ) → IsYesStarter v form c → normal_form v form (c ∷ []) ≡ c ∷ []
   unfolding normal_form
   normal_form-stays form c stays =
       let at = stays.boundary in
-      ap (ended v (composes form)) (decomposed-one (is_compat form) c at.first at.rest (full_of-boundary v form c sound at) at.starter stays.rises)
+      ap (ended v (composes form))
+      (decomposed-begins v (is_compat form) c at.first at.rest [] (full_of-boundary v form c sound at) at.starter ∙ ap (λ l. at.first ∷ canonical_order (class_of v) l) (append-nil at.rest)
+      ∙ ap (λ l. at.first ∷ l) (canonical_order-ordered (class_of v) at.rest (is_ordered-never_falls (class_of v) at.rest stays.rises)))
       ∙ ended-folds (composes form) at.first at.rest c at.starter stays.returns
-
-  -- before a starter that passes, or another boundary, what was written stands
-  pub normal_form-parts : (form : Form) (xs : List ℕ) (c : ℕ) (ys : List ℕ) → IsBoundary v form c → normal_form v form (xs ++ c ∷ ys) ≡ normal_form v form xs ++ normal_form v form (c ∷ ys)
-  normal_form-parts form xs c ys at =
-      normal_form-boundary v form xs c at.first at.rest ys (full_of-boundary v form c sound at) at.starter (λ on. composite-never v at.first (at.never_second on))
 
 pub yes_starter_form : YesStarterForm
 yes_starter_form v form c sound stays =

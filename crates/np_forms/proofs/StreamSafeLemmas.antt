@@ -1,9 +1,7 @@
 -- The longest run of non-starters, counted and as a relation.
 use Rattle.std.proofs.Common.{◌≡◌, ℕ, suc, ◌+◌, ◌<◌, ◌≤◌, ◌⊎◌, ◌↔◌, Bool, true, false, not, nat_lt, max, IsTrue, List, [], ◌∷◌, ◌++◌, length, flat_map, refl, sym, ap, subst, ◌∙◌, arith, inl, inr, eq-eqb}
-use Rattle.np_forms.proofs.Words.{cases_Bool, cond-true, cond-false, and_parts, and_from, not-true, ltb-true, ltb-false}
-use Rattle.np_forms.proofs.Words.{lt-ltb, le-ltb, list_all, IsSound, VersionData, class_of, is_starter, is_non_starter}
-use Rattle.np_forms.proofs.Words.{decomposed, normal_form, canonical_order, longest_run, runs_over, is_reorderable}
-use Rattle.np_forms.proofs.Words.{full_of}
+use Rattle.np_forms.proofs.Words.{cases_Bool, cond-true, cond-false, and_parts, and_from, not-true, ltb-true, ltb-false, lt-ltb, le-ltb, list_all, IsSound}
+use Rattle.np_forms.proofs.Words.{VersionData, class_of, is_starter, is_non_starter, decomposed, normal_form, longest_run, runs_over, is_reorderable, full_of}
 use Rattle.np_code_points.specs.declared.forms.Form.TheVariants.{Nfkd}
 use Rattle.np_forms.specs.StreamSafe.{HasRunOver, IsStreamSafe}
 use Rattle.np_forms.proofs.OrderLemmas.{canonical_order-keeps, is_reorderable-true}
@@ -88,8 +86,7 @@ module _ (v : VersionData) where
                   elim (run_of n 0 cs rest) [ inl some ↦ inl (shifted n c cs some) | inr front ↦ inl (shifted n c cs (front_is_run n cs front)) ]
             ]
         | inr non_starter ↦
-            let rest : n < longest_run ccc (suc k) cs = omega (arith, longest-non_starter k c cs non_starter) in
-            elim (run_of n (suc k) cs rest) [
+            elim (run_of n (suc k) cs (omega (arith, longest-non_starter k c cs non_starter))) [
               | inl some ↦ inl (shifted n c cs some)
               | inr front ↦ inr (record {
                 run = c ∷ front.run;
@@ -100,11 +97,6 @@ module _ (v : VersionData) where
               })
             ]
       ]
-
-  -- a run of more than n is there exactly where the longest run is longer than n
-  pub HasRunOver-longest : (n : ℕ) (xs : List ℕ) → HasRunOver v n xs ↔ (n < longest_run ccc 0 xs)
-  HasRunOver-longest n xs =
-      (longest-run n xs, λ h. elim (run_of n 0 xs h) [ inl some ↦ some | inr front ↦ front_is_run n xs front ])
 
   -- ---- the steps of a count that stops past 30
 
@@ -142,37 +134,27 @@ module _ (v : VersionData) where
         | inr other ↦ longest-non_starter k u (us ++ a ∷ b ∷ vs) other ∙ longest-exchanged (suc k) us a b vs pair ∙ sym (longest-non_starter k u (us ++ b ∷ a ∷ vs) other)
       ]
 
-  longest-ordered : (cs : List ℕ) → longest_run ccc 0 (canonical_order ccc cs) ≡ longest_run ccc 0 cs
-  longest-ordered cs = canonical_order-keeps ccc (longest_run ccc 0) (longest-exchanged 0) cs
-
   over-decomposed : (xs : List ℕ) → runs_over ccc 0 (decomposed v true xs) ≡ runs_over ccc 0 (flat_map (full_of v true) xs)
   unfolding decomposed
-  over-decomposed xs = ap (nat_lt 30) (longest-ordered (flat_map (full_of v true) xs))
+  over-decomposed xs = ap (nat_lt 30) (canonical_order-keeps ccc (longest_run ccc 0) (longest-exchanged 0) (flat_map (full_of v true) xs))
 
-  nfkd_is : (xs : List ℕ) → normal_form v Nfkd xs ≡ decomposed v true xs
+  -- a text is stream-safe exactly where the count of its full decomposition stays at 30 or below, as that of its NFKD form does
+  pub IsStreamSafe-few : IsSound v → (xs : List ℕ) (b : Bool) → b ≡ not (runs_over ccc 0 (flat_map (full_of v true) xs)) → IsTrue b ↔ IsStreamSafe v xs
   unfolding normal_form
-  nfkd_is xs = refl
-
-  -- a text is stream-safe exactly where the count of its NFKD form stays at 30 or below
-  IsStreamSafe-counted : IsSound v → (xs : List ℕ) (b : Bool) → b ≡ not (nat_lt 30 (longest_run ccc 0 (decomposed v true xs))) → IsTrue b ↔ IsStreamSafe v xs
-  IsStreamSafe-counted sound xs b is =
-      let over = HasRunOver-longest 30 (normal_form v Nfkd xs) in
-      let same : longest_run ccc 0 (normal_form v Nfkd xs) ≡ longest_run ccc 0 (decomposed v true xs) = ap (longest_run ccc 0) (nfkd_is xs) in (
+  IsStreamSafe-few sound xs b few =
+      let nfkd = normal_form v Nfkd xs in
+      let is : b ≡ not (runs_over ccc 0 nfkd) = few ∙ ap not (sym (over-decomposed xs)) in (
         λ yes.
-            let short = ltb-false 30 _ (not-true (nat_lt 30 (longest_run ccc 0 (decomposed v true xs))) (sym is ∙ yes)) in
-            record { nfkd = normal_form v Nfkd xs; is = IsNormalForm-normal_form v sound Nfkd xs; short = λ run. let long = over.0 run in absurd (omega (arith, same)) },
+            let short = ltb-false 30 _ (not-true (runs_over ccc 0 nfkd) (sym is ∙ yes)) in
+            record { nfkd = nfkd; is = IsNormalForm-normal_form v sound Nfkd xs; short = λ run. let long = longest-run 30 nfkd run in absurd (omega arith) },
         λ safe.
-            elim (cases_Bool (nat_lt 30 (longest_run ccc 0 (decomposed v true xs)))) [
+            elim (cases_Bool (runs_over ccc 0 nfkd)) [
               | inl long ↦
-                  let more : 30 < longest_run ccc 0 (normal_form v Nfkd xs) = omega (arith, ltb-true 30 _ long, same) in
-                  absurd (safe.short (subst (HasRunOver v 30) (sym (normal_form_is v sound Nfkd xs safe.nfkd safe.is)) (over.1 more)))
+                  let over : HasRunOver v 30 nfkd = elim (run_of 30 0 nfkd (ltb-true 30 _ long)) [ inl some ↦ some | inr front ↦ front_is_run 30 nfkd front ] in
+                  absurd (safe.short (subst (HasRunOver v 30) (sym (normal_form_is v sound Nfkd xs safe.nfkd safe.is)) over))
               | inr short ↦ is ∙ ap not short
             ],
       )
-
-  -- and so where the count of its full decomposition does
-  pub IsStreamSafe-few : IsSound v → (xs : List ℕ) (b : Bool) → b ≡ not (runs_over ccc 0 (flat_map (full_of v true) xs)) → IsTrue b ↔ IsStreamSafe v xs
-  IsStreamSafe-few sound xs b is = IsStreamSafe-counted sound xs b (is ∙ ap not (sym (over-decomposed xs)))
 
 -- what the checks of functions cite
 pub ruleset over_answers = (over-non_starter, over-past, over-starter)

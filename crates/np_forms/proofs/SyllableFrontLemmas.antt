@@ -1,12 +1,10 @@
 -- Texts that begin with a syllable, by its jamo or precomposed.
 use Rattle.std.proofs.Common.{◌≡◌, ℕ, ◌<◌, get_or, true, false, MatchBool, List, [], ◌∷◌, ◌++◌, length, chars, IsUtf8, encode_utf8_all, drop, encode_utf8, flat_map, inl, inr, refl, sym, ap, subst, ◌∙◌, arith, append-nil, length-append, length-drop}
-use Rattle.np_forms.proofs.Words.{and_from, chars-append, chars-encodes, chars_past_char, IsUtf8-drop, IsUtf8-past_char}
-use Rattle.np_forms.proofs.Words.{length-le-encodes, list_all, is_compat, composes, is_among, is_syllable, Form}
-use Rattle.np_forms.proofs.Words.{IsAssigned, AsciiIsCopiedAlone, AppendsForm, IsCopied, LeadingAreBoundaries, IsCopiedAlone}
-use Rattle.np_forms.proofs.Words.{canonical_order, decomposed, ended, normal_form, IsReadAssigned, IsFirstMade}
-use Rattle.np_forms.proofs.Words.{BeginsWithJamo, BeginsWithSyllable, syllable_parts, BeginsAtBoundary, ComposesTo}
-use Rattle.np_forms.proofs.Words.{IsBoundary, IsYesStarter, IsSound, IsFullDecomposition, is_final, VersionData}
-use Rattle.np_forms.proofs.Words.{class_of, has_hangul, is_assigned, full_of}
+use Rattle.np_forms.proofs.Words.{and_from, chars-append, chars-encodes, chars_past_char, IsUtf8-drop, IsUtf8-past_char, length-le-encodes, list_all}
+use Rattle.np_forms.proofs.Words.{is_compat, composes, is_among, is_syllable, Form, IsAssigned, AsciiIsCopiedAlone, AppendsForm, IsCopied}
+use Rattle.np_forms.proofs.Words.{LeadingAreBoundaries, IsCopiedAlone, canonical_order, decomposed, ended, normal_form, IsReadAssigned}
+use Rattle.np_forms.proofs.Words.{BeginsWithJamo, BeginsWithSyllable, syllable_parts, BeginsAtBoundary, ComposesTo, IsBoundary, IsYesStarter, IsSound}
+use Rattle.np_forms.proofs.Words.{IsFullDecomposition, is_final, VersionData, class_of, has_hangul, is_assigned, full_of}
 use lib.Utf8.{low_scalar}
 use Rattle.np_code_points.proofs.HangulLemmas.{among_bounds}
 use Rattle.np_forms.proofs.StreamLemmas.{ended-folds, is_ordered-never_falls, rises_from}
@@ -56,13 +54,11 @@ module _ (v : VersionData) (on : has_hangul v ≡ true) where
   syllable-read text later s begins =
       record {
         before = begins.front;
-        bytes = begins.bytes;
-        text = begins.text_is;
+        reads = record { utf8 = begins.utf8; bytes = begins.bytes; split = begins.text_is };
         assigned = elim begins.spells [
           | inl jamo ↦ subst (IsAssigned v) (sym jamo) (parts-assigned v on s begins.syllable)
           | inr itself ↦ subst (IsAssigned v) (sym itself) (and_from (is_assigned v s) true (syllable-assigned v on s begins.syllable) refl)
         ];
-        utf8 = begins.utf8;
       }
 
 module _ (v : VersionData) (sound : IsSound v) (on : has_hangul v ≡ true) (form : Form) where
@@ -103,17 +99,15 @@ module _ (v : VersionData) (sound : IsSound v) (on : has_hangul v ≡ true) (for
       ap (λ l. ended v (composes form) (canonical_order (class_of v) l)) (full ∙ parts) ∙ ap (ended v (composes form)) (canonical_order-ordered (class_of v) (is.first ∷ is.rest) ordered)
       ∙ ended-folds v sound (composes form) is.first is.rest s starter (subst (λ b. MatchBool b (ComposesTo v is.first is.rest s) (is.first ∷ is.rest ≡ s ∷ [])) (sym composing) is.folds)
 
-  front-made : composes form ≡ true → (text later : List ℕ) (s : ℕ) → BeginsWithSyllable text later s → BeginsAtBoundary v form (chars later) → IsFirstMade v form text later (s ∷ [])
-  front-made composing text later s begins at =
-      record {
-        end = record { front = encode_utf8_all begins.front; parts = begins.bytes; utf8 = begins.utf8 };
-        made = ap (normal_form v form) begins.text_is ∙ parts-at v sound form begins.front (chars later) at
-            ∙ ap (λ l. l ++ normal_form v form (chars later)) (joins composing s begins.syllable begins.front (front-full s text later begins));
-      }
-
   pub goes-joined : composes form ≡ true → (text later : List ℕ) (s : ℕ) (old new : List ℕ) → BeginsWithSyllable text later s → BeginsAtBoundary v form (chars later) → new ≡ old ++ encode_utf8 s → AppendsForm v form text later old new
   goes-joined composing text later s old new begins at push =
-      goes-made v form text later (s ∷ []) old new (front-made composing text later s begins at) (push ∙ ap (λ l. old ++ l) (sym (append-nil (encode_utf8 s))))
+      let whole = joins composing s begins.syllable begins.front (front-full s text later begins) in
+      goes-made v form text later (s ∷ []) old new
+      (record {
+        end = record { front = encode_utf8_all begins.front; parts = begins.bytes; utf8 = begins.utf8 };
+        made = ap (normal_form v form) begins.text_is ∙ parts-at v sound form begins.front (chars later) at ∙ ap (λ l. l ++ normal_form v form (chars later)) whole;
+      })
+      (push ∙ ap (λ l. old ++ l) (sym (append-nil (encode_utf8 s))))
 
   -- ---- a syllable is a boundary
 

@@ -1,13 +1,13 @@
 -- Syllables written as the bytes of their jamo.
-use Rattle.std.proofs.Common.{◌≡◌, ℕ, ◌+◌, ◌-◌, ◌*◌, ◌/◌, ◌%◌, ◌<◌, ◌≤◌, ◌≢◌, true, List, [], ◌∷◌, ◌++◌, length, get_or, chars, IsCharBoundary, IsUtf8, encode_utf8_all, drop, encode_utf8, inl, inr, refl, suc, sym, take, ap, subst, ◌∙◌, arith}
-use Rattle.np_forms.proofs.Words.{and_from, cases_eq, le-leb, lt-ltb, take-suc, take-append-drop, chars-append}
-use Rattle.np_forms.proofs.Words.{chars-encodes, IsCharBoundary-from_take, list_all, is_syllable, IsAssigned}
-use Rattle.np_forms.proofs.Words.{BeginsWithJamo, syllable_parts, VersionData, class_of, has_hangul, is_assigned}
+use Rattle.std.proofs.Common.{◌≡◌, ℕ, ◌+◌, ◌-◌, ◌*◌, ◌/◌, ◌%◌, ◌<◌, ◌≤◌, ◌≢◌, true, List, [], ◌∷◌, ◌++◌, length, get_or, chars, IsCharBoundary, IsUtf8, encode_utf8_all, drop, encode_utf8, inl, inr, refl, zero, suc, sym, take, ap, subst, ◌∙◌, arith}
+use Rattle.np_forms.proofs.Words.{and_from, cases_eq, drop-cons, le-leb, lt-ltb, take-append-drop, chars-append, chars-encodes, IsCharBoundary-from_take}
+use Rattle.np_forms.proofs.Words.{is_syllable, IsAssigned, BeginsWithJamo, syllable_parts, VersionData, class_of, has_hangul, is_assigned}
 use lib.Utf8.{low_scalar, scalar, scalars}
-use Rattle.np_code_points.proofs.HangulLemmas.{among_bounds, pair_of_lv, pair_of_lvt}
-use Rattle.np_forms.proofs.SegmentLemmas.{IsClosed, closed-nil, closed-starter}
+use Rattle.np_code_points.proofs.HangulLemmas.{pair_of_lv, pair_of_lvt}
+use Rattle.np_forms.proofs.SegmentLemmas.{IsClosed, closed-starter}
 use Rattle.np_tables.proofs.Utf8Lemmas.{encode_three}
 use Rattle.np_forms.proofs.SyllableLemmas.{syllable_parts-two, syllable_parts-three}
+use Rattle.np_tables.proofs.HangulPlaces.{Runs, hangul_runs}
 use Rattle.np_tables.proofs.HangulLemmas.{IsJamo, by_arithmetic, lv_shape, lvt_shape, syllable_hangul}
 
 -- ---- characters of three bytes
@@ -52,72 +52,65 @@ module _ (s : ℕ) (h : is_syllable s ≡ true) where
       let lv = shape.front in
       let pair = sym shape.pair ∙ pair_of_lvt s odd in
       let base : shape.base ≡ s - (s - 0xAC00) % 28 = ap (λ l. get_or l 0 0) pair in
-      let last : shape.last ≡ 0x11A7 + (s - 0xAC00) % 28 = ap (λ l. get_or l 1 0) pair in
-      let even : (shape.base - 0xAC00) % 28 ≡ 0 = omega (arith, base) in
-      let again = sym lv.pair ∙ pair_of_lv shape.base even in
+      let again = sym lv.pair ∙ pair_of_lv shape.base (omega (arith, base)) in
       let leading : lv.leading ≡ 0x1100 + (s - 0xAC00) / 28 / 21 = omega (arith, base, ap (λ l. get_or l 0 0) again) in
       let vowel : lv.vowel ≡ 0x1161 + (s - 0xAC00) / 28 % 21 = omega (arith, base, ap (λ l. get_or l 1 0) again) in
       syllable_parts-three s shape.base shape.last lv.leading lv.vowel h shape.pair lv.syllable lv.pair
       ∙ ap (λ x. x ∷ lv.vowel ∷ shape.last ∷ []) leading ∙ ap (λ x. (0x1100 + (s - 0xAC00) / 28 / 21) ∷ x ∷ shape.last ∷ []) vowel
-      ∙ ap (λ x. (0x1100 + (s - 0xAC00) / 28 / 21) ∷ (0x1161 + (s - 0xAC00) / 28 % 21) ∷ x ∷ []) last
+      ∙ ap (λ x. (0x1100 + (s - 0xAC00) / 28 / 21) ∷ (0x1161 + (s - 0xAC00) / 28 % 21) ∷ x ∷ []) (ap (λ l. get_or l 1 0) pair)
 
 -- ---- syllables from the bytes of their jamo
 
-pub parts-scalars : (s : ℕ) → is_syllable s ≡ true → scalars (syllable_parts s) ≡ true
-parts-scalars s h =
-    let range = among_bounds 0xAC00 11172 s h in
+-- what holds of no code point, and of a jamo before what it holds of, holds of the jamo of a syllable
+pub each_jamo : (P : List ℕ → Type 0) → P [] → ((c : ℕ) (cs : List ℕ) → IsJamo c → P cs → P (c ∷ cs)) → (s : ℕ) → is_syllable s ≡ true → P (syllable_parts s)
+each_jamo P none more s h =
     elim (cases_eq ((s - 0xAC00) % 28) 0) [
       | inl even ↦
-          subst (λ l. scalars l ≡ true) (sym (parts-lv s h even))
-          (and_from _ _ (low_scalar (0x1100 + (s - 0xAC00) / 28 / 21) (omega (arith, range.1))) (and_from _ _ (low_scalar (0x1161 + (s - 0xAC00) / 28 % 21) (omega arith)) refl))
+          let lv = lv_shape s h even in
+          subst P (sym (syllable_parts-two s lv.leading lv.vowel h lv.pair lv.first.single)) (more lv.leading (lv.vowel ∷ []) lv.first (more lv.vowel [] lv.second none))
       | inr odd ↦
-          subst (λ l. scalars l ≡ true) (sym (parts-lvt s h odd))
-          (and_from _ _ (low_scalar (0x1100 + (s - 0xAC00) / 28 / 21) (omega (arith, range.1))) (and_from _ _ (low_scalar (0x1161 + (s - 0xAC00) / 28 % 21) (omega arith))
-          (and_from _ _ (low_scalar (0x11A7 + (s - 0xAC00) % 28) (omega arith)) refl)))
+          let shape = lvt_shape s h odd in
+          let lv = shape.front in
+          let last = more shape.last [] shape.back none in
+          subst P (sym (syllable_parts-three s shape.base shape.last lv.leading lv.vowel h shape.pair lv.syllable lv.pair))
+          (more lv.leading (lv.vowel ∷ shape.last ∷ []) lv.first (more lv.vowel (shape.last ∷ []) lv.second last))
     ]
 
--- one byte more at the front
-grown : (l : List ℕ) (j : ℕ) (xs : List ℕ) → j < length l → take j l ≡ xs → take (j + 1) l ≡ xs ++ (get_or l j 0 ∷ [])
-grown l j xs more is =
-    let next : j + 1 ≡ suc j = omega arith in
-    ap (λ n. take n l) next ∙ take-suc l j 0 more ∙ ap (λ x. x ++ (get_or l j 0 ∷ [])) is
+jamo-scalar : (c : ℕ) → IsJamo c → scalar c ≡ true
+unfolding Runs
+jamo-scalar c jamo = low_scalar c (omega (arith, hangul_runs c jamo.hangul))
 
-take-six : (l : List ℕ) → 9 ≤ length l → take 6 l ≡ get_or l 0 0 ∷ get_or l 1 0 ∷ get_or l 2 0 ∷ get_or l 3 0 ∷ get_or l 4 0 ∷ get_or l 5 0 ∷ []
-take-six l long =
-    grown l 5 (get_or l 0 0 ∷ get_or l 1 0 ∷ get_or l 2 0 ∷ get_or l 3 0 ∷ get_or l 4 0 ∷ []) (omega arith)
-    (grown l 4 (get_or l 0 0 ∷ get_or l 1 0 ∷ get_or l 2 0 ∷ get_or l 3 0 ∷ []) (omega arith)
-    (grown l 3 (get_or l 0 0 ∷ get_or l 1 0 ∷ get_or l 2 0 ∷ []) (omega arith)
-    (grown l 2 (get_or l 0 0 ∷ get_or l 1 0 ∷ []) (omega arith)
-    (grown l 1 (get_or l 0 0 ∷ []) (omega arith) (grown l 0 [] (omega arith) refl)))))
+pub parts-scalars : (s : ℕ) → is_syllable s ≡ true → scalars (syllable_parts s) ≡ true
+parts-scalars s h = each_jamo (λ l. scalars l ≡ true) refl (λ c cs jamo all. and_from _ _ (jamo-scalar c jamo) all) s h
 
-take-nine : (l : List ℕ) → 9 ≤ length l → take 9 l ≡ get_or l 0 0 ∷ get_or l 1 0 ∷ get_or l 2 0 ∷ get_or l 3 0 ∷ get_or l 4 0 ∷ get_or l 5 0 ∷ get_or l 6 0 ∷ get_or l 7 0 ∷ get_or l 8 0 ∷ []
-take-nine l long =
-    grown l 8 (get_or l 0 0 ∷ get_or l 1 0 ∷ get_or l 2 0 ∷ get_or l 3 0 ∷ get_or l 4 0 ∷ get_or l 5 0 ∷ get_or l 6 0 ∷ get_or l 7 0 ∷ []) (omega arith)
-    (grown l 7 (get_or l 0 0 ∷ get_or l 1 0 ∷ get_or l 2 0 ∷ get_or l 3 0 ∷ get_or l 4 0 ∷ get_or l 5 0 ∷ get_or l 6 0 ∷ []) (omega arith)
-    (grown l 6 (get_or l 0 0 ∷ get_or l 1 0 ∷ get_or l 2 0 ∷ get_or l 3 0 ∷ get_or l 4 0 ∷ get_or l 5 0 ∷ []) (omega arith) (take-six l long)))
+-- the first bytes one by one
+abbrev bytes_of : ℕ → ℕ → List ℕ → List ℕ
+bytes_of zero at l = []
+bytes_of (suc n) at l = get_or l at 0 ∷ bytes_of n (suc at) l
 
--- bytes that encode a leading consonant and a vowel, of which the syllable s is made with a trailing consonant or none
-pub record AreFirstJamo (bytes : List ℕ) (leading vowel trailing s : ℕ) : Type 0 where
-  pub long : 9 ≤ length bytes
-  pub leading_consonants : leading < 19
-  pub vowels : vowel < 21
-  pub trailings : trailing < 28
-  pub is : s ≡ 0xAC00 + (leading * 21 + vowel) * 28 + trailing
-  pub first : encode_utf8 (0x1100 + leading) ≡ get_or bytes 0 0 ∷ get_or bytes 1 0 ∷ get_or bytes 2 0 ∷ []
-  pub second : encode_utf8 (0x1161 + vowel) ≡ get_or bytes 3 0 ∷ get_or bytes 4 0 ∷ get_or bytes 5 0 ∷ []
+take-bytes : (n at : ℕ) (l : List ℕ) → at + n ≤ length l → take n (drop at l) ≡ bytes_of n at l
+take-bytes zero at l long = refl
+take-bytes (suc n) at l long =
+    ap (take (suc n)) (drop-cons l at 0 (omega (arith, long))) ∙ ap (λ x. get_or l at 0 ∷ x) (take-bytes n (suc at) l (omega (arith, long)))
 
-module _ (bytes : List ℕ) (leading vowel trailing s : ℕ) (are : AreFirstJamo bytes leading vowel trailing s) where
+-- bytes that encode a leading consonant and a vowel, of which a syllable is made with a trailing consonant or none
+module _ (bytes : List ℕ) (leading vowel trailing : ℕ) (long : 9 ≤ length bytes) (leading_consonants : leading < 19) (vowels : vowel < 21) (trailings : trailing < 28)
+    (first : encode_utf8 (0x1100 + leading) ≡ get_or bytes 0 0 ∷ get_or bytes 1 0 ∷ get_or bytes 2 0 ∷ [])
+    (second : encode_utf8 (0x1161 + vowel) ≡ get_or bytes 3 0 ∷ get_or bytes 4 0 ∷ get_or bytes 5 0 ∷ []) where
+  abbrev s : ℕ
+  s = 0xAC00 + (leading * 21 + vowel) * 28 + trailing
+
   pub front-syllable : is_syllable s ≡ true
-  front-syllable = and_from _ _ (le-leb 0xAC00 s (omega (arith, are.is))) (lt-ltb s 0xD7A4 (omega (arith, are.is, are.leading_consonants, are.vowels, are.trailings)))
+  front-syllable = and_from _ _ (le-leb 0xAC00 s (omega arith)) (lt-ltb s 0xD7A4 (omega (arith, leading_consonants, vowels, trailings)))
 
   leading-back : (s - 0xAC00) / 28 / 21 ≡ leading
-  leading-back = omega (arith, are.is, are.vowels, are.trailings)
+  leading-back = omega (arith, vowels, trailings)
 
   vowel-back : (s - 0xAC00) / 28 % 21 ≡ vowel
-  vowel-back = omega (arith, are.is, are.vowels, are.trailings)
+  vowel-back = omega (arith, vowels, trailings)
 
   trailing-back : (s - 0xAC00) % 28 ≡ trailing
-  trailing-back = omega (arith, are.is, are.trailings)
+  trailing-back = omega (arith, trailings)
 
   both-back : (rest : List ℕ) → (0x1100 + (s - 0xAC00) / 28 / 21) ∷ (0x1161 + (s - 0xAC00) / 28 % 21) ∷ rest ≡ (0x1100 + leading) ∷ (0x1161 + vowel) ∷ rest
   both-back rest = ap (λ x. (0x1100 + x) ∷ (0x1161 + (s - 0xAC00) / 28 % 21) ∷ rest) leading-back ∙ ap (λ x. (0x1100 + leading) ∷ (0x1161 + x) ∷ rest) vowel-back
@@ -125,18 +118,18 @@ module _ (bytes : List ℕ) (leading vowel trailing s : ℕ) (are : AreFirstJamo
   -- the bytes of a list of code points that the two begin
   begun : (rest : List ℕ) → encode_utf8_all ((0x1100 + leading) ∷ (0x1161 + vowel) ∷ rest)
       ≡ get_or bytes 0 0 ∷ get_or bytes 1 0 ∷ get_or bytes 2 0 ∷ get_or bytes 3 0 ∷ get_or bytes 4 0 ∷ get_or bytes 5 0 ∷ encode_utf8_all rest
-  begun rest = ap (λ l. l ++ (encode_utf8 (0x1161 + vowel) ++ encode_utf8_all rest)) are.first
-      ∙ ap (λ l. get_or bytes 0 0 ∷ get_or bytes 1 0 ∷ get_or bytes 2 0 ∷ (l ++ encode_utf8_all rest)) are.second
+  begun rest = ap (λ l. l ++ (encode_utf8 (0x1161 + vowel) ++ encode_utf8_all rest)) first
+      ∙ ap (λ l. get_or bytes 0 0 ∷ get_or bytes 1 0 ∷ get_or bytes 2 0 ∷ (l ++ encode_utf8_all rest)) second
 
   pub front_two : trailing ≡ 0 → take 6 bytes ≡ encode_utf8_all (syllable_parts s)
-  front_two none = take-six bytes are.long ∙ sym (ap encode_utf8_all (parts-lv s front-syllable (trailing-back ∙ none) ∙ both-back []) ∙ begun [])
+  front_two none = take-bytes 6 0 bytes (omega (arith, long)) ∙ sym (ap encode_utf8_all (parts-lv s front-syllable (trailing-back ∙ none) ∙ both-back []) ∙ begun [])
 
   pub front_three : trailing ≢ 0 → encode_utf8 (0x11A7 + trailing) ≡ get_or bytes 6 0 ∷ get_or bytes 7 0 ∷ get_or bytes 8 0 ∷ [] → take 9 bytes ≡ encode_utf8_all (syllable_parts s)
   front_three some third =
       let parts : syllable_parts s ≡ (0x1100 + leading) ∷ (0x1161 + vowel) ∷ (0x11A7 + trailing) ∷ [] =
       parts-lvt s front-syllable (λ even. some (sym trailing-back ∙ even)) ∙ both-back ((0x11A7 + (s - 0xAC00) % 28) ∷ [])
       ∙ ap (λ x. (0x1100 + leading) ∷ (0x1161 + vowel) ∷ (0x11A7 + x) ∷ []) trailing-back in
-      take-nine bytes are.long ∙ sym (ap encode_utf8_all parts ∙ begun ((0x11A7 + trailing) ∷ [])
+      take-bytes 9 0 bytes long ∙ sym (ap encode_utf8_all parts ∙ begun ((0x11A7 + trailing) ∷ [])
       ∙ ap (λ l. get_or bytes 0 0 ∷ get_or bytes 1 0 ∷ get_or bytes 2 0 ∷ get_or bytes 3 0 ∷ get_or bytes 4 0 ∷ get_or bytes 5 0 ∷ (l ++ [])) third)
 
 -- the text as bytes
@@ -163,43 +156,14 @@ module _ (v : VersionData) (on : has_hangul v ≡ true) where
   pub jamo-starter : (c : ℕ) → IsJamo c → class_of v c ≡ 0
   jamo-starter c jamo = (by_arithmetic v on c jamo.hangul).class
 
-  jamo-assigned : (c : ℕ) → IsJamo c → is_assigned v c ≡ true
-  jamo-assigned c jamo = (by_arithmetic v on c jamo.hangul).assigned
-
   pub syllable-assigned : (s : ℕ) → is_syllable s ≡ true → is_assigned v s ≡ true
   syllable-assigned s h = (by_arithmetic v on s (syllable_hangul s h)).assigned
 
   pub parts-assigned : (s : ℕ) → is_syllable s ≡ true → IsAssigned v (syllable_parts s)
-  parts-assigned s h =
-      let has = is_assigned v in
-      elim (cases_eq ((s - 0xAC00) % 28) 0) [
-        | inl even ↦
-            let lv = lv_shape s h even in
-            ap (list_all has) (syllable_parts-two s lv.leading lv.vowel h lv.pair lv.first.single)
-            ∙ and_from (has lv.leading) (list_all has (lv.vowel ∷ [])) (jamo-assigned lv.leading lv.first) (and_from (has lv.vowel) true (jamo-assigned lv.vowel lv.second) refl)
-        | inr odd ↦
-            let shape = lvt_shape s h odd in
-            let lv = shape.front in
-            ap (list_all has) (syllable_parts-three s shape.base shape.last lv.leading lv.vowel h shape.pair lv.syllable lv.pair)
-            ∙ and_from (has lv.leading) (list_all has (lv.vowel ∷ shape.last ∷ [])) (jamo-assigned lv.leading lv.first)
-            (and_from (has lv.vowel) (list_all has (shape.last ∷ [])) (jamo-assigned lv.vowel lv.second) (and_from (has shape.last) true (jamo-assigned shape.last shape.back) refl))
-      ]
+  parts-assigned s h = each_jamo (IsAssigned v) refl (λ c cs jamo all. and_from (is_assigned v c) _ (by_arithmetic v on c jamo.hangul).assigned all) s h
 
   pub closed-parts : (s : ℕ) → is_syllable s ≡ true → IsClosed (class_of v) (syllable_parts s)
-  closed-parts s h =
-      let ccc = class_of v in
-      elim (cases_eq ((s - 0xAC00) % 28) 0) [
-        | inl even ↦
-            let lv = lv_shape s h even in
-            subst (IsClosed ccc) (sym (syllable_parts-two s lv.leading lv.vowel h lv.pair lv.first.single))
-            (closed-starter ccc lv.leading (lv.vowel ∷ []) (jamo-starter lv.leading lv.first) (closed-starter ccc lv.vowel [] (jamo-starter lv.vowel lv.second) (closed-nil ccc)))
-        | inr odd ↦
-            let shape = lvt_shape s h odd in
-            let lv = shape.front in
-            subst (IsClosed ccc) (sym (syllable_parts-three s shape.base shape.last lv.leading lv.vowel h shape.pair lv.syllable lv.pair))
-            (closed-starter ccc lv.leading (lv.vowel ∷ shape.last ∷ []) (jamo-starter lv.leading lv.first)
-            (closed-starter ccc lv.vowel (shape.last ∷ []) (jamo-starter lv.vowel lv.second) (closed-starter ccc shape.last [] (jamo-starter shape.last shape.back) (closed-nil ccc))))
-      ]
+  closed-parts s h = each_jamo (IsClosed (class_of v)) (λ later rises. rises) (λ c cs jamo closed. closed-starter (class_of v) c cs (jamo-starter c jamo) closed) s h
 
 -- what the checks of functions cite
 pub ruleset syllable_text_answers = (parts-lv, parts-lvt)

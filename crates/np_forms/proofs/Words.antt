@@ -1,22 +1,18 @@
 -- The words that proofs cite, of the crates below, of this one and of std.
 pub use Rattle.std.proofs.Math.Seq.{drop-cons, take-set-lt, take-suc}
-pub use Rattle.std.proofs.lemmas.Bool.{and_cases, and_from, and_left, and_parts, and_right, both_ways, cases_Bool}
-pub use Rattle.std.proofs.lemmas.Bool.{cases_eq, cases_lt, cases_order, cond-false, cond-true, eqb-false, eqb-true}
-pub use Rattle.std.proofs.lemmas.Bool.{false≢true, le-leb, le-ltb, lt-ltb, ltb-false, ltb-true, ne_eqb, not-true}
+pub use Rattle.std.proofs.lemmas.Bool.{and_cases, and_from, and_left, and_parts, and_right, both_ways, cases_Bool, cases_eq, cases_lt, cases_order}
+pub use Rattle.std.proofs.lemmas.Bool.{cond-false, cond-true, eqb-false, eqb-true, false≢true, le-leb, le-ltb, lt-ltb, ltb-false, ltb-true, ne_eqb, not-true}
 pub use Rattle.std.proofs.lemmas.Bool.{not_from_false, or_from}
 pub use Rattle.std.proofs.lemmas.Bool.Decides.{leb_tells, nat_tests}
 pub use Rattle.std.proofs.lemmas.Grind.{flat_map-append}
-pub use Rattle.std.proofs.lemmas.List.{append_cancel_left, append_cancel_right, drop-drop, drop-map, drop-set-lt}
-pub use Rattle.std.proofs.lemmas.List.{drop_all, drop_at, drop_min, drop_more, get_or-append-add, get_or-drop}
-pub use Rattle.std.proofs.lemmas.List.{get_or-map, get_or_append_left, get_or_at, length-drop, length-map, length-take}
-pub use Rattle.std.proofs.lemmas.List.{length-take-le, map-append, map-id, map-set, map_more, map_push, nil_from_length}
-pub use Rattle.std.proofs.lemmas.List.{set_at, take-append-drop, take-append-le, take-map, take_all, take_at, take_more}
-pub use Rattle.std.proofs.lemmas.List.{take_more_set, take_rest}
+pub use Rattle.std.proofs.lemmas.List.{append_cancel_left, append_cancel_right, drop-drop, drop-map, drop-set-lt, drop_all, drop_at, drop_min, drop_more}
+pub use Rattle.std.proofs.lemmas.List.{get_or-append-add, get_or-drop, get_or-map, get_or_append_left, get_or_at, length-drop, length-map, length-take}
+pub use Rattle.std.proofs.lemmas.List.{length-take-le, map-append, map-id, map-set, map_more, map_push, nil_from_length, set_at, take-append-drop}
+pub use Rattle.std.proofs.lemmas.List.{take-append-le, take-map, take_all, take_at, take_more, take_more_set, take_rest}
 pub use Rattle.std.proofs.lemmas.Result.{IfOk-weaker, err_from_is_err_and, on_ok_weaker}
-pub use Rattle.std.proofs.lemmas.Str.{IsCharBoundary-at_seam, IsCharBoundary-from_take, IsUtf8-append, IsUtf8-drop}
-pub use Rattle.std.proofs.lemmas.Str.{IsUtf8-nil, IsUtf8-past_char, IsUtf8-string_bytes, IsUtf8-take, chars-append}
-pub use Rattle.std.proofs.lemmas.Str.{chars-encodes, chars-nil, chars_from_encodes, chars_past_char, encodes-append}
-pub use Rattle.std.proofs.lemmas.Str.{encodes-chars, encodes_same, len_utf8_bounds, length-encode, length-le-encodes}
+pub use Rattle.std.proofs.lemmas.Str.{IsCharBoundary-at_seam, IsCharBoundary-from_take, IsUtf8-append, IsUtf8-drop, IsUtf8-nil, IsUtf8-past_char}
+pub use Rattle.std.proofs.lemmas.Str.{IsUtf8-string_bytes, IsUtf8-take, chars-append, chars-encodes, chars-nil, chars_from_encodes, chars_past_char}
+pub use Rattle.std.proofs.lemmas.Str.{encodes-append, encodes-chars, encodes_same, len_utf8_bounds, length-encode, length-le-encodes}
 pub use Rattle.std.specs.List.{filter, list_all, remove}
 pub use Rattle.std.specs.Str.Iter.{chars_rest}
 pub use Rattle.std.specs.Str.Lossy.{utf8_error_len, utf8_valid_len}
@@ -31,18 +27,16 @@ pub use Rattle.np_forms.specs.Forms.{EndsAs, IsDecomposed, IsEquivalent, IsNorma
 pub use Rattle.np_forms.specs.Order.{Exchanges, IsOrderedForm}
 unfoldable pub use Rattle.np_forms.specs.Order.{is_ordered, is_reorderable}
 pub use Rattle.np_forms.specs.Starters.{is_non_starter, is_starter}
-pub use Rattle.np_forms.specs.Streams.{BeginsAtLastStarter, HasNoStarter, IsCutAtLastStarter, IsOrderedAndComposed}
-pub use Rattle.np_forms.specs.Streams.{IsStreaming, StreamState, TakesIn}
+pub use Rattle.np_forms.specs.Streams.{BeginsAtLastStarter, HasNoStarter, IsCutAtLastStarter, IsOrderedAndComposed, IsStreaming, StreamState, TakesIn}
 unfoldable pub use Rattle.np_forms.specs.inside.CanonicalOrder.{canonical_order, slide}
 pub use Rattle.np_forms.specs.inside.Classes.{AreClassed, CodeAndClass, IsOrderedOn, codes_of, with_class, with_classes}
-pub use Rattle.np_forms.specs.inside.Composers.{IsAfterStarter, IsComposing, and_place}
+pub use Rattle.np_forms.specs.inside.Composers.{IsAfterStarter, IsComposing, IsInPlace, and_place}
 unfoldable pub use Rattle.np_forms.specs.inside.Composers.{pair_with_last}
 pub use Rattle.np_forms.specs.inside.Composing.{is_free}
 unfoldable pub use Rattle.np_forms.specs.inside.Composing.{compose, compose_after, compose_of, joined}
 pub use Rattle.np_forms.specs.inside.Copies.{AppendsForm, ArePassing, AsciiIsCopiedAlone, AsciiPasses, IsCopied, IsEndOf}
 pub use Rattle.np_forms.specs.inside.Copies.{IsCopiedAlone, IsPassing, LeadingAreBoundaries}
 pub use Rattle.np_forms.specs.inside.Held.{Advances, IsFrontHeld, IsHeld, Shape, no_starter, starter}
-pub use Rattle.np_forms.specs.inside.InPlace.{IsInPlace}
 pub use Rattle.np_forms.specs.inside.NormalForms.{ended}
 unfoldable pub use Rattle.np_forms.specs.inside.NormalForms.{decomposed, normal_form}
 pub use Rattle.np_forms.specs.inside.Pieces.{first_of, form_bytes, front_of, left_of}
@@ -51,8 +45,7 @@ pub use Rattle.np_forms.specs.inside.Running.{Goes, IsInputFault, IsNextChunk, I
 pub use Rattle.np_forms.specs.inside.Running.{IsRestWritten, IsRunning, MayBegin, MayNotBegin, Stops}
 pub use Rattle.np_forms.specs.inside.Runs.{runs_over}
 unfoldable pub use Rattle.np_forms.specs.inside.Runs.{longest_run}
-pub use Rattle.np_forms.specs.inside.Segments.{IsComposedOf, IsDecomposedUpTo, IsFirstMade, IsFirstPrecomputed, IsFullUpTo}
-pub use Rattle.np_forms.specs.inside.Segments.{Rises, listed}
+pub use Rattle.np_forms.specs.inside.Segments.{IsComposedOf, IsDecomposedUpTo, IsFirstMade, IsFirstPrecomputed, IsFullUpTo, Rises, listed}
 pub use Rattle.np_forms.specs.inside.Syllables.{BeginsWithJamo, BeginsWithSyllable, pair_or_self}
 unfoldable pub use Rattle.np_forms.specs.inside.Syllables.{syllable_parts}
 pub use Rattle.np_forms.specs.inside.Written.{Breaks, Closes, HoldsFront, Writes, WritesEnd}

@@ -1,15 +1,17 @@
 -- A stream whose ready code points are moved to the end of a text.
 use Rattle.std.proofs.Common.{◌≡◌, ℕ, Bool, List, [], ◌∷◌, ◌++◌, IsUtf8, chars, encode_utf8_all, refl, sym, ap, subst, ◌∙◌, append_assoc, append-nil}
-use Rattle.np_forms.proofs.Words.{encodes-append, chars_from_encodes, Form, IsSound, VersionData, class_of, composes}
-use Rattle.np_forms.proofs.Words.{IsNormalForm, IsStreaming, StreamState, TakesIn, canonical_order, ended, normal_form}
-use Rattle.np_forms.proofs.Words.{Breaks, HoldsFront, Writes}
+use Rattle.np_forms.proofs.Words.{encodes-append, chars_from_encodes, Form, IsSound, VersionData, class_of, composes, IsNormalForm, IsStreaming, StreamState}
+use Rattle.np_forms.proofs.Words.{TakesIn, canonical_order, ended, normal_form, Breaks, HoldsFront, Writes}
 use Rattle.np_forms.proofs.HeldLemmas.{IsStreaming-start, whole_streams}
 use Rattle.np_forms.proofs.FormLemmas.{IsNormalForm-normal_form}
 
+-- what holds under a version and a form, under equal ones
+pub under : (P : VersionData → Form → Type 0) {v w : VersionData} {f g : Form} → v ≡ w → f ≡ g → P v f → P w g
+under P {v} {w} {f} {g} version form h = subst (λ u. P u g) version (subst (P v) form h)
+
 -- a stream under the version and the form of another state
 pub same_streaming : (a b : StreamState) (fed out pending : List ℕ) → b.version ≡ a.version → b.form ≡ a.form → IsStreaming a.version a.form fed out pending → IsStreaming b.version b.form fed out pending
-same_streaming a b fed out pending version form s =
-    subst (λ v. IsStreaming v b.form fed out pending) (sym version) (subst (λ f. IsStreaming a.version f fed out pending) (sym form) s)
+same_streaming a b fed out pending version form s = under (λ v f. IsStreaming v f fed out pending) (sym version) (sym form) s
 
 pub Writes-start : (s : StreamState) (bytes : List ℕ) → s.ready ≡ [] → Writes s s bytes bytes []
 Writes-start s bytes empty =
@@ -90,28 +92,10 @@ Writes-behind a b c x y text rest empty h second =
     let front = Writes-held a a b x x [] text rest (Writes-start a x empty) h in
     subst (Writes a c x y) (sym h.reads.split) (Writes-next a b c x x y h.front (chars rest) front second)
 
--- the bytes of a normal form
-pub record IsWrittenForm (v : VersionData) (form : Form) (text bytes : List ℕ) : Type 0 where
-  pub list : List ℕ
-  pub is : IsNormalForm v form text list
-  pub bytes_is : bytes ≡ encode_utf8_all list
-
-pub written_form : (v : VersionData) (form : Form) (text bytes : List ℕ) → IsUtf8 bytes → IsWrittenForm v form text bytes → IsNormalForm v form text (chars bytes)
-written_form v form text bytes utf8 w = subst (IsNormalForm v form text) (chars_from_encodes w.list bytes utf8 (sym w.bytes_is)) w.is
-
--- the bytes of the function's form, written behind nothing
-pub IsWrittenForm-made : (v : VersionData) (sound : IsSound v) (form : Form) (text before after : List ℕ) → before ≡ [] → after ≡ before ++ encode_utf8_all (normal_form v form text) → IsWrittenForm v form text after
-IsWrittenForm-made v sound form text before after nothing written =
-    record {
-      list = normal_form v form text;
-      is = IsNormalForm-normal_form v sound form text;
-      bytes_is = written ∙ ap (λ l. l ++ encode_utf8_all (normal_form v form text)) nothing;
-    }
-
 -- what the bytes of the function's form write
-module _ (v : VersionData) (sound : IsSound v) (form : Form) (text bytes : List ℕ) (utf8 : IsUtf8 bytes) (written : bytes ≡ encode_utf8_all (normal_form v form text)) where
-  pub made_form : IsNormalForm v form text (chars bytes)
-  made_form = written_form v form text bytes utf8 (IsWrittenForm-made v sound form text [] bytes refl written)
+pub made_form : (v : VersionData) (sound : IsSound v) (form : Form) (text bytes : List ℕ) → IsUtf8 bytes → bytes ≡ encode_utf8_all (normal_form v form text) → IsNormalForm v form text (chars bytes)
+made_form v sound form text bytes utf8 written =
+    subst (IsNormalForm v form text) (chars_from_encodes (normal_form v form text) bytes utf8 (sym written)) (IsNormalForm-normal_form v sound form text)
 
 -- what the checks of functions cite
 pub ruleset written_answers = (Writes-fed)

@@ -4,7 +4,6 @@ pub mod Composers
 pub mod Composing
 pub mod Copies
 pub mod Held
-pub mod InPlace
 pub mod NormalForms
 pub mod Pieces
 pub mod Readings

@@ -2,8 +2,7 @@
 ghost use Rattle.std.specs.Prelude.{◌≡◌, ◌<◌, ◌≤◌, ◌+◌, ◌∷◌, ℕ, List, true, Some, length, take, vec_len, IfSome};
 ghost use Rattle.std.specs.Option.{ForSome};
 ghost use Rattle.np_forms.specs.inside.Classes.{codes_of, with_classes};
-ghost use Rattle.np_forms.specs.inside.Composers.{pair_with_last as pair_found};
-ghost use Rattle.np_forms.specs.inside.InPlace.{IsInPlace};
+ghost use Rattle.np_forms.specs.inside.Composers.{IsInPlace, pair_with_last as pair_found};
 ghost use Rattle.np_forms.specs.inside.Composing.{compose_of};
 ghost use Rattle.np_forms.specs.Order.{is_ordered};
 ghost use Rattle.np_tables.specs.Versions.{class_of};

@@ -1,7 +1,8 @@
--- The state of a composition in one pass.
-use Rattle.std.specs.Prelude.{◌≡◌, ℕ, ◌<◌, ◌≤◌, ◌||◌, ◌==◌, nat_lt, slice_index, if◌then◌else◌, true, List, ◌∷◌, ◌++◌, length, Option, Some, None}
+-- The state of a composition in one pass, inside its own list.
+use Rattle.std.specs.Prelude.{◌≡◌, ℕ, ◌<◌, ◌≤◌, ◌||◌, ◌==◌, nat_lt, slice_index, if◌then◌else◌, true, List, ◌∷◌, ◌++◌, length, take, drop, Option, Some, None}
 use Rattle.np_tables.specs.Versions.{VersionData, class_of}
 use Rattle.np_forms.specs.Order.{is_ordered}
+use Rattle.np_forms.specs.inside.Classes.{CodeAndClass, codes_of, with_classes}
 use Rattle.np_forms.specs.inside.Composing.{is_free, compose_after, compose}
 use Rattle.np_tables.specs.inside.CompositeSearch.{composite}
 
@@ -25,6 +26,13 @@ pub record IsBeforeStarter (v : VersionData) (whole out rest : List ℕ) : Type 
 abbrev pub IsComposing : VersionData → List ℕ → List ℕ → Option ℕ → ℕ → List ℕ → Type 0
 IsComposing v whole out None last rest = IsBeforeStarter v whole out rest
 IsComposing v whole out (Some q) last rest = IsAfterStarter v whole out q last rest
+
+-- of `whole`, what stands in the list from `at` on is still to be read, each code point beside its class, and the first
+-- `kept` places hold what was composed so far
+pub record IsInPlace (v : VersionData) (whole : List ℕ) (at : ℕ) (list : List CodeAndClass) (kept : ℕ) (starter : Option ℕ) (last : ℕ) : Type 0 where
+  pub rest : List ℕ
+  pub left : drop at list ≡ with_classes v rest
+  pub composing : IsComposing v whole (codes_of (take kept list)) starter last rest
 
 abbrev pub and_place : ℕ → Option ℕ → Option (ℕ × ℕ)
 and_place q None = None

@@ -12,7 +12,5 @@ pub record IsRead (text rest front : List ℕ) : Type 0 where
 -- what was read of s is assigned, and `rest` is left
 pub record IsReadAssigned (v : VersionData) (s rest : List ℕ) : Type 0 where
   pub before : List ℕ
-  pub bytes : s ≡ encode_utf8_all before ++ rest
-  pub text : chars s ≡ before ++ chars rest
+  pub reads : IsRead s rest before
   pub assigned : IsAssigned v before
-  pub utf8 : IsUtf8 rest

@@ -47,25 +47,19 @@ pub record MayNotBegin (chunk : List ℕ) (n : ℕ) : Type 0 where
   pub prefix : IsLongestValidPrefix chunk n
   pub ends : utf8_error_len (drop n chunk) ≢ None
 
--- a chunk without its last byte, of which k bytes are a text
-pub record MayNotBeginBefore (chunk : List ℕ) : Type 0 where
+-- that holds of a chunk without its last byte, of which k bytes are a text
+pub record IsBeforeLast (Begins : List ℕ → ℕ → Type 0) (chunk : List ℕ) : Type 0 where
   pub m : ℕ
   pub k : ℕ
   pub size : m + 1 ≡ length chunk
-  pub front : MayNotBegin (take m chunk) k
-
-pub record MayBeginBefore (chunk : List ℕ) : Type 0 where
-  pub m : ℕ
-  pub k : ℕ
-  pub size : m + 1 ≡ length chunk
-  pub front : MayBegin (take m chunk) k
+  pub front : Begins (take m chunk) k
 
 -- n bytes of the chunk are a text, and `total` bytes were read with it
 abbrev pub IsChunkCause : List ℕ → ℕ → ℕ → RunFault → Type 0
-IsChunkCause chunk total n (NotUtf8 place) = (place + length chunk ≡ total + n) × ((total ≤ 4294967295 × MayNotBegin chunk n) ⊎ (total ≡ 4294967296 × MayNotBeginBefore chunk))
+IsChunkCause chunk total n (NotUtf8 place) = (place + length chunk ≡ total + n) × ((total ≤ 4294967295 × MayNotBegin chunk n) ⊎ (total ≡ 4294967296 × IsBeforeLast MayNotBegin chunk))
 IsChunkCause chunk total n ReadFailed = ⊥
 IsChunkCause chunk total n WriteFailed = ⊥
-IsChunkCause chunk total n TooLarge = total ≡ 4294967296 × MayBeginBefore chunk
+IsChunkCause chunk total n TooLarge = total ≡ 4294967296 × IsBeforeLast MayBegin chunk
 IsChunkCause chunk total n Memory = ⊥
 
 -- why a chunk is no further piece of a text; `total` bytes were read with it

@@ -29,11 +29,9 @@ pub record IsFullUpTo (v : VersionData) (form : Form) (text rest full : List ℕ
   pub reads : IsRead text rest front
   pub is : flat_map (full_of v (is_compat form)) front ≡ full
 
--- a front of a text was read, and `list` is its full decomposition, each code point beside its class
-pub record IsDecomposedUpTo (v : VersionData) (form : Form) (text rest : List ℕ) (list : List CodeAndClass) : Type 0 where
-  pub front : List ℕ
-  pub reads : IsRead text rest front
-  pub is : list ≡ with_classes v (flat_map (full_of v (is_compat form)) front)
+-- the same, where the list has each code point beside its class
+abbrev pub IsDecomposedUpTo : VersionData → Form → List ℕ → List ℕ → List CodeAndClass → Type 0
+IsDecomposedUpTo v form text rest list = (full : List ℕ) × IsFullUpTo v form text rest full × (list ≡ with_classes v full)
 
 -- `list` is the form of a front of a text, and `rest` is what follows it
 pub record IsFirstMade (v : VersionData) (form : Form) (text rest list : List ℕ) : Type 0 where

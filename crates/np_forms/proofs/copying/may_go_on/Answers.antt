@@ -15,6 +15,5 @@ returns-in-None-clause-read g c = λ _ _.
 
 pub returns-in-Some-clause-lacking : goal.returns-in-Some-clause-lacking
 returns-in-Some-clause-lacking g c = λ _ all.
-    let is = c.range.ensures.value ∙ front_of _ c.requires.front _ c.requires.parts in
-    let parts = c.requires.parts ∙ ap (λ l. l ++ c.args.later.now) (sym is) in
+    let parts = c.requires.parts ∙ ap (λ l. l ++ c.args.later.now) (sym (c.range.ensures.value ∙ front_of _ c.requires.front _ c.requires.parts)) in
     lacks-unassigned _ _ _ _ c.in-Some.ensures.some (assigned-front _ _ c.range.result.now _ c.range.utf8 parts all)

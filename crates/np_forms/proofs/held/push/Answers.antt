@@ -10,8 +10,7 @@ returns-then-class-ne0-clause-ok g c =
     let e = c.args.composes in
     let d = c.args.d in
     let items = c.args.held.now.pending.items in
-    let class = ap (λ (y : CodeAndClass). y.class) c.requires.class in
-    let non_starter : 0 < class_of v d.code = omega (arith, class, c.class.ensures, c.if-class-ne0.true) in
+    let non_starter : 0 < class_of v d.code = omega (arith, (ap (λ (y : CodeAndClass). y.class) c.requires.class), c.class.ensures, c.if-class-ne0.true) in
     let grown = ap codes_of c.in_ok-push.ensures.items ∙ codes_more items d in
     Advances-kept v c.requires.sound e (d.code ∷ []) c.args.held.now.ready.items (codes_of items) _
     (λ ds out h. subst (IsHeld v e (ds ++ d.code ∷ []) out) (sym grown) (held_non_starter v c.requires.sound e ds out (codes_of items) d.code non_starter h))
@@ -23,8 +22,7 @@ returns-in-Some-clause-ok g c =
     let pending = codes_of c.args.held.now.pending.items in
     let d = c.args.d in
     let p = c.in-Some.p in
-    let class = ap (λ (y : CodeAndClass). y.class) c.requires.class in
-    let low : class_of v d.code ≤ 0 = omega (arith, class, c.class.ensures, c.if-class-ne0.false) in
+    let low : class_of v d.code ≤ 0 = omega (arith, (ap (λ (y : CodeAndClass). y.class) c.requires.class), c.class.ensures, c.if-class-ne0.false) in
     let found = c.in-Some.ensures.some in
     let on : e ≡ true = found.0 in
     let one = sym (ap codes_of c.deref.ensures.value) ∙ found.1.1 in
@@ -42,15 +40,13 @@ pub returns-clause-ok : goal.returns-clause-ok
 returns-clause-ok g c =
     let v = g.T.NormTable.model c.args.table.now in
     let pending = codes_of c.args.held.now.pending.items in
-    let ready = c.args.held.now.ready.items in
-    let class = ap (λ (y : CodeAndClass). y.class) c.requires.class in
-    let low : class_of v c.args.d.code ≤ 0 = omega (arith, class, c.class.ensures, c.if-class-ne0.false) in
+    let low : class_of v c.args.d.code ≤ 0 = omega (arith, (ap (λ (y : CodeAndClass). y.class) c.requires.class), c.class.ensures, c.if-class-ne0.false) in
     let settled = c.in_ok-settle.ensures pending c.requires.classed in
     let value = ended v _ (canonical_order (class_of v) pending) in
     let left = ap codes_of (c.in_ok-push-3.ensures.items ∙ ap (λ l. l ++ c.args.d ∷ []) c.clear-2.ensures.items) in
     record {
       more = value;
-      ready_is = c.in_ok-push_codes.ensures.ok ∙ ap (λ l. ready ++ l) (ap codes_of c.deref-2.ensures.value ∙ settled);
+      ready_is = c.in_ok-push_codes.ensures.ok ∙ ap (λ l. c.args.held.now.ready.items ++ l) (ap codes_of c.deref-2.ensures.value ∙ settled);
       carries = λ ds out h.
           subst (IsHeld v _ (ds ++ c.args.d.code ∷ []) (out ++ value)) (sym left)
           (held_parts v c.requires.sound _ ds out pending c.args.d.code low h

@@ -1,4 +1,4 @@
-use Rattle.std.proofs.Common.{◌≡◌, ◌++◌, ◌+◌, ◌∷◌, [], take, subst, sym}
+use Rattle.std.proofs.Common.{◌≡◌, ◌∷◌, [], take, subst, sym}
 use Rattle.np_forms.proofs.Words.{take_all, CodeAndClass, codes_of, with_class, Advances}
 use Rattle.np_forms.proofs.ClassLemmas.{AreClassed-at, codes_next}
 use Rattle.np_forms.proofs.HeldLemmas.{Advances-start, Advances-next}
@@ -22,9 +22,8 @@ loop-d-preserved g c =
     let parts = c.args.parts.now in
     let i = c.loop-d.d-index in
     let x = c.d-item.result in
-    let more : codes_of (take (i + 1) parts) ≡ codes_of (take i parts) ++ x.code ∷ [] = codes_next parts i x c.loop-d-test.true c.d-item.is in
     record {
-      advances = subst (λ l. Advances v c.args.composes l c.args.held.now.ready.items (codes_of c.args.held.now.pending.items) c.push.new.held.ready.items (codes_of c.push.new.held.pending.items)) (sym more)
+      advances = rw (codes_next parts i x c.loop-d-test.true c.d-item.is)
           (Advances-next v c.requires.sound c.args.composes (codes_of (take i parts)) (x.code ∷ []) _ _ _ _ _ _ c.loop-d.invariant.advances c.in_ok-push.ensures.ok);
       classed = c.in_ok-push.ensures.classed;
     }

@@ -1,6 +1,5 @@
 use Rattle.std.proofs.Common.{◌≡◌, ◌+◌, ◌-◌, ◌<◌, ◌≤◌, ◌++◌, true, length, take, drop, get_or, refl, sym, ap, ◌∙◌, arith}
-use Rattle.np_forms.proofs.Words.{take_rest, take-append-drop, drop-drop, class_of, is_ordered, canonical_order}
-use Rattle.np_forms.proofs.Words.{with_classes}
+use Rattle.np_forms.proofs.Words.{take_rest, take-append-drop, drop-drop, class_of, is_ordered, canonical_order, with_classes}
 use borrow.Rule.Slice.PartMut.{put_mid}
 use Rattle.np_forms.proofs.ClassLemmas.{back_part, front_part, put_in, same_length}
 use Rattle.np_forms.proofs.OrderLemmas.{canonical_order-ordered}
@@ -16,8 +15,7 @@ returns-clause-ordered c = λ v cs is.
     let front = c.non_starters_at_front-count in
     let n = front.result.0 in
     let rest = drop at cs in
-    let shown : take (length list - at) (drop at list) ≡ drop at list = take_rest list at in
-    let part : take (length list - at) (drop at list) ≡ with_classes v rest = shown ∙ back_part v list cs is at in
+    let part : take (length list - at) (drop at list) ≡ with_classes v rest = take_rest list at ∙ back_part v list cs is at in
     let inside : at < length cs = omega (arith, c.requires, same_length v list cs is) in
     let bound : n ≤ length rest = omega (arith, front.ensures.bound, same_length v _ rest part) in
     let starter : n < length rest → ccc (get_or rest n 0) ≡ 0 = front.ensures.starter v rest part in

@@ -1,6 +1,6 @@
 use Rattle.std.proofs.Common.{take, length, length-append, ap, ◌∙◌, rules, arith}
 use Rattle.np_forms.proofs.Words.{length-drop, err_from_is_err_and, device_of, IsNextChunk}
-use Rattle.np_forms.proofs.RunningLemmas.{cut_input, step, cut_piece_by}
+use Rattle.np_forms.proofs.RunningLemmas.{cut_input, step, cut_piece}
 use Rattle.np_forms.proofs.runs.feed_all.Goals as goal
 
 pub returns-in_err-n-clause-err : goal.returns-in_err-n-clause-err
@@ -35,4 +35,4 @@ returns-in_err-write_piece-clause-err g c =
     let next : IsNextChunk (g.R.Read.remaining (device_of c.chunks.source)) (g.R.Read.remaining (device_of c.next_chunk.new.source)) now.kept.items new.chunk.items new.kept.items now.total new.total c.in-Some.n = rw c.in-Some.is at c.in_ok-n.ensures.some in
     let text = c.from_utf8_unchecked-text.ensures ∙ ap (take c.in-Some.n) c.deref.ensures.value in
     let p = err_from_is_err_and c.from_residual-in_err-write_piece.result c.from_residual-in_err-write_piece.ensures.1 in
-    rw (p.1, p.2) (λ form i₀ o₀ r. cut_piece_by c.requires.sound (c.chunks.invariant.goes form i₀ o₀ r) next text c.in_err-write_piece.ensures.fault c.in_err-write_piece.ensures.err)
+    rw (p.1, p.2) (λ form i₀ o₀ r. cut_piece c.requires.sound (c.chunks.invariant.goes form i₀ o₀ r) next text c.in_err-write_piece.ensures.fault c.in_err-write_piece.ensures.err)

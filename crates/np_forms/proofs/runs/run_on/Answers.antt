@@ -1,6 +1,6 @@
 use Rattle.std.proofs.Common.{◌<◌, length, vec_len, sym, ◌∙◌, arith, eqb-true}
 use Rattle.np_forms.proofs.Words.{eqb-false, err_from_is_err_and}
-use Rattle.np_forms.proofs.RunningLemmas.{cut_end, cut_rest_by, run_whole}
+use Rattle.np_forms.proofs.RunningLemmas.{cut_end, cut_rest, run_whole}
 use Rattle.np_forms.proofs.runs.run_on.Goals as goal
 
 pub returns-then-not-is_empty-clause-ends : goal.returns-then-not-is_empty-clause-ends
@@ -11,12 +11,9 @@ returns-then-not-is_empty-clause-ends g c = λ form i₀ o₀ r.
 
 pub returns-in_err-write_rest-clause-ends : goal.returns-in_err-write_rest-clause-ends
 returns-in_err-write_rest-clause-ends g c =
-    let left = c.feed_all.new.input in
     let p = err_from_is_err_and c.from_residual-in_err-write_rest.result c.from_residual-in_err-write_rest.ensures.1 in
     rw (p.1, p.2)
-    (λ form i₀ o₀ r.
-    cut_rest_by c.requires.sound (c.in_ok-feed_all.ensures.ok form i₀ o₀ r) (omega (arith, eqb-true (vec_len left.kept) 0 (sym c.is_empty.ensures ∙ c.if-not-is_empty.false), left.kept.ok.0))
-    c.in_ok-feed_all.ensures.end c.in_ok-feed_all.ensures.fits c.in_err-write_rest.ensures.fault c.in_err-write_rest.ensures.err)
+    (λ form i₀ o₀ r. cut_rest c.requires.sound (c.in_ok-feed_all.ensures.ok form i₀ o₀ r) c.in_ok-feed_all.ensures.fits c.in_err-write_rest.ensures.fault c.in_err-write_rest.ensures.err)
 
 pub returns-clause-ends : goal.returns-clause-ends
 returns-clause-ends g c = λ form i₀ o₀ r.

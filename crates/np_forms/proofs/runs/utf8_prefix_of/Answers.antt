@@ -22,9 +22,6 @@ none_from : (o : Option ℕ) (b : Bool) → is_some o ≡ not b → b ≡ true �
 none_from None b e h = refl
 none_from (Some k) b e h = let clash : true ≡ false = e ∙ ap not h in cc
 
-some_from : (o : Option ℕ) (b : Bool) → is_some o ≡ not b → b ≡ false → o ≢ None
-some_from o b e h = λ z. let clash : false ≡ true = sym (ap is_some z) ∙ e ∙ ap not h in cc
-
 pub returns-in-Err-clause-begins : goal.returns-in-Err-clause-begins
 returns-in-Err-clause-begins c = λ h.
     let none = none_from c.error_len.result c.is_none.result c.is_none.ensures h in
@@ -33,6 +30,6 @@ returns-in-Err-clause-begins c = λ h.
 
 pub returns-in-Err-clause-ends : goal.returns-in-Err-clause-ends
 returns-in-Err-clause-ends c = λ h.
-    let some = some_from c.error_len.result c.is_none.result c.is_none.ensures h in
+    let some : c.error_len.result ≢ None = λ z. let clash : false ≡ true = sym (ap is_some z) ∙ c.is_none.ensures ∙ ap not h in cc in
     subst (MayNotBegin c.args.bytes.now) (sym c.valid_up_to.ensures)
     (record { prefix = longest_valid_prefix _ _ c.in-Err.ensures.cases.1; ends = λ z. some (c.error_len.ensures ∙ c.in-Err.ensures.fault ∙ z) })

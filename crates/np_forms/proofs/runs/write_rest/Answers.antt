@@ -2,7 +2,7 @@ use Rattle.std.proofs.Common.{◌+◌, ◌++◌, [], length, encode_utf8_all, in
 use Rattle.np_forms.proofs.Words.{err_from_is_err_and, chars-nil, device_of}
 use Rattle.std.specs.Io.KnownBytes.{Appends}
 use Rattle.np_forms.proofs.ChunkLemmas.{closes_end}
-use Rattle.np_forms.proofs.RunningLemmas.{appended}
+use Rattle.std.proofs.KnownBytes.{Appends-kept}
 use Rattle.np_forms.proofs.runs.write_rest.Goals as goal
 
 pub returns-in_err-write_text_out-clause-err : goal.returns-in_err-write_text_out-clause-err
@@ -19,7 +19,7 @@ returns-in_default-flush_once-clause-err g c =
     let made = end.written ∙ ap (λ l. l ++ encode_utf8_all end.more) c.requires.empty in
     record {
       out = c.close_text.new.out;
-      written = appended (g.W.Write.contents (device_of c.args.target.now)) (g.W.Write.contents (device_of c.write_text_out.new.target)) (g.W.Write.contents (device_of c.flush_once.new.target)) c.close_text.new.out c.in_ok-write_text_out.ensures.ok c.flush_once.ensures.bytes;
+      written = Appends-kept (g.W.Write.contents (device_of c.args.target.now)) (g.W.Write.contents (device_of c.write_text_out.new.target)) (g.W.Write.contents (device_of c.flush_once.new.target)) c.close_text.new.out c.in_ok-write_text_out.ensures.ok c.flush_once.ensures.bytes;
       front = inr (end.more, ([], sym made ∙ sym (append-nil c.close_text.new.out), end.whole));
     }
 
@@ -30,7 +30,7 @@ returns-clause-ok g c =
     record {
       more = end.more;
       written = subst (Appends (g.W.Write.contents (device_of c.args.target.now)) (g.W.Write.contents (device_of c.flush_once.new.target))) made
-          (appended (g.W.Write.contents (device_of c.args.target.now)) (g.W.Write.contents (device_of c.write_text_out.new.target)) (g.W.Write.contents (device_of c.flush_once.new.target)) c.close_text.new.out c.in_ok-write_text_out.ensures.ok c.flush_once.ensures.bytes);
+          (Appends-kept (g.W.Write.contents (device_of c.args.target.now)) (g.W.Write.contents (device_of c.write_text_out.new.target)) (g.W.Write.contents (device_of c.flush_once.new.target)) c.close_text.new.out c.in_ok-write_text_out.ensures.ok c.flush_once.ensures.bytes);
       count_is = c.in_ok-write_text_out.ensures.count ∙ ap (λ l. c.args.output.now.count + length l) made;
       whole = end.whole;
     }

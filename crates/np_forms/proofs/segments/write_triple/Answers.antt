@@ -1,4 +1,3 @@
-use Rattle.std.proofs.Common.{◌≡◌, List, ℕ, ◌++◌, OnOk, encode_utf8_all, sym, ap, subst, ◌∙◌}
 use Rattle.np_code_points.specs.Forms.{composes}
 use Rattle.np_tables.proofs.CompositeLemmas.{composite-starter}
 use Rattle.np_forms.proofs.ShortLemmas.{both-kept, first-joined, second-joined, three-written, two-written}
@@ -11,20 +10,18 @@ pub returns-in-Some : goal.returns-in-Some
 returns-in-Some g c =
     let m = c.args.triple in
     let made = first-joined (g.T.NormTable.model c.args.table.now) m.starter c.requires.starter m.first m.second c.requires.some c.requires.rises c.meets_conditions.ensures (composes c.args.form) c.in-Some.p c.in-Some.ensures.some.0 c.in-Some.ensures.some.1 in
-    subst (λ (l : List ℕ). OnOk c.write_pair.result (c.write_pair.new.out ≡ c.args.out.now ++ encode_utf8_all l)) (sym made) c.write_pair.ensures
+    rw made c.write_pair.ensures
 
 pub returns-in-Some-joined_past : goal.returns-in-Some-joined_past
 returns-in-Some-joined_past g c =
     let m = c.args.triple in
     let found = c.in-Some-joined_past in
-    let last = c.append_char-in-Some-joined_past in
     let made = second-joined (g.T.NormTable.model c.args.table.now) m.starter c.requires.starter m.first m.second c.requires.some c.requires.rises (composes c.args.form) found.p found.ensures.form (c.in_default.ensures.none found.ensures.form) found.ensures.free found.ensures.pair in
-    subst (λ (l : List ℕ). OnOk last.result (last.new.self ≡ l)) (two-written c.args.out.now c.append_char.new.self found.p m.first c.in_ok-append_char.ensures ∙ ap (λ l. c.args.out.now ++ encode_utf8_all l) (sym made)) last.ensures
+    rw (made, ← two-written c.args.out.now c.append_char.new.self found.p m.first c.in_ok-append_char.ensures) c.append_char-in-Some-joined_past.ensures
 
 pub returns : goal.returns
 returns g c =
     let m = c.args.triple in
-    let last = c.append_char-4 in
     let made = both-kept (g.T.NormTable.model c.args.table.now) m.starter c.requires.starter m.first m.second c.requires.some c.requires.rises (composes c.args.form) c.in_default.ensures.none c.in_default-joined_past.ensures.none in
-    subst (λ (l : List ℕ). OnOk last.result (last.new.self ≡ l))
-    (three-written c.args.out.now c.append_char-2.new.self c.append_char-3.new.self m.starter m.first m.second c.in_ok-append_char-2.ensures c.in_ok-append_char-3.ensures ∙ ap (λ l. c.args.out.now ++ encode_utf8_all l) (sym made)) last.ensures
+    rw (made, ← three-written c.args.out.now c.append_char-2.new.self c.append_char-3.new.self m.starter m.first m.second c.in_ok-append_char-2.ensures c.in_ok-append_char-3.ensures)
+    c.append_char-4.ensures

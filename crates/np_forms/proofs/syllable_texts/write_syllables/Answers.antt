@@ -1,5 +1,5 @@
-use Rattle.std.proofs.Common.{◌≡◌, ◌∙◌, true, sym, subst, IfNone, IfSome}
-use Rattle.np_forms.proofs.Words.{AppendsForm, IsReadAssigned, BeginsWithSyllable, has_hangul}
+use Rattle.std.proofs.Common.{◌≡◌, ◌∙◌, sym, subst, IfNone, IfSome}
+use Rattle.np_forms.proofs.Words.{AppendsForm, IsReadAssigned, BeginsWithSyllable}
 use Rattle.np_forms.proofs.SegmentLemmas.{goes-both}
 use Rattle.np_forms.proofs.SyllableFrontLemmas.{goes-syllable, syllable-read}
 use Rattle.np_forms.proofs.TextLemmas.{IsReadAssigned-both}
@@ -7,31 +7,26 @@ use Rattle.np_forms.proofs.syllable_texts.write_syllables.Goals as goal
 
 pub scan-preserved-in-Some-syllable_front : goal.scan-preserved-in-Some-syllable_front
 scan-preserved-in-Some-syllable_front g c =
-    let v = g.T.NormTable.model c.args.normalizer.now.table.now in
-    let rest = c.scan.invariant.0 in
-    let on : has_hangul v ≡ true = sym c.hangul.ensures ∙ c.if-not-hangul.false in
+    let on = sym c.hangul.ensures ∙ c.if-not-hangul.false in
     let begins = c.scan.invariant.3 in (
       _,
-      goes-both v _ _ rest _ c.args.out.now c.scan.out c.push_syllable.new.out c.scan.invariant.1
-          (goes-syllable v c.meets_conditions.ensures on _ c.requires rest _ c.scan.syllable c.scan.out c.push_syllable.new.out begins c.in_ok-push_syllable.ensures),
-      IsReadAssigned-both v _ rest _ c.scan.invariant.2 (syllable-read v on rest _ c.scan.syllable begins),
+      goes-both _ _ _ _ _ c.args.out.now c.scan.out c.push_syllable.new.out c.scan.invariant.1
+          (goes-syllable _ c.meets_conditions.ensures on _ c.requires _ _ c.scan.syllable c.scan.out c.push_syllable.new.out begins c.in_ok-push_syllable.ensures),
+      IsReadAssigned-both _ _ _ _ c.scan.invariant.2 (syllable-read _ on _ _ c.scan.syllable begins),
       c.in-Some-syllable_front.ensures,
     )
 
 pub returns-in_default-2-clause-goes : goal.returns-in_default-2-clause-goes
 returns-in_default-2-clause-goes g c =
-    let v = g.T.NormTable.model c.args.normalizer.now.table.now in
-    let rest = c.scan.invariant.0 in
-    let on : has_hangul v ≡ true = sym c.hangul.ensures ∙ c.if-not-hangul.false in
+    let on = sym c.hangul.ensures ∙ c.if-not-hangul.false in
     let same : c.write_space.new.out ≡ c.push_syllable.new.out = subst (λ j. IfNone j (c.write_space.new.out ≡ c.push_syllable.new.out)) c.in_default-2.is c.in_ok-_begun.ensures.none in
-    goes-both v _ c.args.text.now rest _ c.args.out.now c.scan.out c.write_space.new.out c.scan.invariant.1
-    (goes-syllable v c.meets_conditions.ensures on _ c.requires rest _ c.scan.syllable c.scan.out c.write_space.new.out c.scan.invariant.3 (same ∙ c.in_ok-push_syllable.ensures))
+    goes-both _ _ c.args.text.now c.scan.invariant.0 _ c.args.out.now c.scan.out c.write_space.new.out c.scan.invariant.1
+    (goes-syllable _ c.meets_conditions.ensures on _ c.requires c.scan.invariant.0 _ c.scan.syllable c.scan.out c.write_space.new.out c.scan.invariant.3 (same ∙ c.in_ok-push_syllable.ensures))
 
 pub returns-in_default-2-clause-read : goal.returns-in_default-2-clause-read
 returns-in_default-2-clause-read g c =
-    let v = g.T.NormTable.model c.args.normalizer.now.table.now in
-    let on : has_hangul v ≡ true = sym c.hangul.ensures ∙ c.if-not-hangul.false in
-    IsReadAssigned-both v c.args.text.now c.scan.invariant.0 c.scan.later.now c.scan.invariant.2 (syllable-read v on c.scan.invariant.0 c.scan.later.now c.scan.syllable c.scan.invariant.3)
+    let read = syllable-read _ (sym c.hangul.ensures ∙ c.if-not-hangul.false) c.scan.invariant.0 c.scan.later.now c.scan.syllable c.scan.invariant.3 in
+    IsReadAssigned-both _ c.args.text.now c.scan.invariant.0 c.scan.later.now c.scan.invariant.2 read
 
 pub scan-preserved : goal.scan-preserved
 scan-preserved g c =
@@ -40,11 +35,10 @@ scan-preserved g c =
     let rest = c.scan.invariant.0 in
     let later = c.scan.later.now in
     let between = c.push_syllable.new.out in
-    let on : has_hangul v ≡ true = sym c.hangul.ensures ∙ c.if-not-hangul.false in
-    let begins = c.scan.invariant.3 in
+    let on = sym c.hangul.ensures ∙ c.if-not-hangul.false in
     let made = goes-both v form _ rest later c.args.out.now c.scan.out between c.scan.invariant.1
-    (goes-syllable v c.meets_conditions.ensures on form c.requires rest later c.scan.syllable c.scan.out between begins c.in_ok-push_syllable.ensures) in
-    let read = IsReadAssigned-both v _ rest later c.scan.invariant.2 (syllable-read v on rest later c.scan.syllable begins) in (
+    (goes-syllable v c.meets_conditions.ensures on form c.requires rest later c.scan.syllable c.scan.out between c.scan.invariant.3 c.in_ok-push_syllable.ensures) in
+    let read = IsReadAssigned-both v _ rest later c.scan.invariant.2 (syllable-read v on rest later c.scan.syllable c.scan.invariant.3) in (
       _,
       goes-both v form _ later _ c.args.out.now between c.write_space.new.out made (subst (λ j. IfSome j (λ next. AppendsForm v form later next.0.now between c.write_space.new.out)) c.in-Some-2.is c.in_ok-_begun.ensures.goes),
       IsReadAssigned-both v _ later _ read (subst (λ j. IfSome j (λ next. IsReadAssigned v later next.0.now)) c.in-Some-2.is c.in_ok-_begun.ensures.read),

@@ -16,9 +16,7 @@ returns g c =
     on_ok_weaker c.write_form-2.result
     (λ made.
     Closes-held (g.T.NormTable.model c.normalizer-normalizer.result.table.now) c.meets_conditions.ensures c.normalizer-normalizer.result.form
-    c.args.stream.now c.take_front.new.self c.write_chars.new.stream c.finish_into.new.self
-    c.args.out.now c.write_chars.new.out c.finish_into.new.out c.write_form-2.new.out
-    c.args.text.now c.in_ok-rest.rest.now c.split_head.result.0.now c.split_head.result.1.now
+    c.args.stream.now _ _ _ c.args.out.now _ _ c.write_form-2.new.out c.args.text.now _ _ c.split_head.result.1.now
     c.normalizer-normalizer.ensures.version c.normalizer-normalizer.ensures.form c.requires c.in_ok-rest.ensures c.split_head.ensures.parts c.split_head.ensures.front c.split_head.ensures.at
     c.in_ok-write_chars.ensures c.in_ok-finish_into.ensures made)
     c.write_form-2.ensures

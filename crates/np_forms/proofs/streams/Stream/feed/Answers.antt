@@ -1,6 +1,5 @@
-use Rattle.std.proofs.Common.{◌≡◌, ◌<◌, ◌++◌, ◌∷◌, [], true, refl, sym, ap, subst, ◌∙◌, arith}
-use Rattle.np_forms.proofs.Words.{and_from, not_from_false, list_all, class_of, full_of, is_non_starter, AreClassed}
-use Rattle.np_forms.proofs.Words.{CodeAndClass, codes_of, with_classes}
+use Rattle.std.proofs.Common.{◌≡◌, ◌<◌, ◌++◌, ◌∷◌, [], true, refl, sym, ap, ◌∙◌, arith}
+use Rattle.np_forms.proofs.Words.{and_from, not_from_false, list_all, class_of, full_of, is_non_starter, CodeAndClass, codes_of, with_classes}
 use Rattle.np_forms.proofs.ClassLemmas.{AreClassed-append, AreClassed-with_classes, codes-append, codes-with_classes, codes_more}
 use Rattle.np_forms.proofs.ComposeLemmas.{not_starter_from}
 use Rattle.np_forms.proofs.HeldLemmas.{TakesIn-advances, TakesIn-non_starters}
@@ -19,9 +18,8 @@ returns-then-is_own-clause-ok g c =
 pub invariant_of-self-then-are_non_starters : goal.invariant_of-self-then-are_non_starters
 invariant_of-self-then-are_non_starters g c =
     let v = g.T.NormTable.model c.self.inside.table.now in
-    let full = full_of v c.compat-compat.result c.args.c in
-    let parts = c.deref-then-are_non_starters.ensures.value ∙ c.in_ok-append.ensures ∙ ap (λ l. l ++ with_classes v full) c.clear.ensures.items in
-    subst (AreClassed v) (sym c.in_ok-extend_from_slice.ensures.items) (AreClassed-append v _ _ c.self.invariant (subst (AreClassed v) (sym parts) (AreClassed-with_classes v full)))
+    rw (c.in_ok-extend_from_slice.ensures.items, c.deref-then-are_non_starters.ensures.value, c.in_ok-append.ensures, c.clear.ensures.items)
+    (AreClassed-append v _ _ c.self.invariant (AreClassed-with_classes v (full_of v c.compat-compat.result c.args.c)))
 
 pub returns-then-are_non_starters-clause-ok : goal.returns-then-are_non_starters-clause-ok
 returns-then-are_non_starters-clause-ok g c =
@@ -38,9 +36,7 @@ returns-then-are_non_starters-clause-ok g c =
 pub push_all-requires-clause-parts : goal.push_all-requires-clause-parts
 push_all-requires-clause-parts g c =
     let v = g.T.NormTable.model c.self.inside.table.now in
-    let full = full_of v c.compat-compat.result c.args.c in
-    let parts = c.deref-3.ensures.value ∙ c.in_ok-append.ensures ∙ ap (λ l. l ++ with_classes v full) c.clear.ensures.items in
-    subst (AreClassed v) (sym parts) (AreClassed-with_classes v full)
+    rw (c.deref-3.ensures.value, c.in_ok-append.ensures, c.clear.ensures.items) (AreClassed-with_classes v (full_of v c.compat-compat.result c.args.c))
 
 pub returns-in-Ok-clause-ok : goal.returns-in-Ok-clause-ok
 returns-in-Ok-clause-ok g c =
