@@ -22,10 +22,7 @@ unfolding count_below
 count-le p zero = omega arith
 count-le p (suc n) =
     let rest = count-le p n in
-    elim (cases_Bool (p n)) [
-      | inl on ↦ (let one : one_if (p n) ≡ 1 = ap one_if on in omega arith)
-      | inr off ↦ (let none : one_if (p n) ≡ 0 = ap one_if off in omega arith)
-    ]
+    grind arith
 
 -- what passes one test passes the other
 module _ (p q : ℕ → Bool) (passes : (c : ℕ) → p c ≡ true → q c ≡ true) where
@@ -34,12 +31,8 @@ module _ (p q : ℕ → Bool) (passes : (c : ℕ) → p c ≡ true → q c ≡ t
   count-most zero = omega arith
   count-most (suc n) =
       let rest = count-most n in
-      elim (cases_Bool (p n)) [
-        | inl on ↦
-            (let one : one_if (p n) ≡ 1 = ap one_if on in
-            let other : one_if (q n) ≡ 1 = ap one_if (passes n on) in omega arith)
-        | inr off ↦ (let none : one_if (p n) ≡ 0 = ap one_if off in omega arith)
-      ]
+      let here = passes n in
+      grind arith
 
   -- where no more pass the other, the same ones do
   pub count-same : (n c : ℕ) → count_below q n ≤ count_below p n → c < n → q c ≡ true → p c ≡ true
@@ -47,22 +40,10 @@ module _ (p q : ℕ → Bool) (passes : (c : ℕ) → p c ≡ true → q c ≡ t
   count-same zero c le lt has = absurd (omega (arith, lt))
   count-same (suc n) c le lt has =
       let rest = count-most n in
-      elim (cases_Bool (p n)) [
-        | inl on ↦
-            (let one : one_if (p n) ≡ 1 = ap one_if on in
-            let other : one_if (q n) ≡ 1 = ap one_if (passes n on) in
-            elim (cases_lt c n) [
-              | inl below ↦ count-same n c (omega arith) below has
-              | inr here ↦ (let same : n ≡ c = omega (arith, lt, here) in subst (λ x. p x ≡ true) same on)
-            ])
-        | inr off ↦
-            (let none : one_if (p n) ≡ 0 = ap one_if off in
-            elim (cases_lt c n) [
-              | inl below ↦ count-same n c (omega arith) below has
-              | inr here ↦
-                  (let same : c ≡ n = omega (arith, lt, here) in
-                  let other : one_if (q n) ≡ 1 = ap one_if (subst (λ x. q x ≡ true) same has) in absurd (omega arith))
-            ])
+      let here = passes n in
+      elim (cases_lt c n) [
+        | inl below ↦ count-same n c (grind arith) below has
+        | inr last ↦ (let same : c ≡ n = omega (arith, lt, last) in let has_n = subst (λ x. q x ≡ true) same has in subst (λ x. p x ≡ true) (sym same) (grind arith))
       ]
 
 count-none : (p : ℕ → Bool) (n : ℕ) → ((c : ℕ) → p c ≡ false) → count_below p n ≡ 0
@@ -70,8 +51,8 @@ unfolding count_below
 count-none p zero none = refl
 count-none p (suc n) none =
     let rest = count-none p n none in
-    let here : one_if (p n) ≡ 0 = ap one_if (none n) in
-    omega arith
+    let here = none n in
+    grind arith
 
 -- a row counts what of it is below n
 count-run : (e : Entry) (n : ℕ) → e.first ≤ e.last → ((n ≤ e.first) × (count_below (λ c. lies_in (Some e) c) n ≡ 0)) ⊎ (((e.first < n) × (n ≤ e.last + 1) × (count_below (λ c. lies_in (Some e) c) n ≡ n - e.first)) ⊎ ((e.last < n) × (count_below (λ c. lies_in (Some e) c) n ≡ e.last - e.first + 1)))
@@ -106,15 +87,8 @@ unfolding count_below
 count-both p q r zero either = refl
 count-both p q r (suc n) either =
     let rest = count-both p q r n either in
-    elim (either n) [
-      | inl one ↦
-          (let a : one_if (p n) ≡ 1 = ap one_if one.0 in
-          let b : one_if (q n) ≡ 0 = ap one_if one.1 in
-          let d : one_if (r n) ≡ 1 = ap one_if one.2 in omega arith)
-      | inr other ↦
-          (let a : one_if (p n) ≡ 0 = ap one_if other.0 in
-          let b : one_if (q n) ≡ one_if (r n) = ap one_if other.1 in omega arith)
-    ]
+    let here = either n in
+    grind arith
 
 -- the rows after one list none of its code points
 after_none : (e : Entry) (es : List Entry) (c : ℕ) → IsBefore e es → AreRows es → c ≤ e.last → entry_at es c ≡ None
