@@ -1,10 +1,8 @@
 -- Pairs that two primary composites share.
-use Rattle.std.proofs.Common.{◌≡◌, ℕ, zero, suc, ◌+◌, ◌-◌, ◌<◌, ◌≤◌, max, min, true, ◌&&◌, List, [], ◌∷◌, length, get_or, Some, None, Option, IfSome, refl, sym, ap, subst, ◌∙◌, arith, inl, inr}
-use Rattle.np_tables.proofs.Words.{slice_get, cases_Bool, cases_lt, cases_order, and_parts, both_ways, same_Some}
-use Rattle.np_tables.proofs.Words.{slice_get_within, get_or_from_slice_get, slice_get-get_or, get_or_default, AreRows}
-use Rattle.np_tables.proofs.Words.{is_syllable, syllable_pair, VersionData, has_hangul, IsCompositeOf, IsAmbiguous}
-use Rattle.np_tables.proofs.Words.{IsFirst, Composite, Lists, AreOfFile, AreOrdered, IsAtMost, least_of, HasSmallerTwin}
-use Rattle.np_tables.proofs.Words.{IsSuspect}
+use Rattle.std.proofs.Common.{◌≡◌, ℕ, zero, suc, ◌+◌, ◌-◌, ◌<◌, ◌≤◌, max, min, true, ◌&&◌, List, [], ◌∷◌, length, get_or, Some, None, Option, IfSome, refl, sym, ap, ◌∙◌, arith, inl, inr}
+use Rattle.np_tables.proofs.Words.{slice_get, cases_Bool, cases_lt, and_parts, both_ways, same_Some, slice_get_within, get_or_from_slice_get}
+use Rattle.np_tables.proofs.Words.{slice_get-get_or, get_or_default, AreRows, is_syllable, syllable_pair, VersionData, has_hangul, IsCompositeOf, IsAmbiguous}
+use Rattle.np_tables.proofs.Words.{IsFirst, Composite, Lists, AreOfFile, AreOrdered, IsAtMost, least_of, HasSmallerTwin, IsSuspect}
 use Rattle.np_code_points.proofs.HangulLemmas.{pair_injective}
 use Rattle.np_tables.proofs.HangulLemmas.{decomposition_mapping-on}
 use Rattle.np_tables.proofs.PrimaryLemmas.{primary-syllable}
@@ -22,11 +20,7 @@ at_most_right (Some a) None c h = absurd h
 at_most_right (Some a) (Some b) c h = omega arith
 
 min_cases : (P : ℕ → Type 0) (a b : ℕ) → P a → P b → P (min a b)
-min_cases P a b p q =
-    elim (cases_lt a b) [
-      | inl less ↦ let e : a ≡ min a b = omega arith in subst P e p
-      | inr more ↦ let e : b ≡ min a b = omega arith in subst P e q
-    ]
+min_cases P a b p q = grind arith
 
 pub least_has : (P : ℕ → Type 0) (a b : Option ℕ) → IfSome a P → IfSome b P → IfSome (least_of a b) P
 least_has P None b p q = q
@@ -55,11 +49,7 @@ module _ (v : VersionData) (cs : List Composite) where
     -- from a smaller composite up to a greater one of the same pair, somewhere the composite rises
     climb : (n j k a b low high : ℕ) → j + n ≡ k → k < length cs → (d : Composite) → (get_or cs j d).first ≡ a → (get_or cs j d).second ≡ b → (get_or cs j d).code ≤ low →
         get_or cs k d ≡ record { first = a; second = b; code = high } → low < high → Found high
-    climb zero j k a b low high to lt d first second code top less =
-        let same : j ≡ k = omega arith in
-        let here = ap (λ i. (get_or cs i d).code) same in
-        let there = ap (λ (c : Composite). c.code) top in
-        absurd (omega arith)
+    climb zero j k a b low high to lt d first second code top less = grind arith
     climb (suc n) j k a b low high to lt d first second code top less =
         let in_next : j + 1 < length cs = omega arith in
         let in_here : j < length cs = omega arith in
@@ -169,14 +159,7 @@ module _ (v : VersionData) (cs : List Composite) where
         let second : t.before.second ≡ here.second = t.second ∙ ap (λ (y : Composite). y.second) same in
         let code = ap (λ (y : Composite). y.code) same in
         let less = t.smaller in
-        subst (IsAmbiguous v) (sym is)
-        (record {
-          primary = high.primary;
-          other = t.before.code;
-          smaller = omega arith;
-          other_primary = low.primary;
-          same = low.mapping ∙ ap (λ a. a ∷ t.before.second ∷ []) first ∙ ap (λ b. here.first ∷ b ∷ []) second ∙ sym high.mapping;
-        })
+        grind arith
 
     pub beside_ambiguous : (k c s : ℕ) (here : Composite) → AreRows v.entries → slice_get cs k ≡ Some here → (has_hangul v && is_syllable s) ≡ true → syllable_pair s ≡ here.first ∷ here.second ∷ [] → c ≡ max s here.code → IsAmbiguous v c
     beside_ambiguous k c s here rows at on pair is =
@@ -185,28 +168,12 @@ module _ (v : VersionData) (cs : List Composite) where
         let off = file.no_syllables here.first here.second here.code lists in
         let primary = primary-syllable v s rows on in
         let same = decomposition_mapping-on v s on ∙ pair ∙ sym composite.mapping in
-        elim (cases_order s here.code) [
-          | inl equal ↦ absurd (both_ways _ off (sym (ap (λ c. has_hangul v && is_syllable c) equal) ∙ on))
-          | inr other ↦ elim other [
-            | inl less ↦
-                let greater : here.code ≡ c = omega arith in
-                subst (IsAmbiguous v) greater (record { primary = composite.primary; other = s; smaller = less; other_primary = primary; same = same })
-            | inr more ↦
-                let greater : s ≡ c = omega arith in
-                subst (IsAmbiguous v) greater (record { primary = primary; other = here.code; smaller = more; other_primary = composite.primary; same = sym same })
-          ]
-        ]
+        grind (arith, both_ways)
 
   pub beside_least : (k m s : ℕ) (here : Composite) → slice_get cs k ≡ Some here → (has_hangul v && is_syllable s) ≡ true → syllable_pair s ≡ here.first ∷ here.second ∷ [] → m ≡ max s here.code →
       ¬ HasSmallerTwin cs k → (c : ℕ) → IsSuspect v cs k c → m ≤ c
   beside_least k m s here at on pair is lone c (inl twin) = absurd (lone twin.twin)
-  beside_least k m s here at on pair is lone c (inr b) =
-      let same = same_Some b.here here (sym b.here_at ∙ at) in
-      let pairs : syllable_pair b.syllable ≡ syllable_pair s = b.pair ∙ ap (λ (y : Composite). y.first ∷ y.second ∷ []) same ∙ sym pair in
-      let syllables = pair_injective b.syllable s (and_parts _ _ b.on).1 (and_parts _ _ on).1 pairs in
-      let code = ap (λ (y : Composite). y.code) same in
-      let is_c = b.code in
-      omega arith
+  beside_least k m s here at on pair is lone c (inr b) = grind (arith, same_Some, pair_injective, and_parts)
 
 -- ---- the least of all
 

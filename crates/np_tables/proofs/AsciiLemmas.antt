@@ -1,8 +1,7 @@
 -- The lowest bit of a mask of bytes that are not ASCII.
 use Rattle.std.proofs.Common.{◌≡◌, ◌≢◌, zero, suc, ℕ, ◌+◌, ◌<◌, ◌≤◌, ◌^◌, ◌%◌, Bool, false, cond, leb, List, [], ◌∷◌, length, map, replicate, take, get_or, refl, sym, ap, ◌∙◌, arith, inl, inr}
-use Rattle.np_tables.proofs.Words.{prefix_len, cases_lt, leb-false, length-map, leading_from_mask_l, mask_l-mod}
-use Rattle.np_tables.proofs.Words.{run_in_chunk_fails, run_in_chunk_le, tops_compared, trailing_mask_l}
-use Rattle.np_tables.proofs.Words.{count_trailing_zeros, chunk, mask_l, top, zip2}
+use Rattle.np_tables.proofs.Words.{prefix_len, cases_lt, leb-false, length-map, leading_from_mask_l, mask_l-mod, run_in_chunk_fails, run_in_chunk_le}
+use Rattle.np_tables.proofs.Words.{tops_compared, trailing_mask_l, count_trailing_zeros, chunk, mask_l, top, zip2}
 use mir.Syntax.{w8}
 use Rattle.np_tables.specs.inside.AsciiBytes.{is_ascii_byte}
 
@@ -26,8 +25,7 @@ pub no_others : (xs : List ℕ) (mask : ℕ) → length xs ≡ 16 → mask ≡ m
 no_others xs mask long is none = sym (leading_from_mask_l (λ x. leb 128 x) xs (sym is ∙ none) ∙ long)
 
 pub first_other : (xs : List ℕ) (mask : ℕ) → length xs ≡ 16 → mask ≡ mask_l (map (λ x. leb 128 x) xs) → (mask ≢ 0) → count_trailing_zeros 64 mask ≡ prefix_len is_ascii_byte xs
-first_other xs mask long is some =
-    ap (count_trailing_zeros 64) is ∙ trailing_mask_l (λ x. leb 128 x) 64 xs (omega (arith, long)) (positive (mask_l (map (λ x. leb 128 x) xs)) (λ e. some (is ∙ e)))
+first_other xs mask long is some = grind (arith, trailing_mask_l, positive)
 
 -- so many bytes more are ASCII
 pub quick_check_le : (bytes : List ℕ) (at passed : ℕ) → at + 16 ≤ length bytes → passed ≡ prefix_len is_ascii_byte (chunk at 16 bytes) → passed ≤ 16

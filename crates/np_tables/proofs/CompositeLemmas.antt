@@ -1,11 +1,8 @@
 -- The composite of a pair, and what it decomposes to.
-use Rattle.std.proofs.Common.{◌≡◌, ℕ, zero, suc, ◌<◌, ◌⊎◌, Bool, true, false, not, ◌&&◌, ◌==◌, List, [], ◌∷◌, ◌++◌, flat_map, Option, Some, None, is_some, IsTrue, ◌↔◌, refl, sym, ap, ◌∙◌, arith, inl, inr, eqb-true, eq-eqb, append-nil}
-use Rattle.np_tables.proofs.Words.{cond-true, cond-false, cases_Bool, cases_eq, and_parts, and_from, both_ways}
-use Rattle.np_tables.proofs.Words.{VersionData, entry_at, is_assigned, class_of, file_mapping, mapping_in, is_canonical}
-use Rattle.np_tables.proofs.Words.{is_empty, is_excluded, decomposition_kind, decomposition_mapping, has_hangul, Entry}
-use Rattle.np_tables.proofs.Words.{MapKind, Plain, Canonical, Compatibility, is_syllable, counts, parts, full_of}
-use Rattle.np_tables.proofs.Words.{IsPrimary, IsCompositeOf, is_starter_pair, is_primary, or_this, least_below, is_pair}
-use Rattle.np_tables.proofs.Words.{composite, IsSound}
+use Rattle.std.proofs.Common.{◌≡◌, ℕ, zero, suc, ◌<◌, ◌⊎◌, Bool, true, false, not, List, [], ◌∷◌, ◌++◌, Option, Some, None, is_some, IsTrue, ◌↔◌, refl, sym, ap, ◌∙◌, arith, inl, inr, eqb-true, eq-eqb, append-nil}
+use Rattle.np_tables.proofs.Words.{cond-true, cond-false, cases_eq, and_parts, and_from, both_ways, VersionData, entry_at, is_assigned, class_of}
+use Rattle.np_tables.proofs.Words.{file_mapping, mapping_in, is_canonical, is_empty, decomposition_mapping, Entry, MapKind, Plain, Canonical, Compatibility}
+use Rattle.np_tables.proofs.Words.{parts, full_of, IsPrimary, IsCompositeOf, is_starter_pair, is_primary, or_this, least_below, is_pair, composite, IsSound}
 use Rattle.np_tables.proofs.HangulLemmas.{hangul_parts, syllable_row}
 use Rattle.np_code_points.proofs.HangulLemmas.{first_same}
 use Rattle.np_tables.proofs.MappingLemmas.{full_of-mapped}
@@ -48,11 +45,7 @@ cases_Option (Some p) = inr (p, refl)
 is_pair-true : (a b : ℕ) (xs : List ℕ) → is_pair a b xs ≡ true → xs ≡ a ∷ b ∷ []
 is_pair-true a b [] h = cc
 is_pair-true a b (x ∷ []) h = cc
-is_pair-true a b (x ∷ y ∷ []) h =
-    let halves = and_parts (x == a) (y == b) h in
-    let first = eqb-true x a halves.0 in
-    let second = eqb-true y b halves.1 in
-    cc
+is_pair-true a b (x ∷ y ∷ []) h = grind (arith, and_parts, eqb-true)
 is_pair-true a b (x ∷ y ∷ z ∷ zs) h = cc
 
 is_pair_from : (a b : ℕ) (xs : List ℕ) → xs ≡ a ∷ b ∷ [] → is_pair a b xs ≡ true
@@ -70,13 +63,7 @@ file_mapped-assigned v c h = mapped_in (entry_at v.entries c) h
 
 pub mapped-assigned : (v : VersionData) (c : ℕ) → is_empty (decomposition_mapping v c) ≡ false → is_assigned v c ≡ true
 unfolding decomposition_mapping
-mapped-assigned v c h =
-    elim (cases_Bool (has_hangul v && is_syllable c)) [
-      | inl hangul ↦
-          let halves = and_parts (has_hangul v) (is_syllable c) hangul in
-          (hangul_parts v c (syllable_row v c halves.0 halves.1)).assigned
-      | inr other ↦ file_mapped-assigned v c (sym (ap is_empty (cond-false _ _ _ other)) ∙ h)
-    ]
+mapped-assigned v c h = grind (arith, and_parts, hangul_parts, syllable_row, file_mapped-assigned, cond-false)
 
 -- ---- primary composites
 
@@ -105,41 +92,22 @@ not_so false h = refl
 -- the relation and the test
 pub primary-from : (v : VersionData) (c : ℕ) → is_primary v c ≡ true → IsPrimary v c
 unfolding is_primary
-primary-from v c h =
-    let halves = and_parts (is_canonical (decomposition_kind v c) && is_starter_pair (class_of v) (decomposition_mapping v c)) _ h in
-    let front = and_parts (is_canonical (decomposition_kind v c)) _ halves.0 in
-    let back = and_parts (not (is_excluded v c)) _ halves.1 in
-    let pair = starter_pair (class_of v) (decomposition_mapping v c) front.1 in
-    record {
-      canonical = canonical_only _ front.0;
-      first = pair.first;
-      second = pair.second;
-      pair = pair.pair;
-      starter = eqb-true (class_of v c) 0 back.1;
-      first_starter = pair.starter;
-      included = not_so _ back.0;
-    }
+primary-from v c h = grind (arith, and_parts, starter_pair, canonical_only, eqb-true, not_so)
 
 pub primary-test : (v : VersionData) (c : ℕ) → IsPrimary v c → is_primary v c ≡ true
 unfolding is_primary
-primary-test v c is =
-    and_from _ _
-    (and_from _ _ (ap is_canonical is.canonical) (ap (is_starter_pair (class_of v)) is.pair ∙ eq-eqb (class_of v is.first) 0 is.first_starter))
-    (and_from _ _ (ap not is.included) (eq-eqb (class_of v c) 0 is.starter))
+primary-test v c is = grind (arith, and_from, eq-eqb)
 
 -- what a call that makes the test answers
 pub primary-decides : (v : VersionData) (c : ℕ) (b : Bool) → b ≡ is_primary v c → IsTrue b ↔ IsPrimary v c
-primary-decides v c b is =
-    (λ h. primary-from v c (sym is ∙ h), λ h. is ∙ primary-test v c h)
+primary-decides v c b is = grind (arith, primary-from, primary-test)
 
 pub composite_parts : (v : VersionData) (compat : Bool) (a b c : ℕ) → IsCompositeOf v a b c → parts v compat c ≡ a ∷ b ∷ []
 unfolding parts
-composite_parts v compat a b c h =
-    cond-true _ _ _ (ap (counts compat) h.primary.canonical) ∙ h.mapping
+composite_parts v compat a b c h = grind (arith, cond-true)
 
 pub composite_first : (v : VersionData) (a b c : ℕ) → IsCompositeOf v a b c → class_of v a ≡ 0
-composite_first v a b c h =
-    sym (ap (class_of v) (first_same h.primary.first h.primary.second a b (sym h.primary.pair ∙ h.mapping))) ∙ h.primary.first_starter
+composite_first v a b c h = grind (arith, first_same)
 
 pub composite-assigned : (v : VersionData) (a b c : ℕ) → IsCompositeOf v a b c → is_assigned v c ≡ true
 composite-assigned v a b c h = mapped-assigned v c (ap is_empty h.mapping)
@@ -178,8 +146,7 @@ module _ (v : VersionData) (sound : IsSound v) where
   pub composite-splits : (compat : Bool) (a b c : ℕ) → composite v a b ≡ Some c → full_of v compat c ≡ full_of v compat a ++ full_of v compat b
   composite-splits compat a b c h =
       let parts_are = composite_parts v compat a b c (composite-some v a b c h) in
-      full_of-mapped v compat sound.shallow c (ap is_empty parts_are) ∙ ap (flat_map (full_of v compat)) parts_are
-      ∙ ap (λ l. full_of v compat a ++ l) (append-nil (full_of v compat b))
+      grind (arith, full_of-mapped, append-nil)
 
   pub composite-starter : (a b c : ℕ) → composite v a b ≡ Some c → class_of v c ≡ 0
   composite-starter a b c h = (composite-some v a b c h).primary.starter

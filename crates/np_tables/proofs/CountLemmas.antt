@@ -1,8 +1,7 @@
 -- The assigned code points are counted by the sizes of the rows.
 use Rattle.std.proofs.Common.{◌≡◌, ℕ, zero, suc, ◌+◌, ◌-◌, ◌<◌, ◌≤◌, ◌⊎◌, Bool, true, false, nat_le, List, [], ◌∷◌, length, drop, Some, None, is_some, refl, sym, ap, ◌∙◌, subst, arith, inl, inr, le-leb, if◌then◌else◌}
-use Rattle.np_tables.proofs.Words.{slice_get, cases_Bool, cases_lt, and_parts, leb-true, and_from, drop_all, none-some}
-use Rattle.np_tables.proofs.Words.{same_Some, Entry, IsRow, IsBefore, AreRows, lies_in, VersionData, entry_at}
-use Rattle.np_tables.proofs.Words.{is_assigned}
+use Rattle.np_tables.proofs.Words.{slice_get, cases_lt, and_parts, leb-true, and_from, drop_all, none-some, same_Some, Entry, IsRow, IsBefore, AreRows}
+use Rattle.np_tables.proofs.Words.{lies_in, VersionData, entry_at, is_assigned}
 use Rattle.np_tables.specs.Counts.{count_below, assigned_count}
 use Rattle.np_tables.proofs.RowLemmas.{entry_at-nil, entry_at-hit, entry_at-miss, out_of, below_out}
 
@@ -60,26 +59,10 @@ unfolding count_below
 count-run e zero le = inl (omega arith, refl)
 count-run e (suc n) le =
     let rest = count-run e n le in
-    elim (cases_lt n e.first) [
-      | inl low ↦
-          (let none : one_if (lies_in (Some e) n) ≡ 0 = ap one_if (below_out e n low) in
-          inl (omega arith, (elim rest [ inl a ↦ (let z = a.1 in omega arith) | inr b ↦ elim b [ inl c ↦ absurd (omega arith) | inr d ↦ absurd (omega arith) ] ])))
-      | inr from ↦ elim (cases_lt e.last n) [
-        | inl high ↦
-            (let none : one_if (lies_in (Some e) n) ≡ 0 = ap one_if (out_of e n high) in
-            inr (inr (omega arith, (elim rest [ inl a ↦ absurd (omega arith) | inr b ↦ elim b [ inl c ↦ (let z = c.2 in omega arith) | inr d ↦ (let z = d.1 in omega arith) ] ]))))
-        | inr to ↦
-            (let one : one_if (lies_in (Some e) n) ≡ 1 = ap one_if (and_from _ _ (le-leb e.first n from) (le-leb n e.last to)) in
-            inr (inl (omega arith, omega arith, (elim rest [ inl a ↦ (let z = a.1 in omega arith) | inr b ↦ elim b [ inl c ↦ (let z = c.2 in omega arith) | inr d ↦ absurd (omega arith) ] ]))))
-      ]
-    ]
+    grind (arith, below_out, out_of, and_from, le-leb)
 
 count-row : (e : Entry) (n : ℕ) → e.first ≤ e.last → e.last < n → count_below (λ c. lies_in (Some e) c) n ≡ e.last - e.first + 1
-count-row e n le lt =
-    elim (count-run e n le) [
-      | inl a ↦ absurd (omega arith)
-      | inr b ↦ elim b [ inl c ↦ (let z = c.2 in omega arith) | inr d ↦ d.1 ]
-    ]
+count-row e n le lt = grind (arith, count-run)
 
 -- two tests of which no number passes both
 count-both : (p q r : ℕ → Bool) (n : ℕ) → ((c : ℕ) → ((p c ≡ true) × (q c ≡ false) × (r c ≡ true)) ⊎ ((p c ≡ false) × (q c ≡ r c))) → count_below r n ≡ count_below p n + count_below q n
@@ -103,11 +86,7 @@ high_end e c h = leb-true c e.last (and_parts (nat_le e.first c) (nat_le c e.las
 listed_either : (e : Entry) (es : List Entry) (c : ℕ) → IsBefore e es → AreRows es
     → ((lies_in (Some e) c ≡ true) × (listed es c ≡ false) × (listed (e ∷ es) c ≡ true)) ⊎ ((lies_in (Some e) c ≡ false) × (listed es c ≡ listed (e ∷ es) c))
 unfolding listed
-listed_either e es c before rows =
-    elim (cases_Bool (lies_in (Some e) c)) [
-      | inl on ↦ inl (on, ap is_some (after_none e es c before rows (high_end e c on)), ap is_some (entry_at-hit e es c on))
-      | inr off ↦ inr (off, sym (ap is_some (entry_at-miss e es c off)))
-    ]
+listed_either e es c before rows = grind (arith, after_none, high_end, entry_at-hit, entry_at-miss)
 
 count-listed : (es : List Entry) (n : ℕ) → AreRows es → ((e : Entry) → IsRow e → e.last < n) → count_below (listed es) n ≡ sizes es
 unfolding sizes listed

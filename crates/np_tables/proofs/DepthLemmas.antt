@@ -1,10 +1,9 @@
 -- Marks of code points, round by round.
 use Rattle.std.proofs.Common.{◌≡◌, ℕ, zero, suc, ◌<◌, ◌≤◌, Bool, true, false, ◌&&◌, min, List, [], ◌∷◌, map, flat_map, length, refl, sym, ap, subst, ◌∙◌, leb, inl, inr, arith}
-use Rattle.np_tables.proofs.Words.{cond-true, cond-false, cases_Bool, cases_eq, both_ways, and_parts, and_from}
-use Rattle.np_tables.proofs.Words.{list_all, Entry, AreRows, HasLength, MapKind, Plain, Canonical, Compatibility}
-use Rattle.np_tables.proofs.Words.{is_syllable, VersionData, entry_at, kind_in, mapping_in, is_empty, file_kind}
-use Rattle.np_tables.proofs.Words.{file_mapping, has_hangul, decomposition_kind, decomposition_mapping, counts, parts}
-use Rattle.np_tables.proofs.Words.{has_depth, full, marked, mark, parts_mark, mapping_mark, row_marks}
+use Rattle.np_tables.proofs.Words.{cond-true, cond-false, cases_Bool, cases_eq, both_ways, and_parts, and_from, list_all, Entry, AreRows, HasLength, MapKind}
+use Rattle.np_tables.proofs.Words.{Plain, Canonical, Compatibility, is_syllable, VersionData, entry_at, kind_in, mapping_in, is_empty, file_kind}
+use Rattle.np_tables.proofs.Words.{file_mapping, has_hangul, decomposition_kind, decomposition_mapping, counts, parts, has_depth, full, marked, mark}
+use Rattle.np_tables.proofs.Words.{parts_mark, mapping_mark, row_marks}
 use Rattle.np_tables.proofs.MappingLemmas.{full-final, full-mapped, full-more, full-some, flat_map-same}
 
 -- ---- the mapping that counts for the compatibility decomposition is the mapping of the file
@@ -34,19 +33,11 @@ module _ (v : VersionData) (rows : AreRows v.entries) where
 
   plain : (c : ℕ) → counts true (decomposition_kind v c) ≡ false → decomposition_mapping v c ≡ []
   unfolding decomposition_kind decomposition_mapping
-  plain c h =
-      elim (cases_Bool (has_hangul v && is_syllable c)) [
-        | inl hangul ↦ absurd (both_ways _ h (ap (counts true) (cond-true _ _ _ hangul)))
-        | inr other ↦ cond-false _ _ _ other ∙ file_plain c (sym (ap (counts true) (cond-false _ _ _ other)) ∙ h)
-      ]
+  plain c h = grind (arith, both_ways, cond-true, cond-false, file_plain)
 
   pub parts-mapping : (c : ℕ) → parts v true c ≡ decomposition_mapping v c
   unfolding parts
-  parts-mapping c =
-      elim (cases_Bool (counts true (decomposition_kind v c))) [
-        | inl on ↦ cond-true _ _ _ on
-        | inr off ↦ cond-false _ _ _ off ∙ sym (plain c off)
-      ]
+  parts-mapping c = grind (arith, cond-true, cond-false, plain)
 
 -- ---- the mark of a code point from that of its mapping
 
@@ -74,9 +65,7 @@ module _ (v : VersionData) where
   unfolding mark mapping_mark parts_mark
   mark-at n c [] e p = ap (λ b. marked b (length (full v true n c))) (bare_depth n c e) ∙ ap (λ l. marked true (length l)) (bare_full n c p)
   mark-at zero c (x ∷ xs) e p = ap (λ b. marked b (length (full v true zero c))) (zero_depth c x xs e)
-  mark-at (suc n) c (x ∷ xs) e p =
-      ap (λ b. marked b (length (full v true (suc n) c))) (suc_depth n c (x ∷ xs) e)
-      ∙ ap (λ l. marked (list_all (has_depth v n) (x ∷ xs)) (length l)) (suc_full n c x xs p)
+  mark-at (suc n) c (x ∷ xs) e p = grind (arith, suc_depth, suc_full)
 
 pub mark-mapping : (v : VersionData) → AreRows v.entries → (n c : ℕ) → mark v n c ≡ mapping_mark v n (decomposition_mapping v c)
 mark-mapping v rows n c = mark-at v n c (decomposition_mapping v c) refl (parts-mapping v rows c)
@@ -156,15 +145,12 @@ module _ (v : VersionData) (n : ℕ) (still : (c : ℕ) → mark v (suc n) c ≡
       ]
 
   settled_marked : (m : ℕ) → n ≤ m → (xs : List ℕ) (b : Bool) → list_all (has_depth v n) xs ≡ b → marked b (length (flat_map (full v true m) xs)) ≡ marked b (length (flat_map (full v true n) xs))
-  settled_marked m le xs true h =
-      ap (λ l. marked true (length l)) (flat_map-same v true (full v true m) (full v true n) (has_depth v n) (settled_full m le) xs h)
+  settled_marked m le xs true h = grind (arith, flat_map-same, settled_full)
   settled_marked m le xs false h = refl
 
   settled_parts : (m : ℕ) → n ≤ m → (xs : List ℕ) → parts_mark v m xs ≡ parts_mark v n xs
   unfolding parts_mark
-  settled_parts m le xs =
-      ap (λ b. marked b (length (flat_map (full v true m) xs))) (list_all-same (has_depth v m) (has_depth v n) (settled_depth m le) xs)
-      ∙ settled_marked m le xs (list_all (has_depth v n) xs) refl
+  settled_parts m le xs = grind (arith, list_all-same, settled_depth, settled_marked)
 
   settled_mapping : (m : ℕ) → n ≤ m → (xs : List ℕ) → mapping_mark v (suc m) xs ≡ mapping_mark v (suc n) xs
   unfolding mapping_mark
@@ -218,12 +204,7 @@ module _ (v : VersionData) where
 
   kept_parts : (n : ℕ) (xs : List ℕ) → 0 < parts_mark v n xs → parts_mark v (suc n) xs ≡ parts_mark v n xs
   unfolding parts_mark
-  kept_parts n xs some =
-      let known : list_all (has_depth v n) xs ≡ true = marked-more (list_all (has_depth v n) xs) _ some in
-      let still : list_all (has_depth v (suc n)) xs ≡ true = list_all-weaker (has_depth v n) (has_depth v (suc n)) (depth_more n) xs known in
-      ap (λ b. marked b (length (flat_map (full v true (suc n)) xs))) still
-      ∙ ap (λ l. marked true (length l)) (flat_map-same v true (full v true (suc n)) (full v true n) (has_depth v n) (full-more v true n) xs known)
-      ∙ ap (λ b. marked b (length (flat_map (full v true n) xs))) (sym known)
+  kept_parts n xs some = grind (arith, marked-more, list_all-weaker, depth_more, flat_map-same, full-more)
 
   pub kept_mark : (n : ℕ) (xs : List ℕ) → 0 < mapping_mark v n xs → mapping_mark v (suc n) xs ≡ mapping_mark v n xs
   unfolding mapping_mark

@@ -1,7 +1,6 @@
 -- The version of empty files meets the conditions, so the laws are not vacuous.
 use Rattle.std.proofs.Common.{◌≡◌, ℕ, true, false, [], length, refl, ap, ◌∙◌, arith, inl, inr}
-use Rattle.np_tables.proofs.Words.{cases_Bool, both_ways, list_all, entry_at, is_assigned, is_empty}
-use Rattle.np_tables.proofs.Words.{decomposition_mapping, has_depth, IsSound}
+use Rattle.np_tables.proofs.Words.{cases_Bool, both_ways, list_all, entry_at, is_assigned, is_empty, decomposition_mapping, has_depth, IsSound}
 use Rattle.np_tables.specs.Examples.{without_rows}
 use Rattle.np_tables.proofs.FactLemmas.{sound-by}
 use Rattle.np_tables.proofs.MappingLemmas.{is_empty-true, full_of-final, full_of-only, parts-cases}

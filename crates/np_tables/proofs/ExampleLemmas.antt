@@ -1,12 +1,10 @@
 -- Versions with a starter, a non-starter, their primary composite and further rows without mappings meet the conditions: one
 -- with these three alone, and one with the Hangul arithmetic on. So the laws speak of versions with rows too.
-use Rattle.std.proofs.Common.{◌≡◌, ℕ, ◌≤◌, true, false, ◌&&◌, ◌==◌, nat_le, List, [], ◌∷◌, ◌++◌, flat_map, length, Option, Some, is_some, refl, sym, ap, subst, ◌∙◌, arith, inl, inr}
-use Rattle.np_tables.proofs.Words.{list_all, slice_get, cond-true, cond-false, cases_Bool, and_parts, and_right}
-use Rattle.np_tables.proofs.Words.{and_from, leb-true, both_ways, Entry, IsRow, AreRows, Plain, Canonical, is_syllable}
-use Rattle.np_tables.proofs.Words.{syllable_pair, VersionData, entry_at, is_assigned, class_of, class_in, file_kind}
-use Rattle.np_tables.proofs.Words.{file_mapping, mapping_in, is_empty, is_excluded, is_hangul, is_hangul_row}
-use Rattle.np_tables.proofs.Words.{has_hangul, decomposition_kind, decomposition_mapping, has_depth, full_of, IsPrimary}
-use Rattle.np_tables.proofs.Words.{IsCompositeOf, IsSound}
+use Rattle.std.proofs.Common.{◌≡◌, ℕ, ◌≤◌, true, false, ◌&&◌, nat_le, List, [], ◌∷◌, ◌++◌, flat_map, length, Option, Some, refl, sym, ap, subst, ◌∙◌, arith, inl, inr}
+use Rattle.np_tables.proofs.Words.{list_all, slice_get, cond-true, cond-false, cases_Bool, and_parts, and_right, and_from, leb-true, both_ways, Entry, IsRow}
+use Rattle.np_tables.proofs.Words.{AreRows, Plain, Canonical, is_syllable, syllable_pair, VersionData, entry_at, is_assigned, class_of, file_kind}
+use Rattle.np_tables.proofs.Words.{file_mapping, mapping_in, is_empty, is_excluded, is_hangul, is_hangul_row, has_hangul, decomposition_kind}
+use Rattle.np_tables.proofs.Words.{decomposition_mapping, has_depth, full_of, IsPrimary, IsCompositeOf, IsSound}
 use Rattle.np_code_points.proofs.HangulLemmas.{first_same, pair_injective}
 use Rattle.np_tables.specs.Examples.{letter_with_ring, plain, with_hangul, with_rows}
 use Rattle.np_tables.proofs.CompositeLemmas.{composite_parts}
@@ -21,16 +19,7 @@ use Rattle.np_tables.proofs.SyllableLemmas.{depth_two, mark-syllable, syllable_m
 -- a row of one code point, or one of the rows behind it
 at_row : (P : ℕ → Option Entry → Type 0) (e : Entry) (es : List Entry) (c : ℕ) → e.first ≡ e.last → P e.first (Some e) → P c (entry_at es c) → P c (entry_at (e ∷ es) c)
 unfolding entry_at
-at_row P e es c alone here behind =
-    elim (cases_Bool (nat_le e.first c && nat_le c e.last)) [
-      | inl within ↦
-          let halves = and_parts _ _ within in
-          let low = leb-true e.first c halves.0 in
-          let high = leb-true c e.last halves.1 in
-          let same : e.first ≡ c = omega arith in
-          subst (P c) (sym (cond-true _ _ _ within)) (subst (λ d. P d (Some e)) same here)
-      | inr outside ↦ subst (P c) (sym (cond-false _ _ _ outside)) behind
-    ]
+at_row P e es c alone here behind = grind (arith, and_parts, leb-true, cond-true, cond-false)
 
 abbrev AreBare : List Entry → Type 0
 AreBare [] = Unit {0}
@@ -55,8 +44,7 @@ letter_is : IsRow letter
 letter_is = record { rises = omega arith; bounded = omega arith; class = omega arith; fits = refl; scalars = refl; alone = λ h. refl; mapped_scalar = λ h. refl }
 
 letter_with_ring_is : IsRow letter_with_ring
-letter_with_ring_is =
-    record { rises = omega arith; bounded = omega arith; class = omega arith; fits = (omega arith, omega arith); scalars = refl; alone = λ h. refl; mapped_scalar = λ h. refl }
+letter_with_ring_is = grind arith
 
 ring_is : IsRow ring
 ring_is = record { rises = omega arith; bounded = omega arith; class = omega arith; fits = refl; scalars = refl; alone = λ h. refl; mapped_scalar = λ h. refl }
@@ -214,10 +202,7 @@ module _ (more : List Entry) where
 -- what lies in a row is one of the three
 pub assigned_code : (P : ℕ → Type 0) → P 0x41 → P 0xC5 → P 0x30A → (c : ℕ) → is_assigned with_rows c ≡ true → P c
 unfolding is_assigned entry_at
-assigned_code P at_letter at_pair at_ring c =
-    let Q : ℕ → Option Entry → Type 0 = λ d o. is_some o ≡ true → P d in
-    at_row Q letter (letter_with_ring ∷ ring ∷ []) c refl (λ _. at_letter)
-    (at_row Q letter_with_ring (ring ∷ []) c refl (λ _. at_pair) (at_row Q ring [] c refl (λ _. at_ring) (λ h. cc)))
+assigned_code P at_letter at_pair at_ring c = grind (arith, at_row)
 
 pub syllable_lacks : is_assigned with_rows 0xAC00 ≡ false
 unfolding is_assigned entry_at
@@ -278,8 +263,7 @@ row_at : (i : ℕ) (e : Entry) (c : ℕ) → slice_get with_hangul.entries i ≡
 unfolding is_hangul_row is_assigned class_of file_mapping
 row_at i e c at class bare low high =
     let found : entry_at with_hangul.entries c ≡ Some e = sym (at-found with_hangul.entries i c e rows_hangul at low high) ∙ at in
-    ap (λ (o : Option Entry). is_some o && class_in o == 0 && is_empty (mapping_in o)) found
-    ∙ ap (λ (n : ℕ). n == 0 && is_empty e.mapping) class ∙ ap is_empty bare
+    grind arith
 
 pub hangul_on_with : has_hangul with_hangul ≡ true
 unfolding Runs

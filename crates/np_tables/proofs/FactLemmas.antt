@@ -1,11 +1,9 @@
 -- What holds of each code point because the rows are those of a data file.
 use Rattle.std.proofs.Common.{◌≡◌, ◌≢◌, ℕ, ◌<◌, ◌≤◌, true, ◌&&◌, List, [], ◌∷◌, length, Option, Some, None, is_some, refl, sym, ap, ◌∙◌, arith, inl, inr, lt-ltb, ◌⊎◌, Bool, false}
 use lib.Utf8.{scalar}
-use Rattle.np_tables.proofs.Words.{list_all, slice_get, cond-true, cond-false, cases_Bool, and_parts, and_from}
-use Rattle.np_tables.proofs.Words.{cases_lt, both_ways, Entry, IsRow, AreRows, is_syllable, syllable_pair}
-use Rattle.np_tables.proofs.Words.{IsCompositeOf, IsSound, IsFullDecomposition, has_depth, VersionData, entry_at}
-use Rattle.np_tables.proofs.Words.{is_assigned, is_hangul, class_of, class_in, file_mapping, mapping_in}
-use Rattle.np_tables.proofs.Words.{decomposition_mapping, has_hangul, is_empty, IsMappedToUnassigned, IsLeastOf}
+use Rattle.np_tables.proofs.Words.{list_all, slice_get, cond-true, cond-false, cases_Bool, and_parts, and_from, both_ways, Entry, IsRow, AreRows, is_syllable}
+use Rattle.np_tables.proofs.Words.{syllable_pair, IsCompositeOf, IsSound, IsFullDecomposition, has_depth, VersionData, entry_at, is_assigned, is_hangul}
+use Rattle.np_tables.proofs.Words.{class_of, class_in, file_mapping, mapping_in, decomposition_mapping, has_hangul, is_empty, IsMappedToUnassigned, IsLeastOf}
 use Rattle.np_code_points.proofs.HangulLemmas.{pair_exists, pair_small}
 use Rattle.np_tables.proofs.PrimaryLemmas.{syllable_bounds}
 use Rattle.np_tables.proofs.RowLemmas.{entry_at-row, entry_at-within, at-row, at-found, firsts-le, place_of_entry}
@@ -73,32 +71,14 @@ mapped_scalar-at v c rows h =
 pub sound-by : (v : VersionData) → AreRows v.entries → ((c : ℕ) → list_all (is_assigned v) (decomposition_mapping v c) ≡ true) → ((c : ℕ) → has_depth v 32 c ≡ true)
     → ((c : ℕ) (full : List ℕ) → IsFullDecomposition v true (c ∷ []) full → length full ≤ 64) → ((a b c d : ℕ) → IsCompositeOf v a b c → IsCompositeOf v a b d → c ≡ d)
     → ((c : ℕ) → is_hangul c ≡ true → is_assigned v c ≡ true → has_hangul v ≡ true) → IsSound v
-sound-by v rows assigned shallow short unlike hangul =
-    record {
-      rows = rows;
-      bounded = λ c h. bounded-at v c rows h;
-      classes = λ c. classes-at v c rows;
-      scalars = λ c. scalars-at v c rows;
-      mapped_scalar = λ c h. mapped_scalar-at v c rows h;
-      maps_to_assigned = assigned;
-      shallow = shallow;
-      short = short;
-      unlike = unlike;
-      hangul = hangul;
-    }
+sound-by v rows assigned shallow short unlike hangul = grind (arith, bounded-at, classes-at, scalars-at, mapped_scalar-at)
 
 -- ---- mappings that hold an unassigned code point
 
 -- only a mapping in the file may lack something
 pub lacks_in_file : (v : VersionData) (c : ℕ) → IsMappedToUnassigned v c → list_all (is_assigned v) (file_mapping v c) ≡ false
 unfolding decomposition_mapping
-lacks_in_file v c h =
-    elim (cases_Bool (has_hangul v && is_syllable c)) [
-      | inl on ↦
-          (let halves = and_parts (has_hangul v) (is_syllable c) on in
-          absurd (both_ways _ h.lacks (ap (list_all (is_assigned v)) (cond-true _ (syllable_pair c) (file_mapping v c) on) ∙ pair_assigned v c halves.0 halves.1)))
-      | inr off ↦ sym (ap (list_all (is_assigned v)) (cond-false _ (syllable_pair c) (file_mapping v c) off)) ∙ h.lacks
-    ]
+lacks_in_file v c h = grind (arith, and_parts, both_ways, cond-true, pair_assigned, cond-false)
 
 empty_all : (p : ℕ → Bool) (xs : List ℕ) → is_empty xs ≡ true → list_all p xs ≡ true
 empty_all p [] h = refl
@@ -137,20 +117,7 @@ row_lacks v e i rows at lacks =
     file_lacks v e.first (ap (λ o. list_all (is_assigned v) (mapping_in o)) (sym found ∙ at) ∙ lacks)
 
 pub first_lacking-some : (v : VersionData) (i : ℕ) (e : Entry) → AreRows v.entries → slice_get v.entries i ≡ Some e → list_all (is_assigned v) e.mapping ≡ false → RowsHold v i → IsLeastOf (IsMappedToUnassigned v) e.first
-first_lacking-some v i e rows at lacks before =
-    record {
-      holds = row_lacks v e i rows at lacks;
-      least = λ d h.
-          let row = lacking_row v d h in
-          let place = place_of_entry v.entries d row.0 row.1 in
-          elim (cases_lt place.0 i) [
-            | inl lt ↦ absurd (both_ways _ row.2 (sym (ap (λ o. list_all (is_assigned v) (mapping_in o)) place.2) ∙ before place.0 lt))
-            | inr le ↦ (let up = firsts-le v.entries i place.0 e row.0 rows at place.2 le in let within = entry_at-within v.entries d row.0 row.1 in omega arith)
-          ];
-    }
+first_lacking-some v i e rows at lacks before = grind (arith, row_lacks, lacking_row, place_of_entry, both_ways, firsts-le, entry_at-within)
 
 pub first_lacking-none : (v : VersionData) → RowsHold v (length v.entries) → (c : ℕ) → ¬ (IsMappedToUnassigned v c)
-first_lacking-none v all c h =
-    let row = lacking_row v c h in
-    let place = place_of_entry v.entries c row.0 row.1 in
-    both_ways _ row.2 (sym (ap (λ o. list_all (is_assigned v) (mapping_in o)) place.2) ∙ all place.0 place.1)
+first_lacking-none v all c h = grind (arith, lacking_row, place_of_entry, both_ways)

@@ -1,9 +1,8 @@
 -- The fault that is told, and the conditions where there is none.
 use Rattle.std.proofs.Common.{◌≡◌, ℕ, ◌+◌, ◌<◌, ◌≤◌, true, length, Option, Some, None, MatchOption, nat_lt, refl, sym, subst, ◌∙◌, arith, inl, inr}
 use Rattle.std.specs.Prelude.{option_map}
-use Rattle.np_tables.proofs.Words.{list_all, cond-true, cond-false, cases_Bool, cases_lt, cases_order, lt-ltb, le-ltb}
-use Rattle.np_tables.proofs.Words.{AreRows, IsCompositeOf, IsSound, IsMappedToUnassigned, IsTooDeep, IsTooLong}
-use Rattle.np_tables.proofs.Words.{IsAmbiguous, IsHangulWrong, IsFirst, IsLeastOf, AreFirsts, sooner, least_fault}
+use Rattle.np_tables.proofs.Words.{list_all, cond-true, cond-false, cases_Bool, cases_lt, cases_order, lt-ltb, le-ltb, AreRows, IsCompositeOf, IsSound}
+use Rattle.np_tables.proofs.Words.{IsMappedToUnassigned, IsTooDeep, IsTooLong, IsAmbiguous, IsHangulWrong, IsFirst, IsLeastOf, AreFirsts, sooner, least_fault}
 use Rattle.np_tables.proofs.Words.{has_depth, VersionData, is_assigned, decomposition_mapping}
 use Rattle.np_tables.specs.declared.faults.FirstFaults.{FirstFaults}
 use Rattle.np_tables.specs.declared.faults.TableFault.{TableFault}
@@ -69,21 +68,10 @@ record IsKind (v : VersionData) (n : ℕ) (P : ℕ → Type 0) (fault : ℕ → 
 -- a fault of this kind alone
 kind_first : (v : VersionData) (n c : ℕ) (P : ℕ → Type 0) (fault : ℕ → TableFault) → IsKind v n P fault → IsLeastOf P c
     → (g : TableFault) → HasFault v g → number_of g ≡ n + 1 → IsBeforeFault (fault c) g
-kind_first v n c P fault kind least g h number =
-    let up = least.least (place_of g) (kind.each g h number) in
-    let at = kind.place c in
-    let num = kind.number c in
-    elim (cases_order (place_of (fault c)) (place_of g)) [
-      | inl same ↦ inr (same, omega arith)
-      | inr other ↦ elim other [ inl lt ↦ inl lt | inr gt ↦ absurd (omega arith) ]
-    ]
+kind_first v n c P fault kind least g h number = grind arith
 
 before-trans : (f g h : TableFault) → IsBeforeFault f g → IsBeforeFault g h → IsBeforeFault f h
-before-trans f g h a b =
-    elim a [
-      | inl lt ↦ elim b [ inl lt2 ↦ inl (omega arith) | inr same ↦ (let e = same.0 in inl (omega arith)) ]
-      | inr same ↦ elim b [ inl lt2 ↦ (let e = same.0 in inl (omega arith)) | inr same2 ↦ (let e = same.0 in let e2 = same2.0 in let n = same.1 in let n2 = same2.1 in inr (omega arith, omega arith)) ]
-    ]
+before-trans f g h a b = grind arith
 
 module _ (v : VersionData) (n : ℕ) (P : ℕ → Type 0) (fault : ℕ → TableFault) (kind : IsKind v n P fault) where
   -- no fault of the new kind
@@ -125,12 +113,7 @@ module _ (v : VersionData) (n : ℕ) (P : ℕ → Type 0) (fault : ℕ → Table
   )
 
   old_before : (f : TableFault) (c : ℕ) → number_of f ≤ n → place_of f ≤ place_of (fault c) → IsBeforeFault f (fault c)
-  old_before f c below le =
-      let num = kind.number c in
-      elim (cases_order (place_of f) (place_of (fault c))) [
-        | inl same ↦ inr (same, omega arith)
-        | inr other ↦ elim other [ inl lt ↦ inl lt | inr gt ↦ absurd (omega arith) ]
-      ]
+  old_before f c below le = grind arith
 
   -- the old one is not later
   step_old : (f : TableFault) (c : ℕ) → FirstTo v n (Some f) → IsLeastOf P c → place_of f ≤ place_of (fault c) → FirstTo v (n + 1) (Some f)

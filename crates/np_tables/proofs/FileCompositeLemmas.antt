@@ -1,11 +1,9 @@
 -- The composites that the rows of a file give.
 use Rattle.std.proofs.Common.{◌≡◌, ◌≢◌, ℕ, zero, suc, ◌+◌, ◌<◌, Bool, true, false, ◌&&◌, List, [], ◌∷◌, ◌++◌, flat_map, Some, None, Option, refl, sym, ap, subst, ◌∙◌, arith, inl, inr, slice_index_or, take, append-nil}
-use Rattle.np_tables.proofs.Words.{Contains, slice_get, cases_Bool, none-some, same_Some, slice_get_within}
-use Rattle.np_tables.proofs.Words.{get_or_from_slice_get, take_more, flat_map-append, Contains-append_cases}
-use Rattle.np_tables.proofs.Words.{Contains-append_left, Contains-append_right, Entry, AreRows, is_syllable}
-use Rattle.np_tables.proofs.Words.{VersionData, entry_at, file_mapping, decomposition_mapping, mapping_in, is_empty}
-use Rattle.np_tables.proofs.Words.{has_hangul, lies_in, IsCompositeOf, is_primary, Composite, Lists, AreOfFile, pair_in}
-use Rattle.np_tables.proofs.Words.{composites_in}
+use Rattle.np_tables.proofs.Words.{Contains, slice_get, cases_Bool, none-some, same_Some, slice_get_within, get_or_from_slice_get, take_more, flat_map-append}
+use Rattle.np_tables.proofs.Words.{Contains-append_cases, Contains-append_left, Contains-append_right, Entry, AreRows, is_syllable, VersionData, entry_at}
+use Rattle.np_tables.proofs.Words.{file_mapping, decomposition_mapping, mapping_in, is_empty, has_hangul, lies_in, IsCompositeOf, is_primary, Composite}
+use Rattle.np_tables.proofs.Words.{Lists, AreOfFile, pair_in, composites_in}
 use Rattle.std.specs.List.Sorted.{IsPermutation}
 use Rattle.std.proofs.lemmas.List.Sorted.{IsPermutation-sym, Contains-permutation}
 use Rattle.np_tables.proofs.CompositeLemmas.{primary-from, primary-test}
@@ -57,21 +55,12 @@ pub record FromRow (primary : Bool) (c : ℕ) (mapping : List ℕ) (x : Composit
 from_row : (primary : Bool) (c : ℕ) (mapping : List ℕ) (x : Composite) → Contains (pair_in primary c mapping) x → FromRow primary c mapping x
 from_row primary c [] x h = absurd (nothing_in x h)
 from_row primary c (a ∷ []) x h = absurd (nothing_in x h)
-from_row true c (a ∷ b ∷ []) x h =
-    let same = only (record { first = a; second = b; code = c }) x h in
-    record {
-      passes = refl;
-      pair = subst (λ (y : Composite). a ∷ b ∷ [] ≡ y.first ∷ y.second ∷ []) same refl;
-      code = subst (λ (y : Composite). y.code ≡ c) same refl;
-    }
+from_row true c (a ∷ b ∷ []) x h = grind (arith, only)
 from_row false c (a ∷ b ∷ []) x h = absurd (nothing_in x h)
 from_row primary c (a ∷ b ∷ y ∷ ys) x h = absurd (nothing_in x h)
 
 to_row : (primary : Bool) (c a b : ℕ) (mapping : List ℕ) → primary ≡ true → mapping ≡ a ∷ b ∷ [] → Contains (pair_in primary c mapping) (record { first = a; second = b; code = c })
-to_row primary c a b mapping passes pair =
-    let x : Composite = record { first = a; second = b; code = c } in
-    let here : Contains (x ∷ []) x = (zero, omega arith, refl) in
-    subst (λ p. Contains (pair_in p c mapping) x) (sym passes) (subst (λ m. Contains (pair_in true c m) x) (sym pair) here)
+to_row primary c a b mapping passes pair = grind arith
 
 row_of : (o : Option Entry) → is_empty (mapping_in o) ≡ false → (e : Entry) × (o ≡ Some e)
 row_of None h = cc
@@ -99,11 +88,7 @@ module _ (v : VersionData) (rows : AreRows v.entries) where
       let r = from_row (is_primary v e.first) e.first e.mapping x at.3 in
       let mapping : file_mapping v e.first ≡ x.first ∷ x.second ∷ [] = file_mapping-found v e.first e (first-at v.entries at.0 e rows at.2) ∙ r.pair in
       let off = mapped-off v e.first (ap is_empty mapping) in
-      record {
-        code_pair = ap (decomposition_mapping v) r.code ∙ decomposition_mapping-off v e.first off ∙ mapping;
-        primary = ap (is_primary v) r.code ∙ r.passes;
-        off = ap (λ c. has_hangul v && is_syllable c) r.code ∙ off;
-      }
+      grind (arith, decomposition_mapping-off)
 
   row_has : (a b c : ℕ) → IsCompositeOf v a b c → (has_hangul v && is_syllable c) ≡ false → Lists (flat_map (composites_in v) v.entries) a b c
   row_has a b c is off =
@@ -134,5 +119,4 @@ pub flat_step : (f : Entry → List Composite) (es : List Entry) (at : ℕ) (e :
 flat_step f es at e old new piece found before grown is =
     let fits = slice_get_within es at e found in
     let here : take (at + 1) es ≡ take at es ++ e ∷ [] = take_more es at e fits ∙ ap (λ (x : Entry). take at es ++ x ∷ []) (get_or_from_slice_get es at e e found) in
-    grown ∙ ap (λ l. l ++ piece) before ∙ ap (λ l. flat_map f (take at es) ++ l) (is ∙ sym (append-nil (f e)))
-    ∙ sym (ap (flat_map f) here ∙ flat_map-append f (take at es) (e ∷ []))
+    grind (arith, append-nil, flat_map-append)

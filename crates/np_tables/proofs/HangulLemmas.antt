@@ -1,10 +1,9 @@
 -- The Hangul arithmetic: on exactly where each syllable and jamo is as it wants it, and what it then makes of each.
-use Rattle.std.proofs.Common.{◌≡◌, ◌≢◌, ℕ, zero, suc, ◌+◌, ◌-◌, ◌/◌, ◌%◌, ◌<◌, ◌≤◌, ◌⊎◌, Bool, true, false, not, ◌&&◌, ◌||◌, ◌==◌, [], ◌∷◌, refl, sym, ap, ◌∙◌, arith, inl, inr, eqb-true}
-use Rattle.np_tables.proofs.Words.{list_all, cases_Bool, cases_eq, cond-true, cond-false, and_parts, and_from}
-use Rattle.np_tables.proofs.Words.{and_right, or_left, or_right, both_ways, is_among, is_syllable, syllable_pair}
-use Rattle.np_tables.proofs.Words.{Canonical, IsHangulWrong, HangulOn, HangulByArithmetic, VersionData, all_below}
-use Rattle.np_tables.proofs.Words.{class_of, decomposition_kind, decomposition_mapping, file_kind, file_mapping}
-use Rattle.np_tables.proofs.Words.{has_hangul, is_assigned, is_empty, is_hangul, is_hangul_row}
+use Rattle.std.proofs.Common.{◌≡◌, ◌≢◌, ℕ, zero, suc, ◌+◌, ◌-◌, ◌%◌, ◌<◌, ◌≤◌, ◌⊎◌, Bool, true, false, not, ◌&&◌, ◌||◌, [], ◌∷◌, refl, ap, ◌∙◌, arith, inl, inr, eqb-true}
+use Rattle.np_tables.proofs.Words.{list_all, cases_Bool, cases_eq, cond-true, cond-false, and_parts, and_from, and_right, or_left, or_right, both_ways}
+use Rattle.np_tables.proofs.Words.{is_among, is_syllable, syllable_pair, Canonical, IsHangulWrong, HangulOn, HangulByArithmetic, VersionData, all_below}
+use Rattle.np_tables.proofs.Words.{class_of, decomposition_kind, decomposition_mapping, file_kind, file_mapping, has_hangul, is_assigned, is_empty, is_hangul}
+use Rattle.np_tables.proofs.Words.{is_hangul_row}
 use Rattle.np_code_points.proofs.HangulLemmas.{among_bounds, pair_exists, pair_kinds, pair_of_lv, pair_of_lvt}
 use Rattle.np_tables.proofs.HangulPlaces.{hangul_bound}
 use Rattle.np_tables.proofs.MappingLemmas.{is_empty-true}
@@ -46,8 +45,7 @@ unfolding has_hangul
 has_hangul-from v each = all_below-from (λ d. not (is_hangul d) || is_hangul_row v d) 0x110000 (λ c. so_from (is_hangul c) (is_hangul_row v c) (each c))
 
 pub has_hangul-fails : (v : VersionData) (c : ℕ) → is_hangul c ≡ true → is_hangul_row v c ≡ false → has_hangul v ≡ false
-has_hangul-fails v c h wrong =
-    elim (cases_Bool (has_hangul v)) [ inl on ↦ absurd (both_ways _ wrong (has_hangul-at v on c h)) | inr off ↦ off ]
+has_hangul-fails v c h wrong = grind (arith, both_ways, has_hangul-at)
 
 pub hangul_on : HangulOn
 hangul_on v = (has_hangul-at v, has_hangul-from v)
@@ -70,10 +68,7 @@ pub record HangulParts (v : VersionData) (c : ℕ) : Type 0 where
 
 pub hangul_parts : (v : VersionData) (c : ℕ) → is_hangul_row v c ≡ true → HangulParts v c
 unfolding is_hangul_row
-hangul_parts v c h =
-    let halves = and_parts (is_assigned v c && class_of v c == 0) _ h in
-    let front = and_parts (is_assigned v c) _ halves.0 in
-    record { assigned = front.0; class = eqb-true (class_of v c) 0 front.1; mapping = halves.1 }
+hangul_parts v c h = grind (arith, and_parts, eqb-true)
 
 pub decomposition_kind-on : (v : VersionData) (c : ℕ) → (has_hangul v && is_syllable c) ≡ true → decomposition_kind v c ≡ Canonical
 unfolding decomposition_kind
@@ -94,31 +89,18 @@ decomposition_mapping-off v c off = cond-false _ (syllable_pair c) (file_mapping
 pub by_arithmetic : HangulByArithmetic
 by_arithmetic v on c h =
     let row = hangul_parts v c (has_hangul-at v on c h) in
-    record {
-      assigned = row.assigned;
-      class = row.class;
-      mapping = elim (cases_Bool (is_syllable c)) [
-        | inl syllable ↦ decomposition_mapping-on v c (and_from _ _ on syllable) ∙ sym (cond-true _ _ _ syllable)
-        | inr jamo ↦ decomposition_mapping-off v c (and_right (has_hangul v) _ jamo) ∙ is_empty-true _ row.mapping ∙ sym (cond-false _ _ _ jamo)
-      ];
-    }
+    grind (arith, decomposition_mapping-on, and_from, cond-true, decomposition_mapping-off, and_right, is_empty-true, cond-false)
 
 -- ---- syllables and jamo
 
 leading_hangul : (c : ℕ) → is_among 0x1100 19 c ≡ true → is_hangul c ≡ true
-leading_hangul c h =
-    or_left (is_among 0x1100 19 c || is_among 0x1161 21 c || is_among 0x11A8 27 c) (is_syllable c)
-    (or_left (is_among 0x1100 19 c || is_among 0x1161 21 c) (is_among 0x11A8 27 c) (or_left (is_among 0x1100 19 c) (is_among 0x1161 21 c) h))
+leading_hangul c h = grind (arith, or_left)
 
 vowel_hangul : (c : ℕ) → is_among 0x1161 21 c ≡ true → is_hangul c ≡ true
-vowel_hangul c h =
-    or_left (is_among 0x1100 19 c || is_among 0x1161 21 c || is_among 0x11A8 27 c) (is_syllable c)
-    (or_left (is_among 0x1100 19 c || is_among 0x1161 21 c) (is_among 0x11A8 27 c) (or_right (is_among 0x1100 19 c) (is_among 0x1161 21 c) h))
+vowel_hangul c h = grind (arith, or_left, or_right)
 
 trailing_hangul : (c : ℕ) → is_among 0x11A8 27 c ≡ true → is_hangul c ≡ true
-trailing_hangul c h =
-    or_left (is_among 0x1100 19 c || is_among 0x1161 21 c || is_among 0x11A8 27 c) (is_syllable c)
-    (or_right (is_among 0x1100 19 c || is_among 0x1161 21 c) (is_among 0x11A8 27 c) h)
+trailing_hangul c h = grind (arith, or_left, or_right)
 
 pub syllable_hangul : (c : ℕ) → is_syllable c ≡ true → is_hangul c ≡ true
 syllable_hangul c h = or_right (is_among 0x1100 19 c || is_among 0x1161 21 c || is_among 0x11A8 27 c) (is_syllable c) h
@@ -127,11 +109,7 @@ pub syllable_row : (v : VersionData) (c : ℕ) → has_hangul v ≡ true → is_
 syllable_row v c on h = has_hangul-at v on c (syllable_hangul c h)
 
 no_syllable : (base count c : ℕ) → base + count ≤ 0xAC00 → is_among base count c ≡ true → is_syllable c ≡ false
-no_syllable base count c low h =
-    elim (cases_Bool (is_syllable c)) [
-      | inl syllable ↦ let a = among_bounds base count c h in let b = among_bounds 0xAC00 11172 c syllable in absurd (omega arith)
-      | inr other ↦ other
-    ]
+no_syllable base count c low h = grind (arith, among_bounds)
 
 pub record IsJamo (c : ℕ) : Type 0 where
   pub hangul : is_hangul c ≡ true
@@ -171,14 +149,7 @@ pub record PairShape (s : ℕ) : Type 0 where
 pub lv_shape : (s : ℕ) → is_syllable s ≡ true → (s - 0xAC00) % 28 ≡ 0 → IsLv s
 lv_shape s h even =
     let pair = pair_of_lv s even in
-    elim (pair_kinds s _ _ h pair) [
-      | inl lv ↦ record { syllable = h; leading = _; vowel = _; pair = pair; first = leading_jamo _ lv.0; second = vowel_jamo _ lv.1 }
-      | inr lvt ↦
-          let leading : ℕ = 0x1100 + (s - 0xAC00) / 588 in
-          let low = (among_bounds 0xAC00 11172 leading (and_parts (is_syllable leading) _ lvt.0).0).0 in
-          let range = among_bounds 0xAC00 11172 s h in
-          absurd (omega (arith, low, range))
-    ]
+    grind (arith, pair_kinds, leading_jamo, vowel_jamo, among_bounds, and_parts)
 
 -- a syllable with a trailing consonant
 pub record IsLvt (s : ℕ) : Type 0 where

@@ -1,8 +1,7 @@
 -- Full decomposition: the function gives the one that there is.
 use Rattle.std.proofs.Common.{◌≡◌, ◌≢◌, ℕ, zero, suc, ◌<◌, Bool, true, false, List, [], ◌∷◌, ◌++◌, length, flat_map, refl, sym, ap, subst, ◌∙◌, inl, inr, arith, append_assoc, append-nil, length-append}
-use Rattle.np_tables.proofs.Words.{cond-true, cond-false, cases_Bool, and_parts, and_from, list_all, VersionData}
-use Rattle.np_tables.proofs.Words.{is_empty, decomposition_kind, decomposition_mapping, counts, parts, Rewrites}
-use Rattle.np_tables.proofs.Words.{is_final, IsFullDecomposition, has_depth, full, full_of, SomeDecomposition}
+use Rattle.np_tables.proofs.Words.{cond-true, cond-false, cases_Bool, and_parts, and_from, list_all, VersionData, is_empty, decomposition_mapping, parts}
+use Rattle.np_tables.proofs.Words.{Rewrites, is_final, IsFullDecomposition, has_depth, full, full_of, SomeDecomposition}
 use Rattle.np_code_points.specs.Steps.{Reaches}
 use Rattle.np_code_points.proofs.StepsLemmas.{stays, stays_at, one_more, join, along}
 use Rattle.np_tables.proofs.UniqueLemmas.{at_most_one}
@@ -29,11 +28,7 @@ module _ (v : VersionData) (compat : Bool) where
   -- what counts is the mapping
   pub parts-cases : (P : List ℕ → Type 0) → P [] → (c : ℕ) → P (decomposition_mapping v c) → P (parts v compat c)
   unfolding parts
-  parts-cases P none c some =
-      elim (cases_Bool (counts compat (decomposition_kind v c))) [
-        | inl on ↦ subst P (sym (cond-true _ _ _ on)) some
-        | inr off ↦ subst P (sym (cond-false _ _ _ off)) none
-      ]
+  parts-cases P none c some = grind (arith, cond-true, cond-false)
 
   pub full-final : (n c : ℕ) → is_final v compat c ≡ true → full v compat n c ≡ c ∷ []
   unfolding full
@@ -77,8 +72,7 @@ module _ (v : VersionData) (compat : Bool) where
       list_all-append q (f x) (flat_map f xs) (each x halves.0) (final-flat_map f p q each xs halves.1)
 
   final-full : (n c : ℕ) → has_depth v n c ≡ true → list_all (is_final v compat) (full v compat n c) ≡ true
-  final-full zero c h =
-      let final = shallow_final c h in ap (list_all (is_final v compat)) (full-final zero c final) ∙ and_from _ _ final refl
+  final-full zero c h = grind (arith, shallow_final, full-final, and_from)
   final-full (suc n) c h =
       elim (cases_Bool (is_final v compat c)) [
         | inl final ↦ ap (list_all (is_final v compat)) (full-final (suc n) c final) ∙ and_from _ _ final refl
@@ -101,15 +95,7 @@ module _ (v : VersionData) (compat : Bool) where
       }
 
   rewrite_back : (zs xs ys : List ℕ) → Rewrites v compat xs ys → Rewrites v compat (xs ++ zs) (ys ++ zs)
-  rewrite_back zs xs ys r =
-      record {
-        before = r.before;
-        code = r.code;
-        after = r.after ++ zs;
-        maps = r.maps;
-        old = ap (λ l. l ++ zs) r.old ∙ append_assoc r.before _ zs;
-        new = ap (λ l. l ++ zs) r.new ∙ append_assoc r.before _ zs ∙ ap (λ l. r.before ++ l) (append_assoc (parts v compat r.code) r.after zs);
-      }
+  rewrite_back zs xs ys r = grind (arith, append_assoc)
 
   abbrev Leads : List ℕ → List ℕ → Type 0
   Leads = Reaches (Rewrites v compat)
