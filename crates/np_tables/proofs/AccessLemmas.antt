@@ -28,8 +28,7 @@ unfolding is_excluded
 is_excluded-is v c = refl
 
 pub length-empty : (xs : List ℕ) → (length xs == 0) ≡ is_empty xs
-length-empty [] = refl
-length-empty (x ∷ xs) = grind (arith, eqb-true)
+length-empty xs = grind (arith, eqb-true)
 
 pub is_hangul_row-is : (v : VersionData) (c : ℕ) → is_hangul_row v c ≡ (is_assigned v c && class_of v c == 0 && is_empty (file_mapping v c))
 unfolding is_hangul_row

@@ -10,22 +10,16 @@ use Rattle.np_tables.proofs.PrimaryLemmas.{primary-syllable}
 -- ---- the lesser of two
 
 pub at_most_left : (a b : Option ℕ) (c : ℕ) → IsAtMost a c → IsAtMost (least_of a b) c
-at_most_left None b c h = absurd h
-at_most_left (Some a) None c h = h
-at_most_left (Some a) (Some b) c h = omega arith
+at_most_left a b c h = grind arith
 
 pub at_most_right : (a b : Option ℕ) (c : ℕ) → IsAtMost b c → IsAtMost (least_of a b) c
-at_most_right None b c h = h
-at_most_right (Some a) None c h = absurd h
-at_most_right (Some a) (Some b) c h = omega arith
+at_most_right a b c h = grind arith
 
 min_cases : (P : ℕ → Type 0) (a b : ℕ) → P a → P b → P (min a b)
 min_cases P a b p q = grind arith
 
 pub least_has : (P : ℕ → Type 0) (a b : Option ℕ) → IfSome a P → IfSome b P → IfSome (least_of a b) P
-least_has P None b p q = q
-least_has P (Some a) None p q = p
-least_has P (Some a) (Some b) p q = min_cases P a b p q
+least_has P a b p q = grind (arith, min_cases)
 
 -- ---- pairs
 
@@ -178,12 +172,10 @@ module _ (v : VersionData) (cs : List Composite) where
 -- ---- the least of all
 
 at_most_low : (o : Option ℕ) (c d : ℕ) → c ≤ d → IsAtMost o c → IsAtMost o d
-at_most_low None c d le h = absurd h
-at_most_low (Some a) c d le h = omega arith
+at_most_low o c d le h = grind arith
 
 pub is_first : (P : ℕ → Type 0) (first : Option ℕ) → IfSome first P → ((c : ℕ) → P c → IsAtMost first c) → IsFirst P first
-is_first P None has least = λ c h. least c h
-is_first P (Some a) has least = record { holds = has; least = least }
+is_first P first has least = grind arith
 
 pub first_of_places : (v : VersionData) (cs : List Composite) → AreOrdered cs → AreRows v.entries → AreOfFile v cs → (first : Option ℕ) → IfSome first (IsAmbiguous v) →
     ((k c : ℕ) → k < length cs → IsSuspect v cs k c → IsAtMost first c) → IsFirst (IsAmbiguous v) first

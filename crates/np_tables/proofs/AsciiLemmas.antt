@@ -18,8 +18,7 @@ others_mask xs long =
     ∙ mask_l-mod (map (λ x. leb 128 x) xs) 64 (omega (arith, long, length-map xs (λ x. leb 128 x)))
 
 positive : (n : ℕ) → (n ≢ 0) → 0 < n
-positive zero h = absurd (h refl)
-positive (suc n) h = omega arith
+positive n h = grind arith
 
 pub no_others : (xs : List ℕ) (mask : ℕ) → length xs ≡ 16 → mask ≡ mask_l (map (λ x. leb 128 x) xs) → mask ≡ 0 → 16 ≡ prefix_len is_ascii_byte xs
 no_others xs mask long is none = sym (leading_from_mask_l (λ x. leb 128 x) xs (sym is ∙ none) ∙ long)

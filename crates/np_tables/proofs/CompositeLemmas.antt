@@ -10,9 +10,7 @@ use Rattle.np_tables.proofs.MappingLemmas.{full_of-mapped}
 -- ---- the least number that passes
 
 or_this-some : (o : Option ℕ) (b : Bool) (n k : ℕ) → or_this o b n ≡ Some k → (o ≡ Some k) ⊎ ((o ≡ None) × (b ≡ true) × (n ≡ k))
-or_this-some (Some j) b n k h = inl h
-or_this-some None true n k h = inr (refl, refl, cc)
-or_this-some None false n k h = cc
+or_this-some o b n k h = grind arith
 
 least_below-some : (p : ℕ → Bool) (n k : ℕ) → least_below p n ≡ Some k → p k ≡ true
 unfolding least_below
@@ -24,9 +22,7 @@ least_below-some p (suc n) k h =
     ]
 
 or_this-none : (o : Option ℕ) (b : Bool) (n : ℕ) → or_this o b n ≡ None → (o ≡ None) × (b ≡ false)
-or_this-none (Some j) b n h = cc
-or_this-none None true n h = cc
-or_this-none None false n h = (refl, refl)
+or_this-none o b n h = grind arith
 
 least_below-none : (p : ℕ → Bool) (n k : ℕ) → least_below p n ≡ None → k < n → p k ≡ false
 unfolding least_below
@@ -43,10 +39,7 @@ cases_Option None = inl refl
 cases_Option (Some p) = inr (p, refl)
 
 is_pair-true : (a b : ℕ) (xs : List ℕ) → is_pair a b xs ≡ true → xs ≡ a ∷ b ∷ []
-is_pair-true a b [] h = cc
-is_pair-true a b (x ∷ []) h = cc
-is_pair-true a b (x ∷ y ∷ []) h = grind (arith, and_parts, eqb-true)
-is_pair-true a b (x ∷ y ∷ z ∷ zs) h = cc
+is_pair-true a b xs h = grind (arith, and_parts, eqb-true)
 
 is_pair_from : (a b : ℕ) (xs : List ℕ) → xs ≡ a ∷ b ∷ [] → is_pair a b xs ≡ true
 is_pair_from a b xs e = ap (is_pair a b) e ∙ and_from _ _ (eq-eqb a a refl) (eq-eqb b b refl)
@@ -54,8 +47,7 @@ is_pair_from a b xs e = ap (is_pair a b) e ∙ and_from _ _ (eq-eqb a a refl) (e
 -- ---- a code point with a mapping is assigned
 
 mapped_in : (o : Option Entry) → is_empty (mapping_in o) ≡ false → is_some o ≡ true
-mapped_in None h = cc
-mapped_in (Some e) h = refl
+mapped_in o h = grind arith
 
 file_mapped-assigned : (v : VersionData) (c : ℕ) → is_empty (file_mapping v c) ≡ false → is_assigned v c ≡ true
 unfolding file_mapping is_assigned
@@ -68,9 +60,7 @@ mapped-assigned v c h = grind (arith, and_parts, hangul_parts, syllable_row, fil
 -- ---- primary composites
 
 canonical_only : (kind : MapKind) → is_canonical kind ≡ true → kind ≡ Canonical
-canonical_only Plain h = cc
-canonical_only Canonical h = refl
-canonical_only Compatibility h = cc
+canonical_only kind h = grind arith
 
 -- a pair of which the first is a starter
 record StarterPair (ccc : ℕ → ℕ) (xs : List ℕ) : Type 0 where
@@ -80,14 +70,10 @@ record StarterPair (ccc : ℕ → ℕ) (xs : List ℕ) : Type 0 where
   starter : ccc first ≡ 0
 
 starter_pair : (ccc : ℕ → ℕ) (xs : List ℕ) → is_starter_pair ccc xs ≡ true → StarterPair ccc xs
-starter_pair ccc [] h = cc
-starter_pair ccc (a ∷ []) h = cc
-starter_pair ccc (a ∷ b ∷ []) h = record { first = a; second = b; pair = refl; starter = eqb-true (ccc a) 0 h }
-starter_pair ccc (a ∷ b ∷ c ∷ cs) h = cc
+starter_pair ccc xs h = grind (arith, eqb-true)
 
 not_so : (b : Bool) → not b ≡ true → b ≡ false
-not_so true h = cc
-not_so false h = refl
+not_so b h = grind arith
 
 -- the relation and the test
 pub primary-from : (v : VersionData) (c : ℕ) → is_primary v c ≡ true → IsPrimary v c

@@ -13,9 +13,7 @@ length_zero [] h = refl
 length_zero (x ∷ xs) h = absurd (omega arith)
 
 plain_none : (kind : MapKind) (xs : List ℕ) → HasLength kind (length xs) → counts true kind ≡ false → xs ≡ []
-plain_none Plain xs fits h = length_zero xs fits
-plain_none Canonical xs fits h = cc
-plain_none Compatibility xs fits h = cc
+plain_none kind xs fits h = grind (arith, length_zero)
 
 entry_at-fits : (es : List Entry) (c : ℕ) → AreRows es → HasLength (kind_in (entry_at es c)) (length (mapping_in (entry_at es c)))
 unfolding entry_at
@@ -44,8 +42,7 @@ module _ (v : VersionData) (rows : AreRows v.entries) where
 module _ (v : VersionData) where
   pub bare_depth : (n c : ℕ) → decomposition_mapping v c ≡ [] → has_depth v n c ≡ true
   unfolding has_depth
-  bare_depth zero c e = ap is_empty e
-  bare_depth (suc n) c e = ap (list_all (has_depth v n)) e
+  bare_depth n c e = grind arith
 
   pub bare_full : (n c : ℕ) → parts v true c ≡ [] → full v true n c ≡ c ∷ []
   bare_full n c e = full-final v true n c (ap is_empty e)
@@ -63,9 +60,7 @@ module _ (v : VersionData) where
 
   mark-at : (n c : ℕ) (xs : List ℕ) → decomposition_mapping v c ≡ xs → parts v true c ≡ xs → mark v n c ≡ mapping_mark v n xs
   unfolding mark mapping_mark parts_mark
-  mark-at n c [] e p = ap (λ b. marked b (length (full v true n c))) (bare_depth n c e) ∙ ap (λ l. marked true (length l)) (bare_full n c p)
-  mark-at zero c (x ∷ xs) e p = ap (λ b. marked b (length (full v true zero c))) (zero_depth c x xs e)
-  mark-at (suc n) c (x ∷ xs) e p = grind (arith, suc_depth, suc_full)
+  mark-at n c xs e p = grind (arith, bare_depth, bare_full, zero_depth, suc_depth, suc_full)
 
 pub mark-mapping : (v : VersionData) → AreRows v.entries → (n c : ℕ) → mark v n c ≡ mapping_mark v n (decomposition_mapping v c)
 mark-mapping v rows n c = mark-at v n c (decomposition_mapping v c) refl (parts-mapping v rows c)
@@ -80,18 +75,13 @@ mark-file v rows n c other = mark-mapping v rows n c ∙ ap (mapping_mark v n) (
 -- ---- a mark is 0 exactly where the depth is over the round
 
 marked-zero : (known : Bool) (n : ℕ) → 0 < n → marked known n ≡ 0 → known ≡ false
-marked-zero true n long h = absurd (omega arith)
-marked-zero false n long h = refl
+marked-zero known n long h = grind arith
 
 marked-more : (known : Bool) (n : ℕ) → 0 < marked known n → known ≡ true
-marked-more true n h = refl
-marked-more false n h = absurd (omega arith)
+marked-more known n h = grind arith
 
 marked-same : (a b : Bool) (m n : ℕ) → 0 < m → 0 < n → marked a m ≡ marked b n → a ≡ b
-marked-same true true m n some other h = refl
-marked-same true false m n some other h = absurd (omega arith)
-marked-same false true m n some other h = absurd (omega arith)
-marked-same false false m n some other h = refl
+marked-same a b m n some other h = grind arith
 
 module _ (v : VersionData) where
   pub mark-zero : (n c : ℕ) → mark v n c ≡ 0 → has_depth v n c ≡ false
@@ -145,8 +135,7 @@ module _ (v : VersionData) (n : ℕ) (still : (c : ℕ) → mark v (suc n) c ≡
       ]
 
   settled_marked : (m : ℕ) → n ≤ m → (xs : List ℕ) (b : Bool) → list_all (has_depth v n) xs ≡ b → marked b (length (flat_map (full v true m) xs)) ≡ marked b (length (flat_map (full v true n) xs))
-  settled_marked m le xs true h = grind (arith, flat_map-same, settled_full)
-  settled_marked m le xs false h = refl
+  settled_marked m le xs b h = grind (arith, flat_map-same, settled_full)
 
   settled_parts : (m : ℕ) → n ≤ m → (xs : List ℕ) → parts_mark v m xs ≡ parts_mark v n xs
   unfolding parts_mark
@@ -154,8 +143,7 @@ module _ (v : VersionData) (n : ℕ) (still : (c : ℕ) → mark v (suc n) c ≡
 
   settled_mapping : (m : ℕ) → n ≤ m → (xs : List ℕ) → mapping_mark v (suc m) xs ≡ mapping_mark v (suc n) xs
   unfolding mapping_mark
-  settled_mapping m le [] = refl
-  settled_mapping m le (x ∷ xs) = settled_parts m le (x ∷ xs)
+  settled_mapping m le xs = grind (arith, settled_parts)
 
   map-same : (f g : List ℕ → ℕ) → ((xs : List ℕ) → f xs ≡ g xs) → (es : List Entry) → map (λ e. f e.mapping) es ≡ map (λ e. g e.mapping) es
   map-same f g same [] = refl
@@ -193,8 +181,7 @@ list_all-weaker p q weaker (x ∷ xs) all =
     let halves = and_parts (p x) (list_all p xs) all in and_from _ _ (weaker x halves.0) (list_all-weaker p q weaker xs halves.1)
 
 all_empty : (p : ℕ → Bool) (xs : List ℕ) → is_empty xs ≡ true → list_all p xs ≡ true
-all_empty p [] h = refl
-all_empty p (x ∷ xs) h = cc
+all_empty p xs h = grind arith
 
 module _ (v : VersionData) where
   depth_more : (n c : ℕ) → has_depth v n c ≡ true → has_depth v (suc n) c ≡ true
@@ -208,6 +195,4 @@ module _ (v : VersionData) where
 
   pub kept_mark : (n : ℕ) (xs : List ℕ) → 0 < mapping_mark v n xs → mapping_mark v (suc n) xs ≡ mapping_mark v n xs
   unfolding mapping_mark
-  kept_mark n [] some = refl
-  kept_mark zero (x ∷ xs) some = absurd (omega arith)
-  kept_mark (suc n) (x ∷ xs) some = kept_parts n (x ∷ xs) some
+  kept_mark n xs some = grind (arith, kept_parts)

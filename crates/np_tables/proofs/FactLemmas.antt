@@ -26,8 +26,7 @@ unfolding class_of
 classes-at v c rows = class_bound (entry_at v.entries c) (λ e is. entry_at-row v.entries c e rows is)
 
 scalars_in : (o : Option Entry) → ((e : Entry) → o ≡ Some e → IsRow e) → list_all scalar (mapping_in o) ≡ true
-scalars_in None row = refl
-scalars_in (Some e) row = (row e refl).scalars
+scalars_in o row = grind arith
 
 scalar_low : (n : ℕ) → n < 0xD800 → scalar n ≡ true
 scalar_low n h = cond-true _ _ _ (lt-ltb n 0xD800 h)
@@ -81,8 +80,7 @@ unfolding decomposition_mapping
 lacks_in_file v c h = grind (arith, and_parts, both_ways, cond-true, pair_assigned, cond-false)
 
 empty_all : (p : ℕ → Bool) (xs : List ℕ) → is_empty xs ≡ true → list_all p xs ≡ true
-empty_all p [] h = refl
-empty_all p (x ∷ xs) h = cc
+empty_all p xs h = grind arith
 
 pub file_lacks : (v : VersionData) (c : ℕ) → list_all (is_assigned v) (file_mapping v c) ≡ false → IsMappedToUnassigned v c
 unfolding decomposition_mapping

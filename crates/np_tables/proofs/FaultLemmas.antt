@@ -147,12 +147,7 @@ AreKinds v g =
     × (number_of g ≡ 5 → IsHangulWrong v (place_of g))
 
 kinds : (v : VersionData) (g : TableFault) → HasFault v g → AreKinds v g
-kinds v (MapsToUnassigned c) h = (λ n. h, λ n. absurd (omega arith), λ n. absurd (omega arith), λ n. absurd (omega arith), λ n. absurd (omega arith))
-kinds v (TooDeep c) h = (λ n. absurd (omega arith), λ n. h, λ n. absurd (omega arith), λ n. absurd (omega arith), λ n. absurd (omega arith))
-kinds v (TooLong c) h = (λ n. absurd (omega arith), λ n. absurd (omega arith), λ n. h, λ n. absurd (omega arith), λ n. absurd (omega arith))
-kinds v (AmbiguousPair c) h = (λ n. absurd (omega arith), λ n. absurd (omega arith), λ n. absurd (omega arith), λ n. h, λ n. absurd (omega arith))
-kinds v (HangulWrong c) h = (λ n. absurd (omega arith), λ n. absurd (omega arith), λ n. absurd (omega arith), λ n. absurd (omega arith), λ n. h)
-kinds v Memory h = absurd h
+kinds v g h = grind arith
 
 kind_mapped : (v : VersionData) → IsKind v 0 (IsMappedToUnassigned v) MapsToUnassigned
 kind_mapped v = record { place = λ c. refl; number = λ c. omega arith; has = λ c h. h; each = λ g h. (kinds v g h).0 }
@@ -171,17 +166,11 @@ kind_hangul v = record { place = λ c. refl; number = λ c. omega arith; has = �
 
 -- the number of a fault that a version has is at most 5
 number-le : (v : VersionData) (g : TableFault) → HasFault v g → number_of g ≤ 5
-number-le v (MapsToUnassigned c) h = omega arith
-number-le v (TooDeep c) h = omega arith
-number-le v (TooLong c) h = omega arith
-number-le v (AmbiguousPair c) h = omega arith
-number-le v (HangulWrong c) h = omega arith
-number-le v Memory h = absurd h
+number-le v g h = grind arith
 
 told : (v : VersionData) (o : Option TableFault) → FirstTo v 5 o → MatchOption o (IsFaultless v) (IsLeastFault v)
 unfolding FirstTo
-told v None first = λ g h. (let low = first g h in let high = number-le v g h in absurd (omega arith))
-told v (Some f) first = record { holds = first.0; least = λ g h. first.2 g h (number-le v g h) }
+told v o first = grind (arith, number-le)
 
 first_step : (v : VersionData) (code : Option ℕ) → IsFirst (IsMappedToUnassigned v) code → FirstTo v 1 (option_map MapsToUnassigned code)
 first_step v code h = step v 0 (IsMappedToUnassigned v) MapsToUnassigned (kind_mapped v) None code (first_none v) h

@@ -17,8 +17,7 @@ nothing_in : (x : Composite) → ¬ Contains [] x
 nothing_in x h = omega (arith, h.1)
 
 only_at : (y x : Composite) (k : ℕ) → k < 1 → slice_index_or (y ∷ []) k x ≡ x → y ≡ x
-only_at y x zero lt h = h
-only_at y x (suc k) lt h = absurd (omega arith)
+only_at y x k lt h = grind arith
 
 only : (y x : Composite) → Contains (y ∷ []) x → y ≡ x
 only y x h = only_at y x h.0 h.1 h.2
@@ -53,18 +52,13 @@ pub record FromRow (primary : Bool) (c : ℕ) (mapping : List ℕ) (x : Composit
   pub code : x.code ≡ c
 
 from_row : (primary : Bool) (c : ℕ) (mapping : List ℕ) (x : Composite) → Contains (pair_in primary c mapping) x → FromRow primary c mapping x
-from_row primary c [] x h = absurd (nothing_in x h)
-from_row primary c (a ∷ []) x h = absurd (nothing_in x h)
-from_row true c (a ∷ b ∷ []) x h = grind (arith, only)
-from_row false c (a ∷ b ∷ []) x h = absurd (nothing_in x h)
-from_row primary c (a ∷ b ∷ y ∷ ys) x h = absurd (nothing_in x h)
+from_row primary c mapping x h = grind (arith, nothing_in, only)
 
 to_row : (primary : Bool) (c a b : ℕ) (mapping : List ℕ) → primary ≡ true → mapping ≡ a ∷ b ∷ [] → Contains (pair_in primary c mapping) (record { first = a; second = b; code = c })
 to_row primary c a b mapping passes pair = grind arith
 
 row_of : (o : Option Entry) → is_empty (mapping_in o) ≡ false → (e : Entry) × (o ≡ Some e)
-row_of None h = cc
-row_of (Some e) h = (e, refl)
+row_of o h = grind arith
 
 mapped_row : (v : VersionData) (c : ℕ) → is_empty (file_mapping v c) ≡ false → (e : Entry) × (entry_at v.entries c ≡ Some e)
 unfolding file_mapping

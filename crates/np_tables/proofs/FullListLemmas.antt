@@ -12,18 +12,15 @@ use Rattle.np_tables.proofs.FileRowLemmas.{file_mapping-found, file_kind-found, 
 module _ (v : VersionData) (compat : Bool) where
   pub full-bottom : (n c : ℕ) → n ≡ 0 → full v compat n c ≡ c ∷ []
   unfolding full
-  full-bottom zero c h = refl
-  full-bottom (suc n) c h = absurd (omega arith)
+  full-bottom n c h = grind arith
 
   pub full-kept : (n c : ℕ) → parts v compat c ≡ [] → full v compat n c ≡ c ∷ []
   unfolding full
-  full-kept zero c h = refl
-  full-kept (suc n) c h = cond-true _ _ _ (ap is_empty h)
+  full-kept n c h = grind (arith, cond-true)
 
   pub full-level : (n c : ℕ) (xs : List ℕ) → 0 < n → parts v compat c ≡ xs → is_empty xs ≡ false → full v compat n c ≡ flat_map (full v compat (n - 1)) xs
   unfolding full
-  full-level zero c xs lt h some = absurd (omega arith)
-  full-level (suc n) c xs lt h some = grind (arith, cond-false)
+  full-level n c xs lt h some = grind (arith, cond-false)
 
   -- ---- the mapping that counts
 
@@ -59,8 +56,7 @@ nil_from_test [] t is h = refl
 nil_from_test (x ∷ xs) t is h = let e = eqb-true (suc (length xs)) 0 (sym is ∙ h) in absurd (omega arith)
 
 pub some_from_test : (xs : List ℕ) (t : Bool) → t ≡ (length xs == 0) → t ≡ false → is_empty xs ≡ false
-some_from_test [] t is h = cc
-some_from_test (x ∷ xs) t is h = refl
+some_from_test xs t is h = grind arith
 
 -- ---- what is lent for a row
 

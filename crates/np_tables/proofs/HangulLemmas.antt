@@ -28,12 +28,10 @@ all_below-from p (suc n) each = and_from _ _ (each n) (all_below-from p n each)
 -- ---- where it is on
 
 then_so : (a b : Bool) → (not a || b) ≡ true → a ≡ true → b ≡ true
-then_so true b h is = h
-then_so false b h is = cc
+then_so a b h is = grind arith
 
 so_from : (a b : Bool) → (a ≡ true → b ≡ true) → (not a || b) ≡ true
-so_from true b h = h refl
-so_from false b h = refl
+so_from a b h = grind arith
 
 pub has_hangul-at : (v : VersionData) → has_hangul v ≡ true → (c : ℕ) → is_hangul c ≡ true → is_hangul_row v c ≡ true
 unfolding has_hangul

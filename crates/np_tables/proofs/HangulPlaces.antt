@@ -9,16 +9,13 @@ unfoldable pub Runs : ℕ → Type 0
 Runs c = ((0x1100 ≤ c) × (c < 0x1113)) ⊎ (((0x1161 ≤ c) × (c < 0x1176)) ⊎ (((0x11A8 ≤ c) × (c < 0x11C3)) ⊎ ((0xAC00 ≤ c) × (c < 0xD7A4))))
 
 or_cases : (a b : Bool) → (a || b) ≡ true → (a ≡ true) ⊎ (b ≡ true)
-or_cases true b h = inl refl
-or_cases false b h = inr h
+or_cases a b h = grind arith
 
 or_left : (a b : Bool) → a ≡ true → (a || b) ≡ true
-or_left true b h = refl
-or_left false b h = cc
+or_left a b h = grind arith
 
 or_right : (a b : Bool) → b ≡ true → (a || b) ≡ true
-or_right true b h = refl
-or_right false b h = h
+or_right a b h = grind arith
 
 pub hangul_runs : (c : ℕ) → is_hangul c ≡ true → Runs c
 unfolding Runs

@@ -55,12 +55,10 @@ begins_read text bytes lead_byte second third code count same utf8 low high is_l
 -- ---- the bits of a mask, one after the other
 
 positive : (n : ℕ) → (n ≢ 0) → 0 < n
-positive zero h = absurd (h refl)
-positive (suc n) h = omega arith
+positive n h = grind arith
 
 half : (b : Bool) (bs : List Bool) → mask_l (b ∷ bs) / 2 ≡ mask_l bs
-half true bs = omega arith
-half false bs = omega arith
+half b bs = grind arith
 
 mask_drop : (ms : List Bool) (n : ℕ) → mask_l ms / 2 ^ n ≡ mask_l (drop n ms)
 mask_drop ms zero = div-one (mask_l ms)
@@ -70,8 +68,7 @@ mask_drop (b ∷ bs) (suc n) =
     ap (λ k. mask_l (b ∷ bs) / k) doubled ∙ sym (div-div-eq-div-mul (mask_l (b ∷ bs)) 2 (2 ^ n)) ∙ ap (λ k. k / 2 ^ n) (half b bs) ∙ mask_drop bs n
 
 none_fails : (b : Bool) (n l m : ℕ) → n ≤ l → cond (not b) (1 + n) 0 ≡ 1 + l → (n ≡ l → m ≡ 0) → cond b 1 0 + 2 * m ≡ 0
-none_fails true n l m le e ih = absurd (omega arith)
-none_fails false n l m le e ih = let z = ih (omega arith) in omega arith
+none_fails b n l m le e ih = grind arith
 
 no_lead_bytes : (xs : List ℕ) → prefix_len (λ x. not (is_lead_byte x)) xs ≡ length xs → mask_l (map is_lead_byte xs) ≡ 0
 no_lead_bytes [] e = refl

@@ -13,16 +13,13 @@ list_all-append p (x ∷ xs) ys front back =
     let halves = and_parts (p x) (list_all p xs) front in and_from _ _ halves.0 (list_all-append p xs ys halves.1 back)
 
 pub is_empty-false : (xs : List ℕ) → is_empty xs ≡ false → xs ≢ []
-is_empty-false [] h e = cc
-is_empty-false (x ∷ xs) h e = cc
+is_empty-false xs h e = grind arith
 
 pub is_empty_from : (xs : List ℕ) → xs ≢ [] → is_empty xs ≡ false
-is_empty_from [] h = absurd (h refl)
-is_empty_from (x ∷ xs) h = refl
+is_empty_from xs h = grind arith
 
 flat_map-some : (f : ℕ → List ℕ) → ((c : ℕ) → 0 < length (f c)) → (xs : List ℕ) → is_empty xs ≡ false → 0 < length (flat_map f xs)
-flat_map-some f some [] h = cc
-flat_map-some f some (x ∷ xs) h = omega (arith, some x, length-append (f x) (flat_map f xs))
+flat_map-some f some xs h = grind (arith, length-append)
 
 module _ (v : VersionData) (compat : Bool) where
   -- what counts is the mapping
@@ -32,8 +29,7 @@ module _ (v : VersionData) (compat : Bool) where
 
   pub full-final : (n c : ℕ) → is_final v compat c ≡ true → full v compat n c ≡ c ∷ []
   unfolding full
-  full-final zero c h = refl
-  full-final (suc n) c h = cond-true _ _ _ h
+  full-final n c h = grind (arith, cond-true)
 
   pub full-mapped : (n c : ℕ) → is_final v compat c ≡ false → full v compat (suc n) c ≡ flat_map (full v compat n) (parts v compat c)
   unfolding full
