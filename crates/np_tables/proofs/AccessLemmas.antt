@@ -1,5 +1,5 @@
 -- What is read of a row.
-use Rattle.std.proofs.Common.{◌≡◌, ℕ, ◌&&◌, ◌==◌, List, [], ◌∷◌, length, Option, is_some, refl, ap, arith, eqb-true}
+use Rattle.std.proofs.Common.{◌≡◌, ℕ, ◌&&◌, ◌==◌, List, length, Option, is_some, refl, ap, arith, eqb-true}
 use Rattle.np_tables.proofs.Words.{Entry, is_listed, VersionData, entry_at, class_in, kind_in, mapping_in, is_assigned, class_of, file_kind, file_mapping}
 use Rattle.np_tables.proofs.Words.{is_canonical, is_excluded, is_empty, is_hangul_row, is_right_entry, is_right_at}
 

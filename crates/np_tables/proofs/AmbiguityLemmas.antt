@@ -1,5 +1,5 @@
 -- Pairs that two primary composites share.
-use Rattle.std.proofs.Common.{◌≡◌, ℕ, zero, suc, ◌+◌, ◌-◌, ◌<◌, ◌≤◌, max, min, true, ◌&&◌, List, [], ◌∷◌, length, get_or, Some, None, Option, IfSome, refl, sym, ap, ◌∙◌, arith, inl, inr}
+use Rattle.std.proofs.Common.{◌≡◌, ℕ, zero, suc, ◌+◌, ◌-◌, ◌<◌, ◌≤◌, max, true, ◌&&◌, List, [], ◌∷◌, length, get_or, Some, Option, IfSome, refl, sym, ap, ◌∙◌, arith, inl, inr}
 use Rattle.np_tables.proofs.Words.{slice_get, cases_Bool, cases_lt, and_parts, both_ways, same_Some, slice_get_within, get_or_from_slice_get}
 use Rattle.np_tables.proofs.Words.{slice_get-get_or, get_or_default, AreRows, is_syllable, syllable_pair, VersionData, has_hangul, IsCompositeOf, IsAmbiguous}
 use Rattle.np_tables.proofs.Words.{IsFirst, Composite, Lists, AreOfFile, AreOrdered, IsAtMost, least_of, HasSmallerTwin, IsSuspect}
@@ -15,11 +15,8 @@ at_most_left a b c h = grind arith
 pub at_most_right : (a b : Option ℕ) (c : ℕ) → IsAtMost b c → IsAtMost (least_of a b) c
 at_most_right a b c h = grind arith
 
-min_cases : (P : ℕ → Type 0) (a b : ℕ) → P a → P b → P (min a b)
-min_cases P a b p q = grind arith
-
 pub least_has : (P : ℕ → Type 0) (a b : Option ℕ) → IfSome a P → IfSome b P → IfSome (least_of a b) P
-least_has P a b p q = grind (arith, min_cases)
+least_has P a b p q = grind arith
 
 -- ---- pairs
 

@@ -1,8 +1,8 @@
 -- The composite of a pair, and what it decomposes to.
-use Rattle.std.proofs.Common.{◌≡◌, ℕ, zero, suc, ◌<◌, ◌⊎◌, Bool, true, false, not, List, [], ◌∷◌, ◌++◌, Option, Some, None, is_some, IsTrue, ◌↔◌, refl, sym, ap, ◌∙◌, arith, inl, inr, eqb-true, eq-eqb, append-nil}
-use Rattle.np_tables.proofs.Words.{cond-true, cond-false, cases_eq, and_parts, and_from, both_ways, VersionData, entry_at, is_assigned, class_of}
-use Rattle.np_tables.proofs.Words.{file_mapping, mapping_in, is_canonical, is_empty, decomposition_mapping, Entry, MapKind, Plain, Canonical, Compatibility}
-use Rattle.np_tables.proofs.Words.{parts, full_of, IsPrimary, IsCompositeOf, is_starter_pair, is_primary, or_this, least_below, is_pair, composite, IsSound}
+use Rattle.std.proofs.Common.{◌≡◌, ℕ, zero, suc, ◌<◌, ◌⊎◌, Bool, true, false, not, List, [], ◌∷◌, ◌++◌, Option, Some, None, IsTrue, ◌↔◌, refl, sym, ap, ◌∙◌, arith, inl, inr, eqb-true, eq-eqb, append-nil}
+use Rattle.np_tables.proofs.Words.{cond-true, cond-false, cases_eq, and_parts, and_from, both_ways, VersionData, is_assigned, class_of, file_mapping}
+use Rattle.np_tables.proofs.Words.{is_empty, decomposition_mapping, parts, full_of, IsPrimary, IsCompositeOf, is_primary, or_this, least_below, is_pair}
+use Rattle.np_tables.proofs.Words.{composite, IsSound}
 use Rattle.np_tables.proofs.HangulLemmas.{hangul_parts, syllable_row}
 use Rattle.np_code_points.proofs.HangulLemmas.{first_same}
 use Rattle.np_tables.proofs.MappingLemmas.{full_of-mapped}
@@ -46,21 +46,15 @@ is_pair_from a b xs e = ap (is_pair a b) e ∙ and_from _ _ (eq-eqb a a refl) (e
 
 -- ---- a code point with a mapping is assigned
 
-mapped_in : (o : Option Entry) → is_empty (mapping_in o) ≡ false → is_some o ≡ true
-mapped_in o h = grind arith
-
 file_mapped-assigned : (v : VersionData) (c : ℕ) → is_empty (file_mapping v c) ≡ false → is_assigned v c ≡ true
 unfolding file_mapping is_assigned
-file_mapped-assigned v c h = mapped_in (entry_at v.entries c) h
+file_mapped-assigned v c h = grind arith
 
 pub mapped-assigned : (v : VersionData) (c : ℕ) → is_empty (decomposition_mapping v c) ≡ false → is_assigned v c ≡ true
 unfolding decomposition_mapping
 mapped-assigned v c h = grind (arith, and_parts, hangul_parts, syllable_row, file_mapped-assigned, cond-false)
 
 -- ---- primary composites
-
-canonical_only : (kind : MapKind) → is_canonical kind ≡ true → kind ≡ Canonical
-canonical_only kind h = grind arith
 
 -- a pair of which the first is a starter
 record StarterPair (ccc : ℕ → ℕ) (xs : List ℕ) : Type 0 where
@@ -69,16 +63,13 @@ record StarterPair (ccc : ℕ → ℕ) (xs : List ℕ) : Type 0 where
   pair : xs ≡ first ∷ second ∷ []
   starter : ccc first ≡ 0
 
-starter_pair : (ccc : ℕ → ℕ) (xs : List ℕ) → is_starter_pair ccc xs ≡ true → StarterPair ccc xs
-starter_pair ccc xs h = grind (arith, eqb-true)
-
 not_so : (b : Bool) → not b ≡ true → b ≡ false
 not_so b h = grind arith
 
 -- the relation and the test
 pub primary-from : (v : VersionData) (c : ℕ) → is_primary v c ≡ true → IsPrimary v c
 unfolding is_primary
-primary-from v c h = grind (arith, and_parts, starter_pair, canonical_only, eqb-true, not_so)
+primary-from v c h = grind (arith, and_parts, eqb-true, not_so)
 
 pub primary-test : (v : VersionData) (c : ℕ) → IsPrimary v c → is_primary v c ≡ true
 unfolding is_primary

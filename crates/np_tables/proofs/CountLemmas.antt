@@ -1,5 +1,5 @@
 -- The assigned code points are counted by the sizes of the rows.
-use Rattle.std.proofs.Common.{◌≡◌, ℕ, zero, suc, ◌+◌, ◌-◌, ◌<◌, ◌≤◌, ◌⊎◌, Bool, true, false, nat_le, List, [], ◌∷◌, length, drop, Some, None, is_some, refl, sym, ap, ◌∙◌, subst, arith, inl, inr, le-leb, if◌then◌else◌}
+use Rattle.std.proofs.Common.{◌≡◌, ℕ, zero, suc, ◌+◌, ◌-◌, ◌<◌, ◌≤◌, ◌⊎◌, Bool, true, false, List, [], ◌∷◌, length, drop, Some, None, is_some, refl, sym, ap, ◌∙◌, subst, arith, inl, inr, le-leb, if◌then◌else◌}
 use Rattle.np_tables.proofs.Words.{slice_get, cases_lt, and_parts, leb-true, and_from, drop_all, none-some, same_Some, Entry, IsRow, IsBefore, AreRows}
 use Rattle.np_tables.proofs.Words.{lies_in, VersionData, entry_at, is_assigned}
 use Rattle.np_tables.specs.Counts.{count_below, assigned_count}
@@ -80,13 +80,10 @@ after_none e (f ∷ fs) c before rows le =
     let up = rows.0.rises in
     entry_at-miss f fs c (below_out f c (omega arith)) ∙ after_none f fs c rows.1 rows.2 (omega arith)
 
-high_end : (e : Entry) (c : ℕ) → lies_in (Some e) c ≡ true → c ≤ e.last
-high_end e c h = leb-true c e.last (and_parts (nat_le e.first c) (nat_le c e.last) h).1
-
 listed_either : (e : Entry) (es : List Entry) (c : ℕ) → IsBefore e es → AreRows es
     → ((lies_in (Some e) c ≡ true) × (listed es c ≡ false) × (listed (e ∷ es) c ≡ true)) ⊎ ((lies_in (Some e) c ≡ false) × (listed es c ≡ listed (e ∷ es) c))
 unfolding listed
-listed_either e es c before rows = grind (arith, after_none, high_end, entry_at-hit, entry_at-miss)
+listed_either e es c before rows = grind (arith, after_none, entry_at-hit, entry_at-miss, leb-true, and_parts)
 
 count-listed : (es : List Entry) (n : ℕ) → AreRows es → ((e : Entry) → IsRow e → e.last < n) → count_below (listed es) n ≡ sizes es
 unfolding sizes listed

@@ -1,9 +1,8 @@
 -- Marks of code points, round by round.
 use Rattle.std.proofs.Common.{◌≡◌, ℕ, zero, suc, ◌<◌, ◌≤◌, Bool, true, false, ◌&&◌, min, List, [], ◌∷◌, map, flat_map, length, refl, sym, ap, subst, ◌∙◌, leb, inl, inr, arith}
 use Rattle.np_tables.proofs.Words.{cond-true, cond-false, cases_Bool, cases_eq, both_ways, and_parts, and_from, list_all, Entry, AreRows, HasLength, MapKind}
-use Rattle.np_tables.proofs.Words.{Plain, Canonical, Compatibility, is_syllable, VersionData, entry_at, kind_in, mapping_in, is_empty, file_kind}
-use Rattle.np_tables.proofs.Words.{file_mapping, has_hangul, decomposition_kind, decomposition_mapping, counts, parts, has_depth, full, marked, mark}
-use Rattle.np_tables.proofs.Words.{parts_mark, mapping_mark, row_marks}
+use Rattle.np_tables.proofs.Words.{is_syllable, VersionData, entry_at, kind_in, mapping_in, is_empty, file_kind, file_mapping, has_hangul, decomposition_kind}
+use Rattle.np_tables.proofs.Words.{decomposition_mapping, counts, parts, has_depth, full, mark, parts_mark, mapping_mark, row_marks}
 use Rattle.np_tables.proofs.MappingLemmas.{full-final, full-mapped, full-more, full-some, flat_map-same}
 
 -- ---- the mapping that counts for the compatibility decomposition is the mapping of the file
@@ -74,23 +73,14 @@ mark-file v rows n c other = mark-mapping v rows n c ∙ ap (mapping_mark v n) (
 
 -- ---- a mark is 0 exactly where the depth is over the round
 
-marked-zero : (known : Bool) (n : ℕ) → 0 < n → marked known n ≡ 0 → known ≡ false
-marked-zero known n long h = grind arith
-
-marked-more : (known : Bool) (n : ℕ) → 0 < marked known n → known ≡ true
-marked-more known n h = grind arith
-
-marked-same : (a b : Bool) (m n : ℕ) → 0 < m → 0 < n → marked a m ≡ marked b n → a ≡ b
-marked-same a b m n some other h = grind arith
-
 module _ (v : VersionData) where
   pub mark-zero : (n c : ℕ) → mark v n c ≡ 0 → has_depth v n c ≡ false
   unfolding mark
-  mark-zero n c h = marked-zero _ _ (full-some v true n c) h
+  mark-zero n c h = grind (arith, full-some)
 
   pub mark-more : (n c : ℕ) → 0 < mark v n c → has_depth v n c ≡ true
   unfolding mark
-  mark-more n c h = marked-more (has_depth v n c) _ h
+  mark-more n c h = grind arith
 
   pub mark-deep : (n c : ℕ) → has_depth v n c ≡ false → mark v n c ≡ 0
   unfolding mark
@@ -102,7 +92,7 @@ module _ (v : VersionData) where
 
   same_depth : (m n c : ℕ) → mark v m c ≡ mark v n c → has_depth v m c ≡ has_depth v n c
   unfolding mark
-  same_depth m n c h = marked-same (has_depth v m c) (has_depth v n c) _ _ (full-some v true m c) (full-some v true n c) h
+  same_depth m n c h = grind (arith, full-some)
 
 -- ---- a round that changes no mark is the last one that changes any
 
@@ -134,12 +124,9 @@ module _ (v : VersionData) (n : ℕ) (still : (c : ℕ) → mark v (suc n) c ≡
             full-more v true m c (settled_depth m below c ∙ h) ∙ settled_full m below c h
       ]
 
-  settled_marked : (m : ℕ) → n ≤ m → (xs : List ℕ) (b : Bool) → list_all (has_depth v n) xs ≡ b → marked b (length (flat_map (full v true m) xs)) ≡ marked b (length (flat_map (full v true n) xs))
-  settled_marked m le xs b h = grind (arith, flat_map-same, settled_full)
-
   settled_parts : (m : ℕ) → n ≤ m → (xs : List ℕ) → parts_mark v m xs ≡ parts_mark v n xs
   unfolding parts_mark
-  settled_parts m le xs = grind (arith, list_all-same, settled_depth, settled_marked)
+  settled_parts m le xs = grind (arith, list_all-same, settled_depth, flat_map-same, settled_full)
 
   settled_mapping : (m : ℕ) → n ≤ m → (xs : List ℕ) → mapping_mark v (suc m) xs ≡ mapping_mark v (suc n) xs
   unfolding mapping_mark
@@ -180,18 +167,15 @@ list_all-weaker p q weaker [] all = refl
 list_all-weaker p q weaker (x ∷ xs) all =
     let halves = and_parts (p x) (list_all p xs) all in and_from _ _ (weaker x halves.0) (list_all-weaker p q weaker xs halves.1)
 
-all_empty : (p : ℕ → Bool) (xs : List ℕ) → is_empty xs ≡ true → list_all p xs ≡ true
-all_empty p xs h = grind arith
-
 module _ (v : VersionData) where
   depth_more : (n c : ℕ) → has_depth v n c ≡ true → has_depth v (suc n) c ≡ true
   unfolding has_depth
-  depth_more zero c h = all_empty (has_depth v zero) (decomposition_mapping v c) h
+  depth_more zero c h = grind arith
   depth_more (suc n) c h = list_all-weaker (has_depth v n) (has_depth v (suc n)) (depth_more n) (decomposition_mapping v c) h
 
   kept_parts : (n : ℕ) (xs : List ℕ) → 0 < parts_mark v n xs → parts_mark v (suc n) xs ≡ parts_mark v n xs
   unfolding parts_mark
-  kept_parts n xs some = grind (arith, marked-more, list_all-weaker, depth_more, flat_map-same, full-more)
+  kept_parts n xs some = grind (arith, list_all-weaker, depth_more, flat_map-same, full-more)
 
   pub kept_mark : (n : ℕ) (xs : List ℕ) → 0 < mapping_mark v n xs → mapping_mark v (suc n) xs ≡ mapping_mark v n xs
   unfolding mapping_mark

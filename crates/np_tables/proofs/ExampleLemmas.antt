@@ -46,9 +46,6 @@ letter_is = record { rises = omega arith; bounded = omega arith; class = omega a
 letter_with_ring_is : IsRow letter_with_ring
 letter_with_ring_is = grind arith
 
-ring_is : IsRow ring
-ring_is = record { rises = omega arith; bounded = omega arith; class = omega arith; fits = refl; scalars = refl; alone = λ h. refl; mapped_scalar = λ h. refl }
-
 module _ (more : List Entry) where
   abbrev version : VersionData
   version = record { entries = letter ∷ letter_with_ring ∷ ring ∷ more; exclusions = [] }
@@ -209,7 +206,7 @@ unfolding is_assigned entry_at
 syllable_lacks = refl
 
 rows_alone : AreRows with_rows.entries
-rows_alone = (letter_is, omega arith, (letter_with_ring_is, omega arith, (ring_is, tt, tt)))
+rows_alone = grind arith
 
 pub no_hangul : (c : ℕ) → is_hangul c ≡ true → is_assigned with_rows c ≡ true → ⊥
 no_hangul c among h = assigned_code (λ d. is_hangul d ≡ true → ⊥) (λ e. cc) (λ e. cc) (λ e. cc) c h among
@@ -237,26 +234,8 @@ syllables = plain 0xAC00 0xD7A3 0
 abbrev pub hangul_rows : List Entry
 hangul_rows = jamo ∷ syllables ∷ []
 
-jamo_is : IsRow jamo
-jamo_is = record { rises = omega arith; bounded = omega arith; class = omega arith; fits = refl; scalars = refl; alone = λ h. absurd (h refl); mapped_scalar = λ h. refl }
-
-syllables_is : IsRow syllables
-syllables_is = record { rises = omega arith; bounded = omega arith; class = omega arith; fits = refl; scalars = refl; alone = λ h. absurd (h refl); mapped_scalar = λ h. refl }
-
 rows_hangul : AreRows with_hangul.entries
-rows_hangul = (
-  letter_is,
-  omega arith,
-  (
-    letter_with_ring_is,
-    omega arith,
-    (
-      ring_is,
-      omega arith,
-      (jamo_is, omega arith, (syllables_is, tt, tt)),
-    ),
-  ),
-)
+rows_hangul = grind arith
 
 -- a code point of a row of class 0 without a mapping is as the arithmetic wants it
 row_at : (i : ℕ) (e : Entry) (c : ℕ) → slice_get with_hangul.entries i ≡ Some e → e.class ≡ 0 → e.mapping ≡ [] → e.first ≤ c → c ≤ e.last → is_hangul_row with_hangul c ≡ true

@@ -164,13 +164,9 @@ kind_ambiguous v = record { place = λ c. refl; number = λ c. omega arith; has 
 kind_hangul : (v : VersionData) → IsKind v 4 (IsHangulWrong v) HangulWrong
 kind_hangul v = record { place = λ c. refl; number = λ c. omega arith; has = λ c h. h; each = λ g h. (kinds v g h).4 }
 
--- the number of a fault that a version has is at most 5
-number-le : (v : VersionData) (g : TableFault) → HasFault v g → number_of g ≤ 5
-number-le v g h = grind arith
-
 told : (v : VersionData) (o : Option TableFault) → FirstTo v 5 o → MatchOption o (IsFaultless v) (IsLeastFault v)
 unfolding FirstTo
-told v o first = grind (arith, number-le)
+told v o first = grind arith
 
 first_step : (v : VersionData) (code : Option ℕ) → IsFirst (IsMappedToUnassigned v) code → FirstTo v 1 (option_map MapsToUnassigned code)
 first_step v code h = step v 0 (IsMappedToUnassigned v) MapsToUnassigned (kind_mapped v) None code (first_none v) h

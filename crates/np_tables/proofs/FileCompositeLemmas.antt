@@ -1,5 +1,5 @@
 -- The composites that the rows of a file give.
-use Rattle.std.proofs.Common.{◌≡◌, ◌≢◌, ℕ, zero, suc, ◌+◌, ◌<◌, Bool, true, false, ◌&&◌, List, [], ◌∷◌, ◌++◌, flat_map, Some, None, Option, refl, sym, ap, subst, ◌∙◌, arith, inl, inr, slice_index_or, take, append-nil}
+use Rattle.std.proofs.Common.{◌≡◌, ◌≢◌, ℕ, zero, suc, ◌+◌, Bool, true, false, ◌&&◌, List, [], ◌∷◌, ◌++◌, flat_map, Some, Option, refl, sym, ap, subst, ◌∙◌, arith, inl, inr, take, append-nil}
 use Rattle.np_tables.proofs.Words.{Contains, slice_get, cases_Bool, none-some, same_Some, slice_get_within, get_or_from_slice_get, take_more, flat_map-append}
 use Rattle.np_tables.proofs.Words.{Contains-append_cases, Contains-append_left, Contains-append_right, Entry, AreRows, is_syllable, VersionData, entry_at}
 use Rattle.np_tables.proofs.Words.{file_mapping, decomposition_mapping, mapping_in, is_empty, has_hangul, lies_in, IsCompositeOf, is_primary, Composite}
@@ -13,17 +13,11 @@ use Rattle.np_tables.proofs.FileRowLemmas.{first-at, file_mapping-found, mapped-
 
 -- ---- lists of lists
 
-nothing_in : (x : Composite) → ¬ Contains [] x
-nothing_in x h = omega (arith, h.1)
-
-only_at : (y x : Composite) (k : ℕ) → k < 1 → slice_index_or (y ∷ []) k x ≡ x → y ≡ x
-only_at y x k lt h = grind arith
-
 only : (y x : Composite) → Contains (y ∷ []) x → y ≡ x
-only y x h = only_at y x h.0 h.1 h.2
+only y x h = grind arith
 
 flat-found : (f : Entry → List Composite) (es : List Entry) (x : Composite) → Contains (flat_map f es) x → (i : ℕ) × (e : Entry) × (slice_get es i ≡ Some e) × Contains (f e) x
-flat-found f [] x h = absurd (nothing_in x h)
+flat-found f [] x h = grind arith
 flat-found f (y ∷ ys) x h =
     elim (Contains-append_cases (f y) (flat_map f ys) x h) [
       | inl here ↦ (zero, y, refl, here)
@@ -52,7 +46,7 @@ pub record FromRow (primary : Bool) (c : ℕ) (mapping : List ℕ) (x : Composit
   pub code : x.code ≡ c
 
 from_row : (primary : Bool) (c : ℕ) (mapping : List ℕ) (x : Composite) → Contains (pair_in primary c mapping) x → FromRow primary c mapping x
-from_row primary c mapping x h = grind (arith, nothing_in, only)
+from_row primary c mapping x h = grind (arith, only)
 
 to_row : (primary : Bool) (c a b : ℕ) (mapping : List ℕ) → primary ≡ true → mapping ≡ a ∷ b ∷ [] → Contains (pair_in primary c mapping) (record { first = a; second = b; code = c })
 to_row primary c a b mapping passes pair = grind arith

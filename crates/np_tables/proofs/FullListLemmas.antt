@@ -1,5 +1,5 @@
 -- What a table lends, row by row, in one flat list.
-use Rattle.std.proofs.Common.{◌≡◌, ℕ, ◌+◌, ◌-◌, ◌≤◌, Bool, true, false, not, ◌&&◌, List, [], ◌∷◌, ◌++◌, length, take, map, Some, refl, sym, ap, subst, ◌∙◌, arith, append_assoc, append-nil, zero, suc, ◌≢◌, ◌<◌, ◌==◌, flat_map, if◌then◌else◌}
+use Rattle.std.proofs.Common.{◌≡◌, ℕ, ◌+◌, ◌-◌, ◌≤◌, Bool, true, false, not, ◌&&◌, List, [], ◌∷◌, ◌++◌, length, take, map, Some, refl, sym, ap, subst, ◌∙◌, arith, append_assoc, append-nil, suc, ◌≢◌, ◌<◌, ◌==◌, flat_map, if◌then◌else◌}
 use Rattle.np_tables.proofs.Words.{slice_get, cond-true, cond-false, and_parts, and_cases, or_from, or_left, or_right, not-false, not-true, and_from}
 use Rattle.np_tables.proofs.Words.{eqb-true, take-append-le, drop-append-le, drop_at, take_all, map_push, take_more, length-append, length-drop, All-head}
 use Rattle.np_tables.proofs.Words.{All-tail, All-push, All-weaker, slice_get_within, get_or_from_slice_get, Entry, is_syllable, syllable_pair, VersionData}
@@ -31,9 +31,6 @@ module _ (v : VersionData) (compat : Bool) where
   pub parts-file : (c : ℕ) → (has_hangul v && is_syllable c) ≡ false → parts v compat c ≡ (if counts compat (file_kind v c) then file_mapping v c else [])
   unfolding parts decomposition_kind decomposition_mapping
   parts-file c off = grind (arith, cond-false)
-
-  pub parts-counted : (c : ℕ) → (has_hangul v && is_syllable c) ≡ false → counts compat (file_kind v c) ≡ true → parts v compat c ≡ file_mapping v c
-  parts-counted c off on = parts-file c off ∙ cond-true _ _ _ on
 
   pub parts-passed : (c : ℕ) → (has_hangul v && is_syllable c) ≡ false → counts compat (file_kind v c) ≡ false → parts v compat c ≡ []
   parts-passed c off on = parts-file c off ∙ cond-false _ _ _ on
@@ -75,10 +72,10 @@ module _ (v : VersionData) (compat : Bool) where
 
   -- a mapping in the file that is empty never counts
   pub empty_parts : (c : ℕ) → (has_hangul v && is_syllable c) ≡ false → is_empty (file_mapping v c) ≡ true → is_final v compat c ≡ true
-  empty_parts c off none = grind (arith, parts-counted, parts-passed)
+  empty_parts c off none = grind (arith, parts-passed, parts-file, cond-true)
 
   pub row-lent : (c : ℕ) (e : Entry) → entry_at v.entries c ≡ Some e → (counts compat e.kind && not (is_empty e.mapping)) ≡ true → table_full v compat c ≡ full v compat 32 c
-  row-lent c e found h = grind (arith, and_parts, file_mapping-found, not-true, mapped-off, file_kind-found, lent-some, parts-counted)
+  row-lent c e found h = grind (arith, and_parts, file_mapping-found, not-true, mapped-off, file_kind-found, lent-some, parts-file, cond-true)
 
   pub row-not_lent : (c : ℕ) (e : Entry) → entry_at v.entries c ≡ Some e → (counts compat e.kind && not (is_empty e.mapping)) ≡ false → table_full v compat c ≡ []
   row-not_lent c e found h = grind (arith, lent-syllable, and_cases, lent-final, parts-passed, file_kind-found, empty_parts, file_mapping-found, not-false)

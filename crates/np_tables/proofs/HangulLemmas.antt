@@ -30,9 +30,6 @@ all_below-from p (suc n) each = and_from _ _ (each n) (all_below-from p n each)
 then_so : (a b : Bool) → (not a || b) ≡ true → a ≡ true → b ≡ true
 then_so a b h is = grind arith
 
-so_from : (a b : Bool) → (a ≡ true → b ≡ true) → (not a || b) ≡ true
-so_from a b h = grind arith
-
 pub has_hangul-at : (v : VersionData) → has_hangul v ≡ true → (c : ℕ) → is_hangul c ≡ true → is_hangul_row v c ≡ true
 unfolding has_hangul
 has_hangul-at v on c h =
@@ -40,7 +37,7 @@ has_hangul-at v on c h =
 
 pub has_hangul-from : (v : VersionData) → ((c : ℕ) → is_hangul c ≡ true → is_hangul_row v c ≡ true) → has_hangul v ≡ true
 unfolding has_hangul
-has_hangul-from v each = all_below-from (λ d. not (is_hangul d) || is_hangul_row v d) 0x110000 (λ c. so_from (is_hangul c) (is_hangul_row v c) (each c))
+has_hangul-from v each = grind (arith, all_below-from)
 
 pub has_hangul-fails : (v : VersionData) (c : ℕ) → is_hangul c ≡ true → is_hangul_row v c ≡ false → has_hangul v ≡ false
 has_hangul-fails v c h wrong = grind (arith, both_ways, has_hangul-at)
@@ -91,15 +88,6 @@ by_arithmetic v on c h =
 
 -- ---- syllables and jamo
 
-leading_hangul : (c : ℕ) → is_among 0x1100 19 c ≡ true → is_hangul c ≡ true
-leading_hangul c h = grind (arith, or_left)
-
-vowel_hangul : (c : ℕ) → is_among 0x1161 21 c ≡ true → is_hangul c ≡ true
-vowel_hangul c h = grind (arith, or_left, or_right)
-
-trailing_hangul : (c : ℕ) → is_among 0x11A8 27 c ≡ true → is_hangul c ≡ true
-trailing_hangul c h = grind (arith, or_left, or_right)
-
 pub syllable_hangul : (c : ℕ) → is_syllable c ≡ true → is_hangul c ≡ true
 syllable_hangul c h = or_right (is_among 0x1100 19 c || is_among 0x1161 21 c || is_among 0x11A8 27 c) (is_syllable c) h
 
@@ -114,13 +102,13 @@ pub record IsJamo (c : ℕ) : Type 0 where
   pub single : is_syllable c ≡ false
 
 pub leading_jamo : (c : ℕ) → is_among 0x1100 19 c ≡ true → IsJamo c
-leading_jamo c h = record { hangul = leading_hangul c h; single = no_syllable 0x1100 19 c (omega arith) h }
+leading_jamo c h = grind (arith, no_syllable, or_left)
 
 pub vowel_jamo : (c : ℕ) → is_among 0x1161 21 c ≡ true → IsJamo c
-vowel_jamo c h = record { hangul = vowel_hangul c h; single = no_syllable 0x1161 21 c (omega arith) h }
+vowel_jamo c h = grind (arith, no_syllable, or_left, or_right)
 
 pub trailing_jamo : (c : ℕ) → is_among 0x11A8 27 c ≡ true → IsJamo c
-trailing_jamo c h = record { hangul = trailing_hangul c h; single = no_syllable 0x11A8 27 c (omega arith) h }
+trailing_jamo c h = grind (arith, no_syllable, or_left, or_right)
 
 pub jamo_bare : (v : VersionData) (c : ℕ) → has_hangul v ≡ true → IsJamo c → decomposition_mapping v c ≡ []
 jamo_bare v c on jamo = (by_arithmetic v on c jamo.hangul).mapping ∙ cond-false _ _ _ jamo.single

@@ -1,5 +1,5 @@
 -- The syllables and jamo, counted from 0, and those that are wrong.
-use Rattle.std.proofs.Common.{◌≡◌, ℕ, ◌+◌, ◌-◌, ◌<◌, ◌≤◌, ◌⊎◌, Bool, true, false, ◌||◌, refl, sym, subst, arith, inl, inr, lt-ltb}
+use Rattle.std.proofs.Common.{◌≡◌, ℕ, ◌+◌, ◌-◌, ◌<◌, ◌≤◌, ◌⊎◌, Bool, true, false, ◌||◌, sym, subst, arith, inl, inr, lt-ltb}
 use Rattle.np_tables.proofs.Words.{cond-true, cond-false, le-ltb, both_ways, IsHangulWrong, IsLeastOf, HasAssignedHangul, hangul_at, VersionData, is_assigned}
 use Rattle.np_tables.proofs.Words.{is_hangul, is_hangul_row}
 use Rattle.np_code_points.proofs.HangulLemmas.{among_bounds, among_from_bounds}
@@ -21,10 +21,6 @@ pub hangul_runs : (c : ℕ) → is_hangul c ≡ true → Runs c
 unfolding Runs
 hangul_runs c h = grind (arith, or_cases, among_bounds)
 
-pub runs_hangul : (c : ℕ) → Runs c → is_hangul c ≡ true
-unfolding Runs
-runs_hangul c runs = grind (arith, or_left, among_from_bounds, or_right)
-
 pub hangul_bound : (c : ℕ) → is_hangul c ≡ true → c < 0x110000
 unfolding Runs
 hangul_bound c h = grind (arith, hangul_runs)
@@ -39,7 +35,7 @@ stands i = grind (arith, cond-true, lt-ltb, cond-false, le-ltb)
 
 pub hangul_at-hangul : (i : ℕ) → i < 11239 → is_hangul (hangul_at i) ≡ true
 unfolding Stands Runs
-hangul_at-hangul i lt = grind (arith, runs_hangul, stands)
+hangul_at-hangul i lt = grind (arith, stands, or_left, among_from_bounds, or_right)
 
 pub stands-is : (i c : ℕ) → Stands i c → c ≡ hangul_at i
 unfolding Stands

@@ -1,5 +1,5 @@
 -- Characters of several bytes, found by the bytes that begin them.
-use Rattle.std.proofs.Common.{◌≡◌, ◌≢◌, zero, suc, ℕ, ◌+◌, ◌-◌, ◌*◌, ◌/◌, ◌<◌, ◌≤◌, ◌^◌, ◌%◌, Bool, true, false, not, cond, leb, List, [], ◌∷◌, ◌++◌, length, map, replicate, take, drop, get_or, encode_utf8, refl, sym, ap, subst, ◌∙◌, arith, inl, inr, IsUtf8}
+use Rattle.std.proofs.Common.{◌≡◌, ◌≢◌, zero, suc, ℕ, ◌+◌, ◌-◌, ◌*◌, ◌/◌, ◌<◌, ◌≤◌, ◌^◌, ◌%◌, Bool, not, cond, leb, List, [], ◌∷◌, ◌++◌, length, map, replicate, take, drop, get_or, encode_utf8, refl, sym, ap, subst, ◌∙◌, arith, inl, inr, IsUtf8}
 use Rattle.np_tables.proofs.Words.{IsScalar, prefix_len, div-div-eq-div-mul, div-one, zero-div, cases_lt, leb-false, leb-true, drop-drop, drop-map, drop-take}
 use Rattle.np_tables.proofs.Words.{length-map, length-chunk, mask_l-mod, none_from_empty_mask, run_in_chunk_fails, run_in_chunk_le, run_in_chunk_stops}
 use Rattle.np_tables.proofs.Words.{tops_compared, trailing_mask_l, count_trailing_zeros, chunk, mask_l, top, zip2, BeginsWithChar, is_lead_byte}
