@@ -46,7 +46,6 @@ module _ (v : VersionData) (cs : List Composite) where
         let in_here : j < length cs = omega arith in
         let up = order.rising j (j + 1) d (omega arith) in_next in
         let top_up = order.rising (j + 1) k d (omega arith) lt in
-        let range = order.range j d in_here in
         let range_next = order.range (j + 1) d in_next in
         let range_top = order.range k d lt in
         let top_first = ap (λ (c : Composite). c.first) top in
@@ -146,7 +145,6 @@ module _ (v : VersionData) (cs : List Composite) where
         let same = same_Some t.here here (sym t.here_at ∙ at) in
         let high = file.composites here.first here.second here.code (listed k here at) in
         let low = file.composites t.before.first t.before.second t.before.code (listed t.behind t.before t.before_at) in
-        let first : t.before.first ≡ here.first = t.first ∙ ap (λ (y : Composite). y.first) same in
         let second : t.before.second ≡ here.second = t.second ∙ ap (λ (y : Composite). y.second) same in
         let code = ap (λ (y : Composite). y.code) same in
         let less = t.smaller in

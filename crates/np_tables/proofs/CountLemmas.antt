@@ -30,8 +30,7 @@ module _ (p q : ℕ → Bool) (passes : (c : ℕ) → p c ≡ true → q c ≡ t
   count-most zero = omega arith
   count-most (suc n) =
       let rest = count-most n in
-      let here = passes n in
-      grind arith
+      grind (arith, and_parts, and_from)
 
   -- where no more pass the other, the same ones do
   pub count-same : (n c : ℕ) → count_below q n ≤ count_below p n → c < n → q c ≡ true → p c ≡ true
@@ -39,7 +38,6 @@ module _ (p q : ℕ → Bool) (passes : (c : ℕ) → p c ≡ true → q c ≡ t
   count-same zero c le lt has = absurd (omega (arith, lt))
   count-same (suc n) c le lt has =
       let rest = count-most n in
-      let here = passes n in
       elim (cases_lt c n) [
         | inl below ↦ count-same n c (grind arith) below has
         | inr last ↦ (let same : c ≡ n = omega (arith, lt, last) in let has_n = subst (λ x. q x ≡ true) same has in subst (λ x. p x ≡ true) (sym same) (grind arith))
@@ -50,8 +48,7 @@ unfolding count_below
 count-none p zero none = refl
 count-none p (suc n) none =
     let rest = count-none p n none in
-    let here = none n in
-    grind arith
+    grind (arith, and_parts, and_from)
 
 -- a row counts what of it is below n
 count-run : (e : Entry) (n : ℕ) → e.first ≤ e.last → ((n ≤ e.first) × (count_below (λ c. lies_in (Some e) c) n ≡ 0)) ⊎ (((e.first < n) × (n ≤ e.last + 1) × (count_below (λ c. lies_in (Some e) c) n ≡ n - e.first)) ⊎ ((e.last < n) × (count_below (λ c. lies_in (Some e) c) n ≡ e.last - e.first + 1)))
@@ -70,14 +67,12 @@ unfolding count_below
 count-both p q r zero either = refl
 count-both p q r (suc n) either =
     let rest = count-both p q r n either in
-    let here = either n in
-    grind arith
+    grind (arith, and_parts, and_from)
 
 -- the rows after one list none of its code points
 after_none : (e : Entry) (es : List Entry) (c : ℕ) → IsBefore e es → AreRows es → c ≤ e.last → entry_at es c ≡ None
 after_none e [] c before rows le = entry_at-nil c
 after_none e (f ∷ fs) c before rows le =
-    let up = rows.0.rises in
     entry_at-miss f fs c (below_out f c (omega arith)) ∙ after_none f fs c rows.1 rows.2 (omega arith)
 
 listed_either : (e : Entry) (es : List Entry) (c : ℕ) → IsBefore e es → AreRows es

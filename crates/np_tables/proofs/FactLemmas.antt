@@ -52,7 +52,6 @@ mapped_in_row None c row within h = absurd (h refl)
 mapped_in_row (Some e) c row within h =
     let is = row e refl in
     let range = within e refl in
-    let alone = is.alone h in
     let same : e.first ≡ c = omega arith in
     ap scalar (sym same) ∙ is.mapped_scalar h
 

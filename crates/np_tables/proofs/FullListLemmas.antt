@@ -91,9 +91,8 @@ code_range_of-grown old more p is = grind (arith, length-drop, drop-append-le, t
 pub parts-grown : (old more : List ℕ) (ps : List CodeRange) → AreCodeRanges old ps → map (code_range_of (old ++ more)) ps ≡ map (code_range_of old) ps
 parts-grown old more [] all = refl
 parts-grown old more (p ∷ ps) all =
-    let here = code_range_of-grown old more p (All-head (IsCodeRange (length old)) p ps all) in
     let rest = parts-grown old more ps (All-tail (IsCodeRange (length old)) p ps all) in
-    cc
+    grind (arith, code_range_of-grown, All-head, All-tail, cond-true, cond-false, and_parts, and_from)
 
 pub AreCodeRanges-grown : (old more : List ℕ) (ps : List CodeRange) → AreCodeRanges old ps → AreCodeRanges (old ++ more) ps
 AreCodeRanges-grown old more ps all = All-weaker (IsCodeRange (length old)) (IsCodeRange (length (old ++ more))) (λ p is. (is.0, omega (arith, length-append old more))) ps all

@@ -15,16 +15,7 @@ lead_bytes_mask xs long =
     ∙ mask_l-mod (map (λ x. leb 192 x) xs) 64 (omega (arith, long, length-map xs (λ x. leb 192 x)))
 
 begins_as : (text : List ℕ) (code count n k : ℕ) → BeginsWith text n k → code ≡ k → count ≡ n → 1 < n → n ≤ 4 → k < 0x110000 → IsScalar code × BeginsWithChar text code count
-begins_as text code count n k begins same size some few low = (
-  subst IsScalar (sym same) begins.scalar,
-  record {
-    parts = begins.parts ∙ ap (λ c. encode_utf8 c ++ drop n text) (sym same) ∙ ap (λ m. encode_utf8 code ++ drop m text) (sym size);
-    some = omega arith;
-    few = omega arith;
-    long = omega (arith, begins.long);
-    scalar = omega arith;
-  },
-)
+begins_as text code count n k begins same size some few low = grind arith
 
 -- a first character of two or three bytes, as it is read
 pub begins_few : (text : List ℕ) (code count : ℕ) → IsUtf8 text → 192 ≤ get_or text 0 0 → get_or text 0 0 < 240

@@ -118,11 +118,7 @@ module _ (v : VersionData) (compat : Bool) where
 
   -- the function gives what rewriting reaches, where nothing is deeper than the fuel
   pub decomposes_flat : (n : ℕ) (xs : List ℕ) → list_all (has_depth v n) xs ≡ true → IsFullDecomposition v compat xs (flat_map (full v compat n) xs)
-  decomposes_flat n xs h =
-      record {
-        reached = leads_flat_map (full v compat n) (has_depth v n) (leads_full n) xs h;
-        final = final-flat_map (full v compat n) (has_depth v n) (is_final v compat) (final-full n) xs h;
-      }
+  decomposes_flat n xs h = search (arith, leads_flat_map, leads_full, final-flat_map, final-full)
 
   pub decomposes_full : (n c : ℕ) → has_depth v n c ≡ true → IsFullDecomposition v compat (c ∷ []) (full v compat n c)
   decomposes_full n c h = record { reached = leads_full n c h; final = final-full n c h }
