@@ -20,9 +20,6 @@ least_has P a b p q = grind arith
 
 -- ---- pairs
 
-same_max : (s c : ℕ) → s < c → c ≡ max s c
-same_max s c h = omega arith
-
 -- ---- from ambiguous code points to places
 
 place_of : (cs : List Composite) (a b c : ℕ) → Lists cs a b c → (k : ℕ) × (slice_get cs k ≡ Some (record { first = a; second = b; code = c }))
@@ -48,11 +45,8 @@ module _ (v : VersionData) (cs : List Composite) where
         let top_up = order.rising (j + 1) k d (omega arith) lt in
         let range_next = order.range (j + 1) d in_next in
         let range_top = order.range k d lt in
-        let top_first = ap (λ (c : Composite). c.first) top in
-        let top_second = ap (λ (c : Composite). c.second) top in
-        let top_code = ap (λ (c : Composite). c.code) top in
-        let next_first : (get_or cs (j + 1) d).first ≡ a = omega arith in
-        let next_second : (get_or cs (j + 1) d).second ≡ b = omega arith in
+        let next_first : (get_or cs (j + 1) d).first ≡ a = grind arith in
+        let next_second : (get_or cs (j + 1) d).second ≡ b = grind arith in
         elim (cases_lt (get_or cs j d).code (get_or cs (j + 1) d).code) [
           | inl rises ↦
               let before_at = slice_get-get_or cs j d in_here in
@@ -77,7 +71,7 @@ module _ (v : VersionData) (cs : List Composite) where
                   here_at = here_at;
                   code = refl;
                 });
-                low = omega arith;
+                low = grind arith;
               }
           | inr falls ↦ climb n (j + 1) k a b low high (omega arith) lt d next_first next_second (omega arith) top less
         ]
@@ -86,17 +80,9 @@ module _ (v : VersionData) (cs : List Composite) where
     twins a b d c low high less =
         let x : Composite = record { first = a; second = b; code = c } in
         let low_is = get_or_default cs low.0 x (record { first = a; second = b; code = d }) low.1 ∙ low.2 in
-        let first = ap (λ (y : Composite). y.first) low_is in
-        let second = ap (λ (y : Composite). y.second) low_is in
-        let code = ap (λ (y : Composite). y.code) low_is in
         elim (cases_lt low.0 high.0) [
-          | inl before ↦ climb (high.0 - low.0) low.0 high.0 a b d c (omega arith) high.1 x first second (omega arith) high.2 less
-          | inr behind ↦
-              let up = order.rising high.0 low.0 x behind low.1 in
-              let top_first = ap (λ (y : Composite). y.first) high.2 in
-              let top_second = ap (λ (y : Composite). y.second) high.2 in
-              let top_code = ap (λ (y : Composite). y.code) high.2 in
-              absurd (omega arith)
+          | inl before ↦ climb (high.0 - low.0) low.0 high.0 a b d c (omega arith) high.1 x (cc) (cc) (grind arith) high.2 less
+          | inr behind ↦ let up = order.rising high.0 low.0 x behind low.1 in absurd (grind arith)
         ]
 
     module _ (rows : AreRows v.entries) (file : AreOfFile v cs) where
@@ -129,7 +115,7 @@ module _ (v : VersionData) (cs : List Composite) where
                   | inr other_off ↦ let less = h.smaller in beside a b c c h.other on own (file.all a b h.other there other_off) (omega arith)
                 ]
             | inr off ↦ elim (cases_Bool (has_hangul v && is_syllable h.other)) [
-              | inl other_on ↦ beside a b h.other c c other_on (sym (decomposition_mapping-on v h.other other_on) ∙ there.mapping) (file.all a b c here off) (same_max h.other c h.smaller)
+              | inl other_on ↦ beside a b h.other c c other_on (sym (decomposition_mapping-on v h.other other_on) ∙ there.mapping) (file.all a b c here off) (let less = h.smaller in omega arith)
               | inr other_off ↦ twins a b h.other c (file.all a b h.other there other_off) (file.all a b c here off) h.smaller
             ]
           ]

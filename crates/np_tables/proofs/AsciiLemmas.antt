@@ -1,23 +1,18 @@
 -- The lowest bit of a mask of bytes that are not ASCII.
-use Rattle.std.proofs.Common.{◌≡◌, ◌≢◌, zero, suc, ℕ, ◌+◌, ◌<◌, ◌≤◌, ◌^◌, ◌%◌, Bool, false, cond, leb, List, [], ◌∷◌, length, map, replicate, take, get_or, refl, sym, ap, ◌∙◌, arith, inl, inr}
+use Rattle.std.proofs.Common.{◌≡◌, ◌≢◌, zero, suc, ℕ, ◌+◌, ◌<◌, ◌≤◌, ◌^◌, ◌%◌, false, cond, leb, List, [], ◌∷◌, length, map, replicate, take, get_or, sym, ap, ◌∙◌, arith, inl, inr}
 use Rattle.np_tables.proofs.Words.{prefix_len, cases_lt, leb-false, length-map, leading_from_mask_l, mask_l-mod, run_in_chunk_fails, run_in_chunk_le}
 use Rattle.np_tables.proofs.Words.{tops_compared, trailing_mask_l, count_trailing_zeros, chunk, mask_l, top, zip2}
 use mir.Syntax.{w8}
+use Rattle.std.proofs.lemmas.Simd.{zip2_splat_left}
 use Rattle.np_tables.specs.inside.AsciiBytes.{is_ascii_byte}
-
-pub zip2-splat : (t : ℕ → ℕ → Bool) (n y : ℕ) (xs : List ℕ) → length xs ≡ n → zip2 t (replicate n y) xs ≡ map (λ x. t y x) xs
-zip2-splat t zero y [] long = refl
-zip2-splat t zero y (x ∷ xs) long = absurd (omega arith)
-zip2-splat t (suc n) y [] long = absurd (omega arith)
-zip2-splat t (suc n) y (x ∷ xs) long = ap (λ l. t y x ∷ l) (zip2-splat t n y xs (omega arith))
 
 -- the mask of sixteen bytes
 pub others_mask : (xs : List ℕ) → length xs ≡ 16 → mask_l (map (top 7) (zip2 (λ a b. cond (leb a b) 255 0) (replicate 16 128) xs)) % 2 ^ 64 ≡ mask_l (map (λ x. leb 128 x) xs)
 others_mask xs long =
-    ap (λ l. mask_l l % 2 ^ 64) (tops_compared w8 leb (replicate 16 128) xs ∙ zip2-splat leb 16 128 xs long)
+    ap (λ l. mask_l l % 2 ^ 64) (tops_compared w8 leb (replicate 16 128) xs ∙ zip2_splat_left leb 128 16 xs long)
     ∙ mask_l-mod (map (λ x. leb 128 x) xs) 64 (omega (arith, long, length-map xs (λ x. leb 128 x)))
 
-positive : (n : ℕ) → (n ≢ 0) → 0 < n
+pub positive : (n : ℕ) → (n ≢ 0) → 0 < n
 positive n h = grind arith
 
 pub no_others : (xs : List ℕ) (mask : ℕ) → length xs ≡ 16 → mask ≡ mask_l (map (λ x. leb 128 x) xs) → mask ≡ 0 → 16 ≡ prefix_len is_ascii_byte xs

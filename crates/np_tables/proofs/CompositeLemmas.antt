@@ -1,8 +1,8 @@
 -- The composite of a pair, and what it decomposes to.
-use Rattle.std.proofs.Common.{◌≡◌, ℕ, zero, suc, ◌<◌, ◌⊎◌, Bool, true, false, not, List, [], ◌∷◌, ◌++◌, Option, Some, None, IsTrue, ◌↔◌, refl, sym, ap, ◌∙◌, arith, inl, inr, eqb-true, eq-eqb, append-nil}
-use Rattle.np_tables.proofs.Words.{cond-true, cond-false, cases_eq, and_parts, and_from, both_ways, VersionData, is_assigned, class_of, file_mapping}
-use Rattle.np_tables.proofs.Words.{is_empty, decomposition_mapping, parts, full_of, IsPrimary, IsCompositeOf, is_primary, or_this, least_below, is_pair}
-use Rattle.np_tables.proofs.Words.{composite, IsSound}
+use Rattle.std.proofs.Common.{◌≡◌, ℕ, zero, suc, ◌<◌, ◌⊎◌, Bool, true, false, not, List, [], ◌∷◌, ◌++◌, Option, Some, None, IsTrue, ◌↔◌, refl, ap, ◌∙◌, arith, inl, inr, eqb-true, eq-eqb, append-nil}
+use Rattle.np_tables.proofs.Words.{cond-true, cond-false, and_parts, and_from, both_ways, VersionData, is_assigned, class_of, file_mapping, is_empty}
+use Rattle.np_tables.proofs.Words.{decomposition_mapping, parts, full_of, IsPrimary, IsCompositeOf, is_primary, or_this, least_below, is_pair, composite}
+use Rattle.np_tables.proofs.Words.{IsSound}
 use Rattle.np_tables.proofs.HangulLemmas.{hangul_parts, syllable_row}
 use Rattle.np_code_points.proofs.HangulLemmas.{first_same}
 use Rattle.np_tables.proofs.MappingLemmas.{full_of-mapped}
@@ -16,10 +16,7 @@ least_below-some : (p : ℕ → Bool) (n k : ℕ) → least_below p n ≡ Some k
 unfolding least_below
 least_below-some p zero k h = cc
 least_below-some p (suc n) k h =
-    elim (or_this-some (least_below p n) (p n) n k h) [
-      | inl before ↦ least_below-some p n k before
-      | inr here ↦ sym (ap p here.2) ∙ here.1
-    ]
+    let rest = least_below-some p n k in grind (arith, or_this-some)
 
 or_this-none : (o : Option ℕ) (b : Bool) (n : ℕ) → or_this o b n ≡ None → (o ≡ None) × (b ≡ false)
 or_this-none o b n h = grind arith
@@ -29,10 +26,8 @@ unfolding least_below
 least_below-none p zero k h lt = absurd (omega arith)
 least_below-none p (suc n) k h lt =
     let halves = or_this-none (least_below p n) (p n) n h in
-    elim (cases_eq k n) [
-      | inl same ↦ ap p same ∙ halves.1
-      | inr other ↦ least_below-none p n k halves.0 (omega arith)
-    ]
+    let rest = least_below-none p n k halves.0 in
+    grind arith
 
 pub cases_Option : (o : Option ℕ) → (o ≡ None) ⊎ ((p : ℕ) × (o ≡ Some p))
 cases_Option None = inl refl
@@ -101,10 +96,9 @@ composite-some v a b c h =
 -- no pair with this second part has a composite
 pub composite-never : (v : VersionData) (s : ℕ) → ((a p : ℕ) → ¬ (IsCompositeOf v a s p)) → (a : ℕ) → composite v a s ≡ None
 composite-never v s never a =
-    elim (cases_Option (composite v a s)) [
-      | inr some ↦ absurd (never a some.0 (composite-some v a s some.0 some.1))
-      | inl none_there ↦ none_there
-    ]
+    let no = λ (p : ℕ) (h : composite v a s ≡ Some p). never a p (composite-some v a s p h) in
+    let cases = cases_Option (composite v a s) in
+    grind arith
 
 module _ (v : VersionData) (sound : IsSound v) where
   pub composite-none : (a b c : ℕ) → composite v a b ≡ None → ¬ IsCompositeOf v a b c
@@ -115,10 +109,9 @@ module _ (v : VersionData) (sound : IsSound v) where
 
   pub composite_from : (a b c : ℕ) → IsCompositeOf v a b c → composite v a b ≡ Some c
   composite_from a b c is =
-      elim (cases_Option (composite v a b)) [
-        | inl none ↦ absurd (composite-none a b c none is)
-        | inr some ↦ some.1 ∙ ap Some (sound.unlike a b some.0 c (composite-some v a b some.0 some.1) is)
-      ]
+      let some = λ (d : ℕ) (h : composite v a b ≡ Some d). sound.unlike a b d c (composite-some v a b d h) is in
+      let none = λ (h : composite v a b ≡ None). composite-none a b c h is in
+      grind arith
 
   pub composite-splits : (compat : Bool) (a b c : ℕ) → composite v a b ≡ Some c → full_of v compat c ≡ full_of v compat a ++ full_of v compat b
   composite-splits compat a b c h =

@@ -1,7 +1,7 @@
 -- Marks of code points, round by round.
-use Rattle.std.proofs.Common.{◌≡◌, ℕ, zero, suc, ◌<◌, ◌≤◌, Bool, true, false, ◌&&◌, min, List, [], ◌∷◌, map, flat_map, length, refl, sym, ap, subst, ◌∙◌, leb, inl, inr, arith}
-use Rattle.np_tables.proofs.Words.{cond-true, cond-false, cases_Bool, cases_eq, both_ways, and_parts, and_from, list_all, Entry, AreRows, HasLength, MapKind}
-use Rattle.np_tables.proofs.Words.{is_syllable, VersionData, entry_at, kind_in, mapping_in, is_empty, file_kind, file_mapping, has_hangul, decomposition_kind}
+use Rattle.std.proofs.Common.{◌≡◌, ℕ, zero, suc, ◌<◌, ◌≤◌, Bool, true, false, ◌&&◌, min, List, [], ◌∷◌, map, flat_map, length, refl, sym, ap, ◌∙◌, arith}
+use Rattle.np_tables.proofs.Words.{cond-true, cond-false, both_ways, and_parts, and_from, list_all, Entry, AreRows, HasLength, MapKind, is_syllable}
+use Rattle.np_tables.proofs.Words.{VersionData, entry_at, kind_in, mapping_in, is_empty, file_kind, file_mapping, has_hangul, decomposition_kind}
 use Rattle.np_tables.proofs.Words.{decomposition_mapping, counts, parts, has_depth, full, mark, parts_mark, mapping_mark, row_marks}
 use Rattle.np_tables.proofs.MappingLemmas.{full-final, full-mapped, full-more, full-some, flat_map-same}
 
@@ -18,10 +18,8 @@ entry_at-fits : (es : List Entry) (c : ℕ) → AreRows es → HasLength (kind_i
 unfolding entry_at
 entry_at-fits [] c h = refl
 entry_at-fits (e ∷ es) c h =
-    elim (cases_Bool (leb e.first c && leb c e.last)) [
-      | inl here ↦ subst (λ o. HasLength (kind_in o) (length (mapping_in o))) (sym (cond-true _ _ _ here)) h.0.fits
-      | inr later ↦ subst (λ o. HasLength (kind_in o) (length (mapping_in o))) (sym (cond-false _ _ _ later)) (entry_at-fits es c h.2)
-    ]
+    let rest = entry_at-fits es c h.2 in
+    grind (arith, cond-true, cond-false)
 
 module _ (v : VersionData) (rows : AreRows v.entries) where
   file_plain : (c : ℕ) → counts true (file_kind v c) ≡ false → file_mapping v c ≡ []
@@ -109,20 +107,13 @@ module _ (v : VersionData) (n : ℕ) (still : (c : ℕ) → mark v (suc n) c ≡
   settled_depth : (m : ℕ) → n ≤ m → (c : ℕ) → has_depth v m c ≡ has_depth v n c
   settled_depth zero le c = let same : zero ≡ n = omega arith in ap (λ k. has_depth v k c) same
   settled_depth (suc m) le c =
-      elim (cases_eq (suc m) n) [
-        | inl same ↦ ap (λ k. has_depth v k c) same
-        | inr other ↦ depth_step m (settled_depth m (omega arith)) c
-      ]
+      let step = λ (below : n ≤ m). depth_step m (settled_depth m below) c in grind arith
 
   settled_full : (m : ℕ) → n ≤ m → (c : ℕ) → has_depth v n c ≡ true → full v true m c ≡ full v true n c
   settled_full zero le c h = let same : zero ≡ n = omega arith in ap (λ k. full v true k c) same
   settled_full (suc m) le c h =
-      elim (cases_eq (suc m) n) [
-        | inl same ↦ ap (λ k. full v true k c) same
-        | inr other ↦
-            let below : n ≤ m = omega arith in
-            full-more v true m c (settled_depth m below c ∙ h) ∙ settled_full m below c h
-      ]
+      let step = λ (below : n ≤ m). full-more v true m c (settled_depth m below c ∙ h) ∙ settled_full m below c h in
+      grind arith
 
   settled_parts : (m : ℕ) → n ≤ m → (xs : List ℕ) → parts_mark v m xs ≡ parts_mark v n xs
   unfolding parts_mark
@@ -146,10 +137,8 @@ map_at : (f g : List ℕ → ℕ) → f [] ≡ g [] → (es : List Entry) (c : �
 unfolding entry_at
 map_at f g none [] c h = none
 map_at f g none (e ∷ es) c h =
-    elim (cases_Bool (leb e.first c && leb c e.last)) [
-      | inl here ↦ subst (λ o. f (mapping_in o) ≡ g (mapping_in o)) (sym (cond-true _ _ _ here)) (cc)
-      | inr later ↦ subst (λ o. f (mapping_in o) ≡ g (mapping_in o)) (sym (cond-false _ _ _ later)) (map_at f g none es c (cc))
-    ]
+    let rest = map_at f g none es c (cc) in
+    grind (arith, cond-true, cond-false)
 
 bare_mark : (v : VersionData) (m n : ℕ) → mapping_mark v m [] ≡ mapping_mark v n []
 unfolding mapping_mark

@@ -1,6 +1,6 @@
 -- Versions with a starter, a non-starter, their primary composite and further rows without mappings meet the conditions: one
 -- with these three alone, and one with the Hangul arithmetic on. So the laws speak of versions with rows too.
-use Rattle.std.proofs.Common.{◌≡◌, ℕ, ◌≤◌, true, false, ◌&&◌, nat_le, List, [], ◌∷◌, ◌++◌, flat_map, length, Option, Some, refl, sym, ap, subst, ◌∙◌, arith, inl, inr}
+use Rattle.std.proofs.Common.{◌≡◌, ℕ, ◌≤◌, true, false, ◌&&◌, List, [], ◌∷◌, ◌++◌, flat_map, length, Option, Some, refl, sym, ap, subst, ◌∙◌, arith, inl, inr}
 use Rattle.np_tables.proofs.Words.{list_all, slice_get, cond-true, cond-false, cases_Bool, and_parts, and_right, and_from, leb-true, both_ways, Entry, IsRow}
 use Rattle.np_tables.proofs.Words.{AreRows, Plain, Canonical, is_syllable, syllable_pair, VersionData, entry_at, is_assigned, class_of, file_kind}
 use Rattle.np_tables.proofs.Words.{file_mapping, mapping_in, is_empty, is_excluded, is_hangul, is_hangul_row, has_hangul, decomposition_kind}
@@ -29,10 +29,8 @@ bare_in : (es : List Entry) → AreBare es → (c : ℕ) → mapping_in (entry_a
 unfolding entry_at
 bare_in [] bare c = refl
 bare_in (e ∷ es) bare c =
-    elim (cases_Bool (nat_le e.first c && nat_le c e.last)) [
-      | inl within ↦ ap mapping_in (cond-true _ _ _ within) ∙ bare.0
-      | inr outside ↦ ap mapping_in (cond-false _ _ _ outside) ∙ bare_in es bare.1 c
-    ]
+    let rest = bare_in es bare.1 c in
+    grind (arith, cond-true, cond-false)
 
 abbrev letter : Entry
 letter = plain 0x41 0x41 0
@@ -248,16 +246,11 @@ pub hangul_on_with : has_hangul with_hangul ≡ true
 unfolding Runs
 hangul_on_with =
     has_hangul-from with_hangul
-    (λ c h. elim (hangul_runs c h) [
-      | inl l ↦ row_at 3 jamo c refl refl refl l.0 (omega arith)
-      | inr rest ↦ elim rest [
-        | inl v ↦ row_at 3 jamo c refl refl refl (omega arith) (omega arith)
-        | inr rest ↦ elim rest [
-          | inl t ↦ row_at 3 jamo c refl refl refl (omega arith) (omega arith)
-          | inr s ↦ row_at 4 syllables c refl refl refl s.0 (omega arith)
-        ]
-      ]
-    ])
+    (λ c h.
+    let runs = hangul_runs c h in
+    let jamo_at = row_at 3 jamo c refl refl refl in
+    let syllable_at = row_at 4 syllables c refl refl refl in
+    grind arith)
 
 pub IsSound-with_hangul : IsSound with_hangul
 IsSound-with_hangul = is_sound hangul_rows rows_hangul (refl, (refl, tt)) (λ _ _ _. hangul_on_with)

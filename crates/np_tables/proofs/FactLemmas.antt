@@ -7,7 +7,8 @@ use Rattle.np_tables.proofs.Words.{class_of, class_in, file_mapping, mapping_in,
 use Rattle.np_code_points.proofs.HangulLemmas.{pair_exists, pair_small}
 use Rattle.np_tables.proofs.PrimaryLemmas.{syllable_bounds}
 use Rattle.np_tables.proofs.RowLemmas.{entry_at-row, entry_at-within, at-row, at-found, firsts-le, place_of_entry}
-use Rattle.np_tables.proofs.HangulLemmas.{hangul_parts, pair_assigned, syllable_row}
+use Rattle.np_tables.proofs.FileRowLemmas.{mapped-off}
+use Rattle.np_tables.proofs.HangulLemmas.{pair_assigned}
 
 bounded_in : (o : Option Entry) (c : ℕ) → ((e : Entry) → o ≡ Some e → IsRow e) → ((e : Entry) → o ≡ Some e → c ≤ e.last) → is_some o ≡ true → c < 0x110000
 bounded_in None c row last h = cc
@@ -40,12 +41,8 @@ scalars_pair c h =
 scalars-at : (v : VersionData) (c : ℕ) → AreRows v.entries → list_all scalar (decomposition_mapping v c) ≡ true
 unfolding decomposition_mapping file_mapping
 scalars-at v c rows =
-    elim (cases_Bool (has_hangul v && is_syllable c)) [
-      | inl on ↦ ap (list_all scalar) (cond-true _ (syllable_pair c) (file_mapping v c) on) ∙ scalars_pair c (and_parts _ _ on).1
-      | inr off ↦
-          ap (list_all scalar) (cond-false _ (syllable_pair c) (file_mapping v c) off)
-          ∙ scalars_in (entry_at v.entries c) (λ e is. entry_at-row v.entries c e rows is)
-    ]
+    let file = scalars_in (entry_at v.entries c) (λ e is. entry_at-row v.entries c e rows is) in
+    grind (arith, cond-true, cond-false, scalars_pair)
 
 mapped_in_row : (o : Option Entry) (c : ℕ) → ((e : Entry) → o ≡ Some e → IsRow e) → ((e : Entry) → o ≡ Some e → (e.first ≤ c) × (c ≤ e.last)) → mapping_in o ≢ [] → scalar c ≡ true
 mapped_in_row None c row within h = absurd (h refl)
@@ -78,18 +75,14 @@ pub lacks_in_file : (v : VersionData) (c : ℕ) → IsMappedToUnassigned v c →
 unfolding decomposition_mapping
 lacks_in_file v c h = grind (arith, and_parts, both_ways, cond-true, pair_assigned, cond-false)
 
-empty_all : (p : ℕ → Bool) (xs : List ℕ) → is_empty xs ≡ true → list_all p xs ≡ true
-empty_all p xs h = grind arith
+list_all-none : (p : ℕ → Bool) (xs : List ℕ) → list_all p xs ≡ false → is_empty xs ≡ false
+list_all-none p xs h = grind arith
 
 pub file_lacks : (v : VersionData) (c : ℕ) → list_all (is_assigned v) (file_mapping v c) ≡ false → IsMappedToUnassigned v c
 unfolding decomposition_mapping
 file_lacks v c h =
-    elim (cases_Bool (has_hangul v && is_syllable c)) [
-      | inl on ↦
-          (let halves = and_parts (has_hangul v) (is_syllable c) on in
-          absurd (both_ways _ h (empty_all (is_assigned v) (file_mapping v c) (hangul_parts v c (syllable_row v c halves.0 halves.1)).mapping)))
-      | inr off ↦ record { lacks = ap (list_all (is_assigned v)) (cond-false _ (syllable_pair c) (file_mapping v c) off) ∙ h }
-    ]
+    let some = mapped-off v c (list_all-none (is_assigned v) (file_mapping v c) h) in
+    record { lacks = ap (list_all (is_assigned v)) (cond-false _ (syllable_pair c) (file_mapping v c) some) ∙ h }
 
 cases_Entry : (o : Option Entry) → (o ≡ None) ⊎ ((e : Entry) × (o ≡ Some e))
 cases_Entry None = inl refl

@@ -1,12 +1,12 @@
 -- The fault that is told, and the conditions where there is none.
-use Rattle.std.proofs.Common.{◌≡◌, ℕ, ◌+◌, ◌<◌, ◌≤◌, true, length, Option, Some, None, MatchOption, nat_lt, refl, sym, subst, ◌∙◌, arith, inl, inr}
+use Rattle.std.proofs.Common.{◌≡◌, ℕ, ◌+◌, ◌<◌, ◌≤◌, true, false, length, Option, Some, None, MatchOption, nat_lt, sym, subst, ◌∙◌, arith, inl, inr}
 use Rattle.std.specs.Prelude.{option_map}
-use Rattle.np_tables.proofs.Words.{list_all, cond-true, cond-false, cases_Bool, cases_lt, cases_order, lt-ltb, le-ltb, AreRows, IsCompositeOf, IsSound}
-use Rattle.np_tables.proofs.Words.{IsMappedToUnassigned, IsTooDeep, IsTooLong, IsAmbiguous, IsHangulWrong, IsFirst, IsLeastOf, AreFirsts, sooner, least_fault}
-use Rattle.np_tables.proofs.Words.{has_depth, VersionData, is_assigned, decomposition_mapping}
+use Rattle.np_tables.proofs.Words.{list_all, cond-true, cond-false, cases_lt, lt-ltb, le-ltb, AreRows, IsCompositeOf, IsSound, IsMappedToUnassigned}
+use Rattle.np_tables.proofs.Words.{IsTooDeep, IsTooLong, IsAmbiguous, IsHangulWrong, IsFirst, IsLeastOf, AreFirsts, sooner, least_fault, has_depth}
+use Rattle.np_tables.proofs.Words.{VersionData, is_assigned, decomposition_mapping}
 use Rattle.np_tables.specs.declared.faults.FirstFaults.{FirstFaults}
 use Rattle.np_tables.specs.declared.faults.TableFault.{TableFault}
-use Rattle.np_tables.specs.declared.faults.TableFault.TheVariants.{MapsToUnassigned, TooDeep, TooLong, AmbiguousPair, HangulWrong, Memory}
+use Rattle.np_tables.specs.declared.faults.TableFault.TheVariants.{MapsToUnassigned, TooDeep, TooLong, AmbiguousPair, HangulWrong}
 use Rattle.np_tables.specs.TableFaults.{place_of, number_of, HasFault, IsBeforeFault, IsLeastFault, IsFaultless}
 use Rattle.np_tables.proofs.FactLemmas.{sound-by}
 use Rattle.np_tables.proofs.HangulLemmas.{on_where_right}
@@ -19,27 +19,15 @@ unlike_below v none a b c d hc hd lt =
 
 pub sound-faultless : (v : VersionData) → AreRows v.entries → IsFaultless v → IsSound v
 sound-faultless v rows none =
-    let shallow : (c : ℕ) → has_depth v 32 c ≡ true = λ c. elim (cases_Bool (has_depth v 32 c)) [
-      | inl ok ↦ ok
-      | inr deep ↦ absurd (none (TooDeep c) (record { deep = deep }))
-    ] in
+    let shallow : (c : ℕ) → has_depth v 32 c ≡ true = λ c.
+    let deep = λ (h : has_depth v 32 c ≡ false). none (TooDeep c) (record { deep = h }) in grind arith in
     sound-by v rows
-    (λ c. elim (cases_Bool (list_all (is_assigned v) (decomposition_mapping v c))) [
-      | inl ok ↦ ok
-      | inr lacks ↦ absurd (none (MapsToUnassigned c) (record { lacks = lacks }))
-    ])
+    (λ c.
+    let lacks = λ (h : list_all (is_assigned v) (decomposition_mapping v c) ≡ false). none (MapsToUnassigned c) (record { lacks = h }) in grind arith)
     shallow
-    (λ c full is. elim (cases_lt 64 (length full)) [
-      | inl long ↦ absurd (none (TooLong c) (record { shallow = shallow c; full = full; decomposes = is; long = long }))
-      | inr ok ↦ ok
-    ])
-    (λ a b c d hc hd. elim (cases_order c d) [
-      | inl same ↦ same
-      | inr other ↦ elim other [
-        | inl lt ↦ absurd (unlike_below v none a b c d hc hd lt)
-        | inr gt ↦ absurd (unlike_below v none a b d c hd hc gt)
-      ]
-    ])
+    (λ c full is.
+    let long = λ (h : 64 < length full). none (TooLong c) (record { shallow = shallow c; full = full; decomposes = is; long = h }) in grind arith)
+    (λ a b c d hc hd. let up = unlike_below v none a b c d hc hd in let down = unlike_below v none a b d c hd hc in grind arith)
     (λ c h assigned. on_where_right v (λ d wrong. none (HangulWrong d) wrong) c h assigned)
 
 -- ---- the least of several faults
@@ -51,12 +39,7 @@ FirstTo v n (Some f) = HasFault v f × (number_of f ≤ n) × ((g : TableFault) 
 
 first_none : (v : VersionData) → FirstTo v 0 None
 unfolding FirstTo
-first_none v (MapsToUnassigned c) h = omega arith
-first_none v (TooDeep c) h = omega arith
-first_none v (TooLong c) h = omega arith
-first_none v (AmbiguousPair c) h = omega arith
-first_none v (HangulWrong c) h = omega arith
-first_none v Memory h = omega arith
+first_none v g h = grind arith
 
 -- one kind of faults: the number n + 1, at each code point that P holds of
 record IsKind (v : VersionData) (n : ℕ) (P : ℕ → Type 0) (fault : ℕ → TableFault) : Type 0 where
@@ -77,17 +60,11 @@ module _ (v : VersionData) (n : ℕ) (P : ℕ → Type 0) (fault : ℕ → Table
   -- no fault of the new kind
   step_none : (best : Option TableFault) → FirstTo v n best → ((c : ℕ) → ¬ (P c)) → FirstTo v (n + 1) (sooner best None)
   unfolding FirstTo
-  step_none None first none = λ g h. elim (cases_order (number_of g) (n + 1)) [
-    | inl same ↦ absurd (none (place_of g) (kind.each g h same))
-    | inr other ↦ (let low = first g h in elim other [ inl lt ↦ absurd (omega arith) | inr gt ↦ gt ])
-  ]
+  step_none None first none = λ g h. let here = kind.each g h in let no = none (place_of g) in let low = first g h in grind arith
   step_none (Some f) first none = (
     first.0,
     (let le = first.1 in omega arith),
-    λ g h le. elim (cases_order (number_of g) (n + 1)) [
-      | inl same ↦ absurd (none (place_of g) (kind.each g h same))
-      | inr other ↦ first.2 g h (elim other [ inl lt ↦ omega arith | inr gt ↦ absurd (omega arith) ])
-    ],
+    λ g h le. let here = kind.each g h in let no = none (place_of g) in let rest = first.2 g h in grind arith,
   )
 
   -- a first fault of the new kind, and none before
@@ -106,10 +83,7 @@ module _ (v : VersionData) (n : ℕ) (P : ℕ → Type 0) (fault : ℕ → Table
   step_new f c first least lt = (
     kind.has c least.holds,
     (let num = kind.number c in omega arith),
-    λ g h le. elim (cases_order (number_of g) (n + 1)) [
-      | inl same ↦ kind_first v n c P fault kind least g h same
-      | inr other ↦ before-trans (fault c) f g (inl lt) (first.2 g h (elim other [ inl below ↦ omega arith | inr gt ↦ absurd (omega arith) ]))
-    ],
+    λ g h le. let here = kind_first v n c P fault kind least g h in let rest = first.2 g h in grind (arith, before-trans),
   )
 
   old_before : (f : TableFault) (c : ℕ) → number_of f ≤ n → place_of f ≤ place_of (fault c) → IsBeforeFault f (fault c)
@@ -121,10 +95,9 @@ module _ (v : VersionData) (n : ℕ) (P : ℕ → Type 0) (fault : ℕ → Table
   step_old f c first least le = (
     first.0,
     (let below = first.1 in omega arith),
-    λ g h le2. elim (cases_order (number_of g) (n + 1)) [
-      | inl same ↦ before-trans f (fault c) g (old_before f c first.1 le) (kind_first v n c P fault kind least g h same)
-      | inr other ↦ first.2 g h (elim other [ inl below ↦ omega arith | inr gt ↦ absurd (omega arith) ])
-    ],
+    λ g h le2.
+        let old = before-trans f (fault c) g (old_before f c first.1 le) in
+        let here = kind_first v n c P fault kind least g h in let rest = first.2 g h in grind arith,
   )
 
   step : (best : Option TableFault) (code : Option ℕ) → FirstTo v n best → IsFirst P code → FirstTo v (n + 1) (sooner best (option_map fault code))
@@ -149,33 +122,20 @@ AreKinds v g =
 kinds : (v : VersionData) (g : TableFault) → HasFault v g → AreKinds v g
 kinds v g h = grind arith
 
-kind_mapped : (v : VersionData) → IsKind v 0 (IsMappedToUnassigned v) MapsToUnassigned
-kind_mapped v = record { place = λ c. refl; number = λ c. omega arith; has = λ c h. h; each = λ g h. (kinds v g h).0 }
-
-kind_deep : (v : VersionData) → IsKind v 1 (IsTooDeep v) TooDeep
-kind_deep v = record { place = λ c. refl; number = λ c. omega arith; has = λ c h. h; each = λ g h. (kinds v g h).1 }
-
-kind_long : (v : VersionData) → IsKind v 2 (IsTooLong v) TooLong
-kind_long v = record { place = λ c. refl; number = λ c. omega arith; has = λ c h. h; each = λ g h. (kinds v g h).2 }
-
-kind_ambiguous : (v : VersionData) → IsKind v 3 (IsAmbiguous v) AmbiguousPair
-kind_ambiguous v = record { place = λ c. refl; number = λ c. omega arith; has = λ c h. h; each = λ g h. (kinds v g h).3 }
-
-kind_hangul : (v : VersionData) → IsKind v 4 (IsHangulWrong v) HangulWrong
-kind_hangul v = record { place = λ c. refl; number = λ c. omega arith; has = λ c h. h; each = λ g h. (kinds v g h).4 }
-
 told : (v : VersionData) (o : Option TableFault) → FirstTo v 5 o → MatchOption o (IsFaultless v) (IsLeastFault v)
 unfolding FirstTo
 told v o first = grind arith
 
-first_step : (v : VersionData) (code : Option ℕ) → IsFirst (IsMappedToUnassigned v) code → FirstTo v 1 (option_map MapsToUnassigned code)
-first_step v code h = step v 0 (IsMappedToUnassigned v) MapsToUnassigned (kind_mapped v) None code (first_none v) h
-
 pub least_fault-told : (v : VersionData) (f : FirstFaults) → AreFirsts v f → MatchOption (least_fault f) (IsFaultless v) (IsLeastFault v)
 least_fault-told v f firsts =
-    let one = first_step v f.mapped firsts.mapped in
-    let two = step v 1 (IsTooDeep v) TooDeep (kind_deep v) (option_map MapsToUnassigned f.mapped) f.deep one firsts.deep in
-    let three = step v 2 (IsTooLong v) TooLong (kind_long v) _ f.long two firsts.long in
-    let four = step v 3 (IsAmbiguous v) AmbiguousPair (kind_ambiguous v) _ f.ambiguous three firsts.ambiguous in
-    let five = step v 4 (IsHangulWrong v) HangulWrong (kind_hangul v) _ f.hangul four firsts.hangul in
+    let mapped : IsKind v 0 (IsMappedToUnassigned v) MapsToUnassigned = grind (arith, kinds) in
+    let deep : IsKind v 1 (IsTooDeep v) TooDeep = grind (arith, kinds) in
+    let long : IsKind v 2 (IsTooLong v) TooLong = grind (arith, kinds) in
+    let ambiguous : IsKind v 3 (IsAmbiguous v) AmbiguousPair = grind (arith, kinds) in
+    let hangul : IsKind v 4 (IsHangulWrong v) HangulWrong = grind (arith, kinds) in
+    let one : FirstTo v 1 (option_map MapsToUnassigned f.mapped) = step v 0 _ MapsToUnassigned mapped None f.mapped (first_none v) firsts.mapped in
+    let two = step v 1 (IsTooDeep v) TooDeep deep (option_map MapsToUnassigned f.mapped) f.deep one firsts.deep in
+    let three = step v 2 (IsTooLong v) TooLong long _ f.long two firsts.long in
+    let four = step v 3 (IsAmbiguous v) AmbiguousPair ambiguous _ f.ambiguous three firsts.ambiguous in
+    let five = step v 4 (IsHangulWrong v) HangulWrong hangul _ f.hangul four firsts.hangul in
     told v (least_fault f) five

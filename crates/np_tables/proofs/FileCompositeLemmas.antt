@@ -1,9 +1,9 @@
 -- The composites that the rows of a file give.
-use Rattle.std.proofs.Common.{◌≡◌, ◌≢◌, ℕ, zero, suc, ◌+◌, Bool, true, false, ◌&&◌, List, [], ◌∷◌, ◌++◌, flat_map, Some, Option, refl, sym, ap, subst, ◌∙◌, arith, inl, inr, take, append-nil}
+use Rattle.std.proofs.Common.{◌≡◌, ◌≢◌, ℕ, zero, suc, ◌+◌, Bool, true, false, ◌&&◌, List, [], ◌∷◌, ◌++◌, flat_map, Some, refl, sym, ap, subst, ◌∙◌, arith, inl, inr, take, append-nil}
 use Rattle.np_tables.proofs.Words.{Contains, slice_get, cases_Bool, none-some, same_Some, slice_get_within, get_or_from_slice_get, take_more, flat_map-append}
 use Rattle.np_tables.proofs.Words.{Contains-append_cases, Contains-append_left, Contains-append_right, Entry, AreRows, is_syllable, VersionData, entry_at}
-use Rattle.np_tables.proofs.Words.{file_mapping, decomposition_mapping, mapping_in, is_empty, has_hangul, lies_in, IsCompositeOf, is_primary, Composite}
-use Rattle.np_tables.proofs.Words.{Lists, AreOfFile, pair_in, composites_in}
+use Rattle.np_tables.proofs.Words.{file_mapping, decomposition_mapping, is_empty, has_hangul, lies_in, IsCompositeOf, is_primary, Composite, Lists, AreOfFile}
+use Rattle.np_tables.proofs.Words.{pair_in, composites_in}
 use Rattle.std.specs.List.Sorted.{IsPermutation}
 use Rattle.std.proofs.lemmas.List.Sorted.{IsPermutation-sym, Contains-permutation}
 use Rattle.np_tables.proofs.CompositeLemmas.{primary-from, primary-test}
@@ -51,12 +51,9 @@ from_row primary c mapping x h = grind (arith, only)
 to_row : (primary : Bool) (c a b : ℕ) (mapping : List ℕ) → primary ≡ true → mapping ≡ a ∷ b ∷ [] → Contains (pair_in primary c mapping) (record { first = a; second = b; code = c })
 to_row primary c a b mapping passes pair = grind arith
 
-row_of : (o : Option Entry) → is_empty (mapping_in o) ≡ false → (e : Entry) × (o ≡ Some e)
-row_of o h = grind arith
-
 mapped_row : (v : VersionData) (c : ℕ) → is_empty (file_mapping v c) ≡ false → (e : Entry) × (entry_at v.entries c ≡ Some e)
 unfolding file_mapping
-mapped_row v c h = row_of (entry_at v.entries c) h
+mapped_row v c h = grind arith
 
 is_pair-some : (xs : List ℕ) (a b : ℕ) → xs ≡ a ∷ b ∷ [] → xs ≢ []
 is_pair-some xs a b h none = cc

@@ -1,7 +1,7 @@
 -- A row of the file at its place.
-use Rattle.std.proofs.Common.{◌≡◌, ℕ, zero, suc, ◌<◌, false, ◌&&◌, List, [], ◌∷◌, Some, ap, subst, ◌∙◌, arith, inl, inr, le-leb, nat_le}
-use Rattle.np_tables.proofs.Words.{slice_get, cases_Bool, and_from, and_parts, and_right, lt-leb, both_ways, none-some, same_Some, Entry, AreRows}
-use Rattle.np_tables.proofs.Words.{VersionData, entry_at, file_kind, file_mapping, is_empty, has_hangul, kind_in, mapping_in, is_syllable}
+use Rattle.std.proofs.Common.{◌≡◌, ℕ, zero, suc, ◌<◌, true, false, ◌&&◌, List, [], ◌∷◌, Some, ap, subst, ◌∙◌, arith, le-leb, nat_le}
+use Rattle.np_tables.proofs.Words.{slice_get, and_from, and_right, lt-leb, none-some, same_Some, Entry, AreRows, VersionData, entry_at, file_kind}
+use Rattle.np_tables.proofs.Words.{file_mapping, is_empty, has_hangul, kind_in, mapping_in, is_syllable}
 use Rattle.np_tables.proofs.RowLemmas.{entry_at-hit, entry_at-miss}
 use Rattle.np_tables.proofs.HangulLemmas.{hangul_parts, syllable_row}
 
@@ -32,9 +32,5 @@ file_kind-found v c e h = ap kind_in h
 -- where the file has a mapping, the arithmetic has none
 pub mapped-off : (v : VersionData) (c : ℕ) → is_empty (file_mapping v c) ≡ false → (has_hangul v && is_syllable c) ≡ false
 mapped-off v c some =
-    elim (cases_Bool (has_hangul v && is_syllable c)) [
-      | inl on ↦
-          let halves = and_parts (has_hangul v) (is_syllable c) on in
-          absurd (both_ways _ some (hangul_parts v c (syllable_row v c halves.0 halves.1)).mapping)
-      | inr off ↦ off
-    ]
+    let parts = λ (on : has_hangul v ≡ true) (h : is_syllable c ≡ true). (hangul_parts v c (syllable_row v c on h)).mapping in
+    grind arith

@@ -1,8 +1,8 @@
 -- The Hangul arithmetic: on exactly where each syllable and jamo is as it wants it, and what it then makes of each.
 use Rattle.std.proofs.Common.{◌≡◌, ◌≢◌, ℕ, zero, suc, ◌+◌, ◌-◌, ◌%◌, ◌<◌, ◌≤◌, ◌⊎◌, Bool, true, false, not, ◌&&◌, ◌||◌, [], ◌∷◌, refl, ap, ◌∙◌, arith, inl, inr, eqb-true}
-use Rattle.np_tables.proofs.Words.{list_all, cases_Bool, cases_eq, cond-true, cond-false, and_parts, and_from, and_right, or_left, or_right, both_ways}
-use Rattle.np_tables.proofs.Words.{is_among, is_syllable, syllable_pair, Canonical, IsHangulWrong, HangulOn, HangulByArithmetic, VersionData, all_below}
-use Rattle.np_tables.proofs.Words.{class_of, decomposition_kind, decomposition_mapping, file_kind, file_mapping, has_hangul, is_assigned, is_empty, is_hangul}
+use Rattle.np_tables.proofs.Words.{list_all, cond-true, cond-false, and_parts, and_from, and_right, or_left, or_right, both_ways, is_among, is_syllable}
+use Rattle.np_tables.proofs.Words.{syllable_pair, Canonical, IsHangulWrong, HangulOn, HangulByArithmetic, VersionData, all_below, class_of}
+use Rattle.np_tables.proofs.Words.{decomposition_kind, decomposition_mapping, file_kind, file_mapping, has_hangul, is_assigned, is_empty, is_hangul}
 use Rattle.np_tables.proofs.Words.{is_hangul_row}
 use Rattle.np_code_points.proofs.HangulLemmas.{among_bounds, pair_exists, pair_kinds, pair_of_lv, pair_of_lvt}
 use Rattle.np_tables.proofs.HangulPlaces.{hangul_bound}
@@ -15,10 +15,8 @@ unfolding all_below
 all_below-at p zero c h lt = absurd (omega arith)
 all_below-at p (suc n) c h lt =
     let halves = and_parts (p n) (all_below p n) h in
-    elim (cases_eq c n) [
-      | inl same ↦ ap p same ∙ halves.0
-      | inr other ↦ all_below-at p n c halves.1 (omega arith)
-    ]
+    let rest = all_below-at p n c halves.1 in
+    grind arith
 
 all_below-from : (p : ℕ → Bool) (n : ℕ) → ((c : ℕ) → p c ≡ true) → all_below p n ≡ true
 unfolding all_below
@@ -49,10 +47,8 @@ hangul_on v = (has_hangul-at v, has_hangul-from v)
 pub on_where_right : (v : VersionData) → ((c : ℕ) → ¬ (IsHangulWrong v c)) → (c : ℕ) → is_hangul c ≡ true → is_assigned v c ≡ true → has_hangul v ≡ true
 on_where_right v none c h assigned =
     has_hangul-from v (λ d hangul.
-    elim (cases_Bool (is_hangul_row v d)) [
-      | inl row ↦ row
-      | inr wrong ↦ absurd (none d (record { hangul = hangul; some = c; some_hangul = h; some_assigned = assigned; wrong = wrong }))
-    ])
+    let right = λ (wrong : is_hangul_row v d ≡ false). none d (record { hangul = hangul; some = c; some_hangul = h; some_assigned = assigned; wrong = wrong }) in
+    grind arith)
 
 -- ---- what it makes of each syllable and jamo
 
@@ -169,8 +165,7 @@ shape_of s h =
     ]
 
 pub head_hangul : (c : ℕ) → IsJamo c ⊎ IsLv c → is_hangul c ≡ true
-head_hangul c (inl jamo) = jamo.hangul
-head_hangul c (inr lv) = syllable_hangul c lv.syllable
+head_hangul c head = grind (arith, syllable_hangul)
 
 -- both parts of a pair are syllables or jamo
 pub pair_all : (p : ℕ → Bool) → ((c : ℕ) → is_hangul c ≡ true → p c ≡ true) → (s : ℕ) → is_syllable s ≡ true → list_all p (syllable_pair s) ≡ true

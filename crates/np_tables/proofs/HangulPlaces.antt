@@ -1,21 +1,13 @@
 -- The syllables and jamo, counted from 0, and those that are wrong.
-use Rattle.std.proofs.Common.{◌≡◌, ℕ, ◌+◌, ◌-◌, ◌<◌, ◌≤◌, ◌⊎◌, Bool, true, false, ◌||◌, sym, subst, arith, inl, inr, lt-ltb}
-use Rattle.np_tables.proofs.Words.{cond-true, cond-false, le-ltb, both_ways, IsHangulWrong, IsLeastOf, HasAssignedHangul, hangul_at, VersionData, is_assigned}
-use Rattle.np_tables.proofs.Words.{is_hangul, is_hangul_row}
+use Rattle.std.proofs.Common.{◌≡◌, ℕ, ◌+◌, ◌-◌, ◌<◌, ◌≤◌, ◌⊎◌, true, false, sym, subst, arith, inl, inr, lt-ltb}
+use Rattle.std.proofs.lemmas.Bool.{or_cases}
+use Rattle.np_tables.proofs.Words.{or_left, or_right, cond-true, cond-false, le-ltb, both_ways, IsHangulWrong, IsLeastOf, HasAssignedHangul, hangul_at}
+use Rattle.np_tables.proofs.Words.{VersionData, is_assigned, is_hangul, is_hangul_row}
 use Rattle.np_code_points.proofs.HangulLemmas.{among_bounds, among_from_bounds}
 
 -- the four runs of code points
 unfoldable pub Runs : ℕ → Type 0
 Runs c = ((0x1100 ≤ c) × (c < 0x1113)) ⊎ (((0x1161 ≤ c) × (c < 0x1176)) ⊎ (((0x11A8 ≤ c) × (c < 0x11C3)) ⊎ ((0xAC00 ≤ c) × (c < 0xD7A4))))
-
-or_cases : (a b : Bool) → (a || b) ≡ true → (a ≡ true) ⊎ (b ≡ true)
-or_cases a b h = grind arith
-
-or_left : (a b : Bool) → a ≡ true → (a || b) ≡ true
-or_left a b h = grind arith
-
-or_right : (a b : Bool) → b ≡ true → (a || b) ≡ true
-or_right a b h = grind arith
 
 pub hangul_runs : (c : ℕ) → is_hangul c ≡ true → Runs c
 unfolding Runs

@@ -1,17 +1,18 @@
 -- Characters of several bytes, found by the bytes that begin them.
-use Rattle.std.proofs.Common.{◌≡◌, ◌≢◌, zero, suc, ℕ, ◌+◌, ◌-◌, ◌*◌, ◌/◌, ◌<◌, ◌≤◌, ◌^◌, ◌%◌, Bool, not, cond, leb, List, [], ◌∷◌, ◌++◌, length, map, replicate, take, drop, get_or, encode_utf8, refl, sym, ap, subst, ◌∙◌, arith, inl, inr, IsUtf8}
+use Rattle.std.proofs.Common.{◌≡◌, ◌≢◌, zero, suc, ℕ, ◌+◌, ◌-◌, ◌*◌, ◌/◌, ◌<◌, ◌≤◌, ◌^◌, ◌%◌, Bool, not, cond, leb, List, [], ◌∷◌, length, map, replicate, take, drop, get_or, refl, sym, ap, ◌∙◌, arith, inl, inr, IsUtf8}
 use Rattle.np_tables.proofs.Words.{IsScalar, prefix_len, div-div-eq-div-mul, div-one, zero-div, cases_lt, leb-false, leb-true, drop-drop, drop-map, drop-take}
 use Rattle.np_tables.proofs.Words.{length-map, length-chunk, mask_l-mod, none_from_empty_mask, run_in_chunk_fails, run_in_chunk_le, run_in_chunk_stops}
 use Rattle.np_tables.proofs.Words.{tops_compared, trailing_mask_l, count_trailing_zeros, chunk, mask_l, top, zip2, BeginsWithChar, is_lead_byte}
 use Rattle.std.proofs.lemmas.List.Sums.{prefix_len-le-length}
 use mir.Syntax.{w8}
-use Rattle.np_tables.proofs.AsciiLemmas.{zip2-splat}
+use Rattle.np_tables.proofs.AsciiLemmas.{positive}
+use Rattle.std.proofs.lemmas.Simd.{zip2_splat_left}
 use Rattle.np_tables.proofs.Utf8Lemmas.{BeginsWith, begins_with_three, begins_with_two}
 
 -- the mask of 64 bytes
 pub lead_bytes_mask : (xs : List ℕ) → length xs ≡ 64 → mask_l (map (top 7) (zip2 (λ a b. cond (leb a b) 255 0) (replicate 64 192) xs)) % 2 ^ 64 ≡ mask_l (map (λ x. leb 192 x) xs)
 lead_bytes_mask xs long =
-    ap (λ l. mask_l l % 2 ^ 64) (tops_compared w8 leb (replicate 64 192) xs ∙ zip2-splat leb 64 192 xs long)
+    ap (λ l. mask_l l % 2 ^ 64) (tops_compared w8 leb (replicate 64 192) xs ∙ zip2_splat_left leb 192 64 xs long)
     ∙ mask_l-mod (map (λ x. leb 192 x) xs) 64 (omega (arith, long, length-map xs (λ x. leb 192 x)))
 
 begins_as : (text : List ℕ) (code count n k : ℕ) → BeginsWith text n k → code ≡ k → count ≡ n → 1 < n → n ≤ 4 → k < 0x110000 → IsScalar code × BeginsWithChar text code count
@@ -44,9 +45,6 @@ begins_read text bytes lead_byte second third code count same utf8 low high is_l
     (λ more. (let made = three (omega (arith, first, more)) in (omega (arith, made.0, first, next, last), made.1)))
 
 -- ---- the bits of a mask, one after the other
-
-positive : (n : ℕ) → (n ≢ 0) → 0 < n
-positive n h = grind arith
 
 half : (b : Bool) (bs : List Bool) → mask_l (b ∷ bs) / 2 ≡ mask_l bs
 half b bs = grind arith
@@ -84,12 +82,9 @@ module _ (text : List ℕ) (from left skip : ℕ) (long : 64 ≤ length text) (i
 
     pub found_within : skip < 64 - from
     found_within =
-        elim (cases_lt skip (64 - from)) [
-          | inl less ↦ less
-          | inr more ↦
-              let most = run_in_chunk_le is_lead_byte text from (64 - from) skip 0 room counted in
-              absurd (some (is ∙ no_lead_bytes (chunk from (64 - from) text) (omega (arith, counted, size, most, more))))
-        ]
+        let most = run_in_chunk_le is_lead_byte text from (64 - from) skip 0 room counted in
+        let none = no_lead_bytes (chunk from (64 - from) text) in
+        grind (arith, counted, size)
 
     pub found_lead_byte : 192 ≤ get_or text (from + skip) 0
     found_lead_byte = leb-true 192 (get_or text (from + skip) 0) (run_in_chunk_stops is_lead_byte text from (64 - from) skip 0 room counted found_within)
@@ -99,10 +94,8 @@ module _ (text : List ℕ) (from left skip : ℕ) (long : 64 ≤ length text) (i
 
     pub found_behind : (end : ℕ) → ((k : ℕ) → from ≤ k → k < end → get_or text k 0 < 192) → end ≤ from + skip
     found_behind end low =
-        elim (cases_lt (from + skip) end) [
-          | inl less ↦ absurd (omega (arith, found_lead_byte, low (from + skip) (omega arith) less))
-          | inr more ↦ more
-        ]
+        let here = low (from + skip) (omega arith) in
+        grind (arith, found_lead_byte)
 
     pub found_gone : left / 2 ^ skip / 2 ≡ mask_l (map is_lead_byte (chunk (from + skip + 1) (64 - (from + skip + 1)) text))
     found_gone =

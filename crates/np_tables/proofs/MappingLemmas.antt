@@ -53,13 +53,8 @@ module _ (v : VersionData) (compat : Bool) where
   pub full-more : (n c : ℕ) → has_depth v n c ≡ true → full v compat (suc n) c ≡ full v compat n c
   full-more zero c h = let final = shallow_final c h in full-final 1 c final ∙ sym (full-final zero c final)
   full-more (suc n) c h =
-      elim (cases_Bool (is_final v compat c)) [
-        | inl final ↦ full-final _ c final ∙ sym (full-final (suc n) c final)
-        | inr mapped ↦
-            full-mapped (suc n) c mapped
-            ∙ flat_map-same (full v compat (suc n)) (full v compat n) (has_depth v n) (full-more n) (parts v compat c) (depth_parts n c h)
-            ∙ sym (full-mapped n c mapped)
-      ]
+      let same = flat_map-same (full v compat (suc n)) (full v compat n) (has_depth v n) (full-more n) (parts v compat c) (depth_parts n c h) in
+      grind (arith, full-final, full-mapped)
 
   final-flat_map : (f : ℕ → List ℕ) (p q : ℕ → Bool) → ((c : ℕ) → p c ≡ true → list_all q (f c) ≡ true) → (xs : List ℕ) → list_all p xs ≡ true → list_all q (flat_map f xs) ≡ true
   final-flat_map f p q each [] all = refl
@@ -70,12 +65,8 @@ module _ (v : VersionData) (compat : Bool) where
   final-full : (n c : ℕ) → has_depth v n c ≡ true → list_all (is_final v compat) (full v compat n c) ≡ true
   final-full zero c h = grind (arith, shallow_final, full-final, and_from)
   final-full (suc n) c h =
-      elim (cases_Bool (is_final v compat c)) [
-        | inl final ↦ ap (list_all (is_final v compat)) (full-final (suc n) c final) ∙ and_from _ _ final refl
-        | inr mapped ↦
-            ap (list_all (is_final v compat)) (full-mapped n c mapped)
-            ∙ final-flat_map (full v compat n) (has_depth v n) (is_final v compat) (final-full n) (parts v compat c) (depth_parts n c h)
-      ]
+      let each = final-flat_map (full v compat n) (has_depth v n) (is_final v compat) (final-full n) (parts v compat c) (depth_parts n c h) in
+      grind (arith, full-final, full-mapped)
 
   -- ---- steps of rewriting lead there
 
@@ -136,10 +127,8 @@ module _ (v : VersionData) (compat : Bool) where
   pub full-some : (n c : ℕ) → 0 < length (full v compat n c)
   full-some zero c = subst (λ l. 0 < length l) (sym (full_zero c)) (omega arith)
   full-some (suc n) c =
-      elim (cases_Bool (is_final v compat c)) [
-        | inl final ↦ subst (λ l. 0 < length l) (sym (full-final (suc n) c final)) (omega arith)
-        | inr mapped ↦ subst (λ l. 0 < length l) (sym (full-mapped n c mapped)) (flat_map-some (full v compat n) (full-some n) (parts v compat c) mapped)
-      ]
+      let some = flat_map-some (full v compat n) (full-some n) (parts v compat c) in
+      grind (arith, full-final, full-mapped)
 
   pub full_of-some : (c : ℕ) → 0 < length (full_of v compat c)
   unfolding full_of
