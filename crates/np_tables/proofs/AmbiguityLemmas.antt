@@ -108,10 +108,7 @@ module _ (v : VersionData) (cs : List Composite) where
             | inl on ↦
                 let own : syllable_pair c ≡ a ∷ b ∷ [] = sym (decomposition_mapping-on v c on) ∙ pair in
                 elim (cases_Bool (has_hangul v && is_syllable h.other)) [
-                  | inl other_on ↦
-                      let same = pair_injective h.other c (and_parts _ _ other_on).1 (and_parts _ _ on).1 (sym (decomposition_mapping-on v h.other other_on) ∙ there.mapping ∙ sym own) in
-                      let less = h.smaller in
-                      absurd (omega arith)
+                  | inl other_on ↦ let less = h.smaller in grind (arith, pair_injective, and_parts, decomposition_mapping-on)
                   | inr other_off ↦ let less = h.smaller in beside a b c c h.other on own (file.all a b h.other there other_off) (omega arith)
                 ]
             | inr off ↦ elim (cases_Bool (has_hangul v && is_syllable h.other)) [

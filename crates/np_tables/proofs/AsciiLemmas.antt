@@ -25,14 +25,11 @@ first_other xs mask long is some = grind (arith, trailing_mask_l, positive)
 pub quick_check_le : (bytes : List ℕ) (at passed : ℕ) → at + 16 ≤ length bytes → passed ≡ prefix_len is_ascii_byte (chunk at 16 bytes) → passed ≤ 16
 quick_check_le bytes at passed room is = run_in_chunk_le (λ x. leb 128 x) bytes at 16 passed 0 room is
 
-below : (n : ℕ) → leb 128 n ≡ false → n < 128
-below n h = leb-false 128 n h
-
 pub lanes_ascii : (bytes : List ℕ) (at passed : ℕ) → at + 16 ≤ length bytes → passed ≡ prefix_len is_ascii_byte (chunk at 16 bytes) → ((k : ℕ) → k < at → get_or bytes k 0 < 128) → (k : ℕ) → k < at + passed → get_or bytes k 0 < 128
 lanes_ascii bytes at passed room is so_far k lt =
     elim (cases_lt k at) [
       | inl before ↦ so_far k before
-      | inr behind ↦ below (get_or bytes k 0) (run_in_chunk_fails (λ x. leb 128 x) bytes at 16 passed 0 room is k behind lt)
+      | inr behind ↦ leb-false 128 (get_or bytes k 0) (run_in_chunk_fails (λ x. leb 128 x) bytes at 16 passed 0 room is k behind lt)
     ]
 
 -- as a list of their own

@@ -51,13 +51,6 @@ mapped-assigned v c h = grind (arith, and_parts, hangul_parts, syllable_row, fil
 
 -- ---- primary composites
 
--- a pair of which the first is a starter
-record StarterPair (ccc : ℕ → ℕ) (xs : List ℕ) : Type 0 where
-  first : ℕ
-  second : ℕ
-  pair : xs ≡ first ∷ second ∷ []
-  starter : ccc first ≡ 0
-
 not_so : (b : Bool) → not b ≡ true → b ≡ false
 not_so b h = grind arith
 

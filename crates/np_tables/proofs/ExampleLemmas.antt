@@ -121,10 +121,7 @@ module _ (more : List Entry) where
         by_mapping (λ _ m. list_all (is_assigned version) m ≡ true)
         (λ c on. let halves = and_parts _ _ on in pair_assigned version c halves.0 halves.1) parts_assigned (λ _. refl)
 
-    abbrev HasMark : ℕ → Type 0
-    HasMark c = (has_depth version 32 c ≡ true) × (length (full_of version true c) ≤ 64)
-
-    of_syllable : (c : ℕ) → (has_hangul version && is_syllable c) ≡ true → HasMark c
+    of_syllable : (c : ℕ) → (has_hangul version && is_syllable c) ≡ true → (has_depth version 32 c ≡ true) × (length (full_of version true c) ≤ 64)
     unfolding full_of
     of_syllable c on =
         let halves = and_parts _ _ on in

@@ -46,21 +46,13 @@ scalars-at v c rows =
 
 mapped_in_row : (o : Option Entry) (c : ℕ) → ((e : Entry) → o ≡ Some e → IsRow e) → ((e : Entry) → o ≡ Some e → (e.first ≤ c) × (c ≤ e.last)) → mapping_in o ≢ [] → scalar c ≡ true
 mapped_in_row None c row within h = absurd (h refl)
-mapped_in_row (Some e) c row within h =
-    let is = row e refl in
-    let range = within e refl in
-    let same : e.first ≡ c = omega arith in
-    ap scalar (sym same) ∙ is.mapped_scalar h
+mapped_in_row (Some e) c row within h = let is = row e refl in let range = within e refl in grind arith
 
 mapped_scalar-at : (v : VersionData) (c : ℕ) → AreRows v.entries → decomposition_mapping v c ≢ [] → scalar c ≡ true
 unfolding decomposition_mapping file_mapping
 mapped_scalar-at v c rows h =
-    elim (cases_Bool (has_hangul v && is_syllable c)) [
-      | inl on ↦ (let bounds = syllable_bounds c (and_parts _ _ on).1 in scalar_low c (omega arith))
-      | inr off ↦
-          mapped_in_row (entry_at v.entries c) c (λ e is. entry_at-row v.entries c e rows is) (λ e is. entry_at-within v.entries c e is)
-          (λ none. h (cond-false _ (syllable_pair c) (file_mapping v c) off ∙ none))
-    ]
+    let file = mapped_in_row (entry_at v.entries c) c (λ e is. entry_at-row v.entries c e rows is) (λ e is. entry_at-within v.entries c e is) in
+    grind (arith, syllable_bounds, scalar_low, cond-false, and_parts)
 
 -- rows of a data file meet the conditions where they meet those that no row tells alone
 pub sound-by : (v : VersionData) → AreRows v.entries → ((c : ℕ) → list_all (is_assigned v) (decomposition_mapping v c) ≡ true) → ((c : ℕ) → has_depth v 32 c ≡ true)
@@ -92,10 +84,9 @@ cases_Entry (Some e) = inr (e, refl)
 pub lacking_row : (v : VersionData) (c : ℕ) → IsMappedToUnassigned v c → (e : Entry) × (entry_at v.entries c ≡ Some e) × (list_all (is_assigned v) e.mapping ≡ false)
 unfolding file_mapping
 lacking_row v c h =
-    elim (cases_Entry (entry_at v.entries c)) [
-      | inl none ↦ absurd (both_ways _ (lacks_in_file v c h) (ap (λ o. list_all (is_assigned v) (mapping_in o)) none))
-      | inr some ↦ (some.0, some.1, sym (ap (λ o. list_all (is_assigned v) (mapping_in o)) some.1) ∙ lacks_in_file v c h)
-    ]
+    let lacks = lacks_in_file v c h in
+    let cases = cases_Entry (entry_at v.entries c) in
+    grind arith
 
 abbrev pub RowsHold : VersionData → ℕ → Type 0
 RowsHold v n = (k : ℕ) → k < n → list_all (is_assigned v) (mapping_in (slice_get v.entries k)) ≡ true

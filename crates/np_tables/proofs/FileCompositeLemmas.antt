@@ -55,9 +55,6 @@ mapped_row : (v : VersionData) (c : ℕ) → is_empty (file_mapping v c) ≡ fal
 unfolding file_mapping
 mapped_row v c h = grind arith
 
-is_pair-some : (xs : List ℕ) (a b : ℕ) → xs ≡ a ∷ b ∷ [] → xs ≢ []
-is_pair-some xs a b h none = cc
-
 -- ---- all rows together
 
 module _ (v : VersionData) (rows : AreRows v.entries) where
@@ -82,7 +79,7 @@ module _ (v : VersionData) (rows : AreRows v.entries) where
       let e = found.0 in
       let place = found-place v.entries c e found.1 in
       let here : e.mapping ≡ a ∷ b ∷ [] = sym (file_mapping-found v c e found.1) ∙ mapping in
-      let alone = (at-row v.entries place.0 e rows place.1).alone (is_pair-some e.mapping a b here) in
+      let alone = (at-row v.entries place.0 e rows place.1).alone (λ none. cc) in
       let lists = entry_at-within v.entries c e found.1 in
       let same : e.first ≡ c = omega arith in
       let has = to_row (is_primary v e.first) e.first a b e.mapping (ap (is_primary v) same ∙ primary-test v c is.primary) here in

@@ -144,15 +144,9 @@ pub record IsLvt (s : ℕ) : Type 0 where
 pub lvt_shape : (s : ℕ) → is_syllable s ≡ true → (s - 0xAC00) % 28 ≢ 0 → IsLvt s
 lvt_shape s h odd =
     let pair = pair_of_lvt s odd in
-    elim (pair_kinds s _ _ h pair) [
-      | inr lvt ↦
-          let front = and_parts (is_syllable (s - (s - 0xAC00) % 28)) _ lvt.0 in
-          record { base = _; last = _; pair = pair; front = lv_shape _ front.0 (eqb-true _ 0 front.1); back = trailing_jamo _ lvt.1 }
-      | inl lv ↦
-          let range = among_bounds 0xAC00 11172 s h in
-          let a = among_bounds 0x1100 19 (s - (s - 0xAC00) % 28) lv.0 in
-          absurd (omega (arith, range, a))
-    ]
+    let kinds = pair_kinds s _ _ h pair in
+    let range = among_bounds 0xAC00 11172 s h in
+    grind (arith, among_bounds, lv_shape, trailing_jamo, eqb-true, and_parts)
 
 pub shape_of : (s : ℕ) → is_syllable s ≡ true → PairShape s
 shape_of s h =
@@ -169,9 +163,7 @@ head_hangul c head = grind (arith, syllable_hangul)
 
 -- both parts of a pair are syllables or jamo
 pub pair_all : (p : ℕ → Bool) → ((c : ℕ) → is_hangul c ≡ true → p c ≡ true) → (s : ℕ) → is_syllable s ≡ true → list_all p (syllable_pair s) ≡ true
-pair_all p each s h =
-    let shape = shape_of s h in
-    ap (list_all p) shape.pair ∙ and_from _ _ (each shape.first (head_hangul shape.first shape.head)) (and_from _ _ (each shape.second shape.tail.hangul) refl)
+pair_all p each s h = let shape = shape_of s h in grind (arith, head_hangul)
 
 pub pair_assigned : (v : VersionData) (s : ℕ) → has_hangul v ≡ true → is_syllable s ≡ true → list_all (is_assigned v) (syllable_pair s) ≡ true
 pair_assigned v s on h = pair_all (is_assigned v) (λ c hangul. (by_arithmetic v on c hangul).assigned) s h

@@ -15,9 +15,6 @@ lead_bytes_mask xs long =
     ap (λ l. mask_l l % 2 ^ 64) (tops_compared w8 leb (replicate 64 192) xs ∙ zip2_splat_left leb 192 64 xs long)
     ∙ mask_l-mod (map (λ x. leb 192 x) xs) 64 (omega (arith, long, length-map xs (λ x. leb 192 x)))
 
-begins_as : (text : List ℕ) (code count n k : ℕ) → BeginsWith text n k → code ≡ k → count ≡ n → 1 < n → n ≤ 4 → k < 0x110000 → IsScalar code × BeginsWithChar text code count
-begins_as text code count n k begins same size some few low = grind arith
-
 -- a first character of two or three bytes, as it is read
 pub begins_few : (text : List ℕ) (code count : ℕ) → IsUtf8 text → 192 ≤ get_or text 0 0 → get_or text 0 0 < 240
     → (get_or text 0 0 < 224 → (code ≡ get_or text 0 0 % 32 * 64 + get_or text 1 0 % 64) × (count ≡ 2))
@@ -25,10 +22,8 @@ pub begins_few : (text : List ℕ) (code count : ℕ) → IsUtf8 text → 192 �
     → IsScalar code × BeginsWithChar text code count
 begins_few text code count utf8 low high two three =
     elim (cases_lt (get_or text 0 0) 224) [
-      | inl less ↦
-          begins_as text code count 2 _ (begins_with_two text utf8 (omega (arith, low, less))) (two less).0 (two less).1 (omega arith) (omega arith) (omega arith)
-      | inr more ↦
-          begins_as text code count 3 _ (begins_with_three text utf8 (omega (arith, high, more))) (three more).0 (three more).1 (omega arith) (omega arith) (omega arith)
+      | inl less ↦ let begins = begins_with_two text utf8 (omega (arith, low, less)) in let read = two less in grind arith
+      | inr more ↦ let begins = begins_with_three text utf8 (omega (arith, high, more)) in let read = three more in grind arith
     ]
 
 -- the same, read from bytes that are the text
@@ -37,12 +32,7 @@ pub begins_read : (text bytes : List ℕ) (lead_byte second third code count : �
     → (lead_byte < 224 → (code ≡ lead_byte % 32 * 64 + second) × (count ≡ 2)) → (224 ≤ lead_byte → (code ≡ lead_byte % 16 * 4096 + second * 64 + third) × (count ≡ 3))
     → IsScalar code × BeginsWithChar text code count
 begins_read text bytes lead_byte second third code count same utf8 low high is_lead_byte is_second is_third two three =
-    let first = is_lead_byte ∙ ap (λ l. get_or l 0 0) same in
-    let next = is_second ∙ ap (λ l. get_or l 1 0 % 64) same in
-    let last = is_third ∙ ap (λ l. get_or l 2 0 % 64) same in
-    begins_few text code count utf8 low high
-    (λ less. (let made = two (omega (arith, first, less)) in (omega (arith, made.0, first, next), made.1)))
-    (λ more. (let made = three (omega (arith, first, more)) in (omega (arith, made.0, first, next, last), made.1)))
+    begins_few text code count utf8 low high (grind arith) (grind arith)
 
 -- ---- the bits of a mask, one after the other
 

@@ -120,12 +120,9 @@ module _ (v : VersionData) (compat : Bool) where
 
   -- ---- it is never empty
 
-  full_zero : (c : ℕ) → full v compat zero c ≡ c ∷ []
-  unfolding full
-  full_zero c = refl
-
   pub full-some : (n c : ℕ) → 0 < length (full v compat n c)
-  full-some zero c = subst (λ l. 0 < length l) (sym (full_zero c)) (omega arith)
+  unfolding full
+  full-some zero c = omega arith
   full-some (suc n) c =
       let some = flat_map-some (full v compat n) (full-some n) (parts v compat c) in
       grind (arith, full-final, full-mapped)
