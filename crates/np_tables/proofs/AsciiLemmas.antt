@@ -1,7 +1,7 @@
 -- The lowest bit of a mask of bytes that are not ASCII.
-use Rattle.std.proofs.Common.{◌≡◌, ◌≢◌, zero, suc, ℕ, ◌+◌, ◌<◌, ◌≤◌, ◌^◌, ◌%◌, false, cond, leb, List, [], ◌∷◌, length, map, replicate, take, get_or, sym, ap, ◌∙◌, arith, inl, inr}
-use Rattle.np_tables.proofs.Words.{prefix_len, cases_lt, leb-false, length-map, leading_from_mask_l, mask_l-mod, run_in_chunk_fails, run_in_chunk_le}
-use Rattle.np_tables.proofs.Words.{tops_compared, trailing_mask_l, count_trailing_zeros, chunk, mask_l, top, zip2}
+use Rattle.std.proofs.Common.{◌≡◌, ◌≢◌, zero, suc, ℕ, ◌+◌, ◌<◌, ◌≤◌, ◌^◌, ◌%◌, cond, leb, List, [], ◌∷◌, length, map, replicate, take, get_or, sym, ap, ◌∙◌, arith}
+use Rattle.np_tables.proofs.Words.{prefix_len, leb-false, length-map, leading_from_mask_l, mask_l-mod, run_in_chunk_fails, run_in_chunk_le, tops_compared}
+use Rattle.np_tables.proofs.Words.{trailing_mask_l, count_trailing_zeros, chunk, mask_l, top, zip2}
 use mir.Syntax.{w8}
 use Rattle.std.proofs.lemmas.Simd.{zip2_splat_left}
 use Rattle.np_tables.specs.inside.AsciiBytes.{is_ascii_byte}
@@ -27,10 +27,9 @@ quick_check_le bytes at passed room is = run_in_chunk_le (λ x. leb 128 x) bytes
 
 pub lanes_ascii : (bytes : List ℕ) (at passed : ℕ) → at + 16 ≤ length bytes → passed ≡ prefix_len is_ascii_byte (chunk at 16 bytes) → ((k : ℕ) → k < at → get_or bytes k 0 < 128) → (k : ℕ) → k < at + passed → get_or bytes k 0 < 128
 lanes_ascii bytes at passed room is so_far k lt =
-    elim (cases_lt k at) [
-      | inl before ↦ so_far k before
-      | inr behind ↦ leb-false 128 (get_or bytes k 0) (run_in_chunk_fails (λ x. leb 128 x) bytes at 16 passed 0 room is k behind lt)
-    ]
+    let before = so_far k in
+    let behind = λ (h : at ≤ k). leb-false 128 (get_or bytes k 0) (run_in_chunk_fails (λ x. leb 128 x) bytes at 16 passed 0 room is k h lt) in
+    grind arith
 
 -- as a list of their own
 pub low_take : (n : ℕ) (bytes : List ℕ) → ((k : ℕ) → k < n → get_or bytes k 0 < 128) → (i : ℕ) → get_or (take n bytes) i 0 < 128

@@ -72,8 +72,7 @@ count-both p q r (suc n) either =
 -- the rows after one list none of its code points
 after_none : (e : Entry) (es : List Entry) (c : ℕ) → IsBefore e es → AreRows es → c ≤ e.last → entry_at es c ≡ None
 after_none e [] c before rows le = entry_at-nil c
-after_none e (f ∷ fs) c before rows le =
-    entry_at-miss f fs c (below_out f c (omega arith)) ∙ after_none f fs c rows.1 rows.2 (omega arith)
+after_none e (f ∷ fs) c before rows le = entry_at-miss f fs c (below_out f c (omega arith)) ∙ after_none f fs c rows.1 rows.2 (omega arith)
 
 listed_either : (e : Entry) (es : List Entry) (c : ℕ) → IsBefore e es → AreRows es
     → ((lies_in (Some e) c ≡ true) × (listed es c ≡ false) × (listed (e ∷ es) c ≡ true)) ⊎ ((lies_in (Some e) c ≡ false) × (listed es c ≡ listed (e ∷ es) c))

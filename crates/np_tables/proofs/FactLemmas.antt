@@ -1,9 +1,9 @@
 -- What holds of each code point because the rows are those of a data file.
-use Rattle.std.proofs.Common.{◌≡◌, ◌≢◌, ℕ, ◌<◌, ◌≤◌, true, ◌&&◌, List, [], ◌∷◌, length, Option, Some, None, is_some, refl, sym, ap, ◌∙◌, arith, inl, inr, lt-ltb, ◌⊎◌, Bool, false}
+use Rattle.std.proofs.Common.{◌≡◌, ◌≢◌, ℕ, ◌<◌, ◌≤◌, true, List, [], ◌∷◌, length, Option, Some, None, is_some, refl, sym, ap, ◌∙◌, arith, inl, inr, lt-ltb, ◌⊎◌, false}
 use lib.Utf8.{scalar}
-use Rattle.np_tables.proofs.Words.{list_all, slice_get, cond-true, cond-false, cases_Bool, and_parts, and_from, both_ways, Entry, IsRow, AreRows, is_syllable}
-use Rattle.np_tables.proofs.Words.{syllable_pair, IsCompositeOf, IsSound, IsFullDecomposition, has_depth, VersionData, entry_at, is_assigned, is_hangul}
-use Rattle.np_tables.proofs.Words.{class_of, class_in, file_mapping, mapping_in, decomposition_mapping, has_hangul, is_empty, IsMappedToUnassigned, IsLeastOf}
+use Rattle.np_tables.proofs.Words.{list_all, slice_get, cond-true, cond-false, and_parts, both_ways, Entry, IsRow, AreRows, is_syllable, syllable_pair}
+use Rattle.np_tables.proofs.Words.{IsCompositeOf, IsSound, IsFullDecomposition, has_depth, VersionData, entry_at, is_assigned, is_hangul, class_of, class_in}
+use Rattle.np_tables.proofs.Words.{file_mapping, mapping_in, decomposition_mapping, has_hangul, IsMappedToUnassigned, IsLeastOf}
 use Rattle.np_code_points.proofs.HangulLemmas.{pair_exists, pair_small}
 use Rattle.np_tables.proofs.PrimaryLemmas.{syllable_bounds}
 use Rattle.np_tables.proofs.RowLemmas.{entry_at-row, entry_at-within, at-row, at-found, firsts-le, place_of_entry}
@@ -36,7 +36,7 @@ scalars_pair : (c : ℕ) → is_syllable c ≡ true → list_all scalar (syllabl
 scalars_pair c h =
     let pair = pair_exists c in
     let small = pair_small c pair.0 pair.1 h pair.2 in
-    ap (list_all scalar) pair.2 ∙ and_from _ _ (scalar_low pair.0 small.0) (and_from _ _ (scalar_low pair.1 small.1) refl)
+    grind (arith, scalar_low)
 
 scalars-at : (v : VersionData) (c : ℕ) → AreRows v.entries → list_all scalar (decomposition_mapping v c) ≡ true
 unfolding decomposition_mapping file_mapping
@@ -67,14 +67,9 @@ pub lacks_in_file : (v : VersionData) (c : ℕ) → IsMappedToUnassigned v c →
 unfolding decomposition_mapping
 lacks_in_file v c h = grind (arith, and_parts, both_ways, cond-true, pair_assigned, cond-false)
 
-list_all-none : (p : ℕ → Bool) (xs : List ℕ) → list_all p xs ≡ false → is_empty xs ≡ false
-list_all-none p xs h = grind arith
-
 pub file_lacks : (v : VersionData) (c : ℕ) → list_all (is_assigned v) (file_mapping v c) ≡ false → IsMappedToUnassigned v c
 unfolding decomposition_mapping
-file_lacks v c h =
-    let some = mapped-off v c (list_all-none (is_assigned v) (file_mapping v c) h) in
-    record { lacks = ap (list_all (is_assigned v)) (cond-false _ (syllable_pair c) (file_mapping v c) some) ∙ h }
+file_lacks v c h = grind (arith, mapped-off, cond-false)
 
 cases_Entry : (o : Option Entry) → (o ≡ None) ⊎ ((e : Entry) × (o ≡ Some e))
 cases_Entry None = inl refl

@@ -1,5 +1,5 @@
 -- The composites that the rows of a file give.
-use Rattle.std.proofs.Common.{◌≡◌, ◌≢◌, ℕ, zero, suc, ◌+◌, Bool, true, false, ◌&&◌, List, [], ◌∷◌, ◌++◌, flat_map, Some, refl, sym, ap, subst, ◌∙◌, arith, inl, inr, take, append-nil}
+use Rattle.std.proofs.Common.{◌≡◌, ℕ, zero, suc, ◌+◌, Bool, true, false, ◌&&◌, List, [], ◌∷◌, ◌++◌, flat_map, Some, refl, sym, ap, subst, ◌∙◌, arith, inl, inr, take, append-nil}
 use Rattle.np_tables.proofs.Words.{Contains, slice_get, cases_Bool, none-some, same_Some, slice_get_within, get_or_from_slice_get, take_more, flat_map-append}
 use Rattle.np_tables.proofs.Words.{Contains-append_cases, Contains-append_left, Contains-append_right, Entry, AreRows, is_syllable, VersionData, entry_at}
 use Rattle.np_tables.proofs.Words.{file_mapping, decomposition_mapping, is_empty, has_hangul, lies_in, IsCompositeOf, is_primary, Composite, Lists, AreOfFile}

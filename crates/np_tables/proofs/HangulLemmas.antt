@@ -1,5 +1,5 @@
 -- The Hangul arithmetic: on exactly where each syllable and jamo is as it wants it, and what it then makes of each.
-use Rattle.std.proofs.Common.{◌≡◌, ◌≢◌, ℕ, zero, suc, ◌+◌, ◌-◌, ◌%◌, ◌<◌, ◌≤◌, ◌⊎◌, Bool, true, false, not, ◌&&◌, ◌||◌, [], ◌∷◌, refl, ap, ◌∙◌, arith, inl, inr, eqb-true}
+use Rattle.std.proofs.Common.{◌≡◌, ◌≢◌, ℕ, zero, suc, ◌+◌, ◌-◌, ◌%◌, ◌<◌, ◌≤◌, ◌⊎◌, Bool, true, false, not, ◌&&◌, ◌||◌, [], ◌∷◌, refl, ◌∙◌, arith, inl, inr, eqb-true}
 use Rattle.np_tables.proofs.Words.{list_all, cond-true, cond-false, and_parts, and_from, and_right, or_left, or_right, both_ways, is_among, is_syllable}
 use Rattle.np_tables.proofs.Words.{syllable_pair, Canonical, IsHangulWrong, HangulOn, HangulByArithmetic, VersionData, all_below, class_of}
 use Rattle.np_tables.proofs.Words.{decomposition_kind, decomposition_mapping, file_kind, file_mapping, has_hangul, is_assigned, is_empty, is_hangul}

@@ -48,22 +48,13 @@ inside_low text c count begins k some less =
     (λ x y z w _ low next last e. subst (λ l. get_or l k 0 < 192) (sym (read _ e)) (four x y z w rest low next last k some (omega (arith, less, size _ e))))
   where
     two : (x y : ℕ) (rest : List ℕ) → y < 192 → (k : ℕ) → 1 ≤ k → k < 2 → get_or (x ∷ y ∷ rest) k 0 < 192
-    two x y rest low zero some less = absurd (omega (arith, some))
-    two x y rest low (suc zero) some less = low
-    two x y rest low (suc (suc k)) some less = absurd (omega (arith, less))
+    two x y rest low k some less = let one : k ≡ 1 = omega (arith, some, less) in rw one low
 
     three : (x y z : ℕ) (rest : List ℕ) → y < 192 → z < 192 → (k : ℕ) → 1 ≤ k → k < 3 → get_or (x ∷ y ∷ z ∷ rest) k 0 < 192
-    three x y z rest low next zero some less = absurd (omega (arith, some))
-    three x y z rest low next (suc zero) some less = low
-    three x y z rest low next (suc (suc zero)) some less = next
-    three x y z rest low next (suc (suc (suc k))) some less = absurd (omega (arith, less))
+    three x y z rest low next k some less = grind arith
 
     four : (x y z w : ℕ) (rest : List ℕ) → y < 192 → z < 192 → w < 192 → (k : ℕ) → 1 ≤ k → k < 4 → get_or (x ∷ y ∷ z ∷ w ∷ rest) k 0 < 192
-    four x y z w rest low next last zero some less = absurd (omega (arith, some))
-    four x y z w rest low next last (suc zero) some less = low
-    four x y z w rest low next last (suc (suc zero)) some less = next
-    four x y z w rest low next last (suc (suc (suc zero))) some less = last
-    four x y z w rest low next last (suc (suc (suc (suc k)))) some less = absurd (omega (arith, less))
+    four x y z w rest low next last k some less = grind arith
 
 -- where nothing begins a character of several bytes behind a place, each place behind it is one between two characters
 pub boundary_at : (text : List ℕ) (end at : ℕ) → end ≤ at → at ≤ length text → IsUtf8 (drop end text) → ((k : ℕ) → end ≤ k → k < at → get_or text k 0 < 192) → IsCharBoundary text at

@@ -38,8 +38,7 @@ module _ (v : VersionData) (compat : Bool) where
   pub flat_map-same : (f g : ℕ → List ℕ) (p : ℕ → Bool) → ((c : ℕ) → p c ≡ true → f c ≡ g c) → (xs : List ℕ) → list_all p xs ≡ true → flat_map f xs ≡ flat_map g xs
   flat_map-same f g p same [] all = refl
   flat_map-same f g p same (x ∷ xs) all =
-      let halves = and_parts (p x) (list_all p xs) all in
-      ap (λ l. l ++ flat_map f xs) (same x halves.0) ∙ ap (λ l. g x ++ l) (flat_map-same f g p same xs halves.1)
+      let rest = flat_map-same f g p same xs in grind arith
 
   shallow_final : (c : ℕ) → has_depth v zero c ≡ true → is_final v compat c ≡ true
   unfolding has_depth
@@ -59,8 +58,7 @@ module _ (v : VersionData) (compat : Bool) where
   final-flat_map : (f : ℕ → List ℕ) (p q : ℕ → Bool) → ((c : ℕ) → p c ≡ true → list_all q (f c) ≡ true) → (xs : List ℕ) → list_all p xs ≡ true → list_all q (flat_map f xs) ≡ true
   final-flat_map f p q each [] all = refl
   final-flat_map f p q each (x ∷ xs) all =
-      let halves = and_parts (p x) (list_all p xs) all in
-      list_all-append q (f x) (flat_map f xs) (each x halves.0) (final-flat_map f p q each xs halves.1)
+      let rest = final-flat_map f p q each xs in grind (arith, list_all-append)
 
   final-full : (n c : ℕ) → has_depth v n c ≡ true → list_all (is_final v compat) (full v compat n c) ≡ true
   final-full zero c h = grind (arith, shallow_final, full-final, and_from)
