@@ -1,5 +1,5 @@
 -- The composite of a pair, and what it decomposes to.
-use Rattle.std.proofs.Common.{◌≡◌, ℕ, zero, suc, ◌<◌, ◌⊎◌, Bool, true, false, not, List, [], ◌∷◌, ◌++◌, Option, Some, None, IsTrue, ◌↔◌, refl, ap, ◌∙◌, arith, inl, inr, eqb-true, eq-eqb, append-nil}
+use Rattle.std.proofs.Common.{◌≡◌, ℕ, zero, suc, ◌<◌, ◌⊎◌, Bool, true, false, List, [], ◌∷◌, ◌++◌, Option, Some, None, IsTrue, ◌↔◌, refl, ap, ◌∙◌, arith, inl, inr, eqb-true, eq-eqb, append-nil}
 use Rattle.np_tables.proofs.Words.{cond-true, cond-false, and_parts, and_from, both_ways, VersionData, is_assigned, class_of, file_mapping, is_empty}
 use Rattle.np_tables.proofs.Words.{decomposition_mapping, parts, full_of, IsPrimary, IsCompositeOf, is_primary, or_this, least_below, is_pair, composite}
 use Rattle.np_tables.proofs.Words.{IsSound}
@@ -51,13 +51,10 @@ mapped-assigned v c h = grind (arith, and_parts, hangul_parts, syllable_row, fil
 
 -- ---- primary composites
 
-not_so : (b : Bool) → not b ≡ true → b ≡ false
-not_so b h = grind arith
-
 -- the relation and the test
 pub primary-from : (v : VersionData) (c : ℕ) → is_primary v c ≡ true → IsPrimary v c
 unfolding is_primary
-primary-from v c h = grind (arith, and_parts, eqb-true, not_so)
+primary-from v c h = grind (arith, and_parts, eqb-true)
 
 pub primary-test : (v : VersionData) (c : ℕ) → IsPrimary v c → is_primary v c ≡ true
 unfolding is_primary

@@ -62,12 +62,9 @@ module _ (v : VersionData) where
 pub mark-mapping : (v : VersionData) → AreRows v.entries → (n c : ℕ) → mark v n c ≡ mapping_mark v n (decomposition_mapping v c)
 mark-mapping v rows n c = mark-at v n c (decomposition_mapping v c) refl (parts-mapping v rows c)
 
-pub decomposition_mapping-file : (v : VersionData) (c : ℕ) → (has_hangul v && is_syllable c) ≡ false → decomposition_mapping v c ≡ mapping_in (entry_at v.entries c)
-unfolding decomposition_mapping file_mapping
-decomposition_mapping-file v c other = cond-false _ _ _ other
-
 pub mark-file : (v : VersionData) → AreRows v.entries → (n c : ℕ) → (has_hangul v && is_syllable c) ≡ false → mark v n c ≡ mapping_mark v n (mapping_in (entry_at v.entries c))
-mark-file v rows n c other = mark-mapping v rows n c ∙ ap (mapping_mark v n) (decomposition_mapping-file v c other)
+unfolding decomposition_mapping file_mapping
+mark-file v rows n c other = mark-mapping v rows n c ∙ ap (mapping_mark v n) (cond-false _ _ _ other)
 
 -- ---- a mark is 0 exactly where the depth is over the round
 
@@ -140,14 +137,10 @@ map_at f g none (e ∷ es) c h =
     let rest = map_at f g none es c (cc) in
     grind (arith, cond-true, cond-false)
 
-bare_mark : (v : VersionData) (m n : ℕ) → mapping_mark v m [] ≡ mapping_mark v n []
-unfolding mapping_mark
-bare_mark v m n = refl
-
 pub marks-from_rows : (v : VersionData) → AreRows v.entries → (m n c : ℕ) → row_marks v m ≡ row_marks v n → (has_hangul v && is_syllable c) ≡ false → mark v m c ≡ mark v n c
-unfolding row_marks
+unfolding row_marks mapping_mark
 marks-from_rows v rows m n c h other =
-    mark-file v rows m c other ∙ map_at (mapping_mark v m) (mapping_mark v n) (bare_mark v m n) v.entries c h ∙ sym (mark-file v rows n c other)
+    mark-file v rows m c other ∙ map_at (mapping_mark v m) (mapping_mark v n) refl v.entries c h ∙ sym (mark-file v rows n c other)
 
 -- ---- a mark that is not 0 stays in the rounds that follow
 

@@ -131,13 +131,12 @@ module _ (more : List Entry) where
         let length_is = mark-length version 32 c shallow in
         (shallow, omega arith)
 
-    parts_shallow : list_all (has_depth version 31) (0x41 ∷ 0x30A ∷ []) ≡ true
-    parts_shallow = and_from _ _ (bare_depth version 31 0x41 letter_mapping) (and_from _ _ (bare_depth version 31 0x30A ring_mapping) refl)
-
     shallow : (c : ℕ) → has_depth version 32 c ≡ true
     shallow c =
+        let letter_depth = bare_depth version 31 0x41 letter_mapping in
+        let ring_depth = bare_depth version 31 0x30A ring_mapping in
         by_mapping (λ d m. decomposition_mapping version d ≡ m → has_depth version 32 d ≡ true)
-        (λ d on _. (of_syllable d on).0) (λ e. suc_depth version 31 0xC5 _ e ∙ parts_shallow) (λ d e. bare_depth version 32 d e) c refl
+        (λ d on _. (of_syllable d on).0) (λ e. suc_depth version 31 0xC5 _ e ∙ and_from _ _ letter_depth (and_from _ _ ring_depth refl)) (λ d e. bare_depth version 32 d e) c refl
 
     final_full : (c : ℕ) → decomposition_mapping version c ≡ [] → full_of version true c ≡ c ∷ []
     final_full c none = full_of-final version true shallow c (parts-cases version true (λ l. is_empty l ≡ true) refl c (ap is_empty none))

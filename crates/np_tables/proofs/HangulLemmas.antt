@@ -162,8 +162,8 @@ pub head_hangul : (c : ℕ) → IsJamo c ⊎ IsLv c → is_hangul c ≡ true
 head_hangul c head = grind (arith, syllable_hangul)
 
 -- both parts of a pair are syllables or jamo
-pub pair_all : (p : ℕ → Bool) → ((c : ℕ) → is_hangul c ≡ true → p c ≡ true) → (s : ℕ) → is_syllable s ≡ true → list_all p (syllable_pair s) ≡ true
-pair_all p each s h = let shape = shape_of s h in grind (arith, head_hangul)
-
 pub pair_assigned : (v : VersionData) (s : ℕ) → has_hangul v ≡ true → is_syllable s ≡ true → list_all (is_assigned v) (syllable_pair s) ≡ true
-pair_assigned v s on h = pair_all (is_assigned v) (λ c hangul. (by_arithmetic v on c hangul).assigned) s h
+pair_assigned v s on h =
+    let shape = shape_of s h in
+    let each = λ (c : ℕ) (hangul : is_hangul c ≡ true). (by_arithmetic v on c hangul).assigned in
+    grind (arith, head_hangul)
