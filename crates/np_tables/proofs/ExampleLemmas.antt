@@ -109,10 +109,9 @@ module _ (more : List Entry) where
     pub by_mapping : (P : ℕ → List ℕ → Type 0) → ((c : ℕ) → (has_hangul version && is_syllable c) ≡ true → P c (syllable_pair c)) → P 0xC5 (0x41 ∷ 0x30A ∷ []) → ((c : ℕ) → P c []) → (c : ℕ) → P c (decomposition_mapping version c)
     unfolding file_mapping
     by_mapping P syllable pair none c =
-        elim (cases_Bool (has_hangul version && is_syllable c)) [
-          | inl on ↦ subst (P c) (sym (decomposition_mapping-on version c on)) (syllable c on)
-          | inr off ↦ subst (P c) (sym (decomposition_mapping-off version c off)) (in_file P pair none c)
-        ]
+        let file = in_file P pair none c in
+        let here = syllable c in
+        grind (arith, decomposition_mapping-on, decomposition_mapping-off)
 
     -- ---- the conditions
 

@@ -1,7 +1,7 @@
 -- The fault that is told, and the conditions where there is none.
-use Rattle.std.proofs.Common.{◌≡◌, ℕ, ◌+◌, ◌<◌, ◌≤◌, true, false, length, Option, Some, None, MatchOption, nat_lt, sym, subst, ◌∙◌, arith, inl, inr}
+use Rattle.std.proofs.Common.{◌≡◌, ℕ, ◌+◌, ◌<◌, ◌≤◌, true, false, length, Option, Some, None, MatchOption, sym, ◌∙◌, arith}
 use Rattle.std.specs.Prelude.{option_map}
-use Rattle.np_tables.proofs.Words.{list_all, cond-true, cond-false, cases_lt, lt-ltb, le-ltb, AreRows, IsCompositeOf, IsSound, IsMappedToUnassigned}
+use Rattle.np_tables.proofs.Words.{list_all, AreRows, IsCompositeOf, IsSound, IsMappedToUnassigned}
 use Rattle.np_tables.proofs.Words.{IsTooDeep, IsTooLong, IsAmbiguous, IsHangulWrong, IsFirst, IsLeastOf, AreFirsts, sooner, least_fault, has_depth}
 use Rattle.np_tables.proofs.Words.{VersionData, is_assigned, decomposition_mapping}
 use Rattle.np_tables.specs.declared.faults.FirstFaults.{FirstFaults}
@@ -70,12 +70,9 @@ module _ (v : VersionData) (n : ℕ) (P : ℕ → Type 0) (fault : ℕ → Table
   -- a first fault of the new kind, and none before
   step_only : (c : ℕ) → FirstTo v n None → IsLeastOf P c → FirstTo v (n + 1) (Some (fault c))
   unfolding FirstTo
-  step_only c first least = (
-    kind.has c least.holds,
-    (let num = kind.number c in omega arith),
-    λ g h le.
-        (let low = first g h in kind_first v n c P fault kind least g h (omega arith)),
-  )
+  step_only c first least =
+      let num = kind.number c in
+      (kind.has c least.holds, omega arith, λ g h le. let low = first g h in kind_first v n c P fault kind least g h (omega arith))
 
   -- the new one is sooner
   step_new : (f : TableFault) (c : ℕ) → FirstTo v n (Some f) → IsLeastOf P c → place_of (fault c) < place_of f → FirstTo v (n + 1) (Some (fault c))
@@ -104,11 +101,9 @@ module _ (v : VersionData) (n : ℕ) (P : ℕ → Type 0) (fault : ℕ → Table
   step best None first none = step_none best first none
   step None (Some c) first least = step_only c first least
   step (Some f) (Some c) first least =
-      let here = place_of (fault c) in
-      elim (cases_lt here (place_of f)) [
-        | inl lt ↦ subst (FirstTo v (n + 1)) (sym (cond-true (nat_lt here (place_of f)) (Some (fault c)) (Some f) (lt-ltb here (place_of f) lt))) (step_new f c first least lt)
-        | inr le ↦ subst (FirstTo v (n + 1)) (sym (cond-false (nat_lt here (place_of f)) (Some (fault c)) (Some f) (le-ltb here (place_of f) le))) (step_old f c first least le)
-      ]
+      let new = step_new f c first least in
+      let old = step_old f c first least in
+      grind arith
 
 -- what a fault is, by its number
 abbrev AreKinds : VersionData → TableFault → Type 0

@@ -9,8 +9,7 @@ use Rattle.np_tables.proofs.HangulLemmas.{hangul_parts, syllable_row}
 later : (x : Entry) (xs : List Entry) (i : ℕ) (e : Entry) → AreRows (x ∷ xs) → slice_get xs i ≡ Some e → x.last < e.first
 later x [] i e rows h = absurd (none-some e h)
 later x (y ∷ ys) zero e rows h = subst (λ (f : Entry). x.last < f.first) (same_Some y e h) rows.1
-later x (y ∷ ys) (suc i) e rows h =
-    let behind = later y ys i e rows.2 h in let rise = rows.2.0.rises in let next = rows.1 in omega arith
+later x (y ∷ ys) (suc i) e rows h = let behind = later y ys i e rows.2 h in let rise = rows.2.0.rises in let next = rows.1 in omega arith
 
 -- the row of a row's first code point is the row itself
 pub first-at : (es : List Entry) (i : ℕ) (e : Entry) → AreRows es → slice_get es i ≡ Some e → entry_at es e.first ≡ Some e
