@@ -1,8 +1,7 @@
 -- What is read of a row.
-use Rattle.std.proofs.Common.{◌≡◌, ℕ, ◌&&◌, ◌==◌, List, [], ◌∷◌, length, Option, is_some, refl, ap, arith, inl, inr, eqb-true}
-use Rattle.np_tables.proofs.Words.{cases_Bool, Entry, is_listed, VersionData, entry_at, class_in, kind_in, mapping_in}
-use Rattle.np_tables.proofs.Words.{is_assigned, class_of, file_kind, file_mapping, is_canonical, is_excluded, is_empty}
-use Rattle.np_tables.proofs.Words.{is_hangul_row, is_right_entry, is_right_at}
+use Rattle.std.proofs.Common.{◌≡◌, ℕ, ◌&&◌, ◌==◌, List, length, Option, is_some, refl, ap, arith, eqb-true}
+use Rattle.np_tables.proofs.Words.{Entry, is_listed, VersionData, entry_at, class_in, kind_in, mapping_in, is_assigned, class_of, file_kind, file_mapping}
+use Rattle.np_tables.proofs.Words.{is_canonical, is_excluded, is_empty, is_hangul_row, is_right_entry, is_right_at}
 
 pub is_assigned-at : (v : VersionData) (c : ℕ) → is_assigned v c ≡ is_some (entry_at v.entries c)
 unfolding is_assigned
@@ -29,9 +28,7 @@ unfolding is_excluded
 is_excluded-is v c = refl
 
 pub length-empty : (xs : List ℕ) → (length xs == 0) ≡ is_empty xs
-length-empty [] = refl
-length-empty (x ∷ xs) =
-    elim (cases_Bool (length (x ∷ xs) == 0)) [ inl none ↦ (let e = eqb-true (length (x ∷ xs)) 0 none in absurd (omega arith)) | inr some ↦ some ]
+length-empty xs = grind (arith, eqb-true)
 
 pub is_hangul_row-is : (v : VersionData) (c : ℕ) → is_hangul_row v c ≡ (is_assigned v c && class_of v c == 0 && is_empty (file_mapping v c))
 unfolding is_hangul_row

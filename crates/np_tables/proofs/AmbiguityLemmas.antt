@@ -1,10 +1,8 @@
 -- Pairs that two primary composites share.
-use Rattle.std.proofs.Common.{◌≡◌, ℕ, zero, suc, ◌+◌, ◌-◌, ◌<◌, ◌≤◌, max, min, true, ◌&&◌, List, [], ◌∷◌, length, get_or, Some, None, Option, IfSome, refl, sym, ap, subst, ◌∙◌, arith, inl, inr}
-use Rattle.np_tables.proofs.Words.{slice_get, cases_Bool, cases_lt, cases_order, and_parts, both_ways, same_Some}
-use Rattle.np_tables.proofs.Words.{slice_get_within, get_or_from_slice_get, slice_get-get_or, get_or_default, AreRows}
-use Rattle.np_tables.proofs.Words.{is_syllable, syllable_pair, VersionData, has_hangul, IsCompositeOf, IsAmbiguous}
-use Rattle.np_tables.proofs.Words.{IsFirst, Composite, Lists, AreOfFile, AreOrdered, IsAtMost, least_of, HasSmallerTwin}
-use Rattle.np_tables.proofs.Words.{IsSuspect}
+use Rattle.std.proofs.Common.{◌≡◌, ℕ, zero, suc, ◌+◌, ◌-◌, ◌<◌, ◌≤◌, max, true, ◌&&◌, List, [], ◌∷◌, length, get_or, Some, Option, IfSome, refl, sym, ap, ◌∙◌, arith, inl, inr}
+use Rattle.np_tables.proofs.Words.{slice_get, cases_Bool, cases_lt, and_parts, both_ways, same_Some, slice_get_within, get_or_from_slice_get}
+use Rattle.np_tables.proofs.Words.{slice_get-get_or, get_or_default, AreRows, is_syllable, syllable_pair, VersionData, has_hangul, IsCompositeOf, IsAmbiguous}
+use Rattle.np_tables.proofs.Words.{IsFirst, Composite, Lists, AreOfFile, AreOrdered, IsAtMost, least_of, HasSmallerTwin, IsSuspect}
 use Rattle.np_code_points.proofs.HangulLemmas.{pair_injective}
 use Rattle.np_tables.proofs.HangulLemmas.{decomposition_mapping-on}
 use Rattle.np_tables.proofs.PrimaryLemmas.{primary-syllable}
@@ -12,31 +10,15 @@ use Rattle.np_tables.proofs.PrimaryLemmas.{primary-syllable}
 -- ---- the lesser of two
 
 pub at_most_left : (a b : Option ℕ) (c : ℕ) → IsAtMost a c → IsAtMost (least_of a b) c
-at_most_left None b c h = absurd h
-at_most_left (Some a) None c h = h
-at_most_left (Some a) (Some b) c h = omega arith
+at_most_left a b c h = grind arith
 
 pub at_most_right : (a b : Option ℕ) (c : ℕ) → IsAtMost b c → IsAtMost (least_of a b) c
-at_most_right None b c h = h
-at_most_right (Some a) None c h = absurd h
-at_most_right (Some a) (Some b) c h = omega arith
-
-min_cases : (P : ℕ → Type 0) (a b : ℕ) → P a → P b → P (min a b)
-min_cases P a b p q =
-    elim (cases_lt a b) [
-      | inl less ↦ let e : a ≡ min a b = omega arith in subst P e p
-      | inr more ↦ let e : b ≡ min a b = omega arith in subst P e q
-    ]
+at_most_right a b c h = grind arith
 
 pub least_has : (P : ℕ → Type 0) (a b : Option ℕ) → IfSome a P → IfSome b P → IfSome (least_of a b) P
-least_has P None b p q = q
-least_has P (Some a) None p q = p
-least_has P (Some a) (Some b) p q = min_cases P a b p q
+least_has P a b p q = grind arith
 
 -- ---- pairs
-
-same_max : (s c : ℕ) → s < c → c ≡ max s c
-same_max s c h = omega arith
 
 -- ---- from ambiguous code points to places
 
@@ -55,24 +37,16 @@ module _ (v : VersionData) (cs : List Composite) where
     -- from a smaller composite up to a greater one of the same pair, somewhere the composite rises
     climb : (n j k a b low high : ℕ) → j + n ≡ k → k < length cs → (d : Composite) → (get_or cs j d).first ≡ a → (get_or cs j d).second ≡ b → (get_or cs j d).code ≤ low →
         get_or cs k d ≡ record { first = a; second = b; code = high } → low < high → Found high
-    climb zero j k a b low high to lt d first second code top less =
-        let same : j ≡ k = omega arith in
-        let here = ap (λ i. (get_or cs i d).code) same in
-        let there = ap (λ (c : Composite). c.code) top in
-        absurd (omega arith)
+    climb zero j k a b low high to lt d first second code top less = grind arith
     climb (suc n) j k a b low high to lt d first second code top less =
         let in_next : j + 1 < length cs = omega arith in
         let in_here : j < length cs = omega arith in
         let up = order.rising j (j + 1) d (omega arith) in_next in
         let top_up = order.rising (j + 1) k d (omega arith) lt in
-        let range = order.range j d in_here in
         let range_next = order.range (j + 1) d in_next in
         let range_top = order.range k d lt in
-        let top_first = ap (λ (c : Composite). c.first) top in
-        let top_second = ap (λ (c : Composite). c.second) top in
-        let top_code = ap (λ (c : Composite). c.code) top in
-        let next_first : (get_or cs (j + 1) d).first ≡ a = omega arith in
-        let next_second : (get_or cs (j + 1) d).second ≡ b = omega arith in
+        let next_first : (get_or cs (j + 1) d).first ≡ a = grind arith in
+        let next_second : (get_or cs (j + 1) d).second ≡ b = grind arith in
         elim (cases_lt (get_or cs j d).code (get_or cs (j + 1) d).code) [
           | inl rises ↦
               let before_at = slice_get-get_or cs j d in_here in
@@ -97,7 +71,7 @@ module _ (v : VersionData) (cs : List Composite) where
                   here_at = here_at;
                   code = refl;
                 });
-                low = omega arith;
+                low = grind arith;
               }
           | inr falls ↦ climb n (j + 1) k a b low high (omega arith) lt d next_first next_second (omega arith) top less
         ]
@@ -106,17 +80,9 @@ module _ (v : VersionData) (cs : List Composite) where
     twins a b d c low high less =
         let x : Composite = record { first = a; second = b; code = c } in
         let low_is = get_or_default cs low.0 x (record { first = a; second = b; code = d }) low.1 ∙ low.2 in
-        let first = ap (λ (y : Composite). y.first) low_is in
-        let second = ap (λ (y : Composite). y.second) low_is in
-        let code = ap (λ (y : Composite). y.code) low_is in
         elim (cases_lt low.0 high.0) [
-          | inl before ↦ climb (high.0 - low.0) low.0 high.0 a b d c (omega arith) high.1 x first second (omega arith) high.2 less
-          | inr behind ↦
-              let up = order.rising high.0 low.0 x behind low.1 in
-              let top_first = ap (λ (y : Composite). y.first) high.2 in
-              let top_second = ap (λ (y : Composite). y.second) high.2 in
-              let top_code = ap (λ (y : Composite). y.code) high.2 in
-              absurd (omega arith)
+          | inl before ↦ climb (high.0 - low.0) low.0 high.0 a b d c (omega arith) high.1 x (cc) (cc) (grind arith) high.2 less
+          | inr behind ↦ let up = order.rising high.0 low.0 x behind low.1 in absurd (grind arith)
         ]
 
     module _ (rows : AreRows v.entries) (file : AreOfFile v cs) where
@@ -142,14 +108,11 @@ module _ (v : VersionData) (cs : List Composite) where
             | inl on ↦
                 let own : syllable_pair c ≡ a ∷ b ∷ [] = sym (decomposition_mapping-on v c on) ∙ pair in
                 elim (cases_Bool (has_hangul v && is_syllable h.other)) [
-                  | inl other_on ↦
-                      let same = pair_injective h.other c (and_parts _ _ other_on).1 (and_parts _ _ on).1 (sym (decomposition_mapping-on v h.other other_on) ∙ there.mapping ∙ sym own) in
-                      let less = h.smaller in
-                      absurd (omega arith)
+                  | inl other_on ↦ let less = h.smaller in grind (arith, pair_injective, and_parts, decomposition_mapping-on)
                   | inr other_off ↦ let less = h.smaller in beside a b c c h.other on own (file.all a b h.other there other_off) (omega arith)
                 ]
             | inr off ↦ elim (cases_Bool (has_hangul v && is_syllable h.other)) [
-              | inl other_on ↦ beside a b h.other c c other_on (sym (decomposition_mapping-on v h.other other_on) ∙ there.mapping) (file.all a b c here off) (same_max h.other c h.smaller)
+              | inl other_on ↦ beside a b h.other c c other_on (sym (decomposition_mapping-on v h.other other_on) ∙ there.mapping) (file.all a b c here off) (let less = h.smaller in omega arith)
               | inr other_off ↦ twins a b h.other c (file.all a b h.other there other_off) (file.all a b c here off) h.smaller
             ]
           ]
@@ -165,18 +128,10 @@ module _ (v : VersionData) (cs : List Composite) where
         let same = same_Some t.here here (sym t.here_at ∙ at) in
         let high = file.composites here.first here.second here.code (listed k here at) in
         let low = file.composites t.before.first t.before.second t.before.code (listed t.behind t.before t.before_at) in
-        let first : t.before.first ≡ here.first = t.first ∙ ap (λ (y : Composite). y.first) same in
         let second : t.before.second ≡ here.second = t.second ∙ ap (λ (y : Composite). y.second) same in
         let code = ap (λ (y : Composite). y.code) same in
         let less = t.smaller in
-        subst (IsAmbiguous v) (sym is)
-        (record {
-          primary = high.primary;
-          other = t.before.code;
-          smaller = omega arith;
-          other_primary = low.primary;
-          same = low.mapping ∙ ap (λ a. a ∷ t.before.second ∷ []) first ∙ ap (λ b. here.first ∷ b ∷ []) second ∙ sym high.mapping;
-        })
+        grind arith
 
     pub beside_ambiguous : (k c s : ℕ) (here : Composite) → AreRows v.entries → slice_get cs k ≡ Some here → (has_hangul v && is_syllable s) ≡ true → syllable_pair s ≡ here.first ∷ here.second ∷ [] → c ≡ max s here.code → IsAmbiguous v c
     beside_ambiguous k c s here rows at on pair is =
@@ -185,38 +140,20 @@ module _ (v : VersionData) (cs : List Composite) where
         let off = file.no_syllables here.first here.second here.code lists in
         let primary = primary-syllable v s rows on in
         let same = decomposition_mapping-on v s on ∙ pair ∙ sym composite.mapping in
-        elim (cases_order s here.code) [
-          | inl equal ↦ absurd (both_ways _ off (sym (ap (λ c. has_hangul v && is_syllable c) equal) ∙ on))
-          | inr other ↦ elim other [
-            | inl less ↦
-                let greater : here.code ≡ c = omega arith in
-                subst (IsAmbiguous v) greater (record { primary = composite.primary; other = s; smaller = less; other_primary = primary; same = same })
-            | inr more ↦
-                let greater : s ≡ c = omega arith in
-                subst (IsAmbiguous v) greater (record { primary = primary; other = here.code; smaller = more; other_primary = composite.primary; same = sym same })
-          ]
-        ]
+        grind (arith, both_ways)
 
   pub beside_least : (k m s : ℕ) (here : Composite) → slice_get cs k ≡ Some here → (has_hangul v && is_syllable s) ≡ true → syllable_pair s ≡ here.first ∷ here.second ∷ [] → m ≡ max s here.code →
       ¬ HasSmallerTwin cs k → (c : ℕ) → IsSuspect v cs k c → m ≤ c
   beside_least k m s here at on pair is lone c (inl twin) = absurd (lone twin.twin)
-  beside_least k m s here at on pair is lone c (inr b) =
-      let same = same_Some b.here here (sym b.here_at ∙ at) in
-      let pairs : syllable_pair b.syllable ≡ syllable_pair s = b.pair ∙ ap (λ (y : Composite). y.first ∷ y.second ∷ []) same ∙ sym pair in
-      let syllables = pair_injective b.syllable s (and_parts _ _ b.on).1 (and_parts _ _ on).1 pairs in
-      let code = ap (λ (y : Composite). y.code) same in
-      let is_c = b.code in
-      omega arith
+  beside_least k m s here at on pair is lone c (inr b) = grind (arith, same_Some, pair_injective, and_parts)
 
 -- ---- the least of all
 
 at_most_low : (o : Option ℕ) (c d : ℕ) → c ≤ d → IsAtMost o c → IsAtMost o d
-at_most_low None c d le h = absurd h
-at_most_low (Some a) c d le h = omega arith
+at_most_low o c d le h = grind arith
 
 pub is_first : (P : ℕ → Type 0) (first : Option ℕ) → IfSome first P → ((c : ℕ) → P c → IsAtMost first c) → IsFirst P first
-is_first P None has least = λ c h. least c h
-is_first P (Some a) has least = record { holds = has; least = least }
+is_first P first has least = grind arith
 
 pub first_of_places : (v : VersionData) (cs : List Composite) → AreOrdered cs → AreRows v.entries → AreOfFile v cs → (first : Option ℕ) → IfSome first (IsAmbiguous v) →
     ((k c : ℕ) → k < length cs → IsSuspect v cs k c → IsAtMost first c) → IsFirst (IsAmbiguous v) first

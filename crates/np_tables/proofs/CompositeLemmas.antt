@@ -1,11 +1,8 @@
 -- The composite of a pair, and what it decomposes to.
-use Rattle.std.proofs.Common.{◌≡◌, ℕ, zero, suc, ◌<◌, ◌⊎◌, Bool, true, false, not, ◌&&◌, ◌==◌, List, [], ◌∷◌, ◌++◌, flat_map, Option, Some, None, is_some, IsTrue, ◌↔◌, refl, sym, ap, ◌∙◌, arith, inl, inr, eqb-true, eq-eqb, append-nil}
-use Rattle.np_tables.proofs.Words.{cond-true, cond-false, cases_Bool, cases_eq, and_parts, and_from, both_ways}
-use Rattle.np_tables.proofs.Words.{VersionData, entry_at, is_assigned, class_of, file_mapping, mapping_in, is_canonical}
-use Rattle.np_tables.proofs.Words.{is_empty, is_excluded, decomposition_kind, decomposition_mapping, has_hangul, Entry}
-use Rattle.np_tables.proofs.Words.{MapKind, Plain, Canonical, Compatibility, is_syllable, counts, parts, full_of}
-use Rattle.np_tables.proofs.Words.{IsPrimary, IsCompositeOf, is_starter_pair, is_primary, or_this, least_below, is_pair}
-use Rattle.np_tables.proofs.Words.{composite, IsSound}
+use Rattle.std.proofs.Common.{◌≡◌, ℕ, zero, suc, ◌<◌, ◌⊎◌, Bool, true, false, List, [], ◌∷◌, ◌++◌, Option, Some, None, IsTrue, ◌↔◌, refl, ap, ◌∙◌, arith, inl, inr, eqb-true, eq-eqb, append-nil}
+use Rattle.np_tables.proofs.Words.{cond-true, cond-false, and_parts, and_from, both_ways, VersionData, is_assigned, class_of, file_mapping, is_empty}
+use Rattle.np_tables.proofs.Words.{decomposition_mapping, parts, full_of, IsPrimary, IsCompositeOf, is_primary, or_this, least_below, is_pair, composite}
+use Rattle.np_tables.proofs.Words.{IsSound}
 use Rattle.np_tables.proofs.HangulLemmas.{hangul_parts, syllable_row}
 use Rattle.np_code_points.proofs.HangulLemmas.{first_same}
 use Rattle.np_tables.proofs.MappingLemmas.{full_of-mapped}
@@ -13,133 +10,66 @@ use Rattle.np_tables.proofs.MappingLemmas.{full_of-mapped}
 -- ---- the least number that passes
 
 or_this-some : (o : Option ℕ) (b : Bool) (n k : ℕ) → or_this o b n ≡ Some k → (o ≡ Some k) ⊎ ((o ≡ None) × (b ≡ true) × (n ≡ k))
-or_this-some (Some j) b n k h = inl h
-or_this-some None true n k h = inr (refl, refl, cc)
-or_this-some None false n k h = cc
+or_this-some o b n k h = grind arith
 
 least_below-some : (p : ℕ → Bool) (n k : ℕ) → least_below p n ≡ Some k → p k ≡ true
 unfolding least_below
 least_below-some p zero k h = cc
 least_below-some p (suc n) k h =
-    elim (or_this-some (least_below p n) (p n) n k h) [
-      | inl before ↦ least_below-some p n k before
-      | inr here ↦ sym (ap p here.2) ∙ here.1
-    ]
+    let rest = least_below-some p n k in grind (arith, or_this-some)
 
 or_this-none : (o : Option ℕ) (b : Bool) (n : ℕ) → or_this o b n ≡ None → (o ≡ None) × (b ≡ false)
-or_this-none (Some j) b n h = cc
-or_this-none None true n h = cc
-or_this-none None false n h = (refl, refl)
+or_this-none o b n h = grind arith
 
 least_below-none : (p : ℕ → Bool) (n k : ℕ) → least_below p n ≡ None → k < n → p k ≡ false
 unfolding least_below
 least_below-none p zero k h lt = absurd (omega arith)
 least_below-none p (suc n) k h lt =
     let halves = or_this-none (least_below p n) (p n) n h in
-    elim (cases_eq k n) [
-      | inl same ↦ ap p same ∙ halves.1
-      | inr other ↦ least_below-none p n k halves.0 (omega arith)
-    ]
+    let rest = least_below-none p n k halves.0 in
+    grind arith
 
 pub cases_Option : (o : Option ℕ) → (o ≡ None) ⊎ ((p : ℕ) × (o ≡ Some p))
 cases_Option None = inl refl
 cases_Option (Some p) = inr (p, refl)
 
 is_pair-true : (a b : ℕ) (xs : List ℕ) → is_pair a b xs ≡ true → xs ≡ a ∷ b ∷ []
-is_pair-true a b [] h = cc
-is_pair-true a b (x ∷ []) h = cc
-is_pair-true a b (x ∷ y ∷ []) h =
-    let halves = and_parts (x == a) (y == b) h in
-    let first = eqb-true x a halves.0 in
-    let second = eqb-true y b halves.1 in
-    cc
-is_pair-true a b (x ∷ y ∷ z ∷ zs) h = cc
+is_pair-true a b xs h = grind (arith, and_parts, eqb-true)
 
 is_pair_from : (a b : ℕ) (xs : List ℕ) → xs ≡ a ∷ b ∷ [] → is_pair a b xs ≡ true
 is_pair_from a b xs e = ap (is_pair a b) e ∙ and_from _ _ (eq-eqb a a refl) (eq-eqb b b refl)
 
 -- ---- a code point with a mapping is assigned
 
-mapped_in : (o : Option Entry) → is_empty (mapping_in o) ≡ false → is_some o ≡ true
-mapped_in None h = cc
-mapped_in (Some e) h = refl
-
 file_mapped-assigned : (v : VersionData) (c : ℕ) → is_empty (file_mapping v c) ≡ false → is_assigned v c ≡ true
 unfolding file_mapping is_assigned
-file_mapped-assigned v c h = mapped_in (entry_at v.entries c) h
+file_mapped-assigned v c h = grind arith
 
 pub mapped-assigned : (v : VersionData) (c : ℕ) → is_empty (decomposition_mapping v c) ≡ false → is_assigned v c ≡ true
 unfolding decomposition_mapping
-mapped-assigned v c h =
-    elim (cases_Bool (has_hangul v && is_syllable c)) [
-      | inl hangul ↦
-          let halves = and_parts (has_hangul v) (is_syllable c) hangul in
-          (hangul_parts v c (syllable_row v c halves.0 halves.1)).assigned
-      | inr other ↦ file_mapped-assigned v c (sym (ap is_empty (cond-false _ _ _ other)) ∙ h)
-    ]
+mapped-assigned v c h = grind (arith, and_parts, hangul_parts, syllable_row, file_mapped-assigned, cond-false)
 
 -- ---- primary composites
-
-canonical_only : (kind : MapKind) → is_canonical kind ≡ true → kind ≡ Canonical
-canonical_only Plain h = cc
-canonical_only Canonical h = refl
-canonical_only Compatibility h = cc
-
--- a pair of which the first is a starter
-record StarterPair (ccc : ℕ → ℕ) (xs : List ℕ) : Type 0 where
-  first : ℕ
-  second : ℕ
-  pair : xs ≡ first ∷ second ∷ []
-  starter : ccc first ≡ 0
-
-starter_pair : (ccc : ℕ → ℕ) (xs : List ℕ) → is_starter_pair ccc xs ≡ true → StarterPair ccc xs
-starter_pair ccc [] h = cc
-starter_pair ccc (a ∷ []) h = cc
-starter_pair ccc (a ∷ b ∷ []) h = record { first = a; second = b; pair = refl; starter = eqb-true (ccc a) 0 h }
-starter_pair ccc (a ∷ b ∷ c ∷ cs) h = cc
-
-not_so : (b : Bool) → not b ≡ true → b ≡ false
-not_so true h = cc
-not_so false h = refl
 
 -- the relation and the test
 pub primary-from : (v : VersionData) (c : ℕ) → is_primary v c ≡ true → IsPrimary v c
 unfolding is_primary
-primary-from v c h =
-    let halves = and_parts (is_canonical (decomposition_kind v c) && is_starter_pair (class_of v) (decomposition_mapping v c)) _ h in
-    let front = and_parts (is_canonical (decomposition_kind v c)) _ halves.0 in
-    let back = and_parts (not (is_excluded v c)) _ halves.1 in
-    let pair = starter_pair (class_of v) (decomposition_mapping v c) front.1 in
-    record {
-      canonical = canonical_only _ front.0;
-      first = pair.first;
-      second = pair.second;
-      pair = pair.pair;
-      starter = eqb-true (class_of v c) 0 back.1;
-      first_starter = pair.starter;
-      included = not_so _ back.0;
-    }
+primary-from v c h = grind (arith, and_parts, eqb-true)
 
 pub primary-test : (v : VersionData) (c : ℕ) → IsPrimary v c → is_primary v c ≡ true
 unfolding is_primary
-primary-test v c is =
-    and_from _ _
-    (and_from _ _ (ap is_canonical is.canonical) (ap (is_starter_pair (class_of v)) is.pair ∙ eq-eqb (class_of v is.first) 0 is.first_starter))
-    (and_from _ _ (ap not is.included) (eq-eqb (class_of v c) 0 is.starter))
+primary-test v c is = grind (arith, and_from, eq-eqb)
 
 -- what a call that makes the test answers
 pub primary-decides : (v : VersionData) (c : ℕ) (b : Bool) → b ≡ is_primary v c → IsTrue b ↔ IsPrimary v c
-primary-decides v c b is =
-    (λ h. primary-from v c (sym is ∙ h), λ h. is ∙ primary-test v c h)
+primary-decides v c b is = grind (arith, primary-from, primary-test)
 
 pub composite_parts : (v : VersionData) (compat : Bool) (a b c : ℕ) → IsCompositeOf v a b c → parts v compat c ≡ a ∷ b ∷ []
 unfolding parts
-composite_parts v compat a b c h =
-    cond-true _ _ _ (ap (counts compat) h.primary.canonical) ∙ h.mapping
+composite_parts v compat a b c h = grind (arith, cond-true)
 
 pub composite_first : (v : VersionData) (a b c : ℕ) → IsCompositeOf v a b c → class_of v a ≡ 0
-composite_first v a b c h =
-    sym (ap (class_of v) (first_same h.primary.first h.primary.second a b (sym h.primary.pair ∙ h.mapping))) ∙ h.primary.first_starter
+composite_first v a b c h = grind (arith, first_same)
 
 pub composite-assigned : (v : VersionData) (a b c : ℕ) → IsCompositeOf v a b c → is_assigned v c ≡ true
 composite-assigned v a b c h = mapped-assigned v c (ap is_empty h.mapping)
@@ -156,10 +86,9 @@ composite-some v a b c h =
 -- no pair with this second part has a composite
 pub composite-never : (v : VersionData) (s : ℕ) → ((a p : ℕ) → ¬ (IsCompositeOf v a s p)) → (a : ℕ) → composite v a s ≡ None
 composite-never v s never a =
-    elim (cases_Option (composite v a s)) [
-      | inr some ↦ absurd (never a some.0 (composite-some v a s some.0 some.1))
-      | inl none_there ↦ none_there
-    ]
+    let no = λ (p : ℕ) (h : composite v a s ≡ Some p). never a p (composite-some v a s p h) in
+    let cases = cases_Option (composite v a s) in
+    grind arith
 
 module _ (v : VersionData) (sound : IsSound v) where
   pub composite-none : (a b c : ℕ) → composite v a b ≡ None → ¬ IsCompositeOf v a b c
@@ -170,16 +99,14 @@ module _ (v : VersionData) (sound : IsSound v) where
 
   pub composite_from : (a b c : ℕ) → IsCompositeOf v a b c → composite v a b ≡ Some c
   composite_from a b c is =
-      elim (cases_Option (composite v a b)) [
-        | inl none ↦ absurd (composite-none a b c none is)
-        | inr some ↦ some.1 ∙ ap Some (sound.unlike a b some.0 c (composite-some v a b some.0 some.1) is)
-      ]
+      let some = λ (d : ℕ) (h : composite v a b ≡ Some d). sound.unlike a b d c (composite-some v a b d h) is in
+      let none = λ (h : composite v a b ≡ None). composite-none a b c h is in
+      grind arith
 
   pub composite-splits : (compat : Bool) (a b c : ℕ) → composite v a b ≡ Some c → full_of v compat c ≡ full_of v compat a ++ full_of v compat b
   composite-splits compat a b c h =
       let parts_are = composite_parts v compat a b c (composite-some v a b c h) in
-      full_of-mapped v compat sound.shallow c (ap is_empty parts_are) ∙ ap (flat_map (full_of v compat)) parts_are
-      ∙ ap (λ l. full_of v compat a ++ l) (append-nil (full_of v compat b))
+      grind (arith, full_of-mapped, append-nil)
 
   pub composite-starter : (a b c : ℕ) → composite v a b ≡ Some c → class_of v c ≡ 0
   composite-starter a b c h = (composite-some v a b c h).primary.starter

@@ -1,8 +1,7 @@
 -- The assigned code points are counted by the sizes of the rows.
-use Rattle.std.proofs.Common.{◌≡◌, ℕ, zero, suc, ◌+◌, ◌-◌, ◌<◌, ◌≤◌, ◌⊎◌, Bool, true, false, nat_le, List, [], ◌∷◌, length, drop, Some, None, is_some, refl, sym, ap, ◌∙◌, subst, arith, inl, inr, le-leb, if◌then◌else◌}
-use Rattle.np_tables.proofs.Words.{slice_get, cases_Bool, cases_lt, and_parts, leb-true, and_from, drop_all, none-some}
-use Rattle.np_tables.proofs.Words.{same_Some, Entry, IsRow, IsBefore, AreRows, lies_in, VersionData, entry_at}
-use Rattle.np_tables.proofs.Words.{is_assigned}
+use Rattle.std.proofs.Common.{◌≡◌, ℕ, zero, suc, ◌+◌, ◌-◌, ◌<◌, ◌≤◌, ◌⊎◌, Bool, true, false, List, [], ◌∷◌, length, drop, Some, None, is_some, refl, sym, ap, ◌∙◌, subst, arith, inl, inr, le-leb, if◌then◌else◌}
+use Rattle.np_tables.proofs.Words.{slice_get, cases_lt, and_parts, leb-true, and_from, drop_all, none-some, same_Some, Entry, IsRow, IsBefore, AreRows}
+use Rattle.np_tables.proofs.Words.{lies_in, VersionData, entry_at, is_assigned}
 use Rattle.np_tables.specs.Counts.{count_below, assigned_count}
 use Rattle.np_tables.proofs.RowLemmas.{entry_at-nil, entry_at-hit, entry_at-miss, out_of, below_out}
 
@@ -22,10 +21,7 @@ unfolding count_below
 count-le p zero = omega arith
 count-le p (suc n) =
     let rest = count-le p n in
-    elim (cases_Bool (p n)) [
-      | inl on ↦ (let one : one_if (p n) ≡ 1 = ap one_if on in omega arith)
-      | inr off ↦ (let none : one_if (p n) ≡ 0 = ap one_if off in omega arith)
-    ]
+    grind arith
 
 -- what passes one test passes the other
 module _ (p q : ℕ → Bool) (passes : (c : ℕ) → p c ≡ true → q c ≡ true) where
@@ -34,12 +30,7 @@ module _ (p q : ℕ → Bool) (passes : (c : ℕ) → p c ≡ true → q c ≡ t
   count-most zero = omega arith
   count-most (suc n) =
       let rest = count-most n in
-      elim (cases_Bool (p n)) [
-        | inl on ↦
-            (let one : one_if (p n) ≡ 1 = ap one_if on in
-            let other : one_if (q n) ≡ 1 = ap one_if (passes n on) in omega arith)
-        | inr off ↦ (let none : one_if (p n) ≡ 0 = ap one_if off in omega arith)
-      ]
+      grind (arith, and_parts, and_from)
 
   -- where no more pass the other, the same ones do
   pub count-same : (n c : ℕ) → count_below q n ≤ count_below p n → c < n → q c ≡ true → p c ≡ true
@@ -47,22 +38,9 @@ module _ (p q : ℕ → Bool) (passes : (c : ℕ) → p c ≡ true → q c ≡ t
   count-same zero c le lt has = absurd (omega (arith, lt))
   count-same (suc n) c le lt has =
       let rest = count-most n in
-      elim (cases_Bool (p n)) [
-        | inl on ↦
-            (let one : one_if (p n) ≡ 1 = ap one_if on in
-            let other : one_if (q n) ≡ 1 = ap one_if (passes n on) in
-            elim (cases_lt c n) [
-              | inl below ↦ count-same n c (omega arith) below has
-              | inr here ↦ (let same : n ≡ c = omega (arith, lt, here) in subst (λ x. p x ≡ true) same on)
-            ])
-        | inr off ↦
-            (let none : one_if (p n) ≡ 0 = ap one_if off in
-            elim (cases_lt c n) [
-              | inl below ↦ count-same n c (omega arith) below has
-              | inr here ↦
-                  (let same : c ≡ n = omega (arith, lt, here) in
-                  let other : one_if (q n) ≡ 1 = ap one_if (subst (λ x. q x ≡ true) same has) in absurd (omega arith))
-            ])
+      elim (cases_lt c n) [
+        | inl below ↦ count-same n c (grind arith) below has
+        | inr last ↦ (let same : c ≡ n = omega (arith, lt, last) in let has_n = subst (λ x. q x ≡ true) same has in subst (λ x. p x ≡ true) (sym same) (grind arith))
       ]
 
 count-none : (p : ℕ → Bool) (n : ℕ) → ((c : ℕ) → p c ≡ false) → count_below p n ≡ 0
@@ -70,8 +48,7 @@ unfolding count_below
 count-none p zero none = refl
 count-none p (suc n) none =
     let rest = count-none p n none in
-    let here : one_if (p n) ≡ 0 = ap one_if (none n) in
-    omega arith
+    grind (arith, and_parts, and_from)
 
 -- a row counts what of it is below n
 count-run : (e : Entry) (n : ℕ) → e.first ≤ e.last → ((n ≤ e.first) × (count_below (λ c. lies_in (Some e) c) n ≡ 0)) ⊎ (((e.first < n) × (n ≤ e.last + 1) × (count_below (λ c. lies_in (Some e) c) n ≡ n - e.first)) ⊎ ((e.last < n) × (count_below (λ c. lies_in (Some e) c) n ≡ e.last - e.first + 1)))
@@ -79,26 +56,10 @@ unfolding count_below
 count-run e zero le = inl (omega arith, refl)
 count-run e (suc n) le =
     let rest = count-run e n le in
-    elim (cases_lt n e.first) [
-      | inl low ↦
-          (let none : one_if (lies_in (Some e) n) ≡ 0 = ap one_if (below_out e n low) in
-          inl (omega arith, (elim rest [ inl a ↦ (let z = a.1 in omega arith) | inr b ↦ elim b [ inl c ↦ absurd (omega arith) | inr d ↦ absurd (omega arith) ] ])))
-      | inr from ↦ elim (cases_lt e.last n) [
-        | inl high ↦
-            (let none : one_if (lies_in (Some e) n) ≡ 0 = ap one_if (out_of e n high) in
-            inr (inr (omega arith, (elim rest [ inl a ↦ absurd (omega arith) | inr b ↦ elim b [ inl c ↦ (let z = c.2 in omega arith) | inr d ↦ (let z = d.1 in omega arith) ] ]))))
-        | inr to ↦
-            (let one : one_if (lies_in (Some e) n) ≡ 1 = ap one_if (and_from _ _ (le-leb e.first n from) (le-leb n e.last to)) in
-            inr (inl (omega arith, omega arith, (elim rest [ inl a ↦ (let z = a.1 in omega arith) | inr b ↦ elim b [ inl c ↦ (let z = c.2 in omega arith) | inr d ↦ absurd (omega arith) ] ]))))
-      ]
-    ]
+    grind (arith, below_out, out_of, and_from, le-leb)
 
 count-row : (e : Entry) (n : ℕ) → e.first ≤ e.last → e.last < n → count_below (λ c. lies_in (Some e) c) n ≡ e.last - e.first + 1
-count-row e n le lt =
-    elim (count-run e n le) [
-      | inl a ↦ absurd (omega arith)
-      | inr b ↦ elim b [ inl c ↦ (let z = c.2 in omega arith) | inr d ↦ d.1 ]
-    ]
+count-row e n le lt = grind (arith, count-run)
 
 -- two tests of which no number passes both
 count-both : (p q r : ℕ → Bool) (n : ℕ) → ((c : ℕ) → ((p c ≡ true) × (q c ≡ false) × (r c ≡ true)) ⊎ ((p c ≡ false) × (q c ≡ r c))) → count_below r n ≡ count_below p n + count_below q n
@@ -106,34 +67,17 @@ unfolding count_below
 count-both p q r zero either = refl
 count-both p q r (suc n) either =
     let rest = count-both p q r n either in
-    elim (either n) [
-      | inl one ↦
-          (let a : one_if (p n) ≡ 1 = ap one_if one.0 in
-          let b : one_if (q n) ≡ 0 = ap one_if one.1 in
-          let d : one_if (r n) ≡ 1 = ap one_if one.2 in omega arith)
-      | inr other ↦
-          (let a : one_if (p n) ≡ 0 = ap one_if other.0 in
-          let b : one_if (q n) ≡ one_if (r n) = ap one_if other.1 in omega arith)
-    ]
+    grind (arith, and_parts, and_from)
 
 -- the rows after one list none of its code points
 after_none : (e : Entry) (es : List Entry) (c : ℕ) → IsBefore e es → AreRows es → c ≤ e.last → entry_at es c ≡ None
 after_none e [] c before rows le = entry_at-nil c
-after_none e (f ∷ fs) c before rows le =
-    let up = rows.0.rises in
-    entry_at-miss f fs c (below_out f c (omega arith)) ∙ after_none f fs c rows.1 rows.2 (omega arith)
-
-high_end : (e : Entry) (c : ℕ) → lies_in (Some e) c ≡ true → c ≤ e.last
-high_end e c h = leb-true c e.last (and_parts (nat_le e.first c) (nat_le c e.last) h).1
+after_none e (f ∷ fs) c before rows le = entry_at-miss f fs c (below_out f c (omega arith)) ∙ after_none f fs c rows.1 rows.2 (omega arith)
 
 listed_either : (e : Entry) (es : List Entry) (c : ℕ) → IsBefore e es → AreRows es
     → ((lies_in (Some e) c ≡ true) × (listed es c ≡ false) × (listed (e ∷ es) c ≡ true)) ⊎ ((lies_in (Some e) c ≡ false) × (listed es c ≡ listed (e ∷ es) c))
 unfolding listed
-listed_either e es c before rows =
-    elim (cases_Bool (lies_in (Some e) c)) [
-      | inl on ↦ inl (on, ap is_some (after_none e es c before rows (high_end e c on)), ap is_some (entry_at-hit e es c on))
-      | inr off ↦ inr (off, sym (ap is_some (entry_at-miss e es c off)))
-    ]
+listed_either e es c before rows = grind (arith, after_none, entry_at-hit, entry_at-miss, leb-true, and_parts)
 
 count-listed : (es : List Entry) (n : ℕ) → AreRows es → ((e : Entry) → IsRow e → e.last < n) → count_below (listed es) n ≡ sizes es
 unfolding sizes listed

@@ -1,10 +1,8 @@
 -- Marks of code points, round by round.
-use Rattle.std.proofs.Common.{◌≡◌, ℕ, zero, suc, ◌<◌, ◌≤◌, Bool, true, false, ◌&&◌, min, List, [], ◌∷◌, map, flat_map, length, refl, sym, ap, subst, ◌∙◌, leb, inl, inr, arith}
-use Rattle.np_tables.proofs.Words.{cond-true, cond-false, cases_Bool, cases_eq, both_ways, and_parts, and_from}
-use Rattle.np_tables.proofs.Words.{list_all, Entry, AreRows, HasLength, MapKind, Plain, Canonical, Compatibility}
-use Rattle.np_tables.proofs.Words.{is_syllable, VersionData, entry_at, kind_in, mapping_in, is_empty, file_kind}
-use Rattle.np_tables.proofs.Words.{file_mapping, has_hangul, decomposition_kind, decomposition_mapping, counts, parts}
-use Rattle.np_tables.proofs.Words.{has_depth, full, marked, mark, parts_mark, mapping_mark, row_marks}
+use Rattle.std.proofs.Common.{◌≡◌, ℕ, zero, suc, ◌<◌, ◌≤◌, Bool, true, false, ◌&&◌, min, List, [], ◌∷◌, map, flat_map, length, refl, sym, ap, ◌∙◌, arith}
+use Rattle.np_tables.proofs.Words.{cond-true, cond-false, both_ways, and_parts, and_from, list_all, Entry, AreRows, HasLength, MapKind, is_syllable}
+use Rattle.np_tables.proofs.Words.{VersionData, entry_at, kind_in, mapping_in, is_empty, file_kind, file_mapping, has_hangul, decomposition_kind}
+use Rattle.np_tables.proofs.Words.{decomposition_mapping, counts, parts, has_depth, full, mark, parts_mark, mapping_mark, row_marks}
 use Rattle.np_tables.proofs.MappingLemmas.{full-final, full-mapped, full-more, full-some, flat_map-same}
 
 -- ---- the mapping that counts for the compatibility decomposition is the mapping of the file
@@ -14,18 +12,14 @@ length_zero [] h = refl
 length_zero (x ∷ xs) h = absurd (omega arith)
 
 plain_none : (kind : MapKind) (xs : List ℕ) → HasLength kind (length xs) → counts true kind ≡ false → xs ≡ []
-plain_none Plain xs fits h = length_zero xs fits
-plain_none Canonical xs fits h = cc
-plain_none Compatibility xs fits h = cc
+plain_none kind xs fits h = grind (arith, length_zero)
 
 entry_at-fits : (es : List Entry) (c : ℕ) → AreRows es → HasLength (kind_in (entry_at es c)) (length (mapping_in (entry_at es c)))
 unfolding entry_at
 entry_at-fits [] c h = refl
 entry_at-fits (e ∷ es) c h =
-    elim (cases_Bool (leb e.first c && leb c e.last)) [
-      | inl here ↦ subst (λ o. HasLength (kind_in o) (length (mapping_in o))) (sym (cond-true _ _ _ here)) h.0.fits
-      | inr later ↦ subst (λ o. HasLength (kind_in o) (length (mapping_in o))) (sym (cond-false _ _ _ later)) (entry_at-fits es c h.2)
-    ]
+    let rest = entry_at-fits es c h.2 in
+    grind (arith, cond-true, cond-false)
 
 module _ (v : VersionData) (rows : AreRows v.entries) where
   file_plain : (c : ℕ) → counts true (file_kind v c) ≡ false → file_mapping v c ≡ []
@@ -34,27 +28,18 @@ module _ (v : VersionData) (rows : AreRows v.entries) where
 
   plain : (c : ℕ) → counts true (decomposition_kind v c) ≡ false → decomposition_mapping v c ≡ []
   unfolding decomposition_kind decomposition_mapping
-  plain c h =
-      elim (cases_Bool (has_hangul v && is_syllable c)) [
-        | inl hangul ↦ absurd (both_ways _ h (ap (counts true) (cond-true _ _ _ hangul)))
-        | inr other ↦ cond-false _ _ _ other ∙ file_plain c (sym (ap (counts true) (cond-false _ _ _ other)) ∙ h)
-      ]
+  plain c h = grind (arith, both_ways, cond-true, cond-false, file_plain)
 
   pub parts-mapping : (c : ℕ) → parts v true c ≡ decomposition_mapping v c
   unfolding parts
-  parts-mapping c =
-      elim (cases_Bool (counts true (decomposition_kind v c))) [
-        | inl on ↦ cond-true _ _ _ on
-        | inr off ↦ cond-false _ _ _ off ∙ sym (plain c off)
-      ]
+  parts-mapping c = grind (arith, cond-true, cond-false, plain)
 
 -- ---- the mark of a code point from that of its mapping
 
 module _ (v : VersionData) where
   pub bare_depth : (n c : ℕ) → decomposition_mapping v c ≡ [] → has_depth v n c ≡ true
   unfolding has_depth
-  bare_depth zero c e = ap is_empty e
-  bare_depth (suc n) c e = ap (list_all (has_depth v n)) e
+  bare_depth n c e = grind arith
 
   pub bare_full : (n c : ℕ) → parts v true c ≡ [] → full v true n c ≡ c ∷ []
   bare_full n c e = full-final v true n c (ap is_empty e)
@@ -72,46 +57,25 @@ module _ (v : VersionData) where
 
   mark-at : (n c : ℕ) (xs : List ℕ) → decomposition_mapping v c ≡ xs → parts v true c ≡ xs → mark v n c ≡ mapping_mark v n xs
   unfolding mark mapping_mark parts_mark
-  mark-at n c [] e p = ap (λ b. marked b (length (full v true n c))) (bare_depth n c e) ∙ ap (λ l. marked true (length l)) (bare_full n c p)
-  mark-at zero c (x ∷ xs) e p = ap (λ b. marked b (length (full v true zero c))) (zero_depth c x xs e)
-  mark-at (suc n) c (x ∷ xs) e p =
-      ap (λ b. marked b (length (full v true (suc n) c))) (suc_depth n c (x ∷ xs) e)
-      ∙ ap (λ l. marked (list_all (has_depth v n) (x ∷ xs)) (length l)) (suc_full n c x xs p)
+  mark-at n c xs e p = grind (arith, bare_depth, bare_full, zero_depth, suc_depth, suc_full)
 
 pub mark-mapping : (v : VersionData) → AreRows v.entries → (n c : ℕ) → mark v n c ≡ mapping_mark v n (decomposition_mapping v c)
 mark-mapping v rows n c = mark-at v n c (decomposition_mapping v c) refl (parts-mapping v rows c)
 
-pub decomposition_mapping-file : (v : VersionData) (c : ℕ) → (has_hangul v && is_syllable c) ≡ false → decomposition_mapping v c ≡ mapping_in (entry_at v.entries c)
-unfolding decomposition_mapping file_mapping
-decomposition_mapping-file v c other = cond-false _ _ _ other
-
 pub mark-file : (v : VersionData) → AreRows v.entries → (n c : ℕ) → (has_hangul v && is_syllable c) ≡ false → mark v n c ≡ mapping_mark v n (mapping_in (entry_at v.entries c))
-mark-file v rows n c other = mark-mapping v rows n c ∙ ap (mapping_mark v n) (decomposition_mapping-file v c other)
+unfolding decomposition_mapping file_mapping
+mark-file v rows n c other = mark-mapping v rows n c ∙ ap (mapping_mark v n) (cond-false _ _ _ other)
 
 -- ---- a mark is 0 exactly where the depth is over the round
-
-marked-zero : (known : Bool) (n : ℕ) → 0 < n → marked known n ≡ 0 → known ≡ false
-marked-zero true n long h = absurd (omega arith)
-marked-zero false n long h = refl
-
-marked-more : (known : Bool) (n : ℕ) → 0 < marked known n → known ≡ true
-marked-more true n h = refl
-marked-more false n h = absurd (omega arith)
-
-marked-same : (a b : Bool) (m n : ℕ) → 0 < m → 0 < n → marked a m ≡ marked b n → a ≡ b
-marked-same true true m n some other h = refl
-marked-same true false m n some other h = absurd (omega arith)
-marked-same false true m n some other h = absurd (omega arith)
-marked-same false false m n some other h = refl
 
 module _ (v : VersionData) where
   pub mark-zero : (n c : ℕ) → mark v n c ≡ 0 → has_depth v n c ≡ false
   unfolding mark
-  mark-zero n c h = marked-zero _ _ (full-some v true n c) h
+  mark-zero n c h = grind (arith, full-some)
 
   pub mark-more : (n c : ℕ) → 0 < mark v n c → has_depth v n c ≡ true
   unfolding mark
-  mark-more n c h = marked-more (has_depth v n c) _ h
+  mark-more n c h = grind arith
 
   pub mark-deep : (n c : ℕ) → has_depth v n c ≡ false → mark v n c ≡ 0
   unfolding mark
@@ -123,7 +87,7 @@ module _ (v : VersionData) where
 
   same_depth : (m n c : ℕ) → mark v m c ≡ mark v n c → has_depth v m c ≡ has_depth v n c
   unfolding mark
-  same_depth m n c h = marked-same (has_depth v m c) (has_depth v n c) _ _ (full-some v true m c) (full-some v true n c) h
+  same_depth m n c h = grind (arith, full-some)
 
 -- ---- a round that changes no mark is the last one that changes any
 
@@ -140,36 +104,21 @@ module _ (v : VersionData) (n : ℕ) (still : (c : ℕ) → mark v (suc n) c ≡
   settled_depth : (m : ℕ) → n ≤ m → (c : ℕ) → has_depth v m c ≡ has_depth v n c
   settled_depth zero le c = let same : zero ≡ n = omega arith in ap (λ k. has_depth v k c) same
   settled_depth (suc m) le c =
-      elim (cases_eq (suc m) n) [
-        | inl same ↦ ap (λ k. has_depth v k c) same
-        | inr other ↦ depth_step m (settled_depth m (omega arith)) c
-      ]
+      let step = λ (below : n ≤ m). depth_step m (settled_depth m below) c in grind arith
 
   settled_full : (m : ℕ) → n ≤ m → (c : ℕ) → has_depth v n c ≡ true → full v true m c ≡ full v true n c
   settled_full zero le c h = let same : zero ≡ n = omega arith in ap (λ k. full v true k c) same
   settled_full (suc m) le c h =
-      elim (cases_eq (suc m) n) [
-        | inl same ↦ ap (λ k. full v true k c) same
-        | inr other ↦
-            let below : n ≤ m = omega arith in
-            full-more v true m c (settled_depth m below c ∙ h) ∙ settled_full m below c h
-      ]
-
-  settled_marked : (m : ℕ) → n ≤ m → (xs : List ℕ) (b : Bool) → list_all (has_depth v n) xs ≡ b → marked b (length (flat_map (full v true m) xs)) ≡ marked b (length (flat_map (full v true n) xs))
-  settled_marked m le xs true h =
-      ap (λ l. marked true (length l)) (flat_map-same v true (full v true m) (full v true n) (has_depth v n) (settled_full m le) xs h)
-  settled_marked m le xs false h = refl
+      let step = λ (below : n ≤ m). full-more v true m c (settled_depth m below c ∙ h) ∙ settled_full m below c h in
+      grind arith
 
   settled_parts : (m : ℕ) → n ≤ m → (xs : List ℕ) → parts_mark v m xs ≡ parts_mark v n xs
   unfolding parts_mark
-  settled_parts m le xs =
-      ap (λ b. marked b (length (flat_map (full v true m) xs))) (list_all-same (has_depth v m) (has_depth v n) (settled_depth m le) xs)
-      ∙ settled_marked m le xs (list_all (has_depth v n) xs) refl
+  settled_parts m le xs = grind (arith, list_all-same, settled_depth, flat_map-same, settled_full)
 
   settled_mapping : (m : ℕ) → n ≤ m → (xs : List ℕ) → mapping_mark v (suc m) xs ≡ mapping_mark v (suc n) xs
   unfolding mapping_mark
-  settled_mapping m le [] = refl
-  settled_mapping m le (x ∷ xs) = settled_parts m le (x ∷ xs)
+  settled_mapping m le xs = grind (arith, settled_parts)
 
   map-same : (f g : List ℕ → ℕ) → ((xs : List ℕ) → f xs ≡ g xs) → (es : List Entry) → map (λ e. f e.mapping) es ≡ map (λ e. g e.mapping) es
   map-same f g same [] = refl
@@ -185,19 +134,13 @@ map_at : (f g : List ℕ → ℕ) → f [] ≡ g [] → (es : List Entry) (c : �
 unfolding entry_at
 map_at f g none [] c h = none
 map_at f g none (e ∷ es) c h =
-    elim (cases_Bool (leb e.first c && leb c e.last)) [
-      | inl here ↦ subst (λ o. f (mapping_in o) ≡ g (mapping_in o)) (sym (cond-true _ _ _ here)) (cc)
-      | inr later ↦ subst (λ o. f (mapping_in o) ≡ g (mapping_in o)) (sym (cond-false _ _ _ later)) (map_at f g none es c (cc))
-    ]
-
-bare_mark : (v : VersionData) (m n : ℕ) → mapping_mark v m [] ≡ mapping_mark v n []
-unfolding mapping_mark
-bare_mark v m n = refl
+    let rest = map_at f g none es c (cc) in
+    grind (arith, cond-true, cond-false)
 
 pub marks-from_rows : (v : VersionData) → AreRows v.entries → (m n c : ℕ) → row_marks v m ≡ row_marks v n → (has_hangul v && is_syllable c) ≡ false → mark v m c ≡ mark v n c
-unfolding row_marks
+unfolding row_marks mapping_mark
 marks-from_rows v rows m n c h other =
-    mark-file v rows m c other ∙ map_at (mapping_mark v m) (mapping_mark v n) (bare_mark v m n) v.entries c h ∙ sym (mark-file v rows n c other)
+    mark-file v rows m c other ∙ map_at (mapping_mark v m) (mapping_mark v n) refl v.entries c h ∙ sym (mark-file v rows n c other)
 
 -- ---- a mark that is not 0 stays in the rounds that follow
 
@@ -206,27 +149,16 @@ list_all-weaker p q weaker [] all = refl
 list_all-weaker p q weaker (x ∷ xs) all =
     let halves = and_parts (p x) (list_all p xs) all in and_from _ _ (weaker x halves.0) (list_all-weaker p q weaker xs halves.1)
 
-all_empty : (p : ℕ → Bool) (xs : List ℕ) → is_empty xs ≡ true → list_all p xs ≡ true
-all_empty p [] h = refl
-all_empty p (x ∷ xs) h = cc
-
 module _ (v : VersionData) where
   depth_more : (n c : ℕ) → has_depth v n c ≡ true → has_depth v (suc n) c ≡ true
   unfolding has_depth
-  depth_more zero c h = all_empty (has_depth v zero) (decomposition_mapping v c) h
+  depth_more zero c h = grind arith
   depth_more (suc n) c h = list_all-weaker (has_depth v n) (has_depth v (suc n)) (depth_more n) (decomposition_mapping v c) h
 
   kept_parts : (n : ℕ) (xs : List ℕ) → 0 < parts_mark v n xs → parts_mark v (suc n) xs ≡ parts_mark v n xs
   unfolding parts_mark
-  kept_parts n xs some =
-      let known : list_all (has_depth v n) xs ≡ true = marked-more (list_all (has_depth v n) xs) _ some in
-      let still : list_all (has_depth v (suc n)) xs ≡ true = list_all-weaker (has_depth v n) (has_depth v (suc n)) (depth_more n) xs known in
-      ap (λ b. marked b (length (flat_map (full v true (suc n)) xs))) still
-      ∙ ap (λ l. marked true (length l)) (flat_map-same v true (full v true (suc n)) (full v true n) (has_depth v n) (full-more v true n) xs known)
-      ∙ ap (λ b. marked b (length (flat_map (full v true n) xs))) (sym known)
+  kept_parts n xs some = grind (arith, list_all-weaker, depth_more, flat_map-same, full-more)
 
   pub kept_mark : (n : ℕ) (xs : List ℕ) → 0 < mapping_mark v n xs → mapping_mark v (suc n) xs ≡ mapping_mark v n xs
   unfolding mapping_mark
-  kept_mark n [] some = refl
-  kept_mark zero (x ∷ xs) some = absurd (omega arith)
-  kept_mark (suc n) (x ∷ xs) some = kept_parts n (x ∷ xs) some
+  kept_mark n xs some = grind (arith, kept_parts)

@@ -1,7 +1,6 @@
 -- The version of empty files meets the conditions, so the laws are not vacuous.
-use Rattle.std.proofs.Common.{◌≡◌, ℕ, true, false, [], length, refl, ap, ◌∙◌, arith, inl, inr}
-use Rattle.np_tables.proofs.Words.{cases_Bool, both_ways, list_all, entry_at, is_assigned, is_empty}
-use Rattle.np_tables.proofs.Words.{decomposition_mapping, has_depth, IsSound}
+use Rattle.std.proofs.Common.{◌≡◌, ℕ, true, false, [], length, refl, ap, ◌∙◌, arith}
+use Rattle.np_tables.proofs.Words.{both_ways, list_all, entry_at, is_assigned, is_empty, decomposition_mapping, has_depth, IsSound}
 use Rattle.np_tables.specs.Examples.{without_rows}
 use Rattle.np_tables.proofs.FactLemmas.{sound-by}
 use Rattle.np_tables.proofs.MappingLemmas.{is_empty-true, full_of-final, full_of-only, parts-cases}
@@ -12,9 +11,7 @@ unfolding is_assigned entry_at
 lacks c = refl
 
 no_mapping : (c : ℕ) → decomposition_mapping without_rows c ≡ []
-no_mapping c =
-    is_empty-true (decomposition_mapping without_rows c)
-    (elim (cases_Bool (is_empty (decomposition_mapping without_rows c))) [ inl none ↦ none | inr some ↦ absurd (both_ways _ (lacks c) (mapped-assigned without_rows c some)) ])
+no_mapping c = let lacking = lacks c in grind (arith, mapped-assigned, is_empty-true)
 
 shallow : (c : ℕ) → has_depth without_rows 32 c ≡ true
 unfolding has_depth

@@ -1,12 +1,10 @@
 -- Versions with a starter, a non-starter, their primary composite and further rows without mappings meet the conditions: one
 -- with these three alone, and one with the Hangul arithmetic on. So the laws speak of versions with rows too.
-use Rattle.std.proofs.Common.{◌≡◌, ℕ, ◌≤◌, true, false, ◌&&◌, ◌==◌, nat_le, List, [], ◌∷◌, ◌++◌, flat_map, length, Option, Some, is_some, refl, sym, ap, subst, ◌∙◌, arith, inl, inr}
-use Rattle.np_tables.proofs.Words.{list_all, slice_get, cond-true, cond-false, cases_Bool, and_parts, and_right}
-use Rattle.np_tables.proofs.Words.{and_from, leb-true, both_ways, Entry, IsRow, AreRows, Plain, Canonical, is_syllable}
-use Rattle.np_tables.proofs.Words.{syllable_pair, VersionData, entry_at, is_assigned, class_of, class_in, file_kind}
-use Rattle.np_tables.proofs.Words.{file_mapping, mapping_in, is_empty, is_excluded, is_hangul, is_hangul_row}
-use Rattle.np_tables.proofs.Words.{has_hangul, decomposition_kind, decomposition_mapping, has_depth, full_of, IsPrimary}
-use Rattle.np_tables.proofs.Words.{IsCompositeOf, IsSound}
+use Rattle.std.proofs.Common.{◌≡◌, ℕ, ◌≤◌, true, false, ◌&&◌, List, [], ◌∷◌, ◌++◌, flat_map, length, Option, Some, refl, sym, ap, subst, ◌∙◌, arith, inl, inr}
+use Rattle.np_tables.proofs.Words.{list_all, slice_get, cond-true, cond-false, cases_Bool, and_parts, and_right, and_from, leb-true, both_ways, Entry, IsRow}
+use Rattle.np_tables.proofs.Words.{AreRows, Plain, Canonical, is_syllable, syllable_pair, VersionData, entry_at, is_assigned, class_of, file_kind}
+use Rattle.np_tables.proofs.Words.{file_mapping, mapping_in, is_empty, is_excluded, is_hangul, is_hangul_row, has_hangul, decomposition_kind}
+use Rattle.np_tables.proofs.Words.{decomposition_mapping, has_depth, full_of, IsPrimary, IsCompositeOf, IsSound}
 use Rattle.np_code_points.proofs.HangulLemmas.{first_same, pair_injective}
 use Rattle.np_tables.specs.Examples.{letter_with_ring, plain, with_hangul, with_rows}
 use Rattle.np_tables.proofs.CompositeLemmas.{composite_parts}
@@ -21,16 +19,7 @@ use Rattle.np_tables.proofs.SyllableLemmas.{depth_two, mark-syllable, syllable_m
 -- a row of one code point, or one of the rows behind it
 at_row : (P : ℕ → Option Entry → Type 0) (e : Entry) (es : List Entry) (c : ℕ) → e.first ≡ e.last → P e.first (Some e) → P c (entry_at es c) → P c (entry_at (e ∷ es) c)
 unfolding entry_at
-at_row P e es c alone here behind =
-    elim (cases_Bool (nat_le e.first c && nat_le c e.last)) [
-      | inl within ↦
-          let halves = and_parts _ _ within in
-          let low = leb-true e.first c halves.0 in
-          let high = leb-true c e.last halves.1 in
-          let same : e.first ≡ c = omega arith in
-          subst (P c) (sym (cond-true _ _ _ within)) (subst (λ d. P d (Some e)) same here)
-      | inr outside ↦ subst (P c) (sym (cond-false _ _ _ outside)) behind
-    ]
+at_row P e es c alone here behind = grind (arith, and_parts, leb-true, cond-true, cond-false)
 
 abbrev AreBare : List Entry → Type 0
 AreBare [] = Unit {0}
@@ -40,10 +29,8 @@ bare_in : (es : List Entry) → AreBare es → (c : ℕ) → mapping_in (entry_a
 unfolding entry_at
 bare_in [] bare c = refl
 bare_in (e ∷ es) bare c =
-    elim (cases_Bool (nat_le e.first c && nat_le c e.last)) [
-      | inl within ↦ ap mapping_in (cond-true _ _ _ within) ∙ bare.0
-      | inr outside ↦ ap mapping_in (cond-false _ _ _ outside) ∙ bare_in es bare.1 c
-    ]
+    let rest = bare_in es bare.1 c in
+    grind (arith, cond-true, cond-false)
 
 abbrev letter : Entry
 letter = plain 0x41 0x41 0
@@ -55,11 +42,7 @@ letter_is : IsRow letter
 letter_is = record { rises = omega arith; bounded = omega arith; class = omega arith; fits = refl; scalars = refl; alone = λ h. refl; mapped_scalar = λ h. refl }
 
 letter_with_ring_is : IsRow letter_with_ring
-letter_with_ring_is =
-    record { rises = omega arith; bounded = omega arith; class = omega arith; fits = (omega arith, omega arith); scalars = refl; alone = λ h. refl; mapped_scalar = λ h. refl }
-
-ring_is : IsRow ring
-ring_is = record { rises = omega arith; bounded = omega arith; class = omega arith; fits = refl; scalars = refl; alone = λ h. refl; mapped_scalar = λ h. refl }
+letter_with_ring_is = grind arith
 
 module _ (more : List Entry) where
   abbrev version : VersionData
@@ -126,10 +109,9 @@ module _ (more : List Entry) where
     pub by_mapping : (P : ℕ → List ℕ → Type 0) → ((c : ℕ) → (has_hangul version && is_syllable c) ≡ true → P c (syllable_pair c)) → P 0xC5 (0x41 ∷ 0x30A ∷ []) → ((c : ℕ) → P c []) → (c : ℕ) → P c (decomposition_mapping version c)
     unfolding file_mapping
     by_mapping P syllable pair none c =
-        elim (cases_Bool (has_hangul version && is_syllable c)) [
-          | inl on ↦ subst (P c) (sym (decomposition_mapping-on version c on)) (syllable c on)
-          | inr off ↦ subst (P c) (sym (decomposition_mapping-off version c off)) (in_file P pair none c)
-        ]
+        let file = in_file P pair none c in
+        let here = syllable c in
+        grind (arith, decomposition_mapping-on, decomposition_mapping-off)
 
     -- ---- the conditions
 
@@ -138,10 +120,7 @@ module _ (more : List Entry) where
         by_mapping (λ _ m. list_all (is_assigned version) m ≡ true)
         (λ c on. let halves = and_parts _ _ on in pair_assigned version c halves.0 halves.1) parts_assigned (λ _. refl)
 
-    abbrev HasMark : ℕ → Type 0
-    HasMark c = (has_depth version 32 c ≡ true) × (length (full_of version true c) ≤ 64)
-
-    of_syllable : (c : ℕ) → (has_hangul version && is_syllable c) ≡ true → HasMark c
+    of_syllable : (c : ℕ) → (has_hangul version && is_syllable c) ≡ true → (has_depth version 32 c ≡ true) × (length (full_of version true c) ≤ 64)
     unfolding full_of
     of_syllable c on =
         let halves = and_parts _ _ on in
@@ -151,13 +130,12 @@ module _ (more : List Entry) where
         let length_is = mark-length version 32 c shallow in
         (shallow, omega arith)
 
-    parts_shallow : list_all (has_depth version 31) (0x41 ∷ 0x30A ∷ []) ≡ true
-    parts_shallow = and_from _ _ (bare_depth version 31 0x41 letter_mapping) (and_from _ _ (bare_depth version 31 0x30A ring_mapping) refl)
-
     shallow : (c : ℕ) → has_depth version 32 c ≡ true
     shallow c =
+        let letter_depth = bare_depth version 31 0x41 letter_mapping in
+        let ring_depth = bare_depth version 31 0x30A ring_mapping in
         by_mapping (λ d m. decomposition_mapping version d ≡ m → has_depth version 32 d ≡ true)
-        (λ d on _. (of_syllable d on).0) (λ e. suc_depth version 31 0xC5 _ e ∙ parts_shallow) (λ d e. bare_depth version 32 d e) c refl
+        (λ d on _. (of_syllable d on).0) (λ e. suc_depth version 31 0xC5 _ e ∙ and_from _ _ letter_depth (and_from _ _ ring_depth refl)) (λ d e. bare_depth version 32 d e) c refl
 
     final_full : (c : ℕ) → decomposition_mapping version c ≡ [] → full_of version true c ≡ c ∷ []
     final_full c none = full_of-final version true shallow c (parts-cases version true (λ l. is_empty l ≡ true) refl c (ap is_empty none))
@@ -214,17 +192,14 @@ module _ (more : List Entry) where
 -- what lies in a row is one of the three
 pub assigned_code : (P : ℕ → Type 0) → P 0x41 → P 0xC5 → P 0x30A → (c : ℕ) → is_assigned with_rows c ≡ true → P c
 unfolding is_assigned entry_at
-assigned_code P at_letter at_pair at_ring c =
-    let Q : ℕ → Option Entry → Type 0 = λ d o. is_some o ≡ true → P d in
-    at_row Q letter (letter_with_ring ∷ ring ∷ []) c refl (λ _. at_letter)
-    (at_row Q letter_with_ring (ring ∷ []) c refl (λ _. at_pair) (at_row Q ring [] c refl (λ _. at_ring) (λ h. cc)))
+assigned_code P at_letter at_pair at_ring c = grind (arith, at_row)
 
 pub syllable_lacks : is_assigned with_rows 0xAC00 ≡ false
 unfolding is_assigned entry_at
 syllable_lacks = refl
 
 rows_alone : AreRows with_rows.entries
-rows_alone = (letter_is, omega arith, (letter_with_ring_is, omega arith, (ring_is, tt, tt)))
+rows_alone = grind arith
 
 pub no_hangul : (c : ℕ) → is_hangul c ≡ true → is_assigned with_rows c ≡ true → ⊥
 no_hangul c among h = assigned_code (λ d. is_hangul d ≡ true → ⊥) (λ e. cc) (λ e. cc) (λ e. cc) c h among
@@ -252,49 +227,25 @@ syllables = plain 0xAC00 0xD7A3 0
 abbrev pub hangul_rows : List Entry
 hangul_rows = jamo ∷ syllables ∷ []
 
-jamo_is : IsRow jamo
-jamo_is = record { rises = omega arith; bounded = omega arith; class = omega arith; fits = refl; scalars = refl; alone = λ h. absurd (h refl); mapped_scalar = λ h. refl }
-
-syllables_is : IsRow syllables
-syllables_is = record { rises = omega arith; bounded = omega arith; class = omega arith; fits = refl; scalars = refl; alone = λ h. absurd (h refl); mapped_scalar = λ h. refl }
-
 rows_hangul : AreRows with_hangul.entries
-rows_hangul = (
-  letter_is,
-  omega arith,
-  (
-    letter_with_ring_is,
-    omega arith,
-    (
-      ring_is,
-      omega arith,
-      (jamo_is, omega arith, (syllables_is, tt, tt)),
-    ),
-  ),
-)
+rows_hangul = grind arith
 
 -- a code point of a row of class 0 without a mapping is as the arithmetic wants it
 row_at : (i : ℕ) (e : Entry) (c : ℕ) → slice_get with_hangul.entries i ≡ Some e → e.class ≡ 0 → e.mapping ≡ [] → e.first ≤ c → c ≤ e.last → is_hangul_row with_hangul c ≡ true
 unfolding is_hangul_row is_assigned class_of file_mapping
 row_at i e c at class bare low high =
     let found : entry_at with_hangul.entries c ≡ Some e = sym (at-found with_hangul.entries i c e rows_hangul at low high) ∙ at in
-    ap (λ (o : Option Entry). is_some o && class_in o == 0 && is_empty (mapping_in o)) found
-    ∙ ap (λ (n : ℕ). n == 0 && is_empty e.mapping) class ∙ ap is_empty bare
+    grind arith
 
 pub hangul_on_with : has_hangul with_hangul ≡ true
 unfolding Runs
 hangul_on_with =
     has_hangul-from with_hangul
-    (λ c h. elim (hangul_runs c h) [
-      | inl l ↦ row_at 3 jamo c refl refl refl l.0 (omega arith)
-      | inr rest ↦ elim rest [
-        | inl v ↦ row_at 3 jamo c refl refl refl (omega arith) (omega arith)
-        | inr rest ↦ elim rest [
-          | inl t ↦ row_at 3 jamo c refl refl refl (omega arith) (omega arith)
-          | inr s ↦ row_at 4 syllables c refl refl refl s.0 (omega arith)
-        ]
-      ]
-    ])
+    (λ c h.
+    let runs = hangul_runs c h in
+    let jamo_at = row_at 3 jamo c refl refl refl in
+    let syllable_at = row_at 4 syllables c refl refl refl in
+    grind arith)
 
 pub IsSound-with_hangul : IsSound with_hangul
 IsSound-with_hangul = is_sound hangul_rows rows_hangul (refl, (refl, tt)) (λ _ _ _. hangul_on_with)

@@ -1,15 +1,14 @@
 -- What holds of each code point because the rows are those of a data file.
-use Rattle.std.proofs.Common.{◌≡◌, ◌≢◌, ℕ, ◌<◌, ◌≤◌, true, ◌&&◌, List, [], ◌∷◌, length, Option, Some, None, is_some, refl, sym, ap, ◌∙◌, arith, inl, inr, lt-ltb, ◌⊎◌, Bool, false}
+use Rattle.std.proofs.Common.{◌≡◌, ◌≢◌, ℕ, ◌<◌, ◌≤◌, true, List, [], ◌∷◌, length, Option, Some, None, is_some, refl, sym, ap, ◌∙◌, arith, inl, inr, lt-ltb, ◌⊎◌, false}
 use lib.Utf8.{scalar}
-use Rattle.np_tables.proofs.Words.{list_all, slice_get, cond-true, cond-false, cases_Bool, and_parts, and_from}
-use Rattle.np_tables.proofs.Words.{cases_lt, both_ways, Entry, IsRow, AreRows, is_syllable, syllable_pair}
-use Rattle.np_tables.proofs.Words.{IsCompositeOf, IsSound, IsFullDecomposition, has_depth, VersionData, entry_at}
-use Rattle.np_tables.proofs.Words.{is_assigned, is_hangul, class_of, class_in, file_mapping, mapping_in}
-use Rattle.np_tables.proofs.Words.{decomposition_mapping, has_hangul, is_empty, IsMappedToUnassigned, IsLeastOf}
+use Rattle.np_tables.proofs.Words.{list_all, slice_get, cond-true, cond-false, and_parts, both_ways, Entry, IsRow, AreRows, is_syllable, syllable_pair}
+use Rattle.np_tables.proofs.Words.{IsCompositeOf, IsSound, IsFullDecomposition, has_depth, VersionData, entry_at, is_assigned, is_hangul, class_of, class_in}
+use Rattle.np_tables.proofs.Words.{file_mapping, mapping_in, decomposition_mapping, has_hangul, IsMappedToUnassigned, IsLeastOf}
 use Rattle.np_code_points.proofs.HangulLemmas.{pair_exists, pair_small}
 use Rattle.np_tables.proofs.PrimaryLemmas.{syllable_bounds}
 use Rattle.np_tables.proofs.RowLemmas.{entry_at-row, entry_at-within, at-row, at-found, firsts-le, place_of_entry}
-use Rattle.np_tables.proofs.HangulLemmas.{hangul_parts, pair_assigned, syllable_row}
+use Rattle.np_tables.proofs.FileRowLemmas.{mapped-off}
+use Rattle.np_tables.proofs.HangulLemmas.{pair_assigned}
 
 bounded_in : (o : Option Entry) (c : ℕ) → ((e : Entry) → o ≡ Some e → IsRow e) → ((e : Entry) → o ≡ Some e → c ≤ e.last) → is_some o ≡ true → c < 0x110000
 bounded_in None c row last h = cc
@@ -28,8 +27,7 @@ unfolding class_of
 classes-at v c rows = class_bound (entry_at v.entries c) (λ e is. entry_at-row v.entries c e rows is)
 
 scalars_in : (o : Option Entry) → ((e : Entry) → o ≡ Some e → IsRow e) → list_all scalar (mapping_in o) ≡ true
-scalars_in None row = refl
-scalars_in (Some e) row = (row e refl).scalars
+scalars_in o row = grind arith
 
 scalar_low : (n : ℕ) → n < 0xD800 → scalar n ≡ true
 scalar_low n h = cond-true _ _ _ (lt-ltb n 0xD800 h)
@@ -38,81 +36,40 @@ scalars_pair : (c : ℕ) → is_syllable c ≡ true → list_all scalar (syllabl
 scalars_pair c h =
     let pair = pair_exists c in
     let small = pair_small c pair.0 pair.1 h pair.2 in
-    ap (list_all scalar) pair.2 ∙ and_from _ _ (scalar_low pair.0 small.0) (and_from _ _ (scalar_low pair.1 small.1) refl)
+    grind (arith, scalar_low)
 
 scalars-at : (v : VersionData) (c : ℕ) → AreRows v.entries → list_all scalar (decomposition_mapping v c) ≡ true
 unfolding decomposition_mapping file_mapping
 scalars-at v c rows =
-    elim (cases_Bool (has_hangul v && is_syllable c)) [
-      | inl on ↦ ap (list_all scalar) (cond-true _ (syllable_pair c) (file_mapping v c) on) ∙ scalars_pair c (and_parts _ _ on).1
-      | inr off ↦
-          ap (list_all scalar) (cond-false _ (syllable_pair c) (file_mapping v c) off)
-          ∙ scalars_in (entry_at v.entries c) (λ e is. entry_at-row v.entries c e rows is)
-    ]
+    let file = scalars_in (entry_at v.entries c) (λ e is. entry_at-row v.entries c e rows is) in
+    grind (arith, cond-true, cond-false, scalars_pair)
 
 mapped_in_row : (o : Option Entry) (c : ℕ) → ((e : Entry) → o ≡ Some e → IsRow e) → ((e : Entry) → o ≡ Some e → (e.first ≤ c) × (c ≤ e.last)) → mapping_in o ≢ [] → scalar c ≡ true
 mapped_in_row None c row within h = absurd (h refl)
-mapped_in_row (Some e) c row within h =
-    let is = row e refl in
-    let range = within e refl in
-    let alone = is.alone h in
-    let same : e.first ≡ c = omega arith in
-    ap scalar (sym same) ∙ is.mapped_scalar h
+mapped_in_row (Some e) c row within h = let is = row e refl in let range = within e refl in grind arith
 
 mapped_scalar-at : (v : VersionData) (c : ℕ) → AreRows v.entries → decomposition_mapping v c ≢ [] → scalar c ≡ true
 unfolding decomposition_mapping file_mapping
 mapped_scalar-at v c rows h =
-    elim (cases_Bool (has_hangul v && is_syllable c)) [
-      | inl on ↦ (let bounds = syllable_bounds c (and_parts _ _ on).1 in scalar_low c (omega arith))
-      | inr off ↦
-          mapped_in_row (entry_at v.entries c) c (λ e is. entry_at-row v.entries c e rows is) (λ e is. entry_at-within v.entries c e is)
-          (λ none. h (cond-false _ (syllable_pair c) (file_mapping v c) off ∙ none))
-    ]
+    let file = mapped_in_row (entry_at v.entries c) c (λ e is. entry_at-row v.entries c e rows is) (λ e is. entry_at-within v.entries c e is) in
+    grind (arith, syllable_bounds, scalar_low, cond-false, and_parts)
 
 -- rows of a data file meet the conditions where they meet those that no row tells alone
 pub sound-by : (v : VersionData) → AreRows v.entries → ((c : ℕ) → list_all (is_assigned v) (decomposition_mapping v c) ≡ true) → ((c : ℕ) → has_depth v 32 c ≡ true)
     → ((c : ℕ) (full : List ℕ) → IsFullDecomposition v true (c ∷ []) full → length full ≤ 64) → ((a b c d : ℕ) → IsCompositeOf v a b c → IsCompositeOf v a b d → c ≡ d)
     → ((c : ℕ) → is_hangul c ≡ true → is_assigned v c ≡ true → has_hangul v ≡ true) → IsSound v
-sound-by v rows assigned shallow short unlike hangul =
-    record {
-      rows = rows;
-      bounded = λ c h. bounded-at v c rows h;
-      classes = λ c. classes-at v c rows;
-      scalars = λ c. scalars-at v c rows;
-      mapped_scalar = λ c h. mapped_scalar-at v c rows h;
-      maps_to_assigned = assigned;
-      shallow = shallow;
-      short = short;
-      unlike = unlike;
-      hangul = hangul;
-    }
+sound-by v rows assigned shallow short unlike hangul = grind (arith, bounded-at, classes-at, scalars-at, mapped_scalar-at)
 
 -- ---- mappings that hold an unassigned code point
 
 -- only a mapping in the file may lack something
 pub lacks_in_file : (v : VersionData) (c : ℕ) → IsMappedToUnassigned v c → list_all (is_assigned v) (file_mapping v c) ≡ false
 unfolding decomposition_mapping
-lacks_in_file v c h =
-    elim (cases_Bool (has_hangul v && is_syllable c)) [
-      | inl on ↦
-          (let halves = and_parts (has_hangul v) (is_syllable c) on in
-          absurd (both_ways _ h.lacks (ap (list_all (is_assigned v)) (cond-true _ (syllable_pair c) (file_mapping v c) on) ∙ pair_assigned v c halves.0 halves.1)))
-      | inr off ↦ sym (ap (list_all (is_assigned v)) (cond-false _ (syllable_pair c) (file_mapping v c) off)) ∙ h.lacks
-    ]
-
-empty_all : (p : ℕ → Bool) (xs : List ℕ) → is_empty xs ≡ true → list_all p xs ≡ true
-empty_all p [] h = refl
-empty_all p (x ∷ xs) h = cc
+lacks_in_file v c h = grind (arith, and_parts, both_ways, cond-true, pair_assigned, cond-false)
 
 pub file_lacks : (v : VersionData) (c : ℕ) → list_all (is_assigned v) (file_mapping v c) ≡ false → IsMappedToUnassigned v c
 unfolding decomposition_mapping
-file_lacks v c h =
-    elim (cases_Bool (has_hangul v && is_syllable c)) [
-      | inl on ↦
-          (let halves = and_parts (has_hangul v) (is_syllable c) on in
-          absurd (both_ways _ h (empty_all (is_assigned v) (file_mapping v c) (hangul_parts v c (syllable_row v c halves.0 halves.1)).mapping)))
-      | inr off ↦ record { lacks = ap (list_all (is_assigned v)) (cond-false _ (syllable_pair c) (file_mapping v c) off) ∙ h }
-    ]
+file_lacks v c h = grind (arith, mapped-off, cond-false)
 
 cases_Entry : (o : Option Entry) → (o ≡ None) ⊎ ((e : Entry) × (o ≡ Some e))
 cases_Entry None = inl refl
@@ -122,10 +79,9 @@ cases_Entry (Some e) = inr (e, refl)
 pub lacking_row : (v : VersionData) (c : ℕ) → IsMappedToUnassigned v c → (e : Entry) × (entry_at v.entries c ≡ Some e) × (list_all (is_assigned v) e.mapping ≡ false)
 unfolding file_mapping
 lacking_row v c h =
-    elim (cases_Entry (entry_at v.entries c)) [
-      | inl none ↦ absurd (both_ways _ (lacks_in_file v c h) (ap (λ o. list_all (is_assigned v) (mapping_in o)) none))
-      | inr some ↦ (some.0, some.1, sym (ap (λ o. list_all (is_assigned v) (mapping_in o)) some.1) ∙ lacks_in_file v c h)
-    ]
+    let lacks = lacks_in_file v c h in
+    let cases = cases_Entry (entry_at v.entries c) in
+    grind arith
 
 abbrev pub RowsHold : VersionData → ℕ → Type 0
 RowsHold v n = (k : ℕ) → k < n → list_all (is_assigned v) (mapping_in (slice_get v.entries k)) ≡ true
@@ -137,20 +93,7 @@ row_lacks v e i rows at lacks =
     file_lacks v e.first (ap (λ o. list_all (is_assigned v) (mapping_in o)) (sym found ∙ at) ∙ lacks)
 
 pub first_lacking-some : (v : VersionData) (i : ℕ) (e : Entry) → AreRows v.entries → slice_get v.entries i ≡ Some e → list_all (is_assigned v) e.mapping ≡ false → RowsHold v i → IsLeastOf (IsMappedToUnassigned v) e.first
-first_lacking-some v i e rows at lacks before =
-    record {
-      holds = row_lacks v e i rows at lacks;
-      least = λ d h.
-          let row = lacking_row v d h in
-          let place = place_of_entry v.entries d row.0 row.1 in
-          elim (cases_lt place.0 i) [
-            | inl lt ↦ absurd (both_ways _ row.2 (sym (ap (λ o. list_all (is_assigned v) (mapping_in o)) place.2) ∙ before place.0 lt))
-            | inr le ↦ (let up = firsts-le v.entries i place.0 e row.0 rows at place.2 le in let within = entry_at-within v.entries d row.0 row.1 in omega arith)
-          ];
-    }
+first_lacking-some v i e rows at lacks before = grind (arith, row_lacks, lacking_row, place_of_entry, both_ways, firsts-le, entry_at-within)
 
 pub first_lacking-none : (v : VersionData) → RowsHold v (length v.entries) → (c : ℕ) → ¬ (IsMappedToUnassigned v c)
-first_lacking-none v all c h =
-    let row = lacking_row v c h in
-    let place = place_of_entry v.entries c row.0 row.1 in
-    both_ways _ row.2 (sym (ap (λ o. list_all (is_assigned v) (mapping_in o)) place.2) ∙ all place.0 place.1)
+first_lacking-none v all c h = grind (arith, lacking_row, place_of_entry, both_ways)

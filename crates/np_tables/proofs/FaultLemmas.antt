@@ -1,13 +1,12 @@
 -- The fault that is told, and the conditions where there is none.
-use Rattle.std.proofs.Common.{◌≡◌, ℕ, ◌+◌, ◌<◌, ◌≤◌, true, length, Option, Some, None, MatchOption, nat_lt, refl, sym, subst, ◌∙◌, arith, inl, inr}
+use Rattle.std.proofs.Common.{◌≡◌, ℕ, ◌+◌, ◌<◌, ◌≤◌, true, false, length, Option, Some, None, MatchOption, sym, ◌∙◌, arith}
 use Rattle.std.specs.Prelude.{option_map}
-use Rattle.np_tables.proofs.Words.{list_all, cond-true, cond-false, cases_Bool, cases_lt, cases_order, lt-ltb, le-ltb}
-use Rattle.np_tables.proofs.Words.{AreRows, IsCompositeOf, IsSound, IsMappedToUnassigned, IsTooDeep, IsTooLong}
-use Rattle.np_tables.proofs.Words.{IsAmbiguous, IsHangulWrong, IsFirst, IsLeastOf, AreFirsts, sooner, least_fault}
-use Rattle.np_tables.proofs.Words.{has_depth, VersionData, is_assigned, decomposition_mapping}
+use Rattle.np_tables.proofs.Words.{list_all, AreRows, IsCompositeOf, IsSound, IsMappedToUnassigned}
+use Rattle.np_tables.proofs.Words.{IsTooDeep, IsTooLong, IsAmbiguous, IsHangulWrong, IsFirst, IsLeastOf, AreFirsts, sooner, least_fault, has_depth}
+use Rattle.np_tables.proofs.Words.{VersionData, is_assigned, decomposition_mapping}
 use Rattle.np_tables.specs.declared.faults.FirstFaults.{FirstFaults}
 use Rattle.np_tables.specs.declared.faults.TableFault.{TableFault}
-use Rattle.np_tables.specs.declared.faults.TableFault.TheVariants.{MapsToUnassigned, TooDeep, TooLong, AmbiguousPair, HangulWrong, Memory}
+use Rattle.np_tables.specs.declared.faults.TableFault.TheVariants.{MapsToUnassigned, TooDeep, TooLong, AmbiguousPair, HangulWrong}
 use Rattle.np_tables.specs.TableFaults.{place_of, number_of, HasFault, IsBeforeFault, IsLeastFault, IsFaultless}
 use Rattle.np_tables.proofs.FactLemmas.{sound-by}
 use Rattle.np_tables.proofs.HangulLemmas.{on_where_right}
@@ -20,27 +19,15 @@ unlike_below v none a b c d hc hd lt =
 
 pub sound-faultless : (v : VersionData) → AreRows v.entries → IsFaultless v → IsSound v
 sound-faultless v rows none =
-    let shallow : (c : ℕ) → has_depth v 32 c ≡ true = λ c. elim (cases_Bool (has_depth v 32 c)) [
-      | inl ok ↦ ok
-      | inr deep ↦ absurd (none (TooDeep c) (record { deep = deep }))
-    ] in
+    let shallow : (c : ℕ) → has_depth v 32 c ≡ true = λ c.
+    let deep = λ (h : has_depth v 32 c ≡ false). none (TooDeep c) (record { deep = h }) in grind arith in
     sound-by v rows
-    (λ c. elim (cases_Bool (list_all (is_assigned v) (decomposition_mapping v c))) [
-      | inl ok ↦ ok
-      | inr lacks ↦ absurd (none (MapsToUnassigned c) (record { lacks = lacks }))
-    ])
+    (λ c.
+    let lacks = λ (h : list_all (is_assigned v) (decomposition_mapping v c) ≡ false). none (MapsToUnassigned c) (record { lacks = h }) in grind arith)
     shallow
-    (λ c full is. elim (cases_lt 64 (length full)) [
-      | inl long ↦ absurd (none (TooLong c) (record { shallow = shallow c; full = full; decomposes = is; long = long }))
-      | inr ok ↦ ok
-    ])
-    (λ a b c d hc hd. elim (cases_order c d) [
-      | inl same ↦ same
-      | inr other ↦ elim other [
-        | inl lt ↦ absurd (unlike_below v none a b c d hc hd lt)
-        | inr gt ↦ absurd (unlike_below v none a b d c hd hc gt)
-      ]
-    ])
+    (λ c full is.
+    let long = λ (h : 64 < length full). none (TooLong c) (record { shallow = shallow c; full = full; decomposes = is; long = h }) in grind arith)
+    (λ a b c d hc hd. let up = unlike_below v none a b c d hc hd in let down = unlike_below v none a b d c hd hc in grind arith)
     (λ c h assigned. on_where_right v (λ d wrong. none (HangulWrong d) wrong) c h assigned)
 
 -- ---- the least of several faults
@@ -52,12 +39,7 @@ FirstTo v n (Some f) = HasFault v f × (number_of f ≤ n) × ((g : TableFault) 
 
 first_none : (v : VersionData) → FirstTo v 0 None
 unfolding FirstTo
-first_none v (MapsToUnassigned c) h = omega arith
-first_none v (TooDeep c) h = omega arith
-first_none v (TooLong c) h = omega arith
-first_none v (AmbiguousPair c) h = omega arith
-first_none v (HangulWrong c) h = omega arith
-first_none v Memory h = omega arith
+first_none v g h = grind arith
 
 -- one kind of faults: the number n + 1, at each code point that P holds of
 record IsKind (v : VersionData) (n : ℕ) (P : ℕ → Type 0) (fault : ℕ → TableFault) : Type 0 where
@@ -69,48 +51,28 @@ record IsKind (v : VersionData) (n : ℕ) (P : ℕ → Type 0) (fault : ℕ → 
 -- a fault of this kind alone
 kind_first : (v : VersionData) (n c : ℕ) (P : ℕ → Type 0) (fault : ℕ → TableFault) → IsKind v n P fault → IsLeastOf P c
     → (g : TableFault) → HasFault v g → number_of g ≡ n + 1 → IsBeforeFault (fault c) g
-kind_first v n c P fault kind least g h number =
-    let up = least.least (place_of g) (kind.each g h number) in
-    let at = kind.place c in
-    let num = kind.number c in
-    elim (cases_order (place_of (fault c)) (place_of g)) [
-      | inl same ↦ inr (same, omega arith)
-      | inr other ↦ elim other [ inl lt ↦ inl lt | inr gt ↦ absurd (omega arith) ]
-    ]
+kind_first v n c P fault kind least g h number = grind arith
 
 before-trans : (f g h : TableFault) → IsBeforeFault f g → IsBeforeFault g h → IsBeforeFault f h
-before-trans f g h a b =
-    elim a [
-      | inl lt ↦ elim b [ inl lt2 ↦ inl (omega arith) | inr same ↦ (let e = same.0 in inl (omega arith)) ]
-      | inr same ↦ elim b [ inl lt2 ↦ (let e = same.0 in inl (omega arith)) | inr same2 ↦ (let e = same.0 in let e2 = same2.0 in let n = same.1 in let n2 = same2.1 in inr (omega arith, omega arith)) ]
-    ]
+before-trans f g h a b = grind arith
 
 module _ (v : VersionData) (n : ℕ) (P : ℕ → Type 0) (fault : ℕ → TableFault) (kind : IsKind v n P fault) where
   -- no fault of the new kind
   step_none : (best : Option TableFault) → FirstTo v n best → ((c : ℕ) → ¬ (P c)) → FirstTo v (n + 1) (sooner best None)
   unfolding FirstTo
-  step_none None first none = λ g h. elim (cases_order (number_of g) (n + 1)) [
-    | inl same ↦ absurd (none (place_of g) (kind.each g h same))
-    | inr other ↦ (let low = first g h in elim other [ inl lt ↦ absurd (omega arith) | inr gt ↦ gt ])
-  ]
+  step_none None first none = λ g h. let here = kind.each g h in let no = none (place_of g) in let low = first g h in grind arith
   step_none (Some f) first none = (
     first.0,
     (let le = first.1 in omega arith),
-    λ g h le. elim (cases_order (number_of g) (n + 1)) [
-      | inl same ↦ absurd (none (place_of g) (kind.each g h same))
-      | inr other ↦ first.2 g h (elim other [ inl lt ↦ omega arith | inr gt ↦ absurd (omega arith) ])
-    ],
+    λ g h le. let here = kind.each g h in let no = none (place_of g) in let rest = first.2 g h in grind arith,
   )
 
   -- a first fault of the new kind, and none before
   step_only : (c : ℕ) → FirstTo v n None → IsLeastOf P c → FirstTo v (n + 1) (Some (fault c))
   unfolding FirstTo
-  step_only c first least = (
-    kind.has c least.holds,
-    (let num = kind.number c in omega arith),
-    λ g h le.
-        (let low = first g h in kind_first v n c P fault kind least g h (omega arith)),
-  )
+  step_only c first least =
+      let num = kind.number c in
+      (kind.has c least.holds, omega arith, λ g h le. let low = first g h in kind_first v n c P fault kind least g h (omega arith))
 
   -- the new one is sooner
   step_new : (f : TableFault) (c : ℕ) → FirstTo v n (Some f) → IsLeastOf P c → place_of (fault c) < place_of f → FirstTo v (n + 1) (Some (fault c))
@@ -118,19 +80,11 @@ module _ (v : VersionData) (n : ℕ) (P : ℕ → Type 0) (fault : ℕ → Table
   step_new f c first least lt = (
     kind.has c least.holds,
     (let num = kind.number c in omega arith),
-    λ g h le. elim (cases_order (number_of g) (n + 1)) [
-      | inl same ↦ kind_first v n c P fault kind least g h same
-      | inr other ↦ before-trans (fault c) f g (inl lt) (first.2 g h (elim other [ inl below ↦ omega arith | inr gt ↦ absurd (omega arith) ]))
-    ],
+    λ g h le. let here = kind_first v n c P fault kind least g h in let rest = first.2 g h in grind (arith, before-trans),
   )
 
   old_before : (f : TableFault) (c : ℕ) → number_of f ≤ n → place_of f ≤ place_of (fault c) → IsBeforeFault f (fault c)
-  old_before f c below le =
-      let num = kind.number c in
-      elim (cases_order (place_of f) (place_of (fault c))) [
-        | inl same ↦ inr (same, omega arith)
-        | inr other ↦ elim other [ inl lt ↦ inl lt | inr gt ↦ absurd (omega arith) ]
-      ]
+  old_before f c below le = grind arith
 
   -- the old one is not later
   step_old : (f : TableFault) (c : ℕ) → FirstTo v n (Some f) → IsLeastOf P c → place_of f ≤ place_of (fault c) → FirstTo v (n + 1) (Some f)
@@ -138,21 +92,18 @@ module _ (v : VersionData) (n : ℕ) (P : ℕ → Type 0) (fault : ℕ → Table
   step_old f c first least le = (
     first.0,
     (let below = first.1 in omega arith),
-    λ g h le2. elim (cases_order (number_of g) (n + 1)) [
-      | inl same ↦ before-trans f (fault c) g (old_before f c first.1 le) (kind_first v n c P fault kind least g h same)
-      | inr other ↦ first.2 g h (elim other [ inl below ↦ omega arith | inr gt ↦ absurd (omega arith) ])
-    ],
+    λ g h le2.
+        let old = before-trans f (fault c) g (old_before f c first.1 le) in
+        let here = kind_first v n c P fault kind least g h in let rest = first.2 g h in grind arith,
   )
 
   step : (best : Option TableFault) (code : Option ℕ) → FirstTo v n best → IsFirst P code → FirstTo v (n + 1) (sooner best (option_map fault code))
   step best None first none = step_none best first none
   step None (Some c) first least = step_only c first least
   step (Some f) (Some c) first least =
-      let here = place_of (fault c) in
-      elim (cases_lt here (place_of f)) [
-        | inl lt ↦ subst (FirstTo v (n + 1)) (sym (cond-true (nat_lt here (place_of f)) (Some (fault c)) (Some f) (lt-ltb here (place_of f) lt))) (step_new f c first least lt)
-        | inr le ↦ subst (FirstTo v (n + 1)) (sym (cond-false (nat_lt here (place_of f)) (Some (fault c)) (Some f) (le-ltb here (place_of f) le))) (step_old f c first least le)
-      ]
+      let new = step_new f c first least in
+      let old = step_old f c first least in
+      grind arith
 
 -- what a fault is, by its number
 abbrev AreKinds : VersionData → TableFault → Type 0
@@ -164,50 +115,22 @@ AreKinds v g =
     × (number_of g ≡ 5 → IsHangulWrong v (place_of g))
 
 kinds : (v : VersionData) (g : TableFault) → HasFault v g → AreKinds v g
-kinds v (MapsToUnassigned c) h = (λ n. h, λ n. absurd (omega arith), λ n. absurd (omega arith), λ n. absurd (omega arith), λ n. absurd (omega arith))
-kinds v (TooDeep c) h = (λ n. absurd (omega arith), λ n. h, λ n. absurd (omega arith), λ n. absurd (omega arith), λ n. absurd (omega arith))
-kinds v (TooLong c) h = (λ n. absurd (omega arith), λ n. absurd (omega arith), λ n. h, λ n. absurd (omega arith), λ n. absurd (omega arith))
-kinds v (AmbiguousPair c) h = (λ n. absurd (omega arith), λ n. absurd (omega arith), λ n. absurd (omega arith), λ n. h, λ n. absurd (omega arith))
-kinds v (HangulWrong c) h = (λ n. absurd (omega arith), λ n. absurd (omega arith), λ n. absurd (omega arith), λ n. absurd (omega arith), λ n. h)
-kinds v Memory h = absurd h
-
-kind_mapped : (v : VersionData) → IsKind v 0 (IsMappedToUnassigned v) MapsToUnassigned
-kind_mapped v = record { place = λ c. refl; number = λ c. omega arith; has = λ c h. h; each = λ g h. (kinds v g h).0 }
-
-kind_deep : (v : VersionData) → IsKind v 1 (IsTooDeep v) TooDeep
-kind_deep v = record { place = λ c. refl; number = λ c. omega arith; has = λ c h. h; each = λ g h. (kinds v g h).1 }
-
-kind_long : (v : VersionData) → IsKind v 2 (IsTooLong v) TooLong
-kind_long v = record { place = λ c. refl; number = λ c. omega arith; has = λ c h. h; each = λ g h. (kinds v g h).2 }
-
-kind_ambiguous : (v : VersionData) → IsKind v 3 (IsAmbiguous v) AmbiguousPair
-kind_ambiguous v = record { place = λ c. refl; number = λ c. omega arith; has = λ c h. h; each = λ g h. (kinds v g h).3 }
-
-kind_hangul : (v : VersionData) → IsKind v 4 (IsHangulWrong v) HangulWrong
-kind_hangul v = record { place = λ c. refl; number = λ c. omega arith; has = λ c h. h; each = λ g h. (kinds v g h).4 }
-
--- the number of a fault that a version has is at most 5
-number-le : (v : VersionData) (g : TableFault) → HasFault v g → number_of g ≤ 5
-number-le v (MapsToUnassigned c) h = omega arith
-number-le v (TooDeep c) h = omega arith
-number-le v (TooLong c) h = omega arith
-number-le v (AmbiguousPair c) h = omega arith
-number-le v (HangulWrong c) h = omega arith
-number-le v Memory h = absurd h
+kinds v g h = grind arith
 
 told : (v : VersionData) (o : Option TableFault) → FirstTo v 5 o → MatchOption o (IsFaultless v) (IsLeastFault v)
 unfolding FirstTo
-told v None first = λ g h. (let low = first g h in let high = number-le v g h in absurd (omega arith))
-told v (Some f) first = record { holds = first.0; least = λ g h. first.2 g h (number-le v g h) }
-
-first_step : (v : VersionData) (code : Option ℕ) → IsFirst (IsMappedToUnassigned v) code → FirstTo v 1 (option_map MapsToUnassigned code)
-first_step v code h = step v 0 (IsMappedToUnassigned v) MapsToUnassigned (kind_mapped v) None code (first_none v) h
+told v o first = grind arith
 
 pub least_fault-told : (v : VersionData) (f : FirstFaults) → AreFirsts v f → MatchOption (least_fault f) (IsFaultless v) (IsLeastFault v)
 least_fault-told v f firsts =
-    let one = first_step v f.mapped firsts.mapped in
-    let two = step v 1 (IsTooDeep v) TooDeep (kind_deep v) (option_map MapsToUnassigned f.mapped) f.deep one firsts.deep in
-    let three = step v 2 (IsTooLong v) TooLong (kind_long v) _ f.long two firsts.long in
-    let four = step v 3 (IsAmbiguous v) AmbiguousPair (kind_ambiguous v) _ f.ambiguous three firsts.ambiguous in
-    let five = step v 4 (IsHangulWrong v) HangulWrong (kind_hangul v) _ f.hangul four firsts.hangul in
+    let mapped : IsKind v 0 (IsMappedToUnassigned v) MapsToUnassigned = grind (arith, kinds) in
+    let deep : IsKind v 1 (IsTooDeep v) TooDeep = grind (arith, kinds) in
+    let long : IsKind v 2 (IsTooLong v) TooLong = grind (arith, kinds) in
+    let ambiguous : IsKind v 3 (IsAmbiguous v) AmbiguousPair = grind (arith, kinds) in
+    let hangul : IsKind v 4 (IsHangulWrong v) HangulWrong = grind (arith, kinds) in
+    let one : FirstTo v 1 (option_map MapsToUnassigned f.mapped) = step v 0 _ MapsToUnassigned mapped None f.mapped (first_none v) firsts.mapped in
+    let two = step v 1 (IsTooDeep v) TooDeep deep (option_map MapsToUnassigned f.mapped) f.deep one firsts.deep in
+    let three = step v 2 (IsTooLong v) TooLong long _ f.long two firsts.long in
+    let four = step v 3 (IsAmbiguous v) AmbiguousPair ambiguous _ f.ambiguous three firsts.ambiguous in
+    let five = step v 4 (IsHangulWrong v) HangulWrong hangul _ f.hangul four firsts.hangul in
     told v (least_fault f) five

@@ -1,11 +1,9 @@
 -- The composites that the rows of a file give.
-use Rattle.std.proofs.Common.{◌≡◌, ◌≢◌, ℕ, zero, suc, ◌+◌, ◌<◌, Bool, true, false, ◌&&◌, List, [], ◌∷◌, ◌++◌, flat_map, Some, None, Option, refl, sym, ap, subst, ◌∙◌, arith, inl, inr, slice_index_or, take, append-nil}
-use Rattle.np_tables.proofs.Words.{Contains, slice_get, cases_Bool, none-some, same_Some, slice_get_within}
-use Rattle.np_tables.proofs.Words.{get_or_from_slice_get, take_more, flat_map-append, Contains-append_cases}
-use Rattle.np_tables.proofs.Words.{Contains-append_left, Contains-append_right, Entry, AreRows, is_syllable}
-use Rattle.np_tables.proofs.Words.{VersionData, entry_at, file_mapping, decomposition_mapping, mapping_in, is_empty}
-use Rattle.np_tables.proofs.Words.{has_hangul, lies_in, IsCompositeOf, is_primary, Composite, Lists, AreOfFile, pair_in}
-use Rattle.np_tables.proofs.Words.{composites_in}
+use Rattle.std.proofs.Common.{◌≡◌, ℕ, zero, suc, ◌+◌, Bool, true, false, ◌&&◌, List, [], ◌∷◌, ◌++◌, flat_map, Some, refl, sym, ap, subst, ◌∙◌, arith, inl, inr, take, append-nil}
+use Rattle.np_tables.proofs.Words.{Contains, slice_get, cases_Bool, none-some, same_Some, slice_get_within, get_or_from_slice_get, take_more, flat_map-append}
+use Rattle.np_tables.proofs.Words.{Contains-append_cases, Contains-append_left, Contains-append_right, Entry, AreRows, is_syllable, VersionData, entry_at}
+use Rattle.np_tables.proofs.Words.{file_mapping, decomposition_mapping, is_empty, has_hangul, lies_in, IsCompositeOf, is_primary, Composite, Lists, AreOfFile}
+use Rattle.np_tables.proofs.Words.{pair_in, composites_in}
 use Rattle.std.specs.List.Sorted.{IsPermutation}
 use Rattle.std.proofs.lemmas.List.Sorted.{IsPermutation-sym, Contains-permutation}
 use Rattle.np_tables.proofs.CompositeLemmas.{primary-from, primary-test}
@@ -15,18 +13,11 @@ use Rattle.np_tables.proofs.FileRowLemmas.{first-at, file_mapping-found, mapped-
 
 -- ---- lists of lists
 
-nothing_in : (x : Composite) → ¬ Contains [] x
-nothing_in x h = omega (arith, h.1)
-
-only_at : (y x : Composite) (k : ℕ) → k < 1 → slice_index_or (y ∷ []) k x ≡ x → y ≡ x
-only_at y x zero lt h = h
-only_at y x (suc k) lt h = absurd (omega arith)
-
 only : (y x : Composite) → Contains (y ∷ []) x → y ≡ x
-only y x h = only_at y x h.0 h.1 h.2
+only y x h = grind arith
 
 flat-found : (f : Entry → List Composite) (es : List Entry) (x : Composite) → Contains (flat_map f es) x → (i : ℕ) × (e : Entry) × (slice_get es i ≡ Some e) × Contains (f e) x
-flat-found f [] x h = absurd (nothing_in x h)
+flat-found f [] x h = grind arith
 flat-found f (y ∷ ys) x h =
     elim (Contains-append_cases (f y) (flat_map f ys) x h) [
       | inl here ↦ (zero, y, refl, here)
@@ -55,34 +46,14 @@ pub record FromRow (primary : Bool) (c : ℕ) (mapping : List ℕ) (x : Composit
   pub code : x.code ≡ c
 
 from_row : (primary : Bool) (c : ℕ) (mapping : List ℕ) (x : Composite) → Contains (pair_in primary c mapping) x → FromRow primary c mapping x
-from_row primary c [] x h = absurd (nothing_in x h)
-from_row primary c (a ∷ []) x h = absurd (nothing_in x h)
-from_row true c (a ∷ b ∷ []) x h =
-    let same = only (record { first = a; second = b; code = c }) x h in
-    record {
-      passes = refl;
-      pair = subst (λ (y : Composite). a ∷ b ∷ [] ≡ y.first ∷ y.second ∷ []) same refl;
-      code = subst (λ (y : Composite). y.code ≡ c) same refl;
-    }
-from_row false c (a ∷ b ∷ []) x h = absurd (nothing_in x h)
-from_row primary c (a ∷ b ∷ y ∷ ys) x h = absurd (nothing_in x h)
+from_row primary c mapping x h = grind (arith, only)
 
 to_row : (primary : Bool) (c a b : ℕ) (mapping : List ℕ) → primary ≡ true → mapping ≡ a ∷ b ∷ [] → Contains (pair_in primary c mapping) (record { first = a; second = b; code = c })
-to_row primary c a b mapping passes pair =
-    let x : Composite = record { first = a; second = b; code = c } in
-    let here : Contains (x ∷ []) x = (zero, omega arith, refl) in
-    subst (λ p. Contains (pair_in p c mapping) x) (sym passes) (subst (λ m. Contains (pair_in true c m) x) (sym pair) here)
-
-row_of : (o : Option Entry) → is_empty (mapping_in o) ≡ false → (e : Entry) × (o ≡ Some e)
-row_of None h = cc
-row_of (Some e) h = (e, refl)
+to_row primary c a b mapping passes pair = grind arith
 
 mapped_row : (v : VersionData) (c : ℕ) → is_empty (file_mapping v c) ≡ false → (e : Entry) × (entry_at v.entries c ≡ Some e)
 unfolding file_mapping
-mapped_row v c h = row_of (entry_at v.entries c) h
-
-is_pair-some : (xs : List ℕ) (a b : ℕ) → xs ≡ a ∷ b ∷ [] → xs ≢ []
-is_pair-some xs a b h none = cc
+mapped_row v c h = grind arith
 
 -- ---- all rows together
 
@@ -99,11 +70,7 @@ module _ (v : VersionData) (rows : AreRows v.entries) where
       let r = from_row (is_primary v e.first) e.first e.mapping x at.3 in
       let mapping : file_mapping v e.first ≡ x.first ∷ x.second ∷ [] = file_mapping-found v e.first e (first-at v.entries at.0 e rows at.2) ∙ r.pair in
       let off = mapped-off v e.first (ap is_empty mapping) in
-      record {
-        code_pair = ap (decomposition_mapping v) r.code ∙ decomposition_mapping-off v e.first off ∙ mapping;
-        primary = ap (is_primary v) r.code ∙ r.passes;
-        off = ap (λ c. has_hangul v && is_syllable c) r.code ∙ off;
-      }
+      grind (arith, decomposition_mapping-off)
 
   row_has : (a b c : ℕ) → IsCompositeOf v a b c → (has_hangul v && is_syllable c) ≡ false → Lists (flat_map (composites_in v) v.entries) a b c
   row_has a b c is off =
@@ -112,7 +79,7 @@ module _ (v : VersionData) (rows : AreRows v.entries) where
       let e = found.0 in
       let place = found-place v.entries c e found.1 in
       let here : e.mapping ≡ a ∷ b ∷ [] = sym (file_mapping-found v c e found.1) ∙ mapping in
-      let alone = (at-row v.entries place.0 e rows place.1).alone (is_pair-some e.mapping a b here) in
+      let alone = (at-row v.entries place.0 e rows place.1).alone (λ none. cc) in
       let lists = entry_at-within v.entries c e found.1 in
       let same : e.first ≡ c = omega arith in
       let has = to_row (is_primary v e.first) e.first a b e.mapping (ap (is_primary v) same ∙ primary-test v c is.primary) here in
@@ -134,5 +101,4 @@ pub flat_step : (f : Entry → List Composite) (es : List Entry) (at : ℕ) (e :
 flat_step f es at e old new piece found before grown is =
     let fits = slice_get_within es at e found in
     let here : take (at + 1) es ≡ take at es ++ e ∷ [] = take_more es at e fits ∙ ap (λ (x : Entry). take at es ++ x ∷ []) (get_or_from_slice_get es at e e found) in
-    grown ∙ ap (λ l. l ++ piece) before ∙ ap (λ l. flat_map f (take at es) ++ l) (is ∙ sym (append-nil (f e)))
-    ∙ sym (ap (flat_map f) here ∙ flat_map-append f (take at es) (e ∷ []))
+    grind (arith, append-nil, flat_map-append)

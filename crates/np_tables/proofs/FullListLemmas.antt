@@ -1,12 +1,10 @@
 -- What a table lends, row by row, in one flat list.
-use Rattle.std.proofs.Common.{◌≡◌, ℕ, ◌+◌, ◌-◌, ◌≤◌, Bool, true, false, not, ◌&&◌, List, [], ◌∷◌, ◌++◌, length, take, drop, map, Some, refl, sym, ap, subst, ◌∙◌, arith, inl, inr, append_assoc, append-nil, zero, suc, ◌≢◌, ◌<◌, ◌==◌, flat_map, if◌then◌else◌}
-use Rattle.np_tables.proofs.Words.{slice_get, cond-true, cond-false, cases_Bool, and_parts, and_cases, or_from, or_left}
-use Rattle.np_tables.proofs.Words.{or_right, not-false, not-true, and_from, eqb-true, take-append-le, drop-append-le}
-use Rattle.np_tables.proofs.Words.{drop_at, take_all, map_push, take_more, length-append, length-drop, All-head}
-use Rattle.np_tables.proofs.Words.{All-tail, All-push, All-weaker, slice_get_within, get_or_from_slice_get, Entry}
-use Rattle.np_tables.proofs.Words.{is_syllable, syllable_pair, VersionData, entry_at, is_empty, file_kind, file_mapping}
-use Rattle.np_tables.proofs.Words.{has_hangul, decomposition_kind, decomposition_mapping, counts, is_final, parts, full}
-use Rattle.np_tables.proofs.Words.{full_of, table_full, CodeRange, code_range_of, IsCodeRange, AreCodeRanges, IsGrown, row_full, Canonical}
+use Rattle.std.proofs.Common.{◌≡◌, ℕ, ◌+◌, ◌-◌, ◌≤◌, Bool, true, false, not, ◌&&◌, List, [], ◌∷◌, ◌++◌, length, take, map, Some, refl, sym, ap, subst, ◌∙◌, arith, append_assoc, append-nil, suc, ◌≢◌, ◌<◌, ◌==◌, flat_map, if◌then◌else◌}
+use Rattle.np_tables.proofs.Words.{slice_get, cond-true, cond-false, and_parts, and_cases, or_from, or_left, or_right, not-false, not-true, and_from}
+use Rattle.np_tables.proofs.Words.{eqb-true, take-append-le, drop-append-le, drop_at, take_all, map_push, take_more, length-append, length-drop, All-head}
+use Rattle.np_tables.proofs.Words.{All-tail, All-push, All-weaker, slice_get_within, get_or_from_slice_get, Entry, is_syllable, syllable_pair, VersionData}
+use Rattle.np_tables.proofs.Words.{entry_at, is_empty, file_kind, file_mapping, has_hangul, decomposition_kind, decomposition_mapping, counts, is_final}
+use Rattle.np_tables.proofs.Words.{parts, full, full_of, table_full, CodeRange, code_range_of, IsCodeRange, AreCodeRanges, IsGrown, row_full}
 use Rattle.np_tables.proofs.FileRowLemmas.{file_mapping-found, file_kind-found, mapped-off}
 
 -- ---- full decompositions level by level
@@ -14,40 +12,25 @@ use Rattle.np_tables.proofs.FileRowLemmas.{file_mapping-found, file_kind-found, 
 module _ (v : VersionData) (compat : Bool) where
   pub full-bottom : (n c : ℕ) → n ≡ 0 → full v compat n c ≡ c ∷ []
   unfolding full
-  full-bottom zero c h = refl
-  full-bottom (suc n) c h = absurd (omega arith)
+  full-bottom n c h = grind arith
 
   pub full-kept : (n c : ℕ) → parts v compat c ≡ [] → full v compat n c ≡ c ∷ []
   unfolding full
-  full-kept zero c h = refl
-  full-kept (suc n) c h = cond-true _ _ _ (ap is_empty h)
+  full-kept n c h = grind (arith, cond-true)
 
   pub full-level : (n c : ℕ) (xs : List ℕ) → 0 < n → parts v compat c ≡ xs → is_empty xs ≡ false → full v compat n c ≡ flat_map (full v compat (n - 1)) xs
   unfolding full
-  full-level zero c xs lt h some = absurd (omega arith)
-  full-level (suc n) c xs lt h some =
-      let less : n ≡ suc n - 1 = omega arith in
-      cond-false _ _ _ (ap is_empty h ∙ some) ∙ ap (flat_map (full v compat n)) h ∙ ap (λ m. flat_map (full v compat m) xs) less
+  full-level n c xs lt h some = grind (arith, cond-false)
 
   -- ---- the mapping that counts
 
   pub parts-syllable : (c : ℕ) → has_hangul v ≡ true → is_syllable c ≡ true → parts v compat c ≡ syllable_pair c
   unfolding parts decomposition_kind decomposition_mapping
-  parts-syllable c on h =
-      let both = and_from _ _ on h in
-      let kind : decomposition_kind v c ≡ Canonical = cond-true _ Canonical (file_kind v c) both in
-      let mapping : decomposition_mapping v c ≡ syllable_pair c = cond-true _ (syllable_pair c) (file_mapping v c) both in
-      ap (λ k. if counts compat k then decomposition_mapping v c else []) kind ∙ mapping
+  parts-syllable c on h = grind (arith, and_from, cond-true)
 
   pub parts-file : (c : ℕ) → (has_hangul v && is_syllable c) ≡ false → parts v compat c ≡ (if counts compat (file_kind v c) then file_mapping v c else [])
   unfolding parts decomposition_kind decomposition_mapping
-  parts-file c off =
-      let kind : decomposition_kind v c ≡ file_kind v c = cond-false _ Canonical (file_kind v c) off in
-      let mapping : decomposition_mapping v c ≡ file_mapping v c = cond-false _ (syllable_pair c) (file_mapping v c) off in
-      ap (λ k. if counts compat k then decomposition_mapping v c else []) kind ∙ ap (λ m. if counts compat (file_kind v c) then m else []) mapping
-
-  pub parts-counted : (c : ℕ) → (has_hangul v && is_syllable c) ≡ false → counts compat (file_kind v c) ≡ true → parts v compat c ≡ file_mapping v c
-  parts-counted c off on = parts-file c off ∙ cond-true _ _ _ on
+  parts-file c off = grind (arith, cond-false)
 
   pub parts-passed : (c : ℕ) → (has_hangul v && is_syllable c) ≡ false → counts compat (file_kind v c) ≡ false → parts v compat c ≡ []
   parts-passed c off on = parts-file c off ∙ cond-false _ _ _ on
@@ -60,11 +43,7 @@ append_all f xs old now whole i past before is = before ∙ ap (λ l. old ++ l) 
 
 -- two pieces
 pub append_two : (v : VersionData) (compat : Bool) (n c a b : ℕ) (old mid new : List ℕ) → n ≢ 0 → (has_hangul v && is_syllable c) ≡ true → syllable_pair c ≡ a ∷ b ∷ [] → mid ≡ old ++ full v compat (n - 1) a → new ≡ mid ++ full v compat (n - 1) b → new ≡ old ++ full v compat n c
-append_two v compat n c a b old mid new ne both pair one two =
-    let halves = and_parts (has_hangul v) (is_syllable c) both in
-    let f = full v compat (n - 1) in
-    let level : full v compat n c ≡ f a ++ (f b ++ []) = full-level v compat n c (a ∷ b ∷ []) (omega arith) (parts-syllable v compat c halves.0 halves.1 ∙ pair) refl in
-    two ∙ ap (λ l. l ++ f b) one ∙ append_assoc old (f a) (f b) ∙ ap (λ l. old ++ (f a ++ l)) (sym (append-nil (f b))) ∙ ap (λ l. old ++ l) (sym level)
+append_two v compat n c a b old mid new ne both pair one two = grind (arith, and_parts, full-level, parts-syllable, append_assoc, append-nil)
 
 pub parts-counted_mapping : (v : VersionData) (compat : Bool) (c : ℕ) (xs : List ℕ) → (has_hangul v && is_syllable c) ≡ false → xs ≡ (if counts compat (file_kind v c) then file_mapping v c else []) → parts v compat c ≡ xs
 parts-counted_mapping v compat c xs off is = parts-file v compat c off ∙ sym is
@@ -74,8 +53,7 @@ nil_from_test [] t is h = refl
 nil_from_test (x ∷ xs) t is h = let e = eqb-true (suc (length xs)) 0 (sym is ∙ h) in absurd (omega arith)
 
 pub some_from_test : (xs : List ℕ) (t : Bool) → t ≡ (length xs == 0) → t ≡ false → is_empty xs ≡ false
-some_from_test [] t is h = cc
-some_from_test (x ∷ xs) t is h = refl
+some_from_test xs t is h = grind arith
 
 -- ---- what is lent for a row
 
@@ -94,59 +72,33 @@ module _ (v : VersionData) (compat : Bool) where
 
   -- a mapping in the file that is empty never counts
   pub empty_parts : (c : ℕ) → (has_hangul v && is_syllable c) ≡ false → is_empty (file_mapping v c) ≡ true → is_final v compat c ≡ true
-  empty_parts c off none =
-      elim (cases_Bool (counts compat (file_kind v c))) [
-        | inl on ↦ ap is_empty (parts-counted v compat c off on) ∙ none
-        | inr passed ↦ ap is_empty (parts-passed v compat c off passed)
-      ]
+  empty_parts c off none = grind (arith, parts-passed, parts-file, cond-true)
 
   pub row-lent : (c : ℕ) (e : Entry) → entry_at v.entries c ≡ Some e → (counts compat e.kind && not (is_empty e.mapping)) ≡ true → table_full v compat c ≡ full v compat 32 c
-  row-lent c e found h =
-      let halves = and_parts (counts compat e.kind) (not (is_empty e.mapping)) h in
-      let mapping = file_mapping-found v c e found in
-      let some : is_empty (file_mapping v c) ≡ false = ap is_empty mapping ∙ not-true _ halves.1 in
-      let off = mapped-off v c some in
-      let kind : counts compat (file_kind v c) ≡ true = ap (counts compat) (file_kind-found v c e found) ∙ halves.0 in
-      lent-some c (ap is_empty (parts-counted v compat c off kind) ∙ some) off
+  row-lent c e found h = grind (arith, and_parts, file_mapping-found, not-true, mapped-off, file_kind-found, lent-some, parts-file, cond-true)
 
   pub row-not_lent : (c : ℕ) (e : Entry) → entry_at v.entries c ≡ Some e → (counts compat e.kind && not (is_empty e.mapping)) ≡ false → table_full v compat c ≡ []
-  row-not_lent c e found h =
-      elim (cases_Bool (has_hangul v && is_syllable c)) [
-        | inl on ↦ lent-syllable c on
-        | inr off ↦ elim (and_cases (counts compat e.kind) (not (is_empty e.mapping)) h) [
-          | inl passed ↦ lent-final c (ap is_empty (parts-passed v compat c off (ap (counts compat) (file_kind-found v c e found) ∙ passed)))
-          | inr none ↦ lent-final c (empty_parts c off (ap is_empty (file_mapping-found v c e found) ∙ not-false _ none))
-        ]
-      ]
+  row-not_lent c e found h = grind (arith, lent-syllable, and_cases, lent-final, parts-passed, file_kind-found, empty_parts, file_mapping-found, not-false)
 
   pub lent-outside : (c : ℕ) → is_empty (file_mapping v c) ≡ true → table_full v compat c ≡ []
-  lent-outside c none =
-      elim (cases_Bool (has_hangul v && is_syllable c)) [
-        | inl on ↦ lent-syllable c on
-        | inr off ↦ lent-final c (empty_parts c off none)
-      ]
+  lent-outside c none = grind (arith, lent-syllable, lent-final, empty_parts)
 
 -- ---- ranges of a flat list
 
 pub code_range_of-grown : (old more : List ℕ) (p : CodeRange) → IsCodeRange (length old) p → code_range_of (old ++ more) p ≡ code_range_of old p
-code_range_of-grown old more p is =
-    let fits : p.end - p.start ≤ length (drop p.start old) = omega (arith, length-drop p.start old) in
-    ap (take (p.end - p.start)) (drop-append-le p.start old more (omega arith)) ∙ take-append-le (p.end - p.start) (drop p.start old) more fits
+code_range_of-grown old more p is = grind (arith, length-drop, drop-append-le, take-append-le)
 
 pub parts-grown : (old more : List ℕ) (ps : List CodeRange) → AreCodeRanges old ps → map (code_range_of (old ++ more)) ps ≡ map (code_range_of old) ps
 parts-grown old more [] all = refl
 parts-grown old more (p ∷ ps) all =
-    let here = code_range_of-grown old more p (All-head (IsCodeRange (length old)) p ps all) in
     let rest = parts-grown old more ps (All-tail (IsCodeRange (length old)) p ps all) in
-    cc
+    grind (arith, code_range_of-grown, All-head, All-tail, cond-true, cond-false, and_parts, and_from)
 
 pub AreCodeRanges-grown : (old more : List ℕ) (ps : List CodeRange) → AreCodeRanges old ps → AreCodeRanges (old ++ more) ps
 AreCodeRanges-grown old more ps all = All-weaker (IsCodeRange (length old)) (IsCodeRange (length (old ++ more))) (λ p is. (is.0, omega (arith, length-append old more))) ps all
 
 pub code_range_of-new : (old more : List ℕ) (p : CodeRange) → p.start ≡ length old → p.end ≡ length (old ++ more) → code_range_of (old ++ more) p ≡ more
-code_range_of-new old more p start end =
-    let size : length more ≤ p.end - p.start = omega (arith, length-append old more) in
-    ap (take (p.end - p.start)) (drop_at old more p.start (sym start)) ∙ take_all (p.end - p.start) more size
+code_range_of-new old more p start end = grind (arith, length-append, drop_at, take_all)
 
 -- one more range at the end
 pub record OneMore (v : VersionData) (compat : Bool) (es : List Entry) (at : ℕ) (codes : List ℕ) (ps : List CodeRange) : Type 0 where

@@ -1,10 +1,9 @@
 -- The Hangul arithmetic: on exactly where each syllable and jamo is as it wants it, and what it then makes of each.
-use Rattle.std.proofs.Common.{◌≡◌, ◌≢◌, ℕ, zero, suc, ◌+◌, ◌-◌, ◌/◌, ◌%◌, ◌<◌, ◌≤◌, ◌⊎◌, Bool, true, false, not, ◌&&◌, ◌||◌, ◌==◌, [], ◌∷◌, refl, sym, ap, ◌∙◌, arith, inl, inr, eqb-true}
-use Rattle.np_tables.proofs.Words.{list_all, cases_Bool, cases_eq, cond-true, cond-false, and_parts, and_from}
-use Rattle.np_tables.proofs.Words.{and_right, or_left, or_right, both_ways, is_among, is_syllable, syllable_pair}
-use Rattle.np_tables.proofs.Words.{Canonical, IsHangulWrong, HangulOn, HangulByArithmetic, VersionData, all_below}
-use Rattle.np_tables.proofs.Words.{class_of, decomposition_kind, decomposition_mapping, file_kind, file_mapping}
-use Rattle.np_tables.proofs.Words.{has_hangul, is_assigned, is_empty, is_hangul, is_hangul_row}
+use Rattle.std.proofs.Common.{◌≡◌, ◌≢◌, ℕ, zero, suc, ◌+◌, ◌-◌, ◌%◌, ◌<◌, ◌≤◌, ◌⊎◌, Bool, true, false, not, ◌&&◌, ◌||◌, [], ◌∷◌, refl, ◌∙◌, arith, inl, inr, eqb-true}
+use Rattle.np_tables.proofs.Words.{list_all, cond-true, cond-false, and_parts, and_from, and_right, or_left, or_right, both_ways, is_among, is_syllable}
+use Rattle.np_tables.proofs.Words.{syllable_pair, Canonical, IsHangulWrong, HangulOn, HangulByArithmetic, VersionData, all_below, class_of}
+use Rattle.np_tables.proofs.Words.{decomposition_kind, decomposition_mapping, file_kind, file_mapping, has_hangul, is_assigned, is_empty, is_hangul}
+use Rattle.np_tables.proofs.Words.{is_hangul_row}
 use Rattle.np_code_points.proofs.HangulLemmas.{among_bounds, pair_exists, pair_kinds, pair_of_lv, pair_of_lvt}
 use Rattle.np_tables.proofs.HangulPlaces.{hangul_bound}
 use Rattle.np_tables.proofs.MappingLemmas.{is_empty-true}
@@ -16,10 +15,8 @@ unfolding all_below
 all_below-at p zero c h lt = absurd (omega arith)
 all_below-at p (suc n) c h lt =
     let halves = and_parts (p n) (all_below p n) h in
-    elim (cases_eq c n) [
-      | inl same ↦ ap p same ∙ halves.0
-      | inr other ↦ all_below-at p n c halves.1 (omega arith)
-    ]
+    let rest = all_below-at p n c halves.1 in
+    grind arith
 
 all_below-from : (p : ℕ → Bool) (n : ℕ) → ((c : ℕ) → p c ≡ true) → all_below p n ≡ true
 unfolding all_below
@@ -29,12 +26,7 @@ all_below-from p (suc n) each = and_from _ _ (each n) (all_below-from p n each)
 -- ---- where it is on
 
 then_so : (a b : Bool) → (not a || b) ≡ true → a ≡ true → b ≡ true
-then_so true b h is = h
-then_so false b h is = cc
-
-so_from : (a b : Bool) → (a ≡ true → b ≡ true) → (not a || b) ≡ true
-so_from true b h = h refl
-so_from false b h = refl
+then_so a b h is = grind arith
 
 pub has_hangul-at : (v : VersionData) → has_hangul v ≡ true → (c : ℕ) → is_hangul c ≡ true → is_hangul_row v c ≡ true
 unfolding has_hangul
@@ -43,11 +35,10 @@ has_hangul-at v on c h =
 
 pub has_hangul-from : (v : VersionData) → ((c : ℕ) → is_hangul c ≡ true → is_hangul_row v c ≡ true) → has_hangul v ≡ true
 unfolding has_hangul
-has_hangul-from v each = all_below-from (λ d. not (is_hangul d) || is_hangul_row v d) 0x110000 (λ c. so_from (is_hangul c) (is_hangul_row v c) (each c))
+has_hangul-from v each = grind (arith, all_below-from)
 
 pub has_hangul-fails : (v : VersionData) (c : ℕ) → is_hangul c ≡ true → is_hangul_row v c ≡ false → has_hangul v ≡ false
-has_hangul-fails v c h wrong =
-    elim (cases_Bool (has_hangul v)) [ inl on ↦ absurd (both_ways _ wrong (has_hangul-at v on c h)) | inr off ↦ off ]
+has_hangul-fails v c h wrong = grind (arith, both_ways, has_hangul-at)
 
 pub hangul_on : HangulOn
 hangul_on v = (has_hangul-at v, has_hangul-from v)
@@ -56,10 +47,8 @@ hangul_on v = (has_hangul-at v, has_hangul-from v)
 pub on_where_right : (v : VersionData) → ((c : ℕ) → ¬ (IsHangulWrong v c)) → (c : ℕ) → is_hangul c ≡ true → is_assigned v c ≡ true → has_hangul v ≡ true
 on_where_right v none c h assigned =
     has_hangul-from v (λ d hangul.
-    elim (cases_Bool (is_hangul_row v d)) [
-      | inl row ↦ row
-      | inr wrong ↦ absurd (none d (record { hangul = hangul; some = c; some_hangul = h; some_assigned = assigned; wrong = wrong }))
-    ])
+    let right = λ (wrong : is_hangul_row v d ≡ false). none d (record { hangul = hangul; some = c; some_hangul = h; some_assigned = assigned; wrong = wrong }) in
+    grind arith)
 
 -- ---- what it makes of each syllable and jamo
 
@@ -70,10 +59,7 @@ pub record HangulParts (v : VersionData) (c : ℕ) : Type 0 where
 
 pub hangul_parts : (v : VersionData) (c : ℕ) → is_hangul_row v c ≡ true → HangulParts v c
 unfolding is_hangul_row
-hangul_parts v c h =
-    let halves = and_parts (is_assigned v c && class_of v c == 0) _ h in
-    let front = and_parts (is_assigned v c) _ halves.0 in
-    record { assigned = front.0; class = eqb-true (class_of v c) 0 front.1; mapping = halves.1 }
+hangul_parts v c h = grind (arith, and_parts, eqb-true)
 
 pub decomposition_kind-on : (v : VersionData) (c : ℕ) → (has_hangul v && is_syllable c) ≡ true → decomposition_kind v c ≡ Canonical
 unfolding decomposition_kind
@@ -94,31 +80,9 @@ decomposition_mapping-off v c off = cond-false _ (syllable_pair c) (file_mapping
 pub by_arithmetic : HangulByArithmetic
 by_arithmetic v on c h =
     let row = hangul_parts v c (has_hangul-at v on c h) in
-    record {
-      assigned = row.assigned;
-      class = row.class;
-      mapping = elim (cases_Bool (is_syllable c)) [
-        | inl syllable ↦ decomposition_mapping-on v c (and_from _ _ on syllable) ∙ sym (cond-true _ _ _ syllable)
-        | inr jamo ↦ decomposition_mapping-off v c (and_right (has_hangul v) _ jamo) ∙ is_empty-true _ row.mapping ∙ sym (cond-false _ _ _ jamo)
-      ];
-    }
+    grind (arith, decomposition_mapping-on, and_from, cond-true, decomposition_mapping-off, and_right, is_empty-true, cond-false)
 
 -- ---- syllables and jamo
-
-leading_hangul : (c : ℕ) → is_among 0x1100 19 c ≡ true → is_hangul c ≡ true
-leading_hangul c h =
-    or_left (is_among 0x1100 19 c || is_among 0x1161 21 c || is_among 0x11A8 27 c) (is_syllable c)
-    (or_left (is_among 0x1100 19 c || is_among 0x1161 21 c) (is_among 0x11A8 27 c) (or_left (is_among 0x1100 19 c) (is_among 0x1161 21 c) h))
-
-vowel_hangul : (c : ℕ) → is_among 0x1161 21 c ≡ true → is_hangul c ≡ true
-vowel_hangul c h =
-    or_left (is_among 0x1100 19 c || is_among 0x1161 21 c || is_among 0x11A8 27 c) (is_syllable c)
-    (or_left (is_among 0x1100 19 c || is_among 0x1161 21 c) (is_among 0x11A8 27 c) (or_right (is_among 0x1100 19 c) (is_among 0x1161 21 c) h))
-
-trailing_hangul : (c : ℕ) → is_among 0x11A8 27 c ≡ true → is_hangul c ≡ true
-trailing_hangul c h =
-    or_left (is_among 0x1100 19 c || is_among 0x1161 21 c || is_among 0x11A8 27 c) (is_syllable c)
-    (or_right (is_among 0x1100 19 c || is_among 0x1161 21 c) (is_among 0x11A8 27 c) h)
 
 pub syllable_hangul : (c : ℕ) → is_syllable c ≡ true → is_hangul c ≡ true
 syllable_hangul c h = or_right (is_among 0x1100 19 c || is_among 0x1161 21 c || is_among 0x11A8 27 c) (is_syllable c) h
@@ -127,24 +91,20 @@ pub syllable_row : (v : VersionData) (c : ℕ) → has_hangul v ≡ true → is_
 syllable_row v c on h = has_hangul-at v on c (syllable_hangul c h)
 
 no_syllable : (base count c : ℕ) → base + count ≤ 0xAC00 → is_among base count c ≡ true → is_syllable c ≡ false
-no_syllable base count c low h =
-    elim (cases_Bool (is_syllable c)) [
-      | inl syllable ↦ let a = among_bounds base count c h in let b = among_bounds 0xAC00 11172 c syllable in absurd (omega arith)
-      | inr other ↦ other
-    ]
+no_syllable base count c low h = grind (arith, among_bounds)
 
 pub record IsJamo (c : ℕ) : Type 0 where
   pub hangul : is_hangul c ≡ true
   pub single : is_syllable c ≡ false
 
 pub leading_jamo : (c : ℕ) → is_among 0x1100 19 c ≡ true → IsJamo c
-leading_jamo c h = record { hangul = leading_hangul c h; single = no_syllable 0x1100 19 c (omega arith) h }
+leading_jamo c h = grind (arith, no_syllable, or_left)
 
 pub vowel_jamo : (c : ℕ) → is_among 0x1161 21 c ≡ true → IsJamo c
-vowel_jamo c h = record { hangul = vowel_hangul c h; single = no_syllable 0x1161 21 c (omega arith) h }
+vowel_jamo c h = grind (arith, no_syllable, or_left, or_right)
 
 pub trailing_jamo : (c : ℕ) → is_among 0x11A8 27 c ≡ true → IsJamo c
-trailing_jamo c h = record { hangul = trailing_hangul c h; single = no_syllable 0x11A8 27 c (omega arith) h }
+trailing_jamo c h = grind (arith, no_syllable, or_left, or_right)
 
 pub jamo_bare : (v : VersionData) (c : ℕ) → has_hangul v ≡ true → IsJamo c → decomposition_mapping v c ≡ []
 jamo_bare v c on jamo = (by_arithmetic v on c jamo.hangul).mapping ∙ cond-false _ _ _ jamo.single
@@ -171,14 +131,7 @@ pub record PairShape (s : ℕ) : Type 0 where
 pub lv_shape : (s : ℕ) → is_syllable s ≡ true → (s - 0xAC00) % 28 ≡ 0 → IsLv s
 lv_shape s h even =
     let pair = pair_of_lv s even in
-    elim (pair_kinds s _ _ h pair) [
-      | inl lv ↦ record { syllable = h; leading = _; vowel = _; pair = pair; first = leading_jamo _ lv.0; second = vowel_jamo _ lv.1 }
-      | inr lvt ↦
-          let leading : ℕ = 0x1100 + (s - 0xAC00) / 588 in
-          let low = (among_bounds 0xAC00 11172 leading (and_parts (is_syllable leading) _ lvt.0).0).0 in
-          let range = among_bounds 0xAC00 11172 s h in
-          absurd (omega (arith, low, range))
-    ]
+    grind (arith, pair_kinds, leading_jamo, vowel_jamo, among_bounds, and_parts)
 
 -- a syllable with a trailing consonant
 pub record IsLvt (s : ℕ) : Type 0 where
@@ -191,15 +144,9 @@ pub record IsLvt (s : ℕ) : Type 0 where
 pub lvt_shape : (s : ℕ) → is_syllable s ≡ true → (s - 0xAC00) % 28 ≢ 0 → IsLvt s
 lvt_shape s h odd =
     let pair = pair_of_lvt s odd in
-    elim (pair_kinds s _ _ h pair) [
-      | inr lvt ↦
-          let front = and_parts (is_syllable (s - (s - 0xAC00) % 28)) _ lvt.0 in
-          record { base = _; last = _; pair = pair; front = lv_shape _ front.0 (eqb-true _ 0 front.1); back = trailing_jamo _ lvt.1 }
-      | inl lv ↦
-          let range = among_bounds 0xAC00 11172 s h in
-          let a = among_bounds 0x1100 19 (s - (s - 0xAC00) % 28) lv.0 in
-          absurd (omega (arith, range, a))
-    ]
+    let kinds = pair_kinds s _ _ h pair in
+    let range = among_bounds 0xAC00 11172 s h in
+    grind (arith, among_bounds, lv_shape, trailing_jamo, eqb-true, and_parts)
 
 pub shape_of : (s : ℕ) → is_syllable s ≡ true → PairShape s
 shape_of s h =
@@ -212,14 +159,11 @@ shape_of s h =
     ]
 
 pub head_hangul : (c : ℕ) → IsJamo c ⊎ IsLv c → is_hangul c ≡ true
-head_hangul c (inl jamo) = jamo.hangul
-head_hangul c (inr lv) = syllable_hangul c lv.syllable
+head_hangul c head = grind (arith, syllable_hangul)
 
 -- both parts of a pair are syllables or jamo
-pub pair_all : (p : ℕ → Bool) → ((c : ℕ) → is_hangul c ≡ true → p c ≡ true) → (s : ℕ) → is_syllable s ≡ true → list_all p (syllable_pair s) ≡ true
-pair_all p each s h =
-    let shape = shape_of s h in
-    ap (list_all p) shape.pair ∙ and_from _ _ (each shape.first (head_hangul shape.first shape.head)) (and_from _ _ (each shape.second shape.tail.hangul) refl)
-
 pub pair_assigned : (v : VersionData) (s : ℕ) → has_hangul v ≡ true → is_syllable s ≡ true → list_all (is_assigned v) (syllable_pair s) ≡ true
-pair_assigned v s on h = pair_all (is_assigned v) (λ c hangul. (by_arithmetic v on c hangul).assigned) s h
+pair_assigned v s on h =
+    let shape = shape_of s h in
+    let each = λ (c : ℕ) (hangul : is_hangul c ≡ true). (by_arithmetic v on c hangul).assigned in
+    grind (arith, head_hangul)

@@ -1,64 +1,21 @@
 -- The syllables and jamo, counted from 0, and those that are wrong.
-use Rattle.std.proofs.Common.{◌≡◌, ℕ, ◌+◌, ◌-◌, ◌<◌, ◌≤◌, ◌⊎◌, Bool, true, false, ◌||◌, nat_lt, refl, sym, subst, ◌∙◌, arith, inl, inr, lt-ltb}
-use Rattle.np_tables.proofs.Words.{cond-true, cond-false, cases_lt, le-ltb, both_ways, is_among, is_syllable}
-use Rattle.np_tables.proofs.Words.{IsHangulWrong, IsLeastOf, HasAssignedHangul, hangul_at, VersionData, is_assigned}
-use Rattle.np_tables.proofs.Words.{is_hangul, is_hangul_row}
+use Rattle.std.proofs.Common.{◌≡◌, ℕ, ◌+◌, ◌-◌, ◌<◌, ◌≤◌, ◌⊎◌, true, false, sym, subst, arith, inl, inr, lt-ltb}
+use Rattle.std.proofs.lemmas.Bool.{or_cases}
+use Rattle.np_tables.proofs.Words.{or_left, or_right, cond-true, cond-false, le-ltb, both_ways, IsHangulWrong, IsLeastOf, HasAssignedHangul, hangul_at}
+use Rattle.np_tables.proofs.Words.{VersionData, is_assigned, is_hangul, is_hangul_row}
 use Rattle.np_code_points.proofs.HangulLemmas.{among_bounds, among_from_bounds}
 
 -- the four runs of code points
 unfoldable pub Runs : ℕ → Type 0
 Runs c = ((0x1100 ≤ c) × (c < 0x1113)) ⊎ (((0x1161 ≤ c) × (c < 0x1176)) ⊎ (((0x11A8 ≤ c) × (c < 0x11C3)) ⊎ ((0xAC00 ≤ c) × (c < 0xD7A4))))
 
-or_cases : (a b : Bool) → (a || b) ≡ true → (a ≡ true) ⊎ (b ≡ true)
-or_cases true b h = inl refl
-or_cases false b h = inr h
-
-or_left : (a b : Bool) → a ≡ true → (a || b) ≡ true
-or_left true b h = refl
-or_left false b h = cc
-
-or_right : (a b : Bool) → b ≡ true → (a || b) ≡ true
-or_right true b h = refl
-or_right false b h = h
-
 pub hangul_runs : (c : ℕ) → is_hangul c ≡ true → Runs c
 unfolding Runs
-hangul_runs c h =
-    elim (or_cases (is_among 0x1100 19 c || is_among 0x1161 21 c || is_among 0x11A8 27 c) (is_syllable c) h) [
-      | inr s ↦ (let b = among_bounds 0xAC00 11172 c s in inr (inr (inr (b.0, omega arith))))
-      | inl three ↦ elim (or_cases (is_among 0x1100 19 c || is_among 0x1161 21 c) (is_among 0x11A8 27 c) three) [
-        | inr t ↦ (let b = among_bounds 0x11A8 27 c t in inr (inr (inl (b.0, omega arith))))
-        | inl two ↦ elim (or_cases (is_among 0x1100 19 c) (is_among 0x1161 21 c) two) [
-          | inr v ↦ (let b = among_bounds 0x1161 21 c v in inr (inl (b.0, omega arith)))
-          | inl l ↦ (let b = among_bounds 0x1100 19 c l in inl (b.0, omega arith))
-        ]
-      ]
-    ]
-
-pub runs_hangul : (c : ℕ) → Runs c → is_hangul c ≡ true
-unfolding Runs
-runs_hangul c runs =
-    elim runs [
-      | inl l ↦ or_left (is_among 0x1100 19 c || is_among 0x1161 21 c || is_among 0x11A8 27 c) (is_syllable c) (or_left (is_among 0x1100 19 c || is_among 0x1161 21 c) _ (or_left (is_among 0x1100 19 c) _ (among_from_bounds 0x1100 19 c l.0 (omega arith))))
-      | inr rest ↦ elim rest [
-        | inl v ↦ or_left (is_among 0x1100 19 c || is_among 0x1161 21 c || is_among 0x11A8 27 c) (is_syllable c) (or_left (is_among 0x1100 19 c || is_among 0x1161 21 c) _ (or_right (is_among 0x1100 19 c) _ (among_from_bounds 0x1161 21 c v.0 (omega arith))))
-        | inr rest ↦ elim rest [
-          | inl t ↦ or_left (is_among 0x1100 19 c || is_among 0x1161 21 c || is_among 0x11A8 27 c) (is_syllable c) (or_right (is_among 0x1100 19 c || is_among 0x1161 21 c) _ (among_from_bounds 0x11A8 27 c t.0 (omega arith)))
-          | inr s ↦ or_right (is_among 0x1100 19 c || is_among 0x1161 21 c || is_among 0x11A8 27 c) (is_syllable c) (among_from_bounds 0xAC00 11172 c s.0 (omega arith))
-        ]
-      ]
-    ]
+hangul_runs c h = grind (arith, or_cases, among_bounds)
 
 pub hangul_bound : (c : ℕ) → is_hangul c ≡ true → c < 0x110000
 unfolding Runs
-hangul_bound c h =
-    elim (hangul_runs c h) [
-      | inl l ↦ omega arith
-      | inr rest ↦ elim rest [
-        | inl v ↦ omega arith
-        | inr rest ↦ elim rest [ inl t ↦ omega arith | inr s ↦ omega arith ]
-      ]
-    ]
+hangul_bound c h = grind (arith, hangul_runs)
 
 -- what a place stands for
 unfoldable pub Stands : ℕ → ℕ → Type 0
@@ -66,32 +23,11 @@ Stands i c = ((i < 19) × (c ≡ 0x1100 + i)) ⊎ (((19 ≤ i) × (i < 40) × (c
 
 stands : (i : ℕ) → Stands i (hangul_at i)
 unfolding Stands hangul_at
-stands i =
-    elim (cases_lt i 19) [
-      | inl l ↦ inl (l, cond-true (nat_lt i 19) _ _ (lt-ltb i 19 l))
-      | inr al ↦ elim (cases_lt i 40) [
-        | inl v ↦ inr (inl (al, v, cond-false (nat_lt i 19) _ _ (le-ltb i 19 al) ∙ cond-true (nat_lt i 40) _ _ (lt-ltb i 40 v)))
-        | inr av ↦ elim (cases_lt i 67) [
-          | inl t ↦ inr (inr (inl (av, t, cond-false (nat_lt i 19) _ _ (le-ltb i 19 al) ∙ cond-false (nat_lt i 40) _ _ (le-ltb i 40 av) ∙ cond-true (nat_lt i 67) _ _ (lt-ltb i 67 t))))
-          | inr at ↦ inr (inr (inr (at, cond-false (nat_lt i 19) _ _ (le-ltb i 19 al) ∙ cond-false (nat_lt i 40) _ _ (le-ltb i 40 av) ∙ cond-false (nat_lt i 67) _ _ (le-ltb i 67 at))))
-        ]
-      ]
-    ]
+stands i = grind (arith, cond-true, lt-ltb, cond-false, le-ltb)
 
 pub hangul_at-hangul : (i : ℕ) → i < 11239 → is_hangul (hangul_at i) ≡ true
 unfolding Stands Runs
-hangul_at-hangul i lt =
-    runs_hangul (hangul_at i)
-    (elim (stands i) [
-      | inl l ↦ inl (omega arith, omega arith)
-      | inr rest ↦ elim rest [
-        | inl v ↦ inr (inl (omega arith, omega arith))
-        | inr rest ↦ elim rest [
-          | inl t ↦ inr (inr (inl (omega arith, omega arith)))
-          | inr s ↦ inr (inr (inr (omega arith, omega arith)))
-        ]
-      ]
-    ])
+hangul_at-hangul i lt = grind (arith, stands, or_left, among_from_bounds, or_right)
 
 pub stands-is : (i c : ℕ) → Stands i c → c ≡ hangul_at i
 unfolding Stands
@@ -123,10 +59,7 @@ each_hangul P all c h = let at = place c (hangul_runs c h) in subst P at.2 (all 
 pub not_below : (P : ℕ → Type 0) (i : ℕ) → ((k : ℕ) → k < i → P (hangul_at k)) → (c : ℕ) → is_hangul c ≡ true → ¬ P c → hangul_at i ≤ c
 not_below P i all c h lacks =
     let at = place c (hangul_runs c h) in
-    elim (cases_lt at.0 i) [
-      | inl lt ↦ absurd (lacks (subst P at.2 (all at.0 lt)))
-      | inr le ↦ (let up = hangul_at-le i at.0 le in let is = at.2 in omega arith)
-    ]
+    grind (arith, hangul_at-le)
 
 abbrev pub IsRight : VersionData → ℕ → Type 0
 IsRight v c = is_hangul_row v c ≡ true

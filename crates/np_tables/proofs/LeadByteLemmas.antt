@@ -1,32 +1,19 @@
 -- Characters of several bytes, found by the bytes that begin them.
-use Rattle.std.proofs.Common.{◌≡◌, ◌≢◌, zero, suc, ℕ, ◌+◌, ◌-◌, ◌*◌, ◌/◌, ◌<◌, ◌≤◌, ◌^◌, ◌%◌, Bool, true, false, not, cond, leb, List, [], ◌∷◌, ◌++◌, length, map, replicate, take, drop, get_or, encode_utf8, refl, sym, ap, subst, ◌∙◌, arith, inl, inr, IsUtf8}
-use Rattle.np_tables.proofs.Words.{IsScalar, prefix_len, div-div-eq-div-mul, div-one, zero-div, cases_lt, leb-false}
-use Rattle.np_tables.proofs.Words.{leb-true, drop-drop, drop-map, drop-take, length-map, length-chunk, mask_l-mod}
-use Rattle.np_tables.proofs.Words.{none_from_empty_mask, run_in_chunk_fails, run_in_chunk_le, run_in_chunk_stops}
-use Rattle.np_tables.proofs.Words.{tops_compared, trailing_mask_l, count_trailing_zeros, chunk, mask_l, top, zip2}
-use Rattle.np_tables.proofs.Words.{BeginsWithChar, is_lead_byte}
+use Rattle.std.proofs.Common.{◌≡◌, ◌≢◌, zero, suc, ℕ, ◌+◌, ◌-◌, ◌*◌, ◌/◌, ◌<◌, ◌≤◌, ◌^◌, ◌%◌, Bool, not, cond, leb, List, [], ◌∷◌, length, map, replicate, take, drop, get_or, refl, sym, ap, ◌∙◌, arith, inl, inr, IsUtf8}
+use Rattle.np_tables.proofs.Words.{IsScalar, prefix_len, div-div-eq-div-mul, div-one, zero-div, cases_lt, leb-false, leb-true, drop-drop, drop-map, drop-take}
+use Rattle.np_tables.proofs.Words.{length-map, length-chunk, mask_l-mod, none_from_empty_mask, run_in_chunk_fails, run_in_chunk_le, run_in_chunk_stops}
+use Rattle.np_tables.proofs.Words.{tops_compared, trailing_mask_l, count_trailing_zeros, chunk, mask_l, top, zip2, BeginsWithChar, is_lead_byte}
 use Rattle.std.proofs.lemmas.List.Sums.{prefix_len-le-length}
 use mir.Syntax.{w8}
-use Rattle.np_tables.proofs.AsciiLemmas.{zip2-splat}
-use Rattle.np_tables.proofs.Utf8Lemmas.{BeginsWith, begins_with_three, begins_with_two}
+use Rattle.np_tables.proofs.AsciiLemmas.{positive}
+use Rattle.std.proofs.lemmas.Simd.{zip2_splat_left}
+use Rattle.np_tables.proofs.Utf8Lemmas.{begins_with_three, begins_with_two}
 
 -- the mask of 64 bytes
 pub lead_bytes_mask : (xs : List ℕ) → length xs ≡ 64 → mask_l (map (top 7) (zip2 (λ a b. cond (leb a b) 255 0) (replicate 64 192) xs)) % 2 ^ 64 ≡ mask_l (map (λ x. leb 192 x) xs)
 lead_bytes_mask xs long =
-    ap (λ l. mask_l l % 2 ^ 64) (tops_compared w8 leb (replicate 64 192) xs ∙ zip2-splat leb 64 192 xs long)
+    ap (λ l. mask_l l % 2 ^ 64) (tops_compared w8 leb (replicate 64 192) xs ∙ zip2_splat_left leb 192 64 xs long)
     ∙ mask_l-mod (map (λ x. leb 192 x) xs) 64 (omega (arith, long, length-map xs (λ x. leb 192 x)))
-
-begins_as : (text : List ℕ) (code count n k : ℕ) → BeginsWith text n k → code ≡ k → count ≡ n → 1 < n → n ≤ 4 → k < 0x110000 → IsScalar code × BeginsWithChar text code count
-begins_as text code count n k begins same size some few low = (
-  subst IsScalar (sym same) begins.scalar,
-  record {
-    parts = begins.parts ∙ ap (λ c. encode_utf8 c ++ drop n text) (sym same) ∙ ap (λ m. encode_utf8 code ++ drop m text) (sym size);
-    some = omega arith;
-    few = omega arith;
-    long = omega (arith, begins.long);
-    scalar = omega arith;
-  },
-)
 
 -- a first character of two or three bytes, as it is read
 pub begins_few : (text : List ℕ) (code count : ℕ) → IsUtf8 text → 192 ≤ get_or text 0 0 → get_or text 0 0 < 240
@@ -35,10 +22,8 @@ pub begins_few : (text : List ℕ) (code count : ℕ) → IsUtf8 text → 192 �
     → IsScalar code × BeginsWithChar text code count
 begins_few text code count utf8 low high two three =
     elim (cases_lt (get_or text 0 0) 224) [
-      | inl less ↦
-          begins_as text code count 2 _ (begins_with_two text utf8 (omega (arith, low, less))) (two less).0 (two less).1 (omega arith) (omega arith) (omega arith)
-      | inr more ↦
-          begins_as text code count 3 _ (begins_with_three text utf8 (omega (arith, high, more))) (three more).0 (three more).1 (omega arith) (omega arith) (omega arith)
+      | inl less ↦ let begins = begins_with_two text utf8 (omega (arith, low, less)) in let read = two less in grind arith
+      | inr more ↦ let begins = begins_with_three text utf8 (omega (arith, high, more)) in let read = three more in grind arith
     ]
 
 -- the same, read from bytes that are the text
@@ -47,22 +32,12 @@ pub begins_read : (text bytes : List ℕ) (lead_byte second third code count : �
     → (lead_byte < 224 → (code ≡ lead_byte % 32 * 64 + second) × (count ≡ 2)) → (224 ≤ lead_byte → (code ≡ lead_byte % 16 * 4096 + second * 64 + third) × (count ≡ 3))
     → IsScalar code × BeginsWithChar text code count
 begins_read text bytes lead_byte second third code count same utf8 low high is_lead_byte is_second is_third two three =
-    let first = is_lead_byte ∙ ap (λ l. get_or l 0 0) same in
-    let next = is_second ∙ ap (λ l. get_or l 1 0 % 64) same in
-    let last = is_third ∙ ap (λ l. get_or l 2 0 % 64) same in
-    begins_few text code count utf8 low high
-    (λ less. (let made = two (omega (arith, first, less)) in (omega (arith, made.0, first, next), made.1)))
-    (λ more. (let made = three (omega (arith, first, more)) in (omega (arith, made.0, first, next, last), made.1)))
+    begins_few text code count utf8 low high (grind arith) (grind arith)
 
 -- ---- the bits of a mask, one after the other
 
-positive : (n : ℕ) → (n ≢ 0) → 0 < n
-positive zero h = absurd (h refl)
-positive (suc n) h = omega arith
-
 half : (b : Bool) (bs : List Bool) → mask_l (b ∷ bs) / 2 ≡ mask_l bs
-half true bs = omega arith
-half false bs = omega arith
+half b bs = grind arith
 
 mask_drop : (ms : List Bool) (n : ℕ) → mask_l ms / 2 ^ n ≡ mask_l (drop n ms)
 mask_drop ms zero = div-one (mask_l ms)
@@ -72,8 +47,7 @@ mask_drop (b ∷ bs) (suc n) =
     ap (λ k. mask_l (b ∷ bs) / k) doubled ∙ sym (div-div-eq-div-mul (mask_l (b ∷ bs)) 2 (2 ^ n)) ∙ ap (λ k. k / 2 ^ n) (half b bs) ∙ mask_drop bs n
 
 none_fails : (b : Bool) (n l m : ℕ) → n ≤ l → cond (not b) (1 + n) 0 ≡ 1 + l → (n ≡ l → m ≡ 0) → cond b 1 0 + 2 * m ≡ 0
-none_fails true n l m le e ih = absurd (omega arith)
-none_fails false n l m le e ih = let z = ih (omega arith) in omega arith
+none_fails b n l m le e ih = grind arith
 
 no_lead_bytes : (xs : List ℕ) → prefix_len (λ x. not (is_lead_byte x)) xs ≡ length xs → mask_l (map is_lead_byte xs) ≡ 0
 no_lead_bytes [] e = refl
@@ -98,12 +72,9 @@ module _ (text : List ℕ) (from left skip : ℕ) (long : 64 ≤ length text) (i
 
     pub found_within : skip < 64 - from
     found_within =
-        elim (cases_lt skip (64 - from)) [
-          | inl less ↦ less
-          | inr more ↦
-              let most = run_in_chunk_le is_lead_byte text from (64 - from) skip 0 room counted in
-              absurd (some (is ∙ no_lead_bytes (chunk from (64 - from) text) (omega (arith, counted, size, most, more))))
-        ]
+        let most = run_in_chunk_le is_lead_byte text from (64 - from) skip 0 room counted in
+        let none = no_lead_bytes (chunk from (64 - from) text) in
+        grind (arith, counted, size)
 
     pub found_lead_byte : 192 ≤ get_or text (from + skip) 0
     found_lead_byte = leb-true 192 (get_or text (from + skip) 0) (run_in_chunk_stops is_lead_byte text from (64 - from) skip 0 room counted found_within)
@@ -113,10 +84,8 @@ module _ (text : List ℕ) (from left skip : ℕ) (long : 64 ≤ length text) (i
 
     pub found_behind : (end : ℕ) → ((k : ℕ) → from ≤ k → k < end → get_or text k 0 < 192) → end ≤ from + skip
     found_behind end low =
-        elim (cases_lt (from + skip) end) [
-          | inl less ↦ absurd (omega (arith, found_lead_byte, low (from + skip) (omega arith) less))
-          | inr more ↦ more
-        ]
+        let here = low (from + skip) (omega arith) in
+        grind (arith, found_lead_byte)
 
     pub found_gone : left / 2 ^ skip / 2 ≡ mask_l (map is_lead_byte (chunk (from + skip + 1) (64 - (from + skip + 1)) text))
     found_gone =

@@ -1,8 +1,7 @@
 -- What stands between two characters of several bytes, and behind the bytes that begin them.
 use Rattle.std.proofs.Common.{◌≡◌, zero, suc, true, ℕ, ◌+◌, ◌-◌, ◌<◌, ◌≤◌, List, [], ◌∷◌, ◌++◌, Option, All, append_assoc, chars, length, length-append, take, drop, get_or, encode_utf8, encode_utf8_all, refl, sym, ap, subst, ◌∙◌, arith, inl, inr, IsUtf8}
-use Rattle.np_tables.proofs.Words.{cases_lt, drop-drop, get_or-drop, length-drop, IsCharBoundary-from_rest}
-use Rattle.np_tables.proofs.Words.{chars_past_char, VersionData, Follows, FollowsByQuickCheck, IsPast, IsWalkedTo, ScansOn}
-use Rattle.np_tables.proofs.Words.{IsAscii, IsCharBoundary, BeginsWithChar}
+use Rattle.np_tables.proofs.Words.{cases_lt, drop-drop, get_or-drop, length-drop, IsCharBoundary-from_rest, chars_past_char, VersionData, Follows}
+use Rattle.np_tables.proofs.Words.{FollowsByQuickCheck, IsPast, IsWalkedTo, ScansOn, IsAscii, IsCharBoundary, BeginsWithChar}
 use Rattle.np_tables.specs.declared.scans.Scan.{Scan}
 use Rattle.np_tables.proofs.QuickSpanLemmas.{IsPast-ascii, past_boundary, IsWalkedTo-next, IsWalkedTo-past, ascii_follows}
 use Rattle.np_tables.proofs.AsciiLemmas.{low_take}
@@ -15,19 +14,7 @@ by_bytes : (c : ℕ) → (P : Type 0)
     → ((x y z : ℕ) → 192 ≤ x → y < 192 → z < 192 → encode_utf8 c ≡ x ∷ y ∷ z ∷ [] → P)
     → ((x y z w : ℕ) → 192 ≤ x → y < 192 → z < 192 → w < 192 → encode_utf8 c ≡ x ∷ y ∷ z ∷ w ∷ [] → P)
     → P
-by_bytes c P one two three four =
-    elim (cases_lt c 0x800) [
-      | inl few ↦
-          elim (cases_lt c 0x80) [
-            | inl single ↦ one single (encode_one c single)
-            | inr more ↦ two _ _ (omega arith) (omega arith) (encode_two c more few)
-          ]
-      | inr more ↦
-          elim (cases_lt c 0x10000) [
-            | inl few ↦ three _ _ _ (omega arith) (omega arith) (omega arith) (encode_three c more few)
-            | inr most ↦ four _ _ _ _ (omega arith) (omega arith) (omega arith) (omega arith) (encode_four c most)
-          ]
-    ]
+by_bytes c P one two three four = grind (arith, encode_one, two, encode_two, three, encode_three, four, encode_four)
 
 -- what is no first byte of several up to some place is ASCII
 low_bytes : (ks : List ℕ) (m : ℕ) → ((k : ℕ) → k < m → get_or (encode_utf8_all ks) k 0 < 192) → (i : ℕ) → i < m → get_or (encode_utf8_all ks) i 0 < 128
@@ -61,32 +48,20 @@ inside_low text c count begins k some less =
     (λ x y z w _ low next last e. subst (λ l. get_or l k 0 < 192) (sym (read _ e)) (four x y z w rest low next last k some (omega (arith, less, size _ e))))
   where
     two : (x y : ℕ) (rest : List ℕ) → y < 192 → (k : ℕ) → 1 ≤ k → k < 2 → get_or (x ∷ y ∷ rest) k 0 < 192
-    two x y rest low zero some less = absurd (omega (arith, some))
-    two x y rest low (suc zero) some less = low
-    two x y rest low (suc (suc k)) some less = absurd (omega (arith, less))
+    two x y rest low k some less = let one : k ≡ 1 = omega (arith, some, less) in rw one low
 
     three : (x y z : ℕ) (rest : List ℕ) → y < 192 → z < 192 → (k : ℕ) → 1 ≤ k → k < 3 → get_or (x ∷ y ∷ z ∷ rest) k 0 < 192
-    three x y z rest low next zero some less = absurd (omega (arith, some))
-    three x y z rest low next (suc zero) some less = low
-    three x y z rest low next (suc (suc zero)) some less = next
-    three x y z rest low next (suc (suc (suc k))) some less = absurd (omega (arith, less))
+    three x y z rest low next k some less = grind arith
 
     four : (x y z w : ℕ) (rest : List ℕ) → y < 192 → z < 192 → w < 192 → (k : ℕ) → 1 ≤ k → k < 4 → get_or (x ∷ y ∷ z ∷ w ∷ rest) k 0 < 192
-    four x y z w rest low next last zero some less = absurd (omega (arith, some))
-    four x y z w rest low next last (suc zero) some less = low
-    four x y z w rest low next last (suc (suc zero)) some less = next
-    four x y z w rest low next last (suc (suc (suc zero))) some less = last
-    four x y z w rest low next last (suc (suc (suc (suc k)))) some less = absurd (omega (arith, less))
+    four x y z w rest low next last k some less = grind arith
 
 -- where nothing begins a character of several bytes behind a place, each place behind it is one between two characters
 pub boundary_at : (text : List ℕ) (end at : ℕ) → end ≤ at → at ≤ length text → IsUtf8 (drop end text) → ((k : ℕ) → end ≤ k → k < at → get_or text k 0 < 192) → IsCharBoundary text at
 boundary_at text end at before within utf8 none =
     let m = at - end in
     let whole : end + m ≡ at = omega (arith, before) in
-    subst (IsCharBoundary text) whole
-    (IsCharBoundary-from_rest text end m (omega (arith, before, within))
-    (past_boundary (drop end text) m utf8 (omega (arith, length-drop end text, within, before))
-    (no_lead_bytes_ascii (drop end text) m utf8 (λ k lt. subst (λ n. n < 192) (sym (get_or-drop end text k 0)) (none (end + k) (omega arith) (omega (arith, lt, before)))))))
+    grind (arith, IsCharBoundary-from_rest, past_boundary, length-drop, no_lead_bytes_ascii, get_or-drop)
 
 -- ---- what a scan passed of a text is a walk
 

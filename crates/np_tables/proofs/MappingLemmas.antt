@@ -1,8 +1,7 @@
 -- Full decomposition: the function gives the one that there is.
 use Rattle.std.proofs.Common.{◌≡◌, ◌≢◌, ℕ, zero, suc, ◌<◌, Bool, true, false, List, [], ◌∷◌, ◌++◌, length, flat_map, refl, sym, ap, subst, ◌∙◌, inl, inr, arith, append_assoc, append-nil, length-append}
-use Rattle.np_tables.proofs.Words.{cond-true, cond-false, cases_Bool, and_parts, and_from, list_all, VersionData}
-use Rattle.np_tables.proofs.Words.{is_empty, decomposition_kind, decomposition_mapping, counts, parts, Rewrites}
-use Rattle.np_tables.proofs.Words.{is_final, IsFullDecomposition, has_depth, full, full_of, SomeDecomposition}
+use Rattle.np_tables.proofs.Words.{cond-true, cond-false, cases_Bool, and_parts, and_from, list_all, VersionData, is_empty, decomposition_mapping, parts}
+use Rattle.np_tables.proofs.Words.{Rewrites, is_final, IsFullDecomposition, has_depth, full, full_of, SomeDecomposition}
 use Rattle.np_code_points.specs.Steps.{Reaches}
 use Rattle.np_code_points.proofs.StepsLemmas.{stays, stays_at, one_more, join, along}
 use Rattle.np_tables.proofs.UniqueLemmas.{at_most_one}
@@ -14,31 +13,23 @@ list_all-append p (x ∷ xs) ys front back =
     let halves = and_parts (p x) (list_all p xs) front in and_from _ _ halves.0 (list_all-append p xs ys halves.1 back)
 
 pub is_empty-false : (xs : List ℕ) → is_empty xs ≡ false → xs ≢ []
-is_empty-false [] h e = cc
-is_empty-false (x ∷ xs) h e = cc
+is_empty-false xs h e = grind arith
 
 pub is_empty_from : (xs : List ℕ) → xs ≢ [] → is_empty xs ≡ false
-is_empty_from [] h = absurd (h refl)
-is_empty_from (x ∷ xs) h = refl
+is_empty_from xs h = grind arith
 
 flat_map-some : (f : ℕ → List ℕ) → ((c : ℕ) → 0 < length (f c)) → (xs : List ℕ) → is_empty xs ≡ false → 0 < length (flat_map f xs)
-flat_map-some f some [] h = cc
-flat_map-some f some (x ∷ xs) h = omega (arith, some x, length-append (f x) (flat_map f xs))
+flat_map-some f some xs h = grind (arith, length-append)
 
 module _ (v : VersionData) (compat : Bool) where
   -- what counts is the mapping
   pub parts-cases : (P : List ℕ → Type 0) → P [] → (c : ℕ) → P (decomposition_mapping v c) → P (parts v compat c)
   unfolding parts
-  parts-cases P none c some =
-      elim (cases_Bool (counts compat (decomposition_kind v c))) [
-        | inl on ↦ subst P (sym (cond-true _ _ _ on)) some
-        | inr off ↦ subst P (sym (cond-false _ _ _ off)) none
-      ]
+  parts-cases P none c some = grind (arith, cond-true, cond-false)
 
   pub full-final : (n c : ℕ) → is_final v compat c ≡ true → full v compat n c ≡ c ∷ []
   unfolding full
-  full-final zero c h = refl
-  full-final (suc n) c h = cond-true _ _ _ h
+  full-final n c h = grind (arith, cond-true)
 
   pub full-mapped : (n c : ℕ) → is_final v compat c ≡ false → full v compat (suc n) c ≡ flat_map (full v compat n) (parts v compat c)
   unfolding full
@@ -47,8 +38,7 @@ module _ (v : VersionData) (compat : Bool) where
   pub flat_map-same : (f g : ℕ → List ℕ) (p : ℕ → Bool) → ((c : ℕ) → p c ≡ true → f c ≡ g c) → (xs : List ℕ) → list_all p xs ≡ true → flat_map f xs ≡ flat_map g xs
   flat_map-same f g p same [] all = refl
   flat_map-same f g p same (x ∷ xs) all =
-      let halves = and_parts (p x) (list_all p xs) all in
-      ap (λ l. l ++ flat_map f xs) (same x halves.0) ∙ ap (λ l. g x ++ l) (flat_map-same f g p same xs halves.1)
+      let rest = flat_map-same f g p same xs in grind arith
 
   shallow_final : (c : ℕ) → has_depth v zero c ≡ true → is_final v compat c ≡ true
   unfolding has_depth
@@ -62,30 +52,19 @@ module _ (v : VersionData) (compat : Bool) where
   pub full-more : (n c : ℕ) → has_depth v n c ≡ true → full v compat (suc n) c ≡ full v compat n c
   full-more zero c h = let final = shallow_final c h in full-final 1 c final ∙ sym (full-final zero c final)
   full-more (suc n) c h =
-      elim (cases_Bool (is_final v compat c)) [
-        | inl final ↦ full-final _ c final ∙ sym (full-final (suc n) c final)
-        | inr mapped ↦
-            full-mapped (suc n) c mapped
-            ∙ flat_map-same (full v compat (suc n)) (full v compat n) (has_depth v n) (full-more n) (parts v compat c) (depth_parts n c h)
-            ∙ sym (full-mapped n c mapped)
-      ]
+      let same = flat_map-same (full v compat (suc n)) (full v compat n) (has_depth v n) (full-more n) (parts v compat c) (depth_parts n c h) in
+      grind (arith, full-final, full-mapped)
 
   final-flat_map : (f : ℕ → List ℕ) (p q : ℕ → Bool) → ((c : ℕ) → p c ≡ true → list_all q (f c) ≡ true) → (xs : List ℕ) → list_all p xs ≡ true → list_all q (flat_map f xs) ≡ true
   final-flat_map f p q each [] all = refl
   final-flat_map f p q each (x ∷ xs) all =
-      let halves = and_parts (p x) (list_all p xs) all in
-      list_all-append q (f x) (flat_map f xs) (each x halves.0) (final-flat_map f p q each xs halves.1)
+      let rest = final-flat_map f p q each xs in grind (arith, list_all-append)
 
   final-full : (n c : ℕ) → has_depth v n c ≡ true → list_all (is_final v compat) (full v compat n c) ≡ true
-  final-full zero c h =
-      let final = shallow_final c h in ap (list_all (is_final v compat)) (full-final zero c final) ∙ and_from _ _ final refl
+  final-full zero c h = grind (arith, shallow_final, full-final, and_from)
   final-full (suc n) c h =
-      elim (cases_Bool (is_final v compat c)) [
-        | inl final ↦ ap (list_all (is_final v compat)) (full-final (suc n) c final) ∙ and_from _ _ final refl
-        | inr mapped ↦
-            ap (list_all (is_final v compat)) (full-mapped n c mapped)
-            ∙ final-flat_map (full v compat n) (has_depth v n) (is_final v compat) (final-full n) (parts v compat c) (depth_parts n c h)
-      ]
+      let each = final-flat_map (full v compat n) (has_depth v n) (is_final v compat) (final-full n) (parts v compat c) (depth_parts n c h) in
+      grind (arith, full-final, full-mapped)
 
   -- ---- steps of rewriting lead there
 
@@ -101,15 +80,7 @@ module _ (v : VersionData) (compat : Bool) where
       }
 
   rewrite_back : (zs xs ys : List ℕ) → Rewrites v compat xs ys → Rewrites v compat (xs ++ zs) (ys ++ zs)
-  rewrite_back zs xs ys r =
-      record {
-        before = r.before;
-        code = r.code;
-        after = r.after ++ zs;
-        maps = r.maps;
-        old = ap (λ l. l ++ zs) r.old ∙ append_assoc r.before _ zs;
-        new = ap (λ l. l ++ zs) r.new ∙ append_assoc r.before _ zs ∙ ap (λ l. r.before ++ l) (append_assoc (parts v compat r.code) r.after zs);
-      }
+  rewrite_back zs xs ys r = grind (arith, append_assoc)
 
   abbrev Leads : List ℕ → List ℕ → Type 0
   Leads = Reaches (Rewrites v compat)
@@ -136,11 +107,7 @@ module _ (v : VersionData) (compat : Bool) where
 
   -- the function gives what rewriting reaches, where nothing is deeper than the fuel
   pub decomposes_flat : (n : ℕ) (xs : List ℕ) → list_all (has_depth v n) xs ≡ true → IsFullDecomposition v compat xs (flat_map (full v compat n) xs)
-  decomposes_flat n xs h =
-      record {
-        reached = leads_flat_map (full v compat n) (has_depth v n) (leads_full n) xs h;
-        final = final-flat_map (full v compat n) (has_depth v n) (is_final v compat) (final-full n) xs h;
-      }
+  decomposes_flat n xs h = search (arith, leads_flat_map, leads_full, final-flat_map, final-full)
 
   pub decomposes_full : (n c : ℕ) → has_depth v n c ≡ true → IsFullDecomposition v compat (c ∷ []) (full v compat n c)
   decomposes_full n c h = record { reached = leads_full n c h; final = final-full n c h }
@@ -151,17 +118,12 @@ module _ (v : VersionData) (compat : Bool) where
 
   -- ---- it is never empty
 
-  full_zero : (c : ℕ) → full v compat zero c ≡ c ∷ []
-  unfolding full
-  full_zero c = refl
-
   pub full-some : (n c : ℕ) → 0 < length (full v compat n c)
-  full-some zero c = subst (λ l. 0 < length l) (sym (full_zero c)) (omega arith)
+  unfolding full
+  full-some zero c = omega arith
   full-some (suc n) c =
-      elim (cases_Bool (is_final v compat c)) [
-        | inl final ↦ subst (λ l. 0 < length l) (sym (full-final (suc n) c final)) (omega arith)
-        | inr mapped ↦ subst (λ l. 0 < length l) (sym (full-mapped n c mapped)) (flat_map-some (full v compat n) (full-some n) (parts v compat c) mapped)
-      ]
+      let some = flat_map-some (full v compat n) (full-some n) (parts v compat c) in
+      grind (arith, full-final, full-mapped)
 
   pub full_of-some : (c : ℕ) → 0 < length (full_of v compat c)
   unfolding full_of
