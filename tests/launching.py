@@ -127,7 +127,10 @@ def check_beside(tally, launcher, scratch):
     apart.write_text("one\n", encoding="utf-8")
     (folder / "crates.txt").write_text("apart: smallvec\nlow: smallvec\nnpss: low apart clap\n", encoding="utf-8")
     kit = write_toolchain(scratch / "third", "kit one")
-    call = lambda: run(folder / "npss", ["a"], b"", scratch, env={**os.environ, "PATH": f"{kit}:/usr/bin:/bin"})
+
+    def call():
+        return run(folder / "npss", ["a"], b"", scratch, env={**os.environ, "PATH": f"{kit}:/usr/bin:/bin"})
+
     got = call()
     asked = sorted((kit / "rt.asked").read_text(encoding="utf-8").splitlines())
     tally.check("the launcher proves a crate beside others", got[:2] == (0, b"a\n") and asked == ["lib apart", "lib low", "run npss"],
