@@ -18,7 +18,7 @@ use std::alloc::Global;
 use std::marker::Model;
 
 /// What the two data files say of each code point, whether or not the conditions hold.
-#[derive(Debug, Drop)]
+#[derive(Drop)]
 pub(crate) struct CharacterData {
     rows: RowIndex,
     exclusions: Exclusions,

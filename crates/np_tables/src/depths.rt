@@ -24,7 +24,7 @@ const SYLLABLES_KNOWN: u32 = 2;
 const TOO_LONG: u8 = 65;
 
 /// The first code points that are too deep or too long, `None` where there is none.
-#[derive(Clone, Copy, Debug)]
+#[derive(Clone, Copy)]
 pub(crate) struct DepthFaults {
     /// The least code point whose depth is over 32; a cycle is too deep.
     pub too_deep: Option<u32>,

@@ -73,7 +73,7 @@ impl From<Memory> for TableFault {
 }
 
 /// The least code point with each kind of fault.
-#[derive(Clone, Copy, Debug)]
+#[derive(Clone, Copy)]
 pub(crate) struct FirstFaults {
     pub mapped: Option<u32>,
     pub deep: Option<u32>,

@@ -20,7 +20,7 @@ use std::marker::Model;
 const DEPTH: usize = 32;
 
 /// A range of a flat list: from the place `start` up to the place `end`.
-#[derive(Clone, Copy, Debug)]
+#[derive(Clone, Copy)]
 pub(crate) struct CodeRange {
     /// The place of its first code point.
     pub start: usize,
@@ -29,7 +29,7 @@ pub(crate) struct CodeRange {
 }
 
 /// What a table lends for the code point of each row, in one flat list.
-#[derive(Debug, Drop)]
+#[derive(Drop)]
 pub(crate) struct Fulls {
     pub(crate) codes: Vec<char>,
     pub(crate) canonical: Vec<CodeRange>,

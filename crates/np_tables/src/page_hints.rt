@@ -19,7 +19,7 @@ use np_code_points::Form;
 use np_code_points::hangul::{L_BASE, L_COUNT};
 
 /// What is known of a code point under the two forms of one kind of decomposition.
-#[derive(Clone, Copy, Debug)]
+#[derive(Clone, Copy)]
 pub(crate) struct Hints {
     /// It is a boundary of the form that only decomposes.
     pub boundary: bool,

@@ -26,7 +26,7 @@ use std::alloc::Global;
 const BLOCK: usize = 256;
 
 /// The properties of a code point. All code points of a row have the same.
-#[derive(Clone, Copy, Debug)]
+#[derive(Clone, Copy)]
 pub(crate) struct Properties {
     /// The slot of its full decompositions.
     pub fulls: u32,

@@ -21,6 +21,7 @@ use crate::tables::NormTable;
 use crate::version::Version;
 use np_code_points::{Form, Memory};
 use std::alloc::Global;
+use std::fmt;
 use std::marker::Model;
 
 /// The fast table. A code point's block is found by its number divided by 256; blocks without an
@@ -32,7 +33,7 @@ use std::marker::Model;
 /// It takes some 1.7 MiB beside its version for the files of Unicode 15. Each call takes constant
 /// time, but `pair`, which searches by halves where the pair shares its slot with others, and
 /// `quick_span`, which reads what it counts.
-#[derive(Debug, Drop)]
+#[derive(Drop)]
 pub struct PageTable {
     version: Version,
     /// For each 256 code points the number of their block.
@@ -62,6 +63,15 @@ impl Model for PageTable {
     ghost view = { λ a. a.version };
 
     ghost invariant = { λ a. ArePageTables a.version a.fulls a.index.items a.all_properties.items a.precomputed };
+}
+
+/// Shows how large the version is, and nothing of what is kept of it.
+impl fmt::Debug for PageTable {
+    fn fmt<W: fmt::Write>(&self, f: &mut fmt::Formatter<W>) -> fmt::Result {
+        f.debug_struct("PageTable")
+            .field("version", &self.version)
+            .finish_non_exhaustive()
+    }
 }
 
 /// What a table keeps of a version that is lent.

@@ -90,7 +90,7 @@ fn have_numbers(slots: &[u16], composites: &[Composite]) -> bool
 }
 
 /// Primary composites in the order of their pairs, and of the composites where pairs are equal.
-#[derive(Debug, Drop)]
+#[derive(Drop)]
 pub(crate) struct Pairs {
     composites: Vec<Composite>,
     /// Where a pair is looked for first.

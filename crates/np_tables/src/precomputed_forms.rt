@@ -18,7 +18,7 @@ use std::alloc::Global;
 use std::marker::Model;
 
 /// A range of a flat list: from the place `start` up to the place `end`.
-#[derive(Clone, Copy, Debug)]
+#[derive(Clone, Copy)]
 pub(crate) struct ByteRange {
     /// The place of its first byte.
     pub start: u32,
@@ -28,7 +28,7 @@ pub(crate) struct ByteRange {
 
 /// What is written under one form for the code point of each slot, in one flat list: nothing where
 /// that is not known.
-#[derive(Debug, Drop)]
+#[derive(Drop)]
 pub(crate) struct PrecomputedForms {
     bytes: Vec<u8>,
     ranges: Vec<ByteRange>,

@@ -11,7 +11,7 @@ use np_code_points::{Form, Memory};
 use std::alloc::Global;
 
 /// Those of each form.
-#[derive(Debug, Drop)]
+#[derive(Drop)]
 pub(crate) struct PrecomputedTables {
     nfd: PrecomputedForms,
     nfc: PrecomputedForms,

@@ -13,7 +13,7 @@ use std::alloc::Global;
 use std::marker::Model;
 
 /// The rows of a data file, with the place of the row of each code point.
-#[derive(Debug, Drop)]
+#[derive(Drop)]
 pub(crate) struct RowIndex {
     rows: RowList,
     pages: RowPages,

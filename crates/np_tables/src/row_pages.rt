@@ -21,7 +21,7 @@ const CAPACITY: usize = 65536;
 ///
 /// Block 0 serves all 256 code points that have no row, and one block all that lie in the midst
 /// of a range; so the blocks of a published file take a quarter of a MiB.
-#[derive(Debug, Drop)]
+#[derive(Drop)]
 pub(crate) struct RowPages {
     /// For each 256 code points the number of their block.
     pub index: Vec<u16>,

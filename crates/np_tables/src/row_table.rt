@@ -6,11 +6,12 @@ use crate::tables::NormTable;
 use crate::version::Version;
 use np_code_points::Memory;
 use std::alloc::Global;
+use std::fmt;
 use std::marker::Model;
 
 /// The plain table: it asks the version's rows and its list of pairs, and full decompositions were
 /// made once for each row.
-#[derive(Debug, Drop)]
+#[derive(Drop)]
 pub struct RowTable {
     version: Version,
     fulls: Fulls,
@@ -25,6 +26,15 @@ impl Model for RowTable {
     ghost view = { λ a. a.version };
 
     ghost invariant = { λ a. AreFulls a.version a.fulls };
+}
+
+/// Shows how large the version is, and nothing of what is kept of it.
+impl fmt::Debug for RowTable {
+    fn fmt<W: fmt::Write>(&self, f: &mut fmt::Formatter<W>) -> fmt::Result {
+        f.debug_struct("RowTable")
+            .field("version", &self.version)
+            .finish_non_exhaustive()
+    }
 }
 
 impl RowTable {

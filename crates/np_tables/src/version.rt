@@ -19,12 +19,13 @@ use crate::pairs::{Composite, Pairs};
 use crate::syllables::arithmetic_pair;
 use np_ucd::{Exclusions, MapKind, RowList, RowRef, Rows};
 use std::alloc::Global;
+use std::fmt;
 use std::marker::Model;
 
 /// A version of the character tables that has none of the faults of
 /// [`TableFault`](crate::TableFault). A code point is any number here: one that no row lists is
 /// unassigned, of class 0 and without a mapping.
-#[derive(Debug, Drop)]
+#[derive(Drop)]
 pub struct Version {
     characters: CharacterData,
     pairs: Pairs,
@@ -40,6 +41,15 @@ impl Model for Version {
     ghost view = { λ a. a.characters };
 
     ghost invariant = { λ a. IsSound a.characters × AreOfFile a.characters a.pairs };
+}
+
+/// Shows how many rows the data file has, and none of them.
+impl fmt::Debug for Version {
+    fn fmt<W: fmt::Write>(&self, f: &mut fmt::Formatter<W>) -> fmt::Result {
+        f.debug_struct("Version")
+            .field("rows", &self.row_count())
+            .finish_non_exhaustive()
+    }
 }
 
 impl Version {

@@ -4,17 +4,18 @@ ghost use Rattle.np_ucd.specs.Listed.{is_listed};
 ghost use Rattle.np_ucd.specs.inside.SpanValues.{raised};
 
 use np_code_points::Memory;
+use std::fmt;
 use std::marker::Model;
 
 /// The code points from `first` to `last`, both included.
-#[derive(Clone, Copy, Debug)]
+#[derive(Clone, Copy)]
 pub(crate) struct Listing {
     pub first: u32,
     pub last: u32,
 }
 
 /// A set of code points.
-#[derive(Debug, Drop)]
+#[derive(Drop)]
 pub struct Exclusions {
     listings: Vec<Listing>,
 }
@@ -30,6 +31,15 @@ impl Model for Exclusions {
     ghost view = { λ a. map span_of a.listings.items };
 
     ghost invariant = { λ a. AreRising a.listings.items };
+}
+
+/// Shows how many ranges are listed, and none of them.
+impl fmt::Debug for Exclusions {
+    fn fmt<W: fmt::Write>(&self, f: &mut fmt::Formatter<W>) -> fmt::Result {
+        f.debug_struct("Exclusions")
+            .field("ranges", &self.listings.len())
+            .finish_non_exhaustive()
+    }
 }
 
 /// Raises each last code point to that of the listing before, where it is smaller: of listings

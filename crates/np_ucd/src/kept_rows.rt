@@ -10,7 +10,7 @@ use std::alloc::Global;
 use std::marker::Model;
 
 /// A row as it is kept: its mapping is the `count` code points from the place `start` on.
-#[derive(Clone, Copy, Debug)]
+#[derive(Clone, Copy)]
 pub(crate) struct KeptRow {
     /// The first code point.
     pub first: u32,
@@ -29,7 +29,7 @@ pub(crate) struct KeptRow {
 const _: () = prove!(size_of::<KeptRow>() == 16);
 
 /// Rows that are kept small, in any order.
-#[derive(Debug, Drop)]
+#[derive(Drop)]
 pub(crate) struct KeptRows {
     rows: Vec<KeptRow>,
     codes: Vec<char>,

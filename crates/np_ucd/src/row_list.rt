@@ -8,6 +8,7 @@ use crate::rows::{MapKind, Row, Rows};
 use np_code_points::Memory;
 use smallvec::SmallVec;
 use std::alloc::Global;
+use std::fmt;
 use std::marker::Model;
 
 /// One row, as a list of rows lends it: the code points from `first` to `last`, both included, share
@@ -28,7 +29,7 @@ pub struct RowRef<'a> {
 
 /// Rows in the order of their code points, none of which is in two of them. It says what [`Rows`] say
 /// in a third of the memory.
-#[derive(Debug, Drop)]
+#[derive(Drop)]
 pub struct RowList {
     rows: KeptRows,
 }
@@ -42,6 +43,15 @@ impl Model for RowList {
     ghost view = { λ a. a.rows };
 
     ghost invariant = { λ a. AreRows a.rows };
+}
+
+/// Shows how many rows there are, and none of them.
+impl fmt::Debug for RowList {
+    fn fmt<W: fmt::Write>(&self, f: &mut fmt::Formatter<W>) -> fmt::Result {
+        f.debug_struct("RowList")
+            .field("len", &self.rows.len())
+            .finish_non_exhaustive()
+    }
 }
 
 /// A row as it is lent.

@@ -13,7 +13,7 @@ use np_code_points::words::Words;
 use std::alloc::Global;
 
 /// How many versions and nodes there are, and how many bytes a string has at most.
-#[derive(Clone, Copy, Debug, PartialEq, Eq)]
+#[derive(Clone, Copy)]
 pub(crate) struct Limits {
     pub versions: usize,
     pub nodes: usize,

@@ -3,7 +3,7 @@ use np_code_points::Memory;
 use std::alloc::{AllocError, AllocFailed};
 
 /// Why a line gave nothing.
-#[derive(Clone, Copy, Debug, PartialEq, Eq, Drop)]
+#[derive(Clone, Copy, Drop)]
 pub(crate) enum LineFault {
     /// It isn't what was looked for.
     Unfit,

@@ -1,7 +1,7 @@
 //! The names of events.
 
 /// What happens to a node, as the first word of an event's line names it.
-#[derive(Clone, Copy, Debug, PartialEq, Eq)]
+#[derive(Clone, Copy)]
 pub(crate) enum Verb {
     Accept,
     Deliver,
