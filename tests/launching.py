@@ -45,13 +45,14 @@ def write_toolchain(folder, version):
 
 
 def small_repository(folder, launcher):
-    """A folder with the launcher, a library of one source file and a program of one, which are answered."""
+    """A folder with the launcher, a library of one source file and a program of one, which are answered. The program
+    has neither definitions nor proofs."""
     sources = [folder / "crates" / name / "src" / file for name, file in (("low", "lib.rt"), ("npss", "main.rt"))]
     for source in sources:
         source.parent.mkdir(parents=True)
-        for name in ("specs", "proofs"):
-            (source.parent.parent / name).mkdir()
         source.write_text("one\n", encoding="utf-8")
+    for name in ("specs", "proofs"):
+        (sources[0].parent.parent / name).mkdir()
     (folder / "crates.txt").write_text("# lowest first\nlow: smallvec\nnpss: low clap\nbehind: low npss\n", encoding="utf-8")
     shutil.copy(launcher, folder / "npss")
     return sources
@@ -98,7 +99,7 @@ def check_building(tally, launcher, scratch):
     check("needs no toolchain once it is built", call(), 0, b"a b\n", None)
     source.write_text("two\n", encoding="utf-8")
     check("builds what changed", call(str(kit)), 0, b"a b\n", BUILDS)
-    (source.parent.parent / "proofs" / "Lib.antt").write_text("", encoding="utf-8")
+    (library.parent.parent / "proofs" / "Lib.antt").write_text("", encoding="utf-8")
     check("builds for a proof that changed", call(str(kit)), 0, b"a b\n", BUILDS)
     other = write_toolchain(scratch / "other", "kit two")
     check("builds with a toolchain before it on the path", call(str(other), str(kit)), 0, b"a b\n", b"with kit two")

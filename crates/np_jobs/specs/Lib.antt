@@ -6,11 +6,13 @@ pub mod Keys
 pub mod KeysUnder
 pub mod NormalForms
 pub mod Opening
+pub mod Program
 pub mod Replays
 pub mod Statuses
 pub mod Streams
 pub mod Tellings
 pub mod Texts
+pub mod Usage
 pub mod Versions
 pub mod Wraps
 pub mod inside

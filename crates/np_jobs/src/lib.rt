@@ -1,6 +1,6 @@
 //! What each command of the program does, over any readers and writers: its output, its status, and
 //! the line in which a refusal is told. Beside that what a program over these jobs needs: the opening of
-//! files, the standard streams.
+//! files, the standard streams, and the run of the job that the words of `npss` ask for.
 #![tactic(auto)]
 
 mod audit;
@@ -14,6 +14,7 @@ mod lines;
 mod normalize;
 mod openers;
 mod opening;
+mod program;
 mod replay;
 mod standard;
 mod statuses;
@@ -30,6 +31,7 @@ pub use key_under::key_under_job;
 pub use normalize::normalize_job;
 pub use openers::{Opener, SystemFiles};
 pub use opening::{open_file, open_version, open_versions};
+pub use program::{run_words, usage_text};
 pub use replay::replay_job;
 pub use standard::{Standard, StandardInput, take_standard};
 pub use statuses::{DONE, FAILED};

@@ -1,3 +1,4 @@
 pub mod LineCommands
 pub mod LineKeys
 pub mod LineWords
+pub mod LinesProgram

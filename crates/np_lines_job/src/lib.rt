@@ -1,9 +1,14 @@
 //! The job of the program `npss_lines`, the key of each line of an input or why it has none, and what its
-//! words ask for.
+//! words ask for. Beside that the run of the job over the files that they name, and an input that tells how
+//! far it was read.
 #![tactic(auto)]
 
 mod job;
+mod program;
+mod progress;
 mod words;
 
 pub use job::{Asked, REFUSED, lines_job};
+pub use program::run_words;
+pub use progress::Progress;
 pub use words::{LinesJob, lines_usage_text, parse_lines};

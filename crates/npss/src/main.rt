@@ -1,13 +1,8 @@
 //! Stabilized Unicode strings over tables that are read from files: the program.
 #![tactic(auto)]
 
-mod program;
-mod usage;
-
-use np_jobs::{JobFault, SystemFiles, refuse, refuse_words, take_standard};
-use program::run_words;
+use np_jobs::{JobFault, SystemFiles, refuse, refuse_words, run_words, take_standard, usage_text};
 use std::process::ExitCode;
-use usage::usage_text;
 
 fn main(rt: HostRuntime) -> ExitCode {
     let alloc = rt.alloc();

@@ -1,16 +1,11 @@
 //! The stabilized string of each line of standard input, or why a line has none: the program.
 #![tactic(auto)]
 
-mod program;
-mod progress;
-
 use np_code_points::watched::Watched;
 use np_jobs::{JobFault, SystemFiles, refuse, refuse_words, take_standard};
 use np_lines::LineEnd;
-use np_lines_job::{LinesJob, lines_usage_text, parse_lines};
+use np_lines_job::{LinesJob, Progress, lines_usage_text, parse_lines, run_words};
 use np_words::WordsFault;
-use program::run_words;
-use progress::Progress;
 use std::alloc::Global;
 use std::io::IsTerminal;
 use std::process::ExitCode;

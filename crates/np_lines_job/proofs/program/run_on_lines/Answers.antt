@@ -3,7 +3,7 @@ use Rattle.np_jobs.proofs.OpeningLemmas.{ends_before}
 use Rattle.np_jobs.specs.Streams.{stream_of}
 use Rattle.np_jobs.specs.Texts.{TextReaders}
 use Rattle.np_lines_job.specs.LineKeys.{LinesEnd}
-use Rattle.npss_lines.proofs.program.run_on_lines.Goals as goal
+use Rattle.np_lines_job.proofs.program.run_on_lines.Goals as goal
 
 pub returns-clause-done : goal.returns-clause-done
 returns-clause-done g c =

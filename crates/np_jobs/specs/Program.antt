@@ -1,5 +1,5 @@
 -- What the program does for its words, over any opener of files: by which contents a file of a name may have, and which names may not open.
-use Rattle.std.specs.Prelude.{◌≡◌, ◌⊎◌, ◌++◌, ◌∷◌, [], ℕ, true, None, Some, List, Option, flat_map, string_bytes}
+use Rattle.std.specs.Prelude.{◌≡◌, ◌⊎◌, ◌++◌, ◌∷◌, ℕ, true, None, Some, List, Option, flat_map, string_bytes}
 use Rattle.np_jobs.specs.Audits.{AuditEnds}
 use Rattle.np_jobs.specs.Chains.{VersionReaders}
 use Rattle.np_jobs.specs.Comparisons.{CompareEnds}
@@ -16,7 +16,7 @@ use Rattle.np_jobs.specs.declared.faults.JobFault.TheVariants.{Memory}
 use Rattle.np_words.specs.declared.parsing.Job.{Job}
 use Rattle.np_words.specs.declared.parsing.Job.TheVariants.{Help, Normalize, Key, KeyUnder, Compare, Audit, Replay}
 use Rattle.np_words.specs.declared.files.VersionFiles.{VersionFiles}
-use Rattle.npss.specs.Usage.{usage_lines}
+use Rattle.np_jobs.specs.Usage.{usage_lines}
 
 -- the readers of two versions were opened by their names, the old one's first
 abbrev pub ArePair : (List ℕ → Option (List ℕ) → Type 0) → VersionFiles → VersionFiles → List VersionReaders → Type 0

@@ -6,24 +6,33 @@ ghost use Rattle.np_jobs.specs.Chains.{VersionReaders};
 ghost use Rattle.np_jobs.specs.Ends.{IsTold, TellsRefusal};
 ghost use Rattle.np_jobs.specs.KeysUnder.{KeyUnderEnds, UnderReaders};
 ghost use Rattle.np_jobs.specs.Opening.{AreTextReaders, IsUnopened};
+ghost use Rattle.np_jobs.specs.Program.{ArePair, AreReplayReaders, EndsOverFiles, IsRun, ProgramEnds};
 ghost use Rattle.np_jobs.specs.Replays.{ReplayEnds, ReplayReaders};
 ghost use Rattle.np_jobs.specs.Streams.{stream_of};
 ghost use Rattle.np_jobs.specs.Texts.{TextReaders};
+ghost use Rattle.np_jobs.specs.Usage.{usage_lines};
+ghost use Rattle.np_jobs.specs.inside.TextCommands.{TextCommandEnds};
 ghost use Rattle.np_words.specs.Words.{HasVersions, asked_of, names_of};
-ghost use Rattle.npss.specs.Program.{ArePair, AreReplayReaders, EndsOverFiles, IsRun, ProgramEnds};
-ghost use Rattle.npss.specs.Usage.{usage_lines};
-ghost use Rattle.npss.specs.inside.TextCommands.{TextCommandEnds};
 
-use crate::usage::usage_text;
+mod usage;
+
+use crate::audit::audit_job;
+use crate::compare::compare_job;
+use crate::ending::refuse;
+use crate::faults::JobFault;
+use crate::key::key_job;
+use crate::key_under::key_under_job;
+use crate::normalize::normalize_job;
+use crate::openers::Opener;
+use crate::opening::{open_file, open_version, open_versions};
+use crate::replay::replay_job;
+use crate::usage::{show_usage, tell_usage};
 use np_code_points::Form;
 use np_code_points::watched::Watched;
-use np_jobs::{
-    JobFault, Opener, audit_job, compare_job, key_job, key_under_job, normalize_job, open_file,
-    open_version, open_versions, refuse, replay_job, show_usage, tell_usage,
-};
 use np_words::{Job, VersionFiles, WordsFault, parse};
 use std::alloc::Global;
 use std::io::{Read, Write};
+pub use usage::usage_text;
 
 /// A command on one text.
 #[derive(Clone, Copy, Debug, PartialEq, Eq)]

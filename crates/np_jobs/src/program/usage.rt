@@ -1,6 +1,6 @@
 //! How the program is used.
 ghost use Rattle.std.specs.Prelude.{◌≡◌};
-ghost use Rattle.npss.specs.Usage.{usage_lines};
+ghost use Rattle.np_jobs.specs.Usage.{usage_lines};
 
 /// How the program is used: a line per command, each with its line end.
 pub fn usage_text() -> &'static str

@@ -4,14 +4,15 @@ ghost use Rattle.np_jobs.specs.Ends.{IsTold, TellsRefusal};
 ghost use Rattle.np_jobs.specs.Opening.{AreTextReaders, IsUnopened};
 ghost use Rattle.np_jobs.specs.Streams.{stream_of};
 ghost use Rattle.np_jobs.specs.Texts.{TextReaders};
-ghost use Rattle.np_words.specs.Words.{names_of};
 ghost use Rattle.np_lines_job.specs.LineKeys.{LinesEnd};
 ghost use Rattle.np_lines_job.specs.LineWords.{asked_of, lines_usage};
-ghost use Rattle.npss_lines.specs.LinesProgram.{EndsOverFiles, IsRun, ProgramEnds};
+ghost use Rattle.np_lines_job.specs.LinesProgram.{EndsOverFiles, IsRun, ProgramEnds};
+ghost use Rattle.np_words.specs.Words.{names_of};
 
+use crate::job::{Asked, lines_job};
+use crate::words::{LinesJob, lines_usage_text, parse_lines};
 use np_code_points::watched::Watched;
 use np_jobs::{JobFault, Opener, open_version, refuse, show_usage, tell_usage};
-use np_lines_job::{Asked, LinesJob, lines_job, lines_usage_text, parse_lines};
 use np_words::{VersionFiles, WordsFault};
 use std::alloc::Global;
 use std::io::{Read, Write};

@@ -2,8 +2,8 @@ use Rattle.std.proofs.Common.{refl}
 use Rattle.np_jobs.proofs.OpeningLemmas.{ends_before}
 use Rattle.np_jobs.specs.Streams.{stream_of}
 use Rattle.np_jobs.specs.Texts.{TextReaders}
-use Rattle.npss.specs.inside.TextCommands.{TextCommandEnds}
-use Rattle.npss.proofs.program.run_on_text.Goals as goal
+use Rattle.np_jobs.specs.inside.TextCommands.{TextCommandEnds}
+use Rattle.np_jobs.proofs.program.run_on_text.Goals as goal
 
 pub returns-clause-done : goal.returns-clause-done
 returns-clause-done g c =

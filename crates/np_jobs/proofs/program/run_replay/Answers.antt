@@ -7,7 +7,7 @@ use Rattle.np_jobs.specs.Chains.{readers_of}
 use Rattle.np_jobs.specs.Replays.{ReplayEnds, ReplayReaders}
 use Rattle.np_jobs.specs.Streams.{stream_of}
 use Rattle.np_words.specs.Words.{names_of}
-use Rattle.npss.proofs.program.run_replay.Goals as goal
+use Rattle.np_jobs.proofs.program.run_replay.Goals as goal
 
 pub returns-in_err-schedule-clause-unopened : goal.returns-in_err-schedule-clause-unopened
 returns-in_err-schedule-clause-unopened g c =

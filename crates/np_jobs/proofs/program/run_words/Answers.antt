@@ -1,4 +1,4 @@
-use Rattle.std.proofs.Common.{◌≡◌, ◌⊎◌, ℕ, List, None, Option, Some, Ok, Err, Result, IfErr, IfOk, ap, inl, inr, map, refl, string_bytes}
+use Rattle.std.proofs.Common.{◌≡◌, ℕ, List, None, Option, Some, Ok, Err, Result, IfErr, IfOk, ap, inl, inr, map, refl, string_bytes}
 use Rattle.np_code_points.specs.declared.channels.watched.Watched.{Watched}
 use Rattle.np_code_points.specs.Watched.{device_of}
 use Rattle.np_jobs.specs.Ends.{TellsRefusal, IsTold}
@@ -8,9 +8,9 @@ use Rattle.np_words.specs.Words.{asked_by, asked_of}
 use Rattle.np_words.specs.declared.parsing.Job.{Job}
 use Rattle.np_words.specs.declared.faults.WordsFault.{WordsFault}
 use Rattle.np_words.specs.declared.faults.WordsFault.TheVariants as faults
-use Rattle.npss.specs.Program.{IsRun, ProgramEnds}
-use Rattle.npss.specs.Usage.{usage_lines}
-use Rattle.npss.proofs.program.run_words.Goals as goal
+use Rattle.np_jobs.specs.Program.{IsRun, ProgramEnds}
+use Rattle.np_jobs.specs.Usage.{usage_lines}
+use Rattle.np_jobs.proofs.program.run_words.Goals as goal
 
 -- what was found in the words says how the program ends
 ended : {D : Type 0} (Gives : List ℕ → Option (List ℕ) → Type 0) (Lacks : List ℕ → Type 0) (tells : D → Option (List ℕ)) (words : List (List ℕ)) (found : Result Job WordsFault)

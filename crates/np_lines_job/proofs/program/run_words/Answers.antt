@@ -8,8 +8,8 @@ use Rattle.np_words.specs.declared.faults.WordsFault.{WordsFault}
 use Rattle.np_words.specs.declared.faults.WordsFault.TheVariants as faults
 use Rattle.np_lines_job.specs.LineWords.{asked_by, asked_of, lines_usage}
 use Rattle.np_lines_job.specs.declared.words.LinesJob.{LinesJob}
-use Rattle.npss_lines.specs.LinesProgram.{IsRun, ProgramEnds}
-use Rattle.npss_lines.proofs.program.run_words.Goals as goal
+use Rattle.np_lines_job.specs.LinesProgram.{IsRun, ProgramEnds}
+use Rattle.np_lines_job.proofs.program.run_words.Goals as goal
 
 -- what was found in the words says how the program ends
 ended : {D : Type 0} (Gives : List ℕ → Option (List ℕ) → Type 0) (Lacks : List ℕ → Type 0) (tells : D → Option (List ℕ)) (words : List (List ℕ)) (found : Result LinesJob WordsFault)

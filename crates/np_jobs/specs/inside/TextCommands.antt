@@ -6,8 +6,8 @@ use Rattle.np_jobs.specs.Keys.{KeyEnds}
 use Rattle.np_jobs.specs.NormalForms.{NormalizeEnds}
 use Rattle.np_jobs.specs.Streams.{Stream}
 use Rattle.np_jobs.specs.Texts.{TextReaders}
-use Rattle.npss.specs.declared.program.TextCommand.{TextCommand}
-use Rattle.npss.specs.declared.program.TextCommand.TheVariants.{Normalize, Key, Compare}
+use Rattle.np_jobs.specs.declared.program.TextCommand.{TextCommand}
+use Rattle.np_jobs.specs.declared.program.TextCommand.TheVariants.{Normalize, Key, Compare}
 
 abbrev pub TextCommandEnds : TextCommand → Form → TextReaders → Stream → Stream → ℕ → Type 0
 TextCommandEnds Normalize = NormalizeEnds

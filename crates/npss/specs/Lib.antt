@@ -1,3 +1,0 @@
-pub mod Program
-pub mod Usage
-pub mod inside
