@@ -61,6 +61,10 @@ module _ (v : VersionData) (sound : IsSound v) (form : Form) (plain : composes f
 -- ---- one front behind another
 
 module _ (v : VersionData) (form : Form) where
+  -- nothing is written yet
+  pub goes-start : (text old : List ℕ) → IsUtf8 text → AppendsForm v form text text old old
+  goes-start text old utf8 = record { end = IsRead-end text text [] (IsRead-start text utf8); written = refl }
+
   pub goes-both : (text middle rest old between new : List ℕ) → AppendsForm v form text middle old between → AppendsForm v form middle rest between new → AppendsForm v form text rest old new
   goes-both text middle rest old between new one two =
       record {
