@@ -93,7 +93,11 @@ impl Version {
     }
 
     /// The version of these characters and their composites.
-    fn of_parts(alloc: Global, characters: CharacterData, pairs: Pairs) -> Result<Version, TableFault>
+    fn of_parts(
+        alloc: Global,
+        characters: CharacterData,
+        pairs: Pairs,
+    ) -> Result<Version, TableFault>
         requires { AreOfFile characters pairs }
         ensures version { IfOk result (λ v. v ≡ characters) }
         ensures faultless { OnOk result (IsFaultless characters) }
