@@ -77,6 +77,11 @@ pub IsCopied-own : (v : VersionData) (form : Form) (text stays behind : List ℕ
 IsCopied-own v form text stays behind copied none =
     copied.parts ∙ ap (λ l. stays ++ l) (nil_from_length behind none ∙ sym (rest_nil v form behind none)) ∙ sym copied.copied
 
+-- then it is assigned where what stands is
+pub IsCopied-all : (v : VersionData) (form : Form) (text stays behind : List ℕ) → IsCopied v form text stays behind → length behind ≡ 0 → IsAssigned v (chars stays) → IsAssigned v (chars text)
+IsCopied-all v form text stays behind copied none =
+    subst (λ l. IsAssigned v (chars l)) (sym (copied.parts ∙ ap (λ l. stays ++ l) (nil_from_length behind none) ∙ append-nil stays))
+
 -- what stands is read, where each code point of it is assigned
 pub IsCopied-read : (v : VersionData) (form : Form) (text stays behind : List ℕ) → IsUtf8 text → IsCopied v form text stays behind → IsAssigned v (chars stays) → IsReadAssigned v text behind
 IsCopied-read v form text stays behind utf8 copied all =

@@ -1,10 +1,13 @@
 -- A run over a whole input, chunk by chunk.
-use Rattle.std.proofs.Common.{◌≡◌, ℕ, ◌+◌, ◌<◌, ◌≤◌, ◌⊎◌, List, [], ◌++◌, length, take, drop, chars, encode_utf8_all, flat_map, IsUtf8, Option, Result, refl, sym, ap, subst, ◌∙◌, arith, inl, inr, append_assoc, append-nil, length-append}
+use Rattle.std.proofs.Common.{◌≡◌, ℕ, ◌+◌, ◌<◌, ◌≤◌, ◌⊎◌, List, [], ◌++◌, length, take, drop, chars, encode_utf8_all, flat_map, IsUtf8, Option, Result, refl, sym, ap, subst, ◌∙◌, arith, inl, inr, append_assoc, append-nil, length-append, false, true, Ok, Err}
+use Rattle.std.specs.Result.{OnOk, is_ok}
+use Rattle.std.proofs.lemmas.Bool.{both_ways}
 use Rattle.std.proofs.KnownBytes.{Appends-nil, Appends-trans, Consumes-nil, Consumes-trans}
-use Rattle.np_forms.proofs.Words.{flat_map-append, nil_from_length, take_all, take-append-drop, drop_at, drop-drop, chars-nil, chars-append, IsUtf8-nil}
+use Rattle.np_forms.proofs.Words.{flat_map-append, length-take-le, nil_from_length, take_all, take-append-drop, drop_at, drop-drop, chars-nil, chars-append, IsUtf8-nil}
 use Rattle.np_forms.proofs.Words.{encodes-append, IsUtf8-append, utf8_valid_len, utf8_error_len, is_compat, composes, Form, IsSound, VersionData, class_of}
 use Rattle.np_forms.proofs.Words.{full_of, IsNormalForm, IsStreaming, StreamState, canonical_order, decomposed, ended, normal_form, IsRunning}
 use Rattle.np_forms.proofs.Words.{MayNotBegin, IsNextChunk, IsInputFault, IsPieceWritten, IsPieceCut, IsRestWritten, IsRestCut, Stops}
+use Rattle.np_forms.specs.inside.Running.{IsChunkFault, IsInputCause}
 use Rattle.std.specs.Io.KnownBytes.{Appends, Consumes, IsAtEnd}
 use Rattle.np_code_points.specs.Text.{IsLongestValidPrefix}
 use Rattle.np_forms.specs.RunEnds.{BeginsText, Ends, IsRunWhole, IsCauseOf, IsFrontOfForm, IsWrittenOf, IsRunCut, RunEnds}
@@ -17,6 +20,49 @@ use Rattle.np_forms.proofs.RunTextLemmas.{take_past, prefix_past, prefix_left, o
 
 abbrev pub ends_of : Option (List ℕ) → Option (List ℕ) → Option (List ℕ) → Option (List ℕ) → Ends
 ends_of i₀ i₁ o₀ o₁ = record { in_before = i₀; in_after = i₁; out_before = o₀; out_after = o₁ }
+
+pub ok_on : {T E : Type 0} (r : Result T E) (P : Type 0) → OnOk r P → is_ok r ≡ true → P
+ok_on (Ok x) P h ok = h
+ok_on (Err e) P h ok = absurd (both_ways false refl ok)
+
+-- want of memory behind what was read
+pub input_memory : (i₀ i₁ : Option (List ℕ)) (kept piece : List ℕ) (total n : ℕ) → Consumes i₀ i₁ (take n piece) → n ≤ length piece → total + n ≤ 4294967296 → IsInputFault i₀ i₁ kept total Memory
+input_memory i₀ i₁ kept piece total n taken within size = record { came = take n piece; taken = taken; size = omega (arith, within, size, length-take-le n piece within); cause = tt }
+
+-- nothing more came
+pub input_failed : (i₀ i₁ : Option (List ℕ)) (kept : List ℕ) (total : ℕ) → Consumes i₀ i₁ [] → total ≤ 4294967295 → IsInputFault i₀ i₁ kept total ReadFailed
+input_failed i₀ i₁ kept total taken fits = record { came = []; taken = taken; size = omega (arith, fits); cause = refl }
+
+cause_of : (kept came : List ℕ) (total : ℕ) (fault : RunFault) → IsChunkFault (kept ++ came) (total + length came) fault → IsInputCause kept came total fault
+cause_of kept came total (NotUtf8 place) h = h
+cause_of kept came total ReadFailed h = absurd h.cause
+cause_of kept came total WriteFailed h = h.cause
+cause_of kept came total TooLarge h = h
+cause_of kept came total Memory h = tt
+
+-- a chunk that is no text
+pub input_cut : (i₀ i₁ : Option (List ℕ)) (kept piece chunk : List ℕ) (total n : ℕ) (fault : RunFault) → Consumes i₀ i₁ (take n piece) → n ≤ length piece → total + n ≤ 4294967296 → chunk ≡ kept ++ take n piece →
+    IsChunkFault chunk (total + n) fault → IsInputFault i₀ i₁ kept total fault
+input_cut i₀ i₁ kept piece chunk total n fault taken within size is h =
+    let len = length-take-le n piece within in
+    let all : IsChunkFault (kept ++ take n piece) (total + length (take n piece)) fault = subst (λ k. IsChunkFault (kept ++ take n piece) (total + k) fault) (sym len) (subst (λ l. IsChunkFault l (total + n) fault) is h) in
+    record { came = take n piece; taken = taken; size = omega (arith, size, len); cause = cause_of kept (take n piece) total fault all }
+
+-- a chunk of which some bytes are a text
+pub chunk_next : (i₀ i₁ : Option (List ℕ)) (kept piece chunk left : List ℕ) (total n text : ℕ) → Consumes i₀ i₁ (take n piece) → n ≤ length piece → 0 < n → chunk ≡ kept ++ take n piece → IsLongestValidPrefix chunk text →
+    left ≡ drop text chunk ++ [] → total + n ≤ 4294967295 → IsNextChunk i₀ i₁ kept chunk left total (total + n) text
+chunk_next i₀ i₁ kept piece chunk left total n text taken within some is prefix of_left fits =
+    let len = length-take-le n piece within in
+    record {
+      came = take n piece;
+      some = omega (arith, some, len);
+      taken = taken;
+      chunk_is = is;
+      prefix = prefix;
+      left_is = of_left ∙ append-nil (drop text chunk);
+      total_is = ap (λ k. total + k) (sym len);
+      fits = fits;
+    }
 
 -- what follows the longest prefix of a text and of what follows it
 left_past : (a b : List ℕ) (n : ℕ) → IsUtf8 a → IsLongestValidPrefix b n → drop (utf8_valid_len (a ++ b)) (a ++ b) ≡ drop n b

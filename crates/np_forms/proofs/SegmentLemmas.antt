@@ -1,9 +1,9 @@
 -- Segments that are composed code point by code point.
-use Rattle.std.proofs.Common.{◌≡◌, ℕ, ◌≤◌, ◌⊎◌, Bool, true, List, [], ◌∷◌, ◌++◌, ◌==◌, ◌||◌, nat_lt, length, get_or, set, chars, IsUtf8, encode_utf8, flat_map, Option, Some, None, refl, sym, ap, ap₂, subst, ◌∙◌, inl, inr, append_assoc, append-nil, false, encode_utf8_all, arith}
+use Rattle.std.proofs.Common.{◌≡◌, ℕ, ◌≤◌, ◌⊎◌, Bool, true, List, [], ◌∷◌, ◌++◌, ◌==◌, ◌||◌, nat_lt, length, get_or, set, chars, IsUtf8, encode_utf8, flat_map, Option, Some, None, refl, sym, ap, ap₂, subst, ◌∙◌, inl, inr, append_assoc, append-nil, false, encode_utf8_all, arith, ◌<◌, length-append}
 use Rattle.np_forms.proofs.Words.{cases_Bool, cond-false, cond-true, flat_map-append, map-append, is_compat, composes, Form, is_ordered, IsComposing}
 use Rattle.np_forms.proofs.Words.{and_place, pair_with_last, compose_of, canonical_order, CodeAndClass, with_class, with_classes, ended, normal_form}
 use Rattle.np_forms.proofs.Words.{decomposed, IsComposedOf, IsDecomposedUpTo, IsFirstMade, IsFullUpTo, Rises, BeginsAtBoundary, IsSound, VersionData}
-use Rattle.np_forms.proofs.Words.{class_of, composite, full_of, encodes-append, AppendsForm, IsCopied}
+use Rattle.np_forms.proofs.Words.{class_of, composite, full_of, encodes-append, AppendsForm, IsCopied, IsEndOf}
 use Rattle.np_forms.proofs.TextLemmas.{IsRead-both, IsRead-start, IsRead-next, IsRead-end}
 use Rattle.np_forms.proofs.ComposerLemmas.{push_joins, push_starts, IsComposing-start, IsComposing-end}
 use Rattle.np_forms.proofs.CopyLemmas.{parts-at, settled-is_form}
@@ -60,7 +60,19 @@ module _ (v : VersionData) (sound : IsSound v) (form : Form) (plain : composes f
 
 -- ---- one front behind another
 
+-- a text is its own end
+pub end-itself : (text : List ℕ) → IsUtf8 text → IsEndOf text text
+end-itself text utf8 = IsRead-end text text [] (IsRead-start text utf8)
+
+-- what is shorter than the end of a text is shorter than the text
+pub shorter-end : (text end later : List ℕ) → IsEndOf text end → length later < length end → length later < length text
+shorter-end text end later of_text shorter = omega (arith, shorter, ap length of_text.parts, length-append of_text.front end)
+
 module _ (v : VersionData) (form : Form) where
+  -- nothing is written yet
+  pub goes-start : (text old : List ℕ) → IsUtf8 text → AppendsForm v form text text old old
+  goes-start text old utf8 = record { end = end-itself text utf8; written = refl }
+
   pub goes-both : (text middle rest old between new : List ℕ) → AppendsForm v form text middle old between → AppendsForm v form middle rest between new → AppendsForm v form text rest old new
   goes-both text middle rest old between new one two =
       record {

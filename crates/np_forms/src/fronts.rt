@@ -44,6 +44,24 @@ fn split_precomputed<'t, 'a, T: NormTable>(
     Some((bytes, count, later))
 }
 
+/// Appends the form of the syllables at the front of a text, or of those that jamo make there, and answers what
+/// follows them.
+#[inline(always)]
+fn write_hangul<'a, T: NormTable>(
+    normalizer: &Normalizer<'_, T>,
+    text: &'a str,
+    out: &mut OutText,
+) -> Result<&'a str, Memory>
+    ensures goes { IfOk result (λ rest. AppendsForm (T.model normalizer.now.table.now) normalizer.now.form text.now rest.now out.old out.new) }
+    ensures read { IfOk result (λ rest. IsReadAssigned (T.model normalizer.now.table.now) text.now rest.now) }
+{
+    if normalizer.form.composes() {
+        join_syllables(normalizer, text, out)
+    } else {
+        write_syllables(normalizer, text, out)
+    }
+}
+
 /// Appends the form of the syllables at the front of a text, or of those that jamo make there, or else of
 /// its first segment. Answers what follows the code points that are known to be assigned by that, and what
 /// follows all. The list is a reordering buffer that is used again.
@@ -58,11 +76,7 @@ fn write_changed<'a, T: NormTable>(
     ensures end { IfOk result (λ cut. IsEndOf cut.0.now cut.1.now) }
     ensures shorter { IfOk result (λ cut. 0 < length text.now → length cut.1.now < length text.now) }
 {
-    let after = if normalizer.form.composes() {
-        join_syllables(normalizer, text, out)?
-    } else {
-        write_syllables(normalizer, text, out)?
-    };
+    let after = write_hangul(normalizer, text, out)?;
     if after.len() < text.len() {
         return Ok((after, after));
     }

@@ -91,7 +91,6 @@ fn stabilize<T: NormTable>(
 ///
 /// `Unassigned` exactly where a code point is not assigned, whether or not there is memory; `Memory`
 /// where memory ran out.
-#[tactic(auto, using(crate::proofs::WrittenLemmas::made_form, crate::proofs::CopyLemmas::copy_answers))]
 pub fn npss<T: NormTable>(
     alloc: Global,
     table: &T,
@@ -119,7 +118,6 @@ pub fn npss<T: NormTable>(
 /// # Errors
 ///
 /// As `npss`.
-#[tactic(auto, using(crate::proofs::WrittenLemmas::made_form, crate::proofs::CopyLemmas::copy_answers))]
 pub fn into_npss<T: NormTable>(
     alloc: Global,
     table: &T,
@@ -151,7 +149,6 @@ pub fn into_npss<T: NormTable>(
 /// # Errors
 ///
 /// As `npss`.
-#[tactic(auto, using(crate::proofs::WrittenLemmas::made_form, crate::proofs::CopyLemmas::copy_answers))]
 pub fn lend_npss<'a, T: NormTable>(
     alloc: Global,
     table: &T,

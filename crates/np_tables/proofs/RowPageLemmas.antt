@@ -1,5 +1,5 @@
 -- The row of each code point, block by block.
-use Rattle.std.proofs.Common.{◌≡◌, ℕ, zero, suc, ◌+◌, ◌*◌, ◌/◌, ◌%◌, ◌<◌, ◌≤◌, List, [], ◌∷◌, ◌++◌, length, slice_index, Some, None, refl, sym, ap, subst, ◌∙◌, arith, inl, inr}
+use Rattle.std.proofs.Common.{◌≡◌, ℕ, zero, suc, ◌+◌, ◌*◌, ◌/◌, ◌%◌, ◌<◌, ◌≤◌, List, [], ◌∷◌, ◌++◌, length, get_or, slice_index, Some, None, refl, sym, ap, subst, ◌∙◌, arith, inl, inr}
 use Rattle.std.proofs.lemmas.Bool.Decides.{nat_tests}
 use Rattle.np_tables.proofs.Words.{slice_get, div-add-mod, mod-lt, cases_lt, get_or_append_left, length-append, get_or-append_seam, same_Some}
 use Rattle.np_tables.proofs.Words.{slice_get_within, Entry, AreRows, entry_at, property_place, lies_in, IsRowNumber, IsRowBlock, AreRowPages, IsNextRow}
@@ -114,6 +114,25 @@ begun-more es blocks old new block at pages kept fits is next =
       };
       next = subst (IsNextRow es at) (omega arith) next;
     }
+
+-- the number of one more code point
+pub pushed-more : (es : List Entry) (first count : ℕ) (old items new : List ℕ) (at next number : ℕ) → ArePushed es first count old items at → IsRowNumber es (first + count) number → IsNextRow es next (first + count + 1) → new ≡ items ++ number ∷ [] →
+    ArePushed es first (count + 1) old new next
+pushed-more es first count old items new at next number so_far own behind is =
+    let size = so_far.size in
+    subst (λ l. ArePushed es first (count + 1) old l next) (sym is) (record {
+      next = subst (IsNextRow es next) (omega arith) behind;
+      size = (let grown = length-append items (number ∷ []) in omega arith);
+      kept = λ k lt. get_or_append_left items (number ∷ []) 0 k (omega arith) ∙ so_far.kept k lt;
+      each = λ low lt. elim (cases_lt low count) [
+        | inl less ↦ subst (IsRowNumber es (first + low)) (sym (get_or_append_left items (number ∷ []) 0 (length old + low) (omega arith))) (so_far.each low less)
+        | inr past ↦
+            let there : count ≡ low = omega arith in
+            let place : length items ≡ length old + low = omega arith in
+            let read : number ≡ get_or (items ++ number ∷ []) (length old + low) 0 = sym (get_or-append_seam items number [] 0) ∙ ap (λ n. get_or (items ++ number ∷ []) n 0) place in
+            subst (IsRowNumber es (first + low)) read (subst (λ n. IsRowNumber es (first + n) number) there own)
+      ];
+    })
 
 -- a new block
 pub begun-block : (es : List Entry) (blocks old new : List ℕ) (at to block : ℕ) → AreBegun es blocks old at → ArePushed es (length blocks * 256) 256 old new to → block * 256 ≡ length old → AreBegun es (blocks ++ block ∷ []) new to

@@ -104,6 +104,27 @@ fn pages_of(alloc: Global, version: &Version) -> Result<KeptPages, Memory>
     })
 }
 
+/// What a table keeps of a version that is lent, and the quick checks.
+#[derive(Drop)]
+struct CheckedPages {
+    pages: KeptPages,
+    quick_checks: Vec<u32>,
+}
+
+/// What a table keeps of a version that is lent, and the quick checks.
+fn checked_pages(alloc: Global, version: &Version) -> Result<CheckedPages, Memory>
+    ensures pages { IfOk result (λ kept. ArePages version.now kept.pages.fulls kept.pages.index.items kept.pages.all_properties.items) }
+    ensures precomputed { IfOk result (λ kept. ArePrecomputedTables version.now kept.pages.fulls kept.pages.precomputed) }
+    ensures quick_checks { IfOk result (λ kept. kept.quick_checks.items ≡ spec_all_quick_checks kept.pages.all_properties.items) }
+{
+    let pages = pages_of(alloc, version)?;
+    let quick_checks = all_quick_checks(alloc, &pages.all_properties)?;
+    Ok(CheckedPages {
+        pages,
+        quick_checks,
+    })
+}
+
 impl PageTable {
     /// The table of a version. Time and memory are linear in its rows and blocks.
     ///
@@ -113,25 +134,29 @@ impl PageTable {
     pub fn new(alloc: Global, version: Version) -> Result<PageTable, Memory>
         ensures { IfOk result (λ t. t ≡ version) }
     {
-        let KeptPages {
-            index,
-            all_properties,
-            fulls,
-            precomputed,
-        } = pages_of(alloc, &version)?;
-        let quick_checks = all_quick_checks(alloc, &all_properties)?;
-        let ascii = is_ascii_yes(&index, &quick_checks);
-        let leading_consonants = are_leading_boundaries(&index, &all_properties);
-        Ok(PageTable {
+        let kept = checked_pages(alloc, &version)?;
+        Ok(PageTable::of_parts(version, kept.pages, kept.quick_checks))
+    }
+
+    /// The table of a version, of what is kept of it, and of the quick checks.
+    fn of_parts(version: Version, kept: KeptPages, quick_checks: Vec<u32>) -> PageTable
+        requires pages { ArePages version kept.fulls kept.index.items kept.all_properties.items }
+        requires precomputed { ArePrecomputedTables version kept.fulls kept.precomputed }
+        requires quick_checks { quick_checks.items ≡ spec_all_quick_checks kept.all_properties.items }
+        ensures { result ≡ version }
+    {
+        let ascii = is_ascii_yes(&kept.index, &quick_checks);
+        let leading_consonants = are_leading_boundaries(&kept.index, &kept.all_properties);
+        PageTable {
             version,
-            index,
-            all_properties,
+            index: kept.index,
+            all_properties: kept.all_properties,
             quick_checks,
-            fulls,
-            precomputed,
+            fulls: kept.fulls,
+            precomputed: kept.precomputed,
             ascii,
             leading_consonants,
-        })
+        }
     }
 }
 

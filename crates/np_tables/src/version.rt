@@ -52,6 +52,18 @@ impl fmt::Debug for Version {
     }
 }
 
+/// Tells the fault at the least code point, where there is one.
+fn judge(alloc: Global, characters: &CharacterData, pairs: &Pairs) -> Result<(), TableFault>
+    requires { AreOfFile characters.now pairs.now }
+    ensures faultless { OnOk result (IsFaultless characters.now) }
+    ensures fault { IfErr result (λ f. (f ≡ OutOfMemory) ⊎ IsLeastFault characters.now f) }
+{
+    match fault_of(alloc, characters, pairs)? {
+        Some(fault) => Err(fault),
+        None => Ok(()),
+    }
+}
+
 impl Version {
     /// The version that these rows and exclusions make. An `Err` tells the fault at the least code
     /// point, and of the faults there the first in the list of [`TableFault`]; or that memory ran
@@ -76,11 +88,33 @@ impl Version {
         ensures fault { IfErr result (λ f. (f ≡ OutOfMemory) ⊎ IsLeastFault (record { entries = rows; exclusions = exclusions }) f) }
     {
         let characters = CharacterData::new(alloc, rows, exclusions)?;
+        Version::of_characters(alloc, characters)
+    }
+
+    /// The version of these characters. What is owned is handed on at each step, since the checks of a
+    /// function that owns much are dear.
+    fn of_characters(alloc: Global, characters: CharacterData) -> Result<Version, TableFault>
+        ensures version { IfOk result (λ v. v ≡ characters) }
+        ensures faultless { OnOk result (IsFaultless characters) }
+        ensures fault { IfErr result (λ f. (f ≡ OutOfMemory) ⊎ IsLeastFault characters f) }
+    {
         let pairs = Pairs::new(alloc, &characters)?;
-        match fault_of(alloc, &characters, &pairs)? {
-            Some(fault) => Err(fault),
-            None => Ok(Version::of_faultless(characters, pairs)),
-        }
+        Version::of_parts(alloc, characters, pairs)
+    }
+
+    /// The version of these characters and their composites.
+    fn of_parts(
+        alloc: Global,
+        characters: CharacterData,
+        pairs: Pairs,
+    ) -> Result<Version, TableFault>
+        requires { AreOfFile characters pairs }
+        ensures version { IfOk result (λ v. v ≡ characters) }
+        ensures faultless { OnOk result (IsFaultless characters) }
+        ensures fault { IfErr result (λ f. (f ≡ OutOfMemory) ⊎ IsLeastFault characters f) }
+    {
+        judge(alloc, &characters, &pairs)?;
+        Ok(Version::of_faultless(characters, pairs))
     }
 
     /// The version of these characters.

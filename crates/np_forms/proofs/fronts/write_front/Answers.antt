@@ -1,6 +1,7 @@
-use Rattle.std.proofs.Common.{◌++◌, ap, ◌∙◌}
+use Rattle.std.proofs.Common.{◌++◌, length, ap, sym, ◌∙◌, arith, length-append}
+use Rattle.np_forms.proofs.Words.{eqb-false}
 use Rattle.np_forms.proofs.CopyLemmas.{IsCopied-read}
-use Rattle.np_forms.proofs.SegmentLemmas.{goes-both, goes-copied, goes-made}
+use Rattle.np_forms.proofs.SegmentLemmas.{end-itself, goes-both, goes-copied, goes-made}
 use Rattle.np_forms.proofs.TextLemmas.{IsReadAssigned-both}
 use Rattle.np_forms.proofs.fronts.write_front.Goals as goal
 
@@ -33,3 +34,35 @@ pub returns-clause-read : goal.returns-clause-read
 returns-clause-read g c = λ asked.
     let cut = c.split_quick_span-passing in
     IsReadAssigned-both _ c.args.text.now cut.result.1.now c.in_ok-after.after.now (IsCopied-read _ c.args.normalizer.now.form c.args.text.now cut.result.0.now cut.result.1.now c.utf8.text cut.ensures.copied (cut.ensures.assigned asked)) c.in_ok-after.ensures.read
+
+pub append_first-requires-clause-fits : goal.append_first-requires-clause-fits
+append_first-requires-clause-fits g c = c.in-Some.ensures.made.fits
+
+pub append_first-requires-clause-utf8 : goal.append_first-requires-clause-utf8
+append_first-requires-clause-utf8 g c = c.in-Some.ensures.made.utf8
+
+pub returns-in-Some-clause-end : goal.returns-in-Some-clause-end
+returns-in-Some-clause-end g c = end-itself _ c.in_ok-rest.ensures.goes.end.utf8
+
+pub returns-then-is_empty-clause-goes : goal.returns-then-is_empty-clause-goes
+returns-then-is_empty-clause-goes g c =
+    goes-copied _ c.args.normalizer.now.form c.args.text.now c.split_quick_span-passing.result.0.now _ c.args.out.now _ c.split_quick_span-passing.ensures.copied c.in_ok-append_front.ensures
+
+pub returns-then-is_empty-clause-end : goal.returns-then-is_empty-clause-end
+returns-then-is_empty-clause-end g c = end-itself _ c.split_quick_span-passing.ensures.copied.utf8
+
+pub returns-clause-end : goal.returns-clause-end
+returns-clause-end g c = c.in_ok-after.ensures.end
+
+pub returns-in-Some-clause-shorter : goal.returns-in-Some-clause-shorter
+returns-in-Some-clause-shorter g c =
+    let cut = c.split_quick_span-passing.ensures.copied in
+    let end = c.in_ok-rest.ensures.goes.end in
+    omega (arith, c.in-Some.ensures.shorter, ap length end.parts, length-append end.front c.in_ok-rest.rest.now, ap length cut.parts, length-append c.split_quick_span-passing.result.0.now c.split_quick_span-passing.result.1.now)
+
+pub returns-clause-shorter : goal.returns-clause-shorter
+returns-clause-shorter g c =
+    let some = eqb-false (length c.split_quick_span-passing.result.1.now) 0 (sym c.is_empty.ensures ∙ c.if-is_empty.false) in
+    let cut = c.split_quick_span-passing.ensures.copied in
+    let shorter = c.in_ok-after.ensures.shorter (omega (arith, some)) in
+    omega (arith, shorter, ap length cut.parts, length-append c.split_quick_span-passing.result.0.now c.split_quick_span-passing.result.1.now)

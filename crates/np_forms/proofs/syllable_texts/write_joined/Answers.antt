@@ -1,9 +1,18 @@
-use Rattle.std.proofs.Common.{◌≡◌, ◌∙◌, subst, IfNone, IfSome}
+use Rattle.std.proofs.Common.{◌≡◌, ◌∙◌, ap, arith, length, length-append, subst, IfNone, IfSome}
 use Rattle.np_forms.proofs.Words.{AppendsForm, IsReadAssigned, BeginsWithSyllable}
-use Rattle.np_forms.proofs.SegmentLemmas.{goes-both}
+use Rattle.np_forms.proofs.SegmentLemmas.{goes-both, goes-start}
 use Rattle.np_forms.proofs.SyllableFrontLemmas.{goes-joined, syllable-begins, syllable-read}
-use Rattle.np_forms.proofs.TextLemmas.{IsReadAssigned-both}
+use Rattle.np_forms.proofs.TextLemmas.{IsReadAssigned-both, IsReadAssigned-start}
 use Rattle.np_forms.proofs.syllable_texts.write_joined.Goals as goal
+
+pub returns-in_default-clause-goes : goal.returns-in_default-clause-goes
+returns-in_default-clause-goes g c = goes-start _ _ _ _ c.utf8.text
+
+pub returns-in_default-clause-read : goal.returns-in_default-clause-read
+returns-in_default-clause-read g c = IsReadAssigned-start _ _ c.utf8.text
+
+pub scan-init : goal.scan-init
+scan-init g c = (goes-start _ _ _ _ c.utf8.text, IsReadAssigned-start _ _ c.utf8.text, c.in-Some.ensures)
 
 pub scan-preserved-in-Some-syllable_front : goal.scan-preserved-in-Some-syllable_front
 scan-preserved-in-Some-syllable_front g c =
@@ -42,3 +51,11 @@ scan-preserved g c =
       IsReadAssigned-both v _ later _ read (subst (λ j. IfSome j (λ next. IsReadAssigned v later next.0.now)) c.in-Some-2.is c.in_ok-begun.ensures.read),
       subst (λ j. IfSome j (λ next. BeginsWithSyllable next.0.now next.2.now next.1)) c.in-Some-2.is c.in_ok-begun.ensures.begins,
     )
+
+pub scan-smaller-in-Some-syllable_front : goal.scan-smaller-in-Some-syllable_front
+scan-smaller-in-Some-syllable_front g c = c.scan.invariant.2.shorter
+
+pub scan-smaller : goal.scan-smaller
+scan-smaller g c =
+    let goes = subst (λ j. IfSome j (λ next. AppendsForm (g.T.NormTable.model c.args.normalizer.now.table.now) c.args.normalizer.now.form c.scan.later.now next.0.now c.push_joined-in-scan.new.out c.write_space.new.out)) c.in-Some-2.is c.in_ok-begun.ensures.goes in
+    omega (arith, c.scan.invariant.2.shorter, ap length goes.end.parts, length-append goes.end.front c.in-Some-2.begun.now)

@@ -1,9 +1,24 @@
 use Rattle.std.proofs.Common.{◌≡◌, ◌∙◌, sym, subst, IfNone, IfSome}
 use Rattle.np_forms.proofs.Words.{AppendsForm, IsReadAssigned, BeginsWithSyllable}
-use Rattle.np_forms.proofs.SegmentLemmas.{goes-both}
+use Rattle.np_forms.proofs.SegmentLemmas.{goes-both, goes-start}
 use Rattle.np_forms.proofs.SyllableFrontLemmas.{goes-syllable, syllable-read}
-use Rattle.np_forms.proofs.TextLemmas.{IsReadAssigned-both}
+use Rattle.np_forms.proofs.TextLemmas.{IsReadAssigned-both, IsReadAssigned-start}
 use Rattle.np_forms.proofs.syllable_texts.write_syllables.Goals as goal
+
+pub returns-then-not-hangul-clause-goes : goal.returns-then-not-hangul-clause-goes
+returns-then-not-hangul-clause-goes g c = goes-start _ _ _ _ c.utf8.text
+
+pub returns-then-not-hangul-clause-read : goal.returns-then-not-hangul-clause-read
+returns-then-not-hangul-clause-read g c = IsReadAssigned-start _ _ c.utf8.text
+
+pub returns-in_default-clause-goes : goal.returns-in_default-clause-goes
+returns-in_default-clause-goes g c = goes-start _ _ _ _ c.utf8.text
+
+pub returns-in_default-clause-read : goal.returns-in_default-clause-read
+returns-in_default-clause-read g c = IsReadAssigned-start _ _ c.utf8.text
+
+pub scan-init : goal.scan-init
+scan-init g c = (c.args.text.now, goes-start _ _ _ _ c.utf8.text, IsReadAssigned-start _ _ c.utf8.text, c.in-Some.ensures)
 
 pub scan-preserved-in-Some-syllable_front : goal.scan-preserved-in-Some-syllable_front
 scan-preserved-in-Some-syllable_front g c =
