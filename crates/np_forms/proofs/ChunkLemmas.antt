@@ -210,6 +210,3 @@ closes_form v sound form s before after text version same begins closes =
     let whole : IsNormalForm v form text closes.more =
     subst (λ q. IsNormalForm q form text closes.more) version (subst (λ q. IsNormalForm s.version q text closes.more) same (closes.whole [] [] start)) in
     closes.written ∙ ap (λ l. before ++ encode_utf8_all l) (normal_form_is v sound form text closes.more whole)
-
--- what the checks of functions cite
-pub ruleset chunk_answers = (Closes-at_once)

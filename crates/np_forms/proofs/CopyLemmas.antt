@@ -1,6 +1,6 @@
 -- What passes the quick check is copied, and segments are made each for itself.
 use Rattle.std.proofs.Common.{◌≡◌, ℕ, ◌-◌, ◌<◌, ◌⊎◌, List, [], ◌∷◌, ◌++◌, None, length, chars, IsUtf8, encode_utf8, encode_utf8_all, refl, sym, ap, subst, ◌∙◌, arith, inl, inr, append_assoc, append-nil, length-append, take_at, drop_at, Bool, true, false, take, drop, slice_range, IsCharBoundary, flat_map, suc, Option, Some, All, get_or}
-use Rattle.np_forms.proofs.Words.{append_cancel_right, nil_from_length, cases_lt, and_from, chars-nil, chars-append, IsUtf8-string_bytes, chars_past_char}
+use Rattle.np_forms.proofs.Words.{append_cancel_right, nil_from_length, cases_lt, and_from, chars-nil, chars-append, chars_past_char}
 use Rattle.np_forms.proofs.Words.{encodes-append, encodes-chars, IsCharBoundary-at_seam, IsCharBoundary-from_take, IsUtf8-drop, IsUtf8-take, Form, IsAssigned}
 use Rattle.np_forms.proofs.Words.{canonical_order, compose_of, IsCopied, ArePassing, AsciiPasses, IsPassing, decomposed, ended, normal_form, IsReadAssigned}
 use Rattle.np_forms.proofs.Words.{BeginsAtBoundary, IsBoundary, IsSound, VersionData, class_of, full_of, IsQuickSpan, MayFollow, Walks, is_compat, composes}
@@ -216,6 +216,3 @@ module _ (v : VersionData) (form : Form) where
     pub passing_copied : (sound : IsSound v) (front : List ℕ) → front ≡ encode_utf8_all past.front → BeginsAtBoundary v form (chars rest) → IsCopied v form text front rest
     passing_copied sound front is at =
         IsCopied-at v sound form text front rest past.front 0 (past.split ∙ ap (λ l. l ++ rest) (sym is)) past.utf8 is past.text_is (passing_walk None past.front past.passed) at
-
--- what the checks of functions cite
-pub ruleset copy_answers = (IsCopied-own, IsUtf8-string_bytes)

@@ -102,7 +102,6 @@ pub(crate) fn close_text<T: NormTable>(
 
 /// Takes the last piece of a text in, and writes the rest of its form, as `close_text` does, and tells whether each
 /// code point of the piece is assigned. Where one is not, the form may be cut short.
-#[tactic(auto, using(std::proofs::lemmas::List::nil_from_length, crate::proofs::ChunkLemmas::chunk_answers))]
 pub(crate) fn close_assigned<T: NormTable>(
     stream: &mut Stream<'_, T>,
     out: &mut OutText,

@@ -1,9 +1,15 @@
 use Rattle.std.proofs.Common.{◌++◌, encode_utf8, sym, ap, ◌∙◌}
-use Rattle.np_forms.proofs.SegmentLemmas.{goes-both, goes-made}
+use Rattle.np_forms.proofs.SegmentLemmas.{goes-both, goes-made, goes-start}
 use Rattle.np_forms.proofs.PrecomputedLemmas.{first-precomputed, precomputed-assigned}
 use Rattle.np_forms.proofs.CopyLemmas.{passing_ascii, passing_read}
-use Rattle.np_forms.proofs.TextLemmas.{IsReadAssigned-both, IsReadAssigned-next}
+use Rattle.np_forms.proofs.TextLemmas.{IsReadAssigned-both, IsReadAssigned-next, IsReadAssigned-start}
 use Rattle.np_forms.proofs.precomputed_texts.write_precomputed.Goals as goal
+
+pub letters-init : goal.letters-init
+letters-init g c = (goes-start _ _ _ _ c.utf8.text, IsReadAssigned-start _ _ c.utf8.text)
+
+pub returns-in_default-clause-goes : goal.returns-in_default-clause-goes
+returns-in_default-clause-goes g c = goes-both _ _ c.args.text.now c.letters.rest.now _ c.args.out.now c.letters.out c.append_passing.new.out c.letters.invariant.0 c.in_ok-append_passing.ensures
 
 pub append_passing-requires-clause-passing : goal.append_passing-requires-clause-passing
 append_passing-requires-clause-passing g c =
