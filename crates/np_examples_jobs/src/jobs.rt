@@ -1,7 +1,7 @@
 //! The jobs over the fixtures and over devices that fail.
 mod commands;
 mod devices;
-mod opening;
+pub(crate) mod opening;
 mod outputs;
 mod refusals;
 mod replays;

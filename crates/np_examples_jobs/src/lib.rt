@@ -7,3 +7,5 @@ mod error_texts;
 mod jobs;
 #[cfg(test)]
 mod lines_job;
+#[cfg(test)]
+mod programs;

@@ -1,9 +1,10 @@
 //! Both tables over the fixtures.
 use super::LAST;
 use np_code_points::codes::write_code;
-use np_examples_shared::{Example, Made, S, V1, holds_over_each, want};
-use np_tables::NormTable;
+use np_examples_shared::{Example, Made, S, V1, holds_over_each, table_of, want};
+use np_tables::{NormTable, PageTable, RowTable};
 use std::alloc::Global;
+use std::fmt;
 use std::test::Fail;
 
 // The pairs of the first fixture, from the least to the greatest, and neighbours that are none. 0915
@@ -143,4 +144,23 @@ fn many_rows_have_memory(rt: HostRuntime) -> Result<(), Fail> {
 #[test]
 fn no_syllable_goes_by_arithmetic_where_the_jamo_lack(rt: HostRuntime) -> Result<(), Fail> {
     holds_over_each(rt.alloc(), S, &Shown::NoSyllables)
+}
+
+/// A table shows how many rows its version has, and none of them.
+fn shows_its_rows<T: Made + fmt::Debug>(alloc: Global, wanted: &str) -> Result<(), Fail> {
+    let table: T = table_of(alloc, V1)?;
+    let shown = format!(in alloc; "{table:?}")?;
+    want(shown.as_str() == wanted, "what a table shows")
+}
+
+#[test]
+fn tables_show_how_large_they_are(rt: HostRuntime) -> Result<(), Fail> {
+    shows_its_rows::<RowTable>(
+        rt.alloc(),
+        "RowTable { version: Version { rows: 26, .. }, .. }",
+    )?;
+    shows_its_rows::<PageTable>(
+        rt.alloc(),
+        "PageTable { version: Version { rows: 26, .. }, .. }",
+    )
 }

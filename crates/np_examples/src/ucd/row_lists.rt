@@ -3,7 +3,7 @@ use super::rows_of;
 use np_code_points::fixtures::V1_DATA;
 use np_code_points::watched::Watched;
 use np_examples_shared::{again, want};
-use np_ucd::{MapKind, Row, RowList, RowRef, Rows, UcdFault, read_row_list};
+use np_ucd::{MapKind, Row, RowList, RowRef, Rows, UcdFault, read_exclusions, read_row_list};
 use std::alloc::Global;
 use std::test::Fail;
 
@@ -92,4 +92,16 @@ fn a_refused_read_row_list_succeeds_after_all(rt: HostRuntime) -> Result<(), Fai
     let read = || list_of(alloc, V1_DATA);
     let list = again(&UcdFault::Memory, &read)?;
     lends_the_first_fixture(&list)
+}
+
+/// A list shows how many rows it has, and exclusions how many ranges, and none of them.
+#[test]
+fn what_is_read_shows_how_large_it_is(rt: HostRuntime) -> Result<(), Fail> {
+    let list = list_of(rt.alloc(), V1_DATA)?;
+    let shown = format!(in rt.alloc(); "{list:?}")?;
+    want(shown.as_str() == "RowList { len: 26, .. }", "rows")?;
+    let mut file = Watched::new("0958..095F\n2ADC\n".as_bytes());
+    let exclusions = read_exclusions(rt.alloc(), &mut file)?;
+    let shown = format!(in rt.alloc(); "{exclusions:?}")?;
+    want(shown.as_str() == "Exclusions { ranges: 2, .. }", "ranges")
 }

@@ -10,8 +10,9 @@ use std::io::{Error, ErrorKind, Result as IoResult};
 use std::test::Fail;
 
 /// Files in memory: their names, and what each holds.
-struct Shelf<'a> {
-    files: &'a [(&'a str, &'a str)],
+#[derive(Drop)]
+pub(crate) struct Shelf<'a> {
+    pub files: &'a [(&'a str, &'a str)],
 }
 
 impl<'a> Opener for Shelf<'a> {
