@@ -117,9 +117,9 @@ def check_building(tally, launcher, scratch):
     tally.check("the launcher tells how far it is", b"crate low (1 of 2), 3 of 4 functions; 0 min 01 s" in told, f"got {told}")
 
 
-def check_beside(tally, launcher, scratch):
-    """A crate on which the one behind it doesn't stand is proved beside it, and a fault in it ends the build."""
-    folder = scratch / "beside"
+def check_order(tally, launcher, scratch):
+    """Each crate is proved by itself and in the order of the list, also one on which the next doesn't stand."""
+    folder = scratch / "order"
     small_repository(folder, launcher)
     apart = folder / "crates" / "apart" / "src" / "lib.rt"
     apart.parent.mkdir(parents=True)
@@ -128,14 +128,7 @@ def check_beside(tally, launcher, scratch):
     apart.write_text("one\n", encoding="utf-8")
     (folder / "crates.txt").write_text("apart: smallvec\nlow: smallvec\nnpss: low apart clap\n", encoding="utf-8")
     kit = write_toolchain(scratch / "third", "kit one")
-
-    def call():
-        return run(folder / "npss", ["a"], b"", scratch, env={**os.environ, "PATH": f"{kit}:/usr/bin:/bin"})
-
-    got = call()
-    asked = sorted((kit / "rt.asked").read_text(encoding="utf-8").splitlines())
-    tally.check("the launcher proves a crate beside others", got[:2] == (0, b"a\n") and asked == ["lib apart", "lib low", "run npss"],
+    got = run(folder / "npss", ["a"], b"", scratch, env={**os.environ, "PATH": f"{kit}:/usr/bin:/bin"})
+    asked = (kit / "rt.asked").read_text(encoding="utf-8").splitlines()
+    tally.check("the launcher proves the crates in their order", got[:2] == (0, b"a\n") and asked == ["lib apart", "lib low", "run npss"],
                 f"got {got}, asked {asked}")
-    apart.write_text("BROKEN\n", encoding="utf-8")
-    got = call()
-    tally.check("the launcher shows the log of a crate beside others", got[0] == 125 and b"checked apart::first, 1 of 2" in got[2], f"got {got}")
