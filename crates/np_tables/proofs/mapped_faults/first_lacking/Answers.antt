@@ -1,4 +1,4 @@
-use Rattle.std.proofs.Common.{◌∙◌, sym, arith}
+use Rattle.std.proofs.Common.{◌∙◌, sym, arith, rules}
 use Rattle.np_tables.proofs.Words.{lent_entry}
 use Rattle.np_tables.proofs.FactLemmas.{first_lacking-some, first_lacking-none}
 use Rattle.np_tables.proofs.mapped_faults.first_lacking.Goals as goal
@@ -11,3 +11,6 @@ returns-then-not-are_assigned c =
 pub returns : goal.returns
 returns c =
     first_lacking-none c.args.characters.now (λ k lt. c.loop-at.invariant k (omega arith))
+
+pub loop-at-preserved : goal.loop-at-preserved
+loop-at-preserved c = search rules

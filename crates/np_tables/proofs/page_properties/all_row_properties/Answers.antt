@@ -1,4 +1,4 @@
-use Rattle.std.proofs.Common.{◌+◌, ◌<◌, ap, length, sym, subst, arith}
+use Rattle.std.proofs.Common.{◌+◌, ◌<◌, ap, length, sym, subst, arith, rules}
 use Rattle.np_tables.proofs.Words.{AreAllRowProperties, VersionData}
 use Rattle.np_tables.proofs.PagePropertyLemmas.{all_properties-more}
 use Rattle.np_tables.proofs.page_properties.all_row_properties.Goals as goal
@@ -18,3 +18,6 @@ invariant_of-known c = record { are_seconds = c.requires.seconds }
 
 pub row_bits-hints-requires-clause-leading_consonants : goal.row_bits-hints-requires-clause-leading_consonants
 row_bits-hints-requires-clause-leading_consonants c = c.are_leading_never_second-leading_never_second.ensures
+
+pub loop-at-init : goal.loop-at-init
+loop-at-init c = search rules

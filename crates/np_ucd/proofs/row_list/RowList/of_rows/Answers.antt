@@ -1,4 +1,4 @@
-use Rattle.std.proofs.Common.{◌++◌, ◌∷◌, [], option_map, ap, ◌∙◌, sym, arith}
+use Rattle.std.proofs.Common.{◌++◌, ◌∷◌, [], option_map, ap, ◌∙◌, sym, arith, rules}
 use Rattle.np_ucd.specs.Entries.{Entry}
 use Rattle.np_ucd.specs.RowValues.{entry_of}
 use Rattle.np_ucd.proofs.KeptLemmas.{walked, within-some}
@@ -17,3 +17,6 @@ loop-at-preserved c = elim c.match-get.branch [
       absurd (within-some c.args.rows c.loop-at.at (omega (arith, c.len-at-end.ensures.count, c.loop-at-test.true))
       (sym c.get.ensures.row ∙ ap (option_map (λ r. entry_of r.now)) w.in_default.is))
 ]
+
+pub loop-at-init : goal.loop-at-init
+loop-at-init c = search rules

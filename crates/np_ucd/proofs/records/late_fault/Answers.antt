@@ -1,0 +1,11 @@
+use Rattle.std.proofs.Common.{rules}
+use Rattle.np_ucd.proofs.records.late_fault.Goals as goal
+
+pub returns-then-differs : goal.returns-then-differs
+returns-then-differs c = search rules
+
+pub returns-then-maps-2 : goal.returns-then-maps-2
+returns-then-maps-2 c = search rules
+
+pub returns-else-closes-3 : goal.returns-else-closes-3
+returns-else-closes-3 c = search rules
