@@ -1,7 +1,7 @@
 -- Versions with a starter, a non-starter, their primary composite and further rows without mappings meet the conditions: one
 -- with these three alone, and one with the Hangul arithmetic on. So the laws speak of versions with rows too.
 use Rattle.std.proofs.Common.{◌≡◌, ℕ, ◌≤◌, true, false, ◌&&◌, List, [], ◌∷◌, ◌++◌, flat_map, length, Option, Some, refl, sym, ap, subst, ◌∙◌, arith, inl, inr}
-use Rattle.np_tables.proofs.Words.{list_all, slice_get, cond-true, cond-false, cases_Bool, and_parts, and_right, and_from, leb-true, both_ways, Entry, IsRow}
+use Rattle.np_tables.proofs.Words.{list_all, slice_get, cond-true, cond-false, cases_Bool, and_parts, and_right, and_from, leb-true, both_ways, Entry}
 use Rattle.np_tables.proofs.Words.{AreRows, Plain, Canonical, is_syllable, syllable_pair, VersionData, entry_at, is_assigned, class_of, file_kind}
 use Rattle.np_tables.proofs.Words.{file_mapping, mapping_in, is_empty, is_excluded, is_hangul, is_hangul_row, has_hangul, decomposition_kind}
 use Rattle.np_tables.proofs.Words.{decomposition_mapping, has_depth, full_of, IsPrimary, IsCompositeOf, IsSound}
@@ -37,12 +37,6 @@ letter = plain 0x41 0x41 0
 
 abbrev ring : Entry
 ring = plain 0x30A 0x30A 230
-
-letter_is : IsRow letter
-letter_is = record { rises = omega arith; bounded = omega arith; class = omega arith; fits = refl; scalars = refl; alone = λ h. refl; mapped_scalar = λ h. refl }
-
-letter_with_ring_is : IsRow letter_with_ring
-letter_with_ring_is = grind arith
 
 module _ (more : List Entry) where
   abbrev version : VersionData

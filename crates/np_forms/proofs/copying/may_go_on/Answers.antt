@@ -1,4 +1,4 @@
-use Rattle.std.proofs.Common.{◌++◌, sym, ap, ◌∙◌}
+use Rattle.std.proofs.Common.{◌++◌, sym, ap, ◌∙◌, rules}
 use Rattle.np_forms.proofs.CopyLemmas.{front_of, seam}
 use Rattle.np_forms.proofs.TextLemmas.{assigned-front, lacks-unassigned, IsReadAssigned-front}
 use Rattle.np_forms.proofs.copying.may_go_on.Goals as goal
@@ -17,3 +17,6 @@ pub returns-in-Some-clause-lacking : goal.returns-in-Some-clause-lacking
 returns-in-Some-clause-lacking g c = λ _ all.
     let parts = c.requires.parts ∙ ap (λ l. l ++ c.args.later.now) (sym (c.range.ensures.value ∙ front_of _ c.requires.front _ c.requires.parts)) in
     lacks-unassigned _ _ _ _ c.in-Some.ensures.some (assigned-front _ _ c.range.result.now _ c.range.utf8 parts all)
+
+pub returns-in-Some-clause-read : goal.returns-in-Some-clause-read
+returns-in-Some-clause-read c = search rules

@@ -1,4 +1,4 @@
-use Rattle.std.proofs.Common.{◌+◌, ◌<◌, ap, length, sym, subst, arith, rules}
+use Rattle.std.proofs.Common.{◌+◌, ap, length, sym, subst, arith, rules}
 use Rattle.np_tables.proofs.Words.{AreAllRowProperties, VersionData}
 use Rattle.np_tables.proofs.PagePropertyLemmas.{all_properties-more}
 use Rattle.np_tables.proofs.page_properties.all_row_properties.Goals as goal

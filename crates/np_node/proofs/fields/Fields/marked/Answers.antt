@@ -1,4 +1,4 @@
-use Rattle.std.proofs.Common.{ℕ, ◌∷◌, [], subst}
+use Rattle.std.proofs.Common.{ℕ, ◌∷◌, [], subst, rules}
 use Rattle.std.proofs.lemmas.Bool.{both_ways}
 use Rattle.np_node.proofs.MarkedReading.{passes-same-key, passes-other-key, other-lacks}
 use Rattle.np_node.specs.inside.Reading.{Passes}
@@ -25,3 +25,6 @@ returns-in-Err-clause-err c =
     let marker = subst (λ (b : ℕ). Passes c.field.new.self c.byte.new.self (b ∷ [])) c.in-Some-eq1.field-0-test c.in-Some-eq1.ensures.some in
     let (inner, fault, place) = c.in-Err.ensures.err in
     other-lacks _ _ _ string.0 string.1 _ marker inner _ fault place
+
+pub returns-in-Ok-clause-ok : goal.returns-in-Ok-clause-ok
+returns-in-Ok-clause-ok c = search rules

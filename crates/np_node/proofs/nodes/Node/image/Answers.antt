@@ -1,3 +1,4 @@
+use Rattle.std.proofs.Common.{rules}
 use Rattle.std.proofs.lemmas.List.Elements.{All-weaker}
 use Rattle.np_node.proofs.KeyLemmas.{fits-entry}
 use Rattle.np_node.specs.Fields.{FitsFields}
@@ -9,3 +10,6 @@ image_of-requires-clause-fits g c =
     let was = c.self.inside in
     let v = g.T.NormTable.model was.table.now in
     All-weaker (IsEntry v was.form) FitsFields (fits-entry v c.self.invariant.sound was.form) was.kept c.self.invariant.entries
+
+pub returns : goal.returns
+returns c = search rules

@@ -1,4 +1,4 @@
-use Rattle.std.proofs.Common.{List, ℕ, sym, subst, ◌∙◌}
+use Rattle.std.proofs.Common.{List, ℕ, sym, subst, ◌∙◌, rules}
 use Rattle.np_node.proofs.NodeLemmas.{All-Contains, other-key, refuses-entry}
 use Rattle.np_node.specs.Nodes.{state_of}
 use Rattle.np_node.specs.Strings.{IsEntry, IsKeepable, IsKey}
@@ -23,3 +23,6 @@ returns-in-Some-2-clause-answer g c =
           (other-key v was.form told.string.now key told.key.now c.same_bytes.result c.self.invariant.sound (subst (λ (s : List ℕ). IsKey v was.form s key) name right.key)
           (λ h. sym made ∙ c.same_bytes.ensures.0 h, λ e. c.same_bytes.ensures.1 (made ∙ e)) c.if-same_bytes.false),
     )
+
+pub take_new-requires-clause-absent : goal.take_new-requires-clause-absent
+take_new-requires-clause-absent c κs = search rules

@@ -1,5 +1,0 @@
-use Rattle.std.proofs.Common.{rules}
-use Rattle.np_tables.proofs.faults.TableFault.name.Goals as goal
-
-pub returns-in-TooDeep : goal.returns-in-TooDeep
-returns-in-TooDeep c = search rules
