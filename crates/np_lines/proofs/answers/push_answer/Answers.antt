@@ -1,4 +1,4 @@
-use Rattle.std.proofs.Common.{arith}
+use Rattle.std.proofs.Common.{arith, rules}
 use Rattle.std.proofs.lemmas.Result.{IfOk-weaker}
 use Rattle.np_lines.specs.Answers.{IsAnswer, IsAnswerWithin}
 use Rattle.np_lines.specs.inside.Steps.{IsTold}
@@ -13,3 +13,6 @@ returns-in-Ok g c =
     IfOk-weaker c.push_text_answer.result (IsTold (IsAnswerWithin v w c.in-Ok.text.now) c.args.out.now.items out)
     (IsTold (IsAnswer v w c.args.line.now) c.args.out.now.items out)
     (λ refused t. told_of_text v w c.args.line.now c.in-Ok.text.now c.args.out.now.items out refused (omega arith) c.in-Ok.ensures.ok t) c.push_text_answer.ensures
+
+pub returns-in_ok-push_refusal-in-Err : goal.returns-in_ok-push_refusal-in-Err
+returns-in_ok-push_refusal-in-Err c = search rules
