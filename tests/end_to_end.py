@@ -23,7 +23,7 @@ sys.dont_write_bytecode = True
 from cases import DEVICE, USAGE, WRONG_WORDS, all_cases, text
 from harness import ROOT, Tally, built_program, run, shown
 from large import check_large
-from launching import check_order, check_building
+from launching import check_after_gate, check_building, check_order
 from limits import check_memory, check_usage
 from replays import replay, replay_cases, schedules
 from streams import check_closed, check_closed_input, check_words
@@ -131,6 +131,7 @@ def main():
             check_launcher(tally, Path(sys.argv[2]).resolve(), folder)
             check_building(tally, Path(sys.argv[2]).resolve(), Path(name))
             check_order(tally, Path(sys.argv[2]).resolve(), Path(name))
+            check_after_gate(tally, Path(sys.argv[2]).resolve(), Path(name))
             check_page(tally, "README.md")
             check_page(tally, "docs/BULK.md")
         tally.check("files are as they were", state_of(folder) == before, "a file changed")

@@ -17,7 +17,7 @@ sys.dont_write_bytecode = True
 from forged import BYTES, LENGTHS, Version, field
 from harness import ROOT, Tally
 
-FILE = ROOT / "crates" / "np_examples_node" / "src" / "node" / "forged_answers.rt"
+FILE = ROOT / "crates" / "np_examples_jobs" / "src" / "node" / "forged_answers.rt"
 # Strings of the fixture, each with its normal form under NFC by hand.
 ENTRIES = [("", ""), ("a\u0302", "\u00e2"), ("\u212b", "\u00c5"), ("A", "A")]
 ROOM = 5

@@ -1,4 +1,4 @@
-"""The launcher in a small repository of its own, whose toolchain is a stand-in that writes a program.
+"""The launcher and ./prove in a small repository of their own, whose toolchain is a stand-in that writes a program.
 
 The stand-in keeps a list of what it was asked to prove; it takes no proof, so that building takes no time.
 """
@@ -11,50 +11,65 @@ import subprocess
 
 from harness import run
 
-# A stand-in for `rt`: VERSION is put in its place; it fails where a source has the word BROKEN,
-# and takes its time where one has the word SLOW.
-TOOLCHAIN = """#!/bin/sh
-[ "$1" = version ] || echo "$1 ${PWD##*/}" >>"$0.asked"
-if [ "$1" != version ] && grep -q BROKEN src/*.rt; then
+# Stand-ins for the toolchain's commands: VERSION is put in its place. Proving fails where a source has the word BROKEN,
+# and takes its time where one has the word SLOW. The last word of `rattle build` is what it writes.
+TOOLCHAIN = {
+    "rt": """#!/bin/sh
+echo "VERSION"
+""",
+    "rattle": """#!/bin/sh
+echo "${PWD##*/}" >>"$0.asked"
+if grep -q BROKEN src/*.rt; then
     echo "checked ${PWD##*/}::first, 1 of 2"
     exit 1
 fi
-if [ "$1" != version ] && grep -q SLOW src/*.rt; then
-    echo "so far: 3 of 4 functions checked"
-    sleep 2.5
-fi
-case $1 in
-version) echo "VERSION" ;;
-run)
-    mkdir -p out
-    printf '#!/bin/sh\\necho "$@"\\n' >out/npss
-    chmod +x out/npss
-    ;;
+if grep -q SLOW src/*.rt; then sleep 2.5; fi
+for made in "$@"; do :; done
+case $made in
+*.rlib) mkdir -p "$made" ;;
+*) : >"$made" ;;
 esac
-"""
+""",
+    "rattle-link": """#!/bin/sh
+printf '#!/bin/sh\\necho "$@"\\n' >"$6"
+chmod +x "$6"
+""",
+}
 BUILDS = b"npss: proving"
 
 
 def write_toolchain(folder, version):
     """A folder for the path that has a toolchain of this version."""
-    folder.mkdir(exist_ok=True)
-    path = folder / "rt"
-    path.write_text(TOOLCHAIN.replace("VERSION", version), encoding="utf-8")
-    path.chmod(path.stat().st_mode | stat.S_IXUSR)
-    return folder
+    path = folder / "bin"
+    path.mkdir(parents=True, exist_ok=True)
+    for name, text in TOOLCHAIN.items():
+        command = path / name
+        command.write_text(text.replace("VERSION", version), encoding="utf-8")
+        command.chmod(command.stat().st_mode | stat.S_IXUSR)
+    return path
 
 
-def small_repository(folder, launcher):
-    """A folder with the launcher, a library of one source file and a program of one, which are answered. The program
-    has neither definitions nor proofs."""
-    sources = [folder / "crates" / name / "src" / file for name, file in (("low", "lib.rt"), ("npss", "main.rt"))]
-    for source in sources:
+def asked(kit):
+    """What the toolchain was asked to prove since this was looked at last."""
+    path = kit / "rattle.asked"
+    told = path.read_text(encoding="utf-8").split() if path.exists() else []
+    path.unlink(missing_ok=True)
+    return told
+
+
+def small_repository(folder, launcher, crates="low: smallvec\nnpss: low clap\nbehind: low npss\n"):
+    """A folder with the launcher, libraries of one source file and a program of one, whose sources are answered. The
+    program has neither definitions nor proofs."""
+    names = [line.split(":")[0].split()[0] for line in crates.splitlines()]
+    sources = {name: folder / "crates" / name / "src" / ("main.rt" if name == "npss" else "lib.rt") for name in names}
+    for name, source in sources.items():
         source.parent.mkdir(parents=True)
         source.write_text("one\n", encoding="utf-8")
-    for name in ("specs", "proofs"):
-        (sources[0].parent.parent / name).mkdir()
-    (folder / "crates.txt").write_text("# lowest first\nlow: smallvec\nnpss: low clap\nbehind: low npss\n", encoding="utf-8")
-    shutil.copy(launcher, folder / "npss")
+        for part in () if name == "npss" else ("specs", "proofs"):
+            (source.parent.parent / part).mkdir()
+    (folder / "crates.txt").write_text(f"# lowest first\n{crates}", encoding="utf-8")
+    for command in ("npss", "prove"):
+        shutil.copy(launcher.parent / command, folder / command)
     return sources
 
 
@@ -77,7 +92,8 @@ def told_on_terminal(command, environment):
 def check_building(tally, launcher, scratch):
     """When the launcher builds, what it tells, and how it ends."""
     folder = scratch / "repository"
-    library, source = small_repository(folder, launcher)
+    sources = small_repository(folder, launcher)
+    library, source = sources["low"], sources["npss"]
     kit = write_toolchain(scratch / "kit", "kit one")
     plain = "/usr/bin:/bin"
 
@@ -90,21 +106,28 @@ def check_building(tally, launcher, scratch):
 
     check("without a toolchain and a program", call(), 127, b"", b"is not on the path")
     check("builds the first time, and names the toolchain", call(str(kit)), 0, b"a b\n", b"with kit one; the first")
-    asked = (kit / "rt.asked").read_text(encoding="utf-8")
-    tally.check("the launcher proves the libraries first", asked == "lib low\nrun npss\n", f"got {asked!r}")
+    tally.same("the launcher proves the libraries first", asked(kit), ["low", "npss"])
     check("doesn't build again", call(str(kit)), 0, b"a b\n", None)
     library.write_text("one more\n", encoding="utf-8")
     check("tells each crate when it begins it", call(str(kit)), 0, b"a b\n",
           b"\nnpss: crate low (1 of 2); 0 min 0")
+    tally.same("the launcher proves what stands on a library that changed", asked(kit), ["low", "npss"])
     check("needs no toolchain once it is built", call(), 0, b"a b\n", None)
     source.write_text("two\n", encoding="utf-8")
     check("builds what changed", call(str(kit)), 0, b"a b\n", BUILDS)
+    tally.same("the launcher leaves a library that didn't change", asked(kit), ["npss"])
+    (folder / "crates.txt").write_text("low: smallvec\nnpss: low clap\naside:\n", encoding="utf-8")
+    check("builds for no other crate in the list", call(str(kit)), 0, b"a b\n", None)
+    (folder / "crates.txt").write_text("low: smallvec bstr\nnpss: low clap\n", encoding="utf-8")
+    check("builds for a library in the list", call(str(kit)), 0, b"a b\n", BUILDS)
+    tally.same("the launcher proves what stands on that library", asked(kit), ["low", "npss"])
     (library.parent.parent / "proofs" / "Lib.antt").write_text("", encoding="utf-8")
     check("builds for a proof that changed", call(str(kit)), 0, b"a b\n", BUILDS)
     other = write_toolchain(scratch / "other", "kit two")
     check("builds with a toolchain before it on the path", call(str(other), str(kit)), 0, b"a b\n", b"with kit two")
+    tally.same("the launcher proves all with that", asked(other), ["low", "npss"])
     check("doesn't build again with that", call(str(other), str(kit)), 0, b"a b\n", None)
-    write_toolchain(other, "kit three")
+    write_toolchain(scratch / "other", "kit three")
     check("builds with a toolchain in the place of another", call(str(other)), 0, b"a b\n", b"with kit three")
     source.write_text("BROKEN\n", encoding="utf-8")
     check("shows the log of a build that fails", call(str(other)), 125, b"", b"checked npss::first, 1 of 2")
@@ -114,21 +137,52 @@ def check_building(tally, launcher, scratch):
     check("shows the log of a library that fails", call(str(other)), 125, b"", b"checked low::first, 1 of 2")
     library.write_text("SLOW\n", encoding="utf-8")
     told = told_on_terminal([folder / "npss"], {**os.environ, "PATH": f"{other}:{plain}"})
-    tally.check("the launcher tells how far it is", b"crate low (1 of 2), 3 of 4 functions; 0 min 01 s" in told, f"got {told}")
+    tally.check("the launcher tells how far it is", b"crate low (1 of 2); 0 min 01 s" in told, f"got {told}")
 
 
 def check_order(tally, launcher, scratch):
-    """Each crate is proved by itself and in the order of the list, also one on which the next doesn't stand."""
+    """Each crate is proved by itself, once and in the order of the list, also one on which the next doesn't stand; one
+    on which the program doesn't stand isn't."""
     folder = scratch / "order"
-    small_repository(folder, launcher)
-    apart = folder / "crates" / "apart" / "src" / "lib.rt"
-    apart.parent.mkdir(parents=True)
-    for name in ("specs", "proofs"):
-        (apart.parent.parent / name).mkdir()
-    apart.write_text("one\n", encoding="utf-8")
-    (folder / "crates.txt").write_text("apart: smallvec\nlow: smallvec\nnpss: low apart clap\n", encoding="utf-8")
+    sources = small_repository(folder, launcher, "apart: smallvec\naside: apart\nlow: smallvec\nnpss: low apart clap\n")
     kit = write_toolchain(scratch / "third", "kit one")
-    got = run(folder / "npss", ["a"], b"", scratch, env={**os.environ, "PATH": f"{kit}:/usr/bin:/bin"})
-    asked = (kit / "rt.asked").read_text(encoding="utf-8").splitlines()
-    tally.check("the launcher proves the crates in their order", got[:2] == (0, b"a\n") and asked == ["lib apart", "lib low", "run npss"],
-                f"got {got}, asked {asked}")
+    environment = {**os.environ, "PATH": f"{kit}:/usr/bin:/bin"}
+    got = run(folder / "npss", ["a"], b"", scratch, env=environment)
+    tally.check("the launcher proves the crates in their order", got[:2] == (0, b"a\n"), f"got {got}")
+    tally.same("the launcher proves each crate below", asked(kit), ["apart", "low", "npss"])
+    sources["low"].write_text("SLOW\n", encoding="utf-8")
+    calls = [subprocess.Popen([folder / "npss", "a"], env=environment, stdout=subprocess.PIPE, stderr=subprocess.DEVNULL)
+             for _ in range(2)]
+    tally.same("two launchers at once", [call.communicate()[0] for call in calls], [b"a\n", b"a\n"])
+    tally.same("two launchers at once prove once", asked(kit), ["low", "npss"])
+    got = run(folder / "prove", ["none"], b"", scratch, env=environment)
+    tally.check("./prove of no crate", got[:2] == (2, b"") and b"no such crate" in got[2], f"got {got}")
+
+
+def check_after_gate(tally, launcher, scratch):
+    """What the gate left is taken as it is, but for a library for C, of which it leaves no archive."""
+    folder = scratch / "gate"
+    sources = small_repository(folder, launcher, "low: smallvec\nnpss: low clap\ndoor staticlib: low core\n")
+    kit = write_toolchain(scratch / "fourth", "kit one")
+    environment = {**os.environ, "PATH": f"{kit}:/usr/bin:/bin"}
+    library, program = (folder / "crates" / name / "out" for name in ("low", "npss"))
+
+    def prove(*words):
+        got = run(folder / "prove", words, b"", scratch, env=environment)
+        tally.check(f"./prove {' '.join(words)}", got[:2] == (0, b""), f"got {got}")
+        return asked(kit)
+
+    (library / "rlib" / "low.rlib").mkdir(parents=True)
+    (library / "rlib" / "low.rlib" / "format").touch()
+    program.mkdir()
+    shutil.copy("/bin/echo", program / "npss")
+    tally.same("./prove takes a program of the gate", prove("--after-gate", "npss"), [])
+    got = run(folder / "npss", ["a"], b"", scratch, env=environment)
+    tally.same("the launcher takes a program of the gate", (*got, asked(kit)), (0, b"a\n", b"", []))
+    tally.same("./prove takes libraries of the gate", prove("--after-gate", "door"), ["door"])
+    tally.same("./prove doesn't make an archive again", prove("door"), [])
+    (library / "rlib" / "stamp").touch()
+    tally.same("./prove takes a program beside libraries of another check", prove("--after-gate", "npss"), [])
+    tally.same("./prove doesn't take those libraries", prove("--after-gate", "door"), [])
+    sources["low"].write_text("two\n", encoding="utf-8")
+    tally.same("./prove proves what changed behind the gate", prove("--after-gate", "door"), ["low", "door"])

@@ -1,4 +1,5 @@
-//! Worked examples of the jobs, and what only tests show. There is nothing here to be called.
+//! Worked examples of the public calls of `np_node` and `np_world` and of the jobs, and what only tests show. There is
+//! nothing here to be called.
 #![tactic(auto)]
 
 #[cfg(test)]
@@ -8,4 +9,8 @@ mod jobs;
 #[cfg(test)]
 mod lines_job;
 #[cfg(test)]
+mod node;
+#[cfg(test)]
 mod programs;
+#[cfg(test)]
+mod world;
