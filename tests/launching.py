@@ -26,7 +26,7 @@ fi
 if grep -q SLOW src/*.rt; then sleep 2.5; fi
 for made in "$@"; do :; done
 case $made in
-*.rlib) mkdir -p "$made" ;;
+*.rlib) mkdir -p "$made" && echo "$made" >"$made/lib.rt" ;;
 *) : >"$made" ;;
 esac
 """,
@@ -107,6 +107,9 @@ def check_building(tally, launcher, scratch):
     check("without a toolchain and a program", call(), 127, b"", b"is not on the path")
     check("builds the first time, and names the toolchain", call(str(kit)), 0, b"a b\n", b"with kit one; the first")
     tally.same("the launcher proves the libraries first", asked(kit), ["low", "npss"])
+    # `rt ci` refuses these
+    strange = [path for path in (folder / "out").rglob("*") if path.is_symlink() or path.suffix in (".rt", ".antt")]
+    tally.same("the launcher leaves no source and no link outside the crates", strange, [])
     check("doesn't build again", call(str(kit)), 0, b"a b\n", None)
     library.write_text("one more\n", encoding="utf-8")
     check("tells each crate when it begins it", call(str(kit)), 0, b"a b\n",
@@ -174,6 +177,7 @@ def check_after_gate(tally, launcher, scratch):
 
     (library / "rlib" / "low.rlib").mkdir(parents=True)
     (library / "rlib" / "low.rlib" / "format").touch()
+    (library / "rlib" / "low.rlib" / "lib.rt").touch()
     program.mkdir()
     shutil.copy("/bin/echo", program / "npss")
     tally.same("./prove takes a program of the gate", prove("--after-gate", "npss"), [])
@@ -181,8 +185,11 @@ def check_after_gate(tally, launcher, scratch):
     tally.same("the launcher takes a program of the gate", (*got, asked(kit)), (0, b"a\n", b"", []))
     tally.same("./prove takes libraries of the gate", prove("--after-gate", "door"), ["door"])
     tally.same("./prove doesn't make an archive again", prove("door"), [])
+    sources["npss"].write_text("two\n", encoding="utf-8")
+    tally.same("./prove goes on from what the gate proved", prove("npss"), ["npss"])
+    sources["low"].write_text("two\n", encoding="utf-8")
+    tally.same("./prove proves what changed since", prove("door"), ["low", "door"])
+    sources["low"].write_text("three\n", encoding="utf-8")
     (library / "rlib" / "stamp").touch()
     tally.same("./prove takes a program beside libraries of another check", prove("--after-gate", "npss"), [])
-    tally.same("./prove doesn't take those libraries", prove("--after-gate", "door"), [])
-    sources["low"].write_text("two\n", encoding="utf-8")
-    tally.same("./prove proves what changed behind the gate", prove("--after-gate", "door"), ["low", "door"])
+    tally.same("./prove doesn't take those libraries", prove("--after-gate", "door"), ["low", "door"])

@@ -8,6 +8,7 @@ the refusal, with nothing on standard output, or, where a write failed, a prefix
 called again behind its failure. The unit tests of a crate, as `rt ci` leaves them in out/NAME_tests, run once
 for each of their allocations too. Those named `a_refused_..` look at what a refused call left, and call again:
 each of them passes, or tells that memory ran out. Any other test may fail by what it wants to see, but not die.
+What comes before a refused call is run once: there the process makes a copy of itself, to which it is refused.
 
 For each call that can answer that memory ran out (CALLS, COMMANDS) it is printed how many of its own allocations
 were refused, each of which its test or its command told and survived. A call that has no test is a failure.
@@ -62,8 +63,14 @@ LARGE = 1 << 20
 # At so many places, spread over all of them, an allocation is refused to a test that is no `a_refused_..`.
 MOST = 1000
 
-# How a read or a write fails.
+# The kinds of calls, as the shim tells their numbers; and how a read or a write fails.
+KINDS = ("memory", "read", "write")
 WAYS = {"read": ("error", "interrupt"), "write": ("error", "interrupt", "nothing")}
+# So many runs at once make copies; a run with all of its copies is waited for so many seconds.
+LANES = os.cpu_count() or 1
+PATIENCE = 3600
+# Where no copy was made at a place.
+NO_END = ((None, b"", b"no end was told"), dict.fromkeys(KINDS, 0))
 
 
 def runs():
@@ -106,24 +113,53 @@ class Refusals:
             given.seek(0)
             return run(program, words, given, self.folder, env={**os.environ, "LD_PRELOAD": str(self.shim), **calls})
 
-    def counted(self, program, words, stdin, asked=""):
-        """The run with what is asked refused, and its numbers of allocations, reads and writes."""
+    def counted(self, program, words, stdin):
+        """The run with nothing refused, and its numbers of allocations, reads and writes."""
         with tempfile.NamedTemporaryFile(dir=self.folder.parent) as counts:
-            got = self.run(program, words, stdin, REFUSE=asked, REFUSE_COUNTS=counts.name)
+            got = self.run(program, words, stdin, REFUSE_COUNTS=counts.name)
             # the program writes the file anew
             told = Path(counts.name).read_text(encoding="ascii").split()
-        return got, dict(zip(("memory", "read", "write"), map(int, told)))
+        return got, dict(zip(KINDS, map(int, told)))
+
+    def copies(self, program, words, stdin, asked):
+        """The ends of the copies of one run, of which each is refused the call of one of the places, with their numbers
+        of calls, by place."""
+        kind, places, way = asked
+        with (tempfile.TemporaryFile() as given, tempfile.TemporaryFile() as out, tempfile.TemporaryFile() as err,
+              tempfile.NamedTemporaryFile(dir=self.folder.parent) as ends):
+            given.write(stdin)
+            given.seek(0)
+            calls = {"LD_PRELOAD": str(self.shim), "REFUSE": f"{kind}:0:{way}",
+                     "REFUSE_EACH": f"{places.start}:{places.step}", "REFUSE_ENDS": ends.name}
+            subprocess.run([program, *words], cwd=self.folder, stdin=given, stdout=out, stderr=err,
+                           env={**os.environ, **calls}, timeout=PATIENCE, check=False)
+            return dict(ends_in(Path(ends.name).read_bytes()))
 
     def ends(self, program, words, stdin, asked):
-        """What is refused, the end of the run with that, and its calls, for each thing that is asked."""
-        with ThreadPoolExecutor(os.cpu_count()) as pool:
-            runs = pool.map(lambda it: self.counted(program, words, stdin, it), asked)
-            return [(it, *run) for it, run in zip(asked, runs)]
+        """The place that is refused, the end of the run with that, and its calls, for each place; of calls of a kind, in
+        a way."""
+        kind, places, way = asked
+        lanes = [(kind, places[lane::LANES], way) for lane in range(min(LANES, len(places)))]
+        found = {}
+        with ThreadPoolExecutor(LANES) as pool:
+            for some in pool.map(lambda it: self.copies(program, words, stdin, it), lanes):
+                found |= some
+        return [(place, *found.get(place, NO_END)) for place in places]
+
+
+def ends_in(told):
+    """Each place with the end of its copy and its numbers of calls, of what the shim told of copies."""
+    while told:
+        line, _, told = told.partition(b"\n")
+        place, status, *calls, out, err = map(int, line.split())
+        got = os.waitstatus_to_exitcode(status), told[:out], told[out:out + err]
+        yield place, (got, dict(zip(KINDS, calls)))
+        told = told[out + err:]
 
 
 def each(kind, count, way=""):
-    """What is asked of the shim to refuse each call of a kind."""
-    return [f"{kind}:{place}:{way}" for place in range(1, count + 1)]
+    """What is asked to refuse each call of a kind: the kind, the places and the way."""
+    return kind, range(1, count + 1), way
 
 
 def told(got):
@@ -172,8 +208,7 @@ def check_memory(tally, refusals, program, words, stdin, ample, count):
 
 def is_last_call(kind, asked, calls, ample):
     """Whether no read came behind the one that failed; behind a failed write, none but that of the line."""
-    place = int(asked.split(":")[1])
-    return calls[kind] == place + (kind == "write" and not ample[2])
+    return calls[kind] == asked + (kind == "write" and not ample[2])
 
 
 def check_devices(tally, refusals, program, words, stdin, ample, counts):
@@ -191,10 +226,10 @@ def check_devices(tally, refusals, program, words, stdin, ample, counts):
         tally.same(f"{' '.join(words)} with {kind}s of one byte", got, ample)
 
 
-def spread(places):
-    """At most MOST of these, with equal steps between them."""
-    step = -(-len(places) // MOST)
-    return places[::max(step, 1)]
+def spread(asked):
+    """At most MOST of these places, with equal steps between them."""
+    kind, places, way = asked
+    return kind, places[::max(-(-len(places) // MOST), 1)], way
 
 
 def tests_of(program):
@@ -218,7 +253,7 @@ def check_tests(tally, refusals, program):
                 asked = spread(asked)
             ends = refusals.ends(program, [name], b"", asked)
             wrong = [(asked, got) for asked, got, _ in ends if not is_test_end(name, got)]
-            tally.check(f"{name} with {len(asked)} of {counts['memory']} allocations refused {way}", not wrong,
+            tally.check(f"{name} with {len(ends)} of {counts['memory']} allocations refused {way}", not wrong,
                         f"got {shown(wrong[:1])}")
             if way:
                 # so does a call that answers that memory ran out whatever there is

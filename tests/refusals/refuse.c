@@ -5,7 +5,14 @@
    this place on is refused), or `larger` (each call for more than PLACE bytes is refused, and no other).
    Else it is `error` (EIO), `interrupt` (EINTR) or `nothing` (no byte is read or taken). With place 0 and
    HOW `one`, every read or write is of one byte alone.
-   REFUSE_COUNTS=FILE gets the numbers of calls of each kind, in that order, when the program ends. */
+   REFUSE_COUNTS=FILE gets the numbers of calls of each kind, in that order, when the program ends.
+
+   REFUSE_EACH=FIRST:STEP refuses, in place of one, each call from the place FIRST on in steps of STEP, each in a copy of
+   the process that is made right then and runs to its end, while the process itself waits and then goes on as if
+   nothing had been refused. So a run has nothing twice that comes before the call. REFUSE_ENDS=FILE gets of each copy a
+   line with the place, its status as of waitpid, its numbers of calls and the lengths of what it wrote in all to
+   standard output and standard error, and behind the line both. Those two have to be files. A copy that has not ended
+   after two minutes is killed. */
 #define _GNU_SOURCE
 #include <errno.h>
 #include <fcntl.h>
@@ -14,7 +21,9 @@
 #include <stdio.h>
 #include <stdlib.h>
 #include <string.h>
+#include <sys/mman.h>
 #include <sys/syscall.h>
+#include <sys/wait.h>
 #include <unistd.h>
 
 extern void *__libc_malloc(size_t);
@@ -29,6 +38,27 @@ static int kind = -1;
 static unsigned long place;
 static char how;
 
+/* Of the next copy: its place, 0 where none is wanted; the steps between copies; where their ends are told; and what a
+   copy tells of its calls. */
+static unsigned long next_copy, step;
+static int ends = -1;
+static unsigned long *told;
+
+/* Where the process stands in its files, of which a copy moves the places too. */
+enum { FILES = 64, PATIENCE = 120 };
+static off_t places[FILES];
+
+static void begin_copies(const char *asked) {
+    const char *path = getenv("REFUSE_ENDS");
+    char *rest;
+    next_copy = strtoul(asked, &rest, 10);
+    step = strtoul(rest + 1, NULL, 10);
+    ends = path ? (int)syscall(SYS_open, path, O_WRONLY | O_CREAT | O_TRUNC | O_CLOEXEC, 0666) : -1;
+    told = mmap(NULL, sizeof calls, PROT_READ | PROT_WRITE, MAP_SHARED | MAP_ANONYMOUS, -1, 0);
+    if (told == MAP_FAILED) told = NULL;
+    if (ends < 0 || !told) next_copy = 0;
+}
+
 __attribute__((constructor)) static void begin(void) {
     const char *asked = getenv("REFUSE");
     for (int at = 0; asked && at < KINDS; at++) {
@@ -39,10 +69,13 @@ __attribute__((constructor)) static void begin(void) {
         how = rest[0] == ':' ? rest[1] : 0;
         kind = at;
     }
+    const char *each = getenv("REFUSE_EACH");
+    if (each) begin_copies(each);
     memset(calls, 0, sizeof calls);
 }
 
 __attribute__((destructor)) static void end(void) {
+    if (told) memcpy(told, calls, sizeof calls);
     const char *path = getenv("REFUSE_COUNTS");
     if (!path) return;
     char line[100];
@@ -53,14 +86,73 @@ __attribute__((destructor)) static void end(void) {
     syscall(SYS_close, file);
 }
 
+/* A file of the memory with all that was written to this one. */
+static int copy_of(int file) {
+    int made = memfd_create("copy", MFD_CLOEXEC);
+    char bytes[4096];
+    off_t at = 0;
+    for (ssize_t got; (got = pread(file, bytes, sizeof bytes, at)) > 0; at += got)
+        if (syscall(SYS_write, made, bytes, (size_t)got) != got) _exit(125);
+    return made;
+}
+
+static void append(int file) {
+    char bytes[4096];
+    off_t at = 0;
+    for (ssize_t got; (got = pread(file, bytes, sizeof bytes, at)) > 0; at += got)
+        if (syscall(SYS_write, ends, bytes, (size_t)got) != got) _exit(125);
+    close(file);
+}
+
+/* Waits for the copy, and tells how it ended. */
+static void tell_end(pid_t copy, int out, int err) {
+    char line[200];
+    int status;
+    if (waitpid(copy, &status, 0) != copy) _exit(125);
+    for (int file = 0; file < FILES; file++)
+        if (places[file] >= 0) lseek(file, places[file], SEEK_SET);
+    int length = snprintf(line, sizeof line, "%lu %d %lu %lu %lu %ld %ld\n", next_copy, status, told[MEMORY], told[READ],
+                          told[WRITE], (long)lseek(out, 0, SEEK_END), (long)lseek(err, 0, SEEK_END));
+    if (syscall(SYS_write, ends, line, (size_t)length) != length) _exit(125);
+    append(out);
+    append(err);
+}
+
+/* Whether this call of that kind, right now, is refused in the process that goes on behind this: in a copy. */
+static int is_copy(int of) {
+    if (kind != of || !next_copy || calls[of] != next_copy) return 0;
+    int out = copy_of(1), err = copy_of(2);
+    memset(told, 0, sizeof calls);
+    for (int file = 0; file < FILES; file++) places[file] = lseek(file, 0, SEEK_CUR);
+    pid_t copy = fork();
+    if (copy < 0) _exit(125);
+    if (!copy) {
+        alarm(PATIENCE);
+        dup2(out, 1);
+        dup2(err, 2);
+        close(out);
+        close(err);
+        place = next_copy;
+        next_copy = 0;
+        return 1;
+    }
+    tell_end(copy, out, err);
+    next_copy += step;
+    return 0;
+}
+
 /* Whether the next call of this kind is the one that is refused. */
-static int is_refused(int of) { return ++calls[of] == place && kind == of; }
+static int is_refused(int of) {
+    calls[of]++;
+    return kind == of && (is_copy(of) || calls[of] == place);
+}
 
 /* Whether the next call for so many bytes is refused. */
 static int is_memory_refused(size_t size) {
     unsigned long call = ++calls[MEMORY];
     if (kind != MEMORY) return 0;
-    return how == 'l' ? size > place : how == 'r' ? call >= place : call == place;
+    if (is_copy(MEMORY)) return 1;
+    return how == 'l' ? size > place : how == 'r' ? place && call >= place : call == place;
 }
 
 static void *refused(void) {
