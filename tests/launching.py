@@ -12,13 +12,15 @@ import subprocess
 from harness import run
 
 # Stand-ins for the toolchain's commands: VERSION is put in its place. Proving fails where a source has the word BROKEN,
-# and takes its time where one has the word SLOW. The last word of `rattle build` is what it writes.
+# and takes its time where one has the word SLOW. The last word of `rattle build` is what it writes. It notes which
+# crate it begins (+) and has proved (-).
 TOOLCHAIN = {
     "rt": """#!/bin/sh
 echo "VERSION"
 """,
     "rattle": """#!/bin/sh
 echo "${PWD##*/}" >>"$0.asked"
+echo "+${PWD##*/}" >>"$0.turns"
 if grep -q BROKEN src/*.rt; then
     echo "checked ${PWD##*/}::first, 1 of 2"
     exit 1
@@ -29,6 +31,7 @@ case $made in
 *.rlib) mkdir -p "$made" && echo "$made" >"$made/lib.rt" ;;
 *) : >"$made" ;;
 esac
+echo "-${PWD##*/}" >>"$0.turns"
 """,
     "rattle-link": """#!/bin/sh
 printf '#!/bin/sh\\necho "$@"\\n' >"$6"
@@ -49,9 +52,9 @@ def write_toolchain(folder, version):
     return path
 
 
-def asked(kit):
-    """What the toolchain was asked to prove since this was looked at last."""
-    path = kit / "rattle.asked"
+def asked(kit, kind="asked"):
+    """What the toolchain was asked to prove since this was looked at last; of the kind `turns` also what it has proved."""
+    path = kit / f"rattle.{kind}"
     told = path.read_text(encoding="utf-8").split() if path.exists() else []
     path.unlink(missing_ok=True)
     return told
@@ -144,15 +147,25 @@ def check_building(tally, launcher, scratch):
 
 
 def check_order(tally, launcher, scratch):
-    """Each crate is proved by itself, once and in the order of the list, also one on which the next doesn't stand; one
-    on which the program doesn't stand isn't."""
+    """Each crate is proved by itself and once, behind those on which it stands and beside others; one on which the
+    program doesn't stand isn't."""
     folder = scratch / "order"
     sources = small_repository(folder, launcher, "apart: smallvec\naside: apart\nlow: smallvec\nnpss: low apart clap\n")
     kit = write_toolchain(scratch / "third", "kit one")
     environment = {**os.environ, "PATH": f"{kit}:/usr/bin:/bin"}
     got = run(folder / "npss", ["a"], b"", scratch, env=environment)
     tally.check("the launcher proves the crates in their order", got[:2] == (0, b"a\n"), f"got {got}")
-    tally.same("the launcher proves each crate below", asked(kit), ["apart", "low", "npss"])
+    tally.same("the launcher proves each crate below", sorted(asked(kit)), ["apart", "low", "npss"])
+    for name in ("low", "apart"):
+        sources[name].write_text("SLOW\n", encoding="utf-8")
+    asked(kit, "turns")
+    run(folder / "npss", ["a"], b"", scratch, env=environment)
+    turns = asked(kit, "turns")
+    tally.same("the launcher proves crates side by side", [sorted(turns[:2]), sorted(turns[2:4])], [["+apart", "+low"], ["-apart", "-low"]])
+    tally.same("the launcher proves the program behind both", turns[4:], ["+npss", "-npss"])
+    sources["apart"].write_text("one\n", encoding="utf-8")
+    run(folder / "npss", ["a"], b"", scratch, env=environment)
+    asked(kit)
     sources["low"].write_text("SLOW\n", encoding="utf-8")
     calls = [subprocess.Popen([folder / "npss", "a"], env=environment, stdout=subprocess.PIPE, stderr=subprocess.DEVNULL)
              for _ in range(2)]
