@@ -22,8 +22,10 @@ sys.dont_write_bytecode = True
 from harness import ROOT, Tally
 
 
-# The crates of the unit tests begin so; each library's tests are a module of one of them.
+# The crates of the unit tests begin so; each library's tests are a module of one of them, of the library's name but
+# for these: the job of `replay` is tested beside the other jobs.
 EXAMPLES = "np_examples"
+MODULES = {"np_program": "jobs"}
 HEAD = "//! Some of the examples.\n#![tactic(auto)]\n"
 
 
@@ -70,7 +72,7 @@ CALLS = [
     Call("key_job", "np_jobs", "key.rt", "6", "key_answers_the_worked_examples"),
     Call("compare_job", "np_jobs", "compare.rt", "6", "compare_answers_the_worked_examples"),
     Call("audit_job", "np_jobs", "audit.rt", "6", "audit_answers_the_worked_examples"),
-    Call("replay_job", "np_jobs", "replay.rt", "6", "scripts_have_their_reports"),
+    Call("replay_job", "np_program", "replay.rt", "6", "scripts_have_their_reports"),
 ]
 
 
@@ -90,7 +92,7 @@ def failure_of(out, test):
 
 def leave_examples(folder, crate):
     """Leaves of the unit tests those of one library."""
-    module = crate.removeprefix("np_")
+    module = MODULES.get(crate, crate.removeprefix("np_"))
     tests = next((ROOT / "crates").glob(f"{EXAMPLES}*/src/{module}.rt")).parent
     examples = folder / "crates" / tests.parent.name
     shutil.rmtree(examples / "src")

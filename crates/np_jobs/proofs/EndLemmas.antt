@@ -4,7 +4,7 @@ use Rattle.np_code_points.specs.Watched.{device_of, has_failed}
 use Rattle.np_code_points.specs.declared.channels.watched.Watched.{Watched}
 use Rattle.np_jobs.specs.Ends.{JobEnds}
 use Rattle.np_jobs.specs.Streams.{IsUntouched, Stream, stream_of}
-use Rattle.np_jobs.specs.inside.Endings.{EndsWith}
+use Rattle.np_jobs.specs.Endings.{EndsWith}
 use Rattle.np_jobs.specs.declared.ending.Made.{Made}
 use Rattle.np_jobs.specs.declared.faults.JobFault.{JobFault}
 

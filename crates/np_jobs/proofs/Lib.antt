@@ -2,6 +2,5 @@ pub mod AuditLemmas
 pub mod ChainLemmas
 pub mod EndLemmas
 pub mod OpeningLemmas
-pub mod ReplayLemmas
 pub mod UnderLemmas
 pub mod VersionLemmas

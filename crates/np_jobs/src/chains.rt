@@ -64,14 +64,15 @@ fn read_each<T: MadeTable, F: Read>(
     Ok(tables)
 }
 
-/// Reads the files of versions, two for each, and builds them in order. Versions are numbered from
-/// 0.
+/// Reads the files of versions, two for each, and makes a table over each, in their order. Versions are
+/// numbered from 0. A file at the end without a second one makes no version.
 ///
 /// # Errors
 ///
-/// As `read_version`, of the first version that is refused; the files behind it are not looked at.
-/// Want of memory for a table is a fault of the tables.
-pub(crate) fn read_tables<T: MadeTable, F: Read>(
+/// That of the first version that is refused; the files behind it are not looked at. `Data` where its data
+/// file is refused; `Exclusions` where its exclusions file is; `Tables` where it has a fault. Want of memory
+/// is told as a fault of what it was wanted for, of the tables where that is a table.
+pub fn read_tables<T: MadeTable, F: Read>(
     alloc: Global,
     files: &mut [Watched<F>],
 ) -> Result<Vec<T>, VersionFault>

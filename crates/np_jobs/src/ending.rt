@@ -2,7 +2,7 @@
 ghost use Rattle.std.specs.Prelude.{◌≡◌, string_bytes};
 ghost use Rattle.np_jobs.specs.Ends.{TellsRefusal, IsTold, answer_status};
 ghost use Rattle.np_jobs.specs.Streams.{stream_of};
-ghost use Rattle.np_jobs.specs.inside.Endings.{EndsWith};
+ghost use Rattle.np_jobs.specs.Endings.{EndsWith};
 
 use crate::faults::JobFault;
 use crate::lines::{OUT_OF_MEMORY, line_of};
@@ -16,7 +16,9 @@ use std::io::Write;
 /// answer of a job that has no other is yes.
 #[derive(Debug, Drop)]
 pub struct Made {
+    /// The whole output.
     pub text: String,
+    /// Whether the answer is yes.
     pub is_yes: bool,
 }
 

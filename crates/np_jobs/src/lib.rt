@@ -1,6 +1,6 @@
-//! What each command of the program does, over any readers and writers: its output, its status, and
-//! the line in which a refusal is told. Beside that what a program over these jobs needs: the opening of
-//! files, the standard streams, and the run of the job that the words of `npss` ask for.
+//! What each command of the program but `replay` does, over any readers and writers: its output, its
+//! status, and the line in which a refusal is told. Beside that what a further job and a program over these
+//! jobs need: the reading of versions, the end of a job, the opening of files, and the standard streams.
 #![tactic(auto)]
 
 mod audit;
@@ -14,8 +14,6 @@ mod lines;
 mod normalize;
 mod openers;
 mod opening;
-mod program;
-mod replay;
 mod standard;
 mod statuses;
 mod texts;
@@ -23,17 +21,16 @@ mod usage;
 mod versions;
 
 pub use audit::audit_job;
+pub use chains::read_tables;
 pub use compare::compare_job;
-pub use ending::{refuse, tell};
+pub use ending::{Made, finish, refuse, tell};
 pub use faults::{JobFault, ReplayFault, TextFault, VersionFault};
 pub use key::key_job;
 pub use key_under::key_under_job;
 pub use normalize::normalize_job;
 pub use openers::{Opener, SystemFiles};
 pub use opening::{open_file, open_version, open_versions};
-pub use program::{run_words, usage_text};
-pub use replay::replay_job;
 pub use standard::{Standard, StandardInput, take_standard};
 pub use statuses::{DONE, FAILED};
 pub use usage::{refuse_words, show_usage, tell_usage};
-pub use versions::read_table;
+pub use versions::{JobTable, MadeTable, read_table};

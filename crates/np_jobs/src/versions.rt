@@ -61,14 +61,18 @@ pub fn read_version<R: Read>(
 
 /// A table that is made of a version. The jobs own their table by this bound alone: a proof of what owns a table of
 /// pages looks at each of its parts, and takes many times as long.
-pub(crate) trait MadeTable: NormTable + Drop {
+pub trait MadeTable: NormTable + Drop {
     /// The table of the version.
+    ///
+    /// # Errors
+    ///
+    /// `Memory` where memory ran out.
     fn of(alloc: Global, version: Version) -> Result<Self, Memory>
         ensures { IfOk result (λ table. Self.model table ≡ version) };
 }
 
 /// The table of the jobs.
-pub(crate) type JobTable = PageTable;
+pub type JobTable = PageTable;
 
 impl MadeTable for PageTable {
     fn of(alloc: Global, version: Version) -> Result<PageTable, Memory> {

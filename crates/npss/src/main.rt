@@ -1,7 +1,8 @@
 //! Stabilized Unicode strings over tables that are read from files: the program.
 #![tactic(auto)]
 
-use np_jobs::{JobFault, SystemFiles, refuse, refuse_words, run_words, take_standard, usage_text};
+use np_jobs::{JobFault, SystemFiles, refuse, refuse_words, take_standard};
+use np_program::{run_words, usage_text};
 use std::process::ExitCode;
 
 fn main(rt: HostRuntime) -> ExitCode {

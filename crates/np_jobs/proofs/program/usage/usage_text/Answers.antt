@@ -1,5 +1,0 @@
-use Rattle.std.proofs.Common.{refl}
-use Rattle.np_jobs.proofs.program.usage.usage_text.Goals as goal
-
-pub returns : goal.returns
-returns c = refl

@@ -1,7 +1,0 @@
-use Rattle.np_jobs.specs.Replays.{MakesReplay, RefusesReplay}
-use Rattle.np_jobs.proofs.EndLemmas.{ends}
-use Rattle.np_jobs.proofs.replay.replay_job.Goals as goal
-
-pub returns : goal.returns
-returns g c =
-    ends (MakesReplay c.args.form _) (RefusesReplay _) c.made_of_files-made.result _ _ c.finish.result c.made_of_files-made.ensures.made c.made_of_files-made.ensures.refused c.finish.ensures

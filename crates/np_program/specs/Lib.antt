@@ -1,0 +1,4 @@
+pub mod Program
+pub mod Replays
+pub mod Usage
+pub mod inside

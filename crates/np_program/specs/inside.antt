@@ -1,0 +1,2 @@
+pub mod ReplaySteps
+pub mod TextCommands
