@@ -24,6 +24,8 @@ from harness import ROOT, Tally
 
 # The crates of the unit tests begin so; each library's tests are a module of one of them.
 EXAMPLES = "np_examples"
+# Libraries whose tests stand in the module of the library above them.
+TESTED_WITH = {"np_words": "np_jobs", "np_schedules": "np_world"}
 HEAD = "//! Some of the examples.\n#![tactic(auto)]\n"
 
 
@@ -62,7 +64,7 @@ CALLS = [
     Call("take", "np_node", "taking.rt", "Err(NodeFault::Memory)", "a_refused_take_"),
     Call("image", "np_node", "images.rt", "Err(Memory)", "a_refused_image_"),
     Call("restore", "np_node", "restoring.rt", "Err(whole(NodeFault::Memory))", "a_refused_restore_"),
-    Call("read_schedule", "np_world", "reading.rt", "Err(ScheduleFault::Memory)", "a_refused_read_schedule_"),
+    Call("read_schedule", "np_schedules", "reading.rt", "Err(ScheduleFault::Memory)", "a_refused_read_schedule_"),
     Call("replay", "np_world", "replays.rt", "Err(Memory)", "a_refused_replay_"),
     Call("report_text", "np_world", "report_texts.rt", "Err(Memory)", "a_refused_report_text_"),
     Call("parse", "np_words", "parsing.rt", "Err(WordsFault::Memory)", "a_refused_parse_"),
@@ -90,7 +92,7 @@ def failure_of(out, test):
 
 def leave_examples(folder, crate):
     """Leaves of the unit tests those of one library."""
-    module = crate.removeprefix("np_")
+    module = TESTED_WITH.get(crate, crate).removeprefix("np_")
     tests = next((ROOT / "crates").glob(f"{EXAMPLES}*/src/{module}.rt")).parent
     examples = folder / "crates" / tests.parent.name
     shutil.rmtree(examples / "src")
