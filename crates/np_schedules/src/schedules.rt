@@ -8,7 +8,7 @@ use crate::events::EventLine;
 use std::fmt;
 use std::marker::Model;
 
-/// The most strings for which a schedule may give each node room.
+/// The most strings for which a schedule may give each node room. A schedule that names more is not read.
 pub const MOST_ROOM: u32 = 65_536;
 
 /// What happens to some nodes over a chain of versions: the room of each node, the place of each
@@ -80,7 +80,7 @@ impl Schedule {
         self.room
     }
 
-    /// The place of each node's first version.
+    /// The place of each node's first version in the chain, from 0, in the order of the nodes.
     pub fn starts(&self) -> &[usize]
         ensures { result.now ≡ self.now.starts }
     {
