@@ -23,9 +23,9 @@ from harness import ROOT, Tally
 
 
 # The crates of the unit tests begin so; each library's tests are a module of one of them, of the library's name but
-# for these: the job of `replay` is tested beside the other jobs.
+# for these, whose tests stand in the module of a library above or below them.
 EXAMPLES = "np_examples"
-MODULES = {"np_program": "jobs"}
+TESTED_WITH = {"np_words": "np_jobs", "np_schedules": "np_world", "np_program": "np_jobs"}
 HEAD = "//! Some of the examples.\n#![tactic(auto)]\n"
 
 
@@ -64,7 +64,7 @@ CALLS = [
     Call("take", "np_node", "taking.rt", "Err(NodeFault::Memory)", "a_refused_take_"),
     Call("image", "np_node", "images.rt", "Err(Memory)", "a_refused_image_"),
     Call("restore", "np_node", "restoring.rt", "Err(whole(NodeFault::Memory))", "a_refused_restore_"),
-    Call("read_schedule", "np_world", "reading.rt", "Err(ScheduleFault::Memory)", "a_refused_read_schedule_"),
+    Call("read_schedule", "np_schedules", "reading.rt", "Err(ScheduleFault::Memory)", "a_refused_read_schedule_"),
     Call("replay", "np_world", "replays.rt", "Err(Memory)", "a_refused_replay_"),
     Call("report_text", "np_world", "report_texts.rt", "Err(Memory)", "a_refused_report_text_"),
     Call("parse", "np_words", "parsing.rt", "Err(WordsFault::Memory)", "a_refused_parse_"),
@@ -92,7 +92,7 @@ def failure_of(out, test):
 
 def leave_examples(folder, crate):
     """Leaves of the unit tests those of one library."""
-    module = MODULES.get(crate, crate.removeprefix("np_"))
+    module = TESTED_WITH.get(crate, crate).removeprefix("np_")
     tests = next((ROOT / "crates").glob(f"{EXAMPLES}*/src/{module}.rt")).parent
     examples = folder / "crates" / tests.parent.name
     shutil.rmtree(examples / "src")

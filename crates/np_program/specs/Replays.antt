@@ -5,11 +5,11 @@ use Rattle.np_chain.specs.Chain.{IsChain, IsFirstBroken}
 use Rattle.np_chain.specs.declared.breaks.Break.{Break}
 use Rattle.np_code_points.specs.declared.forms.Form.{Form}
 use Rattle.np_tables.specs.Versions.{VersionData}
-use Rattle.np_world.specs.Events.{ScheduleData}
+use Rattle.np_schedules.specs.Events.{ScheduleData}
 use Rattle.np_world.specs.ReportTexts.{report_lines}
 use Rattle.np_world.specs.Reports.{NodeReport}
 use Rattle.np_world.specs.Runs.{AreKeysUnder, IsLast, texts_in}
-use Rattle.np_world.specs.ScheduleFiles.{IsFaultyLine, SaysSchedule}
+use Rattle.np_schedules.specs.ScheduleFiles.{IsFaultyLine, SaysSchedule}
 use Rattle.np_world.specs.World.{IsRun, MachineNode, Setting, World, start}
 use Rattle.np_world.specs.declared.replies.Reply.{Reply}
 use Rattle.np_jobs.specs.Chains.{LacksOne, VersionReaders, WereBuilt}

@@ -2,7 +2,7 @@
 ghost use Rattle.std.specs.Prelude.{◌≡◌, ◌<◌, ◌≤◌, ◌%◌, false, length, map, IfOk, IfErr, string_bytes};
 ghost use Rattle.np_code_points.specs.Watched.{has_failed};
 ghost use Rattle.np_chain.specs.Chain.{IsChain};
-ghost use Rattle.np_world.specs.ScheduleFiles.{SaysSchedule};
+ghost use Rattle.np_schedules.specs.ScheduleFiles.{SaysSchedule};
 ghost use Rattle.np_jobs.specs.Chains.{readers_of};
 ghost use Rattle.np_jobs.specs.Streams.{WasNotRead, WasRead, stream_of};
 ghost use Rattle.np_jobs.specs.Wraps.{Wraps};

@@ -7,7 +7,7 @@ use Rattle.std.specs.Option.{option_map}
 use Rattle.std.specs.Prelude.{IfOk}
 use Rattle.std.specs.declared.vec.Vec.{Vec}
 use Rattle.std.specs.declared.alloc.Global.{Global}
-use Rattle.np_world.specs.Events.{Event, Save}
+use Rattle.np_schedules.specs.Events.{Event, Save}
 use Rattle.np_world.specs.declared.members.Member.{Member}
 use Rattle.np_world.specs.inside.Worlds.{image_of, HaveImages, LeavesImages}
 

@@ -18,7 +18,7 @@ use Rattle.np_node.specs.Comparing.{AnswersSame}
 use Rattle.np_node.specs.Nodes.{NodeState, state_of, IsKept}
 use Rattle.np_node.specs.Strings.{Entry, IsEntry}
 use Rattle.np_tables.specs.Versions.{VersionData}
-use Rattle.np_world.specs.Events.{ScheduleData, Save}
+use Rattle.np_schedules.specs.Events.{ScheduleData, Save}
 use Rattle.np_world.specs.Laws.{OneRun}
 use Rattle.np_world.specs.Reports.{NodeAtEnd, ReportData, image_at, index_at, node_at, replies_of}
 use Rattle.np_world.specs.Runs.{setting_over, AgreeOn, AnswerAlike, AreKeysUnder, HasOneRun, InTheRun, IsLast, IsMessageUnder, IsNodeOf, IsSavedBy, LendsImages, LendsMessages, NeverSaved, texts_in}

@@ -8,17 +8,17 @@ use Rattle.np_chain.specs.Chain.{StandsAt}
 use Rattle.np_node.specs.Nodes.{NodeState}
 use Rattle.np_tables.specs.Versions.{VersionData}
 use Rattle.np_code_points.specs.declared.forms.Form.{Form}
-use Rattle.np_world.specs.Events.{Event, ScheduleData, node_of}
+use Rattle.np_schedules.specs.Events.{Event, ScheduleData, node_of}
 use Rattle.np_world.specs.Reports.{ReportData}
-use Rattle.np_world.specs.Schedules.{NameNodes, NamesVersion, NameVersions}
+use Rattle.np_schedules.specs.Schedules.{NameNodes, NamesVersion, NameVersions}
 use Rattle.np_world.specs.World.{Setting, MachineNode, World, IsStep, IsRun, start}
-use Rattle.np_world.specs.declared.events.EventLine.{EventLine}
+use Rattle.np_schedules.specs.declared.events.EventLine.{EventLine}
 use Rattle.np_world.specs.declared.members.Member.{Member}
 use Rattle.np_world.specs.declared.replies.Reply.{Reply}
 use Rattle.np_world.specs.inside.Mirrors.{Rules, setting_of, Mirrors, AreRules}
 use Rattle.np_world.specs.inside.Played.{IsPlayed}
 use Rattle.np_world.specs.inside.ReportViews.{report_of}
-use Rattle.np_world.specs.inside.Rust.{event_of}
+use Rattle.np_schedules.specs.EventLines.{event_of}
 use Rattle.np_world.specs.inside.Worlds.{AreMirrored, HaveImages, IsShown, LeavesImages, Steps, Begins, EndsRun, first_node}
 use Rattle.np_world.proofs.ImageLemmas.{images_lack, images_more, images_none}
 

@@ -1,6 +1,6 @@
 -- The law of the machine, over the definitions alone.
 use Rattle.std.specs.Prelude.{◌≡◌, List}
-use Rattle.np_world.specs.Events.{Event}
+use Rattle.np_schedules.specs.Events.{Event}
 use Rattle.np_world.specs.World.{Setting, World, IsRun}
 use Rattle.np_world.specs.declared.replies.Reply.{Reply}
 

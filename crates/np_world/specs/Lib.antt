@@ -1,11 +1,6 @@
-pub mod Events
 pub mod Laws
-pub mod ReadingLaws
 pub mod ReportTexts
 pub mod Reports
 pub mod Runs
-pub mod ScheduleFiles
-pub mod ScheduleLines
-pub mod Schedules
 pub mod World
 pub mod inside

@@ -11,7 +11,7 @@ use Rattle.np_node.specs.Nodes.{NodeState, State, strings_of, IsKept}
 use Rattle.np_node.specs.Strings.{Entry, IsEntry, IsKey}
 use Rattle.np_tables.specs.Counts.{assigned_count}
 use Rattle.np_tables.specs.Versions.{VersionData}
-use Rattle.np_world.specs.Events.{ScheduleData}
+use Rattle.np_schedules.specs.Events.{ScheduleData}
 use Rattle.np_world.specs.Reports.{ReportData, image_at, message_at}
 use Rattle.np_world.specs.World.{Setting, MachineNode, World, start, IsRun}
 use Rattle.np_world.specs.declared.replies.Reply.{Reply}

@@ -1,11 +1,7 @@
-pub mod LineReading
-pub mod LineValues
 pub mod Mirrors
 pub mod Played
 pub mod ReportViews
 pub mod ReportWriting
 pub mod Restarting
-pub mod Rust
-pub mod ScheduleReading
 pub mod Told
 pub mod Worlds

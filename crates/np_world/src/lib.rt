@@ -1,22 +1,19 @@
-//! Schedules of events, and what nodes make of them.
+//! What nodes make of schedules of events, beside a machine that keeps strings alone.
 #![tactic(auto)]
 
-mod events;
 pub mod fixtures;
 pub mod laws;
 mod members;
-mod reading;
 mod replays;
 mod replies;
 mod report;
 mod report_texts;
-mod schedules;
 mod steps;
 mod turns;
 
-pub use reading::{ScheduleFault, read_schedule};
+// A schedule is read by those who replay it: one path more to what np_schedules has.
+pub use np_schedules::{Schedule, ScheduleFault, read_schedule};
 pub use replays::replay;
 pub use replies::Reply;
 pub use report::Report;
 pub use report_texts::report_text;
-pub use schedules::Schedule;

@@ -3,24 +3,23 @@ ghost use Rattle.std.specs.Prelude.{◌≡◌, ◌<◌, ◌≤◌, ◌↔◌, �
 ghost use Rattle.std.specs.Option.{option_map};
 ghost use Rattle.np_tables.specs.Versions.{VersionData};
 ghost use Rattle.np_node.specs.Nodes.{state_of};
-ghost use Rattle.np_world.specs.Events.{Save};
+ghost use Rattle.np_schedules.specs.Events.{Save};
 ghost use Rattle.np_world.specs.Reports.{image_at, index_at, node_at, replies_of};
 ghost use Rattle.np_world.specs.Runs.{AgreeOn, AnswerAlike, AreKeysUnder, HasOneRun, InTheRun, IsLast, IsNodeOf, LendsImages, LendsMessages, texts_in};
 ghost use Rattle.np_world.specs.inside.Mirrors.{rules_of, AreRules};
 ghost use Rattle.np_world.specs.inside.Played.{IsPlayed};
 ghost use Rattle.np_world.specs.inside.Worlds.{Begins, EndsRun};
-ghost use Rattle.np_world.specs.Schedules.{IsStandable, NameNodes, NameVersions};
-ghost use Rattle.np_world.specs.inside.Rust.{event_of};
+ghost use Rattle.np_schedules.specs.Schedules.{IsStandable, NameNodes, NameVersions};
+ghost use Rattle.np_schedules.specs.EventLines.{event_of};
 
-use crate::events::EventLine;
 use crate::members::{Common, Member};
 use crate::replies::Reply;
 use crate::report::Report;
-use crate::schedules::Schedule;
 use crate::steps::step;
 use np_chain::Chain;
 use np_code_points::{Form, Memory};
 use np_node::Node;
+use np_schedules::{EventLine, Schedule};
 use np_tables::NormTable;
 use std::alloc::Global;
 

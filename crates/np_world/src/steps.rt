@@ -1,16 +1,16 @@
 //! One event after another.
 ghost use Rattle.std.specs.Prelude.{◌≡◌, ◌<◌, length, IfOk};
-ghost use Rattle.np_world.specs.Events.{node_of};
-ghost use Rattle.np_world.specs.Schedules.{NamesVersion};
+ghost use Rattle.np_schedules.specs.Events.{node_of};
+ghost use Rattle.np_schedules.specs.Schedules.{NamesVersion};
 ghost use Rattle.np_world.specs.inside.Mirrors.{rules_of};
-ghost use Rattle.np_world.specs.inside.Rust.{event_of};
+ghost use Rattle.np_schedules.specs.EventLines.{event_of};
 ghost use Rattle.np_world.specs.inside.Worlds.{IsShown, LeavesImages, Steps};
 
-use crate::events::EventLine;
 use crate::members::{Common, Member};
 use crate::replies::Reply;
 use crate::turns::{accept, ask, deliver, forge, forget, restart, restart_under, save, upgrade};
 use np_code_points::Memory;
+use np_schedules::EventLine;
 use np_tables::NormTable;
 
 /// What an event does to the nodes and to what was sent.

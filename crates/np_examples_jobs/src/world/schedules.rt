@@ -2,7 +2,8 @@
 use np_code_points::Memory;
 use np_code_points::told::want_told;
 use np_examples_shared::want;
-use np_world::{ScheduleFault, read_schedule};
+use np_schedules::EventLine;
+use np_world::{Schedule, ScheduleFault, read_schedule};
 use std::alloc::Global;
 use std::test::Fail;
 
@@ -103,6 +104,23 @@ const SCHEDULES: [&str; 6] = [
 #[test]
 fn words_stand_apart_by_blanks(rt: HostRuntime) -> Result<(), Fail> {
     want_schedules(rt.alloc(), &SCHEDULES)
+}
+
+/// Two versions, a room, the first version of each of two nodes, and one event.
+fn want_parts(schedule: &Schedule) -> Result<(), Fail> {
+    want(schedule.versions() == 2, "two versions")?;
+    want(schedule.room() == 4, "room for four strings")?;
+    want(schedule.starts() == [0, 1].as_slice(), "two nodes")?;
+    let [EventLine::Deliver { node, message }] = schedule.events() else {
+        return Err(Fail::new("one delivery"));
+    };
+    want(*node == 1 && *message == 7, "message 7 to node 1")
+}
+
+#[test]
+fn a_schedule_lends_its_room_its_nodes_and_its_events(rt: HostRuntime) -> Result<(), Fail> {
+    let schedule = read_schedule(rt.alloc(), b"room 4\nnodes 0 1\ndeliver 1 7\n", 2)?;
+    want_parts(&schedule)
 }
 
 /// Whether a schedule of so many nodes stands; its faulty line where it doesn't.

@@ -4,7 +4,7 @@ use Rattle.std.specs.declared.vec.Vec.{Vec}
 use Rattle.std.specs.declared.alloc.Global.{Global}
 use Rattle.np_code_points.specs.declared.forms.Form.{Form}
 use Rattle.np_tables.specs.Versions.{VersionData}
-use Rattle.np_world.specs.Events.{ScheduleData}
+use Rattle.np_schedules.specs.Events.{ScheduleData}
 use Rattle.np_world.specs.Reports.{ReportData}
 use Rattle.np_world.specs.declared.members.Member.{Member}
 use Rattle.np_world.specs.declared.replies.Reply.{Reply}

@@ -4,7 +4,7 @@ use Rattle.np_world.specs.World.{start}
 use Rattle.np_world.specs.inside.Worlds.{first_node}
 use Rattle.np_world.specs.inside.Mirrors.{rules_of}
 use Rattle.np_world.specs.inside.ReportViews.{report_of}
-use Rattle.np_world.specs.inside.Rust.{event_of}
+use Rattle.np_schedules.specs.EventLines.{event_of}
 use Rattle.np_world.proofs.RunLemmas.{count_ends, length-mirrored, played}
 use Rattle.np_world.proofs.replays.play.Goals as goal
 

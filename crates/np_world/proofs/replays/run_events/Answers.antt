@@ -1,8 +1,8 @@
 use Rattle.std.proofs.Common.{◌<◌, length, map, subst, sym, take}
-use Rattle.np_world.specs.Events.{node_of}
-use Rattle.np_world.specs.Schedules.{NamesVersion}
+use Rattle.np_schedules.specs.Events.{node_of}
+use Rattle.np_schedules.specs.Schedules.{NamesVersion}
 use Rattle.np_world.specs.inside.Mirrors.{rules_of}
-use Rattle.np_world.specs.inside.Rust.{event_of}
+use Rattle.np_schedules.specs.EventLines.{event_of}
 use Rattle.np_world.proofs.RunLemmas.{count_ends, ends-more, named_at, version_at}
 use Rattle.np_world.proofs.replays.run_events.Goals as goal
 

@@ -1,6 +1,6 @@
 use Rattle.std.proofs.Common.{take, map}
 use Rattle.np_world.specs.inside.Mirrors.{rules_of}
-use Rattle.np_world.specs.inside.Rust.{event_of}
+use Rattle.np_schedules.specs.EventLines.{event_of}
 use Rattle.np_world.specs.inside.Worlds.{EndsRun}
 use Rattle.np_world.proofs.replays.run_events.Given as goal
 

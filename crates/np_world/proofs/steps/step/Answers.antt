@@ -1,9 +1,9 @@
 use Rattle.std.proofs.Common.{ap, sym, ◌∙◌, arith}
 use Rattle.std.proofs.lemmas.Result.{IfOk-weaker}
 use Rattle.std.specs.Prelude.{chars, string_bytes}
-use Rattle.np_world.specs.Events.{Accept, Ask, Forge, Forget, node_of}
+use Rattle.np_schedules.specs.Events.{Accept, Ask, Forge, Forget, node_of}
 use Rattle.np_world.specs.inside.Mirrors.{rules_of}
-use Rattle.np_world.specs.inside.Rust.{event_of}
+use Rattle.np_schedules.specs.EventLines.{event_of}
 use Rattle.np_world.proofs.ImageLemmas.{images_kept, images_saved, images_stay, ok_any, saves}
 use Rattle.np_world.proofs.StepLemmas.{ok_stepped, ready_at, stepped, unchanged}
 use Rattle.np_world.proofs.steps.step.Goals as goal

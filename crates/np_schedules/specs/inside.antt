@@ -1,0 +1,4 @@
+pub mod LineReading
+pub mod LineValues
+pub mod Rust
+pub mod ScheduleReading
