@@ -17,7 +17,7 @@ use np_chain::{Chain, ChainFault};
 use np_code_points::input::read_whole;
 use np_code_points::watched::Watched;
 use np_code_points::{Form, Memory};
-use np_tables::NormTable;
+use np_versions::NormTable;
 use np_world::{Schedule, ScheduleFault, read_schedule, replay, report_text};
 use std::alloc::Global;
 use std::io::{Read, Write};
