@@ -46,7 +46,7 @@ CALLS = [
     Call("write_code", "np_code_points", "codes.rt", "Err(Memory)", "a_refused_write_code_"),
     Call("read_rows", "np_ucd", "readers.rt", "Err(UcdFault::Memory)", "a_refused_read_rows_"),
     Call("read_exclusions", "np_ucd", "readers.rt", "Err(UcdFault::Memory)", "a_refused_read_exclusions_"),
-    Call("build", "np_tables", "version.rt", "Err(TableFault::Memory)", "a_refused_build_"),
+    Call("build", "np_versions", "version.rt", "Err(TableFault::Memory)", "a_refused_build_"),
     Call("new", "np_tables", "row_table.rt", "Err(Memory)", "a_refused_row_table_"),
     Call("new", "np_tables", "page_table.rt", "Err(Memory)", "a_refused_page_table_"),
     Call("form", "np_forms", "forms.rt", "Err(Memory)", "a_refused_form_"),

@@ -2,10 +2,10 @@
 use Rattle.std.proofs.Common.{◌≡◌, ◌⊎◌, ◌↔◌, ℕ, Bool, true, false, List, Option, Some, refl, subst, inl, inr, ⊎_elim, IsTrue}
 use Rattle.std.proofs.lemmas.Bool.{false≢true}
 use Rattle.np_code_points.specs.Inputs.{IsReadWhole}
-use Rattle.np_tables.specs.TableFaults.{IsLeastFault}
-use Rattle.np_tables.specs.Versions.{VersionData}
-use Rattle.np_tables.specs.declared.faults.TableFault.{TableFault}
-use Rattle.np_tables.specs.declared.faults.TableFault.TheVariants as table
+use Rattle.np_versions.specs.TableFaults.{IsLeastFault}
+use Rattle.np_versions.specs.Versions.{VersionData}
+use Rattle.np_versions.specs.declared.faults.TableFault.{TableFault}
+use Rattle.np_versions.specs.declared.faults.TableFault.TheVariants as table
 use Rattle.np_ucd.specs.Faults.{line_of, naming_of}
 use Rattle.np_ucd.specs.Reading.{IsRefused}
 use Rattle.np_ucd.specs.declared.faults.UcdFault.{UcdFault}

@@ -6,7 +6,7 @@ use Rattle.np_chain.specs.declared.breaks.Break.{Break}
 use Rattle.np_code_points.specs.Forms.{byte_of}
 use Rattle.np_code_points.specs.declared.forms.Form.{Form}
 use Rattle.np_forms.specs.Forms.{IsEquivalent, IsNormalForm}
-use Rattle.np_tables.specs.Versions.{VersionData}
+use Rattle.np_versions.specs.Versions.{VersionData}
 use Rattle.np_c.specs.Files.{IsNoVersion, IsVersionOf}
 use Rattle.np_c.specs.Texts.{IsFormLetter, IsFormOf, IsKeyOf, IsNoForm, IsNoKey, IsNoText}
 use Rattle.np_c.specs.declared.answers.Answer.{Answer}

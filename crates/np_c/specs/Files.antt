@@ -1,8 +1,8 @@
 -- The two files of a version as bytes, and why they make none. The numbers of faults are those of docs/FORMATS.md.
 use Rattle.std.specs.Prelude.{◌≡◌, ◌↔◌, ◌⊎◌, ◌<◌, ℕ, true, List, Some, length}
-use Rattle.np_tables.specs.TableFaults.{IsFaultless, IsLeastFault, code_of, number_of}
-use Rattle.np_tables.specs.Versions.{VersionData}
-use Rattle.np_tables.specs.declared.faults.TableFault.{TableFault}
+use Rattle.np_versions.specs.TableFaults.{IsFaultless, IsLeastFault, code_of, number_of}
+use Rattle.np_versions.specs.Versions.{VersionData}
+use Rattle.np_versions.specs.declared.faults.TableFault.{TableFault}
 use Rattle.np_ucd.specs.AllRows.{AreAllRows}
 use Rattle.np_ucd.specs.Exclusions.{AreReadable, IsFirstBadLine, IsListedIn}
 use Rattle.np_ucd.specs.Faults.{line_of, naming_of}

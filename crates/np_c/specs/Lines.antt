@@ -6,7 +6,7 @@ use Rattle.np_lines.specs.declared.lines.LineEnd.{LineEnd}
 use Rattle.np_lines.specs.declared.lines.Wanted.{Wanted}
 use Rattle.np_lines.specs.Lines as line
 use Rattle.np_lines.specs.Whole.{IsAllAnswered}
-use Rattle.np_tables.specs.Versions.{VersionData}
+use Rattle.np_versions.specs.Versions.{VersionData}
 use Rattle.np_c.specs.Answers.{IsPut, LacksForm}
 use Rattle.np_c.specs.declared.answers.Answer.{Answer}
 use Rattle.np_c.specs.declared.lines.Asked.{Asked}

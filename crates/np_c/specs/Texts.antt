@@ -5,7 +5,7 @@ use Rattle.np_code_points.specs.declared.forms.Form.{Form}
 use Rattle.np_code_points.specs.Text.{IsLongestValidPrefix}
 use Rattle.np_forms.specs.Assigned.{IsAssigned, IsFirstUnassigned}
 use Rattle.np_forms.specs.Forms.{IsNormalForm}
-use Rattle.np_tables.specs.Versions.{VersionData}
+use Rattle.np_versions.specs.Versions.{VersionData}
 use Rattle.np_c.specs.declared.answers.Answer.{Answer}
 
 -- a letter stands for a form: D, C, d or c

@@ -1,7 +1,7 @@
 -- The version that a handle is open on.
 use Rattle.std.specs.Prelude.{Option, Some, None}
 use Rattle.std.specs.Arc.{arc_value}
-use Rattle.np_tables.specs.Versions.{VersionData}
+use Rattle.np_versions.specs.Versions.{VersionData}
 use Rattle.np_c.specs.declared.handles.Handle.{Handle}
 use Rattle.np_c.specs.declared.shared.Shared.{Shared}
 

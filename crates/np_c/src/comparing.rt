@@ -8,7 +8,7 @@ use crate::answers::{Answer, DIFFERENT, DONE, MEMORY, NO_FORM};
 use crate::texts::{form_in, text_in};
 use np_chain::{BreakKind, extends};
 use np_forms::{equivalent, is_form};
-use np_tables::{NormTable, Version};
+use np_versions::{NormTable, Version};
 use std::alloc::Global;
 
 /// The answer to a question.

@@ -1,6 +1,6 @@
 //! The functions that C calls. Each takes what its handle holds, and puts it back.
 ghost use Rattle.std.specs.Prelude.{◌≡◌, false, None, IfSome};
-ghost use Rattle.np_tables.specs.Counts.{assigned_count};
+ghost use Rattle.np_versions.specs.Counts.{assigned_count};
 ghost use Rattle.np_c.specs.Answers.{IsEquivalentAnswer, IsExtensionAnswer, IsFormAnswer, IsKeyAnswer, IsOpenAnswer, IsOwnFormAnswer, IsShareAnswer};
 ghost use Rattle.np_c.specs.Lines.{IsAnswersAnswer};
 ghost use Rattle.np_c.specs.Versions.{version_of};
@@ -11,7 +11,7 @@ use crate::handles::Handle;
 use crate::keys::{write_form, write_key};
 use crate::lines::{Asked, write_answers};
 use crate::opening::shared_of;
-use np_tables::NormTable;
+use np_versions::NormTable;
 use std::alloc::Global;
 
 /// Closes the handle, and opens it on the version of two files. It stays closed where they make none.

@@ -9,7 +9,7 @@ use crate::room::put;
 use crate::texts::{form_in, text_in};
 use np_code_points::Form;
 use np_forms::{NpssFault, form as form_of, lend_npss};
-use np_tables::NormTable;
+use np_versions::NormTable;
 use std::alloc::Global;
 use std::borrow::CowStr;
 

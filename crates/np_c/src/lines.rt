@@ -8,7 +8,7 @@ use crate::answers::{Answer, MEMORY, NO_END, NO_FORM};
 use crate::room::put;
 use crate::texts::form_in;
 use np_lines::{Answers, LineEnd, Wanted, answer_bytes};
-use np_tables::NormTable;
+use np_versions::NormTable;
 use std::alloc::Global;
 
 /// What is asked of lines, as C spells it.

@@ -12,8 +12,9 @@ use crate::answers::{Answer, DATA, EXCLUSIONS, MEMORY, TABLES, TOO_LARGE};
 use crate::shared::Shared;
 use np_code_points::Memory;
 use np_code_points::watched::Watched;
-use np_tables::{PageTable, TableFault, Version};
+use np_tables::PageTable;
 use np_ucd::{Exclusions, RowList, UcdFault, read_exclusions, read_row_list};
+use np_versions::{TableFault, Version};
 use std::alloc::Global;
 
 /// The data file is the first of the two, and the exclusions file the second.

@@ -3,10 +3,10 @@ use Rattle.std.proofs.Common.{◌≡◌, ℕ, ◌≤◌, true, sym}
 use Rattle.np_chain.proofs.StabilityLemmas.{list_all-mono}
 use Rattle.np_chain.specs.Extension.{Extends}
 use Rattle.np_chain.specs.Laws.{AsMany}
-use Rattle.np_tables.specs.Conditions.{IsSound}
-use Rattle.np_tables.specs.Counts.{assigned_count}
-use Rattle.np_tables.proofs.CountLemmas.{count-most, count-same}
-use Rattle.np_tables.specs.Versions.{VersionData, is_assigned, decomposition_mapping}
+use Rattle.np_versions.specs.Conditions.{IsSound}
+use Rattle.np_versions.specs.Counts.{assigned_count}
+use Rattle.np_versions.proofs.CountLemmas.{count-most, count-same}
+use Rattle.np_versions.specs.Versions.{VersionData, is_assigned, decomposition_mapping}
 
 module _ (a b : VersionData) (sound : IsSound b) (ext : Extends a b) where
   abbrev still : (c : ℕ) → is_assigned a c ≡ true → is_assigned b c ≡ true

@@ -12,8 +12,8 @@ use Rattle.np_chain.specs.declared.breaks.Break.{Break}
 use Rattle.np_chain.specs.declared.breaks.BreakKind.{BreakKind}
 use Rattle.np_chain.proofs.KindLemmas.{break_of-is, break_of-none, break_of-some}
 use Rattle.np_chain.proofs.BreakLemmas.{Extends-from_none, none_from_Extends, past-none}
-use Rattle.np_tables.specs.Conditions.{IsSound}
-use Rattle.np_tables.specs.Versions.{VersionData}
+use Rattle.np_versions.specs.Conditions.{IsSound}
+use Rattle.np_versions.specs.Versions.{VersionData}
 
 abbrev broken : BreakKind → ℕ → Break
 broken kind c = record { kind = kind; code = c }

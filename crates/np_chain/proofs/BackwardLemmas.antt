@@ -3,15 +3,15 @@ use Rattle.std.proofs.Common.{◌≡◌, ℕ, ◌≤◌, ◌⊎◌, Bool, true, 
 use Rattle.std.proofs.lemmas.Bool.{cases_Bool, cases_lt, and_parts, and_from, both_ways, true_from_ne_false}
 use Rattle.std.proofs.lemmas.Grind.{flat_map-append}
 use Rattle.std.specs.List.{list_all}
-use Rattle.np_tables.specs.Versions.{VersionData, entry_at, class_in, is_empty, is_assigned, class_of}
+use Rattle.np_versions.specs.Versions.{VersionData, entry_at, class_in, is_empty, is_assigned, class_of}
 use Rattle.np_ucd.specs.Entries.{Entry}
-use Rattle.np_tables.specs.Mappings.{is_final}
-use Rattle.np_tables.specs.inside.FullDecompositions.{full_of}
+use Rattle.np_versions.specs.Mappings.{is_final}
+use Rattle.np_versions.specs.inside.FullDecompositions.{full_of}
 use Rattle.np_forms.specs.Order.{is_ordered}
 use Rattle.np_forms.specs.inside.CanonicalOrder.{canonical_order}
 use Rattle.np_forms.specs.inside.Composing.{compose_after, compose, compose_of}
-use Rattle.np_tables.specs.inside.CompositeSearch.{composite}
-use Rattle.np_tables.specs.Conditions.{IsSound}
+use Rattle.np_versions.specs.inside.CompositeSearch.{composite}
+use Rattle.np_versions.specs.Conditions.{IsSound}
 use Rattle.np_chain.specs.Extension.{Extends}
 use Rattle.np_forms.specs.Assigned.{IsAssigned}
 use Rattle.np_forms.specs.Forms.{IsNormalForm}
@@ -19,10 +19,10 @@ use Rattle.np_code_points.specs.Forms.{is_compat, composes}
 use Rattle.np_code_points.specs.declared.forms.Form.{Form}
 use Rattle.np_forms.specs.inside.NormalForms.{decomposed, ended, normal_form}
 use Rattle.np_chain.specs.Laws.{Backward}
-use Rattle.np_tables.proofs.MappingLemmas.{parts-cases, full_of-final, list_all-append}
+use Rattle.np_versions.proofs.MappingLemmas.{parts-cases, full_of-final, list_all-append}
 use Rattle.np_forms.proofs.OrderLemmas.{canonical_order-at_starter, is_ordered-back, is_ordered-front}
 use Rattle.np_forms.proofs.ComposeLemmas.{joined-none, compose-at_boundary, compose_after-nil, compose_after-starter, compose_after-kept, compose-nil, compose-starter, compose-non_starter}
-use Rattle.np_tables.proofs.CompositeLemmas.{cases_Option, mapped-assigned, composite-some}
+use Rattle.np_versions.proofs.CompositeLemmas.{cases_Option, mapped-assigned, composite-some}
 use Rattle.np_forms.proofs.FormLemmas.{IsNormalForm-normal_form, normal_form_is}
 use Rattle.np_forms.proofs.KeptLemmas.{is_ordered-decomposed, all_final, decomposed-final, decomposed-composed, normal_form-twice}
 use Rattle.np_chain.proofs.StabilityLemmas.{normal_form-same}

@@ -6,10 +6,10 @@ use Rattle.np_chain.specs.inside.BreakTests.{is_lost, changes_class, is_same_kin
 use Rattle.np_chain.specs.Extension.{Extends}
 use Rattle.np_chain.specs.declared.breaks.BreakKind.{BreakKind}
 use Rattle.np_chain.specs.declared.breaks.BreakKind.TheVariants.{Lost, ClassChanged, MappingChanged, NowExcluded, NowIncluded, NewComposite}
-use Rattle.np_tables.specs.inside.Primaries.{is_primary}
-use Rattle.np_tables.specs.Conditions.{IsSound}
-use Rattle.np_tables.specs.Versions.{VersionData, is_assigned, class_of, decomposition_kind, decomposition_mapping}
-use Rattle.np_tables.proofs.CompositeLemmas.{primary-assigned, primary-from, primary-test}
+use Rattle.np_versions.specs.inside.Primaries.{is_primary}
+use Rattle.np_versions.specs.Conditions.{IsSound}
+use Rattle.np_versions.specs.Versions.{VersionData, is_assigned, class_of, decomposition_kind, decomposition_mapping}
+use Rattle.np_versions.proofs.CompositeLemmas.{primary-assigned, primary-from, primary-test}
 use Rattle.np_ucd.specs.declared.rows.MapKind.{MapKind}
 use Rattle.np_ucd.specs.declared.rows.MapKind.TheVariants.{Plain, Canonical, Compatibility}
 

@@ -6,8 +6,8 @@ use Rattle.np_chain.specs.Extension.{Extends}
 use Rattle.np_chain.specs.declared.breaks.Break.{Break}
 use Rattle.np_chain.proofs.AuditLemmas.{first-refutes}
 use Rattle.np_chain.proofs.StabilityLemmas.{transitivity}
-use Rattle.np_tables.specs.Conditions.{IsSound}
-use Rattle.np_tables.specs.Versions.{VersionData}
+use Rattle.np_versions.specs.Conditions.{IsSound}
+use Rattle.np_versions.specs.Versions.{VersionData}
 
 Extends-self : (v : VersionData) → Extends v v
 Extends-self v =

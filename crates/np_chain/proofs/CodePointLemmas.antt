@@ -1,7 +1,7 @@
 -- A break is one of a code point.
 use Rattle.np_chain.specs.Laws.{AreOfCodePoints}
 use Rattle.np_chain.specs.declared.breaks.BreakKind.TheVariants.{Lost, ClassChanged, MappingChanged, NowExcluded, NowIncluded, NewComposite}
-use Rattle.np_tables.proofs.CompositeLemmas.{primary-assigned}
+use Rattle.np_versions.proofs.CompositeLemmas.{primary-assigned}
 
 pub of_code_points : AreOfCodePoints
 of_code_points old new c Lost sound_old sound_new has = sound_old.bounded c has.0

@@ -5,11 +5,11 @@ use Rattle.std.proofs.lemmas.Bool.{and_left, and_parts, cases_Bool}
 use Rattle.np_chain.specs.Extension.{Keeps, Extends}
 use Rattle.np_chain.specs.Laws.{ExtensionIsMet}
 use Rattle.np_code_points.specs.Hangul.{is_syllable}
-use Rattle.np_tables.proofs.ExampleLemmas.{assigned_code, hangul_on_with, hangul_rows, IsSound-with_hangul, IsSound-with_rows, letter_kind, letter_mapping, no_hangul, pair_alone-with_hangul, pair_alone-with_rows, pair_kind, pair_mapping, pair_primary, ring_kind, ring_mapping, syllable_lacks, three_codes}
-use Rattle.np_tables.proofs.HangulLemmas.{decomposition_mapping-on, has_hangul-at, hangul_parts, head_hangul, shape_of}
-use Rattle.np_tables.specs.Composites.{IsPrimary}
-use Rattle.np_tables.specs.Examples.{with_rows, with_hangul}
-use Rattle.np_tables.specs.Versions.{decomposition_mapping, has_hangul, is_assigned}
+use Rattle.np_versions.proofs.ExampleLemmas.{assigned_code, hangul_on_with, hangul_rows, IsSound-with_hangul, IsSound-with_rows, letter_kind, letter_mapping, no_hangul, pair_alone-with_hangul, pair_alone-with_rows, pair_kind, pair_mapping, pair_primary, ring_kind, ring_mapping, syllable_lacks, three_codes}
+use Rattle.np_versions.proofs.HangulLemmas.{decomposition_mapping-on, has_hangul-at, hangul_parts, head_hangul, shape_of}
+use Rattle.np_versions.specs.Composites.{IsPrimary}
+use Rattle.np_versions.specs.Examples.{with_rows, with_hangul}
+use Rattle.np_versions.specs.Versions.{decomposition_mapping, has_hangul, is_assigned}
 
 -- ---- the three code points stand in both versions as they are
 

@@ -11,17 +11,17 @@ use Rattle.np_chain.specs.inside.KeptRows.{AddsNoBreak, HasNoPair, IsKept, IsSam
 use Rattle.np_chain.proofs.BreakLemmas.{break-neither, none_where_same}
 use Rattle.np_chain.proofs.SyllableLemmas.{alike-listed, alike-syllable, old_parts-syllable}
 use Rattle.np_code_points.specs.Hangul.{is_syllable}
-use Rattle.np_tables.specs.Conditions.{IsSound}
-use Rattle.np_tables.specs.Versions.{VersionData, entry_at, class_of, file_kind, file_mapping, has_hangul, is_assigned, is_canonical}
-use Rattle.np_tables.specs.declared.pairs.Composite.{Composite}
-use Rattle.np_tables.specs.CompositeLists.{AreOfFile}
-use Rattle.np_tables.specs.inside.Primaries.{is_primary, is_starter_pair}
-use Rattle.np_tables.proofs.AccessLemmas.{class_of-at, is_assigned-at}
-use Rattle.np_tables.proofs.CompositeLemmas.{primary-from, primary-test}
-use Rattle.np_tables.proofs.FileRowLemmas.{file_kind-found, file_mapping-found}
-use Rattle.np_tables.proofs.HangulLemmas.{hangul_parts, syllable_hangul, syllable_row}
-use Rattle.np_tables.proofs.PrimaryLemmas.{primary-file, primary-syllable}
-use Rattle.np_tables.proofs.RowLemmas.{at-found, entry_at-row, entry_at-within, place_of_entry}
+use Rattle.np_versions.specs.Conditions.{IsSound}
+use Rattle.np_versions.specs.Versions.{VersionData, entry_at, class_of, file_kind, file_mapping, has_hangul, is_assigned, is_canonical}
+use Rattle.np_versions.specs.declared.pairs.Composite.{Composite}
+use Rattle.np_versions.specs.CompositeLists.{AreOfFile}
+use Rattle.np_versions.specs.inside.Primaries.{is_primary, is_starter_pair}
+use Rattle.np_versions.proofs.AccessLemmas.{class_of-at, is_assigned-at}
+use Rattle.np_versions.proofs.CompositeLemmas.{primary-from, primary-test}
+use Rattle.np_versions.proofs.FileRowLemmas.{file_kind-found, file_mapping-found}
+use Rattle.np_versions.proofs.HangulLemmas.{hangul_parts, syllable_hangul, syllable_row}
+use Rattle.np_versions.proofs.PrimaryLemmas.{primary-file, primary-syllable}
+use Rattle.np_versions.proofs.RowLemmas.{at-found, entry_at-row, entry_at-within, place_of_entry}
 use Rattle.np_ucd.specs.Entries.{Entry, HasLength}
 use Rattle.np_ucd.specs.declared.rows.MapKind.{MapKind}
 use Rattle.np_ucd.specs.declared.rows.MapKind.TheVariants.{Plain, Canonical, Compatibility}

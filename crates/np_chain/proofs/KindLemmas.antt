@@ -6,10 +6,10 @@ use Rattle.np_chain.specs.inside.BreakTests.{is_lost, is_assigned_in_both, chang
 use Rattle.np_chain.specs.declared.breaks.BreakKind.{BreakKind}
 use Rattle.np_chain.specs.declared.breaks.BreakKind.TheVariants.{Lost, ClassChanged, MappingChanged, NowExcluded, NowIncluded, NewComposite}
 use Rattle.np_chain.proofs.BreakLemmas.{alike-same, alike_from}
-use Rattle.np_tables.proofs.CompositeLemmas.{primary-from, primary-test}
-use Rattle.np_tables.specs.inside.Primaries.{is_primary}
-use Rattle.np_tables.specs.Composites.{IsPrimary}
-use Rattle.np_tables.specs.Versions.{VersionData, is_assigned}
+use Rattle.np_versions.proofs.CompositeLemmas.{primary-from, primary-test}
+use Rattle.np_versions.specs.inside.Primaries.{is_primary}
+use Rattle.np_versions.specs.Composites.{IsPrimary}
+use Rattle.np_versions.specs.Versions.{VersionData, is_assigned}
 
 not_so : (b : Bool) → not b ≡ true → b ≡ false
 not_so true h = cc

@@ -2,16 +2,16 @@
 use Rattle.std.proofs.Common.{◌≡◌, ℕ, zero, suc, Bool, true, false, ◌&&◌, if◌then◌else◌, List, [], ◌∷◌, ◌++◌, flat_map, Option, Some, None, refl, sym, ap, ap₂, subst, ◌∙◌, arith, inl, inr}
 use Rattle.std.proofs.lemmas.Bool.{cond-true, cond-false, cases_Bool, cases_lt, and_parts, and_from}
 use Rattle.std.specs.List.{list_all}
-use Rattle.np_tables.specs.Versions.{VersionData, is_empty, is_assigned, class_of, decomposition_mapping}
+use Rattle.np_versions.specs.Versions.{VersionData, is_empty, is_assigned, class_of, decomposition_mapping}
 use Rattle.np_ucd.specs.declared.rows.MapKind.{MapKind}
-use Rattle.np_tables.specs.Mappings.{counts, parts, is_final}
-use Rattle.np_tables.specs.inside.FullDecompositions.{full, full_of}
+use Rattle.np_versions.specs.Mappings.{counts, parts, is_final}
+use Rattle.np_versions.specs.inside.FullDecompositions.{full, full_of}
 use Rattle.np_forms.specs.Order.{is_reorderable}
 use Rattle.np_forms.specs.inside.CanonicalOrder.{slide, canonical_order}
-use Rattle.np_tables.specs.Composites.{IsCompositeOf}
+use Rattle.np_versions.specs.Composites.{IsCompositeOf}
 use Rattle.np_forms.specs.inside.Composing.{is_free, joined, compose_after, compose, compose_of}
-use Rattle.np_tables.specs.inside.CompositeSearch.{composite}
-use Rattle.np_tables.specs.Conditions.{IsSound}
+use Rattle.np_versions.specs.inside.CompositeSearch.{composite}
+use Rattle.np_versions.specs.Conditions.{IsSound}
 use Rattle.np_chain.specs.Extension.{Extends}
 use Rattle.np_forms.specs.Assigned.{IsAssigned}
 use Rattle.np_code_points.specs.declared.forms.Form.{Form}
@@ -19,10 +19,10 @@ use Rattle.np_code_points.specs.Forms.{is_compat, composes}
 use Rattle.np_forms.specs.Forms.{IsNormalForm}
 use Rattle.np_forms.specs.inside.NormalForms.{decomposed, ended, normal_form}
 use Rattle.np_chain.specs.Laws.{Stability, Transitivity}
-use Rattle.np_tables.proofs.MappingLemmas.{list_all-append, parts-cases}
+use Rattle.np_versions.proofs.MappingLemmas.{list_all-append, parts-cases}
 use Rattle.np_forms.proofs.OrderLemmas.{list_all-canonical_order}
 use Rattle.np_forms.proofs.ComposeLemmas.{list_all-compose, joined-free, compose_after-cases, compose_after-nil, compose_after-joined, compose_after-starter, compose_after-kept, compose-nil, compose-starter, compose-non_starter}
-use Rattle.np_tables.proofs.CompositeLemmas.{cases_Option, primary-assigned, composite-some, composite_from, composite-none, composite-assigned}
+use Rattle.np_versions.proofs.CompositeLemmas.{cases_Option, primary-assigned, composite-some, composite_from, composite-none, composite-assigned}
 use Rattle.np_forms.proofs.FormLemmas.{IsNormalForm-normal_form, normal_form_is}
 
 -- ---- within one version: a test that mappings and composites keep holds of the form

@@ -6,9 +6,9 @@ use Rattle.std.specs.Prelude.{bytes_eq}
 use Rattle.std.proofs.lemmas.Slice.Eq.{bytes_eq-Decides}
 use Rattle.np_chain.specs.inside.BreakTests.{is_same_kind, maps_alike, has_old_parts}
 use Rattle.np_code_points.specs.Hangul.{is_syllable, syllable_pair}
-use Rattle.np_tables.proofs.HangulLemmas.{decomposition_kind-off, decomposition_kind-on, decomposition_mapping-off, decomposition_mapping-on, head_hangul, pair_assigned, shape_of, syllable_hangul}
-use Rattle.np_tables.specs.Conditions.{IsSound}
-use Rattle.np_tables.specs.Versions.{VersionData, is_assigned, file_kind, file_mapping, has_hangul}
+use Rattle.np_versions.proofs.HangulLemmas.{decomposition_kind-off, decomposition_kind-on, decomposition_mapping-off, decomposition_mapping-on, head_hangul, pair_assigned, shape_of, syllable_hangul}
+use Rattle.np_versions.specs.Conditions.{IsSound}
+use Rattle.np_versions.specs.Versions.{VersionData, is_assigned, file_kind, file_mapping, has_hangul}
 
 -- what a syllable maps to is assigned exactly where the arithmetic is on
 pair_parts : (v : VersionData) (s : ℕ) → IsSound v → is_syllable s ≡ true → has_hangul v ≡ list_all (is_assigned v) (syllable_pair s)

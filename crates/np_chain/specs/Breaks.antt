@@ -4,8 +4,8 @@ use Rattle.std.specs.List.{list_all, All, AllPairs, Contains}
 use Rattle.np_chain.specs.declared.breaks.Break.{Break}
 use Rattle.np_chain.specs.declared.breaks.BreakKind.{BreakKind}
 use Rattle.np_chain.specs.declared.breaks.BreakKind.TheVariants.{Lost, ClassChanged, MappingChanged, NowExcluded, NowIncluded, NewComposite}
-use Rattle.np_tables.specs.Composites.{IsPrimary}
-use Rattle.np_tables.specs.Versions.{VersionData, is_assigned, class_of, decomposition_kind, decomposition_mapping}
+use Rattle.np_versions.specs.Composites.{IsPrimary}
+use Rattle.np_versions.specs.Versions.{VersionData, is_assigned, class_of, decomposition_kind, decomposition_mapping}
 
 -- the name of a kind, and its place in their order
 abbrev pub naming_of : BreakKind → List ℕ × ℕ

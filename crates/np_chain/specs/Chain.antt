@@ -3,8 +3,8 @@ use Rattle.std.specs.Prelude.{◌≡◌, ℕ, ◌-◌, ◌<◌, ◌≤◌, List,
 pub use Rattle.np_chain.specs.Extension.{Keeps, Extends}
 use Rattle.np_chain.specs.Breaks.{IsFirstBreak}
 use Rattle.np_chain.specs.declared.breaks.Break.{Break}
-use Rattle.np_tables.specs.Conditions.{IsSound}
-use Rattle.np_tables.specs.Versions.{VersionData}
+use Rattle.np_versions.specs.Conditions.{IsSound}
+use Rattle.np_versions.specs.Versions.{VersionData}
 
 abbrev pub EachExtends : VersionData → List VersionData → Type 0
 EachExtends v [] = Unit {0}

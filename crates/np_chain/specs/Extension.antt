@@ -1,8 +1,8 @@
 -- One version extends another.
 use Rattle.std.specs.Prelude.{◌≡◌, ℕ, true}
 use Rattle.std.specs.List.{list_all}
-use Rattle.np_tables.specs.Composites.{IsPrimary}
-use Rattle.np_tables.specs.Versions.{VersionData, is_assigned, class_of, decomposition_kind, decomposition_mapping}
+use Rattle.np_versions.specs.Composites.{IsPrimary}
+use Rattle.np_versions.specs.Versions.{VersionData, is_assigned, class_of, decomposition_kind, decomposition_mapping}
 
 -- what is assigned in a stands in b as it was
 pub record Keeps (a b : VersionData) (c : ℕ) : Type 0 where

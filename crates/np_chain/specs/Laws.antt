@@ -6,10 +6,10 @@ use Rattle.np_chain.specs.declared.breaks.BreakKind.{BreakKind}
 use Rattle.np_code_points.specs.declared.forms.Form.{Form}
 use Rattle.np_forms.specs.Assigned.{IsAssigned}
 use Rattle.np_forms.specs.Forms.{IsNormalForm}
-use Rattle.np_tables.specs.Conditions.{IsSound}
-use Rattle.np_tables.specs.Counts.{assigned_count}
-use Rattle.np_tables.specs.Examples.{with_rows, with_hangul}
-use Rattle.np_tables.specs.Versions.{VersionData, has_hangul, is_assigned}
+use Rattle.np_versions.specs.Conditions.{IsSound}
+use Rattle.np_versions.specs.Counts.{assigned_count}
+use Rattle.np_versions.specs.Examples.{with_rows, with_hangul}
+use Rattle.np_versions.specs.Versions.{VersionData, has_hangul, is_assigned}
 
 -- where b extends a, a text that is assigned in a has one form under both, which is assigned in a
 abbrev pub Stability : Type 0

@@ -5,8 +5,8 @@ ghost use Rattle.np_chain.specs.inside.BreakTests.{break_of, has_old_parts, is_s
 ghost use Rattle.np_chain.specs.inside.BreakLists.{breaks_of};
 ghost use Rattle.np_chain.specs.Extension.{Extends};
 ghost use Rattle.np_code_points.specs.Hangul.{is_syllable as syllable};
-ghost use Rattle.np_tables.specs.inside.Primaries.{is_primary};
-ghost use Rattle.np_tables.specs.Versions.{class_of, has_hangul, is_assigned};
+ghost use Rattle.np_versions.specs.inside.Primaries.{is_primary};
+ghost use Rattle.np_versions.specs.Versions.{class_of, has_hangul, is_assigned};
 ghost use Rattle.std.specs.List.{list_all};
 
 use crate::breaks::{Break, BreakKind};
@@ -14,8 +14,8 @@ use crate::kept_rows::is_kept_by_rows;
 use np_code_points::Memory;
 use np_code_points::codes::CODE_POINTS;
 use np_code_points::hangul::is_syllable;
-use np_tables::Version;
 use np_ucd::MapKind;
+use np_versions::Version;
 use std::alloc::Global;
 
 /// Whether two kinds of mapping are the same.

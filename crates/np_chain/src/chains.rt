@@ -5,7 +5,7 @@ ghost use Rattle.np_chain.specs.ChainFaults.{IsFaultOf};
 
 use crate::audits::extends;
 use crate::breaks::Break;
-use np_tables::NormTable;
+use np_versions::NormTable;
 use std::marker::Model;
 use thiserror::Error;
 

@@ -8,8 +8,8 @@ ghost use Rattle.np_ucd.specs.RowValues.{lent_entry};
 ghost use Rattle.np_ucd.specs.declared.rows.MapKind.TheVariants.{Plain};
 
 use crate::audits::{break_at, same_kind};
-use np_tables::Version;
 use np_ucd::{MapKind, RowRef};
+use np_versions::Version;
 
 /// Whether a row has no canonical mapping to two code points, as each primary composite of a data file has.
 fn has_no_pair(row: RowRef<'_>) -> bool

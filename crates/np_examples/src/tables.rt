@@ -7,8 +7,8 @@ mod tables;
 mod versions;
 
 use np_code_points::watched::Watched;
-use np_tables::{TableFault, Version};
 use np_ucd::{read_exclusions, read_rows};
+use np_versions::{TableFault, Version};
 use std::alloc::Global;
 
 // Two code points, the last of all among them.

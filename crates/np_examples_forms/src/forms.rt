@@ -14,7 +14,7 @@ mod streams;
 use np_code_points::Form;
 use np_examples_shared::want;
 use np_forms::form;
-use np_tables::NormTable;
+use np_versions::NormTable;
 use std::alloc::Global;
 use std::test::Fail;
 

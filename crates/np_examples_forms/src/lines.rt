@@ -7,7 +7,7 @@ use np_code_points::told::want_told;
 use np_code_points::watched::Watched;
 use np_examples_shared::{Example, FAILURES, LETTERS, Made, V1, again, holds_over_each, want};
 use np_lines::{LinesFault, answer_bytes, answer_lines};
-use np_tables::NormTable;
+use np_versions::NormTable;
 use rows::{ASCII_LF_ROWS, ASCII_MAPS_TO_LF, BY_LF, LETTER_ROWS, LF_ROWS, MAPS_TO_LF, ROWS, Row};
 use std::alloc::Global;
 use std::test::Fail;

@@ -5,8 +5,8 @@ use np_code_points::input::InputFault;
 use np_code_points::output::WriteFailed;
 use np_code_points::told::want_told;
 use np_jobs::{JobFault, ReplayFault, TextFault, VersionFault};
-use np_tables::TableFault;
 use np_ucd::UcdFault;
+use np_versions::TableFault;
 use np_words::WordsFault;
 use std::test::Fail;
 

@@ -13,7 +13,7 @@ ghost use Rattle.std.specs.Prelude.{◌≤◌};
 use np_code_points::{Form, Memory};
 use np_examples_shared::want;
 use np_node::{Accepted, ImageFault, Node, NodeFault, Taken};
-use np_tables::NormTable;
+use np_versions::NormTable;
 use std::alloc::Global;
 use std::test::Fail;
 

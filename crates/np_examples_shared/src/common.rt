@@ -8,8 +8,9 @@ use np_code_points::fixtures::{
     S_DATA, S_EXCLUSIONS, V1_DATA, V1_EXCLUSIONS, V2_DATA, V2_EXCLUSIONS,
 };
 use np_code_points::watched::Watched;
-use np_tables::{NormTable, PageTable, RowTable, Version};
+use np_tables::{PageTable, RowTable};
 use np_ucd::{read_exclusions, read_rows};
+use np_versions::{NormTable, Version};
 use std::alloc::Global;
 use std::io::Read;
 use std::test::Fail;

@@ -1,10 +1,11 @@
 //! A table of somebody else's: what whoever writes an `impl NormTable` elsewhere owes.
 ghost use Rattle.std.specs.Prelude.{◌≡◌, ℕ, IfOk, Some};
 ghost use Rattle.std.specs.List.{slice_get};
-ghost use Rattle.np_tables.specs.Versions.{class_of};
+ghost use Rattle.np_versions.specs.Versions.{class_of};
 
 use np_code_points::Memory;
-use np_tables::{NormTable, RowTable, Version};
+use np_tables::RowTable;
+use np_versions::{NormTable, Version};
 use std::alloc::Global;
 use std::marker::Model;
 
@@ -33,7 +34,7 @@ pub struct GuestTable {
 impl Model for GuestTable {
     ghost use Rattle.std.specs.Prelude.{◌≡◌, ℕ, Some};
     ghost use Rattle.std.specs.List.{slice_get};
-    ghost use Rattle.np_tables.specs.Versions.{VersionData, class_of};
+    ghost use Rattle.np_versions.specs.Versions.{VersionData, class_of};
 
     ghost Value = { VersionData };
 

@@ -3,7 +3,7 @@ use Rattle.std.proofs.Common.{◌≡◌, ℕ, ◌<◌, ◌≤◌, Bool, true, fa
 use Rattle.np_forms.proofs.Words.{flat_map-append, chars-append, list_all, is_compat, composes, Form, IsSound, VersionData, class_of, composite, full_of}
 use Rattle.np_forms.proofs.Words.{IsNormalForm, is_non_starter, IsStreaming, StreamState, canonical_order, compose_after, BeginsAtBoundary, IsBoundary, Shape}
 use Rattle.np_forms.proofs.Words.{no_starter, starter, IsHeld, decomposed, ended, normal_form, Writes, Breaks, Closes, HoldsFront, WritesEnd}
-use Rattle.np_tables.proofs.CompositeLemmas.{composite-never}
+use Rattle.np_versions.proofs.CompositeLemmas.{composite-never}
 use Rattle.np_forms.proofs.ComposeLemmas.{compose-starter}
 use Rattle.np_forms.proofs.CopyLemmas.{parts-at, some_chars}
 use Rattle.np_forms.proofs.FormLemmas.{normal_form_is, IsNormalForm-value}

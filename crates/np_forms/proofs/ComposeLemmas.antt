@@ -2,8 +2,8 @@
 use Rattle.std.proofs.Common.{◌≡◌, ℕ, ◌<◌, ◌≤◌, Bool, true, false, not, List, [], ◌∷◌, ◌++◌, flat_map, Option, Some, None, refl, sym, ap, subst, ◌∙◌, arith, inl, inr, append_assoc, append-nil, eq-eqb}
 use Rattle.np_forms.proofs.Words.{cases_Bool, cases_lt, cond-true, cond-false, and_parts, and_from, eqb-false, ne_eqb, not-true, flat_map-append, list_all}
 use Rattle.np_forms.proofs.Words.{is_reorderable, is_ordered, canonical_order, is_free, joined, compose_after, compose, is_starter}
-use Rattle.np_tables.proofs.MappingLemmas.{list_all-append}
-use Rattle.np_tables.proofs.CompositeLemmas.{cases_Option}
+use Rattle.np_versions.proofs.MappingLemmas.{list_all-append}
+use Rattle.np_versions.proofs.CompositeLemmas.{cases_Option}
 use Rattle.np_forms.proofs.OrderLemmas.{is_reorderable-true, is_ordered-tail, is_ordered-without_non_starter, canonical_order-behind, canonical_order-over}
 
 module _ (ccc : ℕ → ℕ) where

@@ -3,7 +3,7 @@ use Rattle.std.proofs.Common.{◌≡◌, ℕ, Bool, true, false, List, flat_map,
 use Rattle.np_forms.proofs.Words.{VersionData, class_of, full_of, canonical_order, IsSound, Form, is_compat, composes, IsDecomposed, EndsAs, IsNormalForm}
 use Rattle.np_forms.proofs.Words.{IsEquivalent, decomposed, ended, normal_form, Exchanges, IsOrderedForm}
 use Rattle.np_forms.specs.Laws.{OneForm, OneOrderedForm}
-use Rattle.np_tables.proofs.MappingLemmas.{IsFullDecomposition-flat_map, full_decomposition-flat_map}
+use Rattle.np_versions.proofs.MappingLemmas.{IsFullDecomposition-flat_map, full_decomposition-flat_map}
 use Rattle.np_code_points.proofs.StepsLemmas.{keeps}
 use Rattle.np_forms.proofs.MachineLemmas.{IsComposed-compose_of, composed-compose_of}
 use Rattle.np_forms.proofs.OrderLemmas.{canonical_order-exchange, canonical_order-ordered, is_ordered-canonical_order, reaches_canonical_order}

@@ -5,7 +5,7 @@ use Rattle.np_forms.proofs.Words.{with_classes, IsFrontHeld, HoldsFront, is_comp
 use Rattle.np_forms.proofs.ClassLemmas.{AreClassed-append, AreClassed-with_classes, codes-append, codes-with_classes}
 use Rattle.np_forms.proofs.HeldLemmas.{holds_non_starters}
 use Rattle.np_forms.proofs.TextLemmas.{IsRead-next}
-use Rattle.np_tables.proofs.MappingLemmas.{list_all-append}
+use Rattle.np_versions.proofs.MappingLemmas.{list_all-append}
 
 module _ (v : VersionData) (compat : Bool) (text : List ℕ) (old : List CodeAndClass) where
   pub IsFrontHeld-next : (rest later : List ℕ) (c : ℕ) (now new : List CodeAndClass) → rest ≡ encode_utf8 c ++ later → full_of v compat c ≡ c ∷ [] → is_non_starter v c ≡ true → new ≡ now ++ with_class v c ∷ [] → IsFrontHeld v compat text rest old now → IsFrontHeld v compat text later old new

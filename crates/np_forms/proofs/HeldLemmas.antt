@@ -4,8 +4,8 @@ use Rattle.np_forms.proofs.Words.{and_from, and_parts, cases_lt, not-true, not_f
 use Rattle.np_forms.proofs.Words.{IsSound, VersionData, class_of, composite, full_of, IsNormalForm, is_non_starter, IsCutAtLastStarter, IsOrderedAndComposed}
 use Rattle.np_forms.proofs.Words.{IsStreaming, TakesIn, canonical_order, compose, joined, Shape, no_starter, starter, IsHeld, Advances, decomposed, ended}
 use Rattle.np_forms.proofs.Words.{normal_form, compose_after}
-use Rattle.np_tables.proofs.MappingLemmas.{list_all-append, IsFullDecomposition-flat_map, full_decomposition-flat_map}
-use Rattle.np_tables.proofs.CompositeLemmas.{composite_first, composite-some, composite-starter, cases_Option}
+use Rattle.np_versions.proofs.MappingLemmas.{list_all-append, IsFullDecomposition-flat_map, full_decomposition-flat_map}
+use Rattle.np_versions.proofs.CompositeLemmas.{composite_first, composite-some, composite-starter, cases_Option}
 use Rattle.np_forms.proofs.OrderLemmas.{list_all-canonical_order, not_reorderable_rising, canonical_order-at_starter, canonical_order-nil}
 use Rattle.np_forms.proofs.ComposeLemmas.{is_starter-false, not_starter_from, compose-nil, compose-non_starters, joined-none, joined-blocked, joined-free, compose_after-nil, compose_after-joined, compose_after-starter, compose_after-kept, compose-starter}
 use Rattle.np_forms.proofs.FormLemmas.{EndsAs-ended, ended_is, IsNormalForm-normal_form, ordered_form-canonical_order, IsOrderedForm-canonical_order}

@@ -5,8 +5,8 @@ use Rattle.np_forms.proofs.Words.{is_compat, composes, IsDecomposed, IsNormalFor
 use Rattle.np_forms.specs.Laws.{Idempotence, SameForms}
 use Rattle.np_forms.proofs.OrderLemmas.{canonical_order-ordered, is_ordered-canonical_order, list_all-canonical_order}
 use Rattle.np_forms.proofs.ComposeLemmas.{decomposed-compose}
-use Rattle.np_tables.proofs.MappingLemmas.{full_of-final, final-decomposed, flat_map-final}
-use Rattle.np_tables.proofs.CompositeLemmas.{composite-splits}
+use Rattle.np_versions.proofs.MappingLemmas.{full_of-final, final-decomposed, flat_map-final}
+use Rattle.np_versions.proofs.CompositeLemmas.{composite-splits}
 use Rattle.np_forms.proofs.FormLemmas.{IsDecomposed-decomposed, decomposed_is, IsEquivalent-lists, IsNormalForm-normal_form, normal_form_is}
 
 module _ (v : VersionData) (sound : IsSound v) where

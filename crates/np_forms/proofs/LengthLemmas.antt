@@ -6,7 +6,7 @@ use Rattle.np_forms.proofs.Words.{is_empty, is_final, VersionData, class_of, dec
 use Rattle.np_forms.proofs.ComposeLemmas.{compose_after-nil, compose_after-cases, compose-nil, compose-cases}
 use Rattle.np_forms.proofs.FormLemmas.{normal_form_is}
 use Rattle.np_forms.proofs.OrderLemmas.{length-canonical_order}
-use Rattle.np_tables.proofs.MappingLemmas.{is_empty-false, full-final, full-mapped, IsFullDecomposition-flat_map}
+use Rattle.np_versions.proofs.MappingLemmas.{is_empty-false, full-final, full-mapped, IsFullDecomposition-flat_map}
 use Rattle.np_ucd.specs.declared.rows.MapKind.{MapKind}
 use Rattle.np_ucd.specs.declared.rows.MapKind.TheVariants.{Plain, Canonical, Compatibility}
 

@@ -6,10 +6,10 @@ use Rattle.np_forms.proofs.Words.{joined, compose_after, compose, compose_of, is
 use Rattle.std.proofs.lemmas.List.Edits.{remove-append_right}
 use Rattle.np_forms.specs.Composition.{IsBlocked, IsLastStarter, Joins, Stage, ComposeStep, IsComposed}
 use Rattle.np_code_points.proofs.StepsLemmas.{stays, one_more}
-use Rattle.np_tables.proofs.MappingLemmas.{list_all-append}
+use Rattle.np_versions.proofs.MappingLemmas.{list_all-append}
 use Rattle.np_forms.proofs.OrderLemmas.{is_reorderable-false, not_reorderable_starter, not_reorderable_rising}
 use Rattle.np_forms.proofs.ComposeLemmas.{not_starter_from, joined-some, joined-free, compose_after-nil, compose_after-cases, compose-nil, compose-cases}
-use Rattle.np_tables.proofs.CompositeLemmas.{composite-some, composite-none}
+use Rattle.np_versions.proofs.CompositeLemmas.{composite-some, composite-none}
 
 -- ---- tests along a list, by index
 

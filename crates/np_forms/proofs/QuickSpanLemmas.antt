@@ -5,10 +5,10 @@ use Rattle.np_forms.proofs.Words.{slide, compose, compose_after, compose_of, is_
 use Rattle.np_forms.proofs.Words.{NeverFalls, IsYesStarter, IsSound, is_final, VersionData, class_of, composite, full_of, NeverComposesBackward, MayFollow}
 use Rattle.np_forms.proofs.Words.{CannotComposeAfter, Walks}
 use Rattle.std.proofs.lemmas.List.Folds.{list_all-append}
-use Rattle.np_tables.proofs.CompositeLemmas.{composite-never, composite_from}
-use Rattle.np_tables.proofs.TableLemmas.{pair-value}
-use Rattle.np_tables.proofs.MappingLemmas.{full_of-final}
-use Rattle.np_tables.specs.Composites.{IsCompositeOf}
+use Rattle.np_versions.proofs.CompositeLemmas.{composite-never, composite_from}
+use Rattle.np_versions.proofs.AnswerLemmas.{pair-value}
+use Rattle.np_versions.proofs.MappingLemmas.{full_of-final}
+use Rattle.np_versions.specs.Composites.{IsCompositeOf}
 use Rattle.np_forms.proofs.StreamLemmas.{full_of-boundary}
 use Rattle.np_forms.proofs.ComposeLemmas.{compose-nil, compose-non_starter, compose-starter, compose_after-kept, compose_after-nil, compose_after-starter, joined-blocked, joined-none, compose_after-joined, joined-free}
 use Rattle.np_forms.proofs.OrderLemmas.{canonical_order-nil, not_reorderable_rising, not_reorderable_starter, slide-nil, slide-starter, slide-stays, is_reorderable-true, slide-over}

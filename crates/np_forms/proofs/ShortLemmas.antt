@@ -4,7 +4,7 @@ use Rattle.np_forms.proofs.Words.{and_from, and_left, cases_lt, canonical_order,
 use Rattle.np_forms.proofs.Words.{IsSound, VersionData, class_of, composite}
 use Rattle.np_forms.proofs.ComposeLemmas.{compose-starter, compose_after-joined, compose_after-kept, compose_after-nil, compose_after-starter, joined-blocked, joined-free, joined-none}
 use Rattle.np_forms.proofs.OrderLemmas.{canonical_order-exchange, canonical_order-ordered, is_ordered-cons, is_ordered-one, is_reorderable_from, not_reorderable_rising}
-use Rattle.np_tables.proofs.CompositeLemmas.{composite-starter}
+use Rattle.np_versions.proofs.CompositeLemmas.{composite-starter}
 
 module _ (v : VersionData) (s : ℕ) (starter : class_of v s ≡ 0) where
   abbrev ccc : ℕ → ℕ

@@ -8,7 +8,7 @@ use Rattle.std.proofs.lemmas.List.Elements.{filter-append, filter_agree}
 use Rattle.std.proofs.lemmas.List.Sorted.{IsNonDecreasingBy-drop}
 use Rattle.std.specs.List.Sorted.{IsNonDecreasingBy, IsStableByKey, ties}
 use Rattle.std.specs.Ordering.{nat_cmp, is_lt}
-use Rattle.np_tables.proofs.MappingLemmas.{list_all-append}
+use Rattle.np_versions.proofs.MappingLemmas.{list_all-append}
 use Rattle.np_forms.proofs.OrderLemmas.{is_reorderable-true, is_reorderable-false, is_ordered-parts, is_ordered-canonical_order, list_all-canonical_order, canonical_order-keeps, is_ordered-nil, is_ordered-one, is_ordered-cons, not_reorderable_rising, canonical_order-nil, canonical_order-at_starter, length-canonical_order}
 use Rattle.np_forms.proofs.ComposeLemmas.{is_starter-false, not_starter_from}
 

@@ -5,8 +5,8 @@ use Rattle.np_forms.proofs.Words.{is_final, full_of, is_ordered, canonical_order
 use Rattle.np_forms.proofs.Words.{is_compat, composes, decomposed, ended, normal_form, is_non_starter, IsNormalForm, BeginsAtLastStarter, HasNoStarter}
 use Rattle.np_forms.proofs.Words.{IsBoundary, NeverFalls, ComposesTo, IsYesStarter}
 use Rattle.np_forms.specs.StreamLaws.{OneMore}
-use Rattle.np_tables.proofs.MappingLemmas.{list_all-append, full_decomposition-flat_map}
-use Rattle.np_tables.proofs.CompositeLemmas.{cases_Option, composite-starter, composite-never, composite_from}
+use Rattle.np_versions.proofs.MappingLemmas.{list_all-append, full_decomposition-flat_map}
+use Rattle.np_versions.proofs.CompositeLemmas.{cases_Option, composite-starter, composite-never, composite_from}
 use Rattle.np_forms.specs.Boundaries.{FormsAtBoundary, YesStarterForm}
 use Rattle.np_forms.proofs.OrderLemmas.{canonical_order-front, canonical_order-at_starter, canonical_order-ordered, is_ordered-front, is_ordered-back, canonical_order-nil, is_ordered-cons, is_ordered-nil, is_ordered-one, not_reorderable_rising}
 use Rattle.np_forms.proofs.ComposeLemmas.{not_starter_from, compose_after-nil, compose_after-joined, compose_after-starter, compose_after-kept, compose-nil, compose-starter, compose-non_starter, joined-some, compose-at_boundary, joined-free}

@@ -13,10 +13,10 @@ use Rattle.np_forms.proofs.SegmentLemmas.{form-closed, goes-made}
 use Rattle.np_forms.proofs.OrderLemmas.{canonical_order-ordered}
 use Rattle.np_forms.proofs.SyllableLemmas.{full_of-jamo, full_of-syllable}
 use Rattle.np_forms.proofs.SyllableTextLemmas.{begins_with_jamo, closed-parts, jamo-boundary, jamo-bytes, jamo-chars, jamo-starter, parts-assigned, syllable-assigned}
-use Rattle.np_tables.proofs.HangulLemmas.{leading_jamo}
-use Rattle.np_tables.proofs.MappingLemmas.{IsFullDecomposition-full_of, flat_map-final, full_of-only}
-use Rattle.np_tables.proofs.PageHintLemmas.{unfolds}
-use Rattle.np_tables.specs.Composites.{IsCompositeOf}
+use Rattle.np_versions.proofs.HangulLemmas.{leading_jamo}
+use Rattle.np_versions.proofs.MappingLemmas.{IsFullDecomposition-full_of, flat_map-final, full_of-only}
+use Rattle.np_versions.proofs.UnfoldLemmas.{unfolds}
+use Rattle.np_versions.specs.Composites.{IsCompositeOf}
 
 -- ---- what such a text is
 

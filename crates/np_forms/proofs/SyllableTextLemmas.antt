@@ -5,10 +5,10 @@ use Rattle.np_forms.proofs.Words.{is_syllable, IsAssigned, BeginsWithJamo, sylla
 use lib.Utf8.{low_scalar, scalar, scalars}
 use Rattle.np_code_points.proofs.HangulLemmas.{pair_of_lv, pair_of_lvt}
 use Rattle.np_forms.proofs.SegmentLemmas.{IsClosed, closed-starter}
-use Rattle.np_tables.proofs.Utf8Lemmas.{encode_three}
+use Rattle.np_versions.proofs.Utf8Lemmas.{encode_three}
 use Rattle.np_forms.proofs.SyllableLemmas.{syllable_parts-two, syllable_parts-three}
-use Rattle.np_tables.proofs.HangulPlaces.{Runs, hangul_runs}
-use Rattle.np_tables.proofs.HangulLemmas.{IsJamo, by_arithmetic, lv_shape, lvt_shape, syllable_hangul}
+use Rattle.np_versions.proofs.HangulPlaces.{Runs, hangul_runs}
+use Rattle.np_versions.proofs.HangulLemmas.{IsJamo, by_arithmetic, lv_shape, lvt_shape, syllable_hangul}
 
 -- ---- characters of three bytes
 

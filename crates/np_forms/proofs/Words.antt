@@ -49,12 +49,12 @@ pub use Rattle.np_forms.specs.inside.Segments.{IsComposedOf, IsDecomposedUpTo, I
 pub use Rattle.np_forms.specs.inside.Syllables.{BeginsWithJamo, BeginsWithSyllable, pair_or_self}
 unfoldable pub use Rattle.np_forms.specs.inside.Syllables.{syllable_parts}
 pub use Rattle.np_forms.specs.inside.Written.{Breaks, Closes, HoldsFront, Writes, WritesEnd}
-pub use Rattle.np_tables.specs.Boundaries.{BeginsAtBoundary, ComposesTo, IsBoundary, IsYesStarter, NeverFalls}
-pub use Rattle.np_tables.specs.Conditions.{IsSound}
-pub use Rattle.np_tables.specs.Mappings.{IsFullDecomposition, Rewrites, counts, is_final}
-unfoldable pub use Rattle.np_tables.specs.Mappings.{parts}
-pub use Rattle.np_tables.specs.QuickSpans.{CannotComposeAfter, IsQuickSpan, MayFollow, NeverComposesBackward, Walks}
-pub use Rattle.np_tables.specs.Versions.{VersionData, is_empty}
-unfoldable pub use Rattle.np_tables.specs.Versions.{class_of, decomposition_kind, entry_at, has_hangul, is_assigned}
-unfoldable pub use Rattle.np_tables.specs.inside.CompositeSearch.{composite}
-unfoldable pub use Rattle.np_tables.specs.inside.FullDecompositions.{full, full_of, table_full}
+pub use Rattle.np_versions.specs.Boundaries.{BeginsAtBoundary, ComposesTo, IsBoundary, IsYesStarter, NeverFalls}
+pub use Rattle.np_versions.specs.Conditions.{IsSound}
+pub use Rattle.np_versions.specs.Mappings.{IsFullDecomposition, Rewrites, counts, is_final}
+unfoldable pub use Rattle.np_versions.specs.Mappings.{parts}
+pub use Rattle.np_versions.specs.QuickSpans.{CannotComposeAfter, IsQuickSpan, MayFollow, NeverComposesBackward, Walks}
+pub use Rattle.np_versions.specs.Versions.{VersionData, is_empty}
+unfoldable pub use Rattle.np_versions.specs.Versions.{class_of, decomposition_kind, entry_at, has_hangul, is_assigned}
+unfoldable pub use Rattle.np_versions.specs.inside.CompositeSearch.{composite}
+unfoldable pub use Rattle.np_versions.specs.inside.FullDecompositions.{full, full_of, table_full}

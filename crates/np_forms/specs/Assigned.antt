@@ -1,7 +1,7 @@
 -- Texts of assigned code points (UAX #15, section 12).
 use Rattle.std.specs.Prelude.{◌≡◌, ℕ, true, false, List, ◌∷◌, ◌++◌, length, encode_utf8_all}
 use Rattle.std.specs.List.{list_all}
-use Rattle.np_tables.specs.Versions.{VersionData, is_assigned}
+use Rattle.np_versions.specs.Versions.{VersionData, is_assigned}
 
 -- each code point is assigned
 abbrev pub IsAssigned : VersionData → List ℕ → Type 0

@@ -2,9 +2,9 @@
 use Rattle.std.specs.Prelude.{ℕ, List, [], ◌∷◌, ◌++◌}
 use Rattle.np_code_points.specs.declared.forms.Form.{Form}
 use Rattle.np_forms.specs.Forms.{IsNormalForm}
-use Rattle.np_tables.specs.Boundaries.{IsBoundary, IsYesStarter}
-use Rattle.np_tables.specs.Conditions.{IsSound}
-use Rattle.np_tables.specs.Versions.{VersionData}
+use Rattle.np_versions.specs.Boundaries.{IsBoundary, IsYesStarter}
+use Rattle.np_versions.specs.Conditions.{IsSound}
+use Rattle.np_versions.specs.Versions.{VersionData}
 
 -- at a boundary: what is before it and what begins with it have their forms each for itself
 abbrev pub FormsAtBoundary : Type 0

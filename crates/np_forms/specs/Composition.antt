@@ -1,8 +1,8 @@
 -- Canonical composition (The Unicode Standard, D115 to D117): a machine on a list and a place in it.
 use Rattle.std.specs.Prelude.{◌≡◌, ◌≢◌, ℕ, ◌+◌, ◌<◌, ◌≤◌, ◌⊎◌, List, length, slice_index, slice_set, remove}
-use Rattle.np_tables.specs.Composites.{IsCompositeOf}
+use Rattle.np_versions.specs.Composites.{IsCompositeOf}
 use Rattle.np_code_points.specs.Steps.{Reaches}
-use Rattle.np_tables.specs.Versions.{VersionData, class_of}
+use Rattle.np_versions.specs.Versions.{VersionData, class_of}
 
 -- what stands at j is blocked from what stands at i (D115): a place between them has class 0, or at least the class at j
 pub record IsBlocked (v : VersionData) (xs : List ℕ) (i j : ℕ) : Type 0 where

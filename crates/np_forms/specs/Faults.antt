@@ -3,7 +3,7 @@ use Rattle.std.specs.Prelude.{ℕ, List}
 use Rattle.np_forms.specs.declared.stabilized.NpssFault.{NpssFault}
 use Rattle.np_forms.specs.declared.stabilized.NpssFault.TheVariants.{Unassigned, Memory}
 use Rattle.np_forms.specs.Assigned.{IsAssigned, IsFirstUnassigned}
-use Rattle.np_tables.specs.Versions.{VersionData}
+use Rattle.np_versions.specs.Versions.{VersionData}
 
 -- a place is that of the first code point that is not assigned, and want of memory comes only where each is assigned
 abbrev pub IsNpssFault : VersionData → List ℕ → NpssFault → Type 0

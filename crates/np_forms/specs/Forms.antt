@@ -2,9 +2,9 @@
 use Rattle.std.specs.Prelude.{◌≡◌, ℕ, Bool, true, false, List}
 use Rattle.np_code_points.specs.Forms.{is_compat, composes}
 use Rattle.np_forms.specs.Composition.{IsComposed}
-use Rattle.np_tables.specs.Mappings.{IsFullDecomposition}
+use Rattle.np_versions.specs.Mappings.{IsFullDecomposition}
 use Rattle.np_forms.specs.Order.{IsOrderedForm}
-use Rattle.np_tables.specs.Versions.{VersionData, class_of}
+use Rattle.np_versions.specs.Versions.{VersionData, class_of}
 use Rattle.np_code_points.specs.declared.forms.Form.{Form}
 
 -- the full decomposition in canonical order (D65 or D68, then D109)

@@ -1,16 +1,16 @@
 -- The laws of the forms, over the definitions alone.
 use Rattle.std.specs.Prelude.{◌≡◌, ℕ, ◌*◌, ◌≤◌, true, List, [], ◌∷◌, length, take, chars, IsUtf8, ◌↔◌}
-use Rattle.np_tables.specs.Composites.{IsCompositeOf}
-use Rattle.np_tables.specs.Conditions.{IsSound}
+use Rattle.np_versions.specs.Composites.{IsCompositeOf}
+use Rattle.np_versions.specs.Conditions.{IsSound}
 use Rattle.np_code_points.specs.declared.forms.Form.{Form}
 use Rattle.np_code_points.specs.Forms.{is_compat}
 use Rattle.np_code_points.specs.One.{HasOne}
 use Rattle.np_forms.specs.Forms.{IsDecomposed, IsNormalForm, IsEquivalent}
 use Rattle.np_forms.specs.Order.{IsOrderedForm}
-use Rattle.np_tables.specs.Examples.{without_rows, with_rows, with_hangul}
-use Rattle.np_tables.specs.Precomputed.{IsPrecomputed}
-use Rattle.np_tables.specs.QuickSpans.{IsQuickSpan}
-use Rattle.np_tables.specs.Versions.{VersionData, class_of, has_hangul}
+use Rattle.np_versions.specs.Examples.{without_rows, with_rows, with_hangul}
+use Rattle.np_versions.specs.Precomputed.{IsPrecomputed}
+use Rattle.np_versions.specs.QuickSpans.{IsQuickSpan}
+use Rattle.np_versions.specs.Versions.{VersionData, class_of, has_hangul}
 
 -- a list has exactly one ordered form, whatever gives the combining classes
 abbrev pub OneOrderedForm : Type 0

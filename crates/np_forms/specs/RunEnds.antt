@@ -8,7 +8,7 @@ use Rattle.np_forms.specs.Forms.{IsNormalForm}
 use Rattle.np_forms.specs.Streams.{IsCutAtLastStarter}
 use Rattle.np_forms.specs.declared.runs.RunFault.{RunFault}
 use Rattle.np_forms.specs.declared.runs.RunFault.TheVariants.{NotUtf8, ReadFailed, WriteFailed, TooLarge, Memory}
-use Rattle.np_tables.specs.Versions.{VersionData}
+use Rattle.np_versions.specs.Versions.{VersionData}
 
 -- more bytes may make a text of these: what follows their longest front that is UTF-8 is nothing, or ends within a character
 -- (The Unicode Standard, table 3-7)

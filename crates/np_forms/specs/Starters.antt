@@ -1,6 +1,6 @@
 -- Starters and non-starters (The Unicode Standard, D107).
 use Rattle.std.specs.Prelude.{ℕ, Bool, not, ◌==◌}
-use Rattle.np_tables.specs.Versions.{VersionData, class_of}
+use Rattle.np_versions.specs.Versions.{VersionData, class_of}
 
 -- a starter (D107)
 abbrev pub is_starter : (ℕ → ℕ) → ℕ → Bool

@@ -3,8 +3,8 @@ use Rattle.std.specs.Prelude.{ℕ, List, [], ◌∷◌, ◌++◌}
 use Rattle.np_code_points.specs.declared.forms.Form.{Form}
 use Rattle.np_forms.specs.Forms.{IsNormalForm}
 use Rattle.np_forms.specs.Streams.{IsCutAtLastStarter}
-use Rattle.np_tables.specs.Conditions.{IsSound}
-use Rattle.np_tables.specs.Versions.{VersionData}
+use Rattle.np_versions.specs.Conditions.{IsSound}
+use Rattle.np_versions.specs.Versions.{VersionData}
 
 -- one more code point changes a normal form x ++ y from its last starter on alone: y and that code point have the rest as
 -- their normal form

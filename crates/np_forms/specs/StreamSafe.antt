@@ -4,7 +4,7 @@ use Rattle.std.specs.List.{list_all}
 use Rattle.np_code_points.specs.declared.forms.Form.TheVariants.{Nfkd}
 use Rattle.np_forms.specs.Starters.{is_non_starter}
 use Rattle.np_forms.specs.Forms.{IsNormalForm}
-use Rattle.np_tables.specs.Versions.{VersionData}
+use Rattle.np_versions.specs.Versions.{VersionData}
 
 -- more than n non-starters stand side by side
 pub record HasRunOver (v : VersionData) (n : ℕ) (xs : List ℕ) : Type 0 where

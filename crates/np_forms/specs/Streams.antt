@@ -7,8 +7,8 @@ use Rattle.np_forms.specs.Forms.{EndsAs, IsNormalForm}
 use Rattle.np_forms.specs.Order.{IsOrderedForm}
 use Rattle.np_forms.specs.Starters.{is_non_starter}
 use Rattle.np_forms.specs.StreamSafe.{HasRunOver}
-use Rattle.np_tables.specs.Mappings.{IsFullDecomposition}
-use Rattle.np_tables.specs.Versions.{VersionData, class_of}
+use Rattle.np_versions.specs.Mappings.{IsFullDecomposition}
+use Rattle.np_versions.specs.Versions.{VersionData, class_of}
 
 -- ys begins with a starter, the last one of xs ++ ys
 pub record BeginsAtLastStarter (v : VersionData) (xs ys : List ℕ) : Type 0 where

@@ -2,7 +2,7 @@
 ghost use Rattle.std.specs.Prelude.{◌≡◌, ℕ, chars, length, encode_utf8_all, IfSome, IfNone};
 ghost use Rattle.np_forms.specs.Assigned.{IsAssigned, IsFirstUnassigned};
 
-use np_tables::{NormTable, Version};
+use np_versions::{NormTable, Version};
 
 /// The first code point that is not assigned, with its byte place, from 0; none where each is
 /// assigned. It is called, so that the loop that writes forms, which seldom asks, stays small.

@@ -4,7 +4,7 @@ ghost use Rattle.std.specs.Prelude.{◌≡◌, ◌++◌, ℕ, List, OnOk};
 ghost use Rattle.np_forms.specs.inside.Classes.{codes_of, with_class as spec_with_class, with_classes};
 
 use np_code_points::Memory;
-use np_tables::NormTable;
+use np_versions::NormTable;
 use std::marker::Model;
 
 /// What a class is multiplied with, so that any code point is less.

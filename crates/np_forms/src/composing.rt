@@ -5,11 +5,11 @@ ghost use Rattle.np_forms.specs.inside.Classes.{codes_of, with_classes};
 ghost use Rattle.np_forms.specs.inside.Composers.{IsInPlace, pair_with_last as pair_found};
 ghost use Rattle.np_forms.specs.inside.Composing.{compose_of};
 ghost use Rattle.np_forms.specs.Order.{is_ordered};
-ghost use Rattle.np_tables.specs.Versions.{class_of};
+ghost use Rattle.np_versions.specs.Versions.{class_of};
 
 use crate::classes::Classed;
 use crate::lookups::composite_of;
-use np_tables::NormTable;
+use np_versions::NormTable;
 
 /// A composition inside its own list. The first `kept` places hold what was composed so far, beside
 /// classes that are of no account; what is still to be read stands at a place that is no smaller. Of what

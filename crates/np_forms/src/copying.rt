@@ -14,7 +14,7 @@
 ghost use Rattle.std.specs.Prelude.{◌≡◌, ◌<◌, ◌⊎◌, ◌++◌, [], false, length, chars, encode_utf8_all, IsTrue, IsUtf8, IfOk, OnOk};
 ghost use Rattle.np_forms.specs.Assigned.{IsAssigned};
 ghost use Rattle.np_forms.specs.inside.Copies.{AppendsForm, IsCopied, IsEndOf};
-ghost use Rattle.np_tables.specs.Boundaries.{BeginsAtBoundary};
+ghost use Rattle.np_versions.specs.Boundaries.{BeginsAtBoundary};
 ghost use Rattle.np_forms.specs.inside.NormalForms.{normal_form};
 ghost use Rattle.np_forms.specs.inside.Readings.{IsReadAssigned};
 
@@ -26,7 +26,7 @@ use crate::held::settle;
 use crate::normalizers::Normalizer;
 use crate::out_texts::OutText;
 use np_code_points::{Form, Memory};
-use np_tables::NormTable;
+use np_versions::NormTable;
 
 /// Whether the form is known to have a boundary before a text: it is empty, or begins with a boundary.
 #[inline(always)]

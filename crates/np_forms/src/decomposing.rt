@@ -2,18 +2,18 @@
 ghost use Rattle.std.specs.Prelude.{◌≡◌, ◌<◌, ◌++◌, ◌∷◌, [], length, true, chars, flat_map, IfOk, IfSome, OnOk};
 ghost use Rattle.np_code_points.specs.Hangul.{is_syllable as in_block};
 ghost use Rattle.np_forms.specs.inside.Classes.{with_classes};
-ghost use Rattle.np_tables.specs.Boundaries.{BeginsAtBoundary};
+ghost use Rattle.np_versions.specs.Boundaries.{BeginsAtBoundary};
 ghost use Rattle.np_forms.specs.inside.Segments.{IsDecomposedUpTo};
 ghost use Rattle.np_forms.specs.inside.Syllables.{syllable_parts};
-ghost use Rattle.np_tables.specs.Conditions.{IsSound};
-ghost use Rattle.np_tables.specs.inside.FullDecompositions.{full_of};
-ghost use Rattle.np_tables.specs.Versions.{has_hangul};
+ghost use Rattle.np_versions.specs.Conditions.{IsSound};
+ghost use Rattle.np_versions.specs.inside.FullDecompositions.{full_of};
+ghost use Rattle.np_versions.specs.Versions.{has_hangul};
 
 use crate::classes::{Classed, push_classed, with_class};
 use crate::lookups::lent;
 use np_code_points::hangul::{hangul_parts, is_syllable};
 use np_code_points::{Form, Memory};
-use np_tables::NormTable;
+use np_versions::NormTable;
 
 /// Whether a code point is its own full decomposition.
 #[inline(always)]

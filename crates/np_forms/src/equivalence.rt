@@ -5,7 +5,7 @@ ghost use Rattle.np_forms.specs.Forms.{IsEquivalent};
 
 use crate::pieces::{are_same, have_same_form};
 use np_code_points::{Form, Memory};
-use np_tables::NormTable;
+use np_versions::NormTable;
 use std::alloc::Global;
 
 /// The form that decomposes by this kind of mappings and does not compose.

@@ -7,7 +7,7 @@ use crate::pieces::has_form;
 use crate::streams::Stream;
 use crate::written::close_text;
 use np_code_points::{Form, Memory};
-use np_tables::NormTable;
+use np_versions::NormTable;
 use std::alloc::Global;
 
 /// The normal form of a text, whether or not its code points are assigned.

@@ -13,7 +13,7 @@ use crate::precomputed_texts::{begins_with_letter, write_precomputed};
 use crate::segments::write_short;
 use crate::syllable_texts::{begins_as_jamo, join_syllables, write_syllables};
 use np_code_points::{Form, Memory};
-use np_tables::NormTable;
+use np_versions::NormTable;
 
 /// The form of the first code point of a text, as bytes and how many of them it has, and what follows the
 /// code point: none where the table has none, or no boundary follows. It isn't asked where some first

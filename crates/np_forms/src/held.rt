@@ -4,9 +4,9 @@ ghost use Rattle.np_forms.specs.inside.CanonicalOrder.{canonical_order};
 ghost use Rattle.np_forms.specs.inside.Classes.{AreClassed, codes_of, with_class as spec_with_class, with_classes};
 ghost use Rattle.np_forms.specs.inside.Held.{Advances, IsFrontHeld};
 ghost use Rattle.np_forms.specs.inside.NormalForms.{ended};
-ghost use Rattle.np_tables.specs.Conditions.{IsSound};
-ghost use Rattle.np_tables.specs.Versions.{class_of};
-ghost use Rattle.np_tables.specs.inside.CompositeSearch.{composite};
+ghost use Rattle.np_versions.specs.Conditions.{IsSound};
+ghost use Rattle.np_versions.specs.Versions.{class_of};
+ghost use Rattle.np_versions.specs.inside.CompositeSearch.{composite};
 
 use crate::classes::{Classed, push_codes, with_class};
 use crate::composing::compose;
@@ -14,7 +14,7 @@ use crate::decomposing::is_own;
 use crate::lookups::composite_of;
 use crate::ordering::order;
 use np_code_points::Memory;
-use np_tables::NormTable;
+use np_versions::NormTable;
 use std::alloc::Global;
 use std::mem::replace;
 

@@ -1,9 +1,9 @@
 //! What a table answers of pairs and of mappings, as functions of its version.
 ghost use Rattle.std.specs.Prelude.{◌≡◌};
-ghost use Rattle.np_tables.specs.inside.CompositeSearch.{composite};
-ghost use Rattle.np_tables.specs.inside.FullDecompositions.{table_full};
+ghost use Rattle.np_versions.specs.inside.CompositeSearch.{composite};
+ghost use Rattle.np_versions.specs.inside.FullDecompositions.{table_full};
 
-use np_tables::NormTable;
+use np_versions::NormTable;
 
 /// The primary composite of a pair.
 #[inline(always)]

@@ -1,6 +1,6 @@
 //! What the form of a text is made by.
 use np_code_points::Form;
-use np_tables::NormTable;
+use np_versions::NormTable;
 use std::alloc::Global;
 
 /// A form, the table that it is made by, and where memory for it comes from: the same for each part of a text.

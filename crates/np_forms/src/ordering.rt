@@ -5,7 +5,7 @@ ghost use Rattle.np_forms.specs.Starters.{is_non_starter};
 ghost use Rattle.np_forms.specs.Order.{is_ordered};
 ghost use Rattle.np_forms.specs.inside.CanonicalOrder.{canonical_order};
 ghost use Rattle.np_forms.specs.inside.Classes.{IsOrderedOn, with_classes};
-ghost use Rattle.np_tables.specs.Versions.{VersionData, class_of};
+ghost use Rattle.np_versions.specs.Versions.{VersionData, class_of};
 
 use crate::classes::Classed;
 use std::alloc::{AllocError, Global};

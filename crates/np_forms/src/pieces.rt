@@ -3,14 +3,14 @@ ghost use Rattle.std.specs.Prelude.{◌≡◌, ◌↔◌, ◌<◌, ◌≤◌, �
 ghost use Rattle.np_code_points.specs.declared.forms.Form.{Form};
 ghost use Rattle.np_forms.specs.inside.Copies.{IsBehind};
 ghost use Rattle.np_forms.specs.inside.Pieces.{form_bytes, front_of, left_of};
-ghost use Rattle.np_tables.specs.Versions.{VersionData};
+ghost use Rattle.np_versions.specs.Versions.{VersionData};
 
 use crate::classes::Classed;
 use crate::copying::{split_quick_span, write_next};
 use crate::normalizers::Normalizer;
 use crate::out_texts::OutText;
 use np_code_points::{Form, Memory};
-use np_tables::NormTable;
+use np_versions::NormTable;
 use std::alloc::Global;
 
 /// What is left of the normal form of a text: first what stays in the text, then the form of the

@@ -2,13 +2,13 @@
 ghost use Rattle.std.specs.Prelude.{◌≡◌, ◌<◌, chars, true, IfOk, IsTrue, OnOk};
 ghost use Rattle.np_forms.specs.inside.Copies.{AppendsForm, ArePassing, AsciiPasses, BeginsWithAscii};
 ghost use Rattle.np_forms.specs.inside.Readings.{IsReadAssigned};
-ghost use Rattle.np_tables.specs.Boundaries.{BeginsAtBoundary};
-ghost use Rattle.np_tables.specs.inside.PageProperties.{IsPast};
+ghost use Rattle.np_versions.specs.Boundaries.{BeginsAtBoundary};
+ghost use Rattle.np_versions.specs.inside.Fronts.{IsPast};
 
 use crate::copying::begins_at_boundary;
 use crate::out_texts::OutText;
 use np_code_points::{Form, Memory};
-use np_tables::{NormTable, ascii_front};
+use np_versions::{NormTable, ascii_front};
 
 /// Whether a text begins with ASCII.
 #[inline(always)]

@@ -4,7 +4,7 @@ ghost use Rattle.std.specs.Str.{IsCharBoundary};
 ghost use Rattle.np_forms.specs.Parts.{IsEachPartStable};
 
 use np_code_points::Form;
-use np_tables::NormTable;
+use np_versions::NormTable;
 
 /// How many bytes at the front of a text pass the quick check: each part of that front is its own stabilized string
 /// (UAX #15, sections 9 and 12). They are as many as the table can tell, down to 0. Takes no memory.

@@ -12,7 +12,7 @@ use crate::written::{close_text, feed_text};
 use np_code_points::output::{flush_once, write_whole};
 use np_code_points::watched::Watched;
 use np_code_points::{Form, Memory};
-use np_tables::NormTable;
+use np_versions::NormTable;
 use std::alloc::Global;
 use std::io::{Read, Write};
 use std::str::from_utf8_unchecked;

@@ -6,16 +6,16 @@ ghost use Rattle.np_forms.specs.inside.CanonicalOrder.{canonical_order};
 ghost use Rattle.np_forms.specs.inside.Copies.{AppendsForm};
 ghost use Rattle.np_forms.specs.inside.NormalForms.{ended};
 ghost use Rattle.np_forms.specs.inside.Segments.{IsFullUpTo, IsTriple, listed};
-ghost use Rattle.np_tables.specs.Conditions.{IsSound};
-ghost use Rattle.np_tables.specs.Versions.{class_of};
-ghost use Rattle.np_tables.specs.inside.CompositeSearch.{composite};
+ghost use Rattle.np_versions.specs.Conditions.{IsSound};
+ghost use Rattle.np_versions.specs.Versions.{class_of};
+ghost use Rattle.np_versions.specs.inside.CompositeSearch.{composite};
 
 use crate::copying::begins_at_boundary;
 use crate::decomposing::single_of;
 use crate::lookups::composite_of;
 use crate::out_texts::OutText;
 use np_code_points::{Form, Memory};
-use np_tables::NormTable;
+use np_versions::NormTable;
 
 /// A starter and two non-starters behind it, in canonical order.
 #[derive(Clone, Copy)]

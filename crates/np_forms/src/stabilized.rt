@@ -14,7 +14,7 @@ use crate::out_texts::OutText;
 use crate::streams::Stream;
 use crate::written::close_assigned;
 use np_code_points::{Form, Memory};
-use np_tables::NormTable;
+use np_versions::NormTable;
 use std::alloc::Global;
 use std::borrow::CowStr;
 use thiserror::Error;

@@ -4,14 +4,14 @@ ghost use Rattle.np_code_points.specs.Hangul.{is_syllable as in_block};
 ghost use Rattle.np_forms.specs.StreamSafe.{IsStreamSafe};
 ghost use Rattle.np_forms.specs.inside.Runs.{runs_over};
 ghost use Rattle.np_forms.specs.inside.Syllables.{syllable_parts};
-ghost use Rattle.np_tables.specs.Conditions.{IsSound};
-ghost use Rattle.np_tables.specs.Versions.{class_of, has_hangul};
-ghost use Rattle.np_tables.specs.inside.FullDecompositions.{full_of};
+ghost use Rattle.np_versions.specs.Conditions.{IsSound};
+ghost use Rattle.np_versions.specs.Versions.{class_of, has_hangul};
+ghost use Rattle.np_versions.specs.inside.FullDecompositions.{full_of};
 
 use crate::lookups::lent;
 use np_code_points::Memory;
 use np_code_points::hangul::{hangul_parts, is_syllable};
-use np_tables::NormTable;
+use np_versions::NormTable;
 use std::alloc::Global;
 
 /// The most non-starters that may stand side by side.

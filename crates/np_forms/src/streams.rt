@@ -11,7 +11,7 @@ use crate::normalizers::Normalizer;
 use crate::ordering::are_non_starters;
 use crate::out_texts::OutText;
 use np_code_points::{Form, Memory};
-use np_tables::NormTable;
+use np_versions::NormTable;
 use std::alloc::Global;
 use std::fmt;
 use std::marker::Model;

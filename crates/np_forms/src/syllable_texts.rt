@@ -4,10 +4,10 @@ ghost use Rattle.std.specs.Prelude.{◌≡◌, ◌+◌, ◌/◌, ◌%◌, ◌<�
 ghost use Rattle.np_code_points.specs.Forms.{composes};
 ghost use Rattle.np_code_points.specs.Hangul.{is_syllable as in_block};
 ghost use Rattle.np_forms.specs.inside.Copies.{AppendsForm, AsciiIsCopiedAlone, IsCopiedAlone, LeadingAreBoundaries};
-ghost use Rattle.np_tables.specs.Boundaries.{BeginsAtBoundary};
+ghost use Rattle.np_versions.specs.Boundaries.{BeginsAtBoundary};
 ghost use Rattle.np_forms.specs.inside.Readings.{IsReadAssigned};
 ghost use Rattle.np_forms.specs.inside.Syllables.{BeginsWithSyllable, syllable_parts};
-ghost use Rattle.np_tables.specs.Versions.{has_hangul};
+ghost use Rattle.np_versions.specs.Versions.{has_hangul};
 
 use crate::copying::begins_at_boundary;
 use crate::jamo_bytes::{THREE_JAMO, jamo_front};
@@ -16,7 +16,7 @@ use crate::out_texts::OutText;
 use crate::utf8_bytes::{last_byte, lead_byte, middle_byte, three_bytes};
 use np_code_points::hangul::{L_BASE, S_BASE, T_BASE, T_COUNT, V_BASE, V_COUNT, is_syllable};
 use np_code_points::{Form, Memory};
-use np_tables::NormTable;
+use np_versions::NormTable;
 
 /// Appends a syllable.
 #[inline(always)]

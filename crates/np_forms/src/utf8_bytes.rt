@@ -28,7 +28,7 @@ pub(crate) fn last_byte(code: u32) -> u8
 
 /// The two bytes of a character.
 #[inline(always)]
-#[tactic(auto, using(np_tables::proofs::Utf8Lemmas::encode_two))]
+#[tactic(auto, using(np_versions::proofs::Utf8Lemmas::encode_two))]
 pub(crate) fn two_bytes(code: u32) -> [u8; 2]
     requires { (0x80 ≤ code) × (code < 0x800) }
     ensures { result ≡ encode_utf8 code }
@@ -38,7 +38,7 @@ pub(crate) fn two_bytes(code: u32) -> [u8; 2]
 
 /// The three bytes of a character.
 #[inline(always)]
-#[tactic(auto, using(np_tables::proofs::Utf8Lemmas::encode_three))]
+#[tactic(auto, using(np_versions::proofs::Utf8Lemmas::encode_three))]
 pub(crate) fn three_bytes(code: u32) -> [u8; 3]
     requires { (0x800 ≤ code) × (code < 0x1_0000) }
     ensures { result ≡ encode_utf8 code }
@@ -48,7 +48,7 @@ pub(crate) fn three_bytes(code: u32) -> [u8; 3]
 
 /// The four bytes of a character.
 #[inline(always)]
-#[tactic(auto, using(np_tables::proofs::Utf8Lemmas::encode_four))]
+#[tactic(auto, using(np_versions::proofs::Utf8Lemmas::encode_four))]
 pub(crate) fn four_bytes(code: u32) -> [u8; 4]
     requires { (0x1_0000 ≤ code) × (code < 0x11_0000) }
     ensures { result ≡ encode_utf8 code }

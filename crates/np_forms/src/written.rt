@@ -8,7 +8,7 @@ use crate::copying::{split_head, split_tail, write_form, write_fronts};
 use crate::out_texts::OutText;
 use crate::streams::Stream;
 use np_code_points::Memory;
-use np_tables::NormTable;
+use np_versions::NormTable;
 
 /// Moves what is ready to the end of a text.
 fn take_ready<T: NormTable>(stream: &mut Stream<'_, T>, out: &mut OutText) -> Result<(), Memory>

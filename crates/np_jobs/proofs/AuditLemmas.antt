@@ -1,7 +1,7 @@
 -- What `audit` makes and why it is refused, by what became of the old version and of the new one.
 use Rattle.std.proofs.Common.{[], ◌∷◌, inl, inr, refl, string_bytes, Result, Ok, Err, IfOk, IfErr}
 use Rattle.std.proofs.lemmas.List.Elements.{All-cons, All-nil}
-use Rattle.np_tables.specs.Versions.{VersionData}
+use Rattle.np_versions.specs.Versions.{VersionData}
 use Rattle.np_jobs.specs.Audits.{MakesAudit, RefusesAudit}
 use Rattle.np_jobs.specs.Chains.{AreUntouched, LacksOne, VersionReaders}
 use Rattle.np_jobs.specs.Streams.{IsUntouched}

@@ -5,8 +5,8 @@ use Rattle.std.proofs.lemmas.List.Elements.{All-cons, All-nil}
 use Rattle.std.specs.List.{AllZip}
 use Rattle.np_code_points.specs.Watched.{device_of, has_failed}
 use Rattle.np_code_points.specs.declared.channels.watched.Watched.{Watched}
-use Rattle.np_tables.specs.Versions.{VersionData}
-use Rattle.np_tables.specs.declared.faults.TableFault.TheVariants.{Memory}
+use Rattle.np_versions.specs.Versions.{VersionData}
+use Rattle.np_versions.specs.declared.faults.TableFault.TheVariants.{Memory}
 use Rattle.np_jobs.specs.Chains.{AreUntouched, LacksOne, WereBuilt, readers_of}
 use Rattle.np_jobs.specs.Streams.{Stream, stream_of}
 use Rattle.np_jobs.specs.Versions.{IsVersionFault, WasBuilt}

@@ -1,6 +1,6 @@
 -- What is made of two versions.
 use Rattle.std.proofs.Common.{List, [], ◌∷◌, string_bytes}
-use Rattle.np_tables.specs.Versions.{VersionData}
+use Rattle.np_versions.specs.Versions.{VersionData}
 use Rattle.np_code_points.specs.declared.forms.Form.{Form}
 use Rattle.np_jobs.specs.Chains.{VersionReaders, WereBuilt}
 use Rattle.np_jobs.specs.KeysUnder.{MakesUnder}

@@ -7,8 +7,8 @@ use Rattle.np_ucd.specs.Entries.{Entry}
 use Rattle.np_ucd.specs.Exclusions.{AreReadable, IsListedIn}
 use Rattle.np_ucd.specs.FirstFaults.{HasNoFault}
 use Rattle.np_ucd.specs.Listed.{Span, is_listed}
-use Rattle.np_tables.specs.TableFaults.{IsFaultless}
-use Rattle.np_tables.specs.Versions.{VersionData}
+use Rattle.np_versions.specs.TableFaults.{IsFaultless}
+use Rattle.np_versions.specs.Versions.{VersionData}
 use Rattle.np_jobs.specs.Streams.{Stream}
 use Rattle.np_jobs.specs.Versions.{HasExclusions, HasRows, WasBuilt}
 use Rattle.np_jobs.specs.declared.faults.VersionFault.{VersionFault}

@@ -2,7 +2,7 @@
 use Rattle.std.specs.Prelude.{◌≡◌, ◌⊎◌, ℕ, Bool, ◌==◌, List, [], ◌∷◌, length, flat_map, codes}
 use Rattle.np_chain.specs.Breaks.{AreBreaks}
 use Rattle.np_chain.specs.declared.breaks.Break.{Break}
-use Rattle.np_tables.specs.Versions.{VersionData}
+use Rattle.np_versions.specs.Versions.{VersionData}
 use Rattle.np_jobs.specs.Chains.{LacksOne, VersionReaders, WereBuilt}
 use Rattle.np_jobs.specs.Ends.{JobEnds}
 use Rattle.np_jobs.specs.Streams.{Stream}

@@ -2,7 +2,7 @@
 use Rattle.std.specs.Prelude.{◌≡◌, ℕ, List, [], ◌∷◌, ◌++◌, length, All, Option}
 use Rattle.std.specs.List.{AllZip}
 use Rattle.np_code_points.specs.declared.channels.watched.Watched.{Watched}
-use Rattle.np_tables.specs.Versions.{VersionData}
+use Rattle.np_versions.specs.Versions.{VersionData}
 use Rattle.np_jobs.specs.Streams.{Stream, IsUntouched, stream_of}
 use Rattle.np_jobs.specs.Versions.{WasBuilt, IsVersionFault}
 use Rattle.np_jobs.specs.declared.faults.VersionFault.{VersionFault}

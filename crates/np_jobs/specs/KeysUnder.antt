@@ -6,7 +6,7 @@ use Rattle.np_chain.specs.declared.breaks.Break.{Break}
 use Rattle.np_code_points.specs.declared.forms.Form.{Form}
 use Rattle.np_forms.specs.Assigned.{IsAssigned, IsFirstUnassigned}
 use Rattle.np_forms.specs.Forms.{IsNormalForm}
-use Rattle.np_tables.specs.Versions.{VersionData}
+use Rattle.np_versions.specs.Versions.{VersionData}
 use Rattle.np_jobs.specs.Chains.{LacksOne, VersionReaders, WereBuilt}
 use Rattle.np_jobs.specs.Ends.{JobEnds}
 use Rattle.np_jobs.specs.Keys.{LacksKeyOutput}

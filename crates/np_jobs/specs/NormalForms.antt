@@ -5,7 +5,7 @@ use Rattle.np_code_points.specs.declared.channels.input.InputFault.TheVariants a
 use Rattle.np_forms.specs.RunEnds.{Ends as RunDevices, RunEnds}
 use Rattle.np_forms.specs.declared.runs.RunFault.{RunFault}
 use Rattle.np_forms.specs.declared.runs.RunFault.TheVariants as Runs
-use Rattle.np_tables.specs.Versions.{VersionData}
+use Rattle.np_versions.specs.Versions.{VersionData}
 use Rattle.np_jobs.specs.Ends.{TellsRefusal}
 use Rattle.np_jobs.specs.Streams.{Stream, IsUntouched}
 use Rattle.np_jobs.specs.Texts.{TextReaders, LacksVersion}

@@ -2,8 +2,8 @@
 use Rattle.std.specs.Prelude.{ℕ, is_some, if◌then◌else◌}
 use Rattle.np_code_points.specs.declared.channels.input.InputFault.{InputFault}
 use Rattle.np_code_points.specs.declared.channels.input.InputFault.TheVariants as Inputs
-use Rattle.np_tables.specs.TableFaults.{code_of}
-use Rattle.np_tables.specs.declared.faults.TableFault.{TableFault}
+use Rattle.np_versions.specs.TableFaults.{code_of}
+use Rattle.np_versions.specs.declared.faults.TableFault.{TableFault}
 use Rattle.np_ucd.specs.declared.faults.UcdFault.{UcdFault}
 use Rattle.np_ucd.specs.declared.faults.UcdFault.TheVariants as Files
 

@@ -6,8 +6,8 @@ use Rattle.np_chain.specs.declared.breaks.Break.{Break}
 use Rattle.np_code_points.specs.Codes.{code_digits}
 use Rattle.np_code_points.specs.declared.channels.input.InputFault.{InputFault}
 use Rattle.np_code_points.specs.declared.channels.input.InputFault.TheVariants as Inputs
-use Rattle.np_tables.specs.TableFaults as tables
-use Rattle.np_tables.specs.declared.faults.TableFault.{TableFault}
+use Rattle.np_versions.specs.TableFaults as tables
+use Rattle.np_versions.specs.declared.faults.TableFault.{TableFault}
 use Rattle.np_ucd.specs.Faults as files
 use Rattle.np_ucd.specs.declared.faults.UcdFault.{UcdFault}
 use Rattle.np_jobs.specs.Statuses.{file_status, input_status, tables_status}

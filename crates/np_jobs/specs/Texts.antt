@@ -1,7 +1,7 @@
 -- How a job on one text is refused, and what it makes.
 use Rattle.std.specs.Prelude.{◌≡◌, ◌⊎◌, ℕ, Bool, List, IsUtf8}
 use Rattle.np_code_points.specs.Text.{IsLongestValidPrefix}
-use Rattle.np_tables.specs.Versions.{VersionData}
+use Rattle.np_versions.specs.Versions.{VersionData}
 use Rattle.np_jobs.specs.Streams.{Stream, IsUntouched, WasRead, WasNotRead}
 use Rattle.np_jobs.specs.Versions.{WasBuilt, IsVersionFault}
 use Rattle.np_jobs.specs.Wraps.{Wraps}

@@ -1,9 +1,9 @@
 -- How a job reads the two files of a version, and builds it.
 use Rattle.std.specs.Prelude.{◌≡◌, ◌↔◌, ◌⊎◌, ℕ, true, List}
-use Rattle.np_tables.specs.TableFaults.{IsFaultless, IsLeastFault}
-use Rattle.np_tables.specs.Versions.{VersionData}
-use Rattle.np_tables.specs.declared.faults.TableFault.{TableFault}
-use Rattle.np_tables.specs.declared.faults.TableFault.TheVariants.{Memory}
+use Rattle.np_versions.specs.TableFaults.{IsFaultless, IsLeastFault}
+use Rattle.np_versions.specs.Versions.{VersionData}
+use Rattle.np_versions.specs.declared.faults.TableFault.{TableFault}
+use Rattle.np_versions.specs.declared.faults.TableFault.TheVariants.{Memory}
 use Rattle.np_ucd.specs.AllRows.{AreAllRows}
 use Rattle.np_ucd.specs.Entries.{Entry}
 use Rattle.np_ucd.specs.Exclusions.{AreReadable, IsFirstBadLine, IsListedIn}

@@ -12,7 +12,7 @@ use crate::versions::read_version;
 use np_chain::{Break, audit};
 use np_code_points::Memory;
 use np_code_points::watched::Watched;
-use np_tables::Version;
+use np_versions::Version;
 use std::alloc::Global;
 use std::io::{Read, Write};
 

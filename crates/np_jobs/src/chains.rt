@@ -7,7 +7,7 @@ ghost use Rattle.np_jobs.specs.inside.ChainSteps.{AreClear, AreClearedUpTo, IsRe
 use crate::faults::VersionFault;
 use crate::versions::{MadeTable, read_table_of};
 use np_code_points::watched::Watched;
-use np_tables::TableFault;
+use np_versions::TableFault;
 use std::alloc::Global;
 use std::io::Read;
 

@@ -11,7 +11,7 @@ use crate::versions::JobTable;
 use np_code_points::Form;
 use np_code_points::watched::Watched;
 use np_forms::{equivalent, first_unassigned_char};
-use np_tables::NormTable;
+use np_versions::NormTable;
 use std::alloc::{AllocError, Global};
 use std::io::{Read, Write};
 

@@ -7,8 +7,8 @@ ghost use Rattle.np_jobs.specs.inside.Groups.{of_replay, of_text, of_version};
 use crate::statuses::{BAD, DIFFERENT, FAILED, MEMORY, UNASSIGNED};
 use np_chain::Break;
 use np_code_points::input::InputFault;
-use np_tables::TableFault;
 use np_ucd::UcdFault;
+use np_versions::TableFault;
 use thiserror::Error;
 
 /// Why no version came of two files. Versions are numbered from 0.

@@ -11,7 +11,7 @@ use crate::versions::JobTable;
 use np_code_points::Form;
 use np_code_points::watched::Watched;
 use np_forms::{NpssFault, into_npss};
-use np_tables::NormTable;
+use np_versions::NormTable;
 use std::alloc::Global;
 use std::io::{Read, Write};
 

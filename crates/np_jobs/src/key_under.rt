@@ -19,7 +19,7 @@ use np_chain::extends;
 use np_code_points::watched::Watched;
 use np_code_points::{Form, Memory};
 use np_forms::first_unassigned_in_version;
-use np_tables::{NormTable, Version};
+use np_versions::{NormTable, Version};
 use std::alloc::Global;
 use std::io::{Read, Write};
 

@@ -11,8 +11,8 @@ use np_chain::Break;
 use np_code_points::Memory;
 use np_code_points::codes::write_code;
 use np_code_points::input::InputFault;
-use np_tables::TableFault;
 use np_ucd::UcdFault;
+use np_versions::TableFault;
 use std::alloc::Global;
 
 /// The line on want of memory.

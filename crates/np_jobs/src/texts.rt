@@ -15,7 +15,7 @@ use np_code_points::Form;
 use np_code_points::input::read_whole;
 use np_code_points::text::text_of;
 use np_code_points::watched::Watched;
-use np_tables::NormTable;
+use np_versions::NormTable;
 use std::alloc::Global;
 use std::io::Read;
 

@@ -3,13 +3,14 @@ ghost use Rattle.std.specs.Prelude.{◌≡◌, ◌⊎◌, IfOk, IfErr};
 ghost use Rattle.np_jobs.specs.Streams.{stream_of};
 ghost use Rattle.np_jobs.specs.Versions.{IsTablesFault, IsVersionFault, WasBuilt};
 ghost use Rattle.np_jobs.specs.Wraps.{Wraps};
-ghost use Rattle.np_tables.specs.TableFaults.{IsFaultless};
+ghost use Rattle.np_versions.specs.TableFaults.{IsFaultless};
 
 use crate::faults::VersionFault;
 use np_code_points::Memory;
 use np_code_points::watched::Watched;
-use np_tables::{NormTable, PageTable, TableFault, Version};
+use np_tables::PageTable;
 use np_ucd::{Exclusions, RowList, read_exclusions, read_row_list};
+use np_versions::{NormTable, TableFault, Version};
 use std::alloc::Global;
 use std::io::Read;
 

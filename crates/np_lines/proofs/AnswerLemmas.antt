@@ -3,7 +3,7 @@ use Rattle.std.proofs.Common.{◌≡◌, ℕ, ◌≤◌, Bool, true, false, List
 use Rattle.np_code_points.specs.Lines.{HasNo}
 use Rattle.np_code_points.specs.inside.LineCuts.{after_byte}
 use Rattle.np_code_points.proofs.LineGrammar.{after_none, before_free, joined_none}
-use Rattle.np_tables.specs.Versions.{VersionData}
+use Rattle.np_versions.specs.Versions.{VersionData}
 use Rattle.np_lines.specs.Answers.{Wanted, IsAnswer, IsAnswerWithin, IsKey, IsToldKey, most_bytes}
 use Rattle.np_lines.specs.inside.Steps.{IsTold}
 

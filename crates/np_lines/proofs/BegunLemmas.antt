@@ -4,7 +4,7 @@ use Rattle.std.proofs.lemmas.Bool.{both_ways}
 use Rattle.np_code_points.specs.Lines.{HasNo}
 use Rattle.np_code_points.specs.inside.LineCuts.{before_byte, after_byte}
 use Rattle.np_code_points.proofs.LineGrammar.{before_free, joined_none, joined_some}
-use Rattle.np_tables.specs.Versions.{VersionData}
+use Rattle.np_versions.specs.Versions.{VersionData}
 use Rattle.np_lines.specs.Answers.{Wanted, IsAnswer}
 use Rattle.np_lines.specs.Lines.{LineEnd, byte_of}
 use Rattle.np_lines.specs.declared.pending.Pending.{Pending}

@@ -12,9 +12,9 @@ use Rattle.np_forms.proofs.CopyLemmas.{parts-at}
 use Rattle.np_forms.proofs.FormLemmas.{IsNormalForm-normal_form, normal_form_is}
 use Rattle.np_forms.proofs.QuickSpanLemmas.{walked_form}
 use Rattle.np_forms.proofs.TextLemmas.{assigned-back, assigned-front}
-use Rattle.np_tables.specs.Boundaries.{BeginsAtBoundary, IsYesStarter}
-use Rattle.np_tables.specs.Conditions.{IsSound}
-use Rattle.np_tables.specs.Versions.{VersionData, is_assigned}
+use Rattle.np_versions.specs.Boundaries.{BeginsAtBoundary, IsYesStarter}
+use Rattle.np_versions.specs.Conditions.{IsSound}
+use Rattle.np_versions.specs.Versions.{VersionData, is_assigned}
 use Rattle.std.specs.List.{list_all}
 use Rattle.np_lines.specs.Answers.{Wanted}
 use Rattle.np_lines.specs.Lines.{LineEnd, IsCut, byte_of, ended}

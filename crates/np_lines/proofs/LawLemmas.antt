@@ -17,8 +17,8 @@ use Rattle.np_forms.specs.inside.NormalForms.{normal_form}
 use Rattle.np_forms.proofs.FormLemmas.{IsNormalForm-normal_form, normal_form_is}
 use Rattle.np_forms.proofs.RunTextLemmas.{longest_prefix, one_prefix}
 use Rattle.np_forms.proofs.TextLemmas.{lacks-unassigned}
-use Rattle.np_tables.specs.Conditions.{IsSound}
-use Rattle.np_tables.specs.Versions.{VersionData, is_assigned}
+use Rattle.np_versions.specs.Conditions.{IsSound}
+use Rattle.np_versions.specs.Versions.{VersionData, is_assigned}
 use Rattle.np_lines.specs.Answers.{Wanted, AreAnswers, IsAnswer, IsAnswerWithin, IsKey, IsToldKey, IsUnassigned, most_bytes, not_utf8, told_key, told_refusal, unassigned}
 use Rattle.np_lines.specs.Laws.{AnswersAreLines, OneAnswer}
 use Rattle.np_lines.specs.Lines.{LineEnd, Lf, Nul, byte_of, ended}

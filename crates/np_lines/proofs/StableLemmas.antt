@@ -9,7 +9,7 @@ use Rattle.np_forms.specs.Assigned.{IsAssigned}
 use Rattle.np_forms.specs.Forms.{IsNormalForm}
 use Rattle.np_forms.specs.Parts.{IsEachPartStable}
 use Rattle.np_forms.proofs.CopyLemmas.{IsUtf8-front}
-use Rattle.np_tables.specs.Versions.{VersionData}
+use Rattle.np_versions.specs.Versions.{VersionData}
 use Rattle.np_lines.specs.Answers.{Wanted, IsAnswer, most_bytes, told_key}
 use Rattle.np_lines.specs.Lines.{byte_of}
 use Rattle.np_lines.specs.declared.pending.Pending.{Pending}

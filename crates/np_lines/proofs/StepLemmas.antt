@@ -5,7 +5,7 @@ use Rattle.std.proofs.lemmas.List.Elements.{AllZip-push}
 use Rattle.std.proofs.lemmas.List.Folds.{list_any-append}
 use Rattle.std.specs.List.{list_any}
 use Rattle.np_code_points.specs.Lines.{HasNo}
-use Rattle.np_tables.specs.Versions.{VersionData}
+use Rattle.np_versions.specs.Versions.{VersionData}
 use Rattle.np_lines.specs.Answers.{Wanted, IsAnswer, is_refusal}
 use Rattle.np_lines.specs.Lines.{IsCut, byte_of}
 use Rattle.np_lines.specs.declared.pending.Pending.{Pending}

@@ -1,8 +1,8 @@
 -- The laws of lines and their answers, over the definitions alone.
 use Rattle.std.specs.Prelude.{◌≡◌, ℕ, List}
 use Rattle.np_code_points.specs.One.{HasOne}
-use Rattle.np_tables.specs.Conditions.{IsSound}
-use Rattle.np_tables.specs.Versions.{VersionData}
+use Rattle.np_versions.specs.Conditions.{IsSound}
+use Rattle.np_versions.specs.Versions.{VersionData}
 use Rattle.np_lines.specs.Answers.{Wanted, AreAnswers, IsAnswer}
 use Rattle.np_lines.specs.Lines.{LineEnd, AreLines, IsCut, ended}
 

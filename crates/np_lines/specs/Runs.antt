@@ -3,7 +3,7 @@ use Rattle.std.specs.Prelude.{◌≡◌, ◌⊎◌, ℕ, Bool, List, ◌++◌, R
 use Rattle.std.specs.Io.KnownBytes.{Appends, Consumes, IsAtEnd}
 use Rattle.std.specs.List.{list_any}
 use Rattle.np_forms.specs.RunEnds.{Ends}
-use Rattle.np_tables.specs.Versions.{VersionData}
+use Rattle.np_versions.specs.Versions.{VersionData}
 use Rattle.np_lines.specs.Answers.{Wanted, AreAnswers, is_refusal}
 use Rattle.np_lines.specs.Lines.{IsCut, AreLines, ended}
 use Rattle.np_lines.specs.declared.runs.LinesFault.{LinesFault}

@@ -1,7 +1,7 @@
 -- The answers to all lines of some bytes.
 use Rattle.std.specs.Prelude.{◌≡◌, ℕ, Bool, List}
 use Rattle.std.specs.List.{list_any}
-use Rattle.np_tables.specs.Versions.{VersionData}
+use Rattle.np_versions.specs.Versions.{VersionData}
 use Rattle.np_lines.specs.Answers.{Wanted, AreAnswers, is_refusal}
 use Rattle.np_lines.specs.Lines.{AreLines, ended}
 

@@ -12,7 +12,7 @@ use np_code_points::codes::write_code;
 use np_code_points::lines::cut;
 use np_code_points::text::text_of;
 use np_forms::{NpssFault, lend_npss};
-use np_tables::NormTable;
+use np_versions::NormTable;
 use std::alloc::Global;
 
 /// The most bytes that a line may have, without the byte that ends it.

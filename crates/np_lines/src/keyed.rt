@@ -3,13 +3,13 @@
 ghost use Rattle.std.specs.Prelude.{◌≡◌, ◌<◌, ℕ, IsTrue, chars};
 ghost use Rattle.np_lines.specs.Lines.{byte_of};
 ghost use Rattle.np_lines.specs.inside.Keyed.{HasBoundariesAt, ends_in};
-ghost use Rattle.np_tables.specs.Boundaries.{BeginsAtBoundary, IsYesStarter};
+ghost use Rattle.np_versions.specs.Boundaries.{BeginsAtBoundary, IsYesStarter};
 
 use crate::cuts::cut_line;
 use crate::lines::{LineEnd, Wanted};
 use np_code_points::Form;
 use np_code_points::lines::count;
-use np_tables::NormTable;
+use np_versions::NormTable;
 
 /// Whether the form is known to part before a text: it is empty, or begins with a boundary.
 fn begins_apart<T: NormTable>(table: &T, form: Form, text: &str) -> bool

@@ -4,7 +4,7 @@ ghost use Rattle.np_forms.specs.Parts.{IsEachPartStable};
 ghost use Rattle.np_lines.specs.Lines.{byte_of};
 ghost use Rattle.np_lines.specs.inside.Keyed.{AreKeyed};
 ghost use Rattle.np_lines.specs.inside.Steps.{Finishes, Goes, HasBegun, HasTaken, IsAnswerTo, IsEnded, IsNew, IsTold};
-ghost use Rattle.np_tables.specs.Versions.{VersionData};
+ghost use Rattle.np_versions.specs.Versions.{VersionData};
 
 use crate::answers::{LIMIT, push_answer, push_refusal, push_text_answer};
 use crate::cuts::{cut_line, cut_text};
@@ -14,7 +14,7 @@ use crate::whole::Answers;
 use np_code_points::Memory;
 use np_code_points::lines::cut;
 use np_forms::{NpssFault, lend_npss, quick_check_span};
-use np_tables::NormTable;
+use np_versions::NormTable;
 use std::alloc::Global;
 
 /// The line that has begun, and the answers that are not written yet.

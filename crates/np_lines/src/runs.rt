@@ -10,7 +10,7 @@ use crate::pending::Pending;
 use np_code_points::Memory;
 use np_code_points::output::{flush_once, write_whole};
 use np_code_points::watched::Watched;
-use np_tables::NormTable;
+use np_versions::NormTable;
 use std::alloc::Global;
 use std::io::{Read, Write};
 use thiserror::Error;

@@ -7,7 +7,7 @@ use crate::answers::LIMIT;
 use crate::lines::Wanted;
 use crate::pending::Pending;
 use np_code_points::Memory;
-use np_tables::NormTable;
+use np_versions::NormTable;
 use std::alloc::Global;
 
 /// The answers to all lines of some bytes.

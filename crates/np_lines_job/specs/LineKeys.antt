@@ -5,7 +5,7 @@ use Rattle.np_lines.specs.declared.lines.Wanted.{Wanted}
 use Rattle.np_lines.specs.Runs.{RunEnds}
 use Rattle.np_lines.specs.declared.runs.LinesFault.{LinesFault}
 use Rattle.np_lines.specs.declared.runs.LinesFault.TheVariants as Lines
-use Rattle.np_tables.specs.Versions.{VersionData}
+use Rattle.np_versions.specs.Versions.{VersionData}
 use Rattle.np_jobs.specs.Ends.{TellsRefusal}
 use Rattle.np_jobs.specs.NormalForms.{run_devices}
 use Rattle.np_jobs.specs.Streams.{Stream, IsUntouched}

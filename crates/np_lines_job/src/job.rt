@@ -8,7 +8,8 @@ use np_code_points::input::InputFault;
 use np_code_points::watched::Watched;
 use np_jobs::{DONE, JobFault, TextFault, VersionFault, read_table, refuse};
 use np_lines::{LinesFault, Wanted, answer_lines};
-use np_tables::{NormTable, PageTable};
+use np_tables::PageTable;
+use np_versions::NormTable;
 use std::alloc::Global;
 use std::io::{Read, Write};
 

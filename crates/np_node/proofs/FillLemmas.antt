@@ -17,7 +17,7 @@ use Rattle.np_node.specs.declared.faults.NodeFault.TheVariants.{Malformed}
 use Rattle.np_node.specs.declared.fields.Fields.{Fields}
 use Rattle.np_node.specs.inside.Reading.{left_of, Passes}
 use Rattle.np_node.specs.inside.Shapes.{HasShape, IsFilling, IsEntryRefusal}
-use Rattle.np_tables.specs.Versions.{VersionData}
+use Rattle.np_versions.specs.Versions.{VersionData}
 
 -- the image is refused as a whole
 pub refused-whole : (v : VersionData) (form : Form) (room at : ℕ) (bytes : List ℕ) (entry : Option ℕ) (fault : NodeFault) → entry ≡ None → fault ≡ Malformed at → IsImageFault bytes at → IsRestoreFault v form room bytes entry fault

@@ -11,8 +11,8 @@ use Rattle.np_forms.specs.Forms.{IsEquivalent}
 use Rattle.np_forms.proofs.LengthLemmas.{length-key}
 use Rattle.np_node.specs.Fields.{FitsFields}
 use Rattle.np_node.specs.Strings.{Entry, most_bytes, IsKeepable, IsKey, IsEntry}
-use Rattle.np_tables.specs.Conditions.{IsSound}
-use Rattle.np_tables.specs.Versions.{VersionData}
+use Rattle.np_versions.specs.Conditions.{IsSound}
+use Rattle.np_versions.specs.Versions.{VersionData}
 use Rattle.std.proofs.Common.{encode_utf8_all}
 
 -- texts that are UTF-8 are their code points

@@ -28,10 +28,10 @@ use Rattle.np_node.specs.Taking.{AnswersTake, AnswersEntry, Tells}
 use Rattle.np_node.specs.declared.faults.NodeFault.{NodeFault}
 use Rattle.np_node.specs.declared.faults.NodeFault.TheVariants.{Malformed, OtherForm, TooLong, NotUtf8, Unassigned, KeyDiffers, Full, Memory, OlderTables}
 use Rattle.np_node.specs.declared.taking.Taken.{Taken}
-use Rattle.np_tables.proofs.CountLemmas.{count-le}
-use Rattle.np_tables.specs.Conditions.{IsSound}
-use Rattle.np_tables.specs.Counts.{assigned_count}
-use Rattle.np_tables.specs.Versions.{VersionData, is_assigned}
+use Rattle.np_versions.proofs.CountLemmas.{count-le}
+use Rattle.np_versions.specs.Conditions.{IsSound}
+use Rattle.np_versions.specs.Counts.{assigned_count}
+use Rattle.np_versions.specs.Versions.{VersionData, is_assigned}
 
 -- ---- keys
 

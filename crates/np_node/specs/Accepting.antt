@@ -7,7 +7,7 @@ use Rattle.np_node.specs.declared.accepting.Accepted.{Accepted}
 use Rattle.np_node.specs.declared.accepting.Accepted.TheVariants.{Kept, Known}
 use Rattle.np_node.specs.declared.faults.NodeFault.{NodeFault}
 use Rattle.np_node.specs.declared.faults.NodeFault.TheVariants.{Malformed, OtherForm, TooLong, NotUtf8, Unassigned, KeyDiffers, Full, Memory, OlderTables}
-use Rattle.np_tables.specs.Versions.{VersionData}
+use Rattle.np_versions.specs.Versions.{VersionData}
 
 -- each answer's cause, with those of the answers before it absent: too long, not UTF-8, unassigned, known, full, kept. Want
 -- of memory stands in the place of `Kept` alone.

@@ -13,8 +13,8 @@ use Rattle.np_node.specs.declared.faults.ImageFault.{ImageFault}
 use Rattle.np_node.specs.declared.faults.NodeFault.{NodeFault}
 use Rattle.np_node.specs.declared.faults.NodeFault.TheVariants.{Malformed, OtherForm, TooLong, NotUtf8, Unassigned, KeyDiffers, Full, Memory, OlderTables}
 use Rattle.np_node.specs.declared.taking.Taken.{Taken}
-use Rattle.np_tables.specs.Counts.{assigned_count}
-use Rattle.np_tables.specs.Versions.{VersionData}
+use Rattle.np_versions.specs.Counts.{assigned_count}
+use Rattle.np_versions.specs.Versions.{VersionData}
 
 -- bytes spell at most one value, and with bytes behind them none at all: no spelling is a proper prefix of another
 abbrev pub SpellsOne : {A : Type 0} → (List ℕ → A → Type 0) → Type 0

@@ -7,8 +7,8 @@ use Rattle.np_node.specs.Strings.{Entry, IsEntry, IsKeepable, IsKey, IsStringFau
 use Rattle.np_node.specs.declared.faults.ImageFault.{ImageFault}
 use Rattle.np_node.specs.declared.faults.NodeFault.{NodeFault}
 use Rattle.np_node.specs.declared.faults.NodeFault.TheVariants.{Malformed, OtherForm, TooLong, NotUtf8, Unassigned, KeyDiffers, Full, Memory, OlderTables}
-use Rattle.np_tables.specs.Counts.{assigned_count}
-use Rattle.np_tables.specs.Versions.{VersionData}
+use Rattle.np_versions.specs.Counts.{assigned_count}
+use Rattle.np_versions.specs.Versions.{VersionData}
 
 -- the bytes are an image of another form
 pub record IsImageOfOtherForm (form : Form) (bytes : List ℕ) : Type 0 where

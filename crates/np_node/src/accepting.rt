@@ -5,7 +5,7 @@ use crate::messages::message_of;
 use crate::nodes::Node;
 use crate::strings::{check_assigned, key_for, short_text};
 use np_code_points::Memory;
-use np_tables::NormTable;
+use np_versions::NormTable;
 use std::fmt;
 
 /// What `Node::accept` answers.

@@ -5,13 +5,13 @@ ghost use Rattle.np_node.specs.Images.{head_bytes, image_bytes, image_name, need
 ghost use Rattle.np_node.specs.inside.Reading.{left_of, Passes};
 ghost use Rattle.np_node.specs.inside.Shapes.{layout_name, HasShape};
 ghost use Rattle.np_node.specs.declared.images.Layout.TheVariants.{Second};
-ghost use Rattle.np_tables.specs.Counts.{assigned_count};
+ghost use Rattle.np_versions.specs.Counts.{assigned_count};
 
 use crate::entries::Entries;
 use crate::fields::{Fields, push_marked, push_number, same_bytes};
 use crate::nodes::Node;
 use np_code_points::{Form, Memory};
-use np_tables::NormTable;
+use np_versions::NormTable;
 
 /// What an image of the first layout begins with.
 const FIRST_NAME: [u8; 4] = *b"NPS1";

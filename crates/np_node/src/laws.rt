@@ -3,7 +3,7 @@ ghost use Rattle.np_node.specs.Images.{IsImage, IsImageFault};
 ghost use Rattle.np_node.specs.Laws.{Exchange, FairExchange, HasOneFault, NeverFewer, Restored, Saved, SpellsOne, SpellsOrHasFault};
 ghost use Rattle.np_node.specs.Messages.{IsMessage, IsMessageFault};
 
-use np_tables::NormTable;
+use np_versions::NormTable;
 
 /// Bytes spell one message and have no fault place, or they spell none and have one. No spelling
 /// is a proper prefix of another.

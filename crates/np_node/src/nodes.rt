@@ -13,7 +13,7 @@ use crate::entries::Entries;
 use crate::fields::same_bytes;
 use np_chain::Break;
 use np_code_points::{Form, Memory};
-use np_tables::NormTable;
+use np_versions::NormTable;
 use std::alloc::Global;
 use std::fmt;
 use std::marker::Model;

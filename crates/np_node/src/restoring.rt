@@ -9,7 +9,7 @@ use crate::images::{Head, read_head, shape_of};
 use crate::nodes::{MOST_ROOM, Node};
 use crate::taking::Taken;
 use np_code_points::Form;
-use np_tables::NormTable;
+use np_versions::NormTable;
 use std::alloc::Global;
 
 /// The refusal of a whole image.

@@ -1,13 +1,13 @@
 //! Strings that may be kept, and their keys.
 ghost use Rattle.std.specs.Prelude.{◌≡◌, ◌≤◌, ◌<◌, ◌^◌, length, string_bytes, IfOk, IfErr, OnOk};
 ghost use Rattle.np_node.specs.Strings.{most_bytes, IsKeepable, IsKey, IsStringFault};
-ghost use Rattle.np_tables.specs.Versions.{VersionData};
+ghost use Rattle.np_versions.specs.Versions.{VersionData};
 
 use crate::faults::NodeFault;
 use np_code_points::text::text_of;
 use np_code_points::{Form, Memory};
 use np_forms::{first_unassigned_char, form as form_of};
-use np_tables::NormTable;
+use np_versions::NormTable;
 use std::alloc::Global;
 
 /// The most bytes of a string.

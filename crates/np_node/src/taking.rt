@@ -5,7 +5,7 @@ use crate::fields::{Told, same_bytes};
 use crate::messages::read_message;
 use crate::nodes::Node;
 use crate::strings::{check_assigned, key_for, short_text};
-use np_tables::NormTable;
+use np_versions::NormTable;
 
 /// What `Node::take` answers.
 #[derive(Clone, Copy, Debug, PartialEq, Eq)]

@@ -4,7 +4,7 @@ use Rattle.std.specs.List.{AllZip}
 use Rattle.np_chain.specs.Chain.{IsChain, IsFirstBroken}
 use Rattle.np_chain.specs.declared.breaks.Break.{Break}
 use Rattle.np_code_points.specs.declared.forms.Form.{Form}
-use Rattle.np_tables.specs.Versions.{VersionData}
+use Rattle.np_versions.specs.Versions.{VersionData}
 use Rattle.np_schedules.specs.Events.{ScheduleData}
 use Rattle.np_world.specs.ReportTexts.{report_lines}
 use Rattle.np_world.specs.Reports.{NodeReport}

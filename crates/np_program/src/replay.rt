@@ -14,7 +14,7 @@ use np_code_points::input::read_whole;
 use np_code_points::watched::Watched;
 use np_code_points::{Form, Memory};
 use np_jobs::{JobFault, JobTable, Made, MadeTable, ReplayFault, finish, read_tables};
-use np_tables::NormTable;
+use np_versions::NormTable;
 use np_world::{Schedule, ScheduleFault, read_schedule, replay, report_text};
 use std::alloc::Global;
 use std::io::{Read, Write};

@@ -5,9 +5,9 @@ use Rattle.np_tables.proofs.Words.{length-map, length-chunk, mask_l-mod, none_fr
 use Rattle.np_tables.proofs.Words.{tops_compared, trailing_mask_l, count_trailing_zeros, chunk, mask_l, top, zip2, BeginsWithChar, is_lead_byte}
 use Rattle.std.proofs.lemmas.List.Sums.{prefix_len-le-length}
 use mir.Syntax.{w8}
-use Rattle.np_tables.proofs.AsciiLemmas.{positive}
+use Rattle.np_versions.proofs.AsciiLemmas.{positive}
 use Rattle.std.proofs.lemmas.Simd.{zip2_splat_left}
-use Rattle.np_tables.proofs.Utf8Lemmas.{begins_with_three, begins_with_two}
+use Rattle.np_versions.proofs.Utf8Lemmas.{begins_with_three, begins_with_two}
 
 -- the mask of 64 bytes
 pub lead_bytes_mask : (xs : List ℕ) → length xs ≡ 64 → mask_l (map (top 7) (zip2 (λ a b. cond (leb a b) 255 0) (replicate 64 192) xs)) % 2 ^ 64 ≡ mask_l (map (λ x. leb 192 x) xs)

@@ -3,9 +3,10 @@ use Rattle.std.proofs.Common.{◌≡◌, zero, suc, true, ℕ, ◌+◌, ◌-◌,
 use Rattle.np_tables.proofs.Words.{cases_lt, drop-drop, get_or-drop, length-drop, IsCharBoundary-from_rest, chars_past_char, VersionData, Follows}
 use Rattle.np_tables.proofs.Words.{FollowsByQuickCheck, IsPast, IsWalkedTo, ScansOn, IsAscii, IsCharBoundary, BeginsWithChar}
 use Rattle.np_tables.specs.declared.scans.Scan.{Scan}
-use Rattle.np_tables.proofs.QuickSpanLemmas.{IsPast-ascii, past_boundary, IsWalkedTo-next, IsWalkedTo-past, ascii_follows}
-use Rattle.np_tables.proofs.AsciiLemmas.{low_take}
-use Rattle.np_tables.proofs.Utf8Lemmas.{encode_four, encode_one, encode_three, encode_two}
+use Rattle.np_versions.proofs.WalkLemmas.{IsPast-ascii, past_boundary}
+use Rattle.np_tables.proofs.QuickSpanLemmas.{IsWalkedTo-next, IsWalkedTo-past, ascii_follows}
+use Rattle.np_versions.proofs.AsciiLemmas.{low_take}
+use Rattle.np_versions.proofs.Utf8Lemmas.{encode_four, encode_one, encode_three, encode_two}
 
 -- the bytes of a character of several, as by its size
 by_bytes : (c : ℕ) → (P : Type 0)

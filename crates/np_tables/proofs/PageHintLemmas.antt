@@ -1,20 +1,20 @@
 -- What a table of pages keeps of each form is so.
-use Rattle.std.proofs.Common.{◌≡◌, ℕ, ◌+◌, ◌-◌, ◌≤◌, ◌==◌, ◌≢◌, Bool, true, false, not, ◌&&◌, Some, None, List, [], ◌∷◌, ◌++◌, flat_map, MatchBool, refl, sym, ap, subst, ◌∙◌, arith, inl, inr, eqb-true}
+use Rattle.std.proofs.Common.{◌≡◌, ℕ, ◌+◌, ◌-◌, ◌≤◌, ◌==◌, ◌≢◌, Bool, true, false, not, ◌&&◌, Some, None, List, ◌∷◌, MatchBool, refl, sym, ap, subst, ◌∙◌, arith, eqb-true, []}
 use Rattle.std.proofs.lemmas.Bool.Decides.{nat_tests}
-use Rattle.np_tables.proofs.Words.{and_from, and_parts, and_right, cond-true, both_ways, is_among, is_syllable, syllable_pair, Form, is_compat, composes, Nfd}
-use Rattle.np_tables.proofs.Words.{Nfc, Nfkd, Nfkc, IsBoundary, IsYesStarter, NeverFalls, ComposesTo, IsCompositeOf, IsSound, counts, is_final, parts}
+use Rattle.np_tables.proofs.Words.{and_from, and_parts, and_right, both_ways, is_syllable, Form, is_compat, composes, Nfd}
+use Rattle.np_tables.proofs.Words.{Nfc, Nfkd, Nfkc, IsBoundary, IsYesStarter, NeverFalls, ComposesTo, IsSound, counts, is_final}
 use Rattle.np_tables.proofs.Words.{IsFullDecomposition, Entry, IsRow, VersionData, class_of, entry_at, has_hangul, is_empty, Composite, full_of, table_full}
 use Rattle.np_tables.proofs.Words.{AreBits, AreHints, AreLeadingNeverSecond, ComposesByPairs, IsNeverSecond, bit, eight_bits, has_bit, own_hints}
 use Rattle.np_tables.proofs.Words.{boundary_place, boundary_under, syllable_hints, yes_place, yes_under, AreRowBits, touches, AreOfFile}
-use Rattle.np_code_points.proofs.HangulLemmas.{among_bounds, among_from_bounds, pair_exists, pair_kinds}
+use Rattle.np_code_points.proofs.HangulLemmas.{among_bounds, among_from_bounds}
 use Rattle.np_tables.specs.declared.page_hints.Hints.{Hints}
-use Rattle.np_tables.proofs.FileRowLemmas.{file_kind-found, file_mapping-found, mapped-off}
-use Rattle.np_tables.proofs.FullListLemmas.{empty_parts, row-lent, parts-passed}
-use Rattle.np_tables.proofs.HangulLemmas.{IsJamo, IsLv, by_arithmetic, decomposition_kind-on, decomposition_mapping-on, jamo_bare, leading_jamo, lv_shape}
-use Rattle.np_tables.proofs.HangulLemmas.{trailing_jamo, vowel_jamo}
-use Rattle.np_tables.proofs.MappingLemmas.{IsFullDecomposition-full_of, full_of-final, full_of-mapped, is_empty_from, parts-cases}
-use Rattle.np_tables.proofs.PrimaryLemmas.{primary-syllable, never_second-unlisted, no_syllable}
-use Rattle.np_tables.proofs.RowLemmas.{entry_at-within}
+use Rattle.np_versions.proofs.FileRowLemmas.{file_kind-found, file_mapping-found, mapped-off}
+use Rattle.np_versions.proofs.FullLemmas.{empty_parts, row-lent, parts-passed}
+use Rattle.np_versions.proofs.HangulLemmas.{leading_jamo}
+use Rattle.np_versions.proofs.MappingLemmas.{IsFullDecomposition-full_of, is_empty_from}
+use Rattle.np_tables.proofs.SecondPartLemmas.{never_second-unlisted, no_syllable}
+use Rattle.np_versions.proofs.RowLemmas.{entry_at-within}
+use Rattle.np_versions.proofs.UnfoldLemmas.{jamo_class, unfolds}
 
 -- ---- composites of a list are composites
 
@@ -84,81 +84,14 @@ hints-less v compat c h less_is only are =
 
 -- ---- syllables
 
--- a syllable decomposes to a leading consonant and what composes with it
-pub record Unfolds (v : VersionData) (compat : Bool) (c : ℕ) : Type 0 where
-  pub first : ℕ
-  pub rest : List ℕ
-  pub full : full_of v compat c ≡ first ∷ rest
-  pub is_leading : is_among 0x1100 19 first ≡ true
-  pub rises : NeverFalls (class_of v) rest
-  pub folds : ComposesTo v first rest c
-
 module _ (v : VersionData) (sound : IsSound v) (on : has_hangul v ≡ true) (compat : Bool) where
-  counted : (c : ℕ) → is_syllable c ≡ true → parts v compat c ≡ syllable_pair c
-  unfolding parts
-  counted c h =
-      let both = and_from _ _ on h in
-      cond-true _ _ _ (ap (counts compat) (decomposition_kind-on v c both)) ∙ decomposition_mapping-on v c both
-
-  jamo_full : (c : ℕ) → IsJamo c → full_of v compat c ≡ c ∷ []
-  jamo_full c jamo = full_of-final v compat sound.shallow c (parts-cases v compat (λ l. is_empty l ≡ true) refl c (ap is_empty (jamo_bare v c on jamo)))
-
-  pair_full : (c a b : ℕ) → is_syllable c ≡ true → syllable_pair c ≡ a ∷ b ∷ [] → full_of v compat c ≡ full_of v compat a ++ (full_of v compat b ++ [])
-  pair_full c a b h pair =
-      let its = counted c h ∙ pair in
-      full_of-mapped v compat sound.shallow c (ap is_empty its) ∙ ap (flat_map (full_of v compat)) its
-
-  pair_composite : (c a b : ℕ) → is_syllable c ≡ true → syllable_pair c ≡ a ∷ b ∷ [] → IsCompositeOf v a b c
-  pair_composite c a b h pair =
-      let both = and_from _ _ on h in
-      record { primary = primary-syllable v c sound.rows both; mapping = decomposition_mapping-on v c both ∙ pair }
-
-  -- the first part of a syllable of two jamo is a leading consonant
-  leading : (c : ℕ) (is : IsLv c) → is_among 0x1100 19 is.leading ≡ true
-  leading c is =
-      elim (pair_kinds c is.leading is.vowel is.syllable is.pair) [
-        | inl lv ↦ lv.0
-        | inr lvt ↦ absurd (both_ways _ is.first.single (and_parts (is_syllable is.leading) _ lvt.0).0)
-      ]
-
-  lv_full : (c : ℕ) (is : IsLv c) → full_of v compat c ≡ is.leading ∷ is.vowel ∷ []
-  lv_full c is =
-      pair_full c is.leading is.vowel is.syllable is.pair
-      ∙ ap (λ l. l ++ (full_of v compat is.vowel ++ [])) (jamo_full is.leading is.first)
-      ∙ ap (λ l. is.leading ∷ (l ++ [])) (jamo_full is.vowel is.second)
-
-  jamo_class : (c : ℕ) → IsJamo c → class_of v c ≡ 0
-  jamo_class c jamo = (by_arithmetic v on c jamo.hangul).class
-
-  pub unfolds : (c : ℕ) → is_syllable c ≡ true → Unfolds v compat c
-  unfolds c h =
-      let pair = pair_exists c in
-      elim (pair_kinds c pair.0 pair.1 h pair.2) [
-        | inl lv ↦
-            let is : IsLv c = record { syllable = h; leading = pair.0; vowel = pair.1; pair = pair.2; first = leading_jamo pair.0 lv.0; second = vowel_jamo pair.1 lv.1 } in
-            record { first = is.leading; rest = is.vowel ∷ []; full = lv_full c is; is_leading = lv.0; rises = tt; folds = (c, pair_composite c is.leading is.vowel h is.pair, refl) }
-        | inr lvt ↦
-            let front = and_parts (is_syllable pair.0) _ lvt.0 in
-            let is = lv_shape pair.0 front.0 (eqb-true _ 0 front.1) in
-            let jamo = trailing_jamo pair.1 lvt.1 in
-            let vowel = jamo_class is.vowel is.second in
-            record {
-              first = is.leading;
-              rest = is.vowel ∷ pair.1 ∷ [];
-              full = pair_full c pair.0 pair.1 h pair.2 ∙ ap (λ l. l ++ (full_of v compat pair.1 ++ [])) (lv_full pair.0 is) ∙ ap (λ l. (is.leading ∷ is.vowel ∷ []) ++ (l ++ [])) (jamo_full pair.1 jamo);
-              is_leading = leading pair.0 is;
-              rises = (omega arith, tt);
-              folds = (pair.0, pair_composite pair.0 is.leading is.vowel is.syllable is.pair, (c, pair_composite c pair.0 pair.1 h pair.2, refl));
-            }
-      ]
-
   pub hints-syllable : (c : ℕ) → is_syllable c ≡ true → AreLeadingNeverSecond v → AreHints v compat c syllable_hints
   hints-syllable c h leading_consonants =
-      let is = unfolds c h in
+      let is = unfolds v sound on compat c h in
       let range = among_bounds 0x1100 19 is.first is.is_leading in
       let back : 0x1100 + (is.first - 0x1100) ≡ is.first = omega arith in
       hints-listed v compat c is.first is.rest (subst (IsFullDecomposition v compat (c ∷ [])) is.full (IsFullDecomposition-full_of v compat sound.shallow c)) syllable_hints
-      (λ _. jamo_class is.first (leading_jamo is.first is.is_leading)) (λ _. refl) (λ _. subst (IsNeverSecond v) back (leading_consonants (is.first - 0x1100) (omega arith))) (λ on. absurd (both_ways _ refl on))
+      (λ _. jamo_class v sound on compat is.first (leading_jamo is.first is.is_leading)) (λ _. refl) (λ _. subst (IsNeverSecond v) back (leading_consonants (is.first - 0x1100) (omega arith))) (λ on. absurd (both_ways _ refl on))
       (λ _. refl) (λ _. is.rises) (λ _. is.folds)
 
 -- ---- both kinds in one number

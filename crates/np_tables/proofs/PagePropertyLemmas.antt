@@ -6,13 +6,14 @@ use Rattle.np_tables.proofs.Words.{get_or-set_other, length-append, length-map, 
 use Rattle.np_tables.proofs.Words.{VersionData, class_of, class_in, entry_at, has_hangul, is_assigned, IsSound, is_final, Properties, Composite, FullLists}
 use Rattle.np_tables.proofs.Words.{property_place, AreRowPages, IsRowNumber, AreAllRowProperties, AreSecondRows, AreSeconds, AreSlots, AreRowProperties}
 use Rattle.np_tables.proofs.Words.{ArePropertiesOf, ArePages, no_properties, row_properties, paged_properties}
-use Rattle.np_tables.proofs.FullListLemmas.{empty_parts}
-use Rattle.np_tables.proofs.HangulLemmas.{by_arithmetic, syllable_hangul}
-use Rattle.np_tables.proofs.PrimaryLemmas.{never_second-unlisted, row-never_second}
+use Rattle.np_versions.proofs.FullLemmas.{empty_parts}
+use Rattle.np_versions.proofs.HangulLemmas.{by_arithmetic, syllable_hangul}
+use Rattle.np_tables.proofs.SecondPartLemmas.{never_second-unlisted, row-never_second}
 use Rattle.np_tables.proofs.PageHintLemmas.{bits-unlisted}
-use Rattle.np_tables.proofs.RowLemmas.{at-found, at-row, ends-before}
-use Rattle.np_tables.proofs.RowPageLemmas.{some_at}
-use Rattle.np_tables.proofs.TableLemmas.{row-shares, full-none, unlisted-bare}
+use Rattle.np_versions.proofs.RowLemmas.{at-found, at-row, ends-before}
+use Rattle.np_versions.proofs.RowPageLemmas.{some_at}
+use Rattle.np_tables.proofs.TableLemmas.{row-shares}
+use Rattle.np_versions.proofs.AnswerLemmas.{full-none, unlisted-bare}
 
 -- ---- rows that have second parts
 

@@ -3,8 +3,9 @@ use Rattle.std.proofs.Common.{◌≡◌, ℕ, ◌+◌, ◌<◌, ◌≤◌, Bool,
 use Rattle.np_tables.proofs.Words.{slice_get, get_or_append_left, length-append, length-map, map_push, All-push, get_or-append_seam, take-append_seam, Entry}
 use Rattle.np_tables.proofs.Words.{VersionData, entry_at, is_empty, CodeRange, table_full, FullLists, of_kind, code_range_of, IsCodeRange, AreCodeRanges}
 use Rattle.np_tables.proofs.Words.{lists_of, IsSlotPushed, IsSlot, AreSlots, AreSlotsSoFar}
-use Rattle.np_tables.proofs.FileRowLemmas.{file_mapping-found}
-use Rattle.np_tables.proofs.FullListLemmas.{code_range_of-grown, parts-grown, AreCodeRanges-grown, code_range_of-new, lent-outside}
+use Rattle.np_versions.proofs.FileRowLemmas.{file_mapping-found}
+use Rattle.np_tables.proofs.FullListLemmas.{code_range_of-grown, parts-grown, AreCodeRanges-grown, code_range_of-new}
+use Rattle.np_versions.proofs.FullLemmas.{lent-outside}
 
 -- ---- one slot more
 

@@ -1,18 +1,19 @@
 -- Runs of code points that may follow one another as they are.
-use Rattle.std.proofs.Common.{◌≡◌, ℕ, ◌-◌, ◌<◌, ◌≤◌, Bool, true, false, ◌&&◌, suc, List, [], ◌∷◌, ◌++◌, Option, Some, None, length, get_or, take, drop, drop_at, take_at, slice_range, chars, IsUtf8, encode_utf8, encode_utf8_all, All, sym, ap, subst, ◌∙◌, arith, append_assoc, append-nil, length-append, refl, inl, inr, ◌⊎◌, not}
+use Rattle.std.proofs.Common.{◌≡◌, ℕ, ◌-◌, ◌<◌, ◌≤◌, Bool, true, false, ◌&&◌, suc, List, ◌∷◌, ◌++◌, Option, Some, None, length, get_or, take, drop, drop_at, take_at, slice_range, chars, IsUtf8, encode_utf8, encode_utf8_all, All, sym, ap, subst, ◌∙◌, arith, append_assoc, append-nil, length-append, refl, inl, inr, ◌⊎◌, not, []}
 use Rattle.std.proofs.lemmas.Bool.Decides.{nat_tests}
-use Rattle.np_tables.proofs.Words.{list_all, IsAscii, IsCharBoundary, and_from, and_right, not-false, get_or_default, get_or-map, take-append-drop}
-use Rattle.np_tables.proofs.Words.{chars-append, chars_from_encodes, chars-IsAscii, chars_past_char, encodes-append, encodes-IsAscii, IsCharBoundary-at_seam}
-use Rattle.np_tables.proofs.Words.{IsCharBoundary-from_take, IsUtf8-drop, IsUtf8-take, IsUtf8-from_ascii, IsUtf8-past_char, chars-nil, is_syllable, Form}
+use Rattle.np_tables.proofs.Words.{list_all, IsCharBoundary, and_from, and_right, not-false, get_or-map}
+use Rattle.np_tables.proofs.Words.{chars-append, chars_from_encodes, chars_past_char, encodes-append, IsCharBoundary-at_seam}
+use Rattle.np_tables.proofs.Words.{IsCharBoundary-from_take, IsUtf8-drop, IsUtf8-take, IsUtf8-past_char, chars-nil, is_syllable, Form}
 use Rattle.np_tables.proofs.Words.{is_compat, BeginsAtBoundary, IsBoundary, IsYesStarter, is_final, VersionData, class_of, has_hangul, is_assigned}
 use Rattle.np_tables.proofs.Words.{Properties, table_full, FullLists, of_kind, property_place, AreFollowing, ArePages, Follows, FollowsByQuickCheck}
 use Rattle.np_tables.proofs.Words.{FollowsUncomposed, IsAsciiYes, IsPast, IsWalkedTo, PassesUncomposed, last_behind, no_properties, CannotComposeByProperties}
 use Rattle.np_tables.proofs.Words.{ArePropertiesOf, all_quick_checks, quick_check_in, quick_check_of, quick_checks_of}
-use Rattle.np_tables.specs.QuickSpans.{IsQuickSpan, MayFollow, Walks, CannotComposeAfter}
-use Rattle.np_tables.proofs.HangulLemmas.{by_arithmetic, syllable_hangul}
-use Rattle.np_tables.proofs.MappingLemmas.{full_of-some}
+use Rattle.np_versions.specs.QuickSpans.{IsQuickSpan, MayFollow, Walks, CannotComposeAfter}
+use Rattle.np_versions.proofs.HangulLemmas.{by_arithmetic, syllable_hangul}
+use Rattle.np_versions.proofs.MappingLemmas.{full_of-some}
 use Rattle.np_tables.proofs.PagePropertyLemmas.{properties-read}
 use Rattle.np_tables.proofs.QuickCheckLemmas.{place-within, quick_check_assigned, quick_check_at, quick_check_low, quick_check_yes, yes_quick_check}
+use Rattle.np_versions.proofs.WalkLemmas.{IsPast-ascii}
 
 -- ---- walks over lists
 
@@ -22,33 +23,10 @@ module _ (Step : Option ℕ → ℕ → ℕ → ℕ → Type 0) where
   Walks-append before first middle last [] ys w more = subst (λ n. Walks Step before n ys last) (sym w) more
   Walks-append before first middle last (x ∷ xs) ys w more = (w.0, w.1, Walks-append (Some x) w.0 middle last xs ys w.2 more)
 
-  -- a first part is a walk
-  pub Walks-front : (before : Option ℕ) (first last : ℕ) (xs ys : List ℕ) → Walks Step before first (xs ++ ys) last → (middle : ℕ) × Walks Step before first xs middle
-  Walks-front before first last [] ys w = (first, refl)
-  Walks-front before first last (x ∷ xs) ys w = let rest = Walks-front (Some x) w.0 last xs ys w.2 in (rest.0, (w.0, w.1, rest.1))
-
 -- a walk by steps that are other steps too
 pub Walks-weaker : (Step Other : Option ℕ → ℕ → ℕ → ℕ → Type 0) → ((before : Option ℕ) (a c b : ℕ) → Step before a c b → Other before a c b) → (before : Option ℕ) (first last : ℕ) (xs : List ℕ) → Walks Step before first xs last → Walks Other before first xs last
 Walks-weaker Step Other each before first last [] w = w
 Walks-weaker Step Other each before first last (x ∷ xs) w = (w.0, each before first x w.0 w.1, Walks-weaker Step Other each (Some x) w.0 last xs w.2)
-
--- ---- ASCII stands for itself
-
-module _ (text : List ℕ) (n : ℕ) (utf8 : IsUtf8 text) (le : n ≤ length text) (ascii : IsAscii (take n text)) where
-  pub past_boundary : IsCharBoundary text n
-  past_boundary = IsCharBoundary-from_take text n utf8 le (IsUtf8-from_ascii (take n text) ascii)
-
-  pub IsPast-ascii : (P : ℕ → Type 0) (rest : List ℕ) → rest ≡ drop n text → ((c : ℕ) → c < 128 → P c) → IsPast P text rest
-  IsPast-ascii P rest is each =
-      let front = take n text in
-      let whole : text ≡ front ++ rest = sym (take-append-drop n text) ∙ ap (λ l. front ++ l) (sym is) in
-      record {
-        front = front;
-        split = whole ∙ ap (λ l. l ++ rest) (sym (encodes-IsAscii front ascii));
-        text_is = ap chars whole ∙ chars-append front rest (IsUtf8-from_ascii front ascii) ∙ ap (λ l. l ++ chars rest) (chars-IsAscii front ascii);
-        utf8 = subst IsUtf8 (sym is) (IsUtf8-drop text n utf8 past_boundary);
-        passed = λ k d lt. each (get_or front k d) (omega (arith, ascii k, get_or_default front k d 0 lt));
-      }
 
 -- ---- what was read of a text is a walk, and `rest` is left
 

@@ -1,18 +1,18 @@
 //! The full decompositions of the code points of a data file.
-ghost use Rattle.std.specs.Prelude.{◌≡◌, ◌≢◌, ◌&&◌, ◌++◌, ◌<◌, [], not, length, map, slice_index_or, if◌then◌else◌, IfOk, IsTrue, Some};
+ghost use Rattle.std.specs.Prelude.{◌≡◌, ◌≢◌, ◌&&◌, ◌++◌, ◌<◌, ◌∷◌, [], not, length, map, slice_index_or, if◌then◌else◌, true, false, IfOk, IfSome, IfNone, IsTrue, Some};
+ghost use Rattle.np_code_points.specs.Hangul.{is_syllable, syllable_pair};
 ghost use Rattle.np_ucd.specs.Entries.{IsRow};
 ghost use Rattle.np_ucd.specs.RowValues.{lent_entry};
-ghost use Rattle.np_tables.specs.Mappings.{counts};
-ghost use Rattle.np_tables.specs.inside.FullDecompositions.{full, table_full};
+ghost use Rattle.np_versions.specs.Mappings.{counts};
+ghost use Rattle.np_versions.specs.inside.FullDecompositions.{full, table_full};
 ghost use Rattle.np_tables.specs.inside.FullLists.{row_full};
 ghost use Rattle.np_tables.specs.inside.FullRanges.{AreCodeRanges, IsGrown, code_range_of};
-ghost use Rattle.np_tables.specs.Versions.{entry_at, file_kind, file_mapping, is_empty};
+ghost use Rattle.np_versions.specs.Versions.{entry_at, file_kind, file_mapping, has_hangul, is_empty};
 
-use crate::characters::CharacterData;
-use crate::row_places::{mapped_code, row_in};
-use crate::syllables::arithmetic_parts;
 use np_code_points::Memory;
+use np_code_points::hangul::hangul_parts;
 use np_ucd::{MapKind, RowRef};
+use np_versions::{Version, mapped_code};
 use std::alloc::Global;
 use std::marker::Model;
 
@@ -57,12 +57,12 @@ impl Fulls {
 
     /// Those of the rows of a data file.
     #[tactic(auto, using(crate::proofs::FullListLemmas::lists_grown))]
-    pub(crate) fn new(alloc: Global, characters: &CharacterData) -> Result<Fulls, Memory>
-        ensures { IfOk result (AreFulls characters.now) }
+    pub(crate) fn new(alloc: Global, version: &Version) -> Result<Fulls, Memory>
+        ensures { IfOk result (AreFulls version.now) }
     {
         let mut codes = Vec::new(alloc);
-        let canonical = full_ranges(alloc, characters, false, &mut codes)?;
-        let compatible = full_ranges(alloc, characters, true, &mut codes)?;
+        let canonical = full_ranges(alloc, version, false, &mut codes)?;
+        let compatible = full_ranges(alloc, version, true, &mut codes)?;
         Ok(Fulls {
             codes,
             canonical,
@@ -95,6 +95,7 @@ impl Fulls {
         &self.codes[part.start..part.end]
     }
 }
+
 /// Whether mappings of a kind count in a decomposition, canonical or compatible.
 fn kind_counts(kind: MapKind, compat: bool) -> bool
     ensures { result ≡ counts compat kind }
@@ -107,42 +108,55 @@ fn kind_counts(kind: MapKind, compat: bool) -> bool
 }
 
 /// The mapping in the file, where it counts.
-fn counted_mapping<'a>(characters: &'a CharacterData, compat: bool, code: char) -> &'a [char]
-    ensures { result.now ≡ (if counts compat (file_kind characters.now code) then file_mapping characters.now code else []) }
+fn counted_mapping<'a>(version: &'a Version, compat: bool, code: char) -> &'a [char]
+    ensures { result.now ≡ (if counts compat (file_kind version.now code) then file_mapping version.now code else []) }
 {
     let number = u32::from(code);
-    if kind_counts(characters.kind(number), compat) {
-        characters.mapping(number)
+    if kind_counts(version.kind_of(number), compat) {
+        version.mapping_of(number)
     } else {
         &[]
     }
 }
 
+/// The pair of a syllable of the arithmetic.
+fn arithmetic_parts(version: &Version, code: char) -> Option<(char, char)>
+    ensures none { IfNone result ((has_hangul version.now && is_syllable code) ≡ false) }
+    ensures some { IfSome result (λ p. (has_hangul version.now && is_syllable code) ≡ true) }
+    ensures pair { IfSome result (λ p. syllable_pair code ≡ p.0 ∷ p.1 ∷ []) }
+{
+    if version.has_hangul() {
+        hangul_parts(code)
+    } else {
+        None
+    }
+}
+
 /// Appends the full decomposition of a code point whose depth is at most `depth`.
 fn expand(
-    characters: &CharacterData,
+    version: &Version,
     compat: bool,
     depth: usize,
     code: char,
     out: &mut Vec<char>,
 ) -> Result<(), Memory>
-    ensures { IfOk result (λ _. out.new.items ≡ out.old.items ++ full characters.now compat depth code) }
+    ensures { IfOk result (λ _. out.new.items ≡ out.old.items ++ full version.now compat depth code) }
 {
     if depth == 0 {
         out.push(code)?;
         return Ok(());
     }
-    if let Some((first, second)) = arithmetic_parts(characters, code) {
-        expand(characters, compat, depth - 1, first, out)?;
-        return expand(characters, compat, depth - 1, second, out);
+    if let Some((first, second)) = arithmetic_parts(version, code) {
+        expand(version, compat, depth - 1, first, out)?;
+        return expand(version, compat, depth - 1, second, out);
     }
-    let mapping = counted_mapping(characters, compat, code);
+    let mapping = counted_mapping(version, compat, code);
     if mapping.is_empty() {
         out.push(code)?;
         return Ok(());
     }
     for part in mapping {
-        expand(characters, compat, depth - 1, *part, out)?;
+        expand(version, compat, depth - 1, *part, out)?;
     }
     Ok(())
 }
@@ -157,17 +171,17 @@ pub(crate) fn is_lent(row: RowRef<'_>, compat: bool) -> bool
 
 /// Appends what a table lends for the code point of a row.
 pub(crate) fn push_full(
-    characters: &CharacterData,
+    version: &Version,
     compat: bool,
     row: RowRef<'_>,
     codes: &mut Vec<char>,
 ) -> Result<(), Memory>
     requires row { IsRow (lent_entry row) }
-    requires first { entry_at characters.now.entries row.first ≡ Some (lent_entry row) }
-    ensures { IfOk result (λ _. codes.new.items ≡ codes.old.items ++ table_full characters.now compat row.entry.first) }
+    requires first { entry_at version.now.entries row.first ≡ Some (lent_entry row) }
+    ensures { IfOk result (λ _. codes.new.items ≡ codes.old.items ++ table_full version.now compat row.entry.first) }
 {
     if is_lent(row, compat) {
-        expand(characters, compat, DEPTH, mapped_code(row), codes)?;
+        expand(version, compat, DEPTH, mapped_code(row), codes)?;
     }
     Ok(())
 }
@@ -175,18 +189,18 @@ pub(crate) fn push_full(
 /// Appends what a table lends for the code point of each row, and answers the ranges.
 fn full_ranges(
     alloc: Global,
-    characters: &CharacterData,
+    version: &Version,
     compat: bool,
     codes: &mut Vec<char>,
 ) -> Result<Vec<CodeRange>, Memory>
     ensures grown { IfOk result (λ _. IsGrown codes.old.items codes.new.items) }
     ensures parts { IfOk result (λ parts. AreCodeRanges codes.new.items parts.items) }
-    ensures lists { IfOk result (λ parts. map (code_range_of codes.new.items) parts.items ≡ map (row_full characters.now compat) characters.now.entries) }
+    ensures lists { IfOk result (λ parts. map (code_range_of codes.new.items) parts.items ≡ map (row_full version.now compat) version.now.entries) }
 {
-    let mut parts = Vec::with_capacity(alloc, characters.len())?;
-    for at in 0..characters.len() {
+    let mut parts = Vec::with_capacity(alloc, version.row_count())?;
+    for at in 0..version.row_count() {
         let start = codes.len();
-        push_full(characters, compat, row_in(characters, at), codes)?;
+        push_full(version, compat, version.row_in(at), codes)?;
         let end = codes.len();
         parts.push(CodeRange { start, end })?;
     }

@@ -5,7 +5,7 @@ ghost use Rattle.np_code_points.specs.declared.forms.Form.{Form};
 ghost use Rattle.np_tables.specs.inside.LeadingConsonants.{AreLeadingBoundaries};
 ghost use Rattle.np_tables.specs.inside.PageHints.{boundary_place as spec_boundary_place, has_bit as spec_has_bit};
 ghost use Rattle.np_tables.specs.inside.PageProperties.{no_properties};
-ghost use Rattle.np_tables.specs.inside.Pages.{AreWithin, property_place};
+ghost use Rattle.np_versions.specs.inside.Pages.{AreWithin, property_place};
 
 use crate::page_hints::boundary_place;
 use crate::page_properties::{Properties, properties_of};

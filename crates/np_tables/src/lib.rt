@@ -1,4 +1,4 @@
-//! Versions of the character tables, and tables over them.
+//! Tables over a version of the character tables.
 //!
 //! From two files to a table, where `data` and `exclusions` are readers:
 //!
@@ -10,46 +10,24 @@
 //! ```
 #![tactic(auto)]
 
-mod ambiguity;
-mod ascii_runs;
-mod characters;
-mod counts;
-mod depths;
-mod faults;
-mod first_faults;
 mod fulls;
-mod hangul_faults;
-mod hangul_rows;
-pub mod laws;
 mod lead_bytes;
 mod leading_consonants;
-mod mapped_faults;
 mod page_bits;
 mod page_hints;
 mod page_properties;
 mod page_slots;
 mod page_table;
-mod pairs;
 mod precomputed_forms;
 mod precomputed_tables;
 mod property_bits;
 mod quick_checks;
 mod quick_spans;
-mod row_index;
-mod row_pages;
-mod row_places;
 mod row_table;
 mod scans;
-mod syllables;
-mod tables;
 mod uncomposed;
 mod utf8_fronts;
-mod version;
 
-pub use ascii_runs::ascii_front;
-pub use faults::TableFault;
+pub use np_versions::{Composite, NormTable, TableFault, Version, ascii_front};
 pub use page_table::PageTable;
-pub use pairs::Composite;
 pub use row_table::RowTable;
-pub use tables::NormTable;
-pub use version::Version;

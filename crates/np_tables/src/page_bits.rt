@@ -1,7 +1,7 @@
 //! The hints of the code points of each row, in eight bits.
 ghost use Rattle.std.specs.Prelude.{◌≡◌, ◌≢◌, ◌<◌, [], ℕ, Bool, length, slice_get, true, false, IsTrue, Some};
-ghost use Rattle.np_tables.specs.Mappings.{is_final};
-ghost use Rattle.np_tables.specs.Versions.{entry_at, has_hangul};
+ghost use Rattle.np_versions.specs.Mappings.{is_final};
+ghost use Rattle.np_versions.specs.Versions.{entry_at, has_hangul};
 ghost use Rattle.np_tables.specs.inside.PageHints.{AreHints, AreLeadingNeverSecond};
 ghost use Rattle.np_tables.specs.inside.PageProperties.{AreRowBits, AreSeconds, IsSlot, is_row_never_second as spec_is_row_never_second, touches as spec_touches};
 ghost use Rattle.np_ucd.specs.Entries.{Entry, IsRow};
@@ -11,9 +11,8 @@ use crate::fulls::{Fulls, is_lent};
 use crate::page_hints::{
     Hints, NO_HINTS, SYLLABLE, eight_bits, leading_hints, list_hints, own_hints,
 };
-use crate::row_places::{mapped_code, row_in};
-use crate::version::Version;
 use np_ucd::RowRef;
+use np_versions::{Version, mapped_code};
 
 /// Whether a row has one of the code points from `first` to `last`.
 fn touches(row: RowRef<'_>, first: u32, last: u32) -> bool
@@ -104,7 +103,7 @@ pub(crate) fn row_bits(known: &Known<'_>, at: usize, slot: u32, leading_never_se
     ensures { (e : Entry) → slice_get known.now.version.now.entries at ≡ Some e → AreRowBits known.now.version.now e result }
 {
     known.version.meets_conditions();
-    let row = row_in(known.version.characters(), at);
+    let row = known.version.row_in(at);
     let own = own_hints(row.class, is_row_never_second(row, known.seconds[at]));
     if row.mapping.is_empty() {
         bare_bits(known.version, row, own, leading_never_second)

@@ -7,16 +7,15 @@
 //! | 1 says | Yes | Yes | boundary | boundary | Yes | Yes | boundary | boundary |
 ghost use Rattle.std.specs.Prelude.{◌≡◌, ◌∷◌, ◌<◌, [], ℕ, Bool, true, false, IsTrue};
 ghost use Rattle.np_code_points.specs.declared.forms.Form.{Form};
-ghost use Rattle.np_tables.specs.Boundaries.{ComposesTo, NeverFalls};
-ghost use Rattle.np_tables.specs.Mappings.{IsFullDecomposition};
-ghost use Rattle.np_tables.specs.Versions.{VersionData, class_of};
+ghost use Rattle.np_versions.specs.Boundaries.{ComposesTo, NeverFalls};
+ghost use Rattle.np_versions.specs.Mappings.{IsFullDecomposition};
+ghost use Rattle.np_versions.specs.Versions.{VersionData, class_of};
 ghost use Rattle.np_tables.specs.inside.PageHints.{AreHints, AreLeadingNeverSecond, ComposesByPairs, IsNeverSecond, bit as spec_bit, boundary_place as spec_boundary_place, eight_bits as spec_eight_bits, four_bits as spec_four_bits, is_late_jamo as spec_is_late_jamo, own_hints as spec_own_hints, yes_place as spec_yes_place};
 ghost use Rattle.np_tables.specs.inside.PageProperties.{AreSeconds};
 
-use crate::pairs::Pairs;
-use crate::version::Version;
 use np_code_points::Form;
 use np_code_points::hangul::{L_BASE, L_COUNT};
+use np_versions::{Pairs, Version};
 
 /// What is known of a code point under the two forms of one kind of decomposition.
 #[derive(Clone, Copy)]
@@ -100,7 +99,7 @@ pub(crate) fn is_never_second(version: &Version, seconds: &[bool], code: u32) ->
     if is_late_jamo(code) {
         return false;
     }
-    match version.characters().place_of(code) {
+    match version.place_of(code) {
         Some(at) => !seconds[at],
         None => true,
     }

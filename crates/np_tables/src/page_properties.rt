@@ -11,15 +11,14 @@
 //! Beside them is a quick check of 8 bits for each form, made of the properties: `quick_checks` has their values.
 ghost use Rattle.std.specs.Prelude.{◌≡◌, ℕ, ◌+◌, ◌<◌, length, slice_get, slice_index_or, false, IfOk, Some};
 ghost use Rattle.np_tables.specs.inside.PageProperties.{AreAllRowProperties, AreSeconds, AreSlots, no_properties, paged_properties, row_properties};
-ghost use Rattle.np_tables.specs.inside.Pages.{AreWithin, property_place};
+ghost use Rattle.np_versions.specs.inside.Pages.{AreWithin, property_place};
 ghost use Rattle.np_ucd.specs.Entries.{Entry};
 
 use crate::fulls::Fulls;
 use crate::page_bits::{Known, is_row_never_second, row_bits};
 use crate::page_hints::are_leading_never_second;
-use crate::row_places::row_in;
-use crate::version::Version;
 use np_code_points::Memory;
+use np_versions::Version;
 use std::alloc::Global;
 
 /// How many code points a block has.
@@ -53,11 +52,11 @@ const NO_PROPERTIES: Properties = Properties {
 pub(crate) fn second_rows(alloc: Global, version: &Version) -> Result<Vec<bool>, Memory>
     ensures { IfOk result (λ seconds. AreSeconds version.now seconds.items) }
 {
-    let characters = version.characters();
+    version.meets_conditions();
     let pairs = version.pairs();
-    let mut seconds = vec![in alloc; false; characters.len()]?;
+    let mut seconds = vec![in alloc; false; version.row_count()]?;
     for place in 0..pairs.len() {
-        if let Some(at) = characters.place_of(u32::from(pairs.at(place).second)) {
+        if let Some(at) = version.place_of(u32::from(pairs.at(place).second)) {
             seconds[at] = true;
         }
     }
@@ -70,7 +69,7 @@ fn properties_of_row(version: &Version, at: usize, slot: u32, second: bool, hint
     requires place { at < length version.now.entries }
     ensures { (e : Entry) → slice_get version.now.entries at ≡ Some e → result ≡ row_properties e slot second hints }
 {
-    let row = row_in(version.characters(), at);
+    let row = version.row_in(at);
     Properties {
         fulls: slot,
         class: row.class,
@@ -93,7 +92,7 @@ pub(crate) fn all_row_properties(
     requires seconds { AreSeconds version.now seconds.now }
     ensures { IfOk result (λ all_properties. AreAllRowProperties version.now slots.now seconds.now (length version.now.entries) all_properties.items) }
 {
-    let count = version.characters().len();
+    let count = version.row_count();
     let leading_never_second = are_leading_never_second(version, seconds);
     let known = Known {
         version,
@@ -136,7 +135,7 @@ fn properties_at(all_properties: &[Properties], number: u32) -> Properties
 
 /// Where the properties of a code point are among the blocks.
 #[inline(always)]
-#[tactic(auto, unfolding(crate::specs::inside::Pages::property_place))]
+#[tactic(auto, unfolding(np_versions::specs::inside::Pages::property_place))]
 pub(crate) fn place_in(blocks: &[u16], c: char) -> usize
     requires { length blocks.now ≡ 4352 }
     ensures place { result ≡ property_place blocks.now c }

@@ -17,9 +17,8 @@ use crate::precomputed_tables::PrecomputedTables;
 use crate::property_bits::has_bit;
 use crate::quick_checks::{all_quick_checks, is_ascii_yes, least_quick_check};
 use crate::scans::Scan;
-use crate::tables::NormTable;
-use crate::version::Version;
 use np_code_points::{Form, Memory};
+use np_versions::{NormTable, Version};
 use std::alloc::Global;
 use std::fmt;
 use std::marker::Model;
@@ -56,7 +55,7 @@ pub struct PageTable {
 
 impl Model for PageTable {
     ghost use Rattle.np_tables.specs.inside.PrecomputedTables.{ArePageTables};
-    ghost use Rattle.np_tables.specs.Versions.{VersionData};
+    ghost use Rattle.np_versions.specs.Versions.{VersionData};
 
     ghost Value = { VersionData };
 
@@ -88,8 +87,9 @@ fn pages_of(alloc: Global, version: &Version) -> Result<KeptPages, Memory>
     ensures pages { IfOk result (λ kept. ArePages version.now kept.fulls kept.index.items kept.all_properties.items) }
     ensures precomputed { IfOk result (λ kept. ArePrecomputedTables version.now kept.fulls kept.precomputed) }
 {
-    let pages = version.characters().pages();
-    let lent = slots_of(alloc, version.characters())?;
+    version.meets_conditions();
+    let pages = version.pages();
+    let lent = slots_of(alloc, version)?;
     let seconds = second_rows(alloc, version)?;
     let rows = all_row_properties(alloc, version, &lent.fulls, &lent.slots, &seconds)?;
     let all_properties = page_properties(alloc, &rows, &pages.numbers)?;

@@ -3,17 +3,17 @@
 ghost use Rattle.std.specs.Prelude.{◌≡◌, ◌<◌, ◌++◌, [], ℕ, length, string_bytes, encode_utf8_all, slice_index_or, IsTrue, IfOk, IfSome};
 ghost use Rattle.np_code_points.specs.declared.forms.Form.{Form};
 ghost use Rattle.np_code_points.specs.Forms.{is_compat};
-ghost use Rattle.np_tables.specs.Boundaries.{NeverFalls};
-ghost use Rattle.np_tables.specs.Versions.{class_of};
-ghost use Rattle.np_tables.specs.inside.CompositeSearch.{composite};
+ghost use Rattle.np_versions.specs.Boundaries.{NeverFalls};
+ghost use Rattle.np_versions.specs.Versions.{class_of};
+ghost use Rattle.np_versions.specs.inside.CompositeSearch.{composite};
 ghost use Rattle.np_tables.specs.inside.FullLists.{of_kind};
 ghost use Rattle.np_tables.specs.inside.PageProperties.{AreSeconds};
 ghost use Rattle.np_tables.specs.inside.PrecomputedForms.{ArePrecomputedForms, Composes, ComposesOn, IsByteRange, IsFront, IsPrecomputedForm, Settles, Writes, byte_range_of};
 
 use crate::fulls::Fulls;
 use crate::page_hints::{is_never_second, never_falls};
-use crate::version::Version;
 use np_code_points::{Form, Memory};
+use np_versions::Version;
 use std::alloc::Global;
 use std::marker::Model;
 

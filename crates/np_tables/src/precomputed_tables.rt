@@ -6,8 +6,8 @@ ghost use Rattle.np_tables.specs.inside.PrecomputedForms.{IsFront};
 
 use crate::fulls::Fulls;
 use crate::precomputed_forms::PrecomputedForms;
-use crate::version::Version;
 use np_code_points::{Form, Memory};
+use np_versions::Version;
 use std::alloc::Global;
 
 /// Those of each form.

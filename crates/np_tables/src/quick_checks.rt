@@ -14,7 +14,7 @@
 ghost use Rattle.std.specs.Prelude.{◌≡◌, ◌/◌, ◌%◌, ◌^◌, ◌<◌, length, slice_index_or, IfOk, IsTrue};
 ghost use Rattle.np_tables.specs.inside.PageHints.{has_bit as spec_has_bit, yes_place as spec_yes_place};
 ghost use Rattle.np_tables.specs.inside.PageProperties.{IsAsciiYes};
-ghost use Rattle.np_tables.specs.inside.Pages.{AreWithin, property_place};
+ghost use Rattle.np_versions.specs.inside.Pages.{AreWithin, property_place};
 ghost use Rattle.np_tables.specs.inside.QuickChecks.{all_quick_checks as spec_all_quick_checks, assigned_quick_check as spec_assigned_quick_check, least_quick_check as spec_least_quick_check, low_behind as spec_low_behind, quick_check_of as spec_quick_check_of, quick_check_place as spec_quick_check_place, quick_checks_of as spec_quick_checks_of};
 
 use crate::page_hints::yes_place;

@@ -7,18 +7,19 @@
 //! to follow a composite or a syllable, since it may compose with a part of that (00E0 0323). What is copied ends
 //! before a boundary or with the text; where neither follows, what begins at the last boundary is made anew.
 ghost use Rattle.std.specs.Prelude.{◌≡◌, ◌<◌, ◌≤◌, chars, drop, length, slice_index_or, false, IfSome, IsTrue};
-ghost use Rattle.np_tables.specs.Boundaries.{BeginsAtBoundary};
+ghost use Rattle.np_versions.specs.Boundaries.{BeginsAtBoundary};
 ghost use Rattle.np_tables.specs.inside.FullLists.{FullLists};
-ghost use Rattle.np_tables.specs.inside.PageProperties.{AreFollowing, ArePages, IsPast, no_properties};
-ghost use Rattle.np_tables.specs.inside.Pages.{property_place};
+ghost use Rattle.np_tables.specs.inside.PageProperties.{AreFollowing, ArePages, no_properties};
+ghost use Rattle.np_versions.specs.inside.Fronts.{IsPast};
+ghost use Rattle.np_versions.specs.inside.Pages.{property_place};
 ghost use Rattle.np_tables.specs.inside.Scans.{ScansOn, ScansPast};
 
-use crate::ascii_runs::ascii_front;
 use crate::page_hints::boundary_place;
 use crate::page_properties::{Properties, properties_of};
 use crate::property_bits::has_bit;
 use crate::scans::{Passed, Scan, Stretch};
 use crate::utf8_fronts::{First, split_any, split_three, split_two};
+use np_versions::ascii_front;
 
 /// Whether a text begins with ASCII. On this no answer depends.
 #[inline(always)]
@@ -31,7 +32,7 @@ fn begins_with_ascii(text: &str) -> bool {
 
 /// What follows the ASCII at the front of a text.
 #[inline(always)]
-#[tactic(auto, using(crate::proofs::QuickSpanLemmas::past_boundary, crate::proofs::QuickSpanLemmas::quick_span_answers))]
+#[tactic(auto, using(np_versions::proofs::WalkLemmas::past_boundary, crate::proofs::QuickSpanLemmas::quick_span_answers))]
 fn behind_ascii(text: &str) -> &str
     ensures { IsPast (λ c. c < 128) text.now result.now }
 {

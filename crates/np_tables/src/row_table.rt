@@ -2,9 +2,8 @@
 ghost use Rattle.std.specs.Prelude.{◌≡◌, IfOk};
 
 use crate::fulls::Fulls;
-use crate::tables::NormTable;
-use crate::version::Version;
 use np_code_points::Memory;
+use np_versions::{NormTable, Version};
 use std::alloc::Global;
 use std::fmt;
 use std::marker::Model;
@@ -19,7 +18,7 @@ pub struct RowTable {
 
 impl Model for RowTable {
     ghost use Rattle.np_tables.specs.inside.FullLists.{AreFulls};
-    ghost use Rattle.np_tables.specs.Versions.{VersionData};
+    ghost use Rattle.np_versions.specs.Versions.{VersionData};
 
     ghost Value = { VersionData };
 
@@ -42,7 +41,7 @@ impl RowTable {
     pub fn new(alloc: Global, version: Version) -> Result<RowTable, Memory>
         ensures { IfOk result (λ t. t ≡ version) }
     {
-        let fulls = Fulls::new(alloc, version.characters())?;
+        let fulls = Fulls::new(alloc, &version)?;
         Ok(RowTable { version, fulls })
     }
 }
@@ -73,7 +72,8 @@ impl NormTable for RowTable {
 
     #[tactic(auto, using(crate::proofs::TableLemmas::full_answers))]
     fn full(&self, c: char, compat: bool) -> &[char] {
-        match self.version.characters().place_of(u32::from(c)) {
+        self.version.meets_conditions();
+        match self.version.place_of(u32::from(c)) {
             Some(place) => self.fulls.lent(place, compat),
             None => &[],
         }

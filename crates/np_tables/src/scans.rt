@@ -1,12 +1,12 @@
 //! A scan of a text for code points that may follow one another as they are, and how far it comes.
 ghost use Rattle.std.specs.Prelude.{◌≡◌, ◌≤◌, length, true};
 ghost use Rattle.np_tables.specs.inside.PageProperties.{IsAsciiYes};
-ghost use Rattle.np_tables.specs.inside.Pages.{AreWithin};
+ghost use Rattle.np_versions.specs.inside.Pages.{AreWithin};
 
 use crate::page_properties::Properties;
 use crate::quick_checks::{low_behind, quick_check_at, quick_check_place};
-use crate::version::Version;
 use np_code_points::Form;
+use np_versions::Version;
 
 /// What a scan reads.
 #[derive(Drop)]

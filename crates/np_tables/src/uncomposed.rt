@@ -3,12 +3,12 @@
 ghost use Rattle.std.specs.Prelude.{◌≡◌, ◌<◌, ◌≤◌, ◌⊎◌, None, Some, chars, slice_index_or, IfSome, IsTrue};
 ghost use Rattle.np_tables.specs.inside.FullLists.{FullLists};
 ghost use Rattle.np_tables.specs.inside.PageProperties.{ArePages, CannotComposeByProperties, PassesUncomposed, last_behind, no_properties};
-ghost use Rattle.np_tables.specs.inside.Pages.{property_place};
+ghost use Rattle.np_versions.specs.inside.Pages.{property_place};
 
 use crate::page_properties::{Properties, properties_of};
 use crate::scans::Scan;
-use crate::version::Version;
 use np_code_points::hangul::is_syllable;
+use np_versions::Version;
 
 /// The last code point of a text, but of ASCII, with which most that compose at all have a composite.
 #[inline(always)]

@@ -11,7 +11,7 @@ use Rattle.np_node.specs.Strings.{Entry, IsEntry, IsKeepable}
 use Rattle.np_node.specs.declared.accepting.Accepted.{Accepted}
 use Rattle.np_node.specs.declared.faults.NodeFault.{NodeFault}
 use Rattle.np_node.specs.declared.faults.NodeFault.TheVariants as fault
-use Rattle.np_tables.specs.Versions.{VersionData}
+use Rattle.np_versions.specs.Versions.{VersionData}
 use Rattle.np_world.specs.World.{Scene, sending, Finds, Accepts}
 use Rattle.np_world.specs.declared.members.Member.{Member}
 use Rattle.np_world.specs.declared.replies.Reply.{Reply}

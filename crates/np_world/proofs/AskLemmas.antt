@@ -14,8 +14,8 @@ use Rattle.np_forms.specs.Forms.{IsEquivalent}
 use Rattle.np_forms.specs.Laws.{SameForms}
 use Rattle.np_node.specs.Nodes.{IsKept}
 use Rattle.np_node.specs.Strings.{Entry, IsEntry}
-use Rattle.np_tables.specs.Conditions.{IsSound}
-use Rattle.np_tables.specs.Versions.{VersionData}
+use Rattle.np_versions.specs.Conditions.{IsSound}
+use Rattle.np_versions.specs.Versions.{VersionData}
 use Rattle.np_world.specs.World.{MachineNode, Scene, Asks, If, OnlyReplies}
 use Rattle.np_world.specs.declared.members.Member.{Member}
 use Rattle.np_world.specs.declared.replies.Reply.{Reply}

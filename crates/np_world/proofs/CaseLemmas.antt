@@ -4,7 +4,7 @@ use Rattle.std.proofs.lemmas.Bool.{both_ways, and_parts}
 use Rattle.std.specs.List.{Contains, list_all}
 use Rattle.std.specs.Prelude.{MatchOption, encode_utf8_all}
 use Rattle.np_forms.specs.Assigned.{IsAssigned}
-use Rattle.np_tables.specs.Versions.{VersionData, is_assigned}
+use Rattle.np_versions.specs.Versions.{VersionData, is_assigned}
 use Rattle.np_world.specs.World.{Setting, Scene, If, NamesUnassigned, Finds, Comes}
 use Rattle.np_world.specs.declared.replies.Reply.{Reply}
 use Rattle.np_world.specs.declared.replies.Reply.TheVariants.{Unassigned}

@@ -9,7 +9,7 @@ use Rattle.np_forms.specs.Assigned.{IsAssigned}
 use Rattle.np_node.specs.Laws.{Exchange, HasOneFault, SpellsOne}
 use Rattle.np_node.specs.Messages.{Message, IsMessage, IsMessageFault}
 use Rattle.np_node.specs.Strings.{Entry, IsEntry, IsKey}
-use Rattle.np_tables.specs.Versions.{VersionData}
+use Rattle.np_versions.specs.Versions.{VersionData}
 use Rattle.np_world.specs.World.{Setting, Scene, If, NamesUnassigned, Comes, keeping, Finds, Receives, Delivers, Forges}
 use Rattle.np_world.specs.declared.members.Member.{Member}
 use Rattle.np_world.specs.declared.replies.Reply.{Reply}

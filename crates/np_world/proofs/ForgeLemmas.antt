@@ -14,7 +14,7 @@ use Rattle.np_node.specs.declared.faults.NodeFault.{NodeFault}
 use Rattle.np_node.specs.declared.faults.NodeFault.TheVariants as fault
 use Rattle.np_node.specs.declared.taking.Taken.{Taken}
 use Rattle.np_node.specs.declared.taking.Taken.TheVariants as taken
-use Rattle.np_tables.specs.Versions.{VersionData}
+use Rattle.np_versions.specs.Versions.{VersionData}
 use Rattle.np_world.specs.World.{Setting, MachineNode, Scene, If, NamesNotUtf8, keeping, Finds, Receives, Forges}
 use Rattle.np_world.specs.declared.members.Member.{Member}
 use Rattle.np_world.specs.declared.replies.Reply.{Reply}

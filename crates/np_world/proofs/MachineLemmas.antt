@@ -4,7 +4,7 @@ use Rattle.np_code_points.specs.Forms.{is_compat}
 use Rattle.np_forms.specs.Forms.{IsEquivalent}
 use Rattle.np_node.specs.Laws.{HasOneFault, SpellsOne}
 use Rattle.np_node.specs.Messages.{IsMessage, IsMessageFault}
-use Rattle.np_tables.specs.Versions.{VersionData}
+use Rattle.np_versions.specs.Versions.{VersionData}
 use Rattle.np_schedules.specs.Events.{Event, Accept, Deliver, Upgrade, Save, Restart, Ask, Forge, Forget, RestartUnder, node_of}
 use Rattle.np_world.specs.Laws.{OneRun}
 use Rattle.np_world.specs.World.{Setting, MachineNode, World, Scene, Accepts, Delivers, Upgrades, Asks, Does, IsStep, IsRun}

@@ -17,7 +17,7 @@ use Rattle.np_node.proofs.KeyLemmas.{later_entry}
 use Rattle.np_node.specs.Comparing.{AnswersSame}
 use Rattle.np_node.specs.Nodes.{NodeState, state_of, IsKept}
 use Rattle.np_node.specs.Strings.{Entry, IsEntry}
-use Rattle.np_tables.specs.Versions.{VersionData}
+use Rattle.np_versions.specs.Versions.{VersionData}
 use Rattle.np_schedules.specs.Events.{ScheduleData, Save}
 use Rattle.np_world.specs.Laws.{OneRun}
 use Rattle.np_world.specs.Reports.{NodeAtEnd, ReportData, image_at, index_at, node_at, replies_of}

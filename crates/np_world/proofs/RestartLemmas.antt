@@ -15,8 +15,8 @@ use Rattle.np_node.specs.Restoring.{IsOlder, IsRestored, IsRestoreFault}
 use Rattle.np_node.specs.Strings.{Entry}
 use Rattle.np_node.specs.declared.faults.NodeFault.{NodeFault}
 use Rattle.np_node.specs.declared.faults.NodeFault.TheVariants as fault
-use Rattle.np_tables.specs.Counts.{assigned_count}
-use Rattle.np_tables.specs.Versions.{VersionData}
+use Rattle.np_versions.specs.Counts.{assigned_count}
+use Rattle.np_versions.specs.Versions.{VersionData}
 use Rattle.np_world.specs.World.{Setting, MachineNode, Scene, HasOlderTables, Restarts, RestartsUnder}
 use Rattle.np_world.specs.declared.members.Member.{Member}
 use Rattle.np_world.specs.declared.replies.Reply.{Reply}

@@ -6,7 +6,7 @@ use Rattle.std.specs.declared.vec.Vec.{Vec}
 use Rattle.std.specs.declared.alloc.Global.{Global}
 use Rattle.np_chain.specs.Chain.{StandsAt}
 use Rattle.np_node.specs.Nodes.{NodeState}
-use Rattle.np_tables.specs.Versions.{VersionData}
+use Rattle.np_versions.specs.Versions.{VersionData}
 use Rattle.np_code_points.specs.declared.forms.Form.{Form}
 use Rattle.np_schedules.specs.Events.{Event, ScheduleData, node_of}
 use Rattle.np_world.specs.Reports.{ReportData}

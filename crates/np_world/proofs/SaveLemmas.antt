@@ -11,8 +11,8 @@ use Rattle.np_node.specs.Images.{image_bytes}
 use Rattle.np_node.specs.Laws.{IsIn, NeverFewer, Saved}
 use Rattle.np_node.specs.Nodes.{State, state_of, IsNode}
 use Rattle.np_node.specs.Strings.{Entry}
-use Rattle.np_tables.specs.Counts.{assigned_count}
-use Rattle.np_tables.specs.Versions.{VersionData}
+use Rattle.np_versions.specs.Counts.{assigned_count}
+use Rattle.np_versions.specs.Versions.{VersionData}
 use Rattle.np_world.specs.World.{MachineNode, Saves, Upgrades}
 use Rattle.np_world.specs.declared.members.Member.{Member}
 use Rattle.np_world.specs.declared.replies.Reply.TheVariants.{Version, LastVersion, Saved as TheSaved}

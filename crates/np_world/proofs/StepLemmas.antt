@@ -6,7 +6,7 @@ use Rattle.std.specs.Prelude.{IfOk, slice_set}
 use Rattle.std.specs.declared.vec.Vec.{Vec}
 use Rattle.std.specs.declared.alloc.Global.{Global}
 use Rattle.np_chain.specs.Chain.{IsChain}
-use Rattle.np_tables.specs.Versions.{VersionData}
+use Rattle.np_versions.specs.Versions.{VersionData}
 use Rattle.np_schedules.specs.Events.{Event, node_of}
 use Rattle.np_world.specs.World.{MachineNode, World, Does}
 use Rattle.np_world.specs.declared.members.Member.{Member}

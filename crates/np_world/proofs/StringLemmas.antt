@@ -12,7 +12,7 @@ use Rattle.np_code_points.specs.Text.{IsLongestValidPrefix}
 use Rattle.np_forms.specs.Assigned.{IsAssigned, IsFirstUnassigned}
 use Rattle.np_node.specs.Nodes.{State, strings_of, IsKept, IsNode, HasPlace}
 use Rattle.np_node.specs.Strings.{Entry, IsEntry, IsKey}
-use Rattle.np_tables.specs.Versions.{VersionData, is_assigned}
+use Rattle.np_versions.specs.Versions.{VersionData, is_assigned}
 use Rattle.np_world.specs.inside.Mirrors.{texts_of}
 
 -- ---- code points and bytes

@@ -8,7 +8,7 @@ use Rattle.std.specs.declared.vec.Vec.{Vec}
 use Rattle.std.specs.declared.alloc.Global.{Global}
 use Rattle.np_node.specs.Nodes.{NodeState, state_of, IsKept, HasPlace, HasNoPlace, with_entry}
 use Rattle.np_node.specs.Strings.{Entry, IsKey}
-use Rattle.np_tables.specs.Versions.{VersionData}
+use Rattle.np_versions.specs.Versions.{VersionData}
 use Rattle.np_world.specs.World.{MachineNode, Scene, with_string, Finds}
 use Rattle.np_world.specs.declared.members.Member.{Member}
 use Rattle.np_world.specs.declared.replies.Reply.{Reply}

@@ -9,8 +9,8 @@ use Rattle.np_node.specs.Images.{image_bytes}
 use Rattle.np_node.specs.Messages.{message_bytes}
 use Rattle.np_node.specs.Nodes.{NodeState, State, strings_of, IsKept}
 use Rattle.np_node.specs.Strings.{Entry, IsEntry, IsKey}
-use Rattle.np_tables.specs.Counts.{assigned_count}
-use Rattle.np_tables.specs.Versions.{VersionData}
+use Rattle.np_versions.specs.Counts.{assigned_count}
+use Rattle.np_versions.specs.Versions.{VersionData}
 use Rattle.np_schedules.specs.Events.{ScheduleData}
 use Rattle.np_world.specs.Reports.{ReportData, image_at, message_at}
 use Rattle.np_world.specs.World.{Setting, MachineNode, World, start, IsRun}

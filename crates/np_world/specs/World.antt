@@ -9,8 +9,8 @@ use Rattle.np_forms.specs.Assigned.{IsAssigned, IsFirstUnassigned}
 use Rattle.np_forms.specs.Forms.{IsEquivalent}
 use Rattle.np_node.specs.Messages.{Message, IsMessage, IsMessageFault}
 use Rattle.np_node.specs.Strings.{most_bytes, IsKey}
-use Rattle.np_tables.specs.Counts.{assigned_count}
-use Rattle.np_tables.specs.Versions.{VersionData}
+use Rattle.np_versions.specs.Counts.{assigned_count}
+use Rattle.np_versions.specs.Versions.{VersionData}
 use Rattle.np_schedules.specs.Events.{Event, Accept, Deliver, Upgrade, Save, Restart, Ask, Forge, Forget, RestartUnder, node_of}
 use Rattle.np_world.specs.declared.replies.Reply.{Reply}
 use Rattle.np_world.specs.declared.replies.Reply.TheVariants.{Sent, Kept, Known, Full, TooLong, Unassigned, NoMessage, Version, LastVersion, Saved, Restarted, Forgotten, NotKept, Equal, Different, Malformed, OtherForm, NotUtf8, KeyDiffers, OlderTables}

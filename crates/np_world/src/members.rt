@@ -2,7 +2,7 @@
 use np_chain::Chain;
 use np_code_points::Form;
 use np_node::Node;
-use np_tables::NormTable;
+use np_versions::NormTable;
 use std::alloc::Global;
 
 /// What holds for all nodes of a replay.

@@ -1,7 +1,7 @@
 //! Schedules, replayed by real nodes.
 ghost use Rattle.std.specs.Prelude.{◌≡◌, ◌<◌, ◌≤◌, ◌↔◌, ℕ, length, map, slice_get, slice_index, None, Contains, IfOk, IfSome, IsSome, MatchOption};
 ghost use Rattle.std.specs.Option.{option_map};
-ghost use Rattle.np_tables.specs.Versions.{VersionData};
+ghost use Rattle.np_versions.specs.Versions.{VersionData};
 ghost use Rattle.np_node.specs.Nodes.{state_of};
 ghost use Rattle.np_schedules.specs.Events.{Save};
 ghost use Rattle.np_world.specs.Reports.{image_at, index_at, node_at, replies_of};
@@ -20,7 +20,7 @@ use np_chain::Chain;
 use np_code_points::{Form, Memory};
 use np_node::Node;
 use np_schedules::{EventLine, Schedule};
-use np_tables::NormTable;
+use np_versions::NormTable;
 use std::alloc::Global;
 
 /// Each node at the start: it keeps nothing, under the version that the schedule gives it.

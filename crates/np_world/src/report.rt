@@ -6,7 +6,7 @@ ghost use Rattle.np_world.specs.Reports.{image_at, message_at, node_at};
 use crate::members::Member;
 use crate::replies::Reply;
 use np_node::Node;
-use np_tables::NormTable;
+use np_versions::NormTable;
 use std::fmt;
 use std::marker::Model;
 

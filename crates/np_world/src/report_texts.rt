@@ -15,7 +15,7 @@ use crate::report::Report;
 use np_code_points::Memory;
 use np_code_points::codes::write_code;
 use np_node::Node;
-use np_tables::NormTable;
+use np_versions::NormTable;
 use std::alloc::Global;
 
 /// Adds a code point in hex digits, behind a space where it isn't the first.

@@ -11,7 +11,7 @@ use crate::replies::Reply;
 use crate::turns::{accept, ask, deliver, forge, forget, restart, restart_under, save, upgrade};
 use np_code_points::Memory;
 use np_schedules::EventLine;
-use np_tables::NormTable;
+use np_versions::NormTable;
 
 /// What an event does to the nodes and to what was sent.
 pub(crate) fn step<'t, T: NormTable>(

@@ -9,7 +9,7 @@ use crate::members::{Common, Member};
 use crate::replies::Reply;
 use np_code_points::Memory;
 use np_node::{Accepted, Node, NodeFault, Taken};
-use np_tables::NormTable;
+use np_versions::NormTable;
 
 /// The reply that tells a refusal; want of memory is none.
 fn refusal(fault: NodeFault) -> Result<Reply, Memory>

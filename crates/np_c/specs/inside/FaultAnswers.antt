@@ -1,7 +1,7 @@
 -- Answers as functions of what they tell.
 use Rattle.std.specs.Prelude.{ℕ, Bool, true, false}
-use Rattle.np_tables.specs.declared.faults.TableFault.{TableFault}
-use Rattle.np_tables.specs.declared.faults.TableFault.TheVariants as table
+use Rattle.np_versions.specs.declared.faults.TableFault.{TableFault}
+use Rattle.np_versions.specs.declared.faults.TableFault.TheVariants as table
 use Rattle.np_ucd.specs.declared.faults.UcdFault.{UcdFault}
 use Rattle.np_ucd.specs.declared.faults.UcdFault.TheVariants.{FieldCount, BadCode, OutOfOrder, BadCategory, BadClass, BadMapping, RangeOpen, RangeLone, RangeDiffers, RangeMaps, TooLarge, ReadFailed, Memory}
 use Rattle.np_c.specs.declared.answers.Answer.{Answer}

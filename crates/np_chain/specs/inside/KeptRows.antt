@@ -1,7 +1,7 @@
 -- What holds of a row where no code point in it has a break.
 use Rattle.std.specs.Prelude.{◌≡◌, ◌≢◌, ℕ, ◌≤◌, false, length, Some, None, slice_get}
 use Rattle.np_chain.specs.inside.BreakTests.{break_of}
-use Rattle.np_tables.specs.Versions.{VersionData, entry_at, is_assigned}
+use Rattle.np_versions.specs.Versions.{VersionData, entry_at, is_assigned}
 use Rattle.np_ucd.specs.Entries.{Entry}
 use Rattle.np_ucd.specs.declared.rows.MapKind.TheVariants.{Plain, Canonical}
 

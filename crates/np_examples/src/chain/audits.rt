@@ -3,7 +3,7 @@ use np_chain::{Break, BreakKind, audit, extends};
 use np_code_points::fixtures::{V1_DATA, V1_EXCLUSIONS};
 use np_code_points::told::want_told;
 use np_examples_shared::{Files, V1, V2, version_of, want};
-use np_tables::Version;
+use np_versions::Version;
 use std::alloc::Global;
 use std::test::Fail;
 

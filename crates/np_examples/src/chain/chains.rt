@@ -4,7 +4,8 @@ use np_code_points::Form;
 use np_code_points::told::want_told;
 use np_examples_shared::{Files, GuestTable, S, V1, V2, made_of, tables_of, want};
 use np_forms::{first_unassigned, npss};
-use np_tables::{NormTable, RowTable};
+use np_tables::RowTable;
+use np_versions::NormTable;
 use std::alloc::Global;
 use std::test::Fail;
 

@@ -3,7 +3,7 @@ use super::audits::LOST;
 use np_chain::audit;
 use np_code_points::Memory;
 use np_examples_shared::{V1, V2, again, version_of, want};
-use np_tables::Version;
+use np_versions::Version;
 use std::alloc::Global;
 use std::test::Fail;
 

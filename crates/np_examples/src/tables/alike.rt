@@ -2,7 +2,8 @@
 use super::LAST;
 use np_code_points::hangul::is_syllable;
 use np_examples_shared::{Example, Files, Made, S, V1, V2, holds_over, want};
-use np_tables::{NormTable, PageTable, RowTable};
+use np_tables::{PageTable, RowTable};
+use np_versions::NormTable;
 use std::alloc::Global;
 use std::test::Fail;
 

@@ -1,7 +1,8 @@
 //! What a table of pages tells beforehand: what passes the quick check, where boundaries are, and what the forms of single code points are.
 use np_code_points::Form;
 use np_examples_shared::{Example, Files, Made, V1, holds_over, want};
-use np_tables::{NormTable, PageTable, RowTable};
+use np_tables::{PageTable, RowTable};
+use np_versions::NormTable;
 use std::alloc::Global;
 use std::test::Fail;
 

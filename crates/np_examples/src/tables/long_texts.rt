@@ -1,7 +1,8 @@
 //! What passes the quick check in long texts, where the table of pages looks at many bytes at a time.
 use np_code_points::Form;
 use np_examples_shared::{Example, LETTERS, Made, amid, holds_over, want};
-use np_tables::{NormTable, PageTable};
+use np_tables::PageTable;
+use np_versions::NormTable;
 use std::alloc::Global;
 use std::test::Fail;
 

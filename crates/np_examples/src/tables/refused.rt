@@ -3,8 +3,9 @@ use np_code_points::Memory;
 use np_code_points::fixtures::{V1_DATA, V1_EXCLUSIONS};
 use np_code_points::watched::Watched;
 use np_examples_shared::{Made, V1, table_of, version_of, want};
-use np_tables::{NormTable, PageTable, RowTable, TableFault, Version};
+use np_tables::{PageTable, RowTable};
 use np_ucd::{read_exclusions, read_rows};
+use np_versions::{NormTable, TableFault, Version};
 use std::alloc::Global;
 use std::test::Fail;
 

@@ -2,7 +2,8 @@
 use super::LAST;
 use np_code_points::codes::write_code;
 use np_examples_shared::{Example, Made, S, V1, holds_over_each, table_of, want};
-use np_tables::{NormTable, PageTable, RowTable};
+use np_tables::{PageTable, RowTable};
+use np_versions::NormTable;
 use std::alloc::Global;
 use std::fmt;
 use std::test::Fail;

@@ -5,8 +5,8 @@ use np_code_points::fixtures::{
 };
 use np_code_points::told::want_told;
 use np_examples_shared::want;
-use np_tables::{TableFault, Version};
 use np_ucd::MapKind;
+use np_versions::{TableFault, Version, mapped_code};
 use std::alloc::{AllocError, Global};
 use std::test::Fail;
 
@@ -83,6 +83,62 @@ fn lists_composites(v1: &Version) -> Result<(), Fail> {
 fn composites_stand_in_the_order_of_their_pairs(rt: HostRuntime) -> Result<(), Fail> {
     let v1 = version(rt.alloc(), V1_DATA, V1_EXCLUSIONS)?;
     lists_composites(&v1)
+}
+
+fn finds_composites(v1: &Version) -> Result<(), Fail> {
+    want(
+        v1.composite_of('\u{61}', '\u{323}') == Some('\u{1EA1}'),
+        "a composite",
+    )?;
+    want(
+        v1.composite_of('\u{AC00}', '\u{11A8}') == Some('\u{AC01}'),
+        "a syllable",
+    )?;
+    want(
+        v1.composite_of('\u{61}', '\u{62}').is_none(),
+        "no composite",
+    )?;
+    let pairs = v1.pairs();
+    want(
+        pairs.find('\u{61}', '\u{302}') == Some('\u{E2}'),
+        "one of the list",
+    )?;
+    want(
+        pairs.find('\u{AC00}', '\u{11A8}').is_none(),
+        "no syllable in the list",
+    )?;
+    want(
+        pairs.len() > 0 && pairs.at(0).code == '\u{C5}',
+        "the first of the list",
+    )
+}
+
+#[test]
+fn composites_are_found_by_their_pairs(rt: HostRuntime) -> Result<(), Fail> {
+    let v1 = version(rt.alloc(), V1_DATA, V1_EXCLUSIONS)?;
+    finds_composites(&v1)
+}
+
+fn tells_its_rows(v1: &Version) -> Result<(), Fail> {
+    want(
+        v1.pages().index.len() == 4352,
+        "a block number for each 256 code points",
+    )?;
+    want(v1.place_of(0x110000).is_none(), "no row")?;
+    match v1.place_of(0x1EAD) {
+        Some(at) => {
+            let row = v1.row_in(at);
+            let alone = !row.mapping.is_empty() && mapped_code(row) == '\u{1EAD}';
+            want(alone, "the row of a code point with a mapping")
+        }
+        None => want(false, "a row"),
+    }
+}
+
+#[test]
+fn rows_are_found_by_their_places(rt: HostRuntime) -> Result<(), Fail> {
+    let v1 = version(rt.alloc(), V1_DATA, V1_EXCLUSIONS)?;
+    tells_its_rows(&v1)
 }
 
 fn has_no_syllables(s: &Version) -> Result<(), Fail> {

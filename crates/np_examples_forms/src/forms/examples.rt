@@ -9,7 +9,8 @@ use np_examples_shared::{
 use np_forms::{
     NpssFault, equivalent, first_unassigned, into_npss, is_form, is_stream_safe, lend_npss, npss,
 };
-use np_tables::{NormTable, PageTable};
+use np_tables::PageTable;
+use np_versions::NormTable;
 use std::alloc::Global;
 use std::borrow::CowStr;
 use std::test::Fail;

@@ -2,7 +2,8 @@
 use np_code_points::Form;
 use np_examples_shared::{Example, Made, V1, V2, holds_over, table_of, want};
 use np_forms::{is_form, npss};
-use np_tables::{NormTable, PageTable};
+use np_tables::PageTable;
+use np_versions::NormTable;
 use std::alloc::Global;
 use std::test::Fail;
 

@@ -3,7 +3,7 @@ use super::wants_form;
 use np_code_points::Form;
 use np_examples_shared::{Example, Made, S, V1, V2, holds_over_each, table_of};
 use np_forms::form;
-use np_tables::NormTable;
+use np_versions::NormTable;
 use std::alloc::Global;
 use std::test::Fail;
 

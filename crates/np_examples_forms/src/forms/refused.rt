@@ -7,7 +7,7 @@ use np_examples_shared::{Example, Made, V1, again, holds_over_each, want};
 use np_forms::{
     NpssFault, RunFault, Stream, equivalent, form, into_npss, is_form, lend_npss, npss, run,
 };
-use np_tables::NormTable;
+use np_versions::NormTable;
 use std::alloc::Global;
 use std::test::Fail;
 

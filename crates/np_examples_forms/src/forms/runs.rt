@@ -5,7 +5,7 @@ use np_code_points::told::want_told;
 use np_code_points::watched::Watched;
 use np_examples_shared::{Example, FAILURES, Made, V1, holds_over_each, want};
 use np_forms::{RunFault, run};
-use np_tables::NormTable;
+use np_versions::NormTable;
 use std::alloc::Global;
 use std::io::Read;
 use std::test::Fail;

@@ -2,7 +2,7 @@
 use super::examples::repeated;
 use np_examples_shared::{Example, Made, V1, holds_over_each, want};
 use np_forms::is_stream_safe;
-use np_tables::NormTable;
+use np_versions::NormTable;
 use std::alloc::Global;
 use std::test::Fail;
 

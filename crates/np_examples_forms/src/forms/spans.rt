@@ -2,7 +2,8 @@
 use np_code_points::Form;
 use np_examples_shared::{Example, LETTERS, Made, holds_over, want};
 use np_forms::quick_check_span;
-use np_tables::{NormTable, PageTable, RowTable};
+use np_tables::{PageTable, RowTable};
+use np_versions::NormTable;
 use std::alloc::Global;
 use std::test::Fail;
 

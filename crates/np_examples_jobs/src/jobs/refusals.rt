@@ -4,8 +4,8 @@ use np_code_points::input::InputFault;
 use np_code_points::watched::Watched;
 use np_examples_shared::want;
 use np_jobs::{JobFault, ReplayFault, TextFault, VersionFault, refuse};
-use np_tables::TableFault;
 use np_ucd::UcdFault;
+use np_versions::TableFault;
 use std::alloc::Global;
 use std::test::Fail;
 

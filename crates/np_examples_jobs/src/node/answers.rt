@@ -5,7 +5,7 @@ use np_code_points::told::want_told;
 use np_code_points::{Form, Memory};
 use np_examples_shared::{Example, Made, V1, V2, holds_over_each, table_of, want};
 use np_node::{Accepted, ImageFault, Node, NodeFault, Taken};
-use np_tables::NormTable;
+use np_versions::NormTable;
 use std::alloc::Global;
 use std::test::Fail;
 

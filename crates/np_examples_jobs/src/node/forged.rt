@@ -4,7 +4,7 @@ use np_code_points::Form;
 use np_code_points::codes::hex_value;
 use np_examples_shared::{Example, Made, V1, holds_over_each, want};
 use np_node::Node;
-use np_tables::NormTable;
+use np_versions::NormTable;
 use std::alloc::Global;
 use std::test::Fail;
 

@@ -3,7 +3,8 @@ use super::{letters, wants_kept, wants_known, wants_refused, wants_taken};
 use np_code_points::Form;
 use np_examples_shared::{Example, Made, V1, holds_over, holds_over_each, want};
 use np_node::{MOST_ROOM, Node, NodeFault, Taken};
-use np_tables::{NormTable, PageTable};
+use np_tables::PageTable;
+use np_versions::NormTable;
 use std::alloc::Global;
 use std::test::Fail;
 

@@ -4,7 +4,7 @@ use np_examples_shared::{
     Example, GuestTable, Made, V1, V2, holds_over, holds_over_each, table_of, want,
 };
 use np_node::{Accepted, Node};
-use np_tables::NormTable;
+use np_versions::NormTable;
 use std::alloc::Global;
 use std::test::Fail;
 

@@ -3,7 +3,7 @@ use super::{Told, wants_all_taken, wants_taken};
 use np_code_points::Form;
 use np_examples_shared::{Example, Made, V1, holds_over_each, want};
 use np_node::{Accepted, Node, NodeFault, Taken};
-use np_tables::NormTable;
+use np_versions::NormTable;
 use std::alloc::Global;
 use std::test::Fail;
 

@@ -1,10 +1,10 @@
 -- The state of a composition in one pass, inside its own list.
 use Rattle.std.specs.Prelude.{◌≡◌, ℕ, ◌<◌, ◌≤◌, ◌||◌, ◌==◌, nat_lt, slice_index, if◌then◌else◌, true, List, ◌∷◌, ◌++◌, length, take, drop, Option, Some, None}
-use Rattle.np_tables.specs.Versions.{VersionData, class_of}
+use Rattle.np_versions.specs.Versions.{VersionData, class_of}
 use Rattle.np_forms.specs.Order.{is_ordered}
 use Rattle.np_forms.specs.inside.Classes.{CodeAndClass, codes_of, with_classes}
 use Rattle.np_forms.specs.inside.Composing.{is_free, compose_after, compose}
-use Rattle.np_tables.specs.inside.CompositeSearch.{composite}
+use Rattle.np_versions.specs.inside.CompositeSearch.{composite}
 
 -- where the last starter stands, and what was kept after it, of which the last has class `last` (0 where nothing was kept)
 pub record IsAfterStarter (v : VersionData) (whole out : List ℕ) (q last : ℕ) (rest : List ℕ) : Type 0 where

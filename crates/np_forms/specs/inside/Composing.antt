@@ -1,9 +1,9 @@
 -- Canonical composition (The Unicode Standard, D117) as a function of the list. `join` gives the composite of a pair.
 use Rattle.std.specs.Prelude.{ℕ, Bool, true, false, List, [], ◌∷◌, ◌++◌, Option, Some, None, if◌then◌else◌}
 use Rattle.std.specs.List.{list_all}
-use Rattle.np_tables.specs.inside.CompositeSearch.{composite}
+use Rattle.np_versions.specs.inside.CompositeSearch.{composite}
 use Rattle.np_forms.specs.Order.{is_reorderable}
-use Rattle.np_tables.specs.Versions.{VersionData, class_of}
+use Rattle.np_versions.specs.Versions.{VersionData, class_of}
 use Rattle.np_forms.specs.Starters.{is_starter}
 
 -- nothing in bs blocks c (D115): each has a class above 0 and below that of c, so that c before it would be a reorderable pair

@@ -3,9 +3,9 @@ use Rattle.std.specs.Prelude.{◌≡◌, ◌≢◌, ◌<◌, ◌≤◌, ℕ, tru
 use denote.Ref.{Bor}
 use Rattle.np_code_points.specs.declared.forms.Form.{Form}
 use Rattle.np_forms.specs.inside.NormalForms.{normal_form}
-use Rattle.np_tables.specs.Boundaries.{BeginsAtBoundary, IsBoundary, IsYesStarter}
-use Rattle.np_tables.specs.inside.PageProperties.{IsPast}
-use Rattle.np_tables.specs.Versions.{VersionData, is_assigned}
+use Rattle.np_versions.specs.Boundaries.{BeginsAtBoundary, IsBoundary, IsYesStarter}
+use Rattle.np_versions.specs.inside.Fronts.{IsPast}
+use Rattle.np_versions.specs.Versions.{VersionData, is_assigned}
 
 -- a text is cut in two, of which the front is its own form
 pub record IsCopied (v : VersionData) (form : Form) (text front back : List ℕ) : Type 0 where

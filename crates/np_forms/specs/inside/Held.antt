@@ -1,13 +1,13 @@
 -- The state of a stream between two code points of the full decomposition.
 use Rattle.std.specs.Prelude.{◌≡◌, ℕ, ◌≤◌, Bool, true, List, [], ◌∷◌, ◌++◌, flat_map}
 use Rattle.std.specs.List.{list_all}
-use Rattle.np_tables.specs.Versions.{VersionData, class_of}
+use Rattle.np_versions.specs.Versions.{VersionData, class_of}
 use Rattle.np_forms.specs.Starters.{is_non_starter}
 use Rattle.np_forms.specs.inside.CanonicalOrder.{canonical_order}
 use Rattle.np_forms.specs.inside.Classes.{CodeAndClass, with_classes}
 use Rattle.np_forms.specs.inside.NormalForms.{ended}
 use Rattle.np_forms.specs.inside.Readings.{IsRead}
-use Rattle.np_tables.specs.inside.FullDecompositions.{full_of}
+use Rattle.np_versions.specs.inside.FullDecompositions.{full_of}
 
 -- what is held back: non-starters alone where no starter came yet, else a starter and non-starters
 pub data Shape (v : VersionData) : List ℕ → List ℕ → List ℕ → Type 0 where

@@ -3,7 +3,7 @@ use Rattle.std.specs.Prelude.{ℕ, List, [], ◌∷◌, ◌++◌, drop, chars, e
 use Rattle.np_code_points.specs.declared.forms.Form.{Form}
 use Rattle.np_forms.specs.declared.pieces.Pieces.{Pieces}
 use Rattle.np_forms.specs.inside.NormalForms.{normal_form}
-use Rattle.np_tables.specs.Versions.{VersionData}
+use Rattle.np_versions.specs.Versions.{VersionData}
 
 -- the bytes of the normal form of a text
 abbrev pub form_bytes : VersionData → Form → List ℕ → List ℕ

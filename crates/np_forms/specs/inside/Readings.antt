@@ -1,7 +1,7 @@
 -- Texts of which a front was read, each code point of it assigned.
 use Rattle.std.specs.Prelude.{◌≡◌, ℕ, List, ◌++◌, chars, encode_utf8_all, IsUtf8}
 use Rattle.np_forms.specs.Assigned.{IsAssigned}
-use Rattle.np_tables.specs.Versions.{VersionData}
+use Rattle.np_versions.specs.Versions.{VersionData}
 
 -- the code points `front` were read of a text, and `rest` is left
 pub record IsRead (text rest front : List ℕ) : Type 0 where

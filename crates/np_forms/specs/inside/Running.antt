@@ -9,8 +9,8 @@ use Rattle.np_forms.specs.RunEnds.{RunEnds}
 use Rattle.np_forms.specs.Streams.{IsStreaming, StreamState}
 use Rattle.np_forms.specs.declared.runs.RunFault.{RunFault}
 use Rattle.np_forms.specs.declared.runs.RunFault.TheVariants.{NotUtf8, ReadFailed, WriteFailed, TooLarge, Memory}
-use Rattle.np_tables.specs.Conditions.{IsSound}
-use Rattle.np_tables.specs.Versions.{VersionData}
+use Rattle.np_versions.specs.Conditions.{IsSound}
+use Rattle.np_versions.specs.Versions.{VersionData}
 
 -- of what was read, from i₀ to i₁, all but the begin of a character was fed, and all that is ready is written, from o₀ to o₁
 pub record IsRunning (v : VersionData) (form : Form) (i₀ i₁ o₀ o₁ : Option (List ℕ)) (kept : List ℕ) (total count : ℕ) (s : StreamState) : Type 0 where

@@ -9,8 +9,8 @@ use Rattle.np_forms.specs.inside.Composers.{IsComposing}
 use Rattle.np_forms.specs.inside.Copies.{IsEndOf}
 use Rattle.np_forms.specs.inside.NormalForms.{normal_form}
 use Rattle.np_forms.specs.inside.Readings.{IsRead}
-use Rattle.np_tables.specs.Versions.{VersionData, class_of}
-use Rattle.np_tables.specs.inside.FullDecompositions.{full_of}
+use Rattle.np_versions.specs.Versions.{VersionData, class_of}
+use Rattle.np_versions.specs.inside.FullDecompositions.{full_of}
 
 -- behind a code point of the class `last` no class is less than the one before, but that of a starter
 abbrev pub Rises : (ℕ → ℕ) → ℕ → List ℕ → Type 0

@@ -1,6 +1,6 @@
 -- The second half of `audit`, where the old version is there.
 use Rattle.std.specs.Prelude.{◌≡◌, ◌⊎◌, string_bytes}
-use Rattle.np_tables.specs.Versions.{VersionData}
+use Rattle.np_versions.specs.Versions.{VersionData}
 use Rattle.np_jobs.specs.Audits.{IsAudit}
 use Rattle.np_jobs.specs.Streams.{Stream}
 use Rattle.np_jobs.specs.Versions.{WasBuilt, IsVersionFault}

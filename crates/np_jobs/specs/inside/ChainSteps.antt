@@ -2,7 +2,7 @@
 use Rattle.std.specs.Prelude.{◌≡◌, ℕ, ◌*◌, ◌-◌, ◌<◌, false, List, [], ◌∷◌, ◌++◌, length, Option}
 use Rattle.np_code_points.specs.Watched.{device_of, has_failed}
 use Rattle.np_code_points.specs.declared.channels.watched.Watched.{Watched}
-use Rattle.np_tables.specs.Versions.{VersionData}
+use Rattle.np_versions.specs.Versions.{VersionData}
 use Rattle.np_jobs.specs.Chains.{WereBuilt, readers_of}
 use Rattle.np_jobs.specs.Streams.{Stream, stream_of}
 

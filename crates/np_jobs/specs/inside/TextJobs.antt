@@ -1,7 +1,7 @@
 -- What each job on one text makes of it, and why it refuses it.
 use Rattle.std.specs.Prelude.{ℕ, Bool, List}
 use Rattle.np_code_points.specs.declared.forms.Form.{Form}
-use Rattle.np_tables.specs.Versions.{VersionData}
+use Rattle.np_versions.specs.Versions.{VersionData}
 use Rattle.np_jobs.specs.Comparisons.{IsCompareOutput, LacksCompareOutput}
 use Rattle.np_jobs.specs.Keys.{IsKeyOutput, LacksKeyOutput}
 use Rattle.np_jobs.specs.declared.faults.TextFault.{TextFault}

@@ -2,7 +2,7 @@
 use Rattle.std.specs.Prelude.{string_bytes}
 use Rattle.np_chain.specs.Extension.{Extends}
 use Rattle.np_code_points.specs.declared.forms.Form.{Form}
-use Rattle.np_tables.specs.Versions.{VersionData}
+use Rattle.np_versions.specs.Versions.{VersionData}
 use Rattle.np_jobs.specs.KeysUnder.{IsKeyUnder}
 use Rattle.np_jobs.specs.Streams.{Stream}
 use Rattle.np_jobs.specs.Texts.{IsMadeOfText}

@@ -3,7 +3,7 @@ use Rattle.std.specs.Prelude.{◌≡◌, ◌⊎◌, ℕ, ◌<◌, ◌≤◌, ◌
 use Rattle.std.specs.Io.KnownBytes.{Appends, Consumes}
 use Rattle.std.specs.List.{list_any}
 use Rattle.np_forms.specs.RunEnds.{Ends}
-use Rattle.np_tables.specs.Versions.{VersionData}
+use Rattle.np_versions.specs.Versions.{VersionData}
 use Rattle.np_lines.specs.Answers.{Wanted, AreAnswers, IsAnswer, is_refusal, most_bytes}
 use Rattle.np_lines.specs.Lines.{IsCut, byte_of, ended}
 use Rattle.np_lines.specs.Whole.{IsAllAnswered}

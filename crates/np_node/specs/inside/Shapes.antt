@@ -12,7 +12,7 @@ use Rattle.np_node.specs.declared.fields.Fields.{Fields}
 use Rattle.np_node.specs.declared.images.Layout.{Layout}
 use Rattle.np_node.specs.declared.images.Layout.TheVariants.{First, Second}
 use Rattle.np_node.specs.inside.Reading.{left_of}
-use Rattle.np_tables.specs.Versions.{VersionData}
+use Rattle.np_versions.specs.Versions.{VersionData}
 
 -- the name that an image of the layout begins with
 abbrev pub layout_name : Layout → List ℕ

@@ -2,7 +2,7 @@
 use Rattle.std.specs.Prelude.{◌≡◌, true, List, length, string_bytes}
 use Rattle.np_chain.specs.Chain.{IsChain}
 use Rattle.np_code_points.specs.declared.forms.Form.{Form}
-use Rattle.np_tables.specs.Versions.{VersionData}
+use Rattle.np_versions.specs.Versions.{VersionData}
 use Rattle.np_schedules.specs.Events.{ScheduleData}
 use Rattle.np_jobs.specs.Streams.{Stream}
 use Rattle.np_jobs.specs.declared.ending.Made.{Made}

@@ -1,8 +1,8 @@
 -- Full decompositions in one flat list.
 use Rattle.std.specs.Prelude.{◌≡◌, ℕ, Bool, true, false, List, map}
 use Rattle.np_ucd.specs.Entries.{Entry}
-use Rattle.np_tables.specs.inside.FullDecompositions.{table_full}
-use Rattle.np_tables.specs.Versions.{VersionData}
+use Rattle.np_versions.specs.inside.FullDecompositions.{table_full}
+use Rattle.np_versions.specs.Versions.{VersionData}
 
 -- what a table lends for the code point of each row, by the rows' places
 pub record FullLists : Type 0 where

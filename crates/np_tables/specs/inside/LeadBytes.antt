@@ -1,9 +1,5 @@
 -- Characters of several bytes, found by the bytes that begin them (The Unicode Standard, table 3-6).
-use Rattle.std.specs.Prelude.{◌≡◌, ◌<◌, ◌≤◌, ◌++◌, ℕ, Bool, not, nat_le, List, drop, encode_utf8, length}
-
--- whether a byte is an ASCII character, as a scan over bytes asks
-abbrev pub is_ascii_byte : ℕ → Bool
-is_ascii_byte b = not (nat_le 128 b)
+use Rattle.std.specs.Prelude.{◌≡◌, ◌<◌, ◌≤◌, ◌++◌, ℕ, Bool, nat_le, List, drop, encode_utf8, length}
 
 -- whether a byte begins a character of several bytes
 abbrev pub is_lead_byte : ℕ → Bool

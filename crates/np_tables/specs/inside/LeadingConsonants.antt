@@ -4,7 +4,7 @@ use Rattle.np_code_points.specs.declared.forms.Form.{Form}
 use Rattle.np_tables.specs.declared.page_properties.Properties.{Properties}
 use Rattle.np_tables.specs.inside.PageHints.{boundary_place, has_bit}
 use Rattle.np_tables.specs.inside.PageProperties.{no_properties}
-use Rattle.np_tables.specs.inside.Pages.{property_place}
+use Rattle.np_versions.specs.inside.Pages.{property_place}
 
 -- by the bits of their properties each of them is a boundary of every form
 abbrev pub AreLeadingBoundaries : List ℕ → List Properties → Type 0

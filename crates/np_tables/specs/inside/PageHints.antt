@@ -3,12 +3,12 @@ use Rattle.std.specs.Prelude.{◌≡◌, ℕ, ◌+◌, ◌*◌, ◌/◌, ◌%◌
 use Rattle.np_code_points.specs.declared.forms.Form.{Form}
 use Rattle.np_code_points.specs.Forms.{is_compat, composes}
 use Rattle.np_code_points.specs.declared.forms.Form.TheVariants.{Nfd, Nfc, Nfkd, Nfkc}
-use Rattle.np_tables.specs.Boundaries.{IsBoundary, IsYesStarter}
-use Rattle.np_tables.specs.Composites.{IsCompositeOf}
-use Rattle.np_tables.specs.Versions.{VersionData}
+use Rattle.np_versions.specs.Boundaries.{IsBoundary, IsYesStarter}
+use Rattle.np_versions.specs.Composites.{IsCompositeOf}
+use Rattle.np_versions.specs.Versions.{VersionData}
 use Rattle.np_tables.specs.declared.page_hints.Hints.{Hints}
-use Rattle.np_tables.specs.declared.pairs.Composite.{Composite}
-use Rattle.np_tables.specs.CompositeLists.{Lists}
+use Rattle.np_versions.specs.declared.pairs.Composite.{Composite}
+use Rattle.np_versions.specs.CompositeLists.{Lists}
 
 -- the second part of no primary composite
 abbrev pub IsNeverSecond : VersionData → ℕ → Type 0

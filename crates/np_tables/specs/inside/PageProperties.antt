@@ -1,22 +1,22 @@
 -- What a table of pages keeps for a code point.
-use Rattle.std.specs.Prelude.{◌≡◌, ℕ, ◌+◌, ◌<◌, ◌≤◌, ◌⊎◌, ◌&&◌, nat_le, not, Bool, true, false, List, [], ◌∷◌, ◌++◌, Option, None, length, map, slice_get, slice_index, slice_index_or, chars, encode_utf8_all, All, IsUtf8, Some}
+use Rattle.std.specs.Prelude.{◌≡◌, ℕ, ◌+◌, ◌<◌, ◌≤◌, ◌⊎◌, ◌&&◌, nat_le, not, Bool, true, false, List, [], ◌∷◌, ◌++◌, Option, None, length, map, slice_get, slice_index, slice_index_or, chars, encode_utf8_all, IsUtf8, Some}
 use Rattle.np_ucd.specs.Entries.{Entry}
 use Rattle.np_code_points.specs.Forms.{is_compat}
 use Rattle.np_code_points.specs.Hangul.{is_syllable}
-use Rattle.np_tables.specs.Versions.{VersionData, class_of, entry_at, has_hangul, is_assigned}
-use Rattle.np_tables.specs.Composites.{IsCompositeOf}
-use Rattle.np_tables.specs.Conditions.{IsSound}
-use Rattle.np_tables.specs.Mappings.{is_final}
+use Rattle.np_versions.specs.Versions.{VersionData, class_of, entry_at, has_hangul, is_assigned}
+use Rattle.np_versions.specs.Composites.{IsCompositeOf}
+use Rattle.np_versions.specs.Conditions.{IsSound}
+use Rattle.np_versions.specs.Mappings.{is_final}
 use Rattle.np_tables.specs.declared.fulls.CodeRange.{CodeRange}
 use Rattle.np_tables.specs.declared.page_properties.Properties.{Properties}
-use Rattle.np_tables.specs.declared.pairs.Composite.{Composite}
-use Rattle.np_tables.specs.inside.FullDecompositions.{table_full}
+use Rattle.np_versions.specs.declared.pairs.Composite.{Composite}
+use Rattle.np_versions.specs.inside.FullDecompositions.{table_full}
 use Rattle.np_tables.specs.inside.FullLists.{FullLists, of_kind}
 use Rattle.np_tables.specs.inside.FullRanges.{AreCodeRanges, code_range_of}
 use Rattle.np_code_points.specs.declared.forms.Form.{Form}
-use Rattle.np_tables.specs.QuickSpans.{AreWalked, CannotComposeAfter, Walks}
+use Rattle.np_versions.specs.QuickSpans.{AreWalked, CannotComposeAfter, Walks}
 use Rattle.np_tables.specs.inside.PageHints.{AreBits}
-use Rattle.np_tables.specs.inside.Pages.{AreWithin, property_place}
+use Rattle.np_versions.specs.inside.Pages.{AreWithin, property_place}
 use Rattle.np_tables.specs.inside.QuickChecks.{quick_check_in}
 
 -- ---- slots of full decompositions
@@ -119,14 +119,6 @@ pub record ArePages (v : VersionData) (lists : FullLists) (blocks : List ℕ) (a
   pub each : (c : ℕ) → c < 0x110000 → ArePropertiesOf v lists c (slice_index_or all_properties (property_place blocks c) no_properties)
 
 -- ---- what may follow as it is
-
--- a text behind some first code points that pass
-pub record IsPast (P : ℕ → Type 0) (text rest : List ℕ) : Type 0 where
-  pub front : List ℕ
-  pub split : text ≡ encode_utf8_all front ++ rest
-  pub text_is : chars text ≡ front ++ chars rest
-  pub utf8 : IsUtf8 rest
-  pub passed : All P front
 
 -- the last code point of a list, or else the one before it
 abbrev pub last_behind : Option ℕ → List ℕ → Option ℕ

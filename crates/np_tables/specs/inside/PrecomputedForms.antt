@@ -3,10 +3,10 @@ use Rattle.std.specs.Prelude.{◌≡◌, ℕ, ◌<◌, ◌≤◌, ◌⊎◌, Lis
 use Rattle.std.specs.List.{slice_range}
 use Rattle.np_code_points.specs.declared.forms.Form.{Form}
 use Rattle.np_code_points.specs.Forms.{composes}
-use Rattle.np_tables.specs.Boundaries.{NeverFalls}
-use Rattle.np_tables.specs.Versions.{VersionData, class_of}
+use Rattle.np_versions.specs.Boundaries.{NeverFalls}
+use Rattle.np_versions.specs.Versions.{VersionData, class_of}
 use Rattle.np_tables.specs.declared.precomputed_forms.ByteRange.{ByteRange}
-use Rattle.np_tables.specs.inside.CompositeSearch.{composite}
+use Rattle.np_versions.specs.inside.CompositeSearch.{composite}
 
 -- behind `last_starter`, with which a code point of the class `last` composed last (0 where none did), the code points compose in their order: each composes
 -- with it, or is a starter that does not and is the next last starter; `list` is what comes of it

@@ -3,10 +3,10 @@ use Rattle.std.specs.Prelude.{◌≡◌, ℕ, ◌<◌, ◌≤◌, List, length, 
 use Rattle.np_code_points.specs.declared.forms.Form.{Form}
 use Rattle.np_code_points.specs.declared.forms.Form.TheVariants.{Nfd, Nfc, Nfkd, Nfkc}
 use Rattle.np_code_points.specs.Forms.{is_compat}
-use Rattle.np_tables.specs.Versions.{VersionData}
+use Rattle.np_versions.specs.Versions.{VersionData}
 use Rattle.np_tables.specs.declared.page_properties.Properties.{Properties}
 use Rattle.np_tables.specs.declared.precomputed_tables.PrecomputedTables.{PrecomputedTables}
-use Rattle.np_tables.specs.inside.FullDecompositions.{table_full}
+use Rattle.np_versions.specs.inside.FullDecompositions.{table_full}
 use Rattle.np_tables.specs.inside.FullLists.{FullLists, of_kind}
 use Rattle.np_tables.specs.inside.PageProperties.{ArePages}
 use Rattle.np_tables.specs.inside.PrecomputedForms.{ArePrecomputedForms, Settles}

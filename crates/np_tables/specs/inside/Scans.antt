@@ -1,6 +1,6 @@
 -- How far a scan comes by the quick checks of code points.
 use Rattle.std.specs.Prelude.{◌≡◌, ℕ, ◌≤◌, List, ◌++◌, length, encode_utf8, IsUtf8}
-use Rattle.np_tables.specs.Versions.{VersionData}
+use Rattle.np_versions.specs.Versions.{VersionData}
 use Rattle.np_tables.specs.declared.scans.Scan.{Scan}
 use Rattle.np_tables.specs.inside.PageProperties.{Follows, FollowsByQuickCheck, WalksOn}
 

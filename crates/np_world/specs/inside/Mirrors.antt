@@ -8,8 +8,8 @@ use Rattle.np_node.specs.Images.{image_bytes}
 use Rattle.np_node.specs.Messages.{IsMessage}
 use Rattle.np_node.specs.Nodes.{State, state_of, strings_of, IsNode}
 use Rattle.np_node.specs.Strings.{Entry, IsEntry}
-use Rattle.np_tables.specs.Counts.{assigned_count}
-use Rattle.np_tables.specs.Versions.{VersionData}
+use Rattle.np_versions.specs.Counts.{assigned_count}
+use Rattle.np_versions.specs.Versions.{VersionData}
 use Rattle.np_world.specs.World.{Setting, MachineNode, Scene}
 use Rattle.np_world.specs.declared.members.Common.{Common}
 use Rattle.np_world.specs.declared.members.Member.{Member}

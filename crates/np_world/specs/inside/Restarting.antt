@@ -3,7 +3,7 @@ use Rattle.std.specs.Prelude.{ℕ}
 use Rattle.np_node.specs.Nodes.{NodeState}
 use Rattle.np_node.specs.declared.faults.NodeFault.{NodeFault}
 use Rattle.np_node.specs.declared.faults.NodeFault.TheVariants.{Malformed, OtherForm, TooLong, NotUtf8, Unassigned, KeyDiffers, OlderTables, Full, Memory}
-use Rattle.np_tables.specs.Versions.{VersionData}
+use Rattle.np_versions.specs.Versions.{VersionData}
 use Rattle.np_world.specs.World.{MachineNode, HasOlderTables}
 use Rattle.np_world.specs.declared.members.Member.{Member}
 use Rattle.np_world.specs.inside.Mirrors.{Rules, setting_of, Mirrors}

@@ -1,6 +1,6 @@
 use Rattle.std.proofs.Common.{◌≡◌, subst, rules}
 use Rattle.std.specs.Arc.{arc_value}
-use Rattle.np_tables.specs.Versions.{VersionData}
+use Rattle.np_versions.specs.Versions.{VersionData}
 use Rattle.np_c.specs.Answers.{IsOwnFormAnswer}
 use Rattle.np_c.proofs.exports.npss_is_form.Goals as goal
 

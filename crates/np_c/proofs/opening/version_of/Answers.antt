@@ -1,5 +1,5 @@
 use Rattle.std.proofs.Common.{inr, sym, subst}
-use Rattle.np_tables.specs.Versions.{VersionData}
+use Rattle.np_versions.specs.Versions.{VersionData}
 use Rattle.np_c.specs.Files.{IsNoVersion}
 use Rattle.np_c.specs.declared.answers.Answer.{Answer}
 use Rattle.np_c.proofs.AnswerLemmas.{refused_tables}

@@ -1,7 +1,7 @@
 use Rattle.std.proofs.Common.{◌∙◌, sym, ap}
 use Rattle.std.proofs.lemmas.Bool.{and_parts}
 use Rattle.std.specs.List.{list_all}
-use Rattle.np_tables.specs.Versions.{is_assigned}
+use Rattle.np_versions.specs.Versions.{is_assigned}
 use Rattle.np_chain.proofs.SyllableLemmas.{old_parts-syllable, old_parts-listed}
 use Rattle.np_chain.proofs.audits.parts_assigned.Goals as goal
 

@@ -1,5 +1,5 @@
 use Rattle.std.proofs.Common.{subst, sym}
-use Rattle.np_tables.specs.Boundaries.{BeginsAtBoundary}
+use Rattle.np_versions.specs.Boundaries.{BeginsAtBoundary}
 use Rattle.np_forms.proofs.precomputed_texts.has_boundary_before.Goals as goal
 
 pub returns-then-begins_with_ascii : goal.returns-then-begins_with_ascii

@@ -1,5 +1,5 @@
 use Rattle.np_code_points.specs.Forms.{composes}
-use Rattle.np_tables.proofs.CompositeLemmas.{composite-starter}
+use Rattle.np_versions.proofs.CompositeLemmas.{composite-starter}
 use Rattle.np_forms.proofs.ShortLemmas.{both-kept, first-joined, second-joined, three-written, two-written}
 use Rattle.np_forms.proofs.segments.write_triple.Goals as goal
 

@@ -1,6 +1,6 @@
 use Rattle.std.proofs.Common.{chars, subst, sym, ◌∙◌, inl, inr}
 use Rattle.np_code_points.specs.Lines.{HasNo}
-use Rattle.np_tables.specs.Boundaries.{BeginsAtBoundary}
+use Rattle.np_versions.specs.Boundaries.{BeginsAtBoundary}
 use Rattle.np_lines.specs.Lines.{byte_of}
 use Rattle.np_lines.proofs.EndLemmas.{later_end, no_end}
 use Rattle.np_lines.proofs.keyed.has_boundaries.Goals as goal

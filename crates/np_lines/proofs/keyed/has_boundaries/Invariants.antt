@@ -1,7 +1,7 @@
 use Rattle.std.proofs.Common.{◌≡◌, ◌⊎◌, ℕ, List, ◌∷◌, ◌++◌, chars, length}
 use denote.Text.{Utf8}
 use denote.Shadow.{shadow}
-use Rattle.np_tables.specs.Boundaries.{BeginsAtBoundary}
+use Rattle.np_versions.specs.Boundaries.{BeginsAtBoundary}
 use Rattle.np_lines.specs.Lines.{byte_of}
 use Rattle.np_lines.proofs.keyed.has_boundaries.Given as goal
 

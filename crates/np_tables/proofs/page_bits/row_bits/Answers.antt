@@ -1,6 +1,6 @@
-use Rattle.std.proofs.Common.{◌≡◌, ◌∙◌, Some, sym, subst}
-use Rattle.np_tables.proofs.Words.{slice_get, lent_entry, entry_at, AreHints}
-use Rattle.np_tables.proofs.PrimaryLemmas.{row-never_second}
+use Rattle.std.proofs.Common.{◌∙◌, sym, subst}
+use Rattle.np_tables.proofs.Words.{lent_entry, AreHints}
+use Rattle.np_tables.proofs.SecondPartLemmas.{row-never_second}
 use Rattle.np_tables.proofs.PageHintLemmas.{hints-own}
 use Rattle.np_tables.proofs.PagePropertyLemmas.{class-found}
 use Rattle.np_tables.proofs.page_bits.row_bits.Goals as goal
@@ -9,20 +9,19 @@ pub bare_bits-requires-clause-own : goal.bare_bits-requires-clause-own
 bare_bits-requires-clause-own c = λ compat d found final.
     let v = c.args.known.now.version.now in
     let e = lent_entry c.row_in-row.result in
-    let here = subst (λ w. slice_get w.entries c.args.at ≡ Some e) c.characters.ensures.same c.row_in-row.ensures.place in
+    let here = c.row_in-row.ensures.place in
     subst (AreHints v compat d) (sym c.own_hints-own.ensures)
     (hints-own v compat d c.row_in-row.result.class c.is_row_never_second.result final (class-found v d e found) (λ is. row-never_second v c.args.known.now.seconds.now c.args.at e d c.args.known.now.are_seconds here found (sym c.is_row_never_second.ensures ∙ is)))
 
 pub mapped_bits-requires-clause-slot : goal.mapped_bits-requires-clause-slot
-mapped_bits-requires-clause-slot c =
-    c.requires.slot (lent_entry c.row_in-row.result) (subst (λ w. slice_get w.entries c.args.at ≡ Some (lent_entry c.row_in-row.result)) c.characters.ensures.same c.row_in-row.ensures.place)
+mapped_bits-requires-clause-slot c = c.requires.slot (lent_entry c.row_in-row.result) c.row_in-row.ensures.place
 
 pub mapped_bits-requires-clause-own : goal.mapped_bits-requires-clause-own
 mapped_bits-requires-clause-own c = λ compat final.
     let v = c.args.known.now.version.now in
     let e = lent_entry c.row_in-row.result in
-    let here = subst (λ w. slice_get w.entries c.args.at ≡ Some e) c.characters.ensures.same c.row_in-row.ensures.place in
-    let found = subst (λ w. entry_at w.entries c.row_in-row.result.first ≡ Some e) c.characters.ensures.same c.row_in-row.ensures.first in
+    let here = c.row_in-row.ensures.place in
+    let found = c.row_in-row.ensures.first in
     let d = c.row_in-row.result.first in
     subst (AreHints v compat d) (sym c.own_hints-own.ensures)
     (hints-own v compat d c.row_in-row.result.class c.is_row_never_second.result final (class-found v d e found) (λ is. row-never_second v c.args.known.now.seconds.now c.args.at e d c.args.known.now.are_seconds here found (sym c.is_row_never_second.ensures ∙ is)))

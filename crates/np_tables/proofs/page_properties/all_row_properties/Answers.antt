@@ -1,5 +1,5 @@
-use Rattle.std.proofs.Common.{◌+◌, ap, length, sym, subst, arith, rules}
-use Rattle.np_tables.proofs.Words.{AreAllRowProperties, VersionData}
+use Rattle.std.proofs.Common.{◌+◌, sym, subst, arith, rules}
+use Rattle.np_tables.proofs.Words.{AreAllRowProperties}
 use Rattle.np_tables.proofs.PagePropertyLemmas.{all_properties-more}
 use Rattle.np_tables.proofs.page_properties.all_row_properties.Goals as goal
 
@@ -11,7 +11,7 @@ loop-at-preserved c =
     subst (λ l. AreAllRowProperties v c.args.slots.now c.args.seconds.now (c.loop-at.at + 1) l) (sym c.in_ok-push-2.ensures.items) more
 
 pub row_bits-hints-requires-clause-slot : goal.row_bits-hints-requires-clause-slot
-row_bits-hints-requires-clause-slot c = λ e is. c.requires.slots.each c.loop-at.at e (omega (arith, c.loop-at-test.true, c.len-count.ensures.count, ap (λ (v : VersionData). length v.entries) c.characters.ensures.same)) is
+row_bits-hints-requires-clause-slot c = λ e is. c.requires.slots.each c.loop-at.at e (omega (arith, c.loop-at-test.true, c.row_count-count.ensures)) is
 
 pub invariant_of-known : goal.invariant_of-known
 invariant_of-known c = record { are_seconds = c.requires.seconds }

@@ -1,6 +1,6 @@
 use Rattle.std.proofs.Common.{◌∙◌, ap, arith}
 use Rattle.np_tables.proofs.Words.{lent_entry, is_empty}
-use Rattle.np_tables.proofs.RowLemmas.{place-le}
+use Rattle.np_versions.proofs.RowLemmas.{place-le}
 use Rattle.np_tables.proofs.FullListLemmas.{nil_from_test}
 use Rattle.np_tables.proofs.PageSlotLemmas.{slots-bare, slots-pushed}
 use Rattle.np_tables.proofs.page_slots.slots_of.Goals.{then-is_empty+in_ok-push, else-is_empty+in_ok-push_row+in_ok-push-2}
@@ -8,7 +8,7 @@ use Rattle.np_tables.proofs.page_slots.slots_of.Goals as goal
 
 pub overflow_cast-slot : goal.overflow_cast-slot
 overflow_cast-slot c =
-    omega (arith, place-le c.args.characters.now.entries c.loop-at.at (lent_entry c.row_in-row.result) c.len.ensures.rows c.row_in-row.ensures.place, c.len-slot.ensures ∙ c.loop-at.canonical.ok.0)
+    omega (arith, place-le c.args.version.now.entries c.loop-at.at (lent_entry c.row_in-row.result) c.meets_conditions.ensures.rows c.row_in-row.ensures.place, c.len-slot.ensures ∙ c.loop-at.canonical.ok.0)
 
 pub loop-at-preserved : goal.loop-at-preserved
 loop-at-preserved c =

@@ -1,5 +1,5 @@
 use Rattle.std.proofs.Common.{◌∙◌, ◌++◌, ap, subst, length}
-use Rattle.np_tables.proofs.Words.{AreAllRowProperties, AreSlots, paged_properties, AreRowPages}
+use Rattle.np_tables.proofs.Words.{AreAllRowProperties, paged_properties}
 use Rattle.np_tables.proofs.PagePropertyLemmas.{pages-from}
 use Rattle.np_tables.proofs.page_table.pages_of.Goals as goal
 
@@ -14,5 +14,4 @@ returns-clause-pages c =
     (subst (λ t. AreAllRowProperties v c.deref.result.now t (length v.entries) rows) c.deref-2.ensures.value c.in_ok-rows.ensures) in
     let index = c.in_ok-extend_from_slice.ensures.items ∙ ap (λ l. l ++ c.deref-5.result.now) c.in_ok-index.ensures.items ∙ c.deref-5.ensures.value in
     let paged = c.in_ok-all_properties.ensures ∙ ap (λ r. paged_properties r c.deref-4.result.now) c.deref-3.ensures.value ∙ ap (paged_properties rows) c.deref-4.ensures.value in
-    pages-from v c.characters.ensures.sound fulls slots (subst (λ x. AreSlots x (length x.entries) fulls slots) c.characters-2.ensures.same c.in_ok-lent.ensures) _ c.in_ok-seconds.ensures
-    rows all_properties pages.index.items pages.numbers.items _ _ (subst (λ x. AreRowPages x.entries pages.index.items pages.numbers.items) c.characters.ensures.same c.pages-pages.ensures) index paged
+    pages-from v c.meets_conditions.ensures fulls slots c.in_ok-lent.ensures _ c.in_ok-seconds.ensures rows all_properties pages.index.items pages.numbers.items _ _ c.pages-pages.ensures index paged

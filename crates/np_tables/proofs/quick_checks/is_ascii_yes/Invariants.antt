@@ -1,5 +1,5 @@
 use Rattle.std.proofs.Common.{◌≡◌, ℕ, ◌<◌, slice_index_or}
-use Rattle.np_tables.specs.inside.Pages.{property_place}
+use Rattle.np_versions.specs.inside.Pages.{property_place}
 use Rattle.np_tables.proofs.quick_checks.is_ascii_yes.Given as goal
 
 abbrev pub invariant-loop-code : goal.invariant-loop-code

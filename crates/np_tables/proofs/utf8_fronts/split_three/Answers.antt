@@ -1,6 +1,6 @@
 use Rattle.std.proofs.Common.{◌≡◌, ◌+◌, ◌*◌, ◌%◌, ◌++◌, drop, get_or, encode_utf8, sym, ap, subst, ◌∙◌, arith}
 use Rattle.np_tables.proofs.Words.{IsScalar, IsCharBoundary}
-use Rattle.np_tables.proofs.Utf8Lemmas.{begins_with_three}
+use Rattle.np_versions.proofs.Utf8Lemmas.{begins_with_three}
 use Rattle.np_tables.proofs.utf8_fronts.split_three.Goals as goal
 
 pub bounds-bytes-1 : goal.bounds-bytes-1

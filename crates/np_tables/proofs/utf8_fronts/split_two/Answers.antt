@@ -1,6 +1,6 @@
 use Rattle.std.proofs.Common.{◌≡◌, ◌+◌, ◌*◌, ◌%◌, ◌++◌, drop, get_or, encode_utf8, sym, ap, subst, ◌∙◌, arith}
 use Rattle.std.specs.Str.{IsCharBoundary}
-use Rattle.np_tables.proofs.Utf8Lemmas.{begins_with_two}
+use Rattle.np_versions.proofs.Utf8Lemmas.{begins_with_two}
 use Rattle.np_tables.proofs.utf8_fronts.split_two.Goals as goal
 
 pub bounds-bytes-1 : goal.bounds-bytes-1

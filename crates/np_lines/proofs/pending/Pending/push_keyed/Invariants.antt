@@ -3,7 +3,7 @@ use denote.Text.{Utf8}
 use denote.Shadow.{shadow}
 use Rattle.np_lines.specs.inside.Keyed.{AreKeyed}
 use Rattle.np_lines.specs.inside.Steps.{HasTaken}
-use Rattle.np_tables.specs.Versions.{VersionData}
+use Rattle.np_versions.specs.Versions.{VersionData}
 use Rattle.np_lines.proofs.pending.Pending.push_keyed.Given as goal
 
 abbrev pub invariant-lines : goal.invariant-lines

@@ -3,7 +3,7 @@ use Rattle.std.proofs.lemmas.List.{get_or-map, length-map}
 use Rattle.np_node.proofs.KeyLemmas.{same_keys}
 use Rattle.np_node.specs.Nodes.{IsKept}
 use Rattle.np_node.specs.Strings.{Entry}
-use Rattle.np_tables.specs.Conditions.{IsSound}
+use Rattle.np_versions.specs.Conditions.{IsSound}
 use Rattle.np_node.proofs.nodes.Node.same.Goals as goal
 
 -- the string of an entry is kept

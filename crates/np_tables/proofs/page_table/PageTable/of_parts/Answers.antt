@@ -1,7 +1,7 @@
 use Rattle.std.proofs.Common.{IsTrue, length, sym, subst}
 use Rattle.np_tables.specs.inside.LeadingConsonants.{AreLeadingBoundaries}
 use Rattle.np_tables.specs.inside.PageProperties.{IsAsciiYes}
-use Rattle.np_tables.specs.inside.Pages.{AreWithin}
+use Rattle.np_versions.specs.inside.Pages.{AreWithin}
 use Rattle.np_tables.proofs.page_table.PageTable.of_parts.Goals as goal
 
 pub invariant_of-result : goal.invariant_of-result

@@ -1,6 +1,0 @@
-use Rattle.std.proofs.Common.{◌≡◌, take}
-use Rattle.np_tables.specs.inside.Depths.{row_marks}
-use Rattle.np_tables.proofs.depths.bare_marks.Given as goal
-
-abbrev pub invariant-loop-at : goal.invariant-loop-at
-invariant-loop-at l = l.marks.items ≡ take l.at (row_marks l.characters 0)

@@ -1,6 +1,0 @@
-use Rattle.std.proofs.Common.{◌≡◌, ℕ, ◌<◌, true}
-use Rattle.np_tables.proofs.Words.{hangul_at, is_hangul_row}
-use Rattle.np_tables.proofs.hangul_faults.first_wrong.Given as goal
-
-abbrev pub invariant-loop-place : goal.invariant-loop-place
-invariant-loop-place l = (k : ℕ) → k < l.place → is_hangul_row l.characters (hangul_at k) ≡ true

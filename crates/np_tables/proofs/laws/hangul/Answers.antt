@@ -1,8 +1,0 @@
-use Rattle.np_tables.proofs.HangulLemmas.{by_arithmetic, hangul_on}
-use Rattle.np_tables.proofs.laws.hangul.Goals as goal
-
-pub returns-clause-on : goal.returns-clause-on
-returns-clause-on c = hangul_on
-
-pub returns-clause-each : goal.returns-clause-each
-returns-clause-each c = by_arithmetic

@@ -1,5 +1,0 @@
-use Rattle.np_tables.proofs.FactLemmas.{RowsHold}
-use Rattle.np_tables.proofs.mapped_faults.first_lacking.Given as goal
-
-abbrev pub invariant-loop-at : goal.invariant-loop-at
-invariant-loop-at l = RowsHold l.characters l.at

@@ -1,5 +1,0 @@
-use Rattle.std.proofs.Common.{rules}
-use Rattle.np_tables.proofs.version.Version.has_hangul.Goals as goal
-
-pub returns : goal.returns
-returns c = search rules

@@ -1,6 +1,0 @@
-use Rattle.np_tables.proofs.FaultLemmas.{sound-faultless}
-use Rattle.np_tables.proofs.version.Version.of_faultless.Goals as goal
-
-pub invariant_of-result : goal.invariant_of-result
-invariant_of-result c =
-    (sound-faultless c.args.characters c.are_in_order.ensures c.requires.faultless, c.requires.pairs)

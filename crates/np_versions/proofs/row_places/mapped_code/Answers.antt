@@ -1,0 +1,5 @@
+use Rattle.std.proofs.Common.{rules}
+use Rattle.np_versions.proofs.row_places.mapped_code.Goals as goal
+
+pub returns : goal.returns
+returns c = search rules

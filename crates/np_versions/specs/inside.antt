@@ -1,0 +1,13 @@
+pub mod AsciiBytes
+pub mod CompositeSearch
+pub mod Depths
+pub mod FirstFaults
+pub mod Fronts
+pub mod FullDecompositions
+pub mod HangulRows
+pub mod Pages
+pub mod Pairs
+pub mod Primaries
+pub mod RowPages
+pub mod RowPlaces
+pub mod Suspects
