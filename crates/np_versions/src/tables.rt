@@ -27,7 +27,8 @@ fn claim_nothing(text: &str) -> (usize, bool)
     (0, UNKNOWN)
 }
 
-/// A table of a version: each answer is a function of the version.
+/// A table of a version. The answers from `version` to `full` are functions of the version. Those behind them are
+/// hints: a table may tell less there, and no form, key or comparison depends on how much.
 pub trait NormTable {
     /// The version.
     ghost model: { Self → VersionData };
