@@ -24,7 +24,7 @@ use Rattle.np_forms.proofs.OrderLemmas.{canonical_order-at_starter, is_ordered-b
 use Rattle.np_forms.proofs.ComposeLemmas.{joined-none, compose-at_boundary, compose_after-nil, compose_after-starter, compose_after-kept, compose-nil, compose-starter, compose-non_starter}
 use Rattle.np_versions.proofs.CompositeLemmas.{cases_Option, mapped-assigned, composite-some}
 use Rattle.np_forms.proofs.FormLemmas.{IsNormalForm-normal_form, normal_form_is}
-use Rattle.np_forms.proofs.KeptLemmas.{is_ordered-decomposed, all_final, decomposed-final, decomposed-composed, normal_form-twice}
+use Rattle.np_forms.proofs.FormLemmas.{is_ordered-decomposed, all_final, decomposed-final, decomposed-composed, normal_form-twice}
 use Rattle.np_chain.proofs.StabilityLemmas.{normal_form-same}
 use Rattle.np_forms.proofs.StreamLemmas.{list_all-back, compose_of_is}
 use Rattle.np_forms.proofs.TextLemmas.{list_all-front}

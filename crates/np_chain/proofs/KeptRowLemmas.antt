@@ -16,12 +16,10 @@ use Rattle.np_versions.specs.Versions.{VersionData, entry_at, class_of, file_kin
 use Rattle.np_versions.specs.declared.pairs.Composite.{Composite}
 use Rattle.np_versions.specs.CompositeLists.{AreOfFile}
 use Rattle.np_versions.specs.inside.Primaries.{is_primary, is_starter_pair}
-use Rattle.np_versions.proofs.AccessLemmas.{class_of-at, is_assigned-at}
-use Rattle.np_versions.proofs.CompositeLemmas.{primary-from, primary-test}
-use Rattle.np_versions.proofs.FileRowLemmas.{file_kind-found, file_mapping-found}
+use Rattle.np_versions.proofs.RowLemmas.{class_of-at, is_assigned-at, file_kind-found, file_mapping-found, at-found, entry_at-row, entry_at-within}
+use Rattle.np_versions.proofs.RowLemmas.{place_of_entry}
+use Rattle.np_versions.proofs.CompositeLemmas.{primary-from, primary-test, primary-file, primary-syllable}
 use Rattle.np_versions.proofs.HangulLemmas.{hangul_parts, syllable_hangul, syllable_row}
-use Rattle.np_versions.proofs.PrimaryLemmas.{primary-file, primary-syllable}
-use Rattle.np_versions.proofs.RowLemmas.{at-found, entry_at-row, entry_at-within, place_of_entry}
 use Rattle.np_ucd.specs.Entries.{Entry, HasLength}
 use Rattle.np_ucd.specs.declared.rows.MapKind.{MapKind}
 use Rattle.np_ucd.specs.declared.rows.MapKind.TheVariants.{Plain, Canonical, Compatibility}

@@ -5,7 +5,7 @@ use Rattle.np_forms.proofs.Words.{encodes-append, encodes-chars, IsCharBoundary-
 use Rattle.np_forms.proofs.Words.{canonical_order, compose_of, IsCopied, ArePassing, AsciiPasses, IsPassing, decomposed, ended, normal_form, IsReadAssigned}
 use Rattle.np_forms.proofs.Words.{BeginsAtBoundary, IsBoundary, IsSound, VersionData, class_of, full_of, IsQuickSpan, MayFollow, Walks, is_compat, composes}
 use Rattle.np_forms.proofs.Words.{composite, form_bytes}
-use Rattle.np_versions.proofs.WalkLemmas.{Walks-front}
+use Rattle.np_versions.proofs.TableLemmas.{Walks-front}
 use Rattle.np_versions.specs.inside.Fronts.{IsPast}
 use Rattle.np_forms.proofs.StreamLemmas.{normal_form-parts}
 use Rattle.np_forms.proofs.QuickSpanLemmas.{quick_span_form}

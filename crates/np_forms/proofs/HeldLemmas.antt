@@ -1,15 +1,19 @@
--- The state of a stream, which each code point of the full decomposition carries on.
-use Rattle.std.proofs.Common.{◌≡◌, ℕ, ◌+◌, ◌<◌, ◌≤◌, ◌⊎◌, Bool, true, false, List, [], ◌∷◌, ◌++◌, length, flat_map, refl, sym, ap, subst, ◌∙◌, arith, inl, inr, append_assoc, append-nil, Some, None, Option, ap₂}
+-- The state of a stream, which each code point carries on, and non-starters at the front of a text, which are held back.
+use Rattle.std.proofs.Common.{◌≡◌, ℕ, ◌+◌, ◌<◌, ◌≤◌, ◌⊎◌, Bool, true, false, List, [], ◌∷◌, ◌++◌, length, flat_map, refl, sym, ap, subst, ◌∙◌, arith, inl, inr}
+use Rattle.std.proofs.Common.{append_assoc, append-nil, Some, None, Option, ap₂, encode_utf8}
 use Rattle.np_forms.proofs.Words.{and_from, and_parts, cases_lt, not-true, not_from_false, and_left, flat_map-append, list_all, is_compat, composes, Form}
 use Rattle.np_forms.proofs.Words.{IsSound, VersionData, class_of, composite, full_of, IsNormalForm, is_non_starter, IsCutAtLastStarter, IsOrderedAndComposed}
 use Rattle.np_forms.proofs.Words.{IsStreaming, TakesIn, canonical_order, compose, joined, Shape, no_starter, starter, IsHeld, Advances, decomposed, ended}
-use Rattle.np_forms.proofs.Words.{normal_form, compose_after}
+use Rattle.np_forms.proofs.Words.{normal_form, compose_after, map-append, AreClassed, CodeAndClass, codes_of, with_class, with_classes, IsFrontHeld, HoldsFront}
 use Rattle.np_versions.proofs.MappingLemmas.{list_all-append, IsFullDecomposition-flat_map, full_decomposition-flat_map}
 use Rattle.np_versions.proofs.CompositeLemmas.{composite_first, composite-some, composite-starter, cases_Option}
-use Rattle.np_forms.proofs.OrderLemmas.{list_all-canonical_order, not_reorderable_rising, canonical_order-at_starter, canonical_order-nil}
-use Rattle.np_forms.proofs.ComposeLemmas.{is_starter-false, not_starter_from, compose-nil, compose-non_starters, joined-none, joined-blocked, joined-free, compose_after-nil, compose_after-joined, compose_after-starter, compose_after-kept, compose-starter}
+use Rattle.np_forms.proofs.OrderLemmas.{list_all-canonical_order, not_reorderable_rising, canonical_order-at_starter, canonical_order-nil, AreClassed-append}
+use Rattle.np_forms.proofs.OrderLemmas.{AreClassed-with_classes, codes-append, codes-with_classes}
+use Rattle.np_forms.proofs.ComposeLemmas.{is_starter-false, not_starter_from, compose-nil, compose-non_starters, joined-none, joined-blocked, joined-free}
+use Rattle.np_forms.proofs.ComposeLemmas.{compose_after-nil, compose_after-joined, compose_after-starter, compose_after-kept, compose-starter}
 use Rattle.np_forms.proofs.FormLemmas.{EndsAs-ended, ended_is, IsNormalForm-normal_form, ordered_form-canonical_order, IsOrderedForm-canonical_order}
 use Rattle.np_forms.proofs.StreamLemmas.{compose_of_is, IsLastRun, last_after, non_starter_or_starter}
+use Rattle.np_forms.proofs.TextLemmas.{IsRead-next}
 
 module _ (v : VersionData) (sound : IsSound v) where
   -- ---- the last starter, which may be a composite already, and the non-starters after it, not yet in order
@@ -326,3 +330,39 @@ module _ (v : VersionData) (sound : IsSound v) where
   held_parts e ds out pending d low h apart =
       held_alone e ds out pending (out ++ ended v e (order pending)) d d low h
       (λ zs. ap (λ l. out ++ l) (parts_by e out h.non_starters pending d h.shape h.all low apart zs) ∙ sym (append_assoc out _ _))
+
+-- ---- non-starters at the front of a text, which are held back
+
+module _ (v : VersionData) (compat : Bool) (text : List ℕ) (old : List CodeAndClass) where
+  pub IsFrontHeld-next : (rest later : List ℕ) (c : ℕ) (now new : List CodeAndClass) → rest ≡ encode_utf8 c ++ later → full_of v compat c ≡ c ∷ [] → is_non_starter v c ≡ true → new ≡ now ++ with_class v c ∷ [] → IsFrontHeld v compat text rest old now → IsFrontHeld v compat text later old new
+  IsFrontHeld-next rest later c now new begins own non_starter grown a =
+      record {
+        front = a.front ++ c ∷ [];
+        reads = IsRead-next text rest c later a.front begins a.reads;
+        own = flat_map-append (full_of v compat) a.front (c ∷ []) ∙ ap₂ (λ l m. l ++ m) a.own (append-nil (full_of v compat c) ∙ own);
+        all = list_all-append (is_non_starter v) a.front (c ∷ []) a.all (and_from _ _ non_starter refl);
+        held = grown ∙ ap (λ l. l ++ with_class v c ∷ []) a.held ∙ append_assoc old (with_classes v a.front) (with_class v c ∷ [])
+            ∙ ap (λ l. old ++ l) (sym (map-append (with_class v) a.front (c ∷ [])));
+      }
+
+module _ (v : VersionData) (old new : List CodeAndClass) where
+  -- they stand beside their classes, as what was held back before
+  pub classed-behind : (front : List ℕ) → new ≡ old ++ with_classes v front → AreClassed v old → AreClassed v new
+  classed-behind front held classed = subst (AreClassed v) (sym held) (AreClassed-append v old (with_classes v front) classed (AreClassed-with_classes v front))
+
+  -- what a stream is after that
+  pub HoldsFront-held : (sound : IsSound v) (form : Form) (compat : Bool) (text rest ready : List ℕ) → compat ≡ is_compat form → IsFrontHeld v compat text rest old new
+      → HoldsFront (record { version = v; form = form; ready = ready; pending = codes_of old }) (record { version = v; form = form; ready = ready; pending = codes_of new }) text rest
+  HoldsFront-held sound form compat text rest ready kind a =
+      let grown : codes_of old ++ a.front ≡ codes_of new = sym (ap codes_of a.held ∙ codes-append old (with_classes v a.front) ∙ ap (λ l. codes_of old ++ l) (codes-with_classes v a.front)) in
+      record {
+        front = a.front;
+        reads = a.reads;
+        version = refl;
+        form = refl;
+        ready = refl;
+        carries = λ fed out s. subst (IsStreaming v form (fed ++ a.front) out) grown (holds_non_starters v sound form compat a.front (codes_of old) fed out kind a.own a.all s);
+      }
+
+-- what the checks of functions cite
+pub ruleset front_answers = (HoldsFront-held, classed-behind)

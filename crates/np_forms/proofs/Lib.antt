@@ -1,14 +1,9 @@
-pub mod ChunkLemmas
-pub mod ClassLemmas
 pub mod ComposeLemmas
 pub mod ComposerLemmas
 pub mod CopyLemmas
 pub mod CutLemmas
 pub mod FormLemmas
-pub mod FrontLemmas
 pub mod HeldLemmas
-pub mod KeptLemmas
-pub mod LengthLemmas
 pub mod MachineLemmas
 pub mod OrderLemmas
 pub mod OutTextLemmas
@@ -22,7 +17,6 @@ pub mod ShortLemmas
 pub mod SortLemmas
 pub mod StreamLemmas
 pub mod StreamSafeLemmas
-pub mod SyllableFrontLemmas
 pub mod SyllableLemmas
 pub mod SyllableTextLemmas
 pub mod TextLemmas

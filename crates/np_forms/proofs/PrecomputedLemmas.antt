@@ -4,8 +4,7 @@ use Rattle.std.specs.Option.{is_some}
 use Rattle.np_forms.proofs.Words.{get_or_at, set_at, chars_past_char, IsUtf8-past_char, chars_from_encodes, IsUtf8-take, is_compat, composes, Form, and_place}
 use Rattle.np_forms.proofs.Words.{pair_with_last, normal_form, IsComposedOf, IsFirstMade, IsFirstPrecomputed, BeginsAtBoundary, NeverFalls, IsSound}
 use Rattle.np_forms.proofs.Words.{VersionData, class_of, entry_at, is_assigned, composite, full_of, IsQuickSpan, MayFollow, Walks, IsAssigned, IsNormalForm}
-use Rattle.np_versions.proofs.AnswerLemmas.{full-none, lent-value, pair-value}
-use Rattle.np_versions.proofs.WalkLemmas.{Walks-front}
+use Rattle.np_versions.proofs.TableLemmas.{full-none, lent-value, pair-value, Walks-front}
 use Rattle.np_ucd.specs.Entries.{Entry}
 use Rattle.np_versions.specs.Precomputed.{Composes, ComposesOn, IsPrecomputed}
 use Rattle.np_versions.proofs.CompositeLemmas.{composite_from}

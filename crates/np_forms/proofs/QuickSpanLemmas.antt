@@ -6,7 +6,7 @@ use Rattle.np_forms.proofs.Words.{NeverFalls, IsYesStarter, IsSound, is_final, V
 use Rattle.np_forms.proofs.Words.{CannotComposeAfter, Walks}
 use Rattle.std.proofs.lemmas.List.Folds.{list_all-append}
 use Rattle.np_versions.proofs.CompositeLemmas.{composite-never, composite_from}
-use Rattle.np_versions.proofs.AnswerLemmas.{pair-value}
+use Rattle.np_versions.proofs.TableLemmas.{pair-value}
 use Rattle.np_versions.proofs.MappingLemmas.{full_of-final}
 use Rattle.np_versions.specs.Composites.{IsCompositeOf}
 use Rattle.np_forms.proofs.StreamLemmas.{full_of-boundary}

@@ -12,7 +12,7 @@ use Rattle.np_forms.proofs.OrderLemmas.{canonical_order-front, canonical_order-a
 use Rattle.np_forms.proofs.ComposeLemmas.{not_starter_from, compose_after-nil, compose_after-joined, compose_after-starter, compose_after-kept, compose-nil, compose-starter, compose-non_starter, joined-some, compose-at_boundary, joined-free}
 use Rattle.np_forms.proofs.FormLemmas.{IsNormalForm-normal_form, normal_form_is}
 pub use Rattle.np_forms.proofs.TextLemmas.{list_all-back}
-use Rattle.np_forms.proofs.KeptLemmas.{is_ordered-decomposed, all_final, decomposed-final, decomposed-composed, decomposed-normal_form}
+use Rattle.np_forms.proofs.FormLemmas.{is_ordered-decomposed, all_final, decomposed-final, decomposed-composed, decomposed-normal_form}
 
 module _ (v : VersionData) (sound : IsSound v) where
   abbrev ccc : ℕ → ℕ

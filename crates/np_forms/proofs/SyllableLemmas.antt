@@ -2,7 +2,7 @@
 use Rattle.std.proofs.Common.{◌≡◌, ℕ, ◌<◌, ◌⊎◌, Bool, true, false, ◌&&◌, List, [], ◌∷◌, ◌++◌, length, flat_map, refl, sym, ap, ◌∙◌, ◌||◌, arith, inl, inr}
 use Rattle.np_forms.proofs.Words.{cases_Bool, cond-true, cond-false, or_from, is_syllable, syllable_pair, IsSound, is_final, full_of, table_full, VersionData}
 use Rattle.np_forms.proofs.Words.{is_empty, has_hangul, pair_or_self, syllable_parts, and_right, drop_more, nil_from_length}
-use Rattle.np_versions.proofs.FullLemmas.{parts-syllable}
+use Rattle.np_versions.proofs.TableLemmas.{parts-syllable}
 use Rattle.np_versions.proofs.HangulLemmas.{IsJamo, IsLv, jamo_bare, shape_of}
 use Rattle.np_versions.proofs.MappingLemmas.{parts-cases, full_of-final, full_of-mapped, full_of-some}
 

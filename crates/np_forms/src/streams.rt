@@ -187,7 +187,7 @@ impl<'t, T: NormTable> Stream<'t, T> {
 
     /// Takes in the non-starters at the front of a text that are their own full decompositions, and answers
     /// what follows them.
-    #[tactic(auto, using(crate::proofs::FrontLemmas::front_answers))]
+    #[tactic(auto, using(crate::proofs::HeldLemmas::front_answers))]
     pub(crate) fn take_front<'a>(&mut self, text: &'a str) -> Result<&'a str, Memory>
         ensures { IfOk result (λ rest. HoldsFront self.old self.new text.now rest.now) }
     {

@@ -106,7 +106,7 @@ fn begins_as_syllable(text: &str) -> bool {
 
 /// The precomposed syllable that a text begins with, and what follows it.
 #[inline(always)]
-#[tactic(auto, using(crate::proofs::SyllableFrontLemmas::syllable_front_answers))]
+#[tactic(auto, using(crate::proofs::SyllableTextLemmas::syllable_front_answers))]
 fn precomposed_front(text: &str) -> Option<(u32, &str)>
     ensures { IfSome result (λ cut. BeginsWithSyllable text.now cut.1.now cut.0) }
 {
@@ -124,7 +124,7 @@ fn precomposed_front(text: &str) -> Option<(u32, &str)>
 /// The syllable whose jamo a text begins with, and what follows them. Where the text has fewer bytes than
 /// three jamo, none is told.
 #[inline(always)]
-#[tactic(auto, using(crate::proofs::SyllableFrontLemmas::syllable_front_answers))]
+#[tactic(auto, using(crate::proofs::SyllableTextLemmas::syllable_front_answers))]
 fn jamo_text_front(text: &str) -> Option<(u32, &str)>
     ensures { IfSome result (λ cut. BeginsWithSyllable text.now cut.1.now cut.0) }
 {

@@ -1,19 +1,16 @@
 -- A string has one key, and keeps it along an extension.
-use Rattle.std.proofs.Common.{◌≡◌, ℕ, ◌<◌, ◌≤◌, ◌^◌, ◌↔◌, List, length, chars, IsUtf8, sym, ap, ◌∙◌, arith}
+use Rattle.std.proofs.Common.{◌≡◌, ℕ, ◌<◌, ◌≤◌, ◌^◌, ◌↔◌, List, length, chars, IsUtf8, sym, ap, ◌∙◌, arith, encode_utf8_all}
 use Rattle.std.proofs.lemmas.Str.{encodes-chars}
 use Rattle.np_chain.specs.Chain.{Extends}
 use Rattle.np_chain.specs.Laws.{Stability}
 use Rattle.np_code_points.specs.Forms.{is_compat}
 use Rattle.np_code_points.specs.declared.forms.Form.{Form}
-use Rattle.np_forms.proofs.FormLemmas.{normal_form_is}
-use Rattle.np_forms.proofs.KeptLemmas.{same_forms}
+use Rattle.np_forms.proofs.FormLemmas.{normal_form_is, same_forms, length-key}
 use Rattle.np_forms.specs.Forms.{IsEquivalent}
-use Rattle.np_forms.proofs.LengthLemmas.{length-key}
 use Rattle.np_node.specs.Fields.{FitsFields}
 use Rattle.np_node.specs.Strings.{Entry, most_bytes, IsKeepable, IsKey, IsEntry}
 use Rattle.np_versions.specs.Conditions.{IsSound}
 use Rattle.np_versions.specs.Versions.{VersionData}
-use Rattle.std.proofs.Common.{encode_utf8_all}
 
 -- texts that are UTF-8 are their code points
 same_bytes : (k l : List ℕ) → IsUtf8 k → IsUtf8 l → chars k ≡ chars l → k ≡ l

@@ -1,13 +1,7 @@
 pub mod FullListLemmas
 pub mod LeadByteLemmas
-pub mod LeadByteScanLemmas
-pub mod PageHintLemmas
-pub mod PagePropertyLemmas
-pub mod PageSlotLemmas
+pub mod PageLemmas
 pub mod PrecomputedFormLemmas
-pub mod QuickCheckLemmas
 pub mod QuickSpanLemmas
 pub mod ScanLemmas
-pub mod SecondPartLemmas
-pub mod TableLemmas
 pub mod Words

@@ -10,7 +10,7 @@ use Rattle.np_tables.specs.declared.precomputed_tables.PrecomputedTables.{Precom
 use Rattle.np_tables.specs.inside.PrecomputedTables.{ArePrecomputedTables, IsPrecomputedOf, kept_of, ArePageTables}
 use Rattle.np_tables.proofs.FullListLemmas.{code_range_of-grown}
 use Rattle.np_versions.proofs.CompositeLemmas.{composite-none, composite-some}
-use Rattle.np_versions.proofs.AnswerLemmas.{IsLent-table_full}
+use Rattle.np_versions.proofs.TableLemmas.{IsLent-table_full}
 use Rattle.np_versions.specs.Precomputed as public
 
 byte_range_of-grown : (old more : List ℕ) (s : ByteRange) → IsByteRange (length old) s → byte_range_of (old ++ more) s ≡ byte_range_of old s

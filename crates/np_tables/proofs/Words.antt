@@ -3,6 +3,7 @@ pub use Rattle.std.proofs.Math.Nat.{div-div-eq-div-mul, div-one, mod-lt, zero-di
 pub use Rattle.std.proofs.Math.Seq.{get_or-append_seam, take-append_seam}
 pub use Rattle.std.proofs.lemmas.Bool.{and_from, and_parts, and_right, both_ways, cases_Bool, cases_lt, cond-false, cond-true, eqb-true, leb-false, leb-true}
 pub use Rattle.std.proofs.lemmas.Bool.{not-false, not-true}
+pub use Rattle.std.proofs.lemmas.Bool.Decides.{nat_tests}
 pub use Rattle.std.proofs.lemmas.List.{drop-append-le, drop-drop, drop-map, drop-take, drop_at, get_or-drop, get_or-map, get_or-set_other, get_or-set_same}
 pub use Rattle.std.proofs.lemmas.List.{get_or_append_left, get_or_default, get_or_past, length-append, length-drop, length-map, length-set, map_push}
 pub use Rattle.std.proofs.lemmas.List.{take-append-le, take_all, take_more}

@@ -148,7 +148,7 @@ fn composes_to(pairs: &Pairs, first: char, rest: &[char], own: char) -> bool
 }
 
 /// Whether a starter and the code points behind it come back to `own` where the form composes.
-#[tactic(auto, using(crate::proofs::PageHintLemmas::composes_by_pairs))]
+#[tactic(auto, using(crate::proofs::PageLemmas::composes_by_pairs))]
 fn comes_back(version: &Version, first: char, rest: &[char], own: char) -> bool
     ensures rises { IsTrue result → NeverFalls (class_of version.now) rest.now }
     ensures folds { IsTrue result → ComposesTo version.now first rest.now own }

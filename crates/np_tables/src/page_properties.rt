@@ -80,7 +80,7 @@ fn properties_of_row(version: &Version, at: usize, slot: u32, second: bool, hint
 }
 
 /// The properties for code points without a row, and behind it the properties of the rows.
-#[tactic(auto, using(crate::proofs::PagePropertyLemmas::property_answers))]
+#[tactic(auto, using(crate::proofs::PageLemmas::property_answers))]
 pub(crate) fn all_row_properties(
     alloc: Global,
     version: &Version,

@@ -32,7 +32,7 @@ fn begins_with_ascii(text: &str) -> bool {
 
 /// What follows the ASCII at the front of a text.
 #[inline(always)]
-#[tactic(auto, using(np_versions::proofs::WalkLemmas::past_boundary, crate::proofs::QuickSpanLemmas::quick_span_answers))]
+#[tactic(auto, using(np_versions::proofs::TableLemmas::past_boundary, crate::proofs::QuickSpanLemmas::quick_span_answers))]
 fn behind_ascii(text: &str) -> &str
     ensures { IsPast (λ c. c < 128) text.now result.now }
 {

@@ -70,7 +70,7 @@ impl NormTable for RowTable {
         self.version.composite_of(a, b)
     }
 
-    #[tactic(auto, using(crate::proofs::TableLemmas::full_answers))]
+    #[tactic(auto, using(crate::proofs::FullListLemmas::full_answers))]
     fn full(&self, c: char, compat: bool) -> &[char] {
         self.version.meets_conditions();
         match self.version.place_of(u32::from(c)) {

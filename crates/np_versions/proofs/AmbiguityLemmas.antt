@@ -5,7 +5,7 @@ use Rattle.np_versions.proofs.Words.{slice_get-get_or, get_or_default, AreRows, 
 use Rattle.np_versions.proofs.Words.{IsFirst, Composite, Lists, AreOfFile, AreOrdered, IsAtMost, least_of, HasSmallerTwin, IsSuspect}
 use Rattle.np_code_points.proofs.HangulLemmas.{pair_injective}
 use Rattle.np_versions.proofs.HangulLemmas.{decomposition_mapping-on}
-use Rattle.np_versions.proofs.PrimaryLemmas.{primary-syllable}
+use Rattle.np_versions.proofs.CompositeLemmas.{primary-syllable}
 
 -- ---- the lesser of two
 
@@ -17,8 +17,6 @@ at_most_right a b c h = grind arith
 
 pub least_has : (P : ℕ → Type 0) (a b : Option ℕ) → IfSome a P → IfSome b P → IfSome (least_of a b) P
 least_has P a b p q = grind arith
-
--- ---- pairs
 
 -- ---- from ambiguous code points to places
 

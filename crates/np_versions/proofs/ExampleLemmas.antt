@@ -1,20 +1,42 @@
--- Versions with a starter, a non-starter, their primary composite and further rows without mappings meet the conditions: one
--- with these three alone, and one with the Hangul arithmetic on. So the laws speak of versions with rows too.
-use Rattle.std.proofs.Common.{◌≡◌, ℕ, ◌≤◌, true, false, ◌&&◌, List, [], ◌∷◌, ◌++◌, flat_map, length, Option, Some, refl, sym, ap, subst, ◌∙◌, arith, inl, inr}
-use Rattle.np_versions.proofs.Words.{list_all, slice_get, cond-true, cond-false, cases_Bool, and_parts, and_right, and_from, leb-true, both_ways, Entry}
-use Rattle.np_versions.proofs.Words.{AreRows, Plain, Canonical, is_syllable, syllable_pair, VersionData, entry_at, is_assigned, class_of, file_kind}
-use Rattle.np_versions.proofs.Words.{file_mapping, mapping_in, is_empty, is_excluded, is_hangul, is_hangul_row, has_hangul, decomposition_kind}
-use Rattle.np_versions.proofs.Words.{decomposition_mapping, has_depth, full_of, IsPrimary, IsCompositeOf, IsSound}
+-- Versions that meet the conditions, so the laws are not vacuous: that of empty files, one with a starter, a non-starter and their
+-- primary composite, and one with these, the Hangul arithmetic and further rows.
+use Rattle.std.proofs.Common.{◌≡◌, ℕ, true, false, [], length, refl, ap, ◌∙◌, arith, ◌≤◌, ◌&&◌, List, ◌∷◌, ◌++◌, flat_map, Option, Some, sym, subst, inl, inr}
+use Rattle.np_versions.proofs.Words.{both_ways, list_all, entry_at, is_assigned, is_empty, decomposition_mapping, has_depth, IsSound, slice_get, cond-true}
+use Rattle.np_versions.proofs.Words.{cond-false, cases_Bool, and_parts, and_right, and_from, leb-true, Entry, AreRows, Plain, Canonical, is_syllable}
+use Rattle.np_versions.proofs.Words.{syllable_pair, VersionData, class_of, file_kind, file_mapping, mapping_in, is_excluded, is_hangul, is_hangul_row}
+use Rattle.np_versions.proofs.Words.{has_hangul, decomposition_kind, full_of, IsPrimary, IsCompositeOf}
+use Rattle.np_versions.specs.Examples.{without_rows, letter_with_ring, plain, with_hangul, with_rows}
+use Rattle.np_versions.proofs.FaultLemmas.{sound-by}
+use Rattle.np_versions.proofs.MappingLemmas.{is_empty-true, full_of-final, full_of-only, parts-cases, full_of-mapped}
+use Rattle.np_versions.proofs.CompositeLemmas.{mapped-assigned, composite-assigned, composite_parts}
 use Rattle.np_code_points.proofs.HangulLemmas.{first_same, pair_injective}
-use Rattle.np_versions.specs.Examples.{letter_with_ring, plain, with_hangul, with_rows}
-use Rattle.np_versions.proofs.CompositeLemmas.{composite_parts}
 use Rattle.np_versions.proofs.DepthLemmas.{bare_depth, mark-length, mark-more, suc_depth}
-use Rattle.np_versions.proofs.FactLemmas.{sound-by}
-use Rattle.np_versions.proofs.HangulLemmas.{decomposition_kind-off, decomposition_mapping-off, decomposition_mapping-on, has_hangul-from, head_hangul, pair_assigned, shape_of}
-use Rattle.np_versions.proofs.HangulPlaces.{hangul_runs, Runs}
-use Rattle.np_versions.proofs.MappingLemmas.{full_of-final, full_of-mapped, full_of-only, parts-cases}
+use Rattle.np_versions.proofs.HangulLemmas.{decomposition_kind-off, decomposition_mapping-off, decomposition_mapping-on, has_hangul-from, head_hangul}
+use Rattle.np_versions.proofs.HangulLemmas.{pair_assigned, shape_of, hangul_runs, Runs}
 use Rattle.np_versions.proofs.RowLemmas.{at-found}
 use Rattle.np_versions.proofs.SyllableLemmas.{depth_two, mark-syllable, syllable_mark-late}
+
+lacks : (c : ℕ) → is_assigned without_rows c ≡ false
+unfolding is_assigned entry_at
+lacks c = refl
+
+no_mapping : (c : ℕ) → decomposition_mapping without_rows c ≡ []
+no_mapping c = let lacking = lacks c in grind (arith, mapped-assigned, is_empty-true)
+
+empty_shallow : (c : ℕ) → has_depth without_rows 32 c ≡ true
+unfolding has_depth
+empty_shallow c = ap (list_all (has_depth without_rows 31)) (no_mapping c)
+
+pub IsSound-without_rows : IsSound without_rows
+IsSound-without_rows =
+    sound-by without_rows tt (λ c. ap (list_all (is_assigned without_rows)) (no_mapping c)) empty_shallow
+    (λ c ys is.
+    let final = parts-cases without_rows true (λ l. is_empty l ≡ true) refl c (ap is_empty (no_mapping c)) in
+    let e = ap length (full_of-only without_rows true empty_shallow c ys is ∙ full_of-final without_rows true empty_shallow c final) in omega arith)
+    (λ a b c d h k. absurd (both_ways _ (lacks c) (composite-assigned without_rows a b c h)))
+    (λ c among h. absurd (both_ways _ (lacks c) h))
+
+-- ---- versions with rows
 
 -- a row of one code point, or one of the rows behind it
 at_row : (P : ℕ → Option Entry → Type 0) (e : Entry) (es : List Entry) (c : ℕ) → e.first ≡ e.last → P e.first (Some e) → P c (entry_at es c) → P c (entry_at (e ∷ es) c)

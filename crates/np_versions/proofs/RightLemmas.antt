@@ -2,8 +2,7 @@
 use Rattle.std.proofs.Common.{◌≡◌, ℕ, ◌+◌, ◌-◌, ◌<◌, ◌≤◌, arith, inr, true, false, ◌&&◌, ◌==◌, List, Option, Some, None, is_some, refl, sym, ◌∙◌}
 use Rattle.np_versions.proofs.Words.{Entry, Span, VersionData, entry_at, class_in, class_of, file_mapping, has_hangul, is_assigned, is_empty, is_hangul_row}
 use Rattle.np_versions.proofs.Words.{mapping_in, hangul_at, is_right_at, is_right_entry, AreRows}
-use Rattle.np_versions.proofs.HangulLemmas.{has_hangul-fails, has_hangul-from}
-use Rattle.np_versions.proofs.HangulPlaces.{Stands, each_hangul, hangul_at-hangul, stands-is}
+use Rattle.np_versions.proofs.HangulLemmas.{has_hangul-fails, has_hangul-from, Stands, each_hangul, hangul_at-hangul, stands-is}
 use Rattle.np_versions.proofs.RowLemmas.{at-found, entry_at-row, entry_at-within, place_of_entry}
 
 right_entry-is : (o : Option Entry) → is_right_entry o ≡ (is_some o && class_in o == 0 && is_empty (mapping_in o))

@@ -1,13 +1,12 @@
 -- The loops over the rows and over the parts of a mapping.
 use Rattle.std.proofs.Common.{◌≡◌, ◌≢◌, ℕ, zero, suc, ◌+◌, ◌-◌, ◌%◌, ◌<◌, ◌≤◌, Bool, true, false, ◌&&◌, min, List, [], ◌∷◌, ◌++◌, map, flat_map, length, take, get_or, None, refl, sym, ap, ◌∙◌, arith, length-append, append-nil, cond, eqb, drop, Option, Some, subst}
-use Rattle.std.proofs.lemmas.Bool.Decides.{nat_tests}
 use Rattle.np_versions.proofs.Words.{cond-true, cond-false, and_from, eqb-false, ne_eqb, le-leb, lt-leb, take_more, take_all, length-map, length-drop}
 use Rattle.np_versions.proofs.Words.{drop-drop, drop_at, drop-map, flat_map-append, min-le_right, list_all, slice_get, Entry, AreRows, is_syllable, VersionData}
 use Rattle.np_versions.proofs.Words.{entry_at, mapping_in, is_empty, has_hangul, has_depth, full, mark, parts_mark, mapping_mark, row_marks, syllable_depth}
-use Rattle.np_versions.proofs.Words.{syllable_mark, first_row, is_marked, take-add, option_map, before_byte, after_byte}
+use Rattle.np_versions.proofs.Words.{syllable_mark, first_row, is_marked, take-add, option_map, before_byte, after_byte, nat_tests}
 use Rattle.std.proofs.lemmas.List.Folds.{list_all_at, list_all_more}
 use Rattle.np_code_points.proofs.LineGrammar.{joined_some, joined_none}
-use Rattle.np_versions.proofs.AccessLemmas.{length-empty}
+use Rattle.np_versions.proofs.RowLemmas.{length-empty}
 use Rattle.np_versions.proofs.DepthLemmas.{mark-file, mark-zero, mark-more, mark-length, kept_mark}
 
 -- ---- the marks of the rows, one by one

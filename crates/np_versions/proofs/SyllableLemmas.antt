@@ -1,18 +1,16 @@
 -- The marks of the syllables of the Hangul arithmetic.
 use Rattle.std.proofs.Common.{◌≡◌, ℕ, zero, suc, ◌+◌, ◌-◌, ◌%◌, ◌≤◌, true, false, [], ◌∷◌, ◌++◌, flat_map, length, refl, sym, ap, ◌∙◌, inl, inr, arith, ◌==◌, ◌≢◌, ◌<◌, ◌&&◌, List, Option, Some, None, subst, eqb, ◌⊎◌, Bool}
-use Rattle.std.proofs.lemmas.Bool.Decides.{nat_tests}
 use Rattle.np_versions.proofs.Words.{cases_eq, cond-true, cond-false, cond_both, and_from, and_left, eqb-true, list_all, AreRows, Entry, is_syllable}
 use Rattle.np_versions.proofs.Words.{syllable_pair, VersionData, file_mapping, has_hangul, decomposition_mapping, entry_at, mapping_in, has_depth, full, marked}
 use Rattle.np_versions.proofs.Words.{mark, parts_mark, mapping_mark, syllable_depth, syllable_mark, row_marks, first_row, is_marked, IsTooDeep, IsTooLong}
-use Rattle.np_versions.proofs.Words.{IsFirst}
+use Rattle.np_versions.proofs.Words.{IsFirst, nat_tests}
 use Rattle.std.specs.Cmp.Lexicographic.{pointwise}
 use Rattle.np_versions.proofs.HangulLemmas.{decomposition_mapping-on, hangul_parts, IsLv, IsLvt, jamo_bare, lv_shape, lvt_shape, shape_of, syllable_row}
 use Rattle.np_versions.proofs.MappingLemmas.{is_empty-true, decomposes_full, full-only}
 use Rattle.np_versions.proofs.DepthLemmas.{bare_depth, bare_full, parts-mapping, suc_depth, suc_full, zero_depth, mark-mapping, mark-file, marks-from_rows}
 use Rattle.np_versions.proofs.DepthLemmas.{settled_rows, mark-zero, mark-more, mark-deep, mark-length}
-use Rattle.np_versions.proofs.RowLemmas.{entry_at-row, entry_at-within, entry_at-hit, entry_at-miss, entry_at-nil, found-above}
+use Rattle.np_versions.proofs.RowLemmas.{entry_at-row, entry_at-within, entry_at-hit, entry_at-miss, entry_at-nil, found-above, file_mapping-found}
 use Rattle.np_versions.proofs.RoundLemmas.{depth_even, depth_odd, mark_hidden, mark_shown}
-use Rattle.np_versions.proofs.FileRowLemmas.{file_mapping-found}
 
 -- ---- syllables have no mapping in the file
 

@@ -1,7 +1,6 @@
 -- At most one full decomposition: two rewritings of one list meet again, so none is lost by another.
 use Rattle.std.proofs.Common.{◌≡◌, ℕ, zero, suc, ◌⊎◌, Bool, true, List, [], ◌∷◌, ◌++◌, arith, refl, sym, ap, subst, ◌∙◌, inl, inr, append_assoc}
-use Rattle.std.proofs.lemmas.Bool.Decides.{nat_tests}
-use Rattle.np_versions.proofs.Words.{list_all, AtMostOneDecomposition, parts, Rewrites, is_final, VersionData, is_empty}
+use Rattle.np_versions.proofs.Words.{list_all, AtMostOneDecomposition, parts, Rewrites, is_final, VersionData, is_empty, nat_tests}
 use Rattle.np_code_points.specs.Steps.{ReachesIn}
 
 -- ---- two places of one list

@@ -4,6 +4,7 @@ pub use Rattle.std.proofs.Math.Seq.{get_or-append_seam, take-add}
 pub use Rattle.std.proofs.lemmas.Bool.{and_cases, and_from, and_left, and_parts, and_right, both_ways, cases_Bool, cases_eq, cases_lt, cond-false, cond-true}
 pub use Rattle.std.proofs.lemmas.Bool.{cond_both, eqb-false, eqb-true, le-leb, le-ltb, leb-false, leb-true, lt-leb, lt-ltb, ne_eqb, not-false, not-true}
 pub use Rattle.std.proofs.lemmas.Bool.{or_from, or_left, or_right}
+pub use Rattle.std.proofs.lemmas.Bool.Decides.{nat_tests}
 pub use Rattle.std.proofs.lemmas.Grind.{flat_map-append, get_or_default_zero}
 pub use Rattle.std.proofs.lemmas.List.{drop-drop, drop-map, drop_all, drop_at, get_or_append_left, get_or_default, length-append, length-drop, length-map}
 pub use Rattle.std.proofs.lemmas.List.{take-append-drop, take_all, take_more}

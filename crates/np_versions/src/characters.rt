@@ -101,7 +101,7 @@ impl CharacterData {
     }
 
     /// Whether a row lists the code point.
-    #[tactic(auto, using(crate::proofs::AccessLemmas::accesses))]
+    #[tactic(auto, using(crate::proofs::RowLemmas::accesses))]
     pub(crate) fn assigned(&self, code: u32) -> bool
         ensures { result ≡ is_assigned self.now code }
     {
@@ -139,7 +139,7 @@ impl CharacterData {
     }
 
     /// Whether the code point is listed as an exclusion, and has a canonical mapping in the file.
-    #[tactic(auto, using(crate::proofs::AccessLemmas::accesses))]
+    #[tactic(auto, using(crate::proofs::RowLemmas::accesses))]
     pub(crate) fn excluded(&self, code: u32) -> bool
         ensures { result ≡ is_excluded self.now code }
     {
@@ -154,7 +154,7 @@ impl CharacterData {
     }
 
     /// Whether the code point is assigned, of class 0 and without a mapping in the file.
-    #[tactic(auto, using(crate::proofs::AccessLemmas::accesses))]
+    #[tactic(auto, using(crate::proofs::RowLemmas::accesses))]
     pub(crate) fn is_hangul_row(&self, code: u32) -> bool
         ensures { result ≡ is_hangul_row self.now code }
     {

@@ -9,7 +9,7 @@ use crate::characters::CharacterData;
 use crate::hangul_rows::{HANGUL_COUNT, hangul_at};
 
 /// Whether some syllable or jamo is assigned.
-#[tactic(auto, using(crate::proofs::HangulPlaces::having, crate::proofs::HangulPlaces::lacking))]
+#[tactic(auto, using(crate::proofs::HangulLemmas::having, crate::proofs::HangulLemmas::lacking))]
 fn has_some(characters: &CharacterData) -> bool
     ensures some { result ≡ true → HasAssignedHangul characters.now }
     ensures none { result ≡ false → (c : ℕ) → is_hangul c ≡ true → is_assigned characters.now c ≡ false }

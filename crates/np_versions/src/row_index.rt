@@ -65,7 +65,7 @@ impl RowIndex {
     }
 
     /// The place of the row in which a code point lies.
-    #[tactic(auto, using(crate::proofs::RowPageLemmas::past_code_points))]
+    #[tactic(auto, using(crate::proofs::RowLemmas::past_code_points))]
     pub(crate) fn place_of(&self, code: u32) -> Option<usize>
         ensures none { IfNone result (entry_at self.now code ≡ None) }
         ensures within { IfSome result (λ at. at < length self.now) }

@@ -1,4 +1,4 @@
-use Rattle.np_forms.proofs.KeptLemmas.{idempotence, same_forms}
+use Rattle.np_forms.proofs.FormLemmas.{idempotence, same_forms}
 use Rattle.np_chain.proofs.laws.idempotence.Goals as goal
 
 pub returns-clause-own : goal.returns-clause-own

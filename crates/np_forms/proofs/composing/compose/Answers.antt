@@ -1,6 +1,6 @@
 use Rattle.std.proofs.Common.{sym, ap, subst, take, ◌∙◌, arith}
 use Rattle.np_forms.proofs.Words.{drop_all, codes_of, IsComposing}
-use Rattle.np_forms.proofs.ClassLemmas.{no_codes}
+use Rattle.np_forms.proofs.OrderLemmas.{no_codes}
 use Rattle.np_forms.proofs.ComposerLemmas.{IsComposing-end}
 use Rattle.np_forms.proofs.composing.compose.Goals as goal
 

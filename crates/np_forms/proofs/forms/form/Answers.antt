@@ -1,7 +1,6 @@
 use Rattle.std.proofs.Common.{◌++◌, chars, encode_utf8_all, ap, string_bytes, ◌∙◌}
 use Rattle.np_forms.proofs.Words.{IsUtf8-string_bytes, normal_form}
-use Rattle.np_forms.proofs.ChunkLemmas.{closes_form}
-use Rattle.np_forms.proofs.WrittenLemmas.{made_form}
+use Rattle.np_forms.proofs.WrittenLemmas.{closes_form, made_form}
 use Rattle.np_forms.proofs.forms.form.Goals as goal
 
 pub returns : goal.returns

@@ -1,7 +1,7 @@
 use Rattle.std.proofs.Common.{◌≡◌, ℕ, ◌<◌, ◌++◌, ◌∷◌, [], true, ap, ◌∙◌, arith}
 use Rattle.np_forms.proofs.Words.{not_from_false, chars_rest, class_of, is_non_starter, CodeAndClass, with_class}
 use Rattle.np_forms.proofs.ComposeLemmas.{not_starter_from}
-use Rattle.np_forms.proofs.FrontLemmas.{IsFrontHeld-next}
+use Rattle.np_forms.proofs.HeldLemmas.{IsFrontHeld-next}
 use Rattle.np_forms.proofs.held.hold_front.Goals as goal
 
 pub scan-preserved : goal.scan-preserved

@@ -1,6 +1,6 @@
 use Rattle.std.proofs.Common.{◌≡◌, ◌<◌, ◌≤◌, ◌++◌, ◌∷◌, [], true, sym, ap, subst, ◌∙◌, arith}
 use Rattle.np_forms.proofs.Words.{class_of, composite, CodeAndClass, codes_of, IsHeld, ended, canonical_order}
-use Rattle.np_forms.proofs.ClassLemmas.{codes_more}
+use Rattle.np_forms.proofs.OrderLemmas.{codes_more}
 use Rattle.np_forms.proofs.HeldLemmas.{Advances-kept, held_non_starter, held_joins, held_parts}
 use Rattle.np_forms.proofs.held.push.Goals as goal
 

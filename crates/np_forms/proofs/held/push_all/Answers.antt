@@ -1,6 +1,6 @@
 use Rattle.std.proofs.Common.{◌≡◌, ◌∷◌, [], take, subst, sym}
 use Rattle.np_forms.proofs.Words.{take_all, CodeAndClass, codes_of, with_class, Advances}
-use Rattle.np_forms.proofs.ClassLemmas.{AreClassed-at, codes_next}
+use Rattle.np_forms.proofs.OrderLemmas.{AreClassed-at, codes_next}
 use Rattle.np_forms.proofs.HeldLemmas.{Advances-start, Advances-next}
 use Rattle.np_forms.proofs.held.push_all.Goals as goal
 

@@ -1,7 +1,6 @@
 use Rattle.std.proofs.Common.{◌≡◌, length, sym, ap, ◌∙◌, arith}
 use Rattle.np_forms.proofs.Words.{take_at, length-map, class_of, canonical_order, codes_of, with_class, with_classes, ended}
-use Rattle.np_forms.proofs.ClassLemmas.{codes-with_classes, same_length}
-use Rattle.np_forms.proofs.OrderLemmas.{is_ordered-canonical_order, length-canonical_order}
+use Rattle.np_forms.proofs.OrderLemmas.{codes-with_classes, same_length, is_ordered-canonical_order, length-canonical_order}
 use Rattle.np_forms.proofs.held.settle.Goals as goal
 
 pub returns-then-composes : goal.returns-then-composes

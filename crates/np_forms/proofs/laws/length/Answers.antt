@@ -1,4 +1,4 @@
-use Rattle.np_forms.proofs.LengthLemmas.{length-key, length-normal_form}
+use Rattle.np_forms.proofs.FormLemmas.{length-key, length-normal_form}
 use Rattle.np_forms.proofs.laws.length.Goals as goal
 
 pub returns-clause-code_points : goal.returns-clause-code_points

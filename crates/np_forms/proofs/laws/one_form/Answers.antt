@@ -1,4 +1,4 @@
-use Rattle.np_versions.proofs.EmptyLemmas.{IsSound-without_rows}
+use Rattle.np_versions.proofs.ExampleLemmas.{IsSound-without_rows}
 use Rattle.np_versions.proofs.ExampleLemmas.{IsSound-with_rows, IsSound-with_hangul, class_of-ring, hangul_on_with, IsCompositeOf-with_rows}
 use Rattle.np_forms.proofs.FormLemmas.{one_form}
 use Rattle.np_forms.proofs.laws.one_form.Goals as goal

@@ -1,4 +1,4 @@
-use Rattle.np_versions.proofs.AnswerLemmas.{pair-value}
+use Rattle.np_versions.proofs.TableLemmas.{pair-value}
 use Rattle.np_forms.proofs.lookups.composite_of.Goals as goal
 
 pub returns : goal.returns

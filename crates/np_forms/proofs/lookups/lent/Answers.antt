@@ -1,4 +1,4 @@
-use Rattle.np_versions.proofs.AnswerLemmas.{lent-value}
+use Rattle.np_versions.proofs.TableLemmas.{lent-value}
 use Rattle.np_forms.proofs.lookups.lent.Goals as goal
 
 pub returns : goal.returns

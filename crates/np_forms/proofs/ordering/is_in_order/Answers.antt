@@ -1,6 +1,6 @@
 use Rattle.std.proofs.Common.{◌≡◌, ◌<◌, ◌+◌, ◌⊎◌, ◌≤◌, ◌++◌, ◌∷◌, [], get_or, take, length, sym, ap, subst, ◌∙◌, arith, append_assoc, append-nil}
 use Rattle.np_forms.proofs.Words.{take_all, take_more, Rises, class_of, CodeAndClass}
-use Rattle.np_forms.proofs.ClassLemmas.{at_place, same_length}
+use Rattle.np_forms.proofs.OrderLemmas.{at_place, same_length}
 use Rattle.np_forms.proofs.SegmentLemmas.{is_ordered-rises}
 use Rattle.np_forms.proofs.ordering.is_in_order.Goals as goal
 

@@ -1,6 +1,6 @@
 use Rattle.std.proofs.Common.{◌≡◌, ◌<◌, ◌≤◌, true, get_or, take, sym, ap, ◌∙◌, arith}
 use Rattle.np_forms.proofs.Words.{both_ways, take_more, class_of, CodeAndClass}
-use Rattle.np_forms.proofs.ClassLemmas.{at_place, same_length}
+use Rattle.np_forms.proofs.OrderLemmas.{at_place, same_length}
 use Rattle.np_forms.proofs.SortLemmas.{IsRunTo-start, IsRunTo-next}
 use Rattle.np_forms.proofs.ordering.non_starters_at_front.Goals as goal
 use Rattle.np_forms.proofs.ordering.non_starters_at_front.Goals.{then-class-last, else-class-last}

@@ -1,7 +1,6 @@
 use Rattle.std.proofs.Common.{◌≤◌, ◌++◌, drop, length, sym, ap, ◌∙◌, append-nil, arith}
 use Rattle.np_forms.proofs.Words.{take_all, drop_all, class_of, canonical_order, with_classes}
-use Rattle.np_forms.proofs.ClassLemmas.{same_length}
-use Rattle.np_forms.proofs.OrderLemmas.{canonical_order-nil, canonical_order-ordered}
+use Rattle.np_forms.proofs.OrderLemmas.{same_length, canonical_order-nil, canonical_order-ordered}
 use Rattle.np_forms.proofs.ordering.order.Goals as goal
 
 pub returns-then-is_in_order : goal.returns-then-is_in_order

@@ -1,8 +1,7 @@
 use Rattle.std.proofs.Common.{◌≡◌, ◌+◌, ◌-◌, ◌<◌, ◌≤◌, ◌++◌, true, length, take, drop, get_or, refl, sym, ap, ◌∙◌, arith}
 use Rattle.np_forms.proofs.Words.{take_rest, take-append-drop, drop-drop, class_of, is_ordered, canonical_order, with_classes}
 use borrow.Rule.Slice.PartMut.{put_mid}
-use Rattle.np_forms.proofs.ClassLemmas.{back_part, front_part, put_in, same_length}
-use Rattle.np_forms.proofs.OrderLemmas.{canonical_order-ordered}
+use Rattle.np_forms.proofs.OrderLemmas.{back_part, front_part, put_in, same_length, canonical_order-ordered}
 use Rattle.np_forms.proofs.SortLemmas.{order_step}
 use Rattle.np_forms.proofs.ordering.order_run.Goals as goal
 use Rattle.np_forms.proofs.ordering.order_run.Goals.{then-not-ordered+in_ok-sort_non_starters, else-not-ordered}

@@ -1,6 +1,6 @@
 use Rattle.std.proofs.Common.{◌≡◌, ◌++◌, ◌+◌, ◌∷◌, [], take, encode_utf8, encode_utf8_all, IsUtf8, sym, subst, ◌∙◌, ap, append_assoc, append-nil, arith}
 use Rattle.np_forms.proofs.Words.{encodes-append, IsUtf8-append, codes_of}
-use Rattle.np_forms.proofs.ClassLemmas.{codes_next}
+use Rattle.np_forms.proofs.OrderLemmas.{codes_next}
 use Rattle.np_forms.proofs.out_texts.put_codes.Goals as goal
 
 pub loop-c-preserved : goal.loop-c-preserved

@@ -1,6 +1,6 @@
 use Rattle.std.proofs.Common.{◌≡◌, ◌≤◌, ◌<◌, true, length, subst, take}
 use Rattle.std.specs.Str.{IsAscii}
-use Rattle.np_versions.proofs.WalkLemmas.{IsPast-ascii, past_boundary}
+use Rattle.np_versions.proofs.TableLemmas.{IsPast-ascii, past_boundary}
 use Rattle.np_forms.proofs.precomputed_texts.behind_ascii.Goals as goal
 
 pub range_from-requires : goal.range_from-requires

@@ -1,7 +1,7 @@
 use Rattle.std.proofs.Common.{◌+◌, ◌++◌, [], length, encode_utf8_all, inr, sym, ap, subst, ◌∙◌, append-nil}
 use Rattle.np_forms.proofs.Words.{err_from_is_err_and, chars-nil, device_of}
 use Rattle.std.specs.Io.KnownBytes.{Appends}
-use Rattle.np_forms.proofs.ChunkLemmas.{closes_end}
+use Rattle.np_forms.proofs.WrittenLemmas.{closes_end}
 use Rattle.std.proofs.KnownBytes.{Appends-kept}
 use Rattle.np_forms.proofs.runs.write_rest.Goals as goal
 

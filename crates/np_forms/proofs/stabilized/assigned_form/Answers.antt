@@ -1,6 +1,6 @@
 use Rattle.std.proofs.Common.{chars, encode_utf8_all, subst, sym, ap, ◌++◌, ◌∙◌}
 use Rattle.np_forms.proofs.Words.{IsAssigned, normal_form}
-use Rattle.np_forms.proofs.ChunkLemmas.{closes_form}
+use Rattle.np_forms.proofs.WrittenLemmas.{closes_form}
 use Rattle.np_forms.proofs.TextLemmas.{assigned-back, assigned-both}
 use Rattle.np_forms.proofs.stabilized.assigned_form.Goals as goal
 

@@ -1,6 +1,6 @@
 use Rattle.std.proofs.Common.{◌≡◌, ◌++◌, encode_utf8, subst, IfSome}
 use Rattle.np_forms.specs.inside.Copies.{IsCopiedAlone}
-use Rattle.np_forms.proofs.SyllableFrontLemmas.{space-begins}
+use Rattle.np_forms.proofs.SyllableTextLemmas.{space-begins}
 use Rattle.np_forms.proofs.syllable_texts.has_boundary_before.Goals as goal
 
 pub returns-in-Some : goal.returns-in-Some

@@ -1,4 +1,4 @@
-use Rattle.np_forms.proofs.SyllableFrontLemmas.{ascii-alone}
+use Rattle.np_forms.proofs.SyllableTextLemmas.{ascii-alone}
 use Rattle.np_forms.proofs.syllable_texts.is_ascii_alone.Goals as goal
 
 pub returns : goal.returns

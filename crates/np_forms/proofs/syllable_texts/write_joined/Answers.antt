@@ -1,7 +1,7 @@
 use Rattle.std.proofs.Common.{◌≡◌, ◌∙◌, ap, arith, length, length-append, subst, IfNone, IfSome}
 use Rattle.np_forms.proofs.Words.{AppendsForm, IsReadAssigned, BeginsWithSyllable}
 use Rattle.np_forms.proofs.SegmentLemmas.{goes-both, goes-start}
-use Rattle.np_forms.proofs.SyllableFrontLemmas.{goes-joined, syllable-begins, syllable-read}
+use Rattle.np_forms.proofs.SyllableTextLemmas.{goes-joined, syllable-begins, syllable-read}
 use Rattle.np_forms.proofs.TextLemmas.{IsReadAssigned-both, IsReadAssigned-start}
 use Rattle.np_forms.proofs.syllable_texts.write_joined.Goals as goal
 

@@ -1,7 +1,7 @@
 use Rattle.std.proofs.Common.{◌≡◌, ◌++◌, encode_utf8, subst, IfSome}
 use Rattle.np_forms.specs.inside.Copies.{IsCopiedAlone}
 use Rattle.np_forms.proofs.SegmentLemmas.{goes-copied}
-use Rattle.np_forms.proofs.SyllableFrontLemmas.{space-copied, syllable-begins}
+use Rattle.np_forms.proofs.SyllableTextLemmas.{space-copied, syllable-begins}
 use Rattle.np_forms.proofs.TextLemmas.{IsReadAssigned-next, IsReadAssigned-start}
 use Rattle.np_forms.proofs.syllable_texts.write_space.Goals as goal
 

@@ -1,6 +1,6 @@
 use Rattle.std.proofs.Common.{chars, refl, sym, subst, ◌∙◌}
 use Rattle.np_forms.proofs.Words.{IsAssigned, nil_from_length}
-use Rattle.np_forms.proofs.ChunkLemmas.{Closes-at_once}
+use Rattle.np_forms.proofs.WrittenLemmas.{Closes-at_once}
 use Rattle.np_forms.proofs.written.close_assigned.Goals as goal
 
 pub returns-then-pending_len-eq0-clause-form : goal.returns-then-pending_len-eq0-clause-form

@@ -1,6 +1,6 @@
 use Rattle.std.proofs.Common.{sym, ◌∙◌}
 use Rattle.np_forms.proofs.Words.{nil_from_length, on_ok_weaker}
-use Rattle.np_forms.proofs.ChunkLemmas.{Closes-at_once, Closes-held}
+use Rattle.np_forms.proofs.WrittenLemmas.{Closes-at_once, Closes-held}
 use Rattle.np_forms.proofs.written.close_text.Goals as goal
 
 pub returns-then-pending_len-eq0 : goal.returns-then-pending_len-eq0

@@ -1,7 +1,6 @@
 use Rattle.std.proofs.Common.{rules}
 use Rattle.std.proofs.lemmas.Result.{on_ok_weaker}
-use Rattle.np_forms.proofs.ChunkLemmas.{Writes-text}
-use Rattle.np_forms.proofs.WrittenLemmas.{Writes-behind}
+use Rattle.np_forms.proofs.WrittenLemmas.{Writes-text, Writes-behind}
 use Rattle.np_forms.proofs.written.feed_text.Goals as goal
 
 pub returns : goal.returns

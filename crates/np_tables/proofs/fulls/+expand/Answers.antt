@@ -1,7 +1,7 @@
 use Rattle.std.proofs.Common.{◌-◌, sym, ◌∙◌, arith}
 use Rattle.std.proofs.lemmas.Result.{IfOk-weaker}
 use Rattle.np_versions.specs.inside.FullDecompositions.{full}
-use Rattle.np_versions.proofs.FullLemmas.{full-bottom, full-kept, full-level}
+use Rattle.np_versions.proofs.TableLemmas.{full-bottom, full-kept, full-level}
 use Rattle.np_tables.proofs.FullListLemmas.{append_all, append_two, parts-counted_mapping, nil_from_test, some_from_test}
 use Rattle.np_tables.proofs.fulls.+expand.Goals as goal
 

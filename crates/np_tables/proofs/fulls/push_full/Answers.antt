@@ -1,6 +1,6 @@
 use Rattle.std.proofs.Common.{◌++◌, sym, ap, ◌∙◌, append-nil}
 use Rattle.np_tables.proofs.Words.{lent_entry, full}
-use Rattle.np_versions.proofs.FullLemmas.{row-lent, row-not_lent}
+use Rattle.np_versions.proofs.TableLemmas.{row-lent, row-not_lent}
 use Rattle.np_tables.proofs.fulls.push_full.Goals as goal
 
 pub returns-in_ok-expand : goal.returns-in_ok-expand

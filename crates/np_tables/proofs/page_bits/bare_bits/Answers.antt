@@ -1,6 +1,6 @@
 use Rattle.std.proofs.Common.{◌∙◌, sym, subst, arith}
 use Rattle.np_tables.proofs.Words.{AreRowBits}
-use Rattle.np_tables.proofs.PageHintLemmas.{bits-bare, bits-syllables}
+use Rattle.np_tables.proofs.PageLemmas.{bits-bare, bits-syllables}
 use Rattle.np_tables.proofs.page_bits.bare_bits.Goals as goal
 
 pub returns-then-not-touches : goal.returns-then-not-touches

@@ -1,6 +1,6 @@
 use Rattle.std.proofs.Common.{◌∷◌, [], ◌∙◌, sym, subst}
 use Rattle.np_tables.proofs.Words.{lent_entry, IsFullDecomposition, AreHints}
-use Rattle.np_tables.proofs.PageHintLemmas.{lent-decomposes, not_lent-final}
+use Rattle.np_tables.proofs.PageLemmas.{lent-decomposes, not_lent-final}
 use Rattle.np_tables.proofs.page_bits.kind_hints.Goals as goal
 
 pub returns-then-is_lent : goal.returns-then-is_lent

@@ -1,6 +1,6 @@
 use Rattle.std.proofs.Common.{sym, subst}
 use Rattle.np_tables.proofs.Words.{AreRowBits}
-use Rattle.np_tables.proofs.PageHintLemmas.{bits-mapped}
+use Rattle.np_tables.proofs.PageLemmas.{bits-mapped}
 use Rattle.np_tables.proofs.page_bits.mapped_bits.Goals as goal
 
 pub returns : goal.returns

@@ -1,8 +1,6 @@
 use Rattle.std.proofs.Common.{◌∙◌, sym, subst}
 use Rattle.np_tables.proofs.Words.{lent_entry, AreHints}
-use Rattle.np_tables.proofs.SecondPartLemmas.{row-never_second}
-use Rattle.np_tables.proofs.PageHintLemmas.{hints-own}
-use Rattle.np_tables.proofs.PagePropertyLemmas.{class-found}
+use Rattle.np_tables.proofs.PageLemmas.{row-never_second, hints-own, class-found}
 use Rattle.np_tables.proofs.page_bits.row_bits.Goals as goal
 
 pub bare_bits-requires-clause-own : goal.bare_bits-requires-clause-own

@@ -1,6 +1,6 @@
 use Rattle.std.proofs.Common.{◌∙◌, ap, sym, subst, refl}
 use Rattle.np_tables.proofs.Words.{class_of, IsNeverSecond, both_ways}
-use Rattle.np_tables.proofs.PageHintLemmas.{hints-listed}
+use Rattle.np_tables.proofs.PageLemmas.{hints-listed}
 use Rattle.np_tables.proofs.page_hints.hints_by_parts.Goals as goal
 
 pub returns : goal.returns

@@ -1,6 +1,6 @@
 use Rattle.std.proofs.Common.{◌∙◌, sym}
 use Rattle.np_tables.proofs.Words.{not-true}
-use Rattle.np_tables.proofs.SecondPartLemmas.{never_second-unlisted, never_second-unmarked}
+use Rattle.np_tables.proofs.PageLemmas.{never_second-unlisted, never_second-unmarked}
 use Rattle.np_tables.proofs.page_hints.is_never_second.Goals as goal
 
 pub returns-in-Some : goal.returns-in-Some

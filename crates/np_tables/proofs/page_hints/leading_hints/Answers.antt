@@ -1,4 +1,4 @@
-use Rattle.np_tables.proofs.PageHintLemmas.{hints-less}
+use Rattle.np_tables.proofs.PageLemmas.{hints-less}
 use Rattle.np_tables.proofs.page_hints.leading_hints.Goals as goal
 
 pub returns-then-own : goal.returns-then-own

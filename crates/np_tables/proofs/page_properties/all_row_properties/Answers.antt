@@ -1,6 +1,6 @@
 use Rattle.std.proofs.Common.{◌+◌, sym, subst, arith, rules}
 use Rattle.np_tables.proofs.Words.{AreAllRowProperties}
-use Rattle.np_tables.proofs.PagePropertyLemmas.{all_properties-more}
+use Rattle.np_tables.proofs.PageLemmas.{all_properties-more}
 use Rattle.np_tables.proofs.page_properties.all_row_properties.Goals as goal
 
 pub loop-at-preserved : goal.loop-at-preserved

@@ -1,7 +1,6 @@
 use Rattle.std.proofs.Common.{◌≡◌, arith, ◌∙◌, ap, sym, subst, length}
 use Rattle.np_tables.proofs.Words.{entry_at, AreSecondRows}
-use Rattle.np_tables.proofs.PagePropertyLemmas.{seconds-more, seconds-past}
-use Rattle.np_tables.proofs.SecondPartLemmas.{seconds-all}
+use Rattle.np_tables.proofs.PageLemmas.{seconds-more, seconds-past, seconds-all}
 use Rattle.np_tables.proofs.page_properties.second_rows.Goals.{in-Some, in_default}
 use Rattle.np_tables.proofs.page_properties.second_rows.Goals as goal
 

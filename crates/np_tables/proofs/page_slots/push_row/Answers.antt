@@ -1,6 +1,6 @@
 use Rattle.std.proofs.Common.{◌≡◌, ◌∙◌, subst}
 use Rattle.np_tables.specs.inside.FullRanges.{code_range_of}
-use Rattle.np_tables.proofs.PageSlotLemmas.{pushed-apart, pushed-shared}
+use Rattle.np_tables.proofs.FullListLemmas.{pushed-apart, pushed-shared}
 use Rattle.np_tables.proofs.page_slots.push_row.Goals as goal
 
 pub returns-in_ok-push-2 : goal.returns-in_ok-push-2

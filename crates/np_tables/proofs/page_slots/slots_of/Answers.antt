@@ -1,8 +1,7 @@
 use Rattle.std.proofs.Common.{◌∙◌, ap, arith}
 use Rattle.np_tables.proofs.Words.{lent_entry, is_empty}
 use Rattle.np_versions.proofs.RowLemmas.{place-le}
-use Rattle.np_tables.proofs.FullListLemmas.{nil_from_test}
-use Rattle.np_tables.proofs.PageSlotLemmas.{slots-bare, slots-pushed}
+use Rattle.np_tables.proofs.FullListLemmas.{nil_from_test, slots-bare, slots-pushed}
 use Rattle.np_tables.proofs.page_slots.slots_of.Goals.{then-is_empty+in_ok-push, else-is_empty+in_ok-push_row+in_ok-push-2}
 use Rattle.np_tables.proofs.page_slots.slots_of.Goals as goal
 

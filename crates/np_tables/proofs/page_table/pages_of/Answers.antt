@@ -1,6 +1,6 @@
 use Rattle.std.proofs.Common.{◌∙◌, ◌++◌, ap, subst, length}
 use Rattle.np_tables.proofs.Words.{AreAllRowProperties, paged_properties}
-use Rattle.np_tables.proofs.PagePropertyLemmas.{pages-from}
+use Rattle.np_tables.proofs.PageLemmas.{pages-from}
 use Rattle.np_tables.proofs.page_table.pages_of.Goals as goal
 
 pub returns-clause-pages : goal.returns-clause-pages

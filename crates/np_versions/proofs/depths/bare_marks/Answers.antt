@@ -1,7 +1,7 @@
 use Rattle.std.proofs.Common.{◌≡◌, ◌<◌, length, sym, ap, ◌∙◌, arith}
 use Rattle.np_versions.specs.inside.Depths.{mapping_mark}
 use Rattle.np_versions.proofs.RoundLemmas.{row_marks_more, row_marks_all, mark-bare, deep_mapping}
-use Rattle.np_versions.proofs.AccessLemmas.{length-empty}
+use Rattle.np_versions.proofs.RowLemmas.{length-empty}
 use Rattle.np_versions.proofs.depths.bare_marks.Goals.{then-is_empty, else-is_empty}
 use Rattle.np_versions.proofs.depths.bare_marks.Goals as goal
 

@@ -1,7 +1,6 @@
 use Rattle.std.proofs.Common.{◌∙◌, sym, subst, ap, arith}
 use Rattle.np_versions.proofs.Words.{IsHangulWrong, IsLeastOf, is_hangul_row, both_ways}
-use Rattle.np_versions.proofs.HangulPlaces.{first_wrong-some, first_wrong-none, none_assigned}
-use Rattle.np_versions.proofs.HangulLemmas.{has_hangul-at}
+use Rattle.np_versions.proofs.HangulLemmas.{first_wrong-some, first_wrong-none, none_assigned, has_hangul-at}
 use Rattle.np_versions.proofs.hangul_faults.first_wrong.Goals.{then-has_hangul-via-then-has_hangul, then-has_hangul-via-else-has_hangul+then-not-has_some}
 use Rattle.np_versions.proofs.hangul_faults.first_wrong.Goals as goal
 

@@ -1,5 +1,5 @@
 use Rattle.std.proofs.Common.{arith, inl, inr, refl}
-use Rattle.np_versions.proofs.HangulPlaces.{Stands, stands-is}
+use Rattle.np_versions.proofs.HangulLemmas.{Stands, stands-is}
 use Rattle.np_versions.proofs.hangul_rows.hangul_at.Goals as goal
 
 pub returns-then-place-lt-L_COUNT : goal.returns-then-place-lt-L_COUNT

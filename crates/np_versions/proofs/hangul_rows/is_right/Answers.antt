@@ -1,6 +1,6 @@
 use Rattle.std.proofs.Common.{arith}
 use Rattle.std.proofs.lemmas.Grind.{common_steps}
-use Rattle.np_versions.proofs.AccessLemmas.{is_right-at, length-empty}
+use Rattle.np_versions.proofs.RowLemmas.{is_right-at, length-empty}
 use Rattle.np_versions.proofs.hangul_rows.is_right.Goals as goal
 
 pub returns-then-row-eq0 : goal.returns-then-row-eq0

@@ -1,6 +1,6 @@
 use Rattle.std.proofs.Common.{◌∙◌, sym, arith, rules}
 use Rattle.np_versions.proofs.Words.{lent_entry}
-use Rattle.np_versions.proofs.FactLemmas.{first_lacking-some, first_lacking-none}
+use Rattle.np_versions.proofs.FaultLemmas.{first_lacking-some, first_lacking-none}
 use Rattle.np_versions.proofs.mapped_faults.first_lacking.Goals as goal
 
 pub returns-then-not-are_assigned : goal.returns-then-not-are_assigned

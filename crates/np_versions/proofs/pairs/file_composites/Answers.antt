@@ -1,6 +1,6 @@
 use Rattle.std.proofs.Common.{refl, ◌∷◌, [], sym, append-nil}
 use Rattle.np_versions.proofs.Words.{All-push, lent_entry, IsInRange, composites_in}
-use Rattle.np_versions.proofs.FileCompositeLemmas.{flat_step}
+use Rattle.np_versions.proofs.CompositeLemmas.{flat_step}
 use Rattle.np_versions.proofs.pairs.file_composites.Goals.{in-Some+in_ok-push, in_default}
 use Rattle.np_versions.proofs.pairs.file_composites.Goals as goal
 

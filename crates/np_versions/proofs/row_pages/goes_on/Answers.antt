@@ -1,7 +1,6 @@
 use Rattle.std.proofs.Common.{sym, arith}
 use Rattle.np_versions.proofs.Words.{leb-true, lent_entry}
-use Rattle.np_versions.proofs.RowLemmas.{at-row}
-use Rattle.np_versions.proofs.RowPageLemmas.{goes_on-within}
+use Rattle.np_versions.proofs.RowLemmas.{at-row, goes_on-within}
 use Rattle.np_versions.proofs.row_pages.goes_on.Goals as goal
 
 pub overflow_add-row : goal.overflow_add-row

@@ -1,6 +1,6 @@
 use Rattle.std.proofs.Common.{sym}
 use Rattle.np_versions.proofs.Words.{leb-true, lent_entry}
-use Rattle.np_versions.proofs.RowPageLemmas.{no_row-left, no_row-behind}
+use Rattle.np_versions.proofs.RowLemmas.{no_row-left, no_row-behind}
 use Rattle.np_versions.proofs.row_pages.has_no_row.Goals as goal
 
 pub returns-in-Some : goal.returns-in-Some

@@ -1,7 +1,6 @@
 use Rattle.std.proofs.Common.{◌+◌, refl, sym, ap, ◌∙◌, arith}
 use Rattle.np_versions.proofs.Words.{option_map, eqb-true, lent_entry}
-use Rattle.np_versions.proofs.RowLemmas.{at-row, place-bounded}
-use Rattle.np_versions.proofs.RowPageLemmas.{none_behind, none_left, number-none, number-some, next-within, next-behind}
+use Rattle.np_versions.proofs.RowLemmas.{at-row, place-bounded, none_behind, none_left, number-none, number-some, next-within, next-behind}
 use Rattle.np_versions.proofs.row_pages.number_at.Goals as goal
 
 pub overflow_cast-result : goal.overflow_cast-result

@@ -1,4 +1,4 @@
-use Rattle.np_versions.proofs.RowPageLemmas.{pushed-more}
+use Rattle.np_versions.proofs.RowLemmas.{pushed-more}
 use Rattle.np_versions.proofs.row_pages.push_block.Goals as goal
 use Rattle.np_versions.proofs.row_pages.push_block.Goals.{then-here+in_ok-push, else-here+in_ok-push-2}
 

@@ -1,6 +1,5 @@
 use Rattle.std.proofs.Common.{sym}
-use Rattle.np_versions.proofs.FileRowLemmas.{first-at}
-use Rattle.np_versions.proofs.RowLemmas.{at-row}
+use Rattle.np_versions.proofs.RowLemmas.{first-at, at-row}
 use Rattle.np_versions.proofs.row_places.row_in.Goals as goal
 
 pub returns-clause-row : goal.returns-clause-row

@@ -1,6 +1,6 @@
 use Rattle.std.proofs.Common.{◌≡◌, ◌++◌, ◌+◌, ◌∷◌, [], encode_utf8, encode_utf8_all, take, sym, ap, ◌∙◌, append_assoc, append-nil}
 use Rattle.np_forms.proofs.Words.{encodes-append, codes_of}
-use Rattle.np_forms.proofs.ClassLemmas.{codes_next}
+use Rattle.np_forms.proofs.OrderLemmas.{codes_next}
 use Rattle.np_forms.proofs.out_texts.OutText.append_each.Goals as goal
 
 pub loop-c-preserved : goal.loop-c-preserved

@@ -1,6 +1,6 @@
 use Rattle.std.proofs.Common.{◌≡◌, ◌<◌, ◌++◌, ◌∷◌, [], true, refl, sym, ap, ◌∙◌, arith}
 use Rattle.np_forms.proofs.Words.{and_from, not_from_false, list_all, class_of, full_of, is_non_starter, CodeAndClass, codes_of, with_classes}
-use Rattle.np_forms.proofs.ClassLemmas.{AreClassed-append, AreClassed-with_classes, codes-append, codes-with_classes, codes_more}
+use Rattle.np_forms.proofs.OrderLemmas.{AreClassed-append, AreClassed-with_classes, codes-append, codes-with_classes, codes_more}
 use Rattle.np_forms.proofs.ComposeLemmas.{not_starter_from}
 use Rattle.np_forms.proofs.HeldLemmas.{TakesIn-advances, TakesIn-non_starters}
 use Rattle.np_forms.proofs.streams.Stream.feed.Goals as goal

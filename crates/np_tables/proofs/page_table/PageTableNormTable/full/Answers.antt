@@ -1,7 +1,7 @@
 use Rattle.std.proofs.Common.{◌∙◌, [], sym, ap, subst, get_or, arith}
 use Rattle.np_tables.proofs.Words.{IsSound, of_kind, property_place, no_properties}
-use Rattle.np_versions.proofs.AnswerLemmas.{lent-by_value}
-use Rattle.np_tables.proofs.PagePropertyLemmas.{properties-read}
+use Rattle.np_versions.proofs.TableLemmas.{lent-by_value}
+use Rattle.np_tables.proofs.PageLemmas.{properties-read}
 use Rattle.np_tables.proofs.page_table.PageTableNormTable.full.Goals as goal
 
 pub returns : goal.returns

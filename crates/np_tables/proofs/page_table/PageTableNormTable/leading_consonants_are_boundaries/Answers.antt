@@ -1,6 +1,6 @@
 use Rattle.std.proofs.Common.{◌≡◌, ◌+◌, ◌-◌, refl, subst, arith}
 use Rattle.np_versions.specs.Boundaries.{IsBoundary}
-use Rattle.np_tables.proofs.PagePropertyLemmas.{properties-read}
+use Rattle.np_tables.proofs.PageLemmas.{properties-read}
 use Rattle.np_tables.proofs.page_table.PageTableNormTable.leading_consonants_are_boundaries.Goals as goal
 
 pub returns : goal.returns

@@ -1,6 +1,6 @@
 use Rattle.std.proofs.Common.{◌∙◌, ap, get_or, arith, rules}
 use Rattle.np_tables.proofs.Words.{property_place, no_properties}
-use Rattle.np_tables.proofs.PagePropertyLemmas.{properties-read}
+use Rattle.np_tables.proofs.PageLemmas.{properties-read}
 use Rattle.np_tables.proofs.page_table.PageTableNormTable.pair.Goals as goal
 
 pub returns-then-properties_of-clause-none : goal.returns-then-properties_of-clause-none

@@ -1,4 +1,4 @@
-use Rattle.np_tables.proofs.TableLemmas.{full_answers}
+use Rattle.np_tables.proofs.FullListLemmas.{full_answers}
 use Rattle.std.proofs.Common.{arith}
 use Rattle.np_tables.proofs.row_table.RowTableNormTable.full.Goals as goal
 

@@ -1,8 +1,7 @@
 use Rattle.std.proofs.Common.{◌≡◌, ◌≤◌, ◌+◌, ◌-◌, drop, length, get_or, refl, ap, subst, ◌∙◌, arith}
 use Rattle.np_tables.proofs.Words.{drop-drop, get_or-drop, count_trailing_zeros, ScansOn}
 use Rattle.np_tables.proofs.LeadByteLemmas.{found_behind, found_first, found_gone, found_lead_byte, found_within, none_left}
-use Rattle.np_tables.proofs.LeadByteScanLemmas.{boundary_at, goes-at, inside_low}
-use Rattle.np_tables.proofs.ScanLemmas.{goes-both, goes-past}
+use Rattle.np_tables.proofs.ScanLemmas.{boundary_at, goes-at, inside_low, goes-both, goes-past}
 use Rattle.np_tables.proofs.scans.Scan.pass_lanes.Goals as goal
 
 pub range_from-here-requires : goal.range_from-here-requires

@@ -1,7 +1,7 @@
 use Rattle.std.proofs.Common.{◌∙◌, ◌++◌, length, encode_utf8, refl, sym, ap, arith}
 use Rattle.std.specs.Str.Iter.{chars_rest}
 use Rattle.np_tables.proofs.Words.{has_bit, Follows}
-use Rattle.np_tables.proofs.PagePropertyLemmas.{properties-read}
+use Rattle.np_tables.proofs.PageLemmas.{properties-read}
 use Rattle.np_tables.proofs.QuickSpanLemmas.{begins-first, following-stop, walked-front, walked-rest, walked-seam, walked-uncomposed}
 use Rattle.np_tables.proofs.scans.Scan.pass_span.Goals as goal
 

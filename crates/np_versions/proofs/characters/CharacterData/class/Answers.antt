@@ -1,4 +1,4 @@
-use Rattle.np_versions.proofs.AccessLemmas.{class_of-at}
+use Rattle.np_versions.proofs.RowLemmas.{class_of-at}
 use Rattle.np_versions.proofs.characters.CharacterData.class.Goals as goal
 
 pub returns-in-Some : goal.returns-in-Some

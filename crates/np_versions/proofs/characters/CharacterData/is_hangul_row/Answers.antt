@@ -1,4 +1,4 @@
-use Rattle.np_versions.proofs.AccessLemmas.{accesses}
+use Rattle.np_versions.proofs.RowLemmas.{accesses}
 use Rattle.std.proofs.Common.{arith}
 use Rattle.np_versions.proofs.characters.CharacterData.is_hangul_row.Goals as goal
 

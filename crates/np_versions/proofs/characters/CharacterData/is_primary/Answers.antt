@@ -1,6 +1,5 @@
 use Rattle.std.proofs.Common.{sym, ◌∙◌}
-use Rattle.np_versions.proofs.CompositeLemmas.{primary-test}
-use Rattle.np_versions.proofs.PrimaryLemmas.{primary-file, primary-syllable}
+use Rattle.np_versions.proofs.CompositeLemmas.{primary-test, primary-file, primary-syllable}
 use Rattle.np_versions.proofs.characters.CharacterData.is_primary.Goals as goal
 
 pub returns-then-is_composed : goal.returns-then-is_composed

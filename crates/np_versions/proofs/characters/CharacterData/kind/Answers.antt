@@ -1,4 +1,4 @@
-use Rattle.np_versions.proofs.AccessLemmas.{file_kind-at}
+use Rattle.np_versions.proofs.RowLemmas.{file_kind-at}
 use Rattle.np_versions.proofs.characters.CharacterData.kind.Goals as goal
 
 pub returns-in-Some : goal.returns-in-Some

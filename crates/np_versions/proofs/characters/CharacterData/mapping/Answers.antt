@@ -1,4 +1,4 @@
-use Rattle.np_versions.proofs.AccessLemmas.{file_mapping-at}
+use Rattle.np_versions.proofs.RowLemmas.{file_mapping-at}
 use Rattle.np_versions.proofs.characters.CharacterData.mapping.Goals as goal
 
 pub returns-in-Some : goal.returns-in-Some

@@ -1,4 +1,4 @@
-use Rattle.np_versions.proofs.FileCompositeLemmas.{AreOfFile-from}
+use Rattle.np_versions.proofs.CompositeLemmas.{AreOfFile-from}
 use Rattle.np_versions.proofs.pairs.Pairs.new.Goals as goal
 
 pub returns : goal.returns

@@ -1,4 +1,4 @@
-use Rattle.np_versions.proofs.PairLemmas.{AreOrdered-from_sort}
+use Rattle.np_versions.proofs.CompositeLemmas.{AreOrdered-from_sort}
 use Rattle.np_versions.proofs.pairs.Pairs.of_composites.Goals as goal
 
 pub invariant_of-result-2 : goal.invariant_of-result-2

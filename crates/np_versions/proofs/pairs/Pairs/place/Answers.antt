@@ -1,6 +1,6 @@
 use Rattle.np_versions.proofs.Words.{AllWithin, cases_lt, both_ways, Composite, AreOrdered, pair_rank}
 use Rattle.std.proofs.Common.{◌≡◌, ◌≤◌, length, ◌+◌, ◌-◌, ◌/◌, List, get_or, subst, arith, inl, inr}
-use Rattle.np_versions.proofs.PairLemmas.{before_more, after_more, lists-place}
+use Rattle.np_versions.proofs.CompositeLemmas.{before_more, after_more, lists-place}
 use Rattle.np_versions.proofs.pairs.Pairs.place.Goals as goal
 
 pub loop-low-preserved-then-is_before : goal.loop-low-preserved-then-is_before

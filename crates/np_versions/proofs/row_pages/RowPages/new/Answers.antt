@@ -1,5 +1,5 @@
 use Rattle.std.proofs.Common.{arith}
-use Rattle.np_versions.proofs.RowPageLemmas.{pages-all}
+use Rattle.np_versions.proofs.RowLemmas.{pages-all}
 use Rattle.np_versions.proofs.row_pages.RowPages.new.Goals as goal
 
 pub returns : goal.returns

@@ -1,6 +1,6 @@
 use Rattle.std.proofs.Common.{◌*◌, ◌/◌, ap, subst, ◌∙◌}
 use Rattle.np_versions.specs.inside.RowPages.{ArePushed}
-use Rattle.np_versions.proofs.RowPageLemmas.{begun-block, block_count}
+use Rattle.np_versions.proofs.RowLemmas.{begun-block, block_count}
 use Rattle.np_versions.proofs.row_pages.RowPages.push.Goals as goal
 
 pub returns-clause-begun : goal.returns-clause-begun

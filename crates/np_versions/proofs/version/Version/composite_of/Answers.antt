@@ -1,6 +1,6 @@
 use Rattle.std.proofs.Common.{Some, subst}
 use Rattle.np_versions.specs.Conditions.{IsSound}
-use Rattle.np_versions.proofs.AnswerLemmas.{pair-syllable, pair-found, pair-none, pair-value}
+use Rattle.np_versions.proofs.TableLemmas.{pair-syllable, pair-found, pair-none, pair-value}
 use Rattle.np_versions.proofs.version.Version.composite_of.Goals as goal
 
 pub returns-in-Some-clause-some : goal.returns-in-Some-clause-some
