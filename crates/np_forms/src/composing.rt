@@ -42,6 +42,7 @@ pub(crate) fn pair_with_last<T: NormTable>(
     ensures in_range { IfSome result (λ found. found.0 < length list.now) }
 {
     let q = starter?;
+    // D115: C is blocked from A if some B between them has ccc(B) = 0 or ccc(B) >= ccc(C); in order, the last B decides
     if last == 0 || last < next.class() {
         let p = composite_of(table, list[q].code(), next.code())?;
         Some((q, p))

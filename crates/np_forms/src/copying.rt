@@ -39,9 +39,17 @@ pub(crate) fn begins_at_boundary<T: NormTable>(table: &T, form: Form, text: &str
     }
 }
 
+/// A text cut behind a front that passes the quick check.
+#[derive(Clone, Copy)]
+pub(crate) struct QuickCut<'a> {
+    pub front: &'a str,
+    pub rest: &'a str,
+    /// How many bytes at the front of the rest would pass too, if a boundary followed them.
+    pub more: usize,
+}
+
 /// Cuts off the longest front that is known to pass the quick check; where `assigned` is asked for,
-/// each of its code points is. The third answer is how many bytes behind the cut would pass too, if a
-/// boundary followed them. It is made part of each loop that calls it, so that what the form asks is looked
+/// each of its code points is. It is made part of each loop that calls it, so that what the form asks is looked
 /// up once.
 #[inline(always)]
 pub(crate) fn split_quick_span<'a, T: NormTable>(
@@ -49,20 +57,22 @@ pub(crate) fn split_quick_span<'a, T: NormTable>(
     form: Form,
     assigned: bool,
     text: &'a str,
-) -> (&'a str, &'a str, usize)
-    ensures copied { IsCopied (T.model table.now) form text.now result.0.now result.1.now }
-    ensures assigned { IsTrue assigned → IsAssigned (T.model table.now) (chars result.0.now) }
+) -> QuickCut<'a>
+    ensures copied { IsCopied (T.model table.now) form text.now result.front.now result.rest.now }
+    ensures assigned { IsTrue assigned → IsAssigned (T.model table.now) (chars result.front.now) }
 {
     table.meets_conditions();
-    let (count, boundary) = table.quick_span(form, assigned, text);
-    let (front, back) = text.split_at(count);
-    if boundary {
-        return (front, back, 0);
+    let span = table.quick_span(form, assigned, text);
+    let (front, rest) = text.split_at(span.count);
+    if span.boundary {
+        let more = 0;
+        return QuickCut { front, rest, more };
     }
     // what may change begins at the last boundary
     let (before, last) = split_tail(table, form, front);
-    let (stays, behind) = text.split_at(before.len());
-    (stays, behind, last.len())
+    let (front, rest) = text.split_at(before.len());
+    let more = last.len();
+    QuickCut { front, rest, more }
 }
 
 /// Cuts before the first code point that is known to be a boundary. It too is made part of each
@@ -138,18 +148,18 @@ pub(crate) fn write_next<'a, T: NormTable>(
 }
 
 /// Whether the form may go on behind a front. Where assigned code points are asked for, those of the front
-/// that are not known to be are looked up: they stand between `after` and `later`.
+/// that are not known to be are looked up: they stand between `unread` and `rest`.
 #[inline(always)]
-fn may_go_on<T: NormTable>(table: &T, assigned: bool, after: &str, later: &str) -> bool
-    requires { IsEndOf after.now later.now }
-    ensures read { IsTrue assigned → IsTrue result → IsReadAssigned (T.model table.now) after.now later.now }
-    ensures lacking { result ≡ false → ¬ IsAssigned (T.model table.now) (chars after.now) }
+fn may_go_on<T: NormTable>(table: &T, assigned: bool, unread: &str, rest: &str) -> bool
+    requires { IsEndOf unread.now rest.now }
+    ensures read { IsTrue assigned → IsTrue result → IsReadAssigned (T.model table.now) unread.now rest.now }
+    ensures lacking { result ≡ false → ¬ IsAssigned (T.model table.now) (chars unread.now) }
     ensures always { assigned ≡ false → IsTrue result }
 {
-    if !assigned || after.len() == later.len() {
+    if !assigned || unread.len() == rest.len() {
         return true;
     }
-    match first_unassigned_char(table, &after[..after.len() - later.len()]) {
+    match first_unassigned_char(table, &unread[..unread.len() - rest.len()]) {
         Some(_lacking) => false,
         None => true,
     }
@@ -173,11 +183,11 @@ pub(crate) fn write_fronts<T: NormTable>(
     let mut list = Vec::new(normalizer.alloc);
     let mut rest = text;
     'fronts: while !rest.is_empty() {
-        let (after, later) = write_front(normalizer, assigned, rest, &mut list, out)?;
-        if !may_go_on(normalizer.table, assigned, after, later) {
+        let written = write_front(normalizer, assigned, rest, &mut list, out)?;
+        if !may_go_on(normalizer.table, assigned, written.unread, written.rest) {
             return Ok(false);
         }
-        rest = later;
+        rest = written.rest;
     }
     Ok(true)
 }

@@ -13,22 +13,30 @@ use crate::precomputed_texts::{begins_with_letter, write_precomputed};
 use crate::segments::write_short;
 use crate::syllable_texts::{begins_as_jamo, join_syllables, write_syllables};
 use np_code_points::{Form, Memory};
-use np_versions::NormTable;
+use np_versions::{NormTable, PrecomputedForm};
 
-/// The form of the first code point of a text, as bytes and how many of them it has, and what follows the
-/// code point: none where the table has none, or no boundary follows. It isn't asked where some first
-/// bytes, so many, pass the quick check, since no boundary follows their first code point, nor, where the form
-/// composes, of what begins as jamo do.
+/// What is left of a text behind a front whose form was written.
+#[derive(Clone, Copy)]
+pub(crate) struct WrittenFront<'a> {
+    /// What follows the code points that are known to be assigned.
+    pub unread: &'a str,
+    /// What follows the front.
+    pub rest: &'a str,
+}
+
+/// The form of the first code point of a text, and what follows that: none where the table has none, or no
+/// boundary follows. It isn't asked where some first bytes, so many, pass the quick check, since no boundary
+/// follows their first code point, nor, where the form composes, of what begins as jamo do.
 #[inline(always)]
 fn split_precomputed<'t, 'a, T: NormTable>(
     table: &'t T,
     form: Form,
     text: &'a str,
     passing: usize,
-) -> Option<(&'t [u8], usize, &'a str)>
-    ensures made { IfSome result (λ cut. IsFirstPrecomputed (T.model table.now) form text.now cut.2.now cut.0.now cut.1) }
-    ensures read { IfSome result (λ cut. IsReadAssigned (T.model table.now) text.now cut.2.now) }
-    ensures shorter { IfSome result (λ cut. length cut.2.now < length text.now) }
+) -> Option<(PrecomputedForm<'t>, &'a str)>
+    ensures made { IfSome result (λ cut. IsFirstPrecomputed (T.model table.now) form text.now cut.1.now cut.0.bytes.now cut.0.count) }
+    ensures read { IfSome result (λ cut. IsReadAssigned (T.model table.now) text.now cut.1.now) }
+    ensures shorter { IfSome result (λ cut. length cut.1.now < length text.now) }
 {
     table.meets_conditions();
     if passing > 0 || (form.composes() && begins_as_jamo(text)) {
@@ -36,12 +44,12 @@ fn split_precomputed<'t, 'a, T: NormTable>(
     }
     let mut iter = text.chars();
     let c = iter.next()?;
-    let (bytes, count) = table.precomputed(form, c)?;
+    let kept = table.precomputed(form, c)?;
     let later = iter.as_str();
     if !begins_at_boundary(table, form, later) {
         return None;
     }
-    Some((bytes, count, later))
+    Some((kept, later))
 }
 
 /// Appends the form of the syllables at the front of a text, or of those that jamo make there, and answers what
@@ -63,28 +71,30 @@ fn write_hangul<'a, T: NormTable>(
 }
 
 /// Appends the form of the syllables at the front of a text, or of those that jamo make there, or else of
-/// its first segment. Answers what follows the code points that are known to be assigned by that, and what
-/// follows all. The list is a reordering buffer that is used again.
+/// its first segment. The list is a reordering buffer that is used again.
 fn write_changed<'a, T: NormTable>(
     normalizer: &Normalizer<'_, T>,
     text: &'a str,
     list: &mut Vec<Classed>,
     out: &mut OutText,
-) -> Result<(&'a str, &'a str), Memory>
-    ensures goes { IfOk result (λ cut. AppendsForm (T.model normalizer.now.table.now) normalizer.now.form text.now cut.1.now out.old out.new) }
-    ensures read { IfOk result (λ cut. IsReadAssigned (T.model normalizer.now.table.now) text.now cut.0.now) }
-    ensures end { IfOk result (λ cut. IsEndOf cut.0.now cut.1.now) }
-    ensures shorter { IfOk result (λ cut. 0 < length text.now → length cut.1.now < length text.now) }
+) -> Result<WrittenFront<'a>, Memory>
+    ensures goes { IfOk result (λ left. AppendsForm (T.model normalizer.now.table.now) normalizer.now.form text.now left.rest.now out.old out.new) }
+    ensures read { IfOk result (λ left. IsReadAssigned (T.model normalizer.now.table.now) text.now left.unread.now) }
+    ensures end { IfOk result (λ left. IsEndOf left.unread.now left.rest.now) }
+    ensures shorter { IfOk result (λ left. 0 < length text.now → length left.rest.now < length text.now) }
 {
-    let after = write_hangul(normalizer, text, out)?;
-    if after.len() < text.len() {
-        return Ok((after, after));
+    let unread = write_hangul(normalizer, text, out)?;
+    if unread.len() < text.len() {
+        return Ok(WrittenFront {
+            unread,
+            rest: unread,
+        });
     }
-    if let Some(later) = write_short(normalizer.table, normalizer.form, after, out)? {
-        return Ok((after, later));
+    if let Some(rest) = write_short(normalizer.table, normalizer.form, unread, out)? {
+        return Ok(WrittenFront { unread, rest });
     }
-    let later = write_next(normalizer, after, list, out)?;
-    Ok((after, later))
+    let rest = write_next(normalizer, unread, list, out)?;
+    Ok(WrittenFront { unread, rest })
 }
 
 /// Appends the letters that follow a code point with a precomputed form, and answers what is left.
@@ -104,9 +114,9 @@ fn write_letters<'a, T: NormTable>(
     Ok(text)
 }
 
-/// Appends the form of some front of a text that isn't empty. Answers what follows the code points that
-/// are known to be assigned, where `assigned` asks for them, and what follows the front. What is asked
-/// of the code point behind what passes is asked before anything is written, and so once.
+/// Appends the form of some front of a text that isn't empty. Which code points are known to be assigned counts
+/// where `assigned` asks for them. What is asked of the code point behind what passes is asked before anything is
+/// written, and so once.
 #[inline(always)]
 pub(crate) fn write_front<'a, T: NormTable>(
     normalizer: &Normalizer<'_, T>,
@@ -114,26 +124,27 @@ pub(crate) fn write_front<'a, T: NormTable>(
     text: &'a str,
     list: &mut Vec<Classed>,
     out: &mut OutText,
-) -> Result<(&'a str, &'a str), Memory>
+) -> Result<WrittenFront<'a>, Memory>
     requires { 0 < length text.now }
-    ensures goes { IfOk result (λ cut. AppendsForm (T.model normalizer.now.table.now) normalizer.now.form text.now cut.1.now out.old out.new) }
-    ensures read { IfOk result (λ cut. IsTrue assigned → IsReadAssigned (T.model normalizer.now.table.now) text.now cut.0.now) }
-    ensures end { IfOk result (λ cut. IsEndOf cut.0.now cut.1.now) }
-    ensures shorter { IfOk result (λ cut. length cut.1.now < length text.now) }
+    ensures goes { IfOk result (λ left. AppendsForm (T.model normalizer.now.table.now) normalizer.now.form text.now left.rest.now out.old out.new) }
+    ensures read { IfOk result (λ left. IsTrue assigned → IsReadAssigned (T.model normalizer.now.table.now) text.now left.unread.now) }
+    ensures end { IfOk result (λ left. IsEndOf left.unread.now left.rest.now) }
+    ensures shorter { IfOk result (λ left. length left.rest.now < length text.now) }
 {
     let table = normalizer.table;
     let form = normalizer.form;
-    let (stays, behind, passing) = split_quick_span(table, form, assigned, text);
-    let precomputed = split_precomputed(table, form, behind, passing);
-    out.append_front(text, stays)?;
-    if let Some((bytes, count, later)) = precomputed {
-        out.append_first(bytes, count)?;
+    let cut = split_quick_span(table, form, assigned, text);
+    let rest = cut.rest;
+    let precomputed = split_precomputed(table, form, rest, cut.more);
+    out.append_front(text, cut.front)?;
+    if let Some((kept, later)) = precomputed {
+        out.append_first(kept.bytes, kept.count)?;
         let rest = write_letters(table, form, later, out)?;
-        return Ok((rest, rest));
+        return Ok(WrittenFront { unread: rest, rest });
     }
-    if behind.is_empty() {
-        return Ok((behind, behind));
+    if rest.is_empty() {
+        return Ok(WrittenFront { unread: rest, rest });
     }
-    let (after, later) = write_changed(normalizer, behind, list, out)?;
-    Ok((after, later))
+    let left = write_changed(normalizer, rest, list, out)?;
+    Ok(left)
 }

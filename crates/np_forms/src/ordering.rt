@@ -18,34 +18,44 @@ pub(crate) fn may_follow(last: u8, class: u8) -> bool
     class == 0 || last <= class
 }
 
-/// How many non-starters stand at the front, and whether they are in canonical order already.
-fn non_starters_at_front(list: &[Classed]) -> (usize, bool)
-    ensures bound { result.0 ≤ length list.now }
-    ensures non_starters { (v : VersionData) (cs : List ℕ) → list.now ≡ with_classes v cs → list_all (is_non_starter v) (take result.0 cs) ≡ true }
-    ensures starter { (v : VersionData) (cs : List ℕ) → list.now ≡ with_classes v cs → result.0 < length cs → class_of v (slice_index cs result.0) ≡ 0 }
-    ensures ordered { (v : VersionData) (cs : List ℕ) → list.now ≡ with_classes v cs → result.1 ≡ true → is_ordered (class_of v) (take result.0 cs) ≡ true }
+/// The non-starters at the front of a list.
+#[derive(Clone, Copy)]
+struct NonStarters {
+    count: usize,
+    /// Whether they are in canonical order already.
+    ordered: bool,
+}
+
+/// The non-starters at the front of a list.
+fn non_starters_at_front(list: &[Classed]) -> NonStarters
+    ensures bound { result.count ≤ length list.now }
+    ensures non_starters { (v : VersionData) (cs : List ℕ) → list.now ≡ with_classes v cs → list_all (is_non_starter v) (take result.count cs) ≡ true }
+    ensures starter { (v : VersionData) (cs : List ℕ) → list.now ≡ with_classes v cs → result.count < length cs → class_of v (slice_index cs result.count) ≡ 0 }
+    ensures ordered { (v : VersionData) (cs : List ℕ) → list.now ≡ with_classes v cs → result.ordered ≡ true → is_ordered (class_of v) (take result.count cs) ≡ true }
 {
     let mut last = 0;
     let mut ordered = true;
     for (i, c) in list.iter().enumerate() {
         let class = c.class();
         if class == 0 {
-            return (i, ordered);
+            return NonStarters { count: i, ordered };
         }
         if class < last {
             ordered = false;
         }
         last = class;
     }
-    (list.len(), ordered)
+    NonStarters {
+        count: list.len(),
+        ordered,
+    }
 }
 
 /// Whether a list holds non-starters alone.
 pub(crate) fn are_non_starters(list: &[Classed]) -> bool
     ensures { (v : VersionData) (cs : List ℕ) → list.now ≡ with_classes v cs → result ≡ true → list_all (is_non_starter v) cs ≡ true }
 {
-    let (count, _) = non_starters_at_front(list);
-    count == list.len()
+    non_starters_at_front(list).count == list.len()
 }
 
 /// Puts a run of non-starters in canonical order, by a stable sort.
@@ -66,7 +76,7 @@ fn order_run(alloc: Global, list: &mut [Classed], at: usize) -> Result<usize, Al
     ensures next { IfOk result (λ next. at < next) }
     ensures ordered { IfOk result (λ next. (v : VersionData) (cs : List ℕ) → list.old ≡ with_classes v cs → IsOrderedOn v cs at next list.new) }
 {
-    let (count, ordered) = non_starters_at_front(&list[at..]);
+    let NonStarters { count, ordered } = non_starters_at_front(&list[at..]);
     if !ordered {
         sort_non_starters(alloc, &mut list[at..at + count])?;
     }

@@ -78,12 +78,12 @@ impl<'a> Pieces<'a> {
         ensures same { OnOk result (left_of (T.model table.now) form self.new ≡ left_of (T.model table.now) form self.old) }
         ensures shorter { OnOk result (0 < length self.old.rest.now → length self.new.rest.now < length self.old.rest.now) }
     {
-        let (stays, after, _passing) = split_quick_span(table, form, false, self.rest);
+        let cut = split_quick_span(table, form, false, self.rest);
         self.taken = 0;
         self.made.clear();
         let normalizer = Normalizer { alloc, table, form };
-        let later = write_next(&normalizer, after, &mut self.list, &mut self.made)?;
-        self.stays = stays.as_bytes();
+        let later = write_next(&normalizer, cut.rest, &mut self.list, &mut self.made)?;
+        self.stays = cut.front.as_bytes();
         self.rest = later;
         Ok(())
     }

@@ -103,13 +103,13 @@ pub(crate) fn write_precomputed<'a, T: NormTable>(
             return Ok(rest);
         }
         append_passing(table, form, rest, here, out)?;
-        let Some((bytes, count)) = table.precomputed(form, c) else {
+        let Some(kept) = table.precomputed(form, c) else {
             return Ok(here);
         };
         if !has_boundary_before(table, form, ascii, later) {
             return Ok(here);
         }
-        out.append_first(bytes, count)?;
+        out.append_first(kept.bytes, kept.count)?;
         rest = later;
     }
 }

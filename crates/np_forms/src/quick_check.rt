@@ -15,6 +15,5 @@ pub fn quick_check_span<T: NormTable>(table: &T, wanted: Form, text: &str) -> us
 {
     table.meets_conditions();
     // whether a boundary is behind the front is of no account: each part of it is stable whatever follows
-    let (count, _boundary) = table.quick_span(wanted, true, text);
-    count
+    table.quick_span(wanted, true, text).count
 }

@@ -8,7 +8,7 @@ ghost use Rattle.np_forms.specs.inside.Copies.{IsCopied};
 ghost use Rattle.np_forms.specs.inside.NormalForms.{normal_form};
 
 use crate::assigned::first_unassigned_char;
-use crate::copying::split_quick_span;
+use crate::copying::{QuickCut, split_quick_span};
 use crate::normalizers::Normalizer;
 use crate::out_texts::OutText;
 use crate::streams::Stream;
@@ -40,11 +40,10 @@ pub enum NpssFault {
 fn assigned_form<T: NormTable>(
     normalizer: &Normalizer<'_, T>,
     text: &str,
-    stays: &str,
-    behind: &str,
+    cut: QuickCut<'_>,
 ) -> Result<Option<String>, Memory>
-    requires copied { IsCopied (T.model normalizer.now.table.now) normalizer.now.form text.now stays.now behind.now }
-    requires assigned { IsAssigned (T.model normalizer.now.table.now) (chars stays.now) }
+    requires copied { IsCopied (T.model normalizer.now.table.now) normalizer.now.form text.now cut.front.now cut.rest.now }
+    requires assigned { IsAssigned (T.model normalizer.now.table.now) (chars cut.front.now) }
     ensures form { IfOk result (λ made. IfSome made (λ t. string_bytes t ≡
         encode_utf8_all (normal_form (T.model normalizer.now.table.now) normalizer.now.form (chars text.now)))) }
     ensures assigned { IfOk result (λ made. IfSome made (λ _. IsAssigned (T.model normalizer.now.table.now) (chars text.now))) }
@@ -53,9 +52,9 @@ fn assigned_form<T: NormTable>(
     let alloc = normalizer.alloc;
     normalizer.table.meets_conditions();
     let mut out = OutText::with_capacity(alloc, text.len())?;
-    out.append_front(text, stays)?;
+    out.append_front(text, cut.front)?;
     let mut stream = Stream::new(alloc, normalizer.table, normalizer.form);
-    if close_assigned(&mut stream, &mut out, behind)? {
+    if close_assigned(&mut stream, &mut out, cut.rest)? {
         Ok(Some(out.into_text()))
     } else {
         Ok(None)
@@ -66,16 +65,15 @@ fn assigned_form<T: NormTable>(
 fn stabilize<T: NormTable>(
     normalizer: &Normalizer<'_, T>,
     text: &str,
-    stays: &str,
-    behind: &str,
+    cut: QuickCut<'_>,
 ) -> Result<String, NpssFault>
-    requires copied { IsCopied (T.model normalizer.now.table.now) normalizer.now.form text.now stays.now behind.now }
-    requires assigned { IsAssigned (T.model normalizer.now.table.now) (chars stays.now) }
+    requires copied { IsCopied (T.model normalizer.now.table.now) normalizer.now.form text.now cut.front.now cut.rest.now }
+    requires assigned { IsAssigned (T.model normalizer.now.table.now) (chars cut.front.now) }
     ensures bytes { IfOk result (λ t. string_bytes t ≡ encode_utf8_all (normal_form (T.model normalizer.now.table.now) normalizer.now.form (chars text.now))) }
     ensures assigned { OnOk result (IsAssigned (T.model normalizer.now.table.now) (chars text.now)) }
     ensures fault { IfErr result (IsNpssFault (T.model normalizer.now.table.now) (chars text.now)) }
 {
-    if let Ok(Some(key)) = assigned_form(normalizer, text, stays, behind) {
+    if let Ok(Some(key)) = assigned_form(normalizer, text, cut) {
         return Ok(key);
     }
     // either memory ran out, or a code point is not assigned, which takes no memory to tell
@@ -102,13 +100,13 @@ pub fn npss<T: NormTable>(
     ensures fault { IfErr result (IsNpssFault (T.model table.now) (chars text.now)) }
 {
     table.meets_conditions();
-    let (stays, behind, _passing) = split_quick_span(table, wanted, true, text);
+    let cut = split_quick_span(table, wanted, true, text);
     let normalizer = Normalizer {
         alloc,
         table,
         form: wanted,
     };
-    let key = stabilize(&normalizer, text, stays, behind)?;
+    let key = stabilize(&normalizer, text, cut)?;
     Ok(key)
 }
 
@@ -130,8 +128,8 @@ pub fn into_npss<T: NormTable>(
 {
     table.meets_conditions();
     let whole = text.as_str();
-    let (stays, behind, _passing) = split_quick_span(table, wanted, true, whole);
-    if behind.is_empty() {
+    let cut = split_quick_span(table, wanted, true, whole);
+    if cut.rest.is_empty() {
         return Ok(text);
     }
     let normalizer = Normalizer {
@@ -139,7 +137,7 @@ pub fn into_npss<T: NormTable>(
         table,
         form: wanted,
     };
-    let key = stabilize(&normalizer, whole, stays, behind)?;
+    let key = stabilize(&normalizer, whole, cut)?;
     Ok(key)
 }
 
@@ -160,14 +158,14 @@ pub fn lend_npss<'a, T: NormTable>(
     ensures fault { IfErr result (IsNpssFault (T.model table.now) (chars text.now)) }
 {
     table.meets_conditions();
-    let (stays, behind, _passing) = split_quick_span(table, wanted, true, text);
-    if !behind.is_empty() {
+    let cut = split_quick_span(table, wanted, true, text);
+    if !cut.rest.is_empty() {
         let normalizer = Normalizer {
             alloc,
             table,
             form: wanted,
         };
-        let key = stabilize(&normalizer, text, stays, behind)?;
+        let key = stabilize(&normalizer, text, cut)?;
         return Ok(CowStr::Owned(key));
     }
     Ok(CowStr::Borrowed(text))

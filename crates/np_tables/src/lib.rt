@@ -28,6 +28,8 @@ mod scans;
 mod uncomposed;
 mod utf8_fronts;
 
-pub use np_versions::{Composite, NormTable, TableFault, Version, ascii_front};
+pub use np_versions::{
+    Composite, NormTable, PrecomputedForm, QuickSpan, TableFault, Version, ascii_front,
+};
 pub use page_table::PageTable;
 pub use row_table::RowTable;

@@ -18,7 +18,7 @@ use crate::property_bits::has_bit;
 use crate::quick_checks::{all_quick_checks, is_ascii_yes, least_quick_check};
 use crate::scans::Scan;
 use np_code_points::{Form, Memory};
-use np_versions::{NormTable, Version};
+use np_versions::{NormTable, PrecomputedForm, QuickSpan, Version};
 use std::alloc::Global;
 use std::fmt;
 use std::marker::Model;
@@ -200,7 +200,7 @@ impl NormTable for PageTable {
     }
 
     #[inline(always)]
-    fn precomputed(&self, form: Form, c: char) -> Option<(&[u8], usize)> {
+    fn precomputed(&self, form: Form, c: char) -> Option<PrecomputedForm<'_>> {
         let slot = properties_of(&self.index, &self.all_properties, c).fulls;
         self.precomputed.at(form, slot as usize)
     }
@@ -221,7 +221,7 @@ impl NormTable for PageTable {
         self.ascii
     }
 
-    fn quick_span(&self, form: Form, assigned: bool, text: &str) -> (usize, bool) {
+    fn quick_span(&self, form: Form, assigned: bool, text: &str) -> QuickSpan {
         let scan = Scan {
             version: &self.version,
             index: &self.index,
@@ -231,7 +231,6 @@ impl NormTable for PageTable {
             least: least_quick_check(assigned),
             form,
         };
-        let front = scan.pass_span(text);
-        (front.count, front.boundary)
+        scan.pass_span(text)
     }
 }

@@ -13,7 +13,7 @@ ghost use Rattle.np_tables.specs.inside.PrecomputedForms.{ArePrecomputedForms, C
 use crate::fulls::Fulls;
 use crate::page_hints::{is_never_second, never_falls};
 use np_code_points::{Form, Memory};
-use np_versions::Version;
+use np_versions::{PrecomputedForm, Version};
 use std::alloc::Global;
 use std::marker::Model;
 
@@ -226,17 +226,18 @@ impl PrecomputedForms {
         Ok(PrecomputedForms { bytes, ranges })
     }
 
-    /// What is kept for a slot, with what stands behind it, and how many bytes it has; none where it has
-    /// none.
+    /// What is kept for a slot, with what stands behind it; none where it has none.
     #[inline(always)]
-    pub(crate) fn at(&self, slot: usize) -> Option<(&[u8], usize)>
-        ensures { IfSome result (λ cut. IsFront (slice_index_or self.now slot []) cut.0.now cut.1) }
+    pub(crate) fn at(&self, slot: usize) -> Option<PrecomputedForm<'_>>
+        ensures { IfSome result (λ kept. IsFront (slice_index_or self.now slot []) kept.bytes.now kept.count) }
     {
         let byte_range = self.ranges.get(slot)?;
         if byte_range.start == byte_range.end {
             return None;
         }
-        let count = (byte_range.end - byte_range.start) as usize;
-        Some((&self.bytes[byte_range.start as usize..], count))
+        Some(PrecomputedForm {
+            bytes: &self.bytes[byte_range.start as usize..],
+            count: (byte_range.end - byte_range.start) as usize,
+        })
     }
 }

@@ -7,7 +7,7 @@ ghost use Rattle.np_tables.specs.inside.PrecomputedForms.{IsFront};
 use crate::fulls::Fulls;
 use crate::precomputed_forms::PrecomputedForms;
 use np_code_points::{Form, Memory};
-use np_versions::Version;
+use np_versions::{PrecomputedForm, Version};
 use std::alloc::Global;
 
 /// Those of each form.
@@ -42,11 +42,10 @@ impl PrecomputedTables {
         })
     }
 
-    /// What is kept for a slot under a form, with what stands behind it, and how many bytes it has; none
-    /// where it has none.
+    /// What is kept for a slot under a form, with what stands behind it; none where it has none.
     #[inline(always)]
-    pub(crate) fn at(&self, form: Form, slot: usize) -> Option<(&[u8], usize)>
-        ensures { IfSome result (λ cut. IsFront (slice_index_or (kept_of form self.now) slot []) cut.0.now cut.1) }
+    pub(crate) fn at(&self, form: Form, slot: usize) -> Option<PrecomputedForm<'_>>
+        ensures { IfSome result (λ kept. IsFront (slice_index_or (kept_of form self.now) slot []) kept.bytes.now kept.count) }
     {
         match form {
             Form::Nfd => self.nfd.at(slot),

@@ -19,7 +19,7 @@ use crate::page_properties::{Properties, properties_of};
 use crate::property_bits::has_bit;
 use crate::scans::{Passed, Scan, Stretch};
 use crate::utf8_fronts::{First, split_any, split_three, split_two};
-use np_versions::ascii_front;
+use np_versions::{QuickSpan, ascii_front};
 
 /// Whether a text begins with ASCII. On this no answer depends.
 #[inline(always)]
@@ -46,14 +46,6 @@ fn behind_ascii(text: &str) -> &str
 /// How many bytes are passed one code point, or run of ASCII, after the other before several are at once: where a
 /// form changes much, what stands between is shorter.
 const FEW: usize = 256;
-
-/// How many bytes at the front of a text are code points that may follow one another as they are.
-#[derive(Clone, Copy)]
-pub(crate) struct QuickSpan {
-    pub count: usize,
-    /// Whether the form is known to have a boundary before what follows them.
-    pub boundary: bool,
-}
 
 impl<'t> Scan<'t> {
     /// Passes the first character of a text, where it may follow a quick check of `low`.

@@ -27,5 +27,5 @@ pub use faults::TableFault;
 pub use pairs::{Composite, Pairs};
 pub use row_pages::RowPages;
 pub use row_places::mapped_code;
-pub use tables::NormTable;
+pub use tables::{NormTable, PrecomputedForm, QuickSpan};
 pub use version::Version;

@@ -16,15 +16,36 @@ use np_code_points::Form;
 /// What a table answers that knows nothing of a property.
 const UNKNOWN: bool = false;
 
+/// The front of a text that is known to pass the quick check (UAX #15, section 9).
+#[derive(Clone, Copy)]
+pub struct QuickSpan {
+    /// How many bytes it has.
+    pub count: usize,
+    /// Whether the form is known to have a boundary behind it.
+    pub boundary: bool,
+}
+
+/// The form of a code point by itself, as a table keeps it.
+#[derive(Clone, Copy)]
+pub struct PrecomputedForm<'t> {
+    /// UTF-8 that begins with the form.
+    pub bytes: &'t [u8],
+    /// How many bytes the form has.
+    pub count: usize,
+}
+
 /// No byte at the front of a text: nothing there passes, whatever the version and the form are, and nothing is
 /// known of what follows.
-fn claim_nothing(text: &str) -> (usize, bool)
-    ensures quick_span { (v : VersionData) (form : Form) → IsQuickSpan v form text.now result.0 }
-    ensures assigned { (v : VersionData) → list_all (is_assigned v) (chars (take result.0 text.now)) ≡ true }
-    ensures boundary { result.1 ≡ false }
+fn claim_nothing(text: &str) -> QuickSpan
+    ensures quick_span { (v : VersionData) (form : Form) → IsQuickSpan v form text.now result.count }
+    ensures assigned { (v : VersionData) → list_all (is_assigned v) (chars (take result.count text.now)) ≡ true }
+    ensures boundary { result.boundary ≡ false }
 {
     let _unused = text;
-    (0, UNKNOWN)
+    QuickSpan {
+        count: 0,
+        boundary: UNKNOWN,
+    }
 }
 
 /// A table of a version. The answers from `version` to `full` are functions of the version. Those behind them are
@@ -67,12 +88,11 @@ pub trait NormTable {
     fn full(&self, c: char, compat: bool) -> &[char]
         ensures { IsLent (model self.now) compat c result.now };
 
-    /// The form of a code point by itself, where the table keeps it as UTF-8: bytes, and how many of them at
-    /// the front it has. A table may answer none.
-    fn precomputed(&self, form: Form, c: char) -> Option<(&[u8], usize)>
-        ensures { IfSome result (λ cut. IsPrecomputed (model self.now) form c cut.0.now cut.1) }
+    /// The form of a code point by itself, where the table keeps it as UTF-8. A table may answer none.
+    fn precomputed(&self, form: Form, c: char) -> Option<PrecomputedForm<'_>>
+        ensures { IfSome result (λ kept. IsPrecomputed (model self.now) form c kept.bytes.now kept.count) }
     {
-        // nothing is claimed of either, so that a plain table need not know
+        // nothing is claimed, so that a plain table need not know; so it is of each hint below
         let _unused = (form, c);
         None
     }
@@ -82,7 +102,6 @@ pub trait NormTable {
     fn is_boundary(&self, form: Form, c: char) -> bool
         ensures { IsTrue result → IsBoundary (model self.now) form c }
     {
-        // the same
         let _unused = (form, c);
         UNKNOWN
     }
@@ -92,7 +111,6 @@ pub trait NormTable {
     fn leading_consonants_are_boundaries(&self, form: Form) -> bool
         ensures { IsTrue result → (c : ℕ) → 0x1100 ≤ c → c ≤ 0x1112 → IsBoundary (model self.now) form c }
     {
-        // the same
         let _unused = form;
         UNKNOWN
     }
@@ -104,22 +122,20 @@ pub trait NormTable {
         ensures assigned { IsTrue result → (c : ℕ) → c < 128 → is_assigned (model self.now) c ≡ true }
         ensures yes_starter { IsTrue result → (c : ℕ) → c < 128 → IsYesStarter (model self.now) form c }
     {
-        // the same
         let _unused = form;
         UNKNOWN
     }
 
-    /// How many bytes at the front of a text are known to be their own form, if a boundary or nothing follows.
-    /// They are starters that pass the quick check (UAX #15, section 9). Behind these may be other code points
+    /// The front of a text that is known to be its own form, if a boundary or nothing follows.
+    /// It has starters that pass the quick check (UAX #15, section 9). Behind these may be other code points
     /// without a mapping that do not compose with what is before them: non-starters in canonical order, and starters
-    /// (class 0) too. Where `assigned` is asked for, each of them is. The second answer tells whether the form is
-    /// known to have a boundary before what follows. A table may answer less, down to 0 and `false`.
-    fn quick_span(&self, form: Form, assigned: bool, text: &str) -> (usize, bool)
-        ensures quick_span { IsQuickSpan (model self.now) form text.now result.0 }
-        ensures assigned { IsTrue assigned → list_all (is_assigned (model self.now)) (chars (take result.0 text.now)) ≡ true }
-        ensures boundary { IsTrue result.1 → BeginsAtBoundary (model self.now) form (chars (drop result.0 text.now)) }
+    /// (class 0) too. Where `assigned` is asked for, each of them is. A table may answer less, down to 0 bytes and
+    /// no boundary.
+    fn quick_span(&self, form: Form, assigned: bool, text: &str) -> QuickSpan
+        ensures quick_span { IsQuickSpan (model self.now) form text.now result.count }
+        ensures assigned { IsTrue assigned → list_all (is_assigned (model self.now)) (chars (take result.count text.now)) ≡ true }
+        ensures boundary { IsTrue result.boundary → BeginsAtBoundary (model self.now) form (chars (drop result.count text.now)) }
     {
-        // the same
         let _unused = (form, assigned);
         claim_nothing(text)
     }
@@ -153,7 +169,7 @@ impl<T: NormTable> NormTable for &T {
         (**self).full(c, compat)
     }
 
-    fn precomputed(&self, form: Form, c: char) -> Option<(&[u8], usize)> {
+    fn precomputed(&self, form: Form, c: char) -> Option<PrecomputedForm<'_>> {
         (**self).precomputed(form, c)
     }
 
@@ -169,7 +185,7 @@ impl<T: NormTable> NormTable for &T {
         (**self).ascii_passes(form)
     }
 
-    fn quick_span(&self, form: Form, assigned: bool, text: &str) -> (usize, bool) {
+    fn quick_span(&self, form: Form, assigned: bool, text: &str) -> QuickSpan {
         (**self).quick_span(form, assigned, text)
     }
 }

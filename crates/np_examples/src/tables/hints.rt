@@ -126,8 +126,7 @@ const BOUNDARIES: [(Form, char, bool); 8] = [
 
 fn tells_quick_spans<T: NormTable>(table: &T, rows: &[(Form, &str, usize)]) -> Result<(), Fail> {
     for (form, text, count) in rows {
-        let (passed, _boundary) = table.quick_span(*form, false, text);
-        want(passed == *count, text)?;
+        want(table.quick_span(*form, false, text).count == *count, text)?;
     }
     Ok(())
 }
@@ -142,8 +141,10 @@ const ENDING: [(Form, &str, bool); 4] = [
 
 fn tells_where_runs_end<T: NormTable>(table: &T, rows: &[(Form, &str, bool)]) -> Result<(), Fail> {
     for (form, text, parts) in rows {
-        let (_stands, ended) = table.quick_span(*form, false, text);
-        want(ended == *parts, text)?;
+        want(
+            table.quick_span(*form, false, text).boundary == *parts,
+            text,
+        )?;
     }
     Ok(())
 }
@@ -153,10 +154,8 @@ fn tells_what_stands_assigned<T: NormTable>(
     rows: &[(Form, &str, usize, usize)],
 ) -> Result<(), Fail> {
     for (form, text, any, assigned) in rows {
-        let (passed, _boundary) = table.quick_span(*form, false, text);
-        want(passed == *any, text)?;
-        let (passed, _boundary) = table.quick_span(*form, true, text);
-        want(passed == *assigned, text)?;
+        want(table.quick_span(*form, false, text).count == *any, text)?;
+        want(table.quick_span(*form, true, text).count == *assigned, text)?;
     }
     Ok(())
 }
@@ -195,7 +194,7 @@ const PRECOMPUTED: [(Form, char, &str); 12] = [
 /// Whether a table has this precomputed form of a code point; the empty text is for none.
 fn has_precomputed<T: NormTable>(table: &T, form: Form, c: char, text: &str) -> bool {
     match table.precomputed(form, c) {
-        Some((bytes, count)) => count == text.len() && bytes.starts_with(text.as_bytes()),
+        Some(kept) => kept.count == text.len() && kept.bytes.starts_with(text.as_bytes()),
         None => text.is_empty(),
     }
 }

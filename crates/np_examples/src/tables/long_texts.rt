@@ -50,10 +50,14 @@ const AMID: [(Form, &str, &str, usize, usize); 22] = [
 fn tells_what_stands_amid<T: NormTable>(alloc: Global, table: &T) -> Result<(), Fail> {
     for (form, piece, turn, any, assigned) in &AMID {
         let text = amid(alloc, piece, turn)?;
-        let (passed, _boundary) = table.quick_span(*form, false, text.as_str());
-        want(passed == *any, turn)?;
-        let (passed, _boundary) = table.quick_span(*form, true, text.as_str());
-        want(passed == *assigned, turn)?;
+        want(
+            table.quick_span(*form, false, text.as_str()).count == *any,
+            turn,
+        )?;
+        want(
+            table.quick_span(*form, true, text.as_str()).count == *assigned,
+            turn,
+        )?;
     }
     Ok(())
 }

@@ -13,9 +13,9 @@ returns-then-not-is_empty-clause-assigned g c = c.in_ok-key.ensures.assigned
 pub returns-clause-normal : goal.returns-clause-normal
 returns-clause-normal g c =
     let none = eqb-true _ _ (sym c.is_empty.ensures ∙ c.if-not-is_empty.false) in
-    made_form _ c.meets_conditions.ensures c.args.wanted _ _ c.utf8.text (IsCopied-own _ _ _ _ _ c.split_quick_span-passing.ensures.copied none)
+    made_form _ c.meets_conditions.ensures c.args.wanted _ _ c.utf8.text (IsCopied-own _ _ _ _ _ c.split_quick_span-cut.ensures.copied none)
 
 pub returns-clause-assigned : goal.returns-clause-assigned
 returns-clause-assigned g c =
     let none = eqb-true _ _ (sym c.is_empty.ensures ∙ c.if-not-is_empty.false) in
-    IsCopied-all _ _ _ _ _ c.split_quick_span-passing.ensures.copied none (c.split_quick_span-passing.ensures.assigned refl)
+    IsCopied-all _ _ _ _ _ c.split_quick_span-cut.ensures.copied none (c.split_quick_span-cut.ensures.assigned refl)
