@@ -58,7 +58,7 @@ pub(crate) fn are_non_starters(list: &[Classed]) -> bool
     non_starters_at_front(list).count == list.len()
 }
 
-/// Puts a run of non-starters in canonical order, by a stable sort.
+/// Puts a run of non-starters in canonical order, by a stable sort: those of equal class keep their order (D109).
 pub(crate) fn sort_non_starters(
     alloc: Global,
     non_starters: &mut [Classed],

@@ -28,7 +28,7 @@ pub struct QuickSpan {
 /// The form of a code point by itself, as a table keeps it.
 #[derive(Clone, Copy)]
 pub struct PrecomputedForm<'t> {
-    /// UTF-8 that begins with the form.
+    /// Bytes that begin with the form, as UTF-8. What follows it is of no account.
     pub bytes: &'t [u8],
     /// How many bytes the form has.
     pub count: usize,
@@ -129,8 +129,8 @@ pub trait NormTable {
     /// The front of a text that is known to be its own form, if a boundary or nothing follows.
     /// It has starters that pass the quick check (UAX #15, section 9). Behind these may be other code points
     /// without a mapping that do not compose with what is before them: non-starters in canonical order, and starters
-    /// (class 0) too. Where `assigned` is asked for, each of them is. A table may answer less, down to 0 bytes and
-    /// no boundary.
+    /// (class 0) too. Where `assigned` is asked for, each of its code points is. A table may answer less, down to
+    /// 0 bytes and no boundary.
     fn quick_span(&self, form: Form, assigned: bool, text: &str) -> QuickSpan
         ensures quick_span { IsQuickSpan (model self.now) form text.now result.count }
         ensures assigned { IsTrue assigned → list_all (is_assigned (model self.now)) (chars (take result.count text.now)) ≡ true }
