@@ -125,7 +125,7 @@ def contracts_in(file):
 def sources():
     """The source files of all crates but the worked examples, without the tests."""
     for file in sorted(CRATES.glob("*/src/**/*.rt")):
-        if not file.relative_to(CRATES).parts[0].startswith("np_examples") and file.name != "tests.rt" and "testing" not in file.parts:
+        if not file.relative_to(CRATES).parts[0].startswith("np_examples") and file.name != "tests.rt":
             yield file
 
 

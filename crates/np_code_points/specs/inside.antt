@@ -1,4 +1,3 @@
-pub mod Devices
 pub mod HangulParts
 pub mod LineCuts
 pub mod WordValues

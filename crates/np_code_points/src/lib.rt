@@ -1,5 +1,5 @@
-//! Code points and texts, and in rooms of their own readers and writers that keep in mind whether
-//! they failed (`channels`), and what tests use (`testing`).
+//! Code points and texts, and in a room of its own readers and writers that keep in mind whether
+//! they failed (`channels`).
 #![tactic(auto)]
 
 ghost use Rattle.std.specs.Prelude.{◌≡◌};
@@ -10,14 +10,12 @@ mod forms;
 pub mod hangul;
 pub mod laws;
 pub mod lines;
-mod testing;
 pub mod text;
 pub mod words;
 
 pub use channels::{input, output, watched};
 pub use forms::Form;
 use std::alloc::{AllocError, AllocFailed};
-pub use testing::{devices, fixtures, told};
 use thiserror::Error;
 
 /// A growth was refused: memory ran out.

@@ -3,7 +3,8 @@ ghost use Rattle.std.specs.Prelude.{◌≡◌, ◌==◌, ◌<◌, ◌≤◌, ◌
 ghost use Rattle.std.specs.List.{count_by, list_all, prefix_len};
 ghost use lib.Lanes.{chunk};
 ghost use Rattle.np_code_points.specs.Lines.{AreDataLines, AreLines};
-ghost use Rattle.np_code_points.specs.inside.LineCuts.{before_byte, after_byte, data_lines_in, lines_of, without_return as returned, is_blank as blank, is_comment as comment, is_skipped as skipped, is_byte, is_other, HasPassed};
+ghost use Rattle.np_code_points.specs.inside.LineCuts.{before_byte, after_byte, data_lines_in, lines_of, without_return as returned, is_blank as blank};
+ghost use Rattle.np_code_points.specs.inside.LineCuts.{is_comment as comment, is_skipped as skipped, is_byte, is_other, HasPassed};
 
 use std::marker::Model;
 use std::simd::prelude::*;

@@ -1,12 +1,10 @@
 //! Versions, tables and examples over them, of which tests of several libraries make use.
 ghost use Rattle.std.specs.Prelude.{IsTrue, OnOk};
 
+use crate::devices::{Failure, Trickle};
+use crate::fixtures::{S_DATA, S_EXCLUSIONS, V1_DATA, V1_EXCLUSIONS, V2_DATA, V2_EXCLUSIONS};
 use crate::guest_table::GuestTable;
 use np_code_points::Memory;
-use np_code_points::devices::{Failure, Trickle};
-use np_code_points::fixtures::{
-    S_DATA, S_EXCLUSIONS, V1_DATA, V1_EXCLUSIONS, V2_DATA, V2_EXCLUSIONS,
-};
 use np_code_points::watched::Watched;
 use np_tables::{PageTable, RowTable};
 use np_ucd::{read_exclusions, read_rows};

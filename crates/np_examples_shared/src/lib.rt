@@ -1,10 +1,14 @@
-//! What the unit tests of several libraries share: versions and tables of the fixtures, examples that hold over each kind of
-//! table, and calls that are made again. Nothing else uses it.
+//! What the unit tests of several libraries share: the texts of the fixtures, their versions and tables, examples that hold
+//! over each kind of table, readers and writers that fail when they are told to, and calls that are made again. Nothing else
+//! uses it.
 #![tactic(auto)]
 
 mod common;
+pub mod devices;
+pub mod fixtures;
 mod guest_table;
 mod refused;
+pub mod told;
 
 pub use common::{
     Example, FAILURES, Files, LETTERS, Made, S, V1, V2, amid, holds_over, holds_over_each, made_of,

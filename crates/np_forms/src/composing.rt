@@ -26,8 +26,7 @@ struct Composer {
 }
 
 /// The place of the last starter of a list and its composite with a code point, where that is not blocked from
-/// it: the last code point that was kept behind the starter has the class `last`, 0 where there is
-/// none.
+/// it: the last code point that was kept behind the starter has the class `last`, 0 where there is none.
 #[inline(always)]
 #[tactic(auto, unfolding(crate::specs::inside::Composers::pair_with_last))]
 pub(crate) fn pair_with_last<T: NormTable>(

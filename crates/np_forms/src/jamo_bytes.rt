@@ -66,22 +66,31 @@ fn trailing_index(a: u8, b: u8, c: u8) -> u32
     }
 }
 
-/// The syllable whose jamo some bytes begin with, and how many bytes they have. A trailing consonant
-/// that joins it is taken.
+/// The jamo of a syllable at the front of some bytes.
+#[derive(Clone, Copy)]
+pub(crate) struct JamoFront {
+    pub syllable: u32,
+    /// How many bytes the jamo have.
+    pub len: usize,
+}
+
+/// The syllable whose jamo some bytes begin with. A trailing consonant that joins it is taken.
 #[inline(always)]
-pub(crate) fn jamo_front(bytes: &[u8]) -> Option<(u32, usize)>
+pub(crate) fn jamo_front(bytes: &[u8]) -> Option<JamoFront>
     requires { 9 ≤ length bytes.now }
-    ensures syllable { IfSome result (λ cut. in_block cut.0 ≡ true) }
-    ensures some { IfSome result (λ cut. 0 < cut.1) }
-    ensures within { IfSome result (λ cut. cut.1 ≤ length bytes.now) }
-    ensures encoded { IfSome result (λ cut. take cut.1 bytes.now ≡ encode_utf8_all (syllable_parts cut.0)) }
+    ensures syllable { IfSome result (λ front. in_block front.syllable ≡ true) }
+    ensures some { IfSome result (λ front. 0 < front.len) }
+    ensures within { IfSome result (λ front. front.len ≤ length bytes.now) }
+    ensures encoded { IfSome result (λ front. take front.len bytes.now ≡ encode_utf8_all (syllable_parts front.syllable)) }
 {
     let leading = leading_index(bytes)?;
     let vowel = vowel_index(bytes)?;
     let trailing = trailing_index(bytes[6], bytes[7], bytes[8]);
     let syllable = S_BASE + (leading * V_COUNT + vowel) * T_COUNT + trailing;
     if trailing == 0 {
-        return Some((syllable, TWO_JAMO));
+        let len = TWO_JAMO;
+        return Some(JamoFront { syllable, len });
     }
-    Some((syllable, THREE_JAMO))
+    let len = THREE_JAMO;
+    Some(JamoFront { syllable, len })
 }

@@ -31,7 +31,8 @@ fn non_starters_at_front(list: &[Classed]) -> NonStarters
     ensures bound { result.count ≤ length list.now }
     ensures non_starters { (v : VersionData) (cs : List ℕ) → list.now ≡ with_classes v cs → list_all (is_non_starter v) (take result.count cs) ≡ true }
     ensures starter { (v : VersionData) (cs : List ℕ) → list.now ≡ with_classes v cs → result.count < length cs → class_of v (slice_index cs result.count) ≡ 0 }
-    ensures ordered { (v : VersionData) (cs : List ℕ) → list.now ≡ with_classes v cs → result.ordered ≡ true → is_ordered (class_of v) (take result.count cs) ≡ true }
+    ensures ordered { (v : VersionData) (cs : List ℕ) → list.now ≡ with_classes v cs → result.ordered ≡ true →
+        is_ordered (class_of v) (take result.count cs) ≡ true }
 {
     let mut last = 0;
     let mut ordered = true;

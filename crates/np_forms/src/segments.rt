@@ -142,25 +142,20 @@ fn split_single<'a, T: NormTable>(table: &T, form: Form, text: &'a str) -> Optio
     Some((single, iter.as_str()))
 }
 
-/// The full decomposition of the first two code points of a text, where that is a starter and one more, and what
-/// follows the two.
+/// The starter to which the first code point of a text decomposes, and what follows that.
 #[inline(always)]
-fn split_two<'a, T: NormTable>(
-    table: &T,
-    form: Form,
-    text: &'a str,
-) -> Option<(char, char, &'a str)>
+fn split_starter<'a, T: NormTable>(table: &T, form: Form, text: &'a str) -> Option<(char, &'a str)>
     requires { IsSound (T.model table.now) }
-    ensures full { IfSome result (λ cut. IsFullUpTo (T.model table.now) form text.now cut.2.now (cut.0 ∷ cut.1 ∷ [])) }
+    ensures full { IfSome result (λ cut. IsFullUpTo (T.model table.now) form text.now cut.1.now (cut.0 ∷ [])) }
     ensures starter { IfSome result (λ cut. class_of (T.model table.now) cut.0 ≡ 0) }
-    ensures shorter { IfSome result (λ cut. length cut.2.now < length text.now) }
+    ensures shorter { IfSome result (λ cut. length cut.1.now < length text.now) }
 {
-    let (starter, one) = split_single(table, form, text)?;
-    if table.class(starter) != 0 {
-        return None;
+    let (starter, rest) = split_single(table, form, text)?;
+    if table.class(starter) == 0 {
+        Some((starter, rest))
+    } else {
+        None
     }
-    let (second, two) = split_single(table, form, one)?;
-    Some((starter, second, two))
 }
 
 /// Appends the form of the first segment of a text, where that is found to be such a one, and answers what follows it.
@@ -175,7 +170,10 @@ pub(crate) fn write_short<'a, T: NormTable>(
     ensures shorter { IfOk result (λ found. IfSome found (λ rest. length rest.now < length text.now)) }
 {
     table.meets_conditions();
-    let Some((starter, second, two)) = split_two(table, form, text) else {
+    let Some((starter, one)) = split_starter(table, form, text) else {
+        return Ok(None);
+    };
+    let Some((second, two)) = split_single(table, form, one) else {
         return Ok(None);
     };
     if begins_at_boundary(table, form, two) {

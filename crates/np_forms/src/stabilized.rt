@@ -101,11 +101,8 @@ pub fn npss<T: NormTable>(
 {
     table.meets_conditions();
     let cut = split_quick_span(table, wanted, true, text);
-    let normalizer = Normalizer {
-        alloc,
-        table,
-        form: wanted,
-    };
+    let form = wanted;
+    let normalizer = Normalizer { alloc, table, form };
     let key = stabilize(&normalizer, text, cut)?;
     Ok(key)
 }
@@ -132,11 +129,8 @@ pub fn into_npss<T: NormTable>(
     if cut.rest.is_empty() {
         return Ok(text);
     }
-    let normalizer = Normalizer {
-        alloc,
-        table,
-        form: wanted,
-    };
+    let form = wanted;
+    let normalizer = Normalizer { alloc, table, form };
     let key = stabilize(&normalizer, whole, cut)?;
     Ok(key)
 }
@@ -160,11 +154,8 @@ pub fn lend_npss<'a, T: NormTable>(
     table.meets_conditions();
     let cut = split_quick_span(table, wanted, true, text);
     if !cut.rest.is_empty() {
-        let normalizer = Normalizer {
-            alloc,
-            table,
-            form: wanted,
-        };
+        let form = wanted;
+        let normalizer = Normalizer { alloc, table, form };
         let key = stabilize(&normalizer, text, cut)?;
         return Ok(CowStr::Owned(key));
     }

@@ -10,7 +10,7 @@ ghost use Rattle.np_forms.specs.inside.Syllables.{BeginsWithSyllable, syllable_p
 ghost use Rattle.np_versions.specs.Versions.{has_hangul};
 
 use crate::copying::begins_at_boundary;
-use crate::jamo_bytes::{THREE_JAMO, jamo_front};
+use crate::jamo_bytes::{JamoFront, THREE_JAMO, jamo_front};
 use crate::normalizers::Normalizer;
 use crate::out_texts::OutText;
 use crate::utf8_bytes::{last_byte, lead_byte, middle_byte, three_bytes};
@@ -132,8 +132,8 @@ fn jamo_text_front(text: &str) -> Option<(u32, &str)>
     if bytes.len() < THREE_JAMO {
         return None;
     }
-    let (syllable, count) = jamo_front(bytes)?;
-    Some((syllable, &text[count..]))
+    let JamoFront { syllable, len } = jamo_front(bytes)?;
+    Some((syllable, &text[len..]))
 }
 
 /// The syllable that a text begins with, precomposed or, where `joins` asks for that, by its jamo, and what
@@ -148,21 +148,6 @@ fn syllable_front(joins: bool, text: &str) -> Option<(u32, &str)>
         }
     }
     precomposed_front(text)
-}
-
-/// The ASCII character that a text begins with, and what follows it.
-#[inline(always)]
-fn ascii_first(text: &str) -> Option<(char, &str)>
-    ensures ascii { IfSome result (λ cut. cut.0 < 128) }
-    ensures parts { IfSome result (λ cut. text.now ≡ encode_utf8 cut.0 ++ cut.1.now) }
-{
-    let mut iter = text.chars();
-    let c = iter.next()?;
-    if c.is_ascii() {
-        Some((c, iter.as_str()))
-    } else {
-        None
-    }
 }
 
 /// Whether each ASCII character is known to be copied alone, which is asked once for a text.
@@ -192,12 +177,26 @@ fn space_front<'a, T: NormTable>(
     if !ascii {
         return None;
     }
-    let (c, later) = ascii_first(text)?;
-    Some((c, later))
+    let mut iter = text.chars();
+    let c = iter.next()?;
+    if c.is_ascii() {
+        Some((c, iter.as_str()))
+    } else {
+        None
+    }
 }
 
-/// Appends the ASCII character that a text begins with, where it is told beside what follows it, and a
-/// syllable does. Answers what follows the character, that syllable, and what follows it.
+/// What follows an ASCII character that was written: a syllable.
+#[derive(Clone, Copy)]
+struct SpacedSyllable<'a> {
+    /// What follows the character, and begins with the syllable.
+    begun: &'a str,
+    syllable: u32,
+    /// What follows the syllable.
+    rest: &'a str,
+}
+
+/// Appends the ASCII character that a text begins with, as told beside what follows it, where a syllable does.
 #[inline(always)]
 fn write_space<'a, T: NormTable>(
     normalizer: &Normalizer<'_, T>,
@@ -205,25 +204,30 @@ fn write_space<'a, T: NormTable>(
     text: &'a str,
     space: Option<(char, &'a str)>,
     out: &mut OutText,
-) -> Result<Option<(&'a str, u32, &'a str)>, Memory>
+) -> Result<Option<SpacedSyllable<'a>>, Memory>
     requires on { has_hangul (T.model normalizer.now.table.now) ≡ true }
     requires leading_consonants { composes normalizer.now.form ≡ true → LeadingAreBoundaries (T.model normalizer.now.table.now) normalizer.now.form }
     requires alone { IfSome space (λ cut. IsCopiedAlone (T.model normalizer.now.table.now) normalizer.now.form cut.0) }
     requires parts { IfSome space (λ cut. text.now ≡ encode_utf8 cut.0 ++ cut.1.now) }
-    ensures goes { IfOk result (λ cut. IfSome cut (λ next. AppendsForm (T.model normalizer.now.table.now) normalizer.now.form text.now next.0.now out.old out.new)) }
-    ensures read { IfOk result (λ cut. IfSome cut (λ next. IsReadAssigned (T.model normalizer.now.table.now) text.now next.0.now)) }
-    ensures begins { IfOk result (λ cut. IfSome cut (λ next. BeginsWithSyllable next.0.now next.2.now next.1)) }
+    ensures goes { IfOk result (λ cut. IfSome cut (λ next. AppendsForm (T.model normalizer.now.table.now) normalizer.now.form text.now next.begun.now
+        out.old out.new)) }
+    ensures read { IfOk result (λ cut. IfSome cut (λ next. IsReadAssigned (T.model normalizer.now.table.now) text.now next.begun.now)) }
+    ensures begins { IfOk result (λ cut. IfSome cut (λ next. BeginsWithSyllable next.begun.now next.rest.now next.syllable)) }
     ensures none { IfOk result (λ cut. IfNone cut (out.new ≡ out.old)) }
 {
     normalizer.table.meets_conditions();
     let Some((c, later)) = space else {
         return Ok(None);
     };
-    let Some((syllable, behind)) = syllable_front(joins, later) else {
+    let Some((syllable, rest)) = syllable_front(joins, later) else {
         return Ok(None);
     };
     out.append_char(c)?;
-    Ok(Some((later, syllable, behind)))
+    Ok(Some(SpacedSyllable {
+        begun: later,
+        syllable,
+        rest,
+    }))
 }
 
 /// Appends the full decompositions of the syllables at the front of a text, of which single ASCII
@@ -255,11 +259,11 @@ pub(crate) fn write_syllables<'a, T: NormTable>(
             continue;
         }
         let space = space_front(table, form, ascii, later);
-        let Some((_begun, next, behind)) = write_space(normalizer, false, later, space, out)? else {
+        let Some(spaced) = write_space(normalizer, false, later, space, out)? else {
             return Ok(later);
         };
-        syllable = next;
-        later = behind;
+        syllable = spaced.syllable;
+        later = spaced.rest;
     }
 }
 
@@ -319,12 +323,12 @@ fn write_joined<'a, T: NormTable>(
             return Ok(rest);
         }
         push_joined(out, syllable)?;
-        let Some((begun, next, behind)) = write_space(normalizer, true, later, space, out)? else {
+        let Some(spaced) = write_space(normalizer, true, later, space, out)? else {
             return Ok(later);
         };
-        rest = begun;
-        syllable = next;
-        later = behind;
+        rest = spaced.begun;
+        syllable = spaced.syllable;
+        later = spaced.rest;
     }
 }
 

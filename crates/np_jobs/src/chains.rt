@@ -27,8 +27,10 @@ fn read_at<T: MadeTable, F: Read>(
     files: &mut [Watched<F>],
 ) -> Result<T, VersionFault>
     requires { 2 * number + 1 < length files.old }
-    ensures built { IfOk result (λ table. IsReadAt F.remaining (λ data_file exclusions_file. WasBuilt data_file exclusions_file (T.model table)) number files.old files.new) }
-    ensures refused { IfErr result (λ fault. IsReadAt F.remaining (λ data_file exclusions_file. IsVersionFault number data_file exclusions_file fault) number files.old files.new) }
+    ensures built { IfOk result (λ table. IsReadAt F.remaining (λ data_file exclusions_file. WasBuilt data_file exclusions_file (T.model table)) number
+        files.old files.new) }
+    ensures refused { IfErr result (λ fault. IsReadAt F.remaining
+        (λ data_file exclusions_file. IsVersionFault number data_file exclusions_file fault) number files.old files.new) }
 {
     let (front, behind) = files.split_at_mut(2 * number + 1);
     read_table_of(alloc, number, &mut front[2 * number], &mut behind[0])

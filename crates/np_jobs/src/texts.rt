@@ -77,7 +77,8 @@ fn made_under<T: NormTable, I: Read>(
     table: &T,
     input: &mut Watched<I>,
 ) -> Result<Made, TextFault>
-    ensures made { IfOk result (λ m. IsMadeOfText (JobMakes job form (T.model table.now)) (stream_of I.remaining input.old input.new) m.is_yes (string_bytes m.text)) }
+    ensures made { IfOk result (λ m. IsMadeOfText (JobMakes job form (T.model table.now))
+        (stream_of I.remaining input.old input.new) m.is_yes (string_bytes m.text)) }
     ensures refused { IfErr result (IsTextFault (JobRefuses job (T.model table.now)) (stream_of I.remaining input.old input.new)) }
 {
     let bytes = read_input(alloc, input)?;

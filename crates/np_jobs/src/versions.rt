@@ -46,7 +46,8 @@ pub fn read_version<R: Read>(
     exclusions_file: &mut Watched<R>,
 ) -> Result<Version, VersionFault>
     ensures built { IfOk result (WasBuilt (stream_of R.remaining data_file.old data_file.new) (stream_of R.remaining exclusions_file.old exclusions_file.new)) }
-    ensures refused { IfErr result (IsVersionFault version (stream_of R.remaining data_file.old data_file.new) (stream_of R.remaining exclusions_file.old exclusions_file.new)) }
+    ensures refused { IfErr result (IsVersionFault version (stream_of R.remaining data_file.old data_file.new)
+        (stream_of R.remaining exclusions_file.old exclusions_file.new)) }
 {
     exclusions_file.clear();
     let rows = match read_row_list(alloc, data_file) {
@@ -90,7 +91,8 @@ pub(crate) fn read_table_of<T: MadeTable, R: Read>(
 ) -> Result<T, VersionFault>
     ensures built { IfOk result (λ table. WasBuilt
         (stream_of R.remaining data_file.old data_file.new) (stream_of R.remaining exclusions_file.old exclusions_file.new) (T.model table)) }
-    ensures refused { IfErr result (IsVersionFault version (stream_of R.remaining data_file.old data_file.new) (stream_of R.remaining exclusions_file.old exclusions_file.new)) }
+    ensures refused { IfErr result (IsVersionFault version (stream_of R.remaining data_file.old data_file.new)
+        (stream_of R.remaining exclusions_file.old exclusions_file.new)) }
 {
     let built = read_version(alloc, version, data_file, exclusions_file)?;
     match T::of(alloc, built) {
@@ -114,7 +116,8 @@ pub fn read_table<R: Read>(
     exclusions_file: &mut Watched<R>,
 ) -> Result<PageTable, VersionFault>
     ensures built { IfOk result (WasBuilt (stream_of R.remaining data_file.old data_file.new) (stream_of R.remaining exclusions_file.old exclusions_file.new)) }
-    ensures refused { IfErr result (IsVersionFault version (stream_of R.remaining data_file.old data_file.new) (stream_of R.remaining exclusions_file.old exclusions_file.new)) }
+    ensures refused { IfErr result (IsVersionFault version (stream_of R.remaining data_file.old data_file.new)
+        (stream_of R.remaining exclusions_file.old exclusions_file.new)) }
 {
     read_table_of::<PageTable, R>(alloc, version, data_file, exclusions_file)
 }

@@ -62,7 +62,8 @@ trait JobTable: NormTable + Drop {
     ) -> Result<Self, VersionFault>
         ensures built { IfOk result (λ table. WasBuilt
             (stream_of R.remaining data_file.old data_file.new) (stream_of R.remaining exclusions_file.old exclusions_file.new) (Self.model table)) }
-        ensures refused { IfErr result (IsVersionFault version (stream_of R.remaining data_file.old data_file.new) (stream_of R.remaining exclusions_file.old exclusions_file.new)) };
+        ensures refused { IfErr result (IsVersionFault version (stream_of R.remaining data_file.old data_file.new)
+            (stream_of R.remaining exclusions_file.old exclusions_file.new)) };
 }
 
 impl JobTable for PageTable {

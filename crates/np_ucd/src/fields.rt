@@ -1,6 +1,7 @@
 //! What single fields of a record say.
 ghost use Rattle.std.specs.Prelude.{◌≡◌, ◌∷◌, [], ◌&&◌, false, option_map};
-ghost use Rattle.np_ucd.specs.inside.FieldReading.{category_value, class_value, is_letter as letter, is_digit as digit, opens_range as opening, closes_range as closing};
+ghost use Rattle.np_ucd.specs.inside.FieldReading.{category_value, class_value, is_letter as letter, is_digit as digit, opens_range as opening};
+ghost use Rattle.np_ucd.specs.inside.FieldReading.{closes_range as closing};
 
 /// Whether the byte is an ASCII letter.
 fn is_letter(byte: u8) -> bool

@@ -4,7 +4,8 @@ ghost use Rattle.std.specs.List.{list_all};
 ghost use Rattle.np_code_points.specs.inside.LineCuts.{is_other};
 ghost use Rattle.np_ucd.specs.RowValues.{entry_of};
 ghost use Rattle.np_ucd.specs.inside.FieldReading.{fields_of as parts};
-ghost use Rattle.np_ucd.specs.inside.RecordReading.{IsPlain, plain_entry, field, is_at_most as at_most, is_open as open_before, differs as differ, late_tests, first_that_fits, first_code as first, record_fault, neighbour_of, row_of};
+ghost use Rattle.np_ucd.specs.inside.RecordReading.{IsPlain, plain_entry, field, is_at_most as at_most, is_open as open_before, differs as differ};
+ghost use Rattle.np_ucd.specs.inside.RecordReading.{late_tests, first_that_fits, first_code as first, record_fault, neighbour_of, row_of};
 ghost use Rattle.np_ucd.specs.inside.RecordValues.{neighbour_value, IsHead, IsMemoryOr};
 ghost use lib.Utf8.{scalar};
 

@@ -1,7 +1,8 @@
 //! The lines of CompositionExclusions.txt.
 ghost use Rattle.std.specs.Prelude.{◌≡◌, ◌++◌, ℕ, [], map, option_map, OnOk, IfOk, IfErr, None};
 ghost use Rattle.np_ucd.specs.Listed.{is_listed};
-ghost use Rattle.np_ucd.specs.inside.ExclusionReading.{before_blanks as back_dropped, span_between as span_from, if_dotted, span_value, line_spans, fault_at, and_spans, exclusions_fault, spans_in};
+ghost use Rattle.np_ucd.specs.inside.ExclusionReading.{before_blanks as back_dropped, span_between as span_from, if_dotted, span_value, line_spans, fault_at};
+ghost use Rattle.np_ucd.specs.inside.ExclusionReading.{and_spans, exclusions_fault, spans_in};
 ghost use Rattle.np_ucd.specs.inside.RecordValues.{IsMemoryOr};
 ghost use Rattle.np_ucd.specs.inside.SpanValues.{span_of, spans_of_listing};
 

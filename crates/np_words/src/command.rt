@@ -2,7 +2,8 @@
 ghost use Rattle.std.specs.Prelude.{◌≡◌, Bool, IfOk, codes, false, map, string_bytes};
 ghost use Rattle.clap.specs.Words.{App, FailsBy, app_of, fault_of, new_app, rule_of, subcommand_of, subcommand_rows_of, with_rule, with_subcommand};
 ghost use Rattle.clap.specs.declared.builder.command.Command.TheViews.{out-Command as fields_of};
-ghost use Rattle.np_words.specs.Commands.{audit_app, check_under_rule, file_rule, files_rule, form_rule, key_app, replay_app, text_app, texts_app, program_app, with_files, with_settings};
+ghost use Rattle.np_words.specs.Commands.{audit_app, check_under_rule, file_rule, files_rule, form_rule, key_app, replay_app, text_app, texts_app};
+ghost use Rattle.np_words.specs.Commands.{program_app, with_files, with_settings};
 
 use clap::{Arg, ArgAction, ArgMatches, Command, Error};
 use std::alloc::{AllocError, Global};

@@ -166,7 +166,8 @@ fn write_replies(out: &mut String, replies: &[Reply]) -> Result<(), Memory>
 
 /// Adds the lines of the nodes.
 fn write_nodes<T: NormTable>(out: &mut String, members: &[Member<'_, T>]) -> Result<(), Memory>
-    ensures { IfOk result (λ _. string_bytes out.new ≡ string_bytes out.old ++ flat_map (λ p. node_lines p.0 p.1) (enumerate_from 0 (map node_report (map end_of members.now)))) }
+    ensures { IfOk result (λ _. string_bytes out.new ≡ string_bytes out.old ++
+        flat_map (λ p. node_lines p.0 p.1) (enumerate_from 0 (map node_report (map end_of members.now)))) }
 {
     for number in 0..members.len() {
         write_node(out, number, &members[number])?;

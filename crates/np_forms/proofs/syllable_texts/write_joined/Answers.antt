@@ -28,7 +28,7 @@ scan-preserved-in-Some-syllable_front g c =
 pub returns-in_default-2-clause-goes : goal.returns-in_default-2-clause-goes
 returns-in_default-2-clause-goes g c =
     let at = c.has_boundary_before.ensures c.if-not-has_boundary_before.false in
-    let same : c.write_space.new.out ≡ c.push_joined-in-scan.new.out = subst (λ j. IfNone j (c.write_space.new.out ≡ c.push_joined-in-scan.new.out)) c.in_default-2.is c.in_ok-begun.ensures.none in
+    let same : c.write_space.new.out ≡ c.push_joined-in-scan.new.out = subst (λ j. IfNone j (c.write_space.new.out ≡ c.push_joined-in-scan.new.out)) c.in_default-2.is c.in_ok-spaced.ensures.none in
     goes-both _ _ c.args.text.now _ _ c.args.out.now c.scan.out c.write_space.new.out c.scan.invariant.0
     (goes-joined _ c.meets_conditions.ensures c.requires.on _ c.requires.form _ _ c.scan.syllable c.scan.out c.write_space.new.out c.scan.invariant.2 at (same ∙ c.in_ok-push_joined-2.ensures))
 
@@ -47,9 +47,9 @@ scan-preserved g c =
     let made = goes-both v form _ _ later c.args.out.now c.scan.out between c.scan.invariant.0
     (goes-joined v c.meets_conditions.ensures c.requires.on form c.requires.form _ later c.scan.syllable c.scan.out between begins at c.in_ok-push_joined-2.ensures) in
     let read = IsReadAssigned-both v _ _ later c.scan.invariant.1 (syllable-read v c.requires.on _ later c.scan.syllable begins) in (
-      goes-both v form _ later _ c.args.out.now between c.write_space.new.out made (subst (λ j. IfSome j (λ next. AppendsForm v form later next.0.now between c.write_space.new.out)) c.in-Some-2.is c.in_ok-begun.ensures.goes),
-      IsReadAssigned-both v _ later _ read (subst (λ j. IfSome j (λ next. IsReadAssigned v later next.0.now)) c.in-Some-2.is c.in_ok-begun.ensures.read),
-      subst (λ j. IfSome j (λ next. BeginsWithSyllable next.0.now next.2.now next.1)) c.in-Some-2.is c.in_ok-begun.ensures.begins,
+      goes-both v form _ later _ c.args.out.now between c.write_space.new.out made (subst (λ j. IfSome j (λ next. AppendsForm v form later next.begun.now between c.write_space.new.out)) c.in-Some-2.is c.in_ok-spaced.ensures.goes),
+      IsReadAssigned-both v _ later _ read (subst (λ j. IfSome j (λ next. IsReadAssigned v later next.begun.now)) c.in-Some-2.is c.in_ok-spaced.ensures.read),
+      subst (λ j. IfSome j (λ next. BeginsWithSyllable next.begun.now next.rest.now next.syllable)) c.in-Some-2.is c.in_ok-spaced.ensures.begins,
     )
 
 pub scan-smaller-in-Some-syllable_front : goal.scan-smaller-in-Some-syllable_front
@@ -57,5 +57,5 @@ scan-smaller-in-Some-syllable_front g c = c.scan.invariant.2.shorter
 
 pub scan-smaller : goal.scan-smaller
 scan-smaller g c =
-    let goes = subst (λ j. IfSome j (λ next. AppendsForm (g.T.NormTable.model c.args.normalizer.now.table.now) c.args.normalizer.now.form c.scan.later.now next.0.now c.push_joined-in-scan.new.out c.write_space.new.out)) c.in-Some-2.is c.in_ok-begun.ensures.goes in
-    omega (arith, c.scan.invariant.2.shorter, ap length goes.end.parts, length-append goes.end.front c.in-Some-2.begun.now)
+    let goes = subst (λ j. IfSome j (λ next. AppendsForm (g.T.NormTable.model c.args.normalizer.now.table.now) c.args.normalizer.now.form c.scan.later.now next.begun.now c.push_joined-in-scan.new.out c.write_space.new.out)) c.in-Some-2.is c.in_ok-spaced.ensures.goes in
+    omega (arith, c.scan.invariant.2.shorter, ap length goes.end.parts, length-append goes.end.front c.in-Some-2.spaced.begun.now)

@@ -34,7 +34,7 @@ scan-preserved-in-Some-syllable_front g c =
 pub returns-in_default-2-clause-goes : goal.returns-in_default-2-clause-goes
 returns-in_default-2-clause-goes g c =
     let on = sym c.hangul.ensures ∙ c.if-not-hangul.false in
-    let same : c.write_space.new.out ≡ c.push_syllable.new.out = subst (λ j. IfNone j (c.write_space.new.out ≡ c.push_syllable.new.out)) c.in_default-2.is c.in_ok-_begun.ensures.none in
+    let same : c.write_space.new.out ≡ c.push_syllable.new.out = subst (λ j. IfNone j (c.write_space.new.out ≡ c.push_syllable.new.out)) c.in_default-2.is c.in_ok-spaced.ensures.none in
     goes-both _ _ c.args.text.now c.scan.invariant.0 _ c.args.out.now c.scan.out c.write_space.new.out c.scan.invariant.1
     (goes-syllable _ c.meets_conditions.ensures on _ c.requires c.scan.invariant.0 _ c.scan.syllable c.scan.out c.write_space.new.out c.scan.invariant.3 (same ∙ c.in_ok-push_syllable.ensures))
 
@@ -55,7 +55,7 @@ scan-preserved g c =
     (goes-syllable v c.meets_conditions.ensures on form c.requires rest later c.scan.syllable c.scan.out between c.scan.invariant.3 c.in_ok-push_syllable.ensures) in
     let read = IsReadAssigned-both v _ rest later c.scan.invariant.2 (syllable-read v on rest later c.scan.syllable c.scan.invariant.3) in (
       _,
-      goes-both v form _ later _ c.args.out.now between c.write_space.new.out made (subst (λ j. IfSome j (λ next. AppendsForm v form later next.0.now between c.write_space.new.out)) c.in-Some-2.is c.in_ok-_begun.ensures.goes),
-      IsReadAssigned-both v _ later _ read (subst (λ j. IfSome j (λ next. IsReadAssigned v later next.0.now)) c.in-Some-2.is c.in_ok-_begun.ensures.read),
-      subst (λ j. IfSome j (λ next. BeginsWithSyllable next.0.now next.2.now next.1)) c.in-Some-2.is c.in_ok-_begun.ensures.begins,
+      goes-both v form _ later _ c.args.out.now between c.write_space.new.out made (subst (λ j. IfSome j (λ next. AppendsForm v form later next.begun.now between c.write_space.new.out)) c.in-Some-2.is c.in_ok-spaced.ensures.goes),
+      IsReadAssigned-both v _ later _ read (subst (λ j. IfSome j (λ next. IsReadAssigned v later next.begun.now)) c.in-Some-2.is c.in_ok-spaced.ensures.read),
+      subst (λ j. IfSome j (λ next. BeginsWithSyllable next.begun.now next.rest.now next.syllable)) c.in-Some-2.is c.in_ok-spaced.ensures.begins,
     )

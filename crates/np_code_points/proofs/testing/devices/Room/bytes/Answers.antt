@@ -1,5 +1,0 @@
-use Rattle.std.proofs.Common.{rules}
-use Rattle.np_code_points.proofs.testing.devices.Room.bytes.Goals as goal
-
-pub returns : goal.returns
-returns c = search rules
