@@ -188,8 +188,8 @@ pub(crate) fn restart<'t, T: NormTable>(
     ensures image { member.new.image ≡ member.old.image }
 {
     match begun_again(common, member, member.index) {
-        Ok(node) => {
-            member.node = node;
+        Ok(begun) => {
+            member.node = begun;
             Ok(Reply::Restarted)
         }
         Err(fault) => Err(want_of_memory(fault)),

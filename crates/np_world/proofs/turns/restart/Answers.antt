@@ -7,4 +7,4 @@ pub want_of_memory-requires : goal.want_of_memory-requires
 want_of_memory-requires g c = only_memory g.T.NormTable.model (rules_of c.args.common.now) c.args.member.now c.requires c.in-Err.fault c.in-Err.ensures.refused
 
 pub returns-in-Ok-clause-turn : goal.returns-in-Ok-clause-turn
-returns-in-Ok-clause-turn g c = λ messages. restarts g.T.NormTable.model (rules_of c.args.common.now) c.args.member.now _ messages c.in-Ok.node c.in-Ok.ensures.begins refl
+returns-in-Ok-clause-turn g c = λ messages. restarts g.T.NormTable.model (rules_of c.args.common.now) c.args.member.now _ messages c.in-Ok.begun c.in-Ok.ensures.begins refl
