@@ -32,11 +32,6 @@ const TABLES: [(TableFault, &str); 3] = [
     ),
 ];
 
-#[test]
-fn faults_of_tables_are_told(rt: HostRuntime) -> Result<(), Fail> {
-    want_told(rt.alloc(), &TABLES)
-}
-
 const KINDS: [(BreakKind, &str); 6] = [
     (BreakKind::Lost, "Lost"),
     (BreakKind::ClassChanged, "ClassChanged"),
@@ -45,11 +40,6 @@ const KINDS: [(BreakKind, &str); 6] = [
     (BreakKind::NowIncluded, "NowIncluded"),
     (BreakKind::NewComposite, "NewComposite"),
 ];
-
-#[test]
-fn kinds_of_breaks_are_told(rt: HostRuntime) -> Result<(), Fail> {
-    want_told(rt.alloc(), &KINDS)
-}
 
 /// Why no version came of two files.
 const VERSIONS: [(VersionFault, &str); 4] = [
@@ -85,6 +75,8 @@ const VERSIONS: [(VersionFault, &str); 4] = [
 
 #[test]
 fn faults_of_versions_are_told(rt: HostRuntime) -> Result<(), Fail> {
+    want_told(rt.alloc(), &TABLES)?;
+    want_told(rt.alloc(), &KINDS)?;
     want_told(rt.alloc(), &VERSIONS)
 }
 
@@ -138,7 +130,7 @@ fn faults_of_texts_and_schedules_are_told(rt: HostRuntime) -> Result<(), Fail> {
 }
 
 /// Why a job is refused: each kind in the words of the fault that it holds.
-const JOBS: [(JobFault, &str); 6] = [
+const JOBS: [(JobFault, &str); 7] = [
     (
         JobFault::Version {
             fault: VersionFault::Data {
@@ -162,6 +154,16 @@ const JOBS: [(JobFault, &str); 6] = [
     ),
     (
         JobFault::NotExtension {
+            version: 1,
+            brk: Break {
+                kind: BreakKind::Lost,
+                code: 0x1DFA,
+            },
+        },
+        "not an extension: version 1 Lost 1DFA",
+    ),
+    (
+        JobFault::NotExtension {
             version: 12,
             brk: Break {
                 kind: BreakKind::NewComposite,
@@ -174,11 +176,6 @@ const JOBS: [(JobFault, &str); 6] = [
     (JobFault::Memory, "out of memory"),
 ];
 
-#[test]
-fn faults_of_jobs_are_told(rt: HostRuntime) -> Result<(), Fail> {
-    want_told(rt.alloc(), &JOBS)
-}
-
 /// Why words give no job.
 const WORDS: [(WordsFault, &str); 2] = [
     (WordsFault::Usage, "bad command line"),
@@ -186,6 +183,7 @@ const WORDS: [(WordsFault, &str); 2] = [
 ];
 
 #[test]
-fn faults_of_words_are_told(rt: HostRuntime) -> Result<(), Fail> {
+fn faults_of_jobs_and_words_are_told(rt: HostRuntime) -> Result<(), Fail> {
+    want_told(rt.alloc(), &JOBS)?;
     want_told(rt.alloc(), &WORDS)
 }
