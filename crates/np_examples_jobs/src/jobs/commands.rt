@@ -48,20 +48,12 @@ fn normalize_answers_the_worked_examples(rt: HostRuntime) -> Result<(), Fail> {
     texts_are_answered(rt.alloc(), Command::Normalize, &NORMALIZED)
 }
 
-const COMPARED: [Row; 4] = [
+const COMPARED: [Row; 7] = [
     (Form::Nfc, "\u{FB01}\nfi\n", (1, "different\n", "")),
     (Form::Nfkc, "\u{FB01}\nfi\n", (0, "equal\n", "")),
     (Form::Nfc, "a", (4, "", "input: two lines wanted\n")),
     // a text and its prefix
     (Form::Nfc, "Aa\nA\n", (1, "different\n", "")),
-];
-
-#[test]
-fn compare_answers_the_worked_examples(rt: HostRuntime) -> Result<(), Fail> {
-    texts_are_answered(rt.alloc(), Command::Compare, &COMPARED)
-}
-
-const LINES_WITH_UNASSIGNED: [Row; 3] = [
     // two equal strings
     (
         Form::Nfc,
@@ -82,8 +74,8 @@ const LINES_WITH_UNASSIGNED: [Row; 3] = [
 ];
 
 #[test]
-fn compare_wants_assigned_lines(rt: HostRuntime) -> Result<(), Fail> {
-    texts_are_answered(rt.alloc(), Command::Compare, &LINES_WITH_UNASSIGNED)
+fn compare_answers_the_worked_examples(rt: HostRuntime) -> Result<(), Fail> {
+    texts_are_answered(rt.alloc(), Command::Compare, &COMPARED)
 }
 
 const BAD: [JobRow; 2] = [
@@ -140,12 +132,17 @@ const UNDER_REFUSED: [JobRow; 3] = [
     ),
 ];
 
+fn keys_are_answered(alloc: Global, rows: &[(&[u8], Answer<'_>)]) -> Result<(), Fail> {
+    for (input, answer) in rows {
+        let job = Job::KeyUnder(Form::Nfc, V1, V2, input);
+        wants_answer(alloc, &job, answer, answer.1)?;
+    }
+    Ok(())
+}
+
 #[test]
 fn keys_under_an_earlier_version_are_answered(rt: HostRuntime) -> Result<(), Fail> {
-    for (input, answer) in &KEYS_UNDER {
-        let job = Job::KeyUnder(Form::Nfc, V1, V2, input);
-        wants_answer(rt.alloc(), &job, answer, answer.1)?;
-    }
+    keys_are_answered(rt.alloc(), &KEYS_UNDER)?;
     are_answered(rt.alloc(), &UNDER_REFUSED)
 }
 

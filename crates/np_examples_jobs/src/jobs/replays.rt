@@ -6,6 +6,7 @@ use np_world::fixtures::{
     EXCHANGE_REPORT, EXCHANGE_SCHEDULE, FORGED_REPORT, FORGED_SCHEDULE, FORGETTING_REPORT,
     FORGETTING_SCHEDULE, OLDER_REPORT, OLDER_SCHEDULE, RESTART_REPORT, RESTART_SCHEDULE,
 };
+use std::alloc::Global;
 use std::test::Fail;
 
 const SCRIPTS: [JobRow; 5] = [
@@ -50,13 +51,17 @@ const FAULTY: [(&str, &str); 5] = [
     ("room 4\nnodes 0\naccept 1 0061\n", "schedule: line 3\n"),
 ];
 
-#[test]
-fn schedules_that_do_not_stand_are_told(rt: HostRuntime) -> Result<(), Fail> {
-    for (schedule, line) in &FAULTY {
+fn are_faulty(alloc: Global, rows: &[(&str, &str)]) -> Result<(), Fail> {
+    for (schedule, line) in rows {
         let replay = Job::ReplayOverOne(schedule, V1);
-        wants_answer(rt.alloc(), &replay, &(4, "", line), schedule)?;
+        wants_answer(alloc, &replay, &(4, "", line), schedule)?;
     }
     Ok(())
+}
+
+#[test]
+fn schedules_that_do_not_stand_are_told(rt: HostRuntime) -> Result<(), Fail> {
+    are_faulty(rt.alloc(), &FAULTY)
 }
 
 /// A data file with a fault.

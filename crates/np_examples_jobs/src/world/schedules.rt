@@ -49,13 +49,8 @@ const BEGINNINGS: [(&str, u64); 13] = [
     ("room 4\nsave 0\n", 2),
 ];
 
-#[test]
-fn a_schedule_begins_with_its_room_and_its_nodes(rt: HostRuntime) -> Result<(), Fail> {
-    want_faults(rt.alloc(), &BEGINNINGS)
-}
-
 /// Lines behind the beginning that are no events.
-const NO_EVENTS: [(&str, u64); 20] = [
+const NO_EVENTS: [(&str, u64); 21] = [
     ("room 4\nnodes 0\nask 0 0061\n", 3),
     ("room 4\nnodes 0\nask 0 0061 / 0061 / 0061\n", 3),
     ("room 4\nnodes 0\naccept 0 D800\n", 3),
@@ -76,19 +71,14 @@ const NO_EVENTS: [(&str, u64); 20] = [
     ("room 4\nnodes 0\nSave 0\n", 3),
     ("room 4\nnodes 0\nnodes 0\n", 3),
     ("room 4\nnodes 0\nsave 0\nsave 1\nsave 2\n", 4),
+    // comments, blank lines and carriage returns are passed over
+    ("# room\r\n\r\nroom 4\r\n \t\nnodes 0\r\n#\r\nsave 1\r\n", 7),
 ];
 
 #[test]
-fn the_third_line_is_named_where_it_is_no_event(rt: HostRuntime) -> Result<(), Fail> {
+fn the_first_line_that_can_not_stand_is_named(rt: HostRuntime) -> Result<(), Fail> {
+    want_faults(rt.alloc(), &BEGINNINGS)?;
     want_faults(rt.alloc(), &NO_EVENTS)
-}
-
-#[test]
-fn comments_blank_lines_and_carriage_returns_are_passed_over(rt: HostRuntime) -> Result<(), Fail> {
-    want_faults(
-        rt.alloc(),
-        &[("# room\r\n\r\nroom 4\r\n \t\nnodes 0\r\n#\r\nsave 1\r\n", 7)],
-    )
 }
 
 /// Texts that are schedules.
