@@ -17,7 +17,7 @@ fn devices_and_memory_are_told(rt: HostRuntime) -> Result<(), Fail> {
 }
 
 /// Faults of tables, with code points of at least four hex digits.
-const TABLES: [(TableFault, &str); 3] = [
+const TABLES: &[(TableFault, &str)] = &[
     (
         TableFault::MapsToUnassigned { code: 0xC5 },
         "00C5 has a mapping that holds an unassigned code point",
@@ -32,7 +32,7 @@ const TABLES: [(TableFault, &str); 3] = [
     ),
 ];
 
-const KINDS: [(BreakKind, &str); 6] = [
+const KINDS: &[(BreakKind, &str)] = &[
     (BreakKind::Lost, "Lost"),
     (BreakKind::ClassChanged, "ClassChanged"),
     (BreakKind::MappingChanged, "MappingChanged"),
@@ -42,7 +42,7 @@ const KINDS: [(BreakKind, &str); 6] = [
 ];
 
 /// Why no version came of two files.
-const VERSIONS: [(VersionFault, &str); 4] = [
+const VERSIONS: &[(VersionFault, &str)] = &[
     (
         VersionFault::Data {
             version: 0,
@@ -75,13 +75,13 @@ const VERSIONS: [(VersionFault, &str); 4] = [
 
 #[test]
 fn faults_of_versions_are_told(rt: HostRuntime) -> Result<(), Fail> {
-    want_told(rt.alloc(), &TABLES)?;
-    want_told(rt.alloc(), &KINDS)?;
-    want_told(rt.alloc(), &VERSIONS)
+    want_told(rt.alloc(), TABLES)?;
+    want_told(rt.alloc(), KINDS)?;
+    want_told(rt.alloc(), VERSIONS)
 }
 
 /// Why a text is not answered, or a schedule not replayed.
-const TEXTS: [(TextFault, &str); 6] = [
+const TEXTS: &[(TextFault, &str)] = &[
     (
         TextFault::Input {
             fault: InputFault::TooLarge,
@@ -112,7 +112,7 @@ const TEXTS: [(TextFault, &str); 6] = [
     ),
 ];
 
-const REPLAYS: [(ReplayFault, &str); 3] = [
+const REPLAYS: &[(ReplayFault, &str)] = &[
     (
         ReplayFault::Schedule {
             fault: InputFault::TooLarge,
@@ -125,12 +125,12 @@ const REPLAYS: [(ReplayFault, &str); 3] = [
 
 #[test]
 fn faults_of_texts_and_schedules_are_told(rt: HostRuntime) -> Result<(), Fail> {
-    want_told(rt.alloc(), &TEXTS)?;
-    want_told(rt.alloc(), &REPLAYS)
+    want_told(rt.alloc(), TEXTS)?;
+    want_told(rt.alloc(), REPLAYS)
 }
 
 /// Why a job is refused: each kind in the words of the fault that it holds.
-const JOBS: [(JobFault, &str); 7] = [
+const JOBS: &[(JobFault, &str)] = &[
     (
         JobFault::Version {
             fault: VersionFault::Data {
@@ -177,13 +177,13 @@ const JOBS: [(JobFault, &str); 7] = [
 ];
 
 /// Why words give no job.
-const WORDS: [(WordsFault, &str); 2] = [
+const WORDS: &[(WordsFault, &str)] = &[
     (WordsFault::Usage, "bad command line"),
     (WordsFault::Memory, "out of memory"),
 ];
 
 #[test]
 fn faults_of_jobs_and_words_are_told(rt: HostRuntime) -> Result<(), Fail> {
-    want_told(rt.alloc(), &JOBS)?;
-    want_told(rt.alloc(), &WORDS)
+    want_told(rt.alloc(), JOBS)?;
+    want_told(rt.alloc(), WORDS)
 }

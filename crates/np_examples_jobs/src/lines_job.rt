@@ -87,7 +87,7 @@ fn are_run(alloc: Global, rows: &[Row]) -> Result<(), Fail> {
     Ok(())
 }
 
-const WHOLE: [Row; 7] = [
+const WHOLE: &[Row] = &[
     (false, INPUT, 1, NONE, (0, ANSWERS, "")),
     (false, INPUT, 7, NONE, (0, ANSWERS, "")),
     (false, INPUT, 100, NONE, (0, ANSWERS, "")),
@@ -99,11 +99,11 @@ const WHOLE: [Row; 7] = [
 
 #[test]
 fn lines_are_answered_with_a_status(rt: HostRuntime) -> Result<(), Fail> {
-    are_run(rt.alloc(), &WHOLE)
+    are_run(rt.alloc(), WHOLE)
 }
 
 /// The first line has six bytes; one call takes all that a read brought, and the next one flushes.
-const BROKEN: [Row; 4] = [
+const BROKEN: &[Row] = &[
     (
         true,
         INPUT,
@@ -136,7 +136,7 @@ const BROKEN: [Row; 4] = [
 
 #[test]
 fn a_failed_device_is_told_behind_the_answers(rt: HostRuntime) -> Result<(), Fail> {
-    are_run(rt.alloc(), &BROKEN)
+    are_run(rt.alloc(), BROKEN)
 }
 
 /// What was read, in words; want of memory is a failure.
@@ -185,7 +185,7 @@ fn are_read(alloc: Global, rows: &[(&str, &str)]) -> Result<(), Fail> {
 }
 
 /// Words, and what they ask for: the form, what ends lines, whether strictly, whether with progress, the files.
-const WORDS: [(&str, &str); 16] = [
+const WORDS: &[(&str, &str)] = &[
     ("", "help"),
     ("--form nfc D E", "Nfc Lf false false D E"),
     ("D --form=nfkd E", "Nfkd Lf false false D E"),
@@ -209,7 +209,7 @@ const WORDS: [(&str, &str); 16] = [
 
 #[test]
 fn words_name_a_run(rt: HostRuntime) -> Result<(), Fail> {
-    are_read(rt.alloc(), &WORDS)?;
+    are_read(rt.alloc(), WORDS)?;
     want(
         lines_usage_text().starts_with("usage: npss_lines "),
         "usage",

@@ -12,7 +12,7 @@ use std::alloc::Global;
 use std::io::Read;
 use std::test::Fail;
 
-const FILES: [(&str, &str); 2] = [("data", V1_DATA), ("exclusions", V1_EXCLUSIONS)];
+const FILES: &[(&str, &str)] = &[("data", V1_DATA), ("exclusions", V1_EXCLUSIONS)];
 
 /// The programs.
 #[derive(Clone, Copy)]
@@ -29,7 +29,7 @@ fn status_of(
     output: &mut Watched<Vec<u8>>,
     error: &mut Watched<Vec<u8>>,
 ) -> u8 {
-    let shelf = Shelf { files: &FILES };
+    let shelf = Shelf { files: FILES };
     let mut input = Watched::new(Trickle::new(input.as_bytes(), 100));
     match program {
         Program::Npss => run_words(&shelf, alloc, words, &mut input, output, error),

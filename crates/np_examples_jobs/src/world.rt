@@ -14,6 +14,12 @@ use np_world::{Report, Schedule, read_schedule, replay, report_text};
 use std::alloc::Global;
 use std::test::Fail;
 
+const ONE: &[Files] = &[V1];
+
+const TWICE: &[Files] = &[V1, V1];
+
+const BOTH: &[Files] = &[V1, V2];
+
 /// What comes of a script under NFC.
 fn replayed<'t>(
     alloc: Global,
@@ -47,7 +53,7 @@ fn want_reports(alloc: Global, versions: &[Files<'_>], rows: &[Row]) -> Result<(
     want_texts(alloc, tables.as_slice(), rows)
 }
 
-const OVER_ONE: [Row; 4] = [
+const OVER_ONE: &[Row] = &[
     (FORGETTING_SCHEDULE, FORGETTING_REPORT),
     // forged bytes are refused in order
     (FORGED_SCHEDULE, FORGED_REPORT),
@@ -65,16 +71,16 @@ const OVER_ONE: [Row; 4] = [
 
 #[test]
 fn scripts_over_one_version_have_their_reports(rt: HostRuntime) -> Result<(), Fail> {
-    want_reports(rt.alloc(), &[V1], &OVER_ONE)
+    want_reports(rt.alloc(), ONE, OVER_ONE)
 }
 
 /// An earlier version with as many code points as the one that saved.
-const OVER_ALIKE: [Row; 1] = [(
+const OVER_ALIKE: &[Row] = &[(
     "room 4\nnodes 0\naccept 0 0061\nupgrade 0\nsave 0\nrestart 0 0\n",
     "0 kept 0\n1 version 1\n2 saved\n3 restarted\nnode 0 version 0 entries 1\nentry 0061 / 0061\n",
 )];
 
-const OVER_TWO: [Row; 2] = [
+const OVER_TWO: &[Row] = &[
     (OLDER_SCHEDULE, OLDER_REPORT),
     // a node that never saved goes to any version, empty, and on from there
     (
@@ -87,8 +93,8 @@ const OVER_TWO: [Row; 2] = [
 fn a_node_restarts_under_each_version_with_as_many_code_points(
     rt: HostRuntime,
 ) -> Result<(), Fail> {
-    want_reports(rt.alloc(), &[V1, V1], &OVER_ALIKE)?;
-    want_reports(rt.alloc(), &[V1, V2], &OVER_TWO)
+    want_reports(rt.alloc(), TWICE, OVER_ALIKE)?;
+    want_reports(rt.alloc(), BOTH, OVER_TWO)
 }
 
 /// The message of `E2` in its decomposed spelling, under NFC.
@@ -116,7 +122,7 @@ fn wants_lent(alloc: Global, tables: &[RowTable]) -> Result<(), Fail> {
 
 #[test]
 fn a_report_lends_messages_and_images(rt: HostRuntime) -> Result<(), Fail> {
-    let tables = tables_of(rt.alloc(), &[V1, V2])?;
+    let tables = tables_of(rt.alloc(), BOTH)?;
     wants_lent(rt.alloc(), tables.as_slice())
 }
 
@@ -159,7 +165,7 @@ fn wants_limit(alloc: Global, tables: &[RowTable]) -> Result<(), Fail> {
 
 #[test]
 fn strings_have_65_536_bytes_at_most(rt: HostRuntime) -> Result<(), Fail> {
-    let tables = tables_of(rt.alloc(), &[V1])?;
+    let tables = tables_of(rt.alloc(), ONE)?;
     wants_limit(rt.alloc(), tables.as_slice())
 }
 
@@ -185,6 +191,6 @@ fn shows_counts(alloc: Global, tables: &[RowTable]) -> Result<(), Fail> {
 
 #[test]
 fn a_report_shows_no_string(rt: HostRuntime) -> Result<(), Fail> {
-    let tables = tables_of(rt.alloc(), &[V1, V2])?;
+    let tables = tables_of(rt.alloc(), BOTH)?;
     shows_counts(rt.alloc(), tables.as_slice())
 }

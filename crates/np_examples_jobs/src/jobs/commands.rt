@@ -17,7 +17,7 @@ fn texts_are_answered(alloc: Global, command: Command, rows: &[Row]) -> Result<(
     Ok(())
 }
 
-const KEYS: [Row; 5] = [
+const KEYS: &[Row] = &[
     (Form::Nfd, "a\u{302}\u{323}", (0, "a\u{323}\u{302}", "")),
     (Form::Nfc, "a\u{302}\u{323}", (0, "\u{1EAD}", "")),
     (Form::Nfd, "", (0, "", "")),
@@ -35,20 +35,20 @@ const KEYS: [Row; 5] = [
 
 #[test]
 fn key_answers_the_worked_examples(rt: HostRuntime) -> Result<(), Fail> {
-    texts_are_answered(rt.alloc(), Command::Key, &KEYS)
+    texts_are_answered(rt.alloc(), Command::Key, KEYS)
 }
 
-const NORMALIZED: [Row; 2] = [
+const NORMALIZED: &[Row] = &[
     (Form::Nfd, "a\u{302}\u{323}", (0, "a\u{323}\u{302}", "")),
     (Form::Nfc, "\u{16D6A}", (0, "\u{16D6A}", "")),
 ];
 
 #[test]
 fn normalize_answers_the_worked_examples(rt: HostRuntime) -> Result<(), Fail> {
-    texts_are_answered(rt.alloc(), Command::Normalize, &NORMALIZED)
+    texts_are_answered(rt.alloc(), Command::Normalize, NORMALIZED)
 }
 
-const COMPARED: [Row; 7] = [
+const COMPARED: &[Row] = &[
     (Form::Nfc, "\u{FB01}\nfi\n", (1, "different\n", "")),
     (Form::Nfkc, "\u{FB01}\nfi\n", (0, "equal\n", "")),
     (Form::Nfc, "a", (4, "", "input: two lines wanted\n")),
@@ -75,10 +75,10 @@ const COMPARED: [Row; 7] = [
 
 #[test]
 fn compare_answers_the_worked_examples(rt: HostRuntime) -> Result<(), Fail> {
-    texts_are_answered(rt.alloc(), Command::Compare, &COMPARED)
+    texts_are_answered(rt.alloc(), Command::Compare, COMPARED)
 }
 
-const BAD: [JobRow; 2] = [
+const BAD: &[JobRow] = &[
     (
         Job::Text(Command::Key, Form::Nfc, V1_DATA, b"a\xff"),
         (4, "", "input: not UTF-8 at byte 1\n"),
@@ -93,11 +93,11 @@ const BAD: [JobRow; 2] = [
 
 #[test]
 fn bad_bytes_and_bad_files_are_told(rt: HostRuntime) -> Result<(), Fail> {
-    are_answered(rt.alloc(), &BAD)
+    are_answered(rt.alloc(), BAD)
 }
 
 /// What the first fixture has of keys under the second: the input and the answer.
-const KEYS_UNDER: [(&[u8], Answer); 6] = [
+const KEYS_UNDER: &[(&[u8], Answer)] = &[
     (b"a\xcc\x82\xcc\xa3", (0, "own form\n", "")),
     (b"", (0, "own form\n", "")),
     (
@@ -114,7 +114,7 @@ const KEYS_UNDER: [(&[u8], Answer); 6] = [
 ];
 
 /// Versions that are refused before the input is looked at, which is no UTF-8.
-const UNDER_REFUSED: [JobRow; 3] = [
+const UNDER_REFUSED: &[JobRow] = &[
     (
         Job::KeyUnder(Form::Nfc, V2, V1, b"\xff"),
         (1, "", "not an extension: version 1 Lost 1DFA\n"),
@@ -142,11 +142,11 @@ fn keys_are_answered(alloc: Global, rows: &[(&[u8], Answer<'_>)]) -> Result<(), 
 
 #[test]
 fn keys_under_an_earlier_version_are_answered(rt: HostRuntime) -> Result<(), Fail> {
-    keys_are_answered(rt.alloc(), &KEYS_UNDER)?;
-    are_answered(rt.alloc(), &UNDER_REFUSED)
+    keys_are_answered(rt.alloc(), KEYS_UNDER)?;
+    are_answered(rt.alloc(), UNDER_REFUSED)
 }
 
-const AUDITS: [JobRow; 3] = [
+const AUDITS: &[JobRow] = &[
     (Job::Audit(V1, V2), (0, "extends\n", ""), "V1, V2"),
     (
         Job::Audit(V2, V1),
@@ -166,5 +166,5 @@ const AUDITS: [JobRow; 3] = [
 
 #[test]
 fn audit_answers_the_worked_examples(rt: HostRuntime) -> Result<(), Fail> {
-    are_answered(rt.alloc(), &AUDITS)
+    are_answered(rt.alloc(), AUDITS)
 }

@@ -178,7 +178,7 @@ const NEW_DATA: &str = "version 1 data: ReadFailed\n";
 const NEW_EXCLUSIONS: &str = "version 1 exclusions: ReadFailed\n";
 
 /// Versions are read in order, each whole, and then the input.
-const CUTS: [Cut; 12] = [
+const CUTS: &[Cut] = &[
     (Reading::Key, 0, 30, OLD_DATA, [31, 0, 0, 0, 0]),
     (Reading::Key, 1, 2, OLD_EXCLUSIONS, [ALL, 3, 0, 0, 0]),
     (
@@ -213,7 +213,7 @@ const CUTS: [Cut; 12] = [
 
 #[test]
 fn a_failed_read_in_mid_stream_ends_the_job(rt: HostRuntime) -> Result<(), Fail> {
-    want_cuts(rt.alloc(), &CUTS)
+    want_cuts(rt.alloc(), CUTS)
 }
 
 /// The run of a replay over these readers.

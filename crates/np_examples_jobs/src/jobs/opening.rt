@@ -33,7 +33,7 @@ impl<'a> Opener for Shelf<'a> {
 }
 
 /// Names that differ in a blank or a line end alone.
-const FILES: [(&str, &str); 4] = [(" d ", "1"), ("d", "2"), ("e", "3"), ("e\n", "4")];
+const FILES: &[(&str, &str)] = &[(" d ", "1"), ("d", "2"), ("e", "3"), ("e\n", "4")];
 
 /// The names of a version's two files.
 fn version(alloc: Global, data: &str, exclusions: &str) -> Result<VersionFiles, AllocError> {
@@ -64,7 +64,7 @@ fn hold(
 /// Whether the files of a version open and hold this.
 fn opens(alloc: Global, files: &VersionFiles, texts: (&str, &str)) -> Result<bool, Fail> {
     let mut error = Watched::new(Vec::new(alloc));
-    match open_version(&Shelf { files: &FILES }, alloc, &mut error, files) {
+    match open_version(&Shelf { files: FILES }, alloc, &mut error, files) {
         Ok((mut data, mut exclusions)) => hold(alloc, &mut data, &mut exclusions, texts),
         Err(_) => Ok(false),
     }
@@ -78,7 +78,7 @@ fn open_as(alloc: Global, names: (&str, &str), texts: (&str, &str)) -> Result<bo
 
 /// The status with which versions don't open.
 fn status_of(alloc: Global, versions: &[VersionFiles], error: &mut Watched<Vec<u8>>) -> Option<u8> {
-    match open_versions(&Shelf { files: &FILES }, alloc, error, versions) {
+    match open_versions(&Shelf { files: FILES }, alloc, error, versions) {
         Ok(_) => None,
         Err(status) => Some(status),
     }

@@ -17,7 +17,7 @@ const LINES: &[u8] = b"\xe1\xba\xad\na\xcc\x82\xcc\xa3\n";
 type Row<'a> = (Job<'a>, &'a [u8]);
 
 /// The jobs, and what each writes over the first fixture.
-const JOBS: [Row; 8] = [
+const JOBS: &[Row] = &[
     (
         Job::Text(Command::Normalize, Form::Nfc, V1_DATA, LETTER),
         b"\xe1\xba\xad",
@@ -104,16 +104,16 @@ fn each_failure(
     Ok(())
 }
 
-fn each_job(alloc: Global, rows: &[Row<'_>]) -> Result<(), Fail> {
+fn each_job(alloc: Global, rows: &[Row<'_>], failures: &[Failure]) -> Result<(), Fail> {
     for (job, whole) in rows {
-        each_call(alloc, job, whole, &FAILURES)?;
+        each_call(alloc, job, whole, failures)?;
     }
     Ok(())
 }
 
 #[test]
 fn each_failed_write_and_flush_is_told(rt: HostRuntime) -> Result<(), Fail> {
-    each_job(rt.alloc(), &JOBS)
+    each_job(rt.alloc(), JOBS, &FAILURES)
 }
 
 /// A job that ends well calls an output that takes a byte a write once for each byte, and flushes it once.
@@ -134,7 +134,7 @@ fn want_calls(alloc: Global, rows: &[Row<'_>]) -> Result<(), Fail> {
 
 #[test]
 fn an_output_is_flushed_once(rt: HostRuntime) -> Result<(), Fail> {
-    want_calls(rt.alloc(), &JOBS)
+    want_calls(rt.alloc(), JOBS)
 }
 
 /// The form and the key of a text that is its own.

@@ -49,7 +49,7 @@ fn itself(fault: JobFault) -> JobFault {
 
 /// Faults of the data file's records, of its ranges and of the whole file; of the exclusions file; of the tables that
 /// two files make.
-const VERSIONS: [(VersionFault, u8, &str); 23] = [
+const VERSIONS: &[(VersionFault, u8, &str)] = &[
     (
         VersionFault::Data {
             version: 0,
@@ -238,11 +238,11 @@ const VERSIONS: [(VersionFault, u8, &str); 23] = [
 
 #[test]
 fn faults_of_versions_have_lines(rt: HostRuntime) -> Result<(), Fail> {
-    are_told(rt.alloc(), &VERSIONS, &version)
+    are_told(rt.alloc(), VERSIONS, &version)
 }
 
 /// Faults of a text's input.
-const INPUTS: [(TextFault, u8, &str); 3] = [
+const INPUTS: &[(TextFault, u8, &str)] = &[
     (
         TextFault::Input {
             fault: InputFault::TooLarge,
@@ -267,7 +267,7 @@ const INPUTS: [(TextFault, u8, &str); 3] = [
 ];
 
 /// Faults of a text that was read.
-const TEXTS: [(TextFault, u8, &str); 6] = [
+const TEXTS: &[(TextFault, u8, &str)] = &[
     (
         TextFault::NotUtf8 { at: 16777215 },
         4,
@@ -314,13 +314,13 @@ fn want_texts(alloc: Global, rows: &[(TextFault, u8, &str)]) -> Result<(), Fail>
 
 #[test]
 fn faults_of_texts_have_lines(rt: HostRuntime) -> Result<(), Fail> {
-    are_told(rt.alloc(), &INPUTS, &text)?;
-    want_texts(rt.alloc(), &TEXTS)?;
-    are_told(rt.alloc(), &TEXTS, &text)
+    are_told(rt.alloc(), INPUTS, &text)?;
+    want_texts(rt.alloc(), TEXTS)?;
+    are_told(rt.alloc(), TEXTS, &text)
 }
 
 /// Faults of a schedule's input, and of a schedule that was read.
-const SCHEDULES: [(ReplayFault, u8, &str); 5] = [
+const SCHEDULES: &[(ReplayFault, u8, &str)] = &[
     (
         ReplayFault::Schedule {
             fault: InputFault::TooLarge,
@@ -352,11 +352,11 @@ const SCHEDULES: [(ReplayFault, u8, &str); 5] = [
 
 #[test]
 fn faults_of_schedules_have_lines(rt: HostRuntime) -> Result<(), Fail> {
-    are_told(rt.alloc(), &SCHEDULES, &replay)
+    are_told(rt.alloc(), SCHEDULES, &replay)
 }
 
 /// Versions that are no chain, a failed output and want of memory.
-const OTHERS: [(JobFault, u8, &str); 4] = [
+const OTHERS: &[(JobFault, u8, &str)] = &[
     (
         JobFault::NotExtension {
             version: 1,
@@ -385,5 +385,5 @@ const OTHERS: [(JobFault, u8, &str); 4] = [
 
 #[test]
 fn other_faults_have_lines(rt: HostRuntime) -> Result<(), Fail> {
-    are_told(rt.alloc(), &OTHERS, &itself)
+    are_told(rt.alloc(), OTHERS, &itself)
 }

@@ -65,7 +65,7 @@ const NFC_REPLAY: &str =
     r#"Replay { form: Nfc, schedule_file: "S", version_files: [VersionFiles { data_file: "D", exclusions_file: "E" }] }"#;
 
 /// Words that name a key under an earlier version: the flag and the form stand anywhere among the files.
-const KEYS_UNDER: [&str; 11] = [
+const KEYS_UNDER: &[&str] = &[
     "key --form nfc --check-under A B C D",
     "key --check-under --form nfc A B C D",
     "key --form=nfc A --check-under B C D",
@@ -81,11 +81,11 @@ const KEYS_UNDER: [&str; 11] = [
 
 #[test]
 fn reads_the_flag_at_each_place(rt: HostRuntime) -> Result<(), Fail> {
-    all_are_read(rt.alloc(), &KEYS_UNDER, KEY_UNDER)
+    all_are_read(rt.alloc(), KEYS_UNDER, KEY_UNDER)
 }
 
 /// Words that name a job, and the job.
-const JOBS: [(&str, &str); 20] = [
+const JOBS: &[(&str, &str)] = &[
     ("", "Help"),
     ("key --form nfd D E", NFD_KEY),
     ("key --form nfc D E", NFC_KEY),
@@ -134,11 +134,11 @@ const JOBS: [(&str, &str); 20] = [
 
 #[test]
 fn reads_words_that_name_a_job(rt: HostRuntime) -> Result<(), Fail> {
-    are_read(rt.alloc(), &JOBS)
+    are_read(rt.alloc(), JOBS)
 }
 
 /// Words that name no job.
-const OTHERS: [&str; 47] = [
+const OTHERS: &[&str] = &[
     "--help",
     "-h",
     "--version",
@@ -190,11 +190,11 @@ const OTHERS: [&str; 47] = [
 
 #[test]
 fn refuses_every_other_word(rt: HostRuntime) -> Result<(), Fail> {
-    all_are_read(rt.alloc(), &OTHERS, "Usage")
+    all_are_read(rt.alloc(), OTHERS, "Usage")
 }
 
 /// Words that ask for the usage text, for none of the jobs, and for one that names several files.
-const FEW: [(&str, &str); 5] = [
+const FEW: &[(&str, &str)] = &[
     ("", "Help"),
     ("key --form nfx D E", "Usage"),
     ("--help", "Usage"),
@@ -204,5 +204,5 @@ const FEW: [(&str, &str); 5] = [
 
 #[test]
 fn a_refused_parse_succeeds_after_all(rt: HostRuntime) -> Result<(), Fail> {
-    are_read(rt.alloc(), &FEW)
+    are_read(rt.alloc(), FEW)
 }

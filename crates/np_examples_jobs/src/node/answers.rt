@@ -12,14 +12,14 @@ use np_versions::NormTable;
 use std::alloc::Global;
 use std::test::Fail;
 
-const EMPTY_STRING: [Row; 4] = [
+const EMPTY_STRING: &[Row] = &[
     (Step::Keeps(b"", b"C\0\0\0\0\0\0\0\0"), "the empty string"),
     (Step::Knows(b""), "the empty string again"),
     (Step::Shows(Sight::Entry(0, Some(("", "")))), "its entry"),
     (Step::Shows(Sight::Entry(1, None)), "no other entry"),
 ];
 
-const NO_ROOM: [Row; 3] = [
+const NO_ROOM: &[Row] = &[
     (
         Step::Refuses(b"", NodeFault::Full),
         "no room for the empty string",
@@ -31,7 +31,7 @@ const NO_ROOM: [Row; 3] = [
     (Step::Shows(Sight::Size(0, 0)), "nothing is kept"),
 ];
 
-const LITTLE_ROOM: [Row; 6] = [
+const LITTLE_ROOM: &[Row] = &[
     (Step::Keeps(b"a", b"C\0\0\0\x01a\0\0\0\x01a"), "a"),
     (Step::Refuses(b"A", NodeFault::Full), "A by accept"),
     (
@@ -47,7 +47,7 @@ const LITTLE_ROOM: [Row; 6] = [
 ];
 
 fn keeps_one<T: NormTable>(alloc: Global, node: &mut Node<'_, T>) -> Result<(), Fail> {
-    wants_steps(node, &LITTLE_ROOM)?;
+    wants_steps(node, LITTLE_ROOM)?;
     want(node.form() == Form::Nfc, "its form")?;
     wants_shown(alloc, node)
 }
@@ -153,7 +153,7 @@ fn longest_restored<T: NormTable>(alloc: Global, node: &Node<'_, T>) -> Result<(
 }
 
 /// The sign 212B, the letter 00C5 that it is equivalent to, and `a` are three strings.
-const UNLIKE: [Row; 10] = [
+const UNLIKE: &[Row] = &[
     (Step::Accepts(b"\xe2\x84\xab"), "the sign"),
     (Step::Accepts(b"\xc3\x85"), "the letter"),
     (Step::Accepts(b"a"), "a"),
@@ -185,12 +185,12 @@ const UNLIKE: [Row; 10] = [
 ];
 
 fn kept_once<T: NormTable>(alloc: Global, table: &T) -> Result<(), Fail> {
-    story(alloc, table, 4, &EMPTY_STRING)?;
-    story(alloc, table, 0, &NO_ROOM)?;
+    story(alloc, table, 4, EMPTY_STRING)?;
+    story(alloc, table, 0, NO_ROOM)?;
     little_room(alloc, table)?;
     too_long(alloc, table)?;
     longest(alloc, table)?;
-    story(alloc, table, 4, &UNLIKE)
+    story(alloc, table, 4, UNLIKE)
 }
 
 /// A noncharacter is unassigned in each version, and a letter of private use is not.
@@ -207,7 +207,7 @@ const NO_CHARACTER: Row = (
 
 const PRIVATE: Row = (Step::Accepts(b"\xee\x80\x80"), "a private letter");
 
-const LACKING: [Row; 3] = [
+const LACKING: &[Row] = &[
     (
         Step::Refuses(
             b"A\xf0\x96\xb5\xa7",
@@ -222,7 +222,7 @@ const LACKING: [Row; 3] = [
     PRIVATE,
 ];
 
-const LATER: [Row; 4] = [
+const LATER: &[Row] = &[
     (Step::Accepts(b"A\xf0\x96\xb5\xa7"), "a later letter"),
     (
         Step::Shows(Sight::Entry(0, Some(("A\u{16D67}", "A\u{16D67}")))),
@@ -277,8 +277,8 @@ impl Example for Shown {
     fn holds<T: Made>(&self, alloc: Global, table: &T) -> Result<(), Fail> {
         match self {
             Shown::KeptOnce => kept_once(alloc, table),
-            Shown::Lacking => story(alloc, table, 4, &LACKING),
-            Shown::LaterLetter => story(alloc, table, 4, &LATER),
+            Shown::Lacking => story(alloc, table, 4, LACKING),
+            Shown::LaterLetter => story(alloc, table, 4, LATER),
             Shown::Upgrades => upgrades_from(alloc, table),
         }
     }
@@ -305,7 +305,7 @@ fn upgrades_go_forward_alone(rt: HostRuntime) -> Result<(), Fail> {
 }
 
 /// Each fault, and how it is told; a code point in four hex digits at least.
-const TOLD: [(NodeFault, &str); 10] = [
+const TOLD: &[(NodeFault, &str)] = &[
     (NodeFault::Malformed { at: 5 }, "malformed at byte 5"),
     (NodeFault::OtherForm, "another form"),
     (NodeFault::TooLong, "too long: more than 65,536 bytes"),
@@ -335,5 +335,5 @@ const TOLD: [(NodeFault, &str); 10] = [
 
 #[test]
 fn faults_are_told_in_words(rt: HostRuntime) -> Result<(), Fail> {
-    want_told(rt.alloc(), &TOLD)
+    want_told(rt.alloc(), TOLD)
 }

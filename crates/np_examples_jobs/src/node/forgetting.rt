@@ -11,7 +11,7 @@ use std::test::Fail;
 const MESSAGE: &[u8] = b"C\0\0\0\x01a\0\0\0\x01a";
 
 /// The others keep their order, and a string that is kept anew stands last.
-const ORDER: [Row; 10] = [
+const ORDER: &[Row] = &[
     (Step::Accepts(b"a"), "a"),
     (Step::Accepts(b"A"), "A"),
     (Step::Accepts(b"f"), "f"),
@@ -28,13 +28,13 @@ const ORDER: [Row; 10] = [
 ];
 
 /// What isn't kept isn't forgotten: a spelling that is equivalent, and a text of unassigned code points.
-const ABSENT: [Row; 3] = [
+const ABSENT: &[Row] = &[
     (Step::Accepts(b"\xc3\xa2"), "the letter"),
     (Step::Forgets("a\u{302}", false), "another spelling"),
     (Step::Forgets("\u{378}", false), "an unassigned code point"),
 ];
 
-const NOTHING_LEFT: [Row; 4] = [
+const NOTHING_LEFT: &[Row] = &[
     (Step::Shows(Sight::Size(1, 4)), "nothing changes"),
     (Step::Forgets("\u{E2}", true), "the only one"),
     (Step::Shows(Sight::Size(0, 4)), "nothing is left"),
@@ -43,9 +43,9 @@ const NOTHING_LEFT: [Row; 4] = [
 
 /// Nor is a text that is too long.
 fn forgets_none<T: NormTable>(node: &mut Node<'_, T>, long: &str) -> Result<(), Fail> {
-    wants_steps(node, &ABSENT)?;
+    wants_steps(node, ABSENT)?;
     want(!node.forget(long), "65,537 bytes")?;
-    wants_steps(node, &NOTHING_LEFT)
+    wants_steps(node, NOTHING_LEFT)
 }
 
 fn absent<T: NormTable>(alloc: Global, table: &T, long: &[u8]) -> Result<(), Fail> {
@@ -59,13 +59,13 @@ fn absent_long<T: NormTable>(alloc: Global, table: &T) -> Result<(), Fail> {
     absent(alloc, table, &long)
 }
 
-const TURN: [Row; 3] = [
+const TURN: &[Row] = &[
     (Step::Keeps(b"a", MESSAGE), "a"),
     (Step::Shows(Sight::Entry(1, Some(("a", "a")))), "behind f"),
     (Step::Forgets("a", true), "a was kept"),
 ];
 
-const AFTER_ALL: [Row; 3] = [
+const AFTER_ALL: &[Row] = &[
     (Step::Takes(MESSAGE, Ok(Taken::Kept)), "an old message"),
     (Step::Knows(b"a"), "a once more"),
     (Step::Shows(Sight::Size(2, 2)), "f and a"),
@@ -75,9 +75,9 @@ const AFTER_ALL: [Row; 3] = [
 fn comes_again<T: NormTable>(node: &mut Node<'_, T>) -> Result<(), Fail> {
     want(node.accept(b"f").is_ok(), "f")?;
     for _turn in 0..1000 {
-        wants_steps(node, &TURN)?;
+        wants_steps(node, TURN)?;
     }
-    wants_steps(node, &AFTER_ALL)
+    wants_steps(node, AFTER_ALL)
 }
 
 fn in_turn<T: NormTable>(alloc: Global, table: &T) -> Result<(), Fail> {
@@ -89,7 +89,7 @@ struct Forgotten;
 
 impl Example for Forgotten {
     fn holds<T: Made>(&self, alloc: Global, table: &T) -> Result<(), Fail> {
-        story(alloc, table, 4, &ORDER)?;
+        story(alloc, table, 4, ORDER)?;
         absent_long(alloc, table)?;
         in_turn(alloc, table)
     }

@@ -42,14 +42,14 @@ const LATER: &[u8] = b"NPS1C\0\0\0\x01\0\0\0\x04\xf0\x96\xb5\xa7\0\0\0\x04\xf0\x
 /// The one entry FFFE, a noncharacter, beside itself as key.
 const NONE: &[u8] = b"NPS1C\0\0\0\x01\0\0\0\x03\xef\xbf\xbe\0\0\0\x03\xef\xbf\xbe";
 
-const MADE: [Row; 3] = [
+const MADE: &[Row] = &[
     (Step::Accepts(b"a\xcc\x82"), "the first string"),
     (Step::Accepts(b"\xe2\x84\xab"), "the second string"),
     (Step::Saves(SECOND), "the image"),
 ];
 
 /// A key that is its string isn't repeated.
-const SHORT: [Row; 2] = [
+const SHORT: &[Row] = &[
     (Step::Accepts(b"a"), "a"),
     (Step::Saves(ONE), "an image with a short key"),
 ];
@@ -106,7 +106,7 @@ fn cut<T: NormTable>(alloc: Global, table: &T) -> Result<(), Fail> {
 }
 
 /// Images that are refused for themselves.
-const REFUSED: [NoImage; 13] = [
+const REFUSED: &[NoImage] = &[
     (
         b"NPS2C\0\0\x44\xfc\0\0\0\x01\0\0\0\x01a\x02",
         None,
@@ -187,13 +187,13 @@ const REFUSED: [NoImage; 13] = [
 ];
 
 /// Images for which a room of one is too little.
-const TOO_LARGE: [NoImage; 2] = [
+const TOO_LARGE: &[NoImage] = &[
     (FIRST, None, NodeFault::Full, "too little room"),
     (SECOND, None, NodeFault::Full, "too little room"),
 ];
 
 /// Images for which there is no room.
-const NO_ROOM: [NoImage; 2] = [
+const NO_ROOM: &[NoImage] = &[
     (ONE, None, NodeFault::Full, "no room"),
     (
         NEEDS_MORE,
@@ -207,7 +207,7 @@ const NO_ROOM: [NoImage; 2] = [
 ];
 
 /// Each place of a fault, and how it is told.
-const WORDS: [(ImageFault, &str); 3] = [
+const WORDS: &[(ImageFault, &str)] = &[
     (
         ImageFault {
             entry: None,
@@ -235,14 +235,14 @@ const WORDS: [(ImageFault, &str); 3] = [
 ];
 
 fn refused<T: NormTable>(alloc: Global, table: &T) -> Result<(), Fail> {
-    wants_no_nodes(alloc, table, 0, &NO_ROOM)?;
-    wants_no_nodes(alloc, table, 1, &TOO_LARGE)?;
-    wants_no_nodes(alloc, table, 4, &REFUSED)
+    wants_no_nodes(alloc, table, 0, NO_ROOM)?;
+    wants_no_nodes(alloc, table, 1, TOO_LARGE)?;
+    wants_no_nodes(alloc, table, 4, REFUSED)
 }
 
 fn images<T: NormTable>(alloc: Global, table: &T) -> Result<(), Fail> {
-    story(alloc, table, 4, &MADE)?;
-    story(alloc, table, 4, &SHORT)?;
+    story(alloc, table, 4, MADE)?;
+    story(alloc, table, 4, SHORT)?;
     restored(alloc, table, FIRST, SECOND)?;
     restored(alloc, table, SECOND, SECOND)?;
     cut(alloc, table)?;
@@ -267,7 +267,7 @@ impl Example for Shown {
 
 #[test]
 fn an_image_is_read_whole_or_not_at_all(rt: HostRuntime) -> Result<(), Fail> {
-    want_told(rt.alloc(), &WORDS)?;
+    want_told(rt.alloc(), WORDS)?;
     holds_over_each(rt.alloc(), V1, &Shown::Images)
 }
 

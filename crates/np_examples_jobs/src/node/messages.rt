@@ -20,7 +20,7 @@ const OTHER: &[u8] = b"D\0\0\0\x03a\xcc\x82\0\0\0\x02\xc3\xa2";
 const MORE: &[u8] = b"C\0\0\0\x03a\xcc\x82\0\0\0\x02\xc3\xa2\0";
 
 /// What the node answers, one message behind the other.
-const KEYS: [Row; 7] = [
+const KEYS: &[Row] = &[
     (Step::Takes(FORGED, Err(NodeFault::KeyDiffers)), "forged"),
     (Step::Takes(RIGHT, Ok(Taken::Kept)), "right"),
     (Step::Takes(RIGHT, Ok(Taken::Known)), "right again"),
@@ -40,7 +40,7 @@ const KEYS: [Row; 7] = [
 ];
 
 /// Messages that an empty node refuses.
-const REFUSED: [Row; 6] = [
+const REFUSED: &[Row] = &[
     (
         Step::Takes(MORE, Err(NodeFault::Malformed { at: 14 })),
         "a byte more",
@@ -77,7 +77,7 @@ const REFUSED: [Row; 6] = [
 ];
 
 fn checks_messages<T: NormTable>(node: &mut Node<'_, T>) -> Result<(), Fail> {
-    wants_steps(node, &REFUSED)?;
+    wants_steps(node, REFUSED)?;
     for length in 0..RIGHT.len() {
         let at = match length {
             0 => 0,
@@ -102,7 +102,7 @@ fn messages_are_checked<T: NormTable>(alloc: Global, table: &T) -> Result<(), Fa
 }
 
 /// A node's own message, told to its sender.
-const TOLD: [Row; 2] = [
+const TOLD: &[Row] = &[
     (Step::Keeps(b"a\xcc\x82", RIGHT), "its message"),
     (Step::Takes(RIGHT, Ok(Taken::Known)), "told to its sender"),
 ];
@@ -112,9 +112,9 @@ struct Messages;
 
 impl Example for Messages {
     fn holds<T: Made>(&self, alloc: Global, table: &T) -> Result<(), Fail> {
-        story(alloc, table, 4, &KEYS)?;
+        story(alloc, table, 4, KEYS)?;
         messages_are_checked(alloc, table)?;
-        story(alloc, table, 4, &TOLD)
+        story(alloc, table, 4, TOLD)
     }
 }
 

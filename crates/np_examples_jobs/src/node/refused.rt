@@ -116,7 +116,7 @@ fn restores_image<T: NormTable>(alloc: Global, table: &T, image: &[u8]) -> Resul
 }
 
 /// What a node that keeps `A` and is full refuses, and what it knows.
-const REFUSED: [Row; 13] = [
+const REFUSED: &[Row] = &[
     (
         Step::Refuses(b"a\xcc", NodeFault::NotUtf8 { at: 1 }),
         "a string that is cut",
@@ -171,14 +171,14 @@ const REFUSED: [Row; 13] = [
     (Step::Shows(Sight::Key("a\u{302}", None)), "nothing changes"),
 ];
 
-const FORGOTTEN: [Row; 3] = [
+const FORGOTTEN: &[Row] = &[
     (Step::Forgets("a", false), "a is not kept"),
     (Step::Forgets("A", true), "A is forgotten"),
     (Step::Shows(Sight::Size(0, 1)), "nothing is kept"),
 ];
 
 /// Images of no node of a room of one.
-const NO_IMAGES: [NoImage; 5] = [
+const NO_IMAGES: &[NoImage] = &[
     (
         b"NPS2C\0\0\0\0\xff\xff\xff\xff",
         None,
@@ -208,9 +208,9 @@ const NO_IMAGES: [NoImage; 5] = [
 fn refuses<T: NormTable>(alloc: Global, node: &mut Node<'_, T>, long: &[u8]) -> Result<(), Fail> {
     keep_one(node)?;
     wants_refused(node, long, NodeFault::TooLong, "a long string")?;
-    wants_steps(node, &REFUSED)?;
-    wants_no_nodes(alloc, node.table(), 1, &NO_IMAGES)?;
-    wants_steps(node, &FORGOTTEN)
+    wants_steps(node, REFUSED)?;
+    wants_no_nodes(alloc, node.table(), 1, NO_IMAGES)?;
+    wants_steps(node, FORGOTTEN)
 }
 
 fn asked<T: NormTable>(node: &mut Node<'_, T>, call: &NodeCall) -> Result<(), Fail> {
