@@ -232,8 +232,8 @@ const LATER: &[Row] = &[
     PRIVATE,
 ];
 
-/// A node goes on to a later version and to its own, and not back.
-fn wants_upgrades<'t, T: NormTable>(
+/// A node goes on to its own version and to a later one.
+fn goes_on<'t, T: NormTable>(
     node: &mut Node<'t, T>,
     first: &'t T,
     second: &'t T,
@@ -241,7 +241,11 @@ fn wants_upgrades<'t, T: NormTable>(
     want(node.accept(b"a").is_ok(), "a")?;
     want(node.upgrade(first).is_ok(), "the same version")?;
     want(node.upgrade(second).is_ok(), "the later version")?;
-    want(node.table().version().count() == 17_666, "the later table")?;
+    want(node.table().version().count() == 17_666, "the later table")
+}
+
+/// It goes back to none, and then is as it was.
+fn stays<'t, T: NormTable>(node: &mut Node<'t, T>, first: &'t T) -> Result<(), Fail> {
     let lost = Break {
         kind: BreakKind::Lost,
         code: 0x1DFA,
@@ -252,6 +256,15 @@ fn wants_upgrades<'t, T: NormTable>(
         node.len() == 1 && node.entry(0) == Some(("a", "a")),
         "the entries stay",
     )
+}
+
+fn wants_upgrades<'t, T: NormTable>(
+    node: &mut Node<'t, T>,
+    first: &'t T,
+    second: &'t T,
+) -> Result<(), Fail> {
+    goes_on(node, first, second)?;
+    stays(node, first)
 }
 
 fn upgrades<'t, T: NormTable>(alloc: Global, first: &'t T, second: &'t T) -> Result<(), Fail> {

@@ -40,11 +40,19 @@ struct Change<'a> {
     told: &'a str,
 }
 
+/// The first word of a line, and the rest.
+fn parted(line: &str) -> Result<(&str, &str), Fail> {
+    match line.split_once(" ") {
+        Some(parts) => Ok(parts),
+        None => Err(Fail::new(line)),
+    }
+}
+
 /// The change that a line has.
 fn change_of(line: &str) -> Result<Change<'_>, Fail> {
-    let (at, rest) = line.split_once(" ").ok_or("a place")?;
-    let (gone, rest) = rest.split_once(" ").ok_or("so many bytes")?;
-    let (puts, told) = rest.split_once(" ").ok_or("what comes")?;
+    let (at, rest) = parted(line)?;
+    let (gone, rest) = parted(rest)?;
+    let (puts, told) = parted(rest)?;
     Ok(Change {
         at: usize::from_str_radix(at, 10)?,
         gone: usize::from_str_radix(gone, 10)?,
