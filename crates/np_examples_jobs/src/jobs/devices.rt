@@ -169,18 +169,18 @@ fn want_cuts(alloc: Global, cuts: &[Cut]) -> Result<(), Fail> {
     Ok(())
 }
 
-const OLD_DATA: &str = "version 0 data: ReadFailed\n";
+const OLD_DATA_FAILED: &str = "version 0 data: ReadFailed\n";
 
-const OLD_EXCLUSIONS: &str = "version 0 exclusions: ReadFailed\n";
+const OLD_EXCLUSIONS_FAILED: &str = "version 0 exclusions: ReadFailed\n";
 
-const NEW_DATA: &str = "version 1 data: ReadFailed\n";
+const NEW_DATA_FAILED: &str = "version 1 data: ReadFailed\n";
 
-const NEW_EXCLUSIONS: &str = "version 1 exclusions: ReadFailed\n";
+const NEW_EXCLUSIONS_FAILED: &str = "version 1 exclusions: ReadFailed\n";
 
 /// Versions are read in order, each whole, and then the input.
 const CUTS: &[Cut] = &[
-    (Reading::Key, 0, 30, OLD_DATA, [31, 0, 0, 0, 0]),
-    (Reading::Key, 1, 2, OLD_EXCLUSIONS, [ALL, 3, 0, 0, 0]),
+    (Reading::Key, 0, 30, OLD_DATA_FAILED, [31, 0, 0, 0, 0]),
+    (Reading::Key, 1, 2, OLD_EXCLUSIONS_FAILED, [ALL, 3, 0, 0, 0]),
     (
         Reading::Key,
         4,
@@ -188,18 +188,42 @@ const CUTS: &[Cut] = &[
         "input: ReadFailed\n",
         [ALL, ALL, 0, 0, 2],
     ),
-    (Reading::Audit, 0, 0, OLD_DATA, [1, 0, 0, 0, 0]),
-    (Reading::Audit, 1, 0, OLD_EXCLUSIONS, [ALL, 1, 0, 0, 0]),
-    (Reading::Audit, 2, 0, NEW_DATA, [ALL, ALL, 1, 0, 0]),
-    (Reading::Audit, 3, 0, NEW_EXCLUSIONS, [ALL, ALL, ALL, 1, 0]),
-    (Reading::KeyUnder, 0, 0, OLD_DATA, [1, 0, 0, 0, 0]),
-    (Reading::KeyUnder, 1, 0, OLD_EXCLUSIONS, [ALL, 1, 0, 0, 0]),
-    (Reading::KeyUnder, 2, 0, NEW_DATA, [ALL, ALL, 1, 0, 0]),
+    (Reading::Audit, 0, 0, OLD_DATA_FAILED, [1, 0, 0, 0, 0]),
+    (
+        Reading::Audit,
+        1,
+        0,
+        OLD_EXCLUSIONS_FAILED,
+        [ALL, 1, 0, 0, 0],
+    ),
+    (Reading::Audit, 2, 0, NEW_DATA_FAILED, [ALL, ALL, 1, 0, 0]),
+    (
+        Reading::Audit,
+        3,
+        0,
+        NEW_EXCLUSIONS_FAILED,
+        [ALL, ALL, ALL, 1, 0],
+    ),
+    (Reading::KeyUnder, 0, 0, OLD_DATA_FAILED, [1, 0, 0, 0, 0]),
+    (
+        Reading::KeyUnder,
+        1,
+        0,
+        OLD_EXCLUSIONS_FAILED,
+        [ALL, 1, 0, 0, 0],
+    ),
+    (
+        Reading::KeyUnder,
+        2,
+        0,
+        NEW_DATA_FAILED,
+        [ALL, ALL, 1, 0, 0],
+    ),
     (
         Reading::KeyUnder,
         3,
         0,
-        NEW_EXCLUSIONS,
+        NEW_EXCLUSIONS_FAILED,
         [ALL, ALL, ALL, 1, 0],
     ),
     (
@@ -259,10 +283,16 @@ fn replay_fails(alloc: Global, number: u8, line: &str) -> Result<bool, Fail> {
 #[test]
 fn versions_are_read_in_order_and_then_the_schedule(rt: HostRuntime) -> Result<(), Fail> {
     let alloc = rt.alloc();
-    want(!replay_fails(alloc, 0, OLD_DATA)?, OLD_DATA)?;
-    want(!replay_fails(alloc, 1, OLD_EXCLUSIONS)?, OLD_EXCLUSIONS)?;
-    want(!replay_fails(alloc, 2, NEW_DATA)?, NEW_DATA)?;
-    want(!replay_fails(alloc, 3, NEW_EXCLUSIONS)?, NEW_EXCLUSIONS)?;
+    want(!replay_fails(alloc, 0, OLD_DATA_FAILED)?, OLD_DATA_FAILED)?;
+    want(
+        !replay_fails(alloc, 1, OLD_EXCLUSIONS_FAILED)?,
+        OLD_EXCLUSIONS_FAILED,
+    )?;
+    want(!replay_fails(alloc, 2, NEW_DATA_FAILED)?, NEW_DATA_FAILED)?;
+    want(
+        !replay_fails(alloc, 3, NEW_EXCLUSIONS_FAILED)?,
+        NEW_EXCLUSIONS_FAILED,
+    )?;
     want(
         replay_fails(alloc, 4, "schedule: ReadFailed\n")?,
         "schedule",
