@@ -175,17 +175,17 @@ fn replay_into<'a, O: Write, E: Write>(
 
 /// Status, standard output and standard error of a run.
 #[derive(Drop)]
-struct Ran {
-    status: u8,
-    output: Vec<u8>,
-    error: Vec<u8>,
+pub(crate) struct Ran {
+    pub status: u8,
+    pub output: Vec<u8>,
+    pub error: Vec<u8>,
 }
 
 /// What a run has to answer: its status, and what it writes to the output or tells.
-type Answer<'a> = (u8, &'a str, &'a str);
+pub(crate) type Answer<'a> = (u8, &'a str, &'a str);
 
 /// Whether a run answers so.
-fn is_answer(ran: &Ran, answer: &Answer<'_>) -> bool {
+pub(crate) fn is_answer(ran: &Ran, answer: &Answer<'_>) -> bool {
     let (status, output, error) = answer;
     ran.status == *status
         && ran.output.as_slice() == output.as_bytes()

@@ -8,7 +8,7 @@ use np_examples_shared::{again, want};
 use np_lines::{LineEnd, Wanted};
 use np_lines_job::{Asked, LinesJob, REFUSED, lines_job, lines_usage_text, parse_lines};
 use np_words::WordsFault;
-use std::alloc::{AllocError, Global};
+use std::alloc::Global;
 use std::test::Fail;
 
 /// NFC by lines that end with LF.
@@ -22,92 +22,134 @@ const INPUT: &[u8] = b"a\xcc\x82\xcc\xa3\na\xf0\x96\xb5\xa7\n\xff";
 
 const ANSWERS: &str = "=\u{1EAD}\n!unassigned 16D67 at byte 1\n!not UTF-8 at byte 0\n";
 
-/// Status, output and error of a run over the first fixture.
-fn run_over(
+/// A call that no device comes to.
+const NEVER: u64 = u64::MAX;
+
+/// The calls of the input and of the output that fail, and how.
+type Fails = (u64, u64, Failure);
+
+const NONE: Fails = (NEVER, NEVER, Failure::Error);
+
+/// Whether a run is strict, its input, how many bytes a call takes, what fails, and status, output and error.
+type Row = (
+    bool,
+    &'static [u8],
+    usize,
+    Fails,
+    (u8, &'static str, &'static str),
+);
+
+/// The status of a row's run over the first fixture.
+fn status_of(
     alloc: Global,
-    is_strict: bool,
-    input: Trickle<'static>,
-    output: Room,
-) -> (u8, Room, Vec<u8>) {
-    let mut data = Watched::new(Trickle::new(V1_DATA.as_bytes(), 100));
-    let mut exclusions = Watched::new(Trickle::new(V1_EXCLUSIONS.as_bytes(), 100));
-    let mut output = Watched::new(output);
-    let mut error = Watched::new(Vec::new(alloc));
+    row: &Row,
+    output: &mut Watched<Room>,
+    error: &mut Watched<Vec<u8>>,
+) -> u8 {
+    let (is_strict, input, piece, (fails, _, failure), _) = row;
     let asked = Asked {
         wanted: BY_LF,
-        is_strict,
+        is_strict: *is_strict,
     };
-    let status = lines_job(
+    lines_job(
         alloc,
         asked,
-        &mut data,
-        &mut exclusions,
-        &mut Watched::new(input),
-        &mut output,
-        &mut error,
-    );
-    (status, output.into_inner(), error.into_inner())
+        &mut Watched::new(Trickle::new(V1_DATA.as_bytes(), 100)),
+        &mut Watched::new(Trickle::new(V1_EXCLUSIONS.as_bytes(), 100)),
+        &mut Watched::new(Trickle::new(input, *piece).failing_at(*fails, *failure)),
+        output,
+        error,
+    )
 }
 
-/// Fails unless a run ends with this status, output and line.
-fn wants_end(
-    made: &(u8, Room, Vec<u8>),
-    status: u8,
-    answers: &str,
-    line: &str,
-) -> Result<(), Fail> {
-    want(made.0 == status, "status")?;
-    want(made.1.bytes() == answers.as_bytes(), answers)?;
-    want(made.2.as_slice() == line.as_bytes(), line)
+/// Fails unless a row's run ended so.
+fn wants_end(row: &Row, status: u8, output: &Room, error: &[u8]) -> Result<(), Fail> {
+    let (wanted, answers, line) = row.4;
+    want(status == wanted, "status")?;
+    want(output.bytes() == answers.as_bytes(), answers)?;
+    want(error == line.as_bytes(), line)
 }
 
-#[test]
-fn lines_are_answered_with_a_status(rt: HostRuntime) -> Result<(), Fail> {
-    let alloc = rt.alloc();
-    for (is_strict, status) in [(false, 0), (true, REFUSED)] {
-        for piece in [1, 7, 100] {
-            let output = Room::new(alloc, 200, piece)?;
-            let made = run_over(alloc, is_strict, Trickle::new(INPUT, piece), output);
-            wants_end(&made, status, ANSWERS, "")?;
-        }
-    }
-    let made = run_over(
-        alloc,
-        true,
-        Trickle::new(b"a".as_slice(), 1),
-        Room::new(alloc, 9, 9)?,
-    );
-    wants_end(&made, 0, "=a\n", "")
+/// Fails unless a row's run ends so.
+fn wants_run(alloc: Global, row: &Row) -> Result<(), Fail> {
+    let (_, _, piece, (_, fails, failure), _) = row;
+    let mut output = Watched::new(Room::new(alloc, 200, *piece)?.failing_at(*fails, *failure));
+    let mut error = Watched::new(Vec::new(alloc));
+    let status = status_of(alloc, row, &mut output, &mut error);
+    let error: Vec<u8> = error.into_inner();
+    wants_end(row, status, &output.into_inner(), error.as_slice())
 }
 
-#[test]
-fn a_failed_device_is_told_behind_the_answers(rt: HostRuntime) -> Result<(), Fail> {
-    let alloc = rt.alloc();
-    for failure in [Failure::Error, Failure::Interrupted] {
-        // the first line has six bytes
-        let input = Trickle::new(INPUT, 1).failing_at(7, failure);
-        let made = run_over(alloc, true, input, Room::new(alloc, 200, 100)?);
-        wants_end(&made, 5, "=\u{1EAD}\n", "input: ReadFailed\n")?;
-        // one call takes all that a read brought, and the next one flushes
-        let output = Room::new(alloc, 200, 200)?.failing_at(1, failure);
-        let made = run_over(alloc, true, Trickle::new(b"a\n".as_slice(), 9), output);
-        wants_end(&made, 5, "=a\n", "output: WriteFailed\n")?;
+fn are_run(alloc: Global, rows: &[Row]) -> Result<(), Fail> {
+    for row in rows {
+        wants_run(alloc, row)?;
     }
     Ok(())
 }
 
-/// What the words, divided by spaces, are read as.
-fn read(alloc: Global, text: &str) -> Result<String, AllocError> {
-    let words = words_of(alloc, text)?;
-    match parse_lines(alloc, words.as_slice()) {
-        Ok(LinesJob::Help) => format!(in alloc; "help"),
+const WHOLE: &[Row] = &[
+    (false, INPUT, 1, NONE, (0, ANSWERS, "")),
+    (false, INPUT, 7, NONE, (0, ANSWERS, "")),
+    (false, INPUT, 100, NONE, (0, ANSWERS, "")),
+    (true, INPUT, 1, NONE, (REFUSED, ANSWERS, "")),
+    (true, INPUT, 7, NONE, (REFUSED, ANSWERS, "")),
+    (true, INPUT, 100, NONE, (REFUSED, ANSWERS, "")),
+    (true, b"a", 1, NONE, (0, "=a\n", "")),
+];
+
+#[test]
+fn lines_are_answered_with_a_status(rt: HostRuntime) -> Result<(), Fail> {
+    are_run(rt.alloc(), WHOLE)
+}
+
+/// The first line has six bytes; one call takes all that a read brought, and the next one flushes.
+const BROKEN: &[Row] = &[
+    (
+        true,
+        INPUT,
+        1,
+        (7, NEVER, Failure::Error),
+        (5, "=\u{1EAD}\n", "input: ReadFailed\n"),
+    ),
+    (
+        true,
+        INPUT,
+        1,
+        (7, NEVER, Failure::Interrupted),
+        (5, "=\u{1EAD}\n", "input: ReadFailed\n"),
+    ),
+    (
+        true,
+        b"a\n",
+        9,
+        (NEVER, 1, Failure::Error),
+        (5, "=a\n", "output: WriteFailed\n"),
+    ),
+    (
+        true,
+        b"a\n",
+        9,
+        (NEVER, 1, Failure::Interrupted),
+        (5, "=a\n", "output: WriteFailed\n"),
+    ),
+];
+
+#[test]
+fn a_failed_device_is_told_behind_the_answers(rt: HostRuntime) -> Result<(), Fail> {
+    are_run(rt.alloc(), BROKEN)
+}
+
+/// What was read, in words; want of memory is a failure.
+fn shown(alloc: Global, read: &Result<LinesJob, WordsFault>) -> Result<String, Fail> {
+    match read {
+        Ok(LinesJob::Help) => Ok(String::from_str(alloc, "help")?),
         Ok(
             LinesJob::Answer {
                 asked,
                 shows_progress,
                 files,
             },
-        ) => format!(in alloc;
+        ) => Ok(format!(in alloc;
             "{:?} {:?} {} {} {} {}",
             asked.wanted.form,
             asked.wanted.end,
@@ -115,13 +157,35 @@ fn read(alloc: Global, text: &str) -> Result<String, AllocError> {
             shows_progress,
             files.data_file,
             files.exclusions_file
-        ),
-        Err(fault) => format!(in alloc; "{fault:?}"),
+        )?),
+        Err(WordsFault::Usage) => Ok(format!(in alloc; "{:?}", WordsFault::Usage)?),
+        Err(WordsFault::Memory) => Err(WordsFault::Memory.into()),
     }
 }
 
+/// What the words are read as; they are read a second time where memory was refused.
+fn read(alloc: Global, words: &[String]) -> Result<String, Fail> {
+    let read = again(&WordsFault::Memory, &|| parse_lines(alloc, words));
+    shown(alloc, &read)
+}
+
+/// Fails unless the words, divided by spaces, are read so.
+fn is_read(alloc: Global, text: &str, wanted: &str) -> Result<(), Fail> {
+    let words = words_of(alloc, text)?;
+    let found = read(alloc, words.as_slice())?;
+    want(found.as_str() == wanted, text)
+}
+
+/// Fails unless each row's words, divided by spaces, are read as it says.
+fn are_read(alloc: Global, rows: &[(&str, &str)]) -> Result<(), Fail> {
+    for (text, wanted) in rows {
+        is_read(alloc, text, wanted)?;
+    }
+    Ok(())
+}
+
 /// Words, and what they ask for: the form, what ends lines, whether strictly, whether with progress, the files.
-const WORDS: [(&str, &str); 16] = [
+const WORDS: &[(&str, &str)] = &[
     ("", "help"),
     ("--form nfc D E", "Nfc Lf false false D E"),
     ("D --form=nfkd E", "Nfkd Lf false false D E"),
@@ -145,9 +209,7 @@ const WORDS: [(&str, &str); 16] = [
 
 #[test]
 fn words_name_a_run(rt: HostRuntime) -> Result<(), Fail> {
-    for (text, wanted) in &WORDS {
-        want(read(rt.alloc(), text)?.as_str() == *wanted, text)?;
-    }
+    are_read(rt.alloc(), WORDS)?;
     want(
         lines_usage_text().starts_with("usage: npss_lines "),
         "usage",
@@ -156,11 +218,9 @@ fn words_name_a_run(rt: HostRuntime) -> Result<(), Fail> {
 
 #[test]
 fn a_refused_parse_lines_succeeds_after_all(rt: HostRuntime) -> Result<(), Fail> {
-    let alloc = rt.alloc();
-    let words = words_of(alloc, "--form nfc --null D E")?;
-    let job = again(
-        &WordsFault::Memory,
-        &|| parse_lines(alloc, words.as_slice()),
-    )?;
-    want(matches!(job, LinesJob::Answer { .. }), "answers")
+    is_read(
+        rt.alloc(),
+        "--form nfc --null D E",
+        "Nfc Nul false false D E",
+    )
 }

@@ -70,15 +70,89 @@ fn wants_taken<T: NormTable>(
     want(node.take(message) == answer, what)
 }
 
-/// A message, the answer to it, and what it shows.
-type Told = (&'static [u8], Result<Taken, NodeFault>, &'static str);
+/// The node's image is this.
+fn wants_image<T: NormTable>(node: &Node<'_, T>, image: &[u8], what: &str) -> Result<(), Fail> {
+    let found = node.image()?;
+    want(found.as_slice() == image, what)
+}
 
-/// The node answers so to messages, one behind the other.
-fn wants_all_taken<T: NormTable>(node: &mut Node<'_, T>, rows: &[Told]) -> Result<(), Fail> {
-    for (message, answer, what) in rows {
-        wants_taken(node, message, *answer, what)?;
+/// What is seen of a node.
+#[derive(Clone, Copy)]
+enum Sight {
+    /// So many entries, in a room for so many.
+    Size(usize, u32),
+    /// The entry at a place.
+    Entry(usize, Option<(&'static str, &'static str)>),
+    /// The key of a string.
+    Key(&'static str, Option<&'static str>),
+    /// Whether two strings have one key.
+    Same(&'static str, &'static str, Option<bool>),
+}
+
+/// Whether this is seen of the node.
+fn is_seen<T: NormTable>(node: &Node<'_, T>, sight: &Sight) -> bool {
+    match sight {
+        Sight::Size(count, room) => {
+            node.len() == *count && node.is_empty() == (*count == 0) && node.room() == *room
+        }
+        Sight::Entry(index, entry) => node.entry(*index) == *entry,
+        Sight::Key(string, key) => node.key_of(string) == *key,
+        Sight::Same(left, right, answer) => node.same(left, right) == *answer,
+    }
+}
+
+/// What a node does, or shows.
+#[derive(Clone, Copy)]
+enum Step {
+    /// It keeps a new string, and tells it by this message.
+    Keeps(&'static [u8], &'static [u8]),
+    /// It accepts a string.
+    Accepts(&'static [u8]),
+    /// It has a string already.
+    Knows(&'static [u8]),
+    /// It refuses a string.
+    Refuses(&'static [u8], NodeFault),
+    /// It answers this to a message.
+    Takes(&'static [u8], Result<Taken, NodeFault>),
+    /// Whether it had a string, and forgets it.
+    Forgets(&'static str, bool),
+    /// Its image.
+    Saves(&'static [u8]),
+    /// What is seen of it.
+    Shows(Sight),
+}
+
+/// The node takes a step so.
+fn wants_step<T: NormTable>(node: &mut Node<'_, T>, step: &Step, what: &str) -> Result<(), Fail> {
+    match step {
+        Step::Keeps(string, message) => wants_kept(node, string, message, what),
+        Step::Accepts(string) => want(node.accept(string).is_ok(), what),
+        Step::Knows(string) => wants_known(node, string, what),
+        Step::Refuses(string, fault) => wants_refused(node, string, *fault, what),
+        Step::Takes(message, answer) => wants_taken(node, message, *answer, what),
+        Step::Forgets(string, had) => want(node.forget(string) == *had, what),
+        Step::Saves(image) => wants_image(node, image, what),
+        Step::Shows(sight) => want(is_seen(node, sight), what),
+    }
+}
+
+/// A step, and what it shows.
+type Row = (Step, &'static str);
+
+/// The node takes these steps so, one behind the other.
+fn wants_steps<T: NormTable>(node: &mut Node<'_, T>, rows: &[Row]) -> Result<(), Fail> {
+    for (step, what) in rows {
+        wants_step(node, step, what)?;
     }
     Ok(())
+}
+
+/// An empty node of this room takes these steps so.
+fn story<T: NormTable>(alloc: Global, table: &T, room: u32, rows: &[Row]) -> Result<(), Fail>
+    requires { room ≤ 65536 }
+{
+    let mut node = Node::new(alloc, table, Form::Nfc, room);
+    wants_steps(&mut node, rows)
 }
 
 /// No node of this room is restored from the image.

@@ -1,6 +1,7 @@
 //! What both programs do for their words, over files in memory.
 use crate::jobs::opening::Shelf;
 use crate::jobs::words::words_of;
+use crate::jobs::{Answer, Ran, is_answer};
 use np_code_points::devices::Trickle;
 use np_code_points::fixtures::{V1_DATA, V1_EXCLUSIONS};
 use np_code_points::watched::Watched;
@@ -11,82 +12,99 @@ use std::alloc::Global;
 use std::io::Read;
 use std::test::Fail;
 
-const FILES: [(&str, &str); 2] = [("data", V1_DATA), ("exclusions", V1_EXCLUSIONS)];
+const FILES: &[(&str, &str)] = &[("data", V1_DATA), ("exclusions", V1_EXCLUSIONS)];
 
-/// Status, output and error of a run.
-type End = (u8, Vec<u8>, Vec<u8>);
-
-/// How `npss` ends for these words over an input.
-fn end_of(alloc: Global, words: &str, input: &str) -> Result<End, Fail> {
-    let words = words_of(alloc, words)?;
-    let mut input = Watched::new(Trickle::new(input.as_bytes(), 100));
-    let mut output = Watched::new(Vec::new(alloc));
-    let mut error = Watched::new(Vec::new(alloc));
-    let shelf = Shelf { files: &FILES };
-    let status = run_words(
-        &shelf,
-        alloc,
-        words.as_slice(),
-        &mut input,
-        &mut output,
-        &mut error,
-    );
-    Ok((status, output.into_inner(), error.into_inner()))
+/// The programs.
+#[derive(Clone, Copy)]
+enum Program {
+    Npss,
+    NpssLines,
 }
 
-/// How `npss_lines` ends for these words over an input.
-fn lines_end_of(alloc: Global, words: &str, input: &str) -> Result<End, Fail> {
-    let words = words_of(alloc, words)?;
+/// The status of a program for these words over an input.
+fn status_of(
+    alloc: Global,
+    (program, input): (Program, &str),
+    words: &[String],
+    output: &mut Watched<Vec<u8>>,
+    error: &mut Watched<Vec<u8>>,
+) -> u8 {
+    let shelf = Shelf { files: FILES };
     let mut input = Watched::new(Trickle::new(input.as_bytes(), 100));
-    let mut output = Watched::new(Vec::new(alloc));
-    let mut error = Watched::new(Vec::new(alloc));
-    let shelf = Shelf { files: &FILES };
-    let status = run_line_words(
-        &shelf,
-        alloc,
-        words.as_slice(),
-        &mut input,
-        &mut output,
-        &mut error,
-    );
-    Ok((status, output.into_inner(), error.into_inner()))
+    match program {
+        Program::Npss => run_words(&shelf, alloc, words, &mut input, output, error),
+        Program::NpssLines => run_line_words(&shelf, alloc, words, &mut input, output, error),
+    }
 }
 
-/// Fails unless a run ended with this status, output and line.
-fn wants_end(end: &End, status: u8, output: &str, line: &str) -> Result<(), Fail> {
-    want(end.0 == status, "status")?;
-    want(end.1.as_slice() == output.as_bytes(), output)?;
-    want(end.2.as_slice() == line.as_bytes(), line)
+/// The run of a program for these words over an input.
+fn run(alloc: Global, program: Program, words: &[String], input: &str) -> Ran {
+    let mut output = Watched::new(Vec::new(alloc));
+    let mut error = Watched::new(Vec::new(alloc));
+    let status = status_of(alloc, (program, input), words, &mut output, &mut error);
+    Ran {
+        status,
+        output: output.into_inner(),
+        error: error.into_inner(),
+    }
+}
+
+/// Fails unless the run of a program for these words over an input answers so.
+fn wants_end(
+    alloc: Global,
+    program: Program,
+    text: &str,
+    input: &str,
+    answer: &Answer<'_>,
+) -> Result<(), Fail> {
+    let words = words_of(alloc, text)?;
+    let ran = run(alloc, program, words.as_slice(), input);
+    want(is_answer(&ran, answer), text)
 }
 
 #[test]
 fn a_command_runs_over_the_files_that_its_words_name(rt: HostRuntime) -> Result<(), Fail> {
-    let alloc = rt.alloc();
-    let key = end_of(alloc, "key --form nfkc data exclusions", "\u{FB01}")?;
-    wants_end(&key, 0, "fi", "")?;
-    let lacking = end_of(alloc, "key --form nfkc data others", "a")?;
-    wants_end(&lacking, 5, "", "cannot open others\n")?;
-    wants_end(&end_of(alloc, "", "")?, 0, usage_text(), "")?;
-    wants_end(&end_of(alloc, "keys", "")?, 2, "", usage_text())
+    let (alloc, npss) = (rt.alloc(), Program::Npss);
+    wants_end(
+        alloc,
+        npss,
+        "key --form nfkc data exclusions",
+        "\u{FB01}",
+        &(0, "fi", ""),
+    )?;
+    wants_end(
+        alloc,
+        npss,
+        "key --form nfkc data others",
+        "a",
+        &(5, "", "cannot open others\n"),
+    )?;
+    wants_end(alloc, npss, "", "", &(0, usage_text(), ""))?;
+    wants_end(alloc, npss, "keys", "", &(2, "", usage_text()))
 }
 
 #[test]
 fn lines_are_answered_over_the_files_that_the_words_name(rt: HostRuntime) -> Result<(), Fail> {
-    let alloc = rt.alloc();
-    let answered = lines_end_of(alloc, "--form nfkc data exclusions", "\u{FB01}\n")?;
-    wants_end(&answered, 0, "=fi\n", "")?;
+    let (alloc, lines) = (rt.alloc(), Program::NpssLines);
     wants_end(
-        &lines_end_of(alloc, "--form", "")?,
-        2,
-        "",
-        lines_usage_text(),
-    )
+        alloc,
+        lines,
+        "--form nfkc data exclusions",
+        "\u{FB01}\n",
+        &(0, "=fi\n", ""),
+    )?;
+    wants_end(alloc, lines, "--form", "", &(2, "", lines_usage_text()))
+}
+
+/// The reader gives two bytes.
+fn gives_two<I: Read>(input: &mut I) -> Result<(), Fail> {
+    let mut piece = [0u8; 4];
+    want(input.read(&mut piece)? == 2, "a piece")?;
+    want(piece == *b"ab\0\0", "its bytes")
 }
 
 #[test]
 fn progress_that_is_not_shown_changes_nothing(rt: HostRuntime) -> Result<(), Fail> {
     let mut input = Progress::new(&rt, Trickle::new(b"abc", 2), None);
-    let mut piece = [0u8; 4];
-    want(input.read(&mut piece)? == 2, "a piece")?;
-    want(piece == *b"ab\0\0", "its bytes")
+    gives_two(&mut input)
 }

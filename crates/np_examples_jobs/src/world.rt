@@ -7,12 +7,18 @@ use np_code_points::Form;
 use np_examples_shared::{Files, V1, V2, tables_of, want};
 use np_tables::RowTable;
 use np_world::fixtures::{
-    EXCHANGE_REPORT, EXCHANGE_SCHEDULE, FORGED_REPORT, FORGED_SCHEDULE, FORGETTING_REPORT,
-    FORGETTING_SCHEDULE, OLDER_REPORT, OLDER_SCHEDULE, RESTART_REPORT, RESTART_SCHEDULE,
+    EXCHANGE_SCHEDULE, FORGED_REPORT, FORGED_SCHEDULE, FORGETTING_REPORT, FORGETTING_SCHEDULE,
+    OLDER_REPORT, OLDER_SCHEDULE, RESTART_SCHEDULE,
 };
 use np_world::{Report, Schedule, read_schedule, replay, report_text};
 use std::alloc::Global;
 use std::test::Fail;
+
+const ONE: &[Files] = &[V1];
+
+const TWICE: &[Files] = &[V1, V1];
+
+const BOTH: &[Files] = &[V1, V2];
 
 /// What comes of a script under NFC.
 fn replayed<'t>(
@@ -31,72 +37,64 @@ fn wants_text(alloc: Global, tables: &[RowTable], script: &str, wanted: &str) ->
     want(text.as_str() == wanted, script)
 }
 
-/// The script over these versions gives this report.
-fn wants_report(
-    alloc: Global,
-    versions: &[Files<'_>],
-    script: &str,
-    wanted: &str,
-) -> Result<(), Fail> {
+/// A script and its report.
+type Row = (&'static str, &'static str);
+
+fn want_texts(alloc: Global, tables: &[RowTable], rows: &[Row]) -> Result<(), Fail> {
+    for (script, wanted) in rows {
+        wants_text(alloc, tables, script, wanted)?;
+    }
+    Ok(())
+}
+
+/// The scripts over these versions give these reports.
+fn want_reports(alloc: Global, versions: &[Files<'_>], rows: &[Row]) -> Result<(), Fail> {
     let tables = tables_of(alloc, versions)?;
-    wants_text(alloc, tables.as_slice(), script, wanted)
+    want_texts(alloc, tables.as_slice(), rows)
 }
 
-#[test]
-fn messages_reach_nodes_before_and_after_an_upgrade(rt: HostRuntime) -> Result<(), Fail> {
-    wants_report(rt.alloc(), &[V1, V2], EXCHANGE_SCHEDULE, EXCHANGE_REPORT)
-}
+const OVER_ONE: &[Row] = &[
+    (FORGETTING_SCHEDULE, FORGETTING_REPORT),
+    // forged bytes are refused in order
+    (FORGED_SCHEDULE, FORGED_REPORT),
+    // a message that was never sent is none
+    (
+        "room 0\nnodes 0\ndeliver 0 999999999\n",
+        "0 no message\nnode 0 version 0 entries 0\n",
+    ),
+    // words of events are read as they stand
+    (
+        "room 4\nnodes 0\naccept 0  0061\t0302 \naccept 0\nforge 0 430000000361CC8200000002c3A2\nask 0 / \nask 0 0061 0302 / 0061 0302\nask 0 / 0061 0302\nask 0 00e2 /\n",
+        "0 kept 0\n1 kept 1\n2 known\n3 equal\n4 equal\n5 different\n6 not kept\nnode 0 version 0 entries 2\nentry 0061 0302 / 00E2\nentry - / -\n",
+    ),
+];
 
 #[test]
-fn a_restarted_node_has_what_it_saved(rt: HostRuntime) -> Result<(), Fail> {
-    wants_report(rt.alloc(), &[V1, V2], RESTART_SCHEDULE, RESTART_REPORT)?;
-    wants_report(rt.alloc(), &[V1, V2], OLDER_SCHEDULE, OLDER_REPORT)?;
-    wants_report(rt.alloc(), &[V1], FORGETTING_SCHEDULE, FORGETTING_REPORT)
+fn scripts_over_one_version_have_their_reports(rt: HostRuntime) -> Result<(), Fail> {
+    want_reports(rt.alloc(), ONE, OVER_ONE)
 }
+
+/// An earlier version with as many code points as the one that saved.
+const OVER_ALIKE: &[Row] = &[(
+    "room 4\nnodes 0\naccept 0 0061\nupgrade 0\nsave 0\nrestart 0 0\n",
+    "0 kept 0\n1 version 1\n2 saved\n3 restarted\nnode 0 version 0 entries 1\nentry 0061 / 0061\n",
+)];
+
+const OVER_TWO: &[Row] = &[
+    (OLDER_SCHEDULE, OLDER_REPORT),
+    // a node that never saved goes to any version, empty, and on from there
+    (
+        "room 4\nnodes 1\naccept 0 16D68\nrestart 0 0\naccept 0 16D68\nupgrade 0\nrestart 0 0\n",
+        "0 kept 0\n1 restarted\n2 unassigned 16D68 at byte 0\n3 version 1\n4 restarted\nnode 0 version 0 entries 0\n",
+    ),
+];
 
 #[test]
 fn a_node_restarts_under_each_version_with_as_many_code_points(
     rt: HostRuntime,
 ) -> Result<(), Fail> {
-    // an earlier version with as many code points as the one that saved
-    wants_report(
-        rt.alloc(),
-        &[V1, V1],
-        "room 4\nnodes 0\naccept 0 0061\nupgrade 0\nsave 0\nrestart 0 0\n",
-        "0 kept 0\n1 version 1\n2 saved\n3 restarted\nnode 0 version 0 entries 1\nentry 0061 / 0061\n",
-    )?;
-    // a node that never saved goes to any version, empty, and on from there
-    wants_report(
-        rt.alloc(),
-        &[V1, V2],
-        "room 4\nnodes 1\naccept 0 16D68\nrestart 0 0\naccept 0 16D68\nupgrade 0\nrestart 0 0\n",
-        "0 kept 0\n1 restarted\n2 unassigned 16D68 at byte 0\n3 version 1\n4 restarted\nnode 0 version 0 entries 0\n",
-    )
-}
-
-#[test]
-fn forged_bytes_are_refused_in_order(rt: HostRuntime) -> Result<(), Fail> {
-    wants_report(rt.alloc(), &[V1], FORGED_SCHEDULE, FORGED_REPORT)
-}
-
-#[test]
-fn a_message_that_was_never_sent_is_none(rt: HostRuntime) -> Result<(), Fail> {
-    wants_report(
-        rt.alloc(),
-        &[V1],
-        "room 0\nnodes 0\ndeliver 0 999999999\n",
-        "0 no message\nnode 0 version 0 entries 0\n",
-    )
-}
-
-#[test]
-fn words_of_events_are_read_as_they_stand(rt: HostRuntime) -> Result<(), Fail> {
-    wants_report(
-        rt.alloc(),
-        &[V1],
-        "room 4\nnodes 0\naccept 0  0061\t0302 \naccept 0\nforge 0 430000000361CC8200000002c3A2\nask 0 / \nask 0 0061 0302 / 0061 0302\nask 0 / 0061 0302\nask 0 00e2 /\n",
-        "0 kept 0\n1 kept 1\n2 known\n3 equal\n4 equal\n5 different\n6 not kept\nnode 0 version 0 entries 2\nentry 0061 0302 / 00E2\nentry - / -\n",
-    )
+    want_reports(rt.alloc(), TWICE, OVER_ALIKE)?;
+    want_reports(rt.alloc(), BOTH, OVER_TWO)
 }
 
 /// The message of `E2` in its decomposed spelling, under NFC.
@@ -124,7 +122,7 @@ fn wants_lent(alloc: Global, tables: &[RowTable]) -> Result<(), Fail> {
 
 #[test]
 fn a_report_lends_messages_and_images(rt: HostRuntime) -> Result<(), Fail> {
-    let tables = tables_of(rt.alloc(), &[V1, V2])?;
+    let tables = tables_of(rt.alloc(), BOTH)?;
     wants_lent(rt.alloc(), tables.as_slice())
 }
 
@@ -167,7 +165,7 @@ fn wants_limit(alloc: Global, tables: &[RowTable]) -> Result<(), Fail> {
 
 #[test]
 fn strings_have_65_536_bytes_at_most(rt: HostRuntime) -> Result<(), Fail> {
-    let tables = tables_of(rt.alloc(), &[V1])?;
+    let tables = tables_of(rt.alloc(), ONE)?;
     wants_limit(rt.alloc(), tables.as_slice())
 }
 
@@ -193,6 +191,6 @@ fn shows_counts(alloc: Global, tables: &[RowTable]) -> Result<(), Fail> {
 
 #[test]
 fn a_report_shows_no_string(rt: HostRuntime) -> Result<(), Fail> {
-    let tables = tables_of(rt.alloc(), &[V1, V2])?;
+    let tables = tables_of(rt.alloc(), BOTH)?;
     shows_counts(rt.alloc(), tables.as_slice())
 }

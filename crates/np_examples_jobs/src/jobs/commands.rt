@@ -17,7 +17,7 @@ fn texts_are_answered(alloc: Global, command: Command, rows: &[Row]) -> Result<(
     Ok(())
 }
 
-const KEYS: [Row; 5] = [
+const KEYS: &[Row] = &[
     (Form::Nfd, "a\u{302}\u{323}", (0, "a\u{323}\u{302}", "")),
     (Form::Nfc, "a\u{302}\u{323}", (0, "\u{1EAD}", "")),
     (Form::Nfd, "", (0, "", "")),
@@ -35,33 +35,25 @@ const KEYS: [Row; 5] = [
 
 #[test]
 fn key_answers_the_worked_examples(rt: HostRuntime) -> Result<(), Fail> {
-    texts_are_answered(rt.alloc(), Command::Key, &KEYS)
+    texts_are_answered(rt.alloc(), Command::Key, KEYS)
 }
 
-const NORMALIZED: [Row; 2] = [
+const NORMALIZED: &[Row] = &[
     (Form::Nfd, "a\u{302}\u{323}", (0, "a\u{323}\u{302}", "")),
     (Form::Nfc, "\u{16D6A}", (0, "\u{16D6A}", "")),
 ];
 
 #[test]
 fn normalize_answers_the_worked_examples(rt: HostRuntime) -> Result<(), Fail> {
-    texts_are_answered(rt.alloc(), Command::Normalize, &NORMALIZED)
+    texts_are_answered(rt.alloc(), Command::Normalize, NORMALIZED)
 }
 
-const COMPARED: [Row; 4] = [
+const COMPARED: &[Row] = &[
     (Form::Nfc, "\u{FB01}\nfi\n", (1, "different\n", "")),
     (Form::Nfkc, "\u{FB01}\nfi\n", (0, "equal\n", "")),
     (Form::Nfc, "a", (4, "", "input: two lines wanted\n")),
     // a text and its prefix
     (Form::Nfc, "Aa\nA\n", (1, "different\n", "")),
-];
-
-#[test]
-fn compare_answers_the_worked_examples(rt: HostRuntime) -> Result<(), Fail> {
-    texts_are_answered(rt.alloc(), Command::Compare, &COMPARED)
-}
-
-const LINES_WITH_UNASSIGNED: [Row; 3] = [
     // two equal strings
     (
         Form::Nfc,
@@ -82,11 +74,11 @@ const LINES_WITH_UNASSIGNED: [Row; 3] = [
 ];
 
 #[test]
-fn compare_wants_assigned_lines(rt: HostRuntime) -> Result<(), Fail> {
-    texts_are_answered(rt.alloc(), Command::Compare, &LINES_WITH_UNASSIGNED)
+fn compare_answers_the_worked_examples(rt: HostRuntime) -> Result<(), Fail> {
+    texts_are_answered(rt.alloc(), Command::Compare, COMPARED)
 }
 
-const BAD: [JobRow; 2] = [
+const BAD: &[JobRow] = &[
     (
         Job::Text(Command::Key, Form::Nfc, V1_DATA, b"a\xff"),
         (4, "", "input: not UTF-8 at byte 1\n"),
@@ -101,11 +93,11 @@ const BAD: [JobRow; 2] = [
 
 #[test]
 fn bad_bytes_and_bad_files_are_told(rt: HostRuntime) -> Result<(), Fail> {
-    are_answered(rt.alloc(), &BAD)
+    are_answered(rt.alloc(), BAD)
 }
 
 /// What the first fixture has of keys under the second: the input and the answer.
-const KEYS_UNDER: [(&[u8], Answer); 6] = [
+const KEYS_UNDER: &[(&[u8], Answer)] = &[
     (b"a\xcc\x82\xcc\xa3", (0, "own form\n", "")),
     (b"", (0, "own form\n", "")),
     (
@@ -122,7 +114,7 @@ const KEYS_UNDER: [(&[u8], Answer); 6] = [
 ];
 
 /// Versions that are refused before the input is looked at, which is no UTF-8.
-const UNDER_REFUSED: [JobRow; 3] = [
+const UNDER_REFUSED: &[JobRow] = &[
     (
         Job::KeyUnder(Form::Nfc, V2, V1, b"\xff"),
         (1, "", "not an extension: version 1 Lost 1DFA\n"),
@@ -140,16 +132,21 @@ const UNDER_REFUSED: [JobRow; 3] = [
     ),
 ];
 
-#[test]
-fn keys_under_an_earlier_version_are_answered(rt: HostRuntime) -> Result<(), Fail> {
-    for (input, answer) in &KEYS_UNDER {
+fn keys_are_answered(alloc: Global, rows: &[(&[u8], Answer<'_>)]) -> Result<(), Fail> {
+    for (input, answer) in rows {
         let job = Job::KeyUnder(Form::Nfc, V1, V2, input);
-        wants_answer(rt.alloc(), &job, answer, answer.1)?;
+        wants_answer(alloc, &job, answer, answer.1)?;
     }
-    are_answered(rt.alloc(), &UNDER_REFUSED)
+    Ok(())
 }
 
-const AUDITS: [JobRow; 3] = [
+#[test]
+fn keys_under_an_earlier_version_are_answered(rt: HostRuntime) -> Result<(), Fail> {
+    keys_are_answered(rt.alloc(), KEYS_UNDER)?;
+    are_answered(rt.alloc(), UNDER_REFUSED)
+}
+
+const AUDITS: &[JobRow] = &[
     (Job::Audit(V1, V2), (0, "extends\n", ""), "V1, V2"),
     (
         Job::Audit(V2, V1),
@@ -169,5 +166,5 @@ const AUDITS: [JobRow; 3] = [
 
 #[test]
 fn audit_answers_the_worked_examples(rt: HostRuntime) -> Result<(), Fail> {
-    are_answered(rt.alloc(), &AUDITS)
+    are_answered(rt.alloc(), AUDITS)
 }

@@ -1,9 +1,11 @@
 //! Devices that fail in mid-stream, and marks from before.
-use super::{Command, Job, job_into};
-use np_code_points::Form;
+ghost use Rattle.std.specs.Prelude.{◌≡◌, ◌≤◌, ◌%◌, length};
+
+use super::{Command, Job, Ran, is_answer, job_into};
 use np_code_points::devices::{Failure, Room, Trickle};
 use np_code_points::fixtures::{V1_DATA, V1_EXCLUSIONS};
 use np_code_points::watched::Watched;
+use np_code_points::{Form, Memory};
 use np_examples_shared::{mended, want};
 use np_jobs::{audit_job, key_job, key_under_job};
 use np_program::replay_job;
@@ -11,117 +13,317 @@ use std::alloc::Global;
 use std::io::Write;
 use std::test::Fail;
 
-/// The readers of `key`: both files, and an input of `Aa`.
-#[derive(Drop)]
-struct Readers<'a> {
-    data: Watched<Trickle<'a>>,
-    exclusions: Watched<Trickle<'a>>,
-    input: Watched<Trickle<'a>>,
+/// A job over the files of two versions, or of the first of them, and a text.
+#[derive(Clone, Copy)]
+enum Reading {
+    Key,
+    KeyUnder,
+    Audit,
 }
 
-fn readers_of(
-    data: Trickle<'static>,
-    exclusions: Trickle<'static>,
-    input: Trickle<'static>,
-) -> Readers<'static> {
-    Readers {
-        data: Watched::new(data),
-        exclusions: Watched::new(exclusions),
-        input: Watched::new(input),
+/// The readers of a job: the files of two versions, and a text.
+#[derive(Drop)]
+struct Readers {
+    data: Watched<Trickle<'static>>,
+    exclusions: Watched<Trickle<'static>>,
+    later_data: Watched<Trickle<'static>>,
+    later_exclusions: Watched<Trickle<'static>>,
+    text: Watched<Trickle<'static>>,
+}
+
+/// The status of a job over these readers.
+fn status_over(
+    alloc: Global,
+    reading: Reading,
+    readers: &mut Readers,
+    output: &mut Watched<Vec<u8>>,
+    error: &mut Watched<Vec<u8>>,
+) -> u8 {
+    let Readers {
+        data,
+        exclusions,
+        later_data,
+        later_exclusions,
+        text,
+    } = readers;
+    match reading {
+        Reading::Key => key_job(alloc, Form::Nfc, data, exclusions, text, output, error),
+        Reading::KeyUnder => key_under_job(
+            alloc,
+            Form::Nfc,
+            data,
+            exclusions,
+            later_data,
+            later_exclusions,
+            text,
+            output,
+            error,
+        ),
+        Reading::Audit => audit_job(
+            alloc,
+            data,
+            exclusions,
+            later_data,
+            later_exclusions,
+            output,
+            error,
+        ),
     }
 }
 
-fn data() -> Trickle<'static> {
-    Trickle::new(V1_DATA.as_bytes(), 1)
-}
-
-fn exclusions() -> Trickle<'static> {
-    Trickle::new(V1_EXCLUSIONS.as_bytes(), 1)
-}
-
-fn input() -> Trickle<'static> {
-    Trickle::new(b"Aa".as_slice(), 1)
-}
-
-/// Status, output and error of `key` over these readers.
-fn key_over(alloc: Global, readers: &mut Readers<'_>) -> (u8, Vec<u8>, Vec<u8>) {
-    let Readers {
-        data,
-        exclusions,
-        input,
-    } = readers;
+/// The run of a job over these readers.
+fn run_over(alloc: Global, reading: Reading, readers: &mut Readers) -> Ran {
     let mut output = Watched::new(Vec::new(alloc));
     let mut error = Watched::new(Vec::new(alloc));
-    let status = key_job(
-        alloc,
-        Form::Nfc,
-        data,
-        exclusions,
-        input,
-        &mut output,
-        &mut error,
-    );
-    (status, output.into_inner(), error.into_inner())
+    let status = status_over(alloc, reading, readers, &mut output, &mut error);
+    Ran {
+        status,
+        output: output.into_inner(),
+        error: error.into_inner(),
+    }
 }
 
-/// Whether `key` over these readers tells this line with status 5, and then reads nothing more:
-/// after so many reads of each.
-fn fails(alloc: Global, mut readers: Readers<'_>, line: &str, calls: [u64; 3]) -> bool {
-    let (status, output, error) = key_over(alloc, &mut readers);
+/// A call that no reader comes to.
+const NEVER: u64 = u64::MAX;
+
+/// As many reads as a reader has that gives a byte each; one more tells its end.
+const ALL: u64 = u64::MAX;
+
+/// A job of which one reader fails: the number of the reader, of its call, the line that tells it, and how often each
+/// reader is read.
+type Cut = (Reading, u8, u64, &'static str, [u64; 5]);
+
+/// The reader of this number, from 0, which gives a byte each.
+fn reader(
+    number: u8,
+    bytes: &'static [u8],
+    cut: &Cut,
+    failure: Failure,
+) -> Watched<Trickle<'static>> {
+    let call = if number == cut.1 { cut.2 } else { NEVER };
+    Watched::new(Trickle::new(bytes, 1).failing_at(call, failure))
+}
+
+/// The readers of a job over the first fixture twice, and a text of `Aa`.
+fn readers_of(cut: &Cut, failure: Failure) -> Readers {
+    Readers {
+        data: reader(0, V1_DATA.as_bytes(), cut, failure),
+        exclusions: reader(1, V1_EXCLUSIONS.as_bytes(), cut, failure),
+        later_data: reader(2, V1_DATA.as_bytes(), cut, failure),
+        later_exclusions: reader(3, V1_EXCLUSIONS.as_bytes(), cut, failure),
+        text: reader(4, b"Aa", cut, failure),
+    }
+}
+
+/// How often each of the readers was read.
+fn reads_of(readers: Readers) -> [u64; 5] {
     let Readers {
         data,
         exclusions,
-        input,
+        later_data,
+        later_exclusions,
+        text,
     } = readers;
-    let made = [
+    [
         data.into_inner().calls(),
         exclusions.into_inner().calls(),
-        input.into_inner().calls(),
-    ];
-    status == 5 && output.is_empty() && error.as_slice() == line.as_bytes() && made == calls
+        later_data.into_inner().calls(),
+        later_exclusions.into_inner().calls(),
+        text.into_inner().calls(),
+    ]
 }
 
-/// The reads of a whole reader that gives a byte each: one more tells its end.
-fn whole(text: &str) -> u64 {
-    text.len() as u64 + 1
+/// So many reads of a text.
+fn reads(wanted: u64, text: &str) -> u64 {
+    if wanted == ALL {
+        text.len() as u64 + 1
+    } else {
+        wanted
+    }
 }
 
-#[test]
-fn a_failed_read_in_mid_stream_ends_the_job(rt: HostRuntime) -> Result<(), Fail> {
-    let alloc = rt.alloc();
-    let (rows, listed) = (whole(V1_DATA), whole(V1_EXCLUSIONS));
-    for failure in [Failure::Error, Failure::Interrupted] {
-        let cut = readers_of(data().failing_at(30, failure), exclusions(), input());
-        let line = "version 0 data: ReadFailed\n";
-        want(fails(alloc, cut, line, [31, 0, 0]), "data")?;
-        let cut = readers_of(data(), exclusions().failing_at(2, failure), input());
-        let line = "version 0 exclusions: ReadFailed\n";
-        want(fails(alloc, cut, line, [rows, 3, 0]), "exclusions")?;
-        let cut = readers_of(data(), exclusions(), input().failing_at(1, failure));
-        want(
-            fails(alloc, cut, "input: ReadFailed\n", [rows, listed, 2]),
-            "input",
-        )?;
+/// How often each reader is to be read.
+fn wanted_reads([data, exclusions, later_data, later_exclusions, text]: [u64; 5]) -> [u64; 5] {
+    [
+        reads(data, V1_DATA),
+        reads(exclusions, V1_EXCLUSIONS),
+        reads(later_data, V1_DATA),
+        reads(later_exclusions, V1_EXCLUSIONS),
+        text,
+    ]
+}
+
+/// Fails unless the job tells the failed read in its line with status 5, and then reads nothing more.
+fn wants_cut(alloc: Global, cut: &Cut, failure: Failure) -> Result<(), Fail> {
+    let mut readers = readers_of(cut, failure);
+    let ran = run_over(alloc, cut.0, &mut readers);
+    let is_read_so = reads_of(readers) == wanted_reads(cut.4);
+    want(is_read_so && is_answer(&ran, &(5, "", cut.3)), cut.3)
+}
+
+fn want_cuts(alloc: Global, cuts: &[Cut]) -> Result<(), Fail> {
+    for cut in cuts {
+        wants_cut(alloc, cut, Failure::Error)?;
+        wants_cut(alloc, cut, Failure::Interrupted)?;
     }
     Ok(())
 }
 
+const OLD_DATA_FAILED: &str = "version 0 data: ReadFailed\n";
+
+const OLD_EXCLUSIONS_FAILED: &str = "version 0 exclusions: ReadFailed\n";
+
+const NEW_DATA_FAILED: &str = "version 1 data: ReadFailed\n";
+
+const NEW_EXCLUSIONS_FAILED: &str = "version 1 exclusions: ReadFailed\n";
+
+/// Versions are read in order, each whole, and then the input.
+const CUTS: &[Cut] = &[
+    (Reading::Key, 0, 30, OLD_DATA_FAILED, [31, 0, 0, 0, 0]),
+    (Reading::Key, 1, 2, OLD_EXCLUSIONS_FAILED, [ALL, 3, 0, 0, 0]),
+    (
+        Reading::Key,
+        4,
+        1,
+        "input: ReadFailed\n",
+        [ALL, ALL, 0, 0, 2],
+    ),
+    (Reading::Audit, 0, 0, OLD_DATA_FAILED, [1, 0, 0, 0, 0]),
+    (
+        Reading::Audit,
+        1,
+        0,
+        OLD_EXCLUSIONS_FAILED,
+        [ALL, 1, 0, 0, 0],
+    ),
+    (Reading::Audit, 2, 0, NEW_DATA_FAILED, [ALL, ALL, 1, 0, 0]),
+    (
+        Reading::Audit,
+        3,
+        0,
+        NEW_EXCLUSIONS_FAILED,
+        [ALL, ALL, ALL, 1, 0],
+    ),
+    (Reading::KeyUnder, 0, 0, OLD_DATA_FAILED, [1, 0, 0, 0, 0]),
+    (
+        Reading::KeyUnder,
+        1,
+        0,
+        OLD_EXCLUSIONS_FAILED,
+        [ALL, 1, 0, 0, 0],
+    ),
+    (
+        Reading::KeyUnder,
+        2,
+        0,
+        NEW_DATA_FAILED,
+        [ALL, ALL, 1, 0, 0],
+    ),
+    (
+        Reading::KeyUnder,
+        3,
+        0,
+        NEW_EXCLUSIONS_FAILED,
+        [ALL, ALL, ALL, 1, 0],
+    ),
+    (
+        Reading::KeyUnder,
+        4,
+        0,
+        "input: ReadFailed\n",
+        [ALL, ALL, ALL, ALL, 1],
+    ),
+];
+
 #[test]
-fn marks_from_before_tell_nothing(rt: HostRuntime) -> Result<(), Fail> {
-    let mut readers = Readers {
-        data: mended(V1_DATA.as_bytes())?,
-        exclusions: mended(V1_EXCLUSIONS.as_bytes())?,
-        input: mended(b"Aa")?,
-    };
-    let (status, output, error) = key_over(rt.alloc(), &mut readers);
+fn a_failed_read_in_mid_stream_ends_the_job(rt: HostRuntime) -> Result<(), Fail> {
+    want_cuts(rt.alloc(), CUTS)
+}
+
+/// The run of a replay over these readers.
+fn replay_over(
+    alloc: Global,
+    schedule: &mut Watched<Trickle<'static>>,
+    files: &mut [Watched<Trickle<'static>>],
+) -> Ran
+    requires even { length files.old % 2 ≡ 0 }
+    requires some { 2 ≤ length files.old }
+{
+    let mut output = Watched::new(Vec::new(alloc));
+    let mut error = Watched::new(Vec::new(alloc));
+    let status = replay_job(alloc, Form::Nfc, schedule, files, &mut output, &mut error);
+    Ran {
+        status,
+        output: output.into_inner(),
+        error: error.into_inner(),
+    }
+}
+
+/// A reader, which fails at its first call where that is asked for.
+fn failing(bytes: &'static [u8], fails: bool) -> Watched<Trickle<'static>> {
+    let call = if fails { 0 } else { NEVER };
+    Watched::new(Trickle::new(bytes, 1).failing_at(call, Failure::Error))
+}
+
+/// A replay over two versions, whose reader of this number fails at its first read, tells that in this line; 4 is the
+/// schedule's. Whether it read the schedule.
+fn replay_fails(alloc: Global, number: u8, line: &str) -> Result<bool, Fail> {
+    let mut files = [
+        failing(V1_DATA.as_bytes(), number == 0),
+        failing(V1_EXCLUSIONS.as_bytes(), number == 1),
+        failing(V1_DATA.as_bytes(), number == 2),
+        failing(V1_EXCLUSIONS.as_bytes(), number == 3),
+    ];
+    let mut schedule = failing(b"room 1\nnodes 0\n", number == 4);
+    let ran = replay_over(alloc, &mut schedule, &mut files);
+    want(is_answer(&ran, &(5, "", line)), line)?;
+    Ok(schedule.into_inner().calls() > 0)
+}
+
+#[test]
+fn versions_are_read_in_order_and_then_the_schedule(rt: HostRuntime) -> Result<(), Fail> {
+    let alloc = rt.alloc();
+    want(!replay_fails(alloc, 0, OLD_DATA_FAILED)?, OLD_DATA_FAILED)?;
     want(
-        status == 0 && output.as_slice() == b"Aa".as_slice(),
-        "the key",
+        !replay_fails(alloc, 1, OLD_EXCLUSIONS_FAILED)?,
+        OLD_EXCLUSIONS_FAILED,
+    )?;
+    want(!replay_fails(alloc, 2, NEW_DATA_FAILED)?, NEW_DATA_FAILED)?;
+    want(
+        !replay_fails(alloc, 3, NEW_EXCLUSIONS_FAILED)?,
+        NEW_EXCLUSIONS_FAILED,
     )?;
     want(
-        error.is_empty() && !readers.data.failed() && !readers.input.failed(),
-        "no mark",
+        replay_fails(alloc, 4, "schedule: ReadFailed\n")?,
+        "schedule",
     )
+}
+
+/// Readers of `key` whose marks are from before.
+fn mended_readers() -> Result<Readers, Fail> {
+    Ok(Readers {
+        data: mended(V1_DATA.as_bytes())?,
+        exclusions: mended(V1_EXCLUSIONS.as_bytes())?,
+        later_data: failing(b"", false),
+        later_exclusions: failing(b"", false),
+        text: mended(b"Aa")?,
+    })
+}
+
+fn wants_key(alloc: Global, readers: &mut Readers) -> Result<(), Fail> {
+    let ran = run_over(alloc, Reading::Key, readers);
+    want(is_answer(&ran, &(0, "Aa", "")), "the key")
+}
+
+fn wants_no_mark(readers: &Readers) -> Result<(), Fail> {
+    want(!readers.data.failed() && !readers.text.failed(), "no mark")
+}
+
+#[test]
+fn marks_from_before_tell_nothing(rt: HostRuntime) -> Result<(), Fail> {
+    let mut readers = mended_readers()?;
+    wants_key(rt.alloc(), &mut readers)?;
+    wants_no_mark(&readers)
 }
 
 /// `key` of a text, into these writers.
@@ -135,46 +337,26 @@ fn key_into<O: Write, E: Write>(
     job_into(alloc, &key, output, error)
 }
 
-/// Whether `key` of `text` into a writer whose last one of so many calls fails says so, and calls
-/// it no more.
-fn output_fails(alloc: Global, text: &str, calls: u64, failure: Failure) -> Result<bool, Fail> {
-    let room = Room::new(alloc, 16, 16)?;
-    let mut output = Watched::new(room.failing_at(calls.saturating_sub(1), failure));
-    let mut error = Watched::new(Vec::new(alloc));
-    let status = key_into(alloc, text, &mut output, &mut error);
-    let told: Vec<u8> = error.into_inner();
-    let is_told = told.as_slice() == b"output: WriteFailed\n".as_slice();
-    let failed = output.failed();
-    Ok(status == 5 && is_told && failed && output.into_inner().calls() == calls)
+/// Standard error of which the first call fails.
+fn error_failing(alloc: Global, failure: Failure) -> Result<Watched<Room>, Memory> {
+    let room = Room::new(alloc, 64, 64)?;
+    Ok(Watched::new(room.failing_at(0, failure)))
 }
 
-/// The text, the number of calls, how the last one fails, and what that shows.
-const OUTPUTS: [(&str, u64, Failure, &str); 5] = [
-    ("a", 1, Failure::Error, "write"),
-    ("a", 1, Failure::Interrupted, "interrupted write"),
-    ("a", 1, Failure::TakesNothing, "write of nothing"),
-    ("a", 2, Failure::Error, "flush"),
-    ("", 1, Failure::Error, "flush of nothing"),
-];
-
-#[test]
-fn a_failed_write_or_flush_is_told(rt: HostRuntime) -> Result<(), Fail> {
-    for (text, calls, failure, what) in &OUTPUTS {
-        want(output_fails(rt.alloc(), text, *calls, *failure)?, what)?;
-    }
-    Ok(())
+/// The status of `key` of a text, and the mark of standard error behind it.
+fn key_marks(alloc: Global, text: &str, error: &mut Watched<Room>) -> (u8, bool) {
+    let mut output = Watched::new(Vec::new(alloc));
+    let status = key_into(alloc, text, &mut output, error);
+    (status, error.failed())
 }
 
 /// The mark of standard error after a job for which it bore one before.
 fn error_mark(alloc: Global, text: &str) -> Result<(u8, bool), Fail> {
-    let room = Room::new(alloc, 64, 64)?;
-    let mut error = Watched::new(room.failing_at(0, Failure::Error));
+    let mut error = error_failing(alloc, Failure::Error)?;
     // what it answers is seen in the mark
     let _ = error.flush();
     want(error.failed(), "the mark before")?;
-    let mut output = Watched::new(Vec::new(alloc));
-    let status = key_into(alloc, text, &mut output, &mut error);
-    Ok((status, error.failed()))
+    Ok(key_marks(alloc, text, &mut error))
 }
 
 #[test]
@@ -185,165 +367,11 @@ fn standard_error_is_cleared(rt: HostRuntime) -> Result<(), Fail> {
 
 /// The status of a refusal that is told into a device that fails.
 fn untold(alloc: Global) -> Result<(u8, bool), Fail> {
-    let room = Room::new(alloc, 64, 64)?;
-    let mut error = Watched::new(room.failing_at(0, Failure::TakesNothing));
-    let mut output = Watched::new(Vec::new(alloc));
-    let status = key_into(alloc, "b", &mut output, &mut error);
-    Ok((status, error.failed()))
+    let mut error = error_failing(alloc, Failure::TakesNothing)?;
+    Ok(key_marks(alloc, "b", &mut error))
 }
 
 #[test]
 fn a_refusal_that_can_not_be_told_keeps_its_status(rt: HostRuntime) -> Result<(), Fail> {
     want(untold(rt.alloc())? == (3, true), "the status")
-}
-
-/// The file of this number in an audit, which fails at its first read where that is asked for.
-fn file(number: usize, failing: usize) -> Watched<Trickle<'static>> {
-    let reader = if number == 0 || number == 2 {
-        data()
-    } else {
-        exclusions()
-    };
-    if number == failing {
-        Watched::new(reader.failing_at(0, Failure::Error))
-    } else {
-        Watched::new(reader)
-    }
-}
-
-/// The status of an audit whose file of this number fails at its first read, and the reads of its
-/// four files.
-fn audit_calls(alloc: Global, failing: usize) -> (u8, [u64; 4]) {
-    let (mut a, mut b) = (file(0, failing), file(1, failing));
-    let (mut c, mut d) = (file(2, failing), file(3, failing));
-    let mut output = Watched::new(Vec::new(alloc));
-    let mut error = Watched::new(Vec::new(alloc));
-    let status = audit_job(
-        alloc,
-        &mut a,
-        &mut b,
-        &mut c,
-        &mut d,
-        &mut output,
-        &mut error,
-    );
-    let _: Vec<u8> = output.into_inner();
-    let _: Vec<u8> = error.into_inner();
-    let calls = [
-        a.into_inner().calls(),
-        b.into_inner().calls(),
-        c.into_inner().calls(),
-        d.into_inner().calls(),
-    ];
-    (status, calls)
-}
-
-#[test]
-fn audit_reads_the_old_version_first(rt: HostRuntime) -> Result<(), Fail> {
-    let alloc = rt.alloc();
-    let (rows, listed) = (whole(V1_DATA), whole(V1_EXCLUSIONS));
-    let rows = [
-        (0, [1, 0, 0, 0], "old data"),
-        (1, [rows, 1, 0, 0], "old exclusions"),
-        (2, [rows, listed, 1, 0], "new data"),
-        (3, [rows, listed, rows, 1], "new exclusions"),
-    ];
-    for (failing, calls, what) in rows {
-        want(audit_calls(alloc, failing) == (5, calls), what)?;
-    }
-    Ok(())
-}
-
-/// The status of a key under an earlier version whose file of this number fails at its first read; 4 is the input.
-/// And what it tells, and whether the input was read.
-fn key_under_fails(alloc: Global, failing: usize) -> (u8, Vec<u8>, bool) {
-    let (mut a, mut b) = (file(0, failing), file(1, failing));
-    let (mut c, mut d) = (file(2, failing), file(3, failing));
-    let text = if failing == 4 {
-        input().failing_at(0, Failure::Error)
-    } else {
-        input()
-    };
-    let mut text = Watched::new(text);
-    let mut output = Watched::new(Vec::new(alloc));
-    let mut error = Watched::new(Vec::new(alloc));
-    let status = key_under_job(
-        alloc,
-        Form::Nfc,
-        &mut a,
-        &mut b,
-        &mut c,
-        &mut d,
-        &mut text,
-        &mut output,
-        &mut error,
-    );
-    let _: Vec<u8> = output.into_inner();
-    (status, error.into_inner(), text.into_inner().calls() > 0)
-}
-
-/// The status of a replay over two versions, whose file of this number fails at its first read; 4
-/// is the schedule's. And what it tells, and whether the schedule was read.
-fn replay_fails(alloc: Global, failing: usize) -> (u8, Vec<u8>, bool) {
-    let mut files = [
-        file(0, failing),
-        file(1, failing),
-        file(2, failing),
-        file(3, failing),
-    ];
-    let script = Trickle::new(b"room 1\nnodes 0\n".as_slice(), 1);
-    let script = if failing == 4 {
-        script.failing_at(0, Failure::Error)
-    } else {
-        script
-    };
-    let mut schedule = Watched::new(script);
-    let mut output = Watched::new(Vec::new(alloc));
-    let mut error = Watched::new(Vec::new(alloc));
-    let status = replay_job(
-        alloc,
-        Form::Nfc,
-        &mut schedule,
-        &mut files,
-        &mut output,
-        &mut error,
-    );
-    let _: Vec<u8> = output.into_inner();
-    (
-        status,
-        error.into_inner(),
-        schedule.into_inner().calls() > 0,
-    )
-}
-
-/// Whether a job ended so, with status 5.
-fn is_failure((status, told, read): &(u8, Vec<u8>, bool), line: &str, is_read: bool) -> bool {
-    *status == 5 && told.as_slice() == line.as_bytes() && *read == is_read
-}
-
-#[test]
-fn versions_are_read_in_order_and_then_the_schedule_or_the_input(
-    rt: HostRuntime,
-) -> Result<(), Fail> {
-    let alloc = rt.alloc();
-    let files = [
-        "version 0 data: ReadFailed\n",
-        "version 0 exclusions: ReadFailed\n",
-        "version 1 data: ReadFailed\n",
-        "version 1 exclusions: ReadFailed\n",
-    ];
-    for failing in 0..4 {
-        let line = files[failing];
-        want(is_failure(&replay_fails(alloc, failing), line, false), line)?;
-        want(
-            is_failure(&key_under_fails(alloc, failing), line, false),
-            line,
-        )?;
-    }
-    let (schedule, input) = ("schedule: ReadFailed\n", "input: ReadFailed\n");
-    want(
-        is_failure(&replay_fails(alloc, 4), schedule, true),
-        schedule,
-    )?;
-    want(is_failure(&key_under_fails(alloc, 4), input, true), input)
 }

@@ -31,28 +31,12 @@ fn are_told<F: Copy, J: Fn(F) -> JobFault>(
     Ok(())
 }
 
-fn data(fault: UcdFault) -> JobFault {
-    JobFault::from(VersionFault::Data { version: 0, fault })
-}
-
-fn exclusions(fault: UcdFault) -> JobFault {
-    JobFault::from(VersionFault::Exclusions { version: 1, fault })
-}
-
-fn tables(fault: TableFault) -> JobFault {
-    JobFault::from(VersionFault::Tables { version: 1, fault })
-}
-
-fn input(fault: InputFault) -> JobFault {
-    JobFault::from(TextFault::Input { fault })
+fn version(fault: VersionFault) -> JobFault {
+    JobFault::from(fault)
 }
 
 fn text(fault: TextFault) -> JobFault {
     JobFault::from(fault)
-}
-
-fn schedule(fault: InputFault) -> JobFault {
-    JobFault::from(ReplayFault::Schedule { fault })
 }
 
 fn replay(fault: ReplayFault) -> JobFault {
@@ -63,152 +47,227 @@ fn itself(fault: JobFault) -> JobFault {
     fault
 }
 
-/// Faults of a data file's records.
-const RECORDS: [(UcdFault, u8, &str); 6] = [
+/// Faults of the data file's records, of its ranges and of the whole file; of the exclusions file; of the tables that
+/// two files make.
+const VERSIONS: &[(VersionFault, u8, &str)] = &[
     (
-        UcdFault::FieldCount { line: 1 },
+        VersionFault::Data {
+            version: 0,
+            fault: UcdFault::FieldCount { line: 1 },
+        },
         4,
         "version 0 data: line 1: FieldCount\n",
     ),
     (
-        UcdFault::BadCode { line: 2 },
+        VersionFault::Data {
+            version: 0,
+            fault: UcdFault::BadCode { line: 2 },
+        },
         4,
         "version 0 data: line 2: BadCode\n",
     ),
     (
-        UcdFault::OutOfOrder { line: 3 },
+        VersionFault::Data {
+            version: 0,
+            fault: UcdFault::OutOfOrder { line: 3 },
+        },
         4,
         "version 0 data: line 3: OutOfOrder\n",
     ),
     (
-        UcdFault::BadCategory { line: 40 },
+        VersionFault::Data {
+            version: 0,
+            fault: UcdFault::BadCategory { line: 40 },
+        },
         4,
         "version 0 data: line 40: BadCategory\n",
     ),
     (
-        UcdFault::BadClass { line: 5 },
+        VersionFault::Data {
+            version: 0,
+            fault: UcdFault::BadClass { line: 5 },
+        },
         4,
         "version 0 data: line 5: BadClass\n",
     ),
     (
-        UcdFault::BadMapping { line: 16777217 },
+        VersionFault::Data {
+            version: 0,
+            fault: UcdFault::BadMapping { line: 16777217 },
+        },
         4,
         "version 0 data: line 16777217: BadMapping\n",
     ),
-];
-
-#[test]
-fn faults_of_records_have_lines(rt: HostRuntime) -> Result<(), Fail> {
-    are_told(rt.alloc(), &RECORDS, &data)
-}
-
-/// Faults of its ranges.
-const RANGES: [(UcdFault, u8, &str); 4] = [
     (
-        UcdFault::RangeOpen { line: 7 },
+        VersionFault::Data {
+            version: 0,
+            fault: UcdFault::RangeOpen { line: 7 },
+        },
         4,
         "version 0 data: line 7: RangeOpen\n",
     ),
     (
-        UcdFault::RangeLone { line: 8 },
+        VersionFault::Data {
+            version: 0,
+            fault: UcdFault::RangeLone { line: 8 },
+        },
         4,
         "version 0 data: line 8: RangeLone\n",
     ),
     (
-        UcdFault::RangeDiffers { line: 9 },
+        VersionFault::Data {
+            version: 0,
+            fault: UcdFault::RangeDiffers { line: 9 },
+        },
         4,
         "version 0 data: line 9: RangeDiffers\n",
     ),
     (
-        UcdFault::RangeMaps { line: 10 },
+        VersionFault::Data {
+            version: 0,
+            fault: UcdFault::RangeMaps { line: 10 },
+        },
         4,
         "version 0 data: line 10: RangeMaps\n",
     ),
-];
-
-#[test]
-fn faults_of_ranges_have_lines(rt: HostRuntime) -> Result<(), Fail> {
-    are_told(rt.alloc(), &RANGES, &data)
-}
-
-/// Faults of the whole data file.
-const DATA_FILES: [(UcdFault, u8, &str); 3] = [
-    (UcdFault::TooLarge, 4, "version 0 data: TooLarge\n"),
-    (UcdFault::ReadFailed, 5, "version 0 data: ReadFailed\n"),
-    (UcdFault::Memory, 6, "out of memory\n"),
-];
-
-/// Faults of the exclusions file.
-const EXCLUSIONS_FILES: [(UcdFault, u8, &str); 4] = [
     (
-        UcdFault::BadCode { line: 1 },
+        VersionFault::Data {
+            version: 0,
+            fault: UcdFault::TooLarge,
+        },
+        4,
+        "version 0 data: TooLarge\n",
+    ),
+    (
+        VersionFault::Data {
+            version: 0,
+            fault: UcdFault::ReadFailed,
+        },
+        5,
+        "version 0 data: ReadFailed\n",
+    ),
+    (
+        VersionFault::Data {
+            version: 0,
+            fault: UcdFault::Memory,
+        },
+        6,
+        "out of memory\n",
+    ),
+    (
+        VersionFault::Exclusions {
+            version: 1,
+            fault: UcdFault::BadCode { line: 1 },
+        },
         4,
         "version 1 exclusions: line 1: BadCode\n",
     ),
-    (UcdFault::TooLarge, 4, "version 1 exclusions: TooLarge\n"),
     (
-        UcdFault::ReadFailed,
+        VersionFault::Exclusions {
+            version: 1,
+            fault: UcdFault::TooLarge,
+        },
+        4,
+        "version 1 exclusions: TooLarge\n",
+    ),
+    (
+        VersionFault::Exclusions {
+            version: 1,
+            fault: UcdFault::ReadFailed,
+        },
         5,
         "version 1 exclusions: ReadFailed\n",
     ),
-    (UcdFault::Memory, 6, "out of memory\n"),
-];
-
-#[test]
-fn faults_of_whole_files_have_lines(rt: HostRuntime) -> Result<(), Fail> {
-    are_told(rt.alloc(), &DATA_FILES, &data)?;
-    are_told(rt.alloc(), &EXCLUSIONS_FILES, &exclusions)
-}
-
-/// Faults of the tables that two files make.
-const TABLE_FAULTS: [(TableFault, u8, &str); 6] = [
     (
-        TableFault::MapsToUnassigned { code: 0xC5 },
+        VersionFault::Exclusions {
+            version: 1,
+            fault: UcdFault::Memory,
+        },
+        6,
+        "out of memory\n",
+    ),
+    (
+        VersionFault::Tables {
+            version: 1,
+            fault: TableFault::MapsToUnassigned { code: 0xC5 },
+        },
         4,
         "version 1 tables: MapsToUnassigned 00C5\n",
     ),
     (
-        TableFault::TooDeep { code: 0x41 },
+        VersionFault::Tables {
+            version: 1,
+            fault: TableFault::TooDeep { code: 0x41 },
+        },
         4,
         "version 1 tables: TooDeep 0041\n",
     ),
     (
-        TableFault::TooLong { code: 0x16D67 },
+        VersionFault::Tables {
+            version: 1,
+            fault: TableFault::TooLong { code: 0x16D67 },
+        },
         4,
         "version 1 tables: TooLong 16D67\n",
     ),
     (
-        TableFault::AmbiguousPair { code: 0x10FFFF },
+        VersionFault::Tables {
+            version: 1,
+            fault: TableFault::AmbiguousPair { code: 0x10FFFF },
+        },
         4,
         "version 1 tables: AmbiguousPair 10FFFF\n",
     ),
     (
-        TableFault::HangulWrong { code: 0x1101 },
+        VersionFault::Tables {
+            version: 1,
+            fault: TableFault::HangulWrong { code: 0x1101 },
+        },
         4,
         "version 1 tables: HangulWrong 1101\n",
     ),
-    (TableFault::Memory, 6, "out of memory\n"),
+    (
+        VersionFault::Tables {
+            version: 1,
+            fault: TableFault::Memory,
+        },
+        6,
+        "out of memory\n",
+    ),
 ];
 
 #[test]
-fn faults_of_tables_have_lines(rt: HostRuntime) -> Result<(), Fail> {
-    are_told(rt.alloc(), &TABLE_FAULTS, &tables)
+fn faults_of_versions_have_lines(rt: HostRuntime) -> Result<(), Fail> {
+    are_told(rt.alloc(), VERSIONS, &version)
 }
 
 /// Faults of a text's input.
-const INPUTS: [(InputFault, u8, &str); 3] = [
-    (InputFault::TooLarge, 4, "input: TooLarge\n"),
-    (InputFault::ReadFailed, 5, "input: ReadFailed\n"),
-    (InputFault::Memory, 6, "out of memory\n"),
+const INPUTS: &[(TextFault, u8, &str)] = &[
+    (
+        TextFault::Input {
+            fault: InputFault::TooLarge,
+        },
+        4,
+        "input: TooLarge\n",
+    ),
+    (
+        TextFault::Input {
+            fault: InputFault::ReadFailed,
+        },
+        5,
+        "input: ReadFailed\n",
+    ),
+    (
+        TextFault::Input {
+            fault: InputFault::Memory,
+        },
+        6,
+        "out of memory\n",
+    ),
 ];
 
-#[test]
-fn faults_of_inputs_have_lines(rt: HostRuntime) -> Result<(), Fail> {
-    are_told(rt.alloc(), &INPUTS, &input)
-}
-
 /// Faults of a text that was read.
-const TEXTS: [(TextFault, u8, &str); 6] = [
+const TEXTS: &[(TextFault, u8, &str)] = &[
     (
         TextFault::NotUtf8 { at: 16777215 },
         4,
@@ -245,23 +304,44 @@ fn wants_text(alloc: Global, fault: &JobFault, line: &str) -> Result<(), Fail> {
     want(text.as_str() == line, line)
 }
 
-#[test]
-fn faults_of_texts_have_lines(rt: HostRuntime) -> Result<(), Fail> {
-    for (fault, _, line) in &TEXTS {
-        wants_text(rt.alloc(), &text(*fault), line)?;
+/// Fails unless each of these faults as text is its line without the line end.
+fn want_texts(alloc: Global, rows: &[(TextFault, u8, &str)]) -> Result<(), Fail> {
+    for (fault, _, line) in rows {
+        wants_text(alloc, &text(*fault), line)?;
     }
-    are_told(rt.alloc(), &TEXTS, &text)
+    Ok(())
 }
 
-/// Faults of a schedule's input.
-const SCHEDULES: [(InputFault, u8, &str); 3] = [
-    (InputFault::TooLarge, 4, "schedule: TooLarge\n"),
-    (InputFault::ReadFailed, 5, "schedule: ReadFailed\n"),
-    (InputFault::Memory, 6, "out of memory\n"),
-];
+#[test]
+fn faults_of_texts_have_lines(rt: HostRuntime) -> Result<(), Fail> {
+    are_told(rt.alloc(), INPUTS, &text)?;
+    want_texts(rt.alloc(), TEXTS)?;
+    are_told(rt.alloc(), TEXTS, &text)
+}
 
-/// Faults of a schedule that was read.
-const LINES: [(ReplayFault, u8, &str); 2] = [
+/// Faults of a schedule's input, and of a schedule that was read.
+const SCHEDULES: &[(ReplayFault, u8, &str)] = &[
+    (
+        ReplayFault::Schedule {
+            fault: InputFault::TooLarge,
+        },
+        4,
+        "schedule: TooLarge\n",
+    ),
+    (
+        ReplayFault::Schedule {
+            fault: InputFault::ReadFailed,
+        },
+        5,
+        "schedule: ReadFailed\n",
+    ),
+    (
+        ReplayFault::Schedule {
+            fault: InputFault::Memory,
+        },
+        6,
+        "out of memory\n",
+    ),
     (
         ReplayFault::Line { line: 16777217 },
         4,
@@ -272,12 +352,11 @@ const LINES: [(ReplayFault, u8, &str); 2] = [
 
 #[test]
 fn faults_of_schedules_have_lines(rt: HostRuntime) -> Result<(), Fail> {
-    are_told(rt.alloc(), &SCHEDULES, &schedule)?;
-    are_told(rt.alloc(), &LINES, &replay)
+    are_told(rt.alloc(), SCHEDULES, &replay)
 }
 
-/// Versions that are no chain.
-const CHAINS: [(JobFault, u8, &str); 2] = [
+/// Versions that are no chain, a failed output and want of memory.
+const OTHERS: &[(JobFault, u8, &str)] = &[
     (
         JobFault::NotExtension {
             version: 1,
@@ -300,23 +379,11 @@ const CHAINS: [(JobFault, u8, &str); 2] = [
         1,
         "not an extension: version 12 NewComposite 00C1\n",
     ),
-];
-
-#[test]
-fn versions_that_are_no_chain_have_lines(rt: HostRuntime) -> Result<(), Fail> {
-    for (fault, _, line) in &CHAINS {
-        wants_text(rt.alloc(), fault, line)?;
-    }
-    are_told(rt.alloc(), &CHAINS, &itself)
-}
-
-/// Faults of no input.
-const OTHERS: [(JobFault, u8, &str); 2] = [
     (JobFault::WriteFailed, 5, "output: WriteFailed\n"),
     (JobFault::Memory, 6, "out of memory\n"),
 ];
 
 #[test]
-fn a_failed_output_and_want_of_memory_have_lines(rt: HostRuntime) -> Result<(), Fail> {
-    are_told(rt.alloc(), &OTHERS, &itself)
+fn other_faults_have_lines(rt: HostRuntime) -> Result<(), Fail> {
+    are_told(rt.alloc(), OTHERS, &itself)
 }

@@ -6,9 +6,10 @@ use np_world::fixtures::{
     EXCHANGE_REPORT, EXCHANGE_SCHEDULE, FORGED_REPORT, FORGED_SCHEDULE, FORGETTING_REPORT,
     FORGETTING_SCHEDULE, OLDER_REPORT, OLDER_SCHEDULE, RESTART_REPORT, RESTART_SCHEDULE,
 };
+use std::alloc::Global;
 use std::test::Fail;
 
-const SCRIPTS: [JobRow; 5] = [
+const SCRIPTS: &[JobRow] = &[
     (
         Job::ReplayOverTwo(EXCHANGE_SCHEDULE, V1, V2),
         (0, EXCHANGE_REPORT, ""),
@@ -38,11 +39,11 @@ const SCRIPTS: [JobRow; 5] = [
 
 #[test]
 fn scripts_have_their_reports(rt: HostRuntime) -> Result<(), Fail> {
-    are_answered(rt.alloc(), &SCRIPTS)
+    are_answered(rt.alloc(), SCRIPTS)
 }
 
 /// Schedules that can't stand, and how that is told.
-const FAULTY: [(&str, &str); 5] = [
+const FAULTY: &[(&str, &str)] = &[
     ("", "schedule: line 1\n"),
     ("room 70000\n", "schedule: line 1\n"),
     ("room 4\n", "schedule: line 2\n"),
@@ -50,13 +51,17 @@ const FAULTY: [(&str, &str); 5] = [
     ("room 4\nnodes 0\naccept 1 0061\n", "schedule: line 3\n"),
 ];
 
-#[test]
-fn schedules_that_do_not_stand_are_told(rt: HostRuntime) -> Result<(), Fail> {
-    for (schedule, line) in &FAULTY {
+fn are_faulty(alloc: Global, rows: &[(&str, &str)]) -> Result<(), Fail> {
+    for (schedule, line) in rows {
         let replay = Job::ReplayOverOne(schedule, V1);
-        wants_answer(rt.alloc(), &replay, &(4, "", line), schedule)?;
+        wants_answer(alloc, &replay, &(4, "", line), schedule)?;
     }
     Ok(())
+}
+
+#[test]
+fn schedules_that_do_not_stand_are_told(rt: HostRuntime) -> Result<(), Fail> {
+    are_faulty(rt.alloc(), FAULTY)
 }
 
 /// A data file with a fault.
@@ -69,7 +74,7 @@ const SECOND_SHORT: Files = (SHORT, V2_EXCLUSIONS);
 /// A schedule that can't stand.
 const BAD: &str = "room 70000\n";
 
-const FIRST_FAULTS: [JobRow; 3] = [
+const FIRST_FAULTS: &[JobRow] = &[
     (
         Job::ReplayOverTwo(BAD, V2, SECOND_SHORT),
         (4, "", "version 1 data: line 1: BadCode\n"),
@@ -89,5 +94,5 @@ const FIRST_FAULTS: [JobRow; 3] = [
 
 #[test]
 fn the_first_of_several_faults_is_told(rt: HostRuntime) -> Result<(), Fail> {
-    are_answered(rt.alloc(), &FIRST_FAULTS)
+    are_answered(rt.alloc(), FIRST_FAULTS)
 }

@@ -1,5 +1,6 @@
 //! Which words name a job.
-use np_words::{WordsFault, parse};
+use np_examples_shared::{again, want};
+use np_words::{Job, WordsFault, parse};
 use std::alloc::{AllocError, Global};
 use std::test::Fail;
 
@@ -12,21 +13,41 @@ pub(crate) fn words_of(alloc: Global, text: &str) -> Result<Vec<String>, AllocEr
     Ok(words)
 }
 
-/// What the words, divided by spaces, are read as.
-fn read(alloc: Global, text: &str) -> Result<String, AllocError> {
-    let words = words_of(alloc, text)?;
-    match parse(alloc, words.as_slice()) {
-        Ok(job) => format!(in alloc; "{job:?}"),
-        Err(fault) => format!(in alloc; "{fault:?}"),
+/// What was read, in words; want of memory is a failure.
+fn shown(alloc: Global, read: &Result<Job, WordsFault>) -> Result<String, Fail> {
+    match read {
+        Ok(job) => Ok(format!(in alloc; "{job:?}")?),
+        Err(WordsFault::Usage) => Ok(format!(in alloc; "{:?}", WordsFault::Usage)?),
+        Err(WordsFault::Memory) => Err(WordsFault::Memory.into()),
     }
+}
+
+/// What the words are read as; they are read a second time where memory was refused, as `tests/refusals.py` has it in
+/// turn.
+fn read(alloc: Global, words: &[String]) -> Result<String, Fail> {
+    let read = again(&WordsFault::Memory, &|| parse(alloc, words));
+    shown(alloc, &read)
+}
+
+/// Fails unless the words, divided by spaces, are read so.
+fn is_read(alloc: Global, text: &str, wanted: &str) -> Result<(), Fail> {
+    let words = words_of(alloc, text)?;
+    let found = read(alloc, words.as_slice())?;
+    want(found.as_str() == wanted, text)
 }
 
 /// Fails unless each row's words, divided by spaces, are read as it says.
 fn are_read(alloc: Global, rows: &[(&str, &str)]) -> Result<(), Fail> {
     for (text, wanted) in rows {
-        if read(alloc, text)?.as_str() != *wanted {
-            return Err(Fail::new(text));
-        }
+        is_read(alloc, text, wanted)?;
+    }
+    Ok(())
+}
+
+/// Fails unless all of these words, divided by spaces, are read so.
+fn all_are_read(alloc: Global, texts: &[&str], wanted: &str) -> Result<(), Fail> {
+    for text in texts {
+        is_read(alloc, text, wanted)?;
     }
     Ok(())
 }
@@ -40,8 +61,11 @@ const NFC_KEY: &str =
 const KEY_UNDER: &str =
     r#"KeyUnder { form: Nfc, old: VersionFiles { data_file: "A", exclusions_file: "B" }, new: VersionFiles { data_file: "C", exclusions_file: "D" } }"#;
 
+const NFC_REPLAY: &str =
+    r#"Replay { form: Nfc, schedule_file: "S", version_files: [VersionFiles { data_file: "D", exclusions_file: "E" }] }"#;
+
 /// Words that name a key under an earlier version: the flag and the form stand anywhere among the files.
-const KEYS_UNDER: [&str; 11] = [
+const KEYS_UNDER: &[&str] = &[
     "key --form nfc --check-under A B C D",
     "key --check-under --form nfc A B C D",
     "key --form=nfc A --check-under B C D",
@@ -57,14 +81,11 @@ const KEYS_UNDER: [&str; 11] = [
 
 #[test]
 fn reads_the_flag_at_each_place(rt: HostRuntime) -> Result<(), Fail> {
-    for text in &KEYS_UNDER {
-        are_read(rt.alloc(), &[(text, KEY_UNDER)])?;
-    }
-    Ok(())
+    all_are_read(rt.alloc(), KEYS_UNDER, KEY_UNDER)
 }
 
 /// Words that name a job, and the job.
-const JOBS: [(&str, &str); 13] = [
+const JOBS: &[(&str, &str)] = &[
     ("", "Help"),
     ("key --form nfd D E", NFD_KEY),
     ("key --form nfc D E", NFC_KEY),
@@ -99,18 +120,6 @@ const JOBS: [(&str, &str); 13] = [
         "audit -- A B C -D",
         r#"Audit { old: VersionFiles { data_file: "A", exclusions_file: "B" }, new: VersionFiles { data_file: "C", exclusions_file: "-D" } }"#,
     ),
-];
-
-#[test]
-fn reads_words_that_name_a_job(rt: HostRuntime) -> Result<(), Fail> {
-    are_read(rt.alloc(), &JOBS)
-}
-
-const NFC_REPLAY: &str =
-    r#"Replay { form: Nfc, schedule_file: "S", version_files: [VersionFiles { data_file: "D", exclusions_file: "E" }] }"#;
-
-/// Words that name a replay, and the replay.
-const REPLAYS: [(&str, &str); 7] = [
     ("replay --form nfc S D E", NFC_REPLAY),
     ("replay --form=nfc S D E", NFC_REPLAY),
     ("replay S D E --form nfc", NFC_REPLAY),
@@ -124,12 +133,12 @@ const REPLAYS: [(&str, &str); 7] = [
 ];
 
 #[test]
-fn reads_words_that_name_a_replay(rt: HostRuntime) -> Result<(), Fail> {
-    are_read(rt.alloc(), &REPLAYS)
+fn reads_words_that_name_a_job(rt: HostRuntime) -> Result<(), Fail> {
+    are_read(rt.alloc(), JOBS)
 }
 
 /// Words that name no job.
-const OTHERS: [&str; 47] = [
+const OTHERS: &[&str] = &[
     "--help",
     "-h",
     "--version",
@@ -181,33 +190,19 @@ const OTHERS: [&str; 47] = [
 
 #[test]
 fn refuses_every_other_word(rt: HostRuntime) -> Result<(), Fail> {
-    for text in &OTHERS {
-        are_read(rt.alloc(), &[(text, "Usage")])?;
-    }
-    Ok(())
+    all_are_read(rt.alloc(), OTHERS, "Usage")
 }
 
-/// Fails unless the words name a job, or are refused, as told; they are read a second time where memory was
-/// refused, as `tests/refusals.py` has it in turn.
-fn wants_read(alloc: Global, text: &str, is_job: bool) -> Result<(), Fail> {
-    let words = words_of(alloc, text)?;
-    let read = match parse(alloc, words.as_slice()) {
-        Err(WordsFault::Memory) => parse(alloc, words.as_slice()),
-        answer => answer,
-    };
-    match read {
-        Ok(_) if is_job => Ok(()),
-        Err(WordsFault::Usage) if !is_job => Ok(()),
-        Err(WordsFault::Memory) => Err(WordsFault::Memory.into()),
-        Ok(_) | Err(WordsFault::Usage) => Err(Fail::new(text)),
-    }
-}
+/// Words that ask for the usage text, for none of the jobs, and for one that names several files.
+const FEW: &[(&str, &str)] = &[
+    ("", "Help"),
+    ("key --form nfx D E", "Usage"),
+    ("--help", "Usage"),
+    ("key --form nfc --check-under A B C D", KEY_UNDER),
+    ("replay --form nfc S D E", NFC_REPLAY),
+];
 
 #[test]
 fn a_refused_parse_succeeds_after_all(rt: HostRuntime) -> Result<(), Fail> {
-    wants_read(rt.alloc(), "", true)?;
-    wants_read(rt.alloc(), "key --form nfx D E", false)?;
-    wants_read(rt.alloc(), "--help", false)?;
-    wants_read(rt.alloc(), "key --form nfc --check-under A B C D", true)?;
-    wants_read(rt.alloc(), "replay --form nfc S D E", true)
+    are_read(rt.alloc(), FEW)
 }

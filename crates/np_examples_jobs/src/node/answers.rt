@@ -1,5 +1,8 @@
 //! What a node answers to strings.
-use super::{letters, wants_kept, wants_known, wants_no_node, wants_refused, wants_taken};
+use super::{
+    Row, Sight, Step, letters, story, wants_known, wants_no_node, wants_refused, wants_steps,
+    wants_taken,
+};
 use np_chain::{Break, BreakKind};
 use np_code_points::told::want_told;
 use np_code_points::{Form, Memory};
@@ -9,51 +12,43 @@ use np_versions::NormTable;
 use std::alloc::Global;
 use std::test::Fail;
 
-fn keeps_empty<T: NormTable>(node: &mut Node<'_, T>) -> Result<(), Fail> {
-    wants_kept(node, b"", b"C\0\0\0\0\0\0\0\0", "the empty string")?;
-    wants_known(node, b"", "the empty string again")?;
-    want(node.entry(0) == Some(("", "")), "its entry")?;
-    want(node.entry(1).is_none(), "no other entry")
-}
+const EMPTY_STRING: &[Row] = &[
+    (Step::Keeps(b"", b"C\0\0\0\0\0\0\0\0"), "the empty string"),
+    (Step::Knows(b""), "the empty string again"),
+    (Step::Shows(Sight::Entry(0, Some(("", "")))), "its entry"),
+    (Step::Shows(Sight::Entry(1, None)), "no other entry"),
+];
 
-fn empty_string<T: NormTable>(alloc: Global, table: &T) -> Result<(), Fail> {
-    let mut node = Node::new(alloc, table, Form::Nfc, 4);
-    keeps_empty(&mut node)
-}
-
-fn keeps_nothing<T: NormTable>(node: &mut Node<'_, T>) -> Result<(), Fail> {
-    wants_refused(node, b"", NodeFault::Full, "no room for the empty string")?;
-    wants_refused(
-        node,
-        b"\xff",
-        NodeFault::NotUtf8 { at: 0 },
+const NO_ROOM: &[Row] = &[
+    (
+        Step::Refuses(b"", NodeFault::Full),
+        "no room for the empty string",
+    ),
+    (
+        Step::Refuses(b"\xff", NodeFault::NotUtf8 { at: 0 }),
         "before the room",
-    )?;
-    want(node.is_empty() && node.room() == 0, "nothing is kept")
-}
+    ),
+    (Step::Shows(Sight::Size(0, 0)), "nothing is kept"),
+];
 
-fn no_room<T: NormTable>(alloc: Global, table: &T) -> Result<(), Fail> {
-    let mut node = Node::new(alloc, table, Form::Nfc, 0);
-    keeps_nothing(&mut node)
-}
+const LITTLE_ROOM: &[Row] = &[
+    (Step::Keeps(b"a", b"C\0\0\0\x01a\0\0\0\x01a"), "a"),
+    (Step::Refuses(b"A", NodeFault::Full), "A by accept"),
+    (
+        Step::Takes(b"C\0\0\0\x01A\0\0\0\x01A", Err(NodeFault::Full)),
+        "A by take",
+    ),
+    (Step::Knows(b"a"), "a again"),
+    (
+        Step::Takes(b"C\0\0\0\x01a\0\0\0\x01a", Ok(Taken::Known)),
+        "its own message",
+    ),
+    (Step::Shows(Sight::Size(1, 1)), "one entry"),
+];
 
 fn keeps_one<T: NormTable>(alloc: Global, node: &mut Node<'_, T>) -> Result<(), Fail> {
-    wants_kept(node, b"a", b"C\0\0\0\x01a\0\0\0\x01a", "a")?;
-    wants_refused(node, b"A", NodeFault::Full, "A by accept")?;
-    wants_taken(
-        node,
-        b"C\0\0\0\x01A\0\0\0\x01A",
-        Err(NodeFault::Full),
-        "A by take",
-    )?;
-    wants_known(node, b"a", "a again")?;
-    wants_taken(
-        node,
-        b"C\0\0\0\x01a\0\0\0\x01a",
-        Ok(Taken::Known),
-        "its own message",
-    )?;
-    want(node.len() == 1 && node.form() == Form::Nfc, "one entry")?;
+    wants_steps(node, LITTLE_ROOM)?;
+    want(node.form() == Form::Nfc, "its form")?;
     wants_shown(alloc, node)
 }
 
@@ -63,14 +58,17 @@ fn little_room<T: NormTable>(alloc: Global, table: &T) -> Result<(), Fail> {
 }
 
 /// No string is shown where a node or what it answers is printed.
-fn wants_shown<T: NormTable>(alloc: Global, node: &Node<'_, T>) -> Result<(), Fail> {
-    let kept = Accepted::Kept(letters(alloc, 13)?);
-    let known = Accepted::Known;
-    let shown = format!(in alloc; "{node:?}, {kept:?}, {known:?}")?;
+fn is_shown<T: NormTable>(alloc: Global, node: &Node<'_, T>, kept: &Accepted) -> Result<(), Fail> {
+    let shown = format!(in alloc; "{node:?}, {kept:?}, {:?}", Accepted::Known)?;
     want(
         shown.as_str() == "Node { form: Nfc, room: 1, len: 1, .. }, Kept { len: 13, .. }, Known",
         "as it is shown",
     )
+}
+
+fn wants_shown<T: NormTable>(alloc: Global, node: &Node<'_, T>) -> Result<(), Fail> {
+    let kept = Accepted::Kept(letters(alloc, 13)?);
+    is_shown(alloc, node, &kept)
 }
 
 /// These bytes, and behind them a string of 65,537 bytes and itself as key.
@@ -154,89 +152,88 @@ fn longest_restored<T: NormTable>(alloc: Global, node: &Node<'_, T>) -> Result<(
     want(again.entry(0) == node.entry(0), "the same entry")
 }
 
-fn keeps_unlike<T: NormTable>(node: &mut Node<'_, T>) -> Result<(), Fail> {
-    for string in ["\u{212B}", "\u{C5}", "a"] {
-        want(node.accept(string.as_bytes()).is_ok(), string)?;
-    }
-    wants_unlike(node)
-}
-
-fn unlike_strings<T: NormTable>(alloc: Global, table: &T) -> Result<(), Fail> {
-    let mut node = Node::new(alloc, table, Form::Nfc, 4);
-    keeps_unlike(&mut node)
-}
-
-/// The sign, the letter that it is equivalent to, and `a` are three strings.
-fn wants_unlike<T: NormTable>(node: &Node<'_, T>) -> Result<(), Fail> {
-    let angstrom = "\u{212B}";
-    let letter = "\u{C5}";
-    want(node.len() == 3, "equivalent and unlike: two entries")?;
-    want(
-        node.entry(0) == Some((angstrom, letter)),
+/// The sign 212B, the letter 00C5 that it is equivalent to, and `a` are three strings.
+const UNLIKE: &[Row] = &[
+    (Step::Accepts(b"\xe2\x84\xab"), "the sign"),
+    (Step::Accepts(b"\xc3\x85"), "the letter"),
+    (Step::Accepts(b"a"), "a"),
+    (
+        Step::Shows(Sight::Size(3, 4)),
+        "equivalent and unlike: two entries",
+    ),
+    (
+        Step::Shows(Sight::Entry(0, Some(("\u{212B}", "\u{C5}")))),
         "the sign's entry",
-    )?;
-    want(node.key_of(angstrom) == Some(letter), "the sign's key")?;
-    want(node.key_of("b").is_none(), "no key of what is not kept")?;
-    want(node.same(angstrom, letter) == Some(true), "equivalent")?;
-    want(node.same(angstrom, "a") == Some(false), "not equivalent")?;
-    want(node.same(angstrom, "b").is_none(), "not kept")
-}
+    ),
+    (
+        Step::Shows(Sight::Key("\u{212B}", Some("\u{C5}"))),
+        "the sign's key",
+    ),
+    (
+        Step::Shows(Sight::Key("b", None)),
+        "no key of what is not kept",
+    ),
+    (
+        Step::Shows(Sight::Same("\u{212B}", "\u{C5}", Some(true))),
+        "equivalent",
+    ),
+    (
+        Step::Shows(Sight::Same("\u{212B}", "a", Some(false))),
+        "not equivalent",
+    ),
+    (Step::Shows(Sight::Same("\u{212B}", "b", None)), "not kept"),
+];
 
 fn kept_once<T: NormTable>(alloc: Global, table: &T) -> Result<(), Fail> {
-    empty_string(alloc, table)?;
-    no_room(alloc, table)?;
+    story(alloc, table, 4, EMPTY_STRING)?;
+    story(alloc, table, 0, NO_ROOM)?;
     little_room(alloc, table)?;
     too_long(alloc, table)?;
     longest(alloc, table)?;
-    unlike_strings(alloc, table)
+    story(alloc, table, 4, UNLIKE)
 }
 
 /// A noncharacter is unassigned in each version, and a letter of private use is not.
-fn wants_private<T: NormTable>(node: &mut Node<'_, T>) -> Result<(), Fail> {
-    let none = NodeFault::Unassigned {
-        at: 0,
-        code: '\u{FFFE}',
-    };
-    wants_refused(node, "\u{FFFE}".as_bytes(), none, "a noncharacter")?;
-    want(
-        node.accept("\u{E000}".as_bytes()).is_ok(),
-        "a private letter",
-    )
-}
+const NO_CHARACTER: Row = (
+    Step::Refuses(
+        b"\xef\xbf\xbe",
+        NodeFault::Unassigned {
+            at: 0,
+            code: '\u{FFFE}',
+        },
+    ),
+    "a noncharacter",
+);
 
-fn lacks_later_letter<T: NormTable>(node: &mut Node<'_, T>) -> Result<(), Fail> {
-    let fault = NodeFault::Unassigned {
-        at: 1,
-        code: '\u{16D67}',
-    };
-    wants_refused(node, "A\u{16D67}".as_bytes(), fault, "a later letter")?;
-    wants_private(node)
-}
+const PRIVATE: Row = (Step::Accepts(b"\xee\x80\x80"), "a private letter");
 
-fn lacking<T: NormTable>(alloc: Global, table: &T) -> Result<(), Fail> {
-    let mut node = Node::new(alloc, table, Form::Nfc, 4);
-    lacks_later_letter(&mut node)
-}
-
-fn keeps_later_letter<T: NormTable>(node: &mut Node<'_, T>) -> Result<(), Fail> {
-    want(
-        node.accept("A\u{16D67}".as_bytes()).is_ok(),
+const LACKING: &[Row] = &[
+    (
+        Step::Refuses(
+            b"A\xf0\x96\xb5\xa7",
+            NodeFault::Unassigned {
+                at: 1,
+                code: '\u{16D67}',
+            },
+        ),
         "a later letter",
-    )?;
-    want(
-        node.entry(0) == Some(("A\u{16D67}", "A\u{16D67}")),
+    ),
+    NO_CHARACTER,
+    PRIVATE,
+];
+
+const LATER: &[Row] = &[
+    (Step::Accepts(b"A\xf0\x96\xb5\xa7"), "a later letter"),
+    (
+        Step::Shows(Sight::Entry(0, Some(("A\u{16D67}", "A\u{16D67}")))),
         "itself as key",
-    )?;
-    wants_private(node)
-}
+    ),
+    NO_CHARACTER,
+    PRIVATE,
+];
 
-fn later_letter<T: NormTable>(alloc: Global, table: &T) -> Result<(), Fail> {
-    let mut node = Node::new(alloc, table, Form::Nfc, 4);
-    keeps_later_letter(&mut node)
-}
-
-/// A node goes on to a later version and to its own, and not back.
-fn wants_upgrades<'t, T: NormTable>(
+/// A node goes on to its own version and to a later one.
+fn goes_on<'t, T: NormTable>(
     node: &mut Node<'t, T>,
     first: &'t T,
     second: &'t T,
@@ -244,7 +241,11 @@ fn wants_upgrades<'t, T: NormTable>(
     want(node.accept(b"a").is_ok(), "a")?;
     want(node.upgrade(first).is_ok(), "the same version")?;
     want(node.upgrade(second).is_ok(), "the later version")?;
-    want(node.table().version().count() == 17_666, "the later table")?;
+    want(node.table().version().count() == 17_666, "the later table")
+}
+
+/// It goes back to none, and then is as it was.
+fn stays<'t, T: NormTable>(node: &mut Node<'t, T>, first: &'t T) -> Result<(), Fail> {
     let lost = Break {
         kind: BreakKind::Lost,
         code: 0x1DFA,
@@ -255,6 +256,15 @@ fn wants_upgrades<'t, T: NormTable>(
         node.len() == 1 && node.entry(0) == Some(("a", "a")),
         "the entries stay",
     )
+}
+
+fn wants_upgrades<'t, T: NormTable>(
+    node: &mut Node<'t, T>,
+    first: &'t T,
+    second: &'t T,
+) -> Result<(), Fail> {
+    goes_on(node, first, second)?;
+    stays(node, first)
 }
 
 fn upgrades<'t, T: NormTable>(alloc: Global, first: &'t T, second: &'t T) -> Result<(), Fail> {
@@ -280,8 +290,8 @@ impl Example for Shown {
     fn holds<T: Made>(&self, alloc: Global, table: &T) -> Result<(), Fail> {
         match self {
             Shown::KeptOnce => kept_once(alloc, table),
-            Shown::Lacking => lacking(alloc, table),
-            Shown::LaterLetter => later_letter(alloc, table),
+            Shown::Lacking => story(alloc, table, 4, LACKING),
+            Shown::LaterLetter => story(alloc, table, 4, LATER),
             Shown::Upgrades => upgrades_from(alloc, table),
         }
     }
@@ -308,7 +318,7 @@ fn upgrades_go_forward_alone(rt: HostRuntime) -> Result<(), Fail> {
 }
 
 /// Each fault, and how it is told; a code point in four hex digits at least.
-const TOLD: [(NodeFault, &str); 10] = [
+const TOLD: &[(NodeFault, &str)] = &[
     (NodeFault::Malformed { at: 5 }, "malformed at byte 5"),
     (NodeFault::OtherForm, "another form"),
     (NodeFault::TooLong, "too long: more than 65,536 bytes"),
@@ -338,5 +348,5 @@ const TOLD: [(NodeFault, &str); 10] = [
 
 #[test]
 fn faults_are_told_in_words(rt: HostRuntime) -> Result<(), Fail> {
-    want_told(rt.alloc(), &TOLD)
+    want_told(rt.alloc(), TOLD)
 }

@@ -3,7 +3,7 @@ use super::forged_answers::{FIRST, FIRST_ANSWERS, SECOND, SECOND_ANSWERS};
 use np_code_points::Form;
 use np_code_points::codes::hex_value;
 use np_examples_shared::{Example, Made, V1, holds_over_each, want};
-use np_node::Node;
+use np_node::{ImageFault, Node};
 use np_versions::NormTable;
 use std::alloc::Global;
 use std::test::Fail;
@@ -31,16 +31,45 @@ fn push_bytes(bytes: &mut Vec<u8>, digits: &str) -> Result<(), Fail> {
     want(high.is_none() || digits == "-", digits)
 }
 
-/// The image with these bytes in the place of so many from `at` on.
-fn changed(
-    alloc: Global,
-    image: &[u8],
+/// A change of an image: how many bytes go from which place on, the ways in which others come, and what is answered.
+#[derive(Clone, Copy)]
+struct Change<'a> {
     at: usize,
     gone: usize,
-    put: &str,
-) -> Result<Vec<u8>, Fail> {
-    let (before, rest) = image.split_at_checked(at).ok_or("a place")?;
-    let (_, behind) = rest.split_at_checked(gone).ok_or("so many bytes")?;
+    puts: &'a str,
+    told: &'a str,
+}
+
+/// The first word of a line, and the rest.
+fn parted(line: &str) -> Result<(&str, &str), Fail> {
+    match line.split_once(" ") {
+        Some(parts) => Ok(parts),
+        None => Err(Fail::new(line)),
+    }
+}
+
+/// The change that a line has.
+fn change_of(line: &str) -> Result<Change<'_>, Fail> {
+    let (at, rest) = parted(line)?;
+    let (gone, rest) = parted(rest)?;
+    let (puts, told) = parted(rest)?;
+    Ok(Change {
+        at: usize::from_str_radix(at, 10)?,
+        gone: usize::from_str_radix(gone, 10)?,
+        puts,
+        told,
+    })
+}
+
+/// What stands before and behind the bytes of the image that go.
+fn left_of<'a>(image: &'a [u8], change: &Change<'_>) -> Result<(&'a [u8], &'a [u8]), Fail> {
+    let (before, rest) = image.split_at_checked(change.at).ok_or("a place")?;
+    let (_, behind) = rest.split_at_checked(change.gone).ok_or("so many bytes")?;
+    Ok((before, behind))
+}
+
+/// These bytes with those of the hex digits between them.
+fn joined(alloc: Global, before: &[u8], put: &str, behind: &[u8]) -> Result<Vec<u8>, Fail> {
     let mut made = Vec::new(alloc);
     made.extend_from_slice(before)?;
     push_bytes(&mut made, put)?;
@@ -59,6 +88,18 @@ fn wants_image<T: NormTable>(alloc: Global, node: &Node<'_, T>, digits: &str) ->
     )
 }
 
+/// The fault in words is this.
+fn wants_fault(alloc: Global, fault: &ImageFault, told: &str) -> Result<(), Fail> {
+    let answer = format!(in alloc; "{fault}")?;
+    want(answer.as_str() == told, told)
+}
+
+/// The node has the image behind `restored`.
+fn wants_restored<T: NormTable>(alloc: Global, node: &Node<'_, T>, told: &str) -> Result<(), Fail> {
+    let digits = told.strip_prefix("restored ").ok_or(told)?;
+    wants_image(alloc, node, digits)
+}
+
 /// Restoring the image answers this, in words; what is restored has the image behind `restored`.
 fn wants_answer<T: NormTable>(
     alloc: Global,
@@ -67,15 +108,22 @@ fn wants_answer<T: NormTable>(
     told: &str,
 ) -> Result<(), Fail> {
     match Node::restore(alloc, table, Form::Nfc, 5, image) {
-        Ok(node) => {
-            let digits = told.strip_prefix("restored ").ok_or(told)?;
-            wants_image(alloc, &node, digits)
-        }
-        Err(fault) => {
-            let answer = format!(in alloc; "{fault}")?;
-            want(answer.as_str() == told, told)
-        }
+        Ok(node) => wants_restored(alloc, &node, told),
+        Err(fault) => wants_fault(alloc, &fault, told),
     }
+}
+
+/// The image changed in one way is answered so.
+fn wants_change<T: NormTable>(
+    alloc: Global,
+    table: &T,
+    image: &[u8],
+    change: &Change<'_>,
+    put: &str,
+) -> Result<(), Fail> {
+    let (before, behind) = left_of(image, change)?;
+    let made = joined(alloc, before, put, behind)?;
+    wants_answer(alloc, table, &made, change.told)
 }
 
 /// The image changed as a line has it, in each of its ways, is answered as the line tells.
@@ -85,21 +133,27 @@ fn wants_line<T: NormTable>(
     image: &[u8],
     line: &str,
 ) -> Result<(), Fail> {
-    let (at, rest) = line.split_once(" ").ok_or("a place")?;
-    let (gone, rest) = rest.split_once(" ").ok_or("so many bytes")?;
-    let (puts, told) = rest.split_once(" ").ok_or("what comes")?;
-    let (at, gone) = (
-        usize::from_str_radix(at, 10)?,
-        usize::from_str_radix(gone, 10)?,
-    );
-    for put in puts.split(',') {
-        let made = changed(alloc, image, at, gone, put)?;
-        wants_answer(alloc, table, &made, told)?;
+    let change = change_of(line)?;
+    for put in change.puts.split(',') {
+        wants_change(alloc, table, image, &change, put)?;
     }
     Ok(())
 }
 
-/// The image in these hex digits is answered, changed as each line has it, as the line tells.
+/// The image is answered, changed as each line has it, as the line tells.
+fn want_lines<T: NormTable>(
+    alloc: Global,
+    table: &T,
+    image: &[u8],
+    lines: &str,
+) -> Result<(), Fail> {
+    for line in lines.lines() {
+        wants_line(alloc, table, image, line)?;
+    }
+    Ok(())
+}
+
+/// So is the image in these hex digits.
 fn wants_lines<T: NormTable>(
     alloc: Global,
     table: &T,
@@ -108,10 +162,7 @@ fn wants_lines<T: NormTable>(
 ) -> Result<(), Fail> {
     let mut image = Vec::new(alloc);
     push_bytes(&mut image, digits)?;
-    for line in lines.lines() {
-        wants_line(alloc, table, &image, line)?;
-    }
-    Ok(())
+    want_lines(alloc, table, &image, lines)
 }
 
 /// What restoring answers to each changed image.

@@ -1,5 +1,5 @@
 //! Strings that a node forgets, and a node that is full.
-use super::{letters, wants_kept, wants_known, wants_refused, wants_taken};
+use super::{Row, Sight, Step, letters, story, wants_refused, wants_steps};
 use np_code_points::Form;
 use np_examples_shared::{Example, Made, V1, holds_over, holds_over_each, want};
 use np_node::{MOST_ROOM, Node, NodeFault, Taken};
@@ -11,57 +11,73 @@ use std::test::Fail;
 const MESSAGE: &[u8] = b"C\0\0\0\x01a\0\0\0\x01a";
 
 /// The others keep their order, and a string that is kept anew stands last.
-fn keeps_order<T: NormTable>(node: &mut Node<'_, T>) -> Result<(), Fail> {
-    for string in ["a", "A", "f"] {
-        want(node.accept(string.as_bytes()).is_ok(), string)?;
-    }
-    want(node.forget("a"), "a was kept")?;
-    want(node.len() == 2, "two are left")?;
-    want(node.entry(0) == Some(("A", "A")), "A is first")?;
-    want(node.entry(1) == Some(("f", "f")), "f is second")?;
-    want(!node.forget("a"), "a is not kept any more")?;
-    wants_kept(node, b"a", MESSAGE, "a anew")?;
-    want(node.entry(2) == Some(("a", "a")), "a is last")
-}
+const ORDER: &[Row] = &[
+    (Step::Accepts(b"a"), "a"),
+    (Step::Accepts(b"A"), "A"),
+    (Step::Accepts(b"f"), "f"),
+    (Step::Forgets("a", true), "a was kept"),
+    (Step::Shows(Sight::Size(2, 4)), "two are left"),
+    (Step::Shows(Sight::Entry(0, Some(("A", "A")))), "A is first"),
+    (
+        Step::Shows(Sight::Entry(1, Some(("f", "f")))),
+        "f is second",
+    ),
+    (Step::Forgets("a", false), "a is not kept any more"),
+    (Step::Keeps(b"a", MESSAGE), "a anew"),
+    (Step::Shows(Sight::Entry(2, Some(("a", "a")))), "a is last"),
+];
 
-fn order<T: NormTable>(alloc: Global, table: &T) -> Result<(), Fail> {
-    let mut node = Node::new(alloc, table, Form::Nfc, 4);
-    keeps_order(&mut node)
-}
+/// What isn't kept isn't forgotten: a spelling that is equivalent, and a text of unassigned code points.
+const ABSENT: &[Row] = &[
+    (Step::Accepts(b"\xc3\xa2"), "the letter"),
+    (Step::Forgets("a\u{302}", false), "another spelling"),
+    (Step::Forgets("\u{378}", false), "an unassigned code point"),
+];
 
-/// What isn't kept isn't forgotten: a spelling that is equivalent, a text that is too long, and one of unassigned code
-/// points.
+const NOTHING_LEFT: &[Row] = &[
+    (Step::Shows(Sight::Size(1, 4)), "nothing changes"),
+    (Step::Forgets("\u{E2}", true), "the only one"),
+    (Step::Shows(Sight::Size(0, 4)), "nothing is left"),
+    (Step::Shows(Sight::Entry(0, None)), "no entry is left"),
+];
+
+/// Nor is a text that is too long.
 fn forgets_none<T: NormTable>(node: &mut Node<'_, T>, long: &str) -> Result<(), Fail> {
-    want(node.accept("\u{E2}".as_bytes()).is_ok(), "the letter")?;
-    want(!node.forget("a\u{302}"), "another spelling")?;
-    want(!node.forget("\u{378}"), "an unassigned code point")?;
+    wants_steps(node, ABSENT)?;
     want(!node.forget(long), "65,537 bytes")?;
-    want(node.len() == 1, "nothing changes")?;
-    want(node.forget("\u{E2}"), "the only one")?;
-    want(
-        node.is_empty() && node.entry(0).is_none(),
-        "nothing is left",
-    )
+    wants_steps(node, NOTHING_LEFT)
 }
 
-fn absent<T: NormTable>(alloc: Global, table: &T) -> Result<(), Fail> {
-    let long = letters(alloc, 65_537)?;
-    let long = str::from_utf8(&long)?;
+fn absent<T: NormTable>(alloc: Global, table: &T, long: &[u8]) -> Result<(), Fail> {
+    let long = str::from_utf8(long)?;
     let mut node = Node::new(alloc, table, Form::Nfc, 4);
     forgets_none(&mut node, long)
 }
+
+fn absent_long<T: NormTable>(alloc: Global, table: &T) -> Result<(), Fail> {
+    let long = letters(alloc, 65_537)?;
+    absent(alloc, table, &long)
+}
+
+const TURN: &[Row] = &[
+    (Step::Keeps(b"a", MESSAGE), "a"),
+    (Step::Shows(Sight::Entry(1, Some(("a", "a")))), "behind f"),
+    (Step::Forgets("a", true), "a was kept"),
+];
+
+const AFTER_ALL: &[Row] = &[
+    (Step::Takes(MESSAGE, Ok(Taken::Kept)), "an old message"),
+    (Step::Knows(b"a"), "a once more"),
+    (Step::Shows(Sight::Size(2, 2)), "f and a"),
+];
 
 /// What is forgotten comes again by an old message, and may be forgotten and kept again and again.
 fn comes_again<T: NormTable>(node: &mut Node<'_, T>) -> Result<(), Fail> {
     want(node.accept(b"f").is_ok(), "f")?;
     for _turn in 0..1000 {
-        wants_kept(node, b"a", MESSAGE, "a")?;
-        want(node.entry(1) == Some(("a", "a")), "behind f")?;
-        want(node.forget("a"), "a was kept")?;
+        wants_steps(node, TURN)?;
     }
-    wants_taken(node, MESSAGE, Ok(Taken::Kept), "an old message")?;
-    wants_known(node, b"a", "a once more")?;
-    want(node.len() == 2, "f and a")
+    wants_steps(node, AFTER_ALL)
 }
 
 fn in_turn<T: NormTable>(alloc: Global, table: &T) -> Result<(), Fail> {
@@ -73,8 +89,8 @@ struct Forgotten;
 
 impl Example for Forgotten {
     fn holds<T: Made>(&self, alloc: Global, table: &T) -> Result<(), Fail> {
-        order(alloc, table)?;
-        absent(alloc, table)?;
+        story(alloc, table, 4, ORDER)?;
+        absent_long(alloc, table)?;
         in_turn(alloc, table)
     }
 }

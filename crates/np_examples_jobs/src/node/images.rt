@@ -1,5 +1,5 @@
 //! Images, and nodes restored from them.
-use super::{NoImage, wants_no_node, wants_no_nodes};
+use super::{NoImage, Row, Step, story, wants_image, wants_no_node, wants_no_nodes};
 use np_code_points::Form;
 use np_code_points::told::want_told;
 use np_examples_shared::{Example, Made, V1, V2, holds_over_each, want};
@@ -42,38 +42,23 @@ const LATER: &[u8] = b"NPS1C\0\0\0\x01\0\0\0\x04\xf0\x96\xb5\xa7\0\0\0\x04\xf0\x
 /// The one entry FFFE, a noncharacter, beside itself as key.
 const NONE: &[u8] = b"NPS1C\0\0\0\x01\0\0\0\x03\xef\xbf\xbe\0\0\0\x03\xef\xbf\xbe";
 
-fn makes_its_image<T: NormTable>(node: &mut Node<'_, T>) -> Result<(), Fail> {
-    want(
-        node.accept("a\u{302}".as_bytes()).is_ok(),
-        "the first string",
-    )?;
-    want(
-        node.accept("\u{212B}".as_bytes()).is_ok(),
-        "the second string",
-    )?;
-    let image = node.image()?;
-    want(image.as_slice() == SECOND, "the image")
-}
-
-fn made<T: NormTable>(alloc: Global, table: &T) -> Result<(), Fail> {
-    let mut node = Node::new(alloc, table, Form::Nfc, 4);
-    makes_its_image(&mut node)
-}
+const MADE: &[Row] = &[
+    (Step::Accepts(b"a\xcc\x82"), "the first string"),
+    (Step::Accepts(b"\xe2\x84\xab"), "the second string"),
+    (Step::Saves(SECOND), "the image"),
+];
 
 /// A key that is its string isn't repeated.
-fn short<T: NormTable>(alloc: Global, table: &T) -> Result<(), Fail> {
-    let mut node = Node::new(alloc, table, Form::Nfc, 4);
-    want(node.accept(b"a").is_ok(), "a")?;
-    let image = node.image()?;
-    want(image.as_slice() == ONE, "an image with a short key")
-}
+const SHORT: &[Row] = &[
+    (Step::Accepts(b"a"), "a"),
+    (Step::Saves(ONE), "an image with a short key"),
+];
 
 fn is_restored<T: NormTable>(node: &Node<'_, T>, again: &[u8]) -> Result<(), Fail> {
     want(node.len() == 2 && node.room() == 4, "two entries")?;
     want(node.entry(0) == Some(("a\u{302}", "\u{E2}")), "the first")?;
     want(node.entry(1) == Some(("\u{212B}", "\u{C5}")), "the second")?;
-    let image = node.image()?;
-    want(image.as_slice() == again, "its own image")
+    wants_image(node, again, "its own image")
 }
 
 /// An image gives a node with its two entries, whose own image this is.
@@ -82,13 +67,18 @@ fn restored<T: NormTable>(alloc: Global, table: &T, from: &[u8], again: &[u8]) -
     is_restored(&node, again)
 }
 
+/// An image without entries gives an empty node.
+fn restored_empty<T: NormTable>(alloc: Global, table: &T) -> Result<(), Fail> {
+    let node = Node::restore(alloc, table, Form::Nfc, 0, EMPTY)?;
+    want(node.is_empty() && node.room() == 0, "no entry")
+}
+
 /// Both layouts are restored under the later version, and an image of that version is.
 fn restored_later<T: NormTable>(alloc: Global, table: &T) -> Result<(), Fail> {
     restored(alloc, table, FIRST, UPGRADED)?;
     restored(alloc, table, SECOND, UPGRADED)?;
     restored(alloc, table, UPGRADED, UPGRADED)?;
-    let node = Node::restore(alloc, table, Form::Nfc, 0, EMPTY)?;
-    want(node.is_empty() && node.room() == 0, "no entry")
+    restored_empty(alloc, table)
 }
 
 fn cut<T: NormTable>(alloc: Global, table: &T) -> Result<(), Fail> {
@@ -116,7 +106,7 @@ fn cut<T: NormTable>(alloc: Global, table: &T) -> Result<(), Fail> {
 }
 
 /// Images that are refused for themselves.
-const REFUSED: [NoImage; 13] = [
+const REFUSED: &[NoImage] = &[
     (
         b"NPS2C\0\0\x44\xfc\0\0\0\x01\0\0\0\x01a\x02",
         None,
@@ -197,13 +187,13 @@ const REFUSED: [NoImage; 13] = [
 ];
 
 /// Images for which a room of one is too little.
-const TOO_LARGE: [NoImage; 2] = [
+const TOO_LARGE: &[NoImage] = &[
     (FIRST, None, NodeFault::Full, "too little room"),
     (SECOND, None, NodeFault::Full, "too little room"),
 ];
 
 /// Images for which there is no room.
-const NO_ROOM: [NoImage; 2] = [
+const NO_ROOM: &[NoImage] = &[
     (ONE, None, NodeFault::Full, "no room"),
     (
         NEEDS_MORE,
@@ -217,7 +207,7 @@ const NO_ROOM: [NoImage; 2] = [
 ];
 
 /// Each place of a fault, and how it is told.
-const WORDS: [(ImageFault, &str); 3] = [
+const WORDS: &[(ImageFault, &str)] = &[
     (
         ImageFault {
             entry: None,
@@ -245,14 +235,14 @@ const WORDS: [(ImageFault, &str); 3] = [
 ];
 
 fn refused<T: NormTable>(alloc: Global, table: &T) -> Result<(), Fail> {
-    wants_no_nodes(alloc, table, 0, &NO_ROOM)?;
-    wants_no_nodes(alloc, table, 1, &TOO_LARGE)?;
-    wants_no_nodes(alloc, table, 4, &REFUSED)
+    wants_no_nodes(alloc, table, 0, NO_ROOM)?;
+    wants_no_nodes(alloc, table, 1, TOO_LARGE)?;
+    wants_no_nodes(alloc, table, 4, REFUSED)
 }
 
 fn images<T: NormTable>(alloc: Global, table: &T) -> Result<(), Fail> {
-    made(alloc, table)?;
-    short(alloc, table)?;
+    story(alloc, table, 4, MADE)?;
+    story(alloc, table, 4, SHORT)?;
     restored(alloc, table, FIRST, SECOND)?;
     restored(alloc, table, SECOND, SECOND)?;
     cut(alloc, table)?;
@@ -277,7 +267,7 @@ impl Example for Shown {
 
 #[test]
 fn an_image_is_read_whole_or_not_at_all(rt: HostRuntime) -> Result<(), Fail> {
-    want_told(rt.alloc(), &WORDS)?;
+    want_told(rt.alloc(), WORDS)?;
     holds_over_each(rt.alloc(), V1, &Shown::Images)
 }
 

@@ -1,8 +1,8 @@
 //! What a node answers to messages.
-use super::{Told, wants_all_taken, wants_taken};
+use super::{Row, Sight, Step, story, wants_steps, wants_taken};
 use np_code_points::Form;
 use np_examples_shared::{Example, Made, V1, holds_over_each, want};
-use np_node::{Accepted, Node, NodeFault, Taken};
+use np_node::{Node, NodeFault, Taken};
 use np_versions::NormTable;
 use std::alloc::Global;
 use std::test::Fail;
@@ -20,63 +20,64 @@ const OTHER: &[u8] = b"D\0\0\0\x03a\xcc\x82\0\0\0\x02\xc3\xa2";
 const MORE: &[u8] = b"C\0\0\0\x03a\xcc\x82\0\0\0\x02\xc3\xa2\0";
 
 /// What the node answers, one message behind the other.
-const KEYS: [Told; 5] = [
-    (FORGED, Err(NodeFault::KeyDiffers), "forged"),
-    (RIGHT, Ok(Taken::Kept), "right"),
-    (RIGHT, Ok(Taken::Known), "right again"),
-    (FORGED, Err(NodeFault::KeyDiffers), "forged again"),
-    (OTHER, Err(NodeFault::OtherForm), "another form"),
+const KEYS: &[Row] = &[
+    (Step::Takes(FORGED, Err(NodeFault::KeyDiffers)), "forged"),
+    (Step::Takes(RIGHT, Ok(Taken::Kept)), "right"),
+    (Step::Takes(RIGHT, Ok(Taken::Known)), "right again"),
+    (
+        Step::Takes(FORGED, Err(NodeFault::KeyDiffers)),
+        "forged again",
+    ),
+    (
+        Step::Takes(OTHER, Err(NodeFault::OtherForm)),
+        "another form",
+    ),
+    (Step::Shows(Sight::Size(1, 4)), "one entry"),
+    (
+        Step::Shows(Sight::Entry(0, Some(("a\u{302}", "\u{E2}")))),
+        "with its own key",
+    ),
 ];
 
-fn checks_keys<T: NormTable>(node: &mut Node<'_, T>) -> Result<(), Fail> {
-    wants_all_taken(node, &KEYS)?;
-    want(node.len() == 1, "one entry")?;
-    want(
-        node.entry(0) == Some(("a\u{302}", "\u{E2}")),
-        "with its own key",
-    )
-}
-
-fn keys_are_checked<T: NormTable>(alloc: Global, table: &T) -> Result<(), Fail> {
-    let mut node = Node::new(alloc, table, Form::Nfc, 4);
-    checks_keys(&mut node)
-}
-
 /// Messages that an empty node refuses.
-const REFUSED: [Told; 6] = [
-    (MORE, Err(NodeFault::Malformed { at: 14 }), "a byte more"),
+const REFUSED: &[Row] = &[
     (
-        b"C\xff\xff\xff\xff",
-        Err(NodeFault::Malformed { at: 5 }),
+        Step::Takes(MORE, Err(NodeFault::Malformed { at: 14 })),
+        "a byte more",
+    ),
+    (
+        Step::Takes(b"C\xff\xff\xff\xff", Err(NodeFault::Malformed { at: 5 })),
         "a great length",
     ),
     (
-        b"\0\0\0\0\0\0\0\0\0",
-        Err(NodeFault::Malformed { at: 0 }),
+        Step::Takes(b"\0\0\0\0\0\0\0\0\0", Err(NodeFault::Malformed { at: 0 })),
         "no form",
     ),
     (
-        b"C\0\0\0\x01\xff\0\0\0\0",
-        Err(NodeFault::NotUtf8 { at: 0 }),
+        Step::Takes(
+            b"C\0\0\0\x01\xff\0\0\0\0",
+            Err(NodeFault::NotUtf8 { at: 0 }),
+        ),
         "not UTF-8",
     ),
     (
-        b"C\0\0\0\x03\xef\xbf\xbe\0\0\0\x03\xef\xbf\xbe",
-        Err(NodeFault::Unassigned {
-            at: 0,
-            code: '\u{FFFE}',
-        }),
+        Step::Takes(
+            b"C\0\0\0\x03\xef\xbf\xbe\0\0\0\x03\xef\xbf\xbe",
+            Err(NodeFault::Unassigned {
+                at: 0,
+                code: '\u{FFFE}',
+            }),
+        ),
         "unassigned",
     ),
     (
-        b"C\0\0\0\x01a\0\0\0\x01\xff",
-        Err(NodeFault::KeyDiffers),
+        Step::Takes(b"C\0\0\0\x01a\0\0\0\x01\xff", Err(NodeFault::KeyDiffers)),
         "a key that is not UTF-8",
     ),
 ];
 
 fn checks_messages<T: NormTable>(node: &mut Node<'_, T>) -> Result<(), Fail> {
-    wants_all_taken(node, &REFUSED)?;
+    wants_steps(node, REFUSED)?;
     for length in 0..RIGHT.len() {
         let at = match length {
             0 => 0,
@@ -100,29 +101,20 @@ fn messages_are_checked<T: NormTable>(alloc: Global, table: &T) -> Result<(), Fa
     checks_messages(&mut node)
 }
 
-fn knows_its_message<T: NormTable>(node: &mut Node<'_, T>) -> Result<(), Fail> {
-    match node.accept("a\u{302}".as_bytes())? {
-        Accepted::Kept(message) => {
-            want(message.as_slice() == RIGHT, "its message")?;
-            wants_taken(node, &message, Ok(Taken::Known), "told to its sender")
-        }
-        Accepted::Known => Err(Fail::new("kept")),
-    }
-}
-
-fn told_to_its_sender<T: NormTable>(alloc: Global, table: &T) -> Result<(), Fail> {
-    let mut node = Node::new(alloc, table, Form::Nfc, 4);
-    knows_its_message(&mut node)
-}
+/// A node's own message, told to its sender.
+const TOLD: &[Row] = &[
+    (Step::Keeps(b"a\xcc\x82", RIGHT), "its message"),
+    (Step::Takes(RIGHT, Ok(Taken::Known)), "told to its sender"),
+];
 
 /// What messages show.
 struct Messages;
 
 impl Example for Messages {
     fn holds<T: Made>(&self, alloc: Global, table: &T) -> Result<(), Fail> {
-        keys_are_checked(alloc, table)?;
+        story(alloc, table, 4, KEYS)?;
         messages_are_checked(alloc, table)?;
-        told_to_its_sender(alloc, table)
+        story(alloc, table, 4, TOLD)
     }
 }
 

@@ -1,7 +1,8 @@
 //! A node whose call was refused for want of memory is as it was, and the same call succeeds after all; what is
 //! refused for itself takes no memory.
 use super::{
-    NoImage, Told, letters, wants_all_taken, wants_kept, wants_known, wants_no_nodes, wants_refused,
+    NoImage, Row, Sight, Step, letters, wants_image, wants_kept, wants_no_nodes, wants_refused,
+    wants_steps,
 };
 use np_code_points::Form;
 use np_examples_shared::{Example, Made, V1, holds_over_each, want};
@@ -20,12 +21,18 @@ const FIRST: &[u8] = b"NPS1C\0\0\0\x02\0\0\0\x01A\0\0\0\x01A\0\0\0\x03a\xcc\x82\
 const IMAGE: &[u8] =
     b"NPS2C\0\0\x44\xfc\0\0\0\x02\0\0\0\x01A\0\0\0\0\x03a\xcc\x82\x01\0\0\0\x02\xc3\xa2";
 
-/// The calls that can want memory, and those that take none.
+/// The calls of a node that can want memory.
 #[derive(Clone, Copy)]
-enum Call {
+enum NodeCall {
     Accept,
     Take,
     Image,
+}
+
+/// The calls that can want memory, and those that take none.
+#[derive(Clone, Copy)]
+enum Call {
+    OfNode(NodeCall),
     Restore,
     Refusals,
 }
@@ -77,7 +84,7 @@ fn saves<T: NormTable>(node: &mut Node<'_, T>) -> Result<(), Fail> {
     if node.image().is_err() {
         want(keeps_both(node), "a refused image changes nothing")?;
     }
-    want(node.image()?.as_slice() == IMAGE, "the image after all")
+    wants_image(node, IMAGE, "the image after all")
 }
 
 fn restores<T: NormTable>(alloc: Global, table: &T) -> Result<(), Fail> {
@@ -108,51 +115,70 @@ fn restores_image<T: NormTable>(alloc: Global, table: &T, image: &[u8]) -> Resul
     want(keeps_both(&node), "the image's entries")
 }
 
-/// Strings, and why a full node refuses them.
-const REFUSED: [(&[u8], NodeFault); 3] = [
-    (b"a\xcc", NodeFault::NotUtf8 { at: 1 }),
+/// What a node that keeps `A` and is full refuses, and what it knows.
+const REFUSED: &[Row] = &[
     (
-        b"\xef\xbf\xbe",
-        NodeFault::Unassigned {
-            at: 0,
-            code: '\u{FFFE}',
-        },
+        Step::Refuses(b"a\xcc", NodeFault::NotUtf8 { at: 1 }),
+        "a string that is cut",
     ),
-    (b"a", NodeFault::Full),
-];
-
-/// Messages to a node that keeps `A`, and its answers.
-const TOLD: [Told; 6] = [
     (
-        b"C\xff\xff\xff\xff",
-        Err(NodeFault::Malformed { at: 5 }),
+        Step::Refuses(
+            b"\xef\xbf\xbe",
+            NodeFault::Unassigned {
+                at: 0,
+                code: '\u{FFFE}',
+            },
+        ),
+        "a noncharacter",
+    ),
+    (Step::Refuses(b"a", NodeFault::Full), "one more string"),
+    (
+        Step::Takes(b"C\xff\xff\xff\xff", Err(NodeFault::Malformed { at: 5 })),
         "a great length",
     ),
     (
-        b"D\0\0\0\x01A\0\0\0\x01A",
-        Err(NodeFault::OtherForm),
+        Step::Takes(b"D\0\0\0\x01A\0\0\0\x01A", Err(NodeFault::OtherForm)),
         "another form",
     ),
     (
-        b"C\0\0\0\x01\xff\0\0\0\0",
-        Err(NodeFault::NotUtf8 { at: 0 }),
+        Step::Takes(
+            b"C\0\0\0\x01\xff\0\0\0\0",
+            Err(NodeFault::NotUtf8 { at: 0 }),
+        ),
         "a string that is not UTF-8",
     ),
     (
-        b"C\0\0\0\x01b\0\0\0\x01b",
-        Err(NodeFault::Unassigned { at: 0, code: 'b' }),
+        Step::Takes(
+            b"C\0\0\0\x01b\0\0\0\x01b",
+            Err(NodeFault::Unassigned { at: 0, code: 'b' }),
+        ),
         "an unassigned letter",
     ),
     (
-        b"C\0\0\0\x01A\0\0\0\x01a",
-        Err(NodeFault::KeyDiffers),
+        Step::Takes(b"C\0\0\0\x01A\0\0\0\x01a", Err(NodeFault::KeyDiffers)),
         "another key",
     ),
-    (b"C\0\0\0\x01A\0\0\0\x01A", Ok(Taken::Known), "what is kept"),
+    (
+        Step::Takes(b"C\0\0\0\x01A\0\0\0\x01A", Ok(Taken::Known)),
+        "what is kept",
+    ),
+    (Step::Knows(b"A"), "what is kept"),
+    (Step::Shows(Sight::Size(1, 1)), "nothing changes"),
+    (
+        Step::Shows(Sight::Entry(0, Some(("A", "A")))),
+        "nothing changes",
+    ),
+    (Step::Shows(Sight::Key("a\u{302}", None)), "nothing changes"),
+];
+
+const FORGOTTEN: &[Row] = &[
+    (Step::Forgets("a", false), "a is not kept"),
+    (Step::Forgets("A", true), "A is forgotten"),
+    (Step::Shows(Sight::Size(0, 1)), "nothing is kept"),
 ];
 
 /// Images of no node of a room of one.
-const NO_IMAGES: [NoImage; 5] = [
+const NO_IMAGES: &[NoImage] = &[
     (
         b"NPS2C\0\0\0\0\xff\xff\xff\xff",
         None,
@@ -182,30 +208,22 @@ const NO_IMAGES: [NoImage; 5] = [
 fn refuses<T: NormTable>(alloc: Global, node: &mut Node<'_, T>, long: &[u8]) -> Result<(), Fail> {
     keep_one(node)?;
     wants_refused(node, long, NodeFault::TooLong, "a long string")?;
-    for (string, fault) in &REFUSED {
-        wants_refused(node, string, *fault, "a string")?;
+    wants_steps(node, REFUSED)?;
+    wants_no_nodes(alloc, node.table(), 1, NO_IMAGES)?;
+    wants_steps(node, FORGOTTEN)
+}
+
+fn asked<T: NormTable>(node: &mut Node<'_, T>, call: &NodeCall) -> Result<(), Fail> {
+    match call {
+        NodeCall::Accept => accepts(node),
+        NodeCall::Take => takes(node),
+        NodeCall::Image => saves(node),
     }
-    wants_all_taken(node, &TOLD)?;
-    wants_known(node, b"A", "what is kept")?;
-    want(keeps_one(node), "nothing changes")?;
-    wants_no_nodes(alloc, node.table(), 1, &NO_IMAGES)?;
-    want(!node.forget("a") && node.forget("A"), "A is forgotten")?;
-    want(node.is_empty(), "nothing is kept")
 }
 
-fn accepted<T: NormTable>(alloc: Global, table: &T) -> Result<(), Fail> {
+fn asks<T: NormTable>(alloc: Global, table: &T, call: &NodeCall) -> Result<(), Fail> {
     let mut node = Node::new(alloc, table, Form::Nfc, 4);
-    accepts(&mut node)
-}
-
-fn taken<T: NormTable>(alloc: Global, table: &T) -> Result<(), Fail> {
-    let mut node = Node::new(alloc, table, Form::Nfc, 4);
-    takes(&mut node)
-}
-
-fn saved<T: NormTable>(alloc: Global, table: &T) -> Result<(), Fail> {
-    let mut node = Node::new(alloc, table, Form::Nfc, 4);
-    saves(&mut node)
+    asked(&mut node, call)
 }
 
 fn refused<T: NormTable>(alloc: Global, table: &T) -> Result<(), Fail> {
@@ -217,9 +235,7 @@ fn refused<T: NormTable>(alloc: Global, table: &T) -> Result<(), Fail> {
 impl Example for Call {
     fn holds<T: Made>(&self, alloc: Global, table: &T) -> Result<(), Fail> {
         match self {
-            Call::Accept => accepted(alloc, table),
-            Call::Take => taken(alloc, table),
-            Call::Image => saved(alloc, table),
+            Call::OfNode(call) => asks(alloc, table, call),
             Call::Restore => restores(alloc, table),
             Call::Refusals => refused(alloc, table),
         }
@@ -228,17 +244,17 @@ impl Example for Call {
 
 #[test]
 fn a_refused_accept_succeeds_after_all(rt: HostRuntime) -> Result<(), Fail> {
-    holds_over_each(rt.alloc(), V1, &Call::Accept)
+    holds_over_each(rt.alloc(), V1, &Call::OfNode(NodeCall::Accept))
 }
 
 #[test]
 fn a_refused_take_succeeds_after_all(rt: HostRuntime) -> Result<(), Fail> {
-    holds_over_each(rt.alloc(), V1, &Call::Take)
+    holds_over_each(rt.alloc(), V1, &Call::OfNode(NodeCall::Take))
 }
 
 #[test]
 fn a_refused_image_succeeds_after_all(rt: HostRuntime) -> Result<(), Fail> {
-    holds_over_each(rt.alloc(), V1, &Call::Image)
+    holds_over_each(rt.alloc(), V1, &Call::OfNode(NodeCall::Image))
 }
 
 #[test]

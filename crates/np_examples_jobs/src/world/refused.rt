@@ -4,12 +4,14 @@ ghost use Rattle.std.specs.Prelude.{◌≡◌, IfOk, length};
 
 use np_chain::Chain;
 use np_code_points::{Form, Memory};
-use np_examples_shared::{V1, V2, again_where, tables_of, want};
+use np_examples_shared::{Files, V1, V2, again_where, tables_of, want};
 use np_tables::RowTable;
 use np_world::fixtures::{EXCHANGE_REPORT, EXCHANGE_SCHEDULE, RESTART_REPORT, RESTART_SCHEDULE};
 use np_world::{Report, Schedule, ScheduleFault, read_schedule, replay, report_text};
 use std::alloc::Global;
 use std::test::Fail;
+
+const BOTH: &[Files] = &[V1, V2];
 
 /// The calls that can want memory.
 #[derive(Clone, Copy, PartialEq, Eq)]
@@ -100,7 +102,7 @@ fn succeeds(alloc: Global, tables: &[RowTable], call: Call) -> Result<(), Fail> 
 }
 
 fn succeeds_over(alloc: Global, call: Call) -> Result<(), Fail> {
-    let tables = tables_of(alloc, &[V1, V2])?;
+    let tables = tables_of(alloc, BOTH)?;
     succeeds(alloc, tables.as_slice(), call)
 }
 
