@@ -96,17 +96,23 @@ fn finds_pairs(pairs: &Pairs) -> Result<(), Fail> {
     want(first, "the first of the list")
 }
 
-/// Fails unless the row at the place is that of a code point with a mapping.
-fn maps(v1: &Version, at: Option<usize>, code: char) -> Result<(), Fail> {
-    let row = v1.row_in(at.ok_or("a row")?);
-    want(!row.mapping.is_empty() && mapped_code(row) == code, "a row")
+/// Fails unless the code point has a row, which has its mapping.
+fn has_mapped_row(v1: &Version, code: char) -> Result<(), Fail> {
+    match v1.place_of(u32::from(code)) {
+        Some(at) => {
+            let row = v1.row_in(at);
+            let alone = !row.mapping.is_empty() && mapped_code(row) == code;
+            want(alone, "the row of a code point with a mapping")
+        }
+        None => want(false, "a row"),
+    }
 }
 
 fn tells_its_rows(v1: &Version) -> Result<(), Fail> {
     // a block number for each 256 code points
     let blocks = v1.pages().index.len() == 4352;
     want(blocks && v1.place_of(0x110000).is_none(), "no row")?;
-    maps(v1, v1.place_of(0x1EAD), '\u{1EAD}')
+    has_mapped_row(v1, '\u{1EAD}')
 }
 
 fn tells_its_composites(v1: &Version) -> Result<(), Fail> {
