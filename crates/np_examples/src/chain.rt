@@ -1,4 +1,3 @@
 //! Worked examples: the fixtures against one another, and against themselves with a line altered.
 mod audits;
 mod chains;
-mod refused;

@@ -7,9 +7,11 @@ mod tables;
 mod versions;
 
 use np_code_points::watched::Watched;
+use np_examples_shared::want;
 use np_ucd::{read_exclusions, read_rows};
 use np_versions::{TableFault, Version};
 use std::alloc::Global;
+use std::test::Fail;
 
 // Two code points, the last of all among them.
 const LAST: &str = "0061;X;Ll;0;L;;;;;N;;;;;\n10FFFF;X;Co;7;L;<compat> 0061;;;;N;;;;;\n";
@@ -25,4 +27,9 @@ fn version(alloc: Global, data: &str, exclusions: &str) -> Result<Version, Table
         (Ok(rows), Ok(exclusions)) => Version::build(alloc, rows, exclusions),
         _ => Err(TableFault::Memory),
     }
+}
+
+/// Fails unless the version assigns so many code points.
+fn has_count(version: &Version, count: u32) -> Result<(), Fail> {
+    want(version.count() == count, "the count")
 }

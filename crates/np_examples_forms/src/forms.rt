@@ -3,7 +3,6 @@ mod canonical_rows;
 mod example;
 mod examples;
 mod guests;
-mod lagging;
 mod laws;
 mod refused;
 mod runs;
@@ -13,7 +12,7 @@ mod streams;
 
 use np_code_points::Form;
 use np_examples_shared::want;
-use np_forms::form;
+use np_forms::{equivalent, form};
 use np_versions::NormTable;
 use std::alloc::Global;
 use std::test::Fail;
@@ -28,4 +27,14 @@ fn wants_form<T: NormTable>(
 ) -> Result<(), Fail> {
     let made = form(alloc, table, wanted, text)?;
     want(made.as_str() == normal, text)
+}
+
+/// Fails unless the texts are canonically equivalent.
+fn wants_equivalent<T: NormTable>(
+    alloc: Global,
+    table: &T,
+    left: &str,
+    right: &str,
+) -> Result<(), Fail> {
+    want(equivalent(alloc, table, false, left, right)?, left)
 }

@@ -2,7 +2,7 @@
 use np_chain::{Break, BreakKind, Chain, ChainFault};
 use np_code_points::Form;
 use np_code_points::told::want_told;
-use np_examples_shared::{Files, GuestTable, S, V1, V2, made_of, tables_of, want};
+use np_examples_shared::{Files, GuestTable, Made, S, V1, V2, made_of, want};
 use np_forms::{first_unassigned, npss};
 use np_tables::RowTable;
 use np_versions::NormTable;
@@ -12,74 +12,104 @@ use std::test::Fail;
 fn is_a_chain<T: NormTable>(tables: &[T]) -> Result<(), Fail> {
     let chain = Chain::check(tables)?;
     want(chain.len() == 2, "of two versions")?;
-    want(chain.at(0).version().count() == 17_660, "the first")?;
-    want(chain.at(1).version().count() == 17_666, "the second")?;
+    let first = chain.at(0).version().count() == 17_660;
+    let second = chain.at(1).version().count() == 17_666;
+    want(first && second, "the first and the second")?;
     want(chain.last().version().count() == 17_666, "the last")
+}
+
+fn make_a_chain<T: Made>(alloc: Global) -> Result<(), Fail> {
+    let tables = made_of::<T>(alloc, &[V1, V2])?;
+    is_a_chain(tables.as_slice())
 }
 
 #[test]
 fn a_chain_extends_at_each_step(rt: HostRuntime) -> Result<(), Fail> {
-    let tables = tables_of(rt.alloc(), &[V1, V2])?;
-    is_a_chain(tables.as_slice())
+    make_a_chain::<RowTable>(rt.alloc())?;
+    // tables of somebody else make one too
+    make_a_chain::<GuestTable>(rt.alloc())
 }
 
-#[test]
-fn tables_of_somebody_else_make_a_chain(rt: HostRuntime) -> Result<(), Fail> {
-    let tables = made_of::<GuestTable>(rt.alloc(), &[V1, V2])?;
-    is_a_chain(tables.as_slice())
+/// Fails unless the last table of the chain gives the text this form.
+fn wants_form<T: NormTable>(
+    alloc: Global,
+    chain: &Chain<'_, T>,
+    form: Form,
+    text: &str,
+) -> Result<(), Fail> {
+    let made = npss(alloc, chain.last(), form, "a\u{302}\u{AC00}")?;
+    want(made.as_str() == text, text)
 }
 
 /// Fails unless borrowed tables make a chain, which lends them.
-fn wants_borrowed(alloc: Global, first: &RowTable, second: &RowTable) -> Result<(), Fail> {
-    let tables = [first, second];
-    let chain = Chain::check(&tables)?;
-    want(!chain.is_empty(), "not empty")?;
-    want(chain.clone()?.tables().len() == 2, "its tables")?;
-    for (form, text) in [
-        (Form::Nfc, "\u{E2}\u{AC00}"),
-        (Form::Nfd, "a\u{302}\u{1100}\u{1161}"),
-    ] {
-        let made = npss(alloc, chain.last(), form, "a\u{302}\u{AC00}")?;
-        want(made.as_str() == text, text)?;
-    }
+fn wants_borrowed<T: NormTable>(alloc: Global, tables: &[T]) -> Result<(), Fail> {
+    let chain = Chain::check(tables)?;
+    let length = !chain.is_empty() && chain.clone()?.tables().len() == 2;
+    want(length, "its tables")?;
+    wants_form(alloc, &chain, Form::Nfc, "\u{E2}\u{AC00}")?;
+    wants_form(alloc, &chain, Form::Nfd, "a\u{302}\u{1100}\u{1161}")?;
     want(
         first_unassigned(chain.at(0), "a\u{1DFA}") == Some(1),
         "not in the first",
     )
 }
 
-#[test]
-fn a_chain_takes_borrowed_tables(rt: HostRuntime) -> Result<(), Fail> {
-    let tables = tables_of(rt.alloc(), &[V1, V2])?;
-    match tables.as_slice() {
-        [first, second] => wants_borrowed(rt.alloc(), first, second),
+fn borrow<T: NormTable>(alloc: Global, tables: &[T]) -> Result<(), Fail> {
+    match tables {
+        [first, second] => wants_borrowed(alloc, &[first, second]),
         _ => Err(Fail::new("two tables")),
     }
 }
 
-#[test]
-fn a_chain_has_a_version(rt: HostRuntime) -> Result<(), Fail> {
-    let fault = Chain::<RowTable>::check(&[]).err();
-    assert!(rt; fault == Some(ChainFault::NoVersion));
-    Ok(())
+fn make_and_borrow<T: Made>(alloc: Global) -> Result<(), Fail> {
+    let tables = made_of::<T>(alloc, &[V1, V2])?;
+    borrow(alloc, tables.as_slice())
 }
 
-/// Fails unless the versions break at that place, where that code point is lost.
-fn wants_broken(alloc: Global, versions: &[Files], at: usize, code: u32) -> Result<(), Fail> {
-    let tables = tables_of(alloc, versions)?;
+#[test]
+fn a_chain_takes_borrowed_tables(rt: HostRuntime) -> Result<(), Fail> {
+    make_and_borrow::<RowTable>(rt.alloc())
+}
+
+#[test]
+fn a_chain_has_a_version(_rt: HostRuntime) -> Result<(), Fail> {
+    let fault = Chain::<RowTable>::check(&[]).err();
+    want(fault == Some(ChainFault::NoVersion), "no version")
+}
+
+fn is_broken<T: NormTable>(tables: &[T], at: usize, code: u32) -> Result<(), Fail> {
     let kind = BreakKind::Lost;
     let brk = Break { kind, code };
-    let fault = Chain::check(tables.as_slice()).err();
+    let fault = Chain::check(tables).err();
     want(fault == Some(ChainFault::Broken { at, brk }), "broken")
 }
 
+/// Fails unless the versions break at that place, where that code point is lost.
+fn wants_broken<T: Made>(
+    alloc: Global,
+    versions: &[Files<'_>],
+    at: usize,
+    code: u32,
+) -> Result<(), Fail> {
+    let tables = made_of::<T>(alloc, versions)?;
+    is_broken(tables.as_slice(), at, code)
+}
+
+// (versions, the first that breaks, what it loses): among them two that break, and one that extends the first and
+// not the one before.
+const BROKEN: [(&[Files], usize, u32); 4] = [
+    (&[V2, V1], 1, 0x1DFA),
+    (&[V2, V1, S], 1, 0x1DFA),
+    (&[V1, V2, V1, S], 2, 0x1DFA),
+    (&[V1, V1, S], 2, 0x61),
+];
+
 #[test]
 fn the_first_version_that_breaks_is_told(rt: HostRuntime) -> Result<(), Fail> {
-    wants_broken(rt.alloc(), &[V2, V1], 1, 0x1DFA)?;
-    // two that break, and one that extends the first and not the one before
-    wants_broken(rt.alloc(), &[V2, V1, S], 1, 0x1DFA)?;
-    wants_broken(rt.alloc(), &[V1, V2, V1, S], 2, 0x1DFA)?;
-    wants_broken(rt.alloc(), &[V1, V1, S], 2, 0x61)
+    for row in &BROKEN {
+        wants_broken::<RowTable>(rt.alloc(), row.0, row.1, row.2)?;
+    }
+    Ok(())
 }
 
 /// Each fault, and how it is told.

@@ -74,24 +74,25 @@ fn an_old_failure_is_no_failure_of_this_input(rt: HostRuntime) -> Result<(), Fai
     gives_all(rt.alloc(), &mut source)
 }
 
-/// How an endless reader ends an input: why, whether it is marked, and after how many reads.
-fn ends_of(alloc: Global, device: Endless) -> (Option<InputFault>, bool, u64) {
+/// Fails unless an endless reader ends an input so, after so many reads; it is marked where a read failed.
+fn wants_end(alloc: Global, device: Endless, wanted: InputFault, calls: u64) -> Result<(), Fail> {
     let mut source = Watched::new(device);
     let fault = read_whole(alloc, &mut source).err();
-    let failed = source.failed();
-    (fault, failed, source.into_inner().calls())
+    want(fault == Some(wanted), "why it ends")?;
+    want(
+        source.failed() == (wanted == InputFault::ReadFailed),
+        "the mark",
+    )?;
+    want(source.into_inner().calls() == calls, "nothing behind it")
 }
 
 #[test]
 fn an_endless_reader_is_too_large(rt: HostRuntime) -> Result<(), Fail> {
-    let (fault, failed, calls) = ends_of(rt.alloc(), Endless::new());
-    want(fault == Some(InputFault::TooLarge), "too large")?;
-    want(!failed && LIMIT == 16_777_216, "no mark")?;
-    want(calls == 257, "256 pieces of 64 KiB, and one byte")?;
+    want(LIMIT == 16_777_216, "the limit")?;
+    // 256 pieces of 64 KiB, and one byte
+    wants_end(rt.alloc(), Endless::new(), InputFault::TooLarge, 257)?;
     let broken = Endless::new().failing_at(200, Failure::Interrupted);
-    let (fault, _, calls) = ends_of(rt.alloc(), broken);
-    want(fault == Some(InputFault::ReadFailed), "a failed read")?;
-    want(calls == 201, "nothing behind it")
+    wants_end(rt.alloc(), broken, InputFault::ReadFailed, 201)
 }
 
 /// Each fault, and how it is told.

@@ -3,25 +3,38 @@
 use np_code_points::Memory;
 use np_code_points::codes::write_code;
 use np_code_points::text::{chars_of, string_of};
-use np_examples_shared::{again, want};
+use np_examples_shared::want;
+use std::alloc::Global;
 use std::test::Fail;
+
+const TEXT: &str = "\u{61}\u{302}";
+
+const CHARS: [char; 2] = ['\u{61}', '\u{302}'];
+
+fn chars_again(alloc: Global) -> Result<Vec<char>, Memory> {
+    match chars_of(alloc, TEXT) {
+        Err(Memory) => chars_of(alloc, TEXT),
+        made => made,
+    }
+}
 
 #[test]
 fn a_refused_chars_of_succeeds_after_all(rt: HostRuntime) -> Result<(), Fail> {
-    let alloc = rt.alloc();
-    let chars = again(&Memory, &|| chars_of(alloc, "\u{61}\u{302}"))?;
-    want(
-        chars.as_slice() == ['\u{61}', '\u{302}'].as_slice(),
-        "two code points",
-    )
+    let same = chars_again(rt.alloc())?.as_slice() == CHARS.as_slice();
+    want(same, "two code points")
+}
+
+fn string_again(alloc: Global) -> Result<String, Memory> {
+    match string_of(alloc, &CHARS) {
+        Err(Memory) => string_of(alloc, &CHARS),
+        made => made,
+    }
 }
 
 #[test]
 fn a_refused_string_of_succeeds_after_all(rt: HostRuntime) -> Result<(), Fail> {
-    let chars = ['\u{61}', '\u{302}'];
-    let alloc = rt.alloc();
-    let text = again(&Memory, &|| string_of(alloc, chars.as_slice()))?;
-    want(text.as_str() == "\u{61}\u{302}", "their text")
+    let same = string_again(rt.alloc())?.as_str() == TEXT;
+    want(same, "their text")
 }
 
 /// Appends a code, a second time where memory is refused for it.

@@ -1,26 +1,24 @@
 //! Texts, codes, forms' names and syllables.
-use np_code_points::codes::{code_of, hex_value, scalar_of, write_code};
+use np_code_points::Form;
+use np_code_points::codes::{code_of, hex_value, scalar_of};
 use np_code_points::hangul::{hangul_pair, hangul_parts};
 use np_code_points::text::{NotUtf8, chars_of, string_of, text_of};
 use np_code_points::told::want_told;
-use np_code_points::{Form, Memory};
 use np_examples_shared::want;
 use std::alloc::Global;
 use std::test::Fail;
 
-/// The code points of a text, and the text again.
-fn goes_back(alloc: Global, text: &str, codes: &[char]) -> Result<(), Fail> {
-    let chars = chars_of(alloc, text)?;
-    want(chars.as_slice() == codes, "code points")?;
-    let string = string_of(alloc, codes)?;
-    want(string.as_str() == text, "back")
-}
+// (bytes, the text that they are, or the first that are none)
+const TEXTS: [(&[u8], Result<&str, NotUtf8>); 2] = [
+    (b"\x61\xcc\x82", Ok("\u{61}\u{302}")),
+    (b"a\xcc", Err(NotUtf8 { at: 1 })),
+];
 
-#[test]
-fn a_text_is_its_code_points_and_back(rt: HostRuntime) -> Result<(), Fail> {
-    want(text_of(b"\x61\xcc\x82") == Ok("\u{61}\u{302}"), "text")?;
-    want(text_of(b"a\xcc") == Err(NotUtf8 { at: 1 }), "no text")?;
-    goes_back(rt.alloc(), "\u{61}\u{302}", &['\u{61}', '\u{302}'])
+fn read_texts(rows: &[(&[u8], Result<&str, NotUtf8>)]) -> Result<(), Fail> {
+    for row in rows {
+        want(text_of(row.0) == row.1, "a text")?;
+    }
+    Ok(())
 }
 
 // (bytes, the code point that they stand for)
@@ -34,8 +32,8 @@ const CODES: [(&[u8], Option<u32>); 6] = [
 ];
 
 fn read_codes(rows: &[(&[u8], Option<u32>)]) -> Result<(), Fail> {
-    for (bytes, code) in rows {
-        want(code_of(bytes) == *code, "a code")?;
+    for row in rows {
+        want(code_of(row.0) == row.1, "a code")?;
     }
     Ok(())
 }
@@ -50,48 +48,27 @@ const SCALARS: [(&[u8], Option<char>); 5] = [
 ];
 
 fn read_scalars(rows: &[(&[u8], Option<char>)]) -> Result<(), Fail> {
-    for (word, scalar) in rows {
-        want(scalar_of(word) == *scalar, "a scalar")?;
+    for row in rows {
+        want(scalar_of(row.0) == row.1, "a scalar")?;
     }
     Ok(())
 }
 
 #[test]
-fn surrogates_are_no_scalars(_rt: HostRuntime) -> Result<(), Fail> {
-    want(hex_value(b'f') == Some(15), "a digit")?;
-    want(hex_value(b'G').is_none(), "no digit")?;
-    read_scalars(&SCALARS)
-}
-
-fn written(alloc: Global, code: u32) -> Result<String, Memory> {
-    let mut text = String::new(alloc);
-    write_code(&mut text, code)?;
-    Ok(text)
-}
-
-#[test]
-fn codes_are_read_and_written(rt: HostRuntime) -> Result<(), Fail> {
+fn texts_and_codes_are_read(_rt: HostRuntime) -> Result<(), Fail> {
+    read_texts(&TEXTS)?;
     read_codes(&CODES)?;
-    want(written(rt.alloc(), 0x41)?.as_str() == "0041", "four digits")?;
-    want(written(rt.alloc(), 0x16D67)?.as_str() == "16D67", "five")?;
-    want(written(rt.alloc(), 0x10FFFF)?.as_str() == "10FFFF", "six")
-}
-
-#[test]
-fn codes_are_appended(rt: HostRuntime) -> Result<(), Fail> {
-    let mut text = written(rt.alloc(), 0x41)?;
-    write_code(&mut text, 0x16D67)?;
-    want(text.as_str() == "004116D67", "one behind the other")
+    read_scalars(&SCALARS)?;
+    let digits = hex_value(b'f') == Some(15) && hex_value(b'G').is_none();
+    want(digits, "a digit, and no digit")
 }
 
 #[test]
 fn forms_have_names_and_bytes(_rt: HostRuntime) -> Result<(), Fail> {
-    want(Form::of_name("nfkc") == Some(Form::Nfkc), "a name")?;
-    want(Form::of_name("NFC").is_none(), "a name in capitals")?;
-    want(
-        Form::of_byte(Form::Nfkd.byte()) == Some(Form::Nfkd),
-        "a byte",
-    )?;
+    let names = Form::of_name("nfkc") == Some(Form::Nfkc) && Form::of_name("NFC").is_none();
+    want(names, "a name, and none in capitals")?;
+    let back = Form::of_byte(Form::Nfkd.byte()) == Some(Form::Nfkd);
+    want(back, "a byte")?;
     want(Form::Nfkd.compat() && Form::Nfc.composes(), "what they are")
 }
 
@@ -105,8 +82,22 @@ const PAIRS: [(char, char, Option<char>); 5] = [
 ];
 
 fn compose(rows: &[(char, char, Option<char>)]) -> Result<(), Fail> {
-    for (first, second, syllable) in rows {
-        want(hangul_pair(*first, *second) == *syllable, "a pair")?;
+    for row in rows {
+        want(hangul_pair(row.0, row.1) == row.2, "a pair")?;
+    }
+    Ok(())
+}
+
+// (a code point, its two parts): AC01, the last syllable, and what is behind it.
+const PARTS: [(char, Option<(char, char)>); 3] = [
+    ('\u{AC01}', Some(('\u{AC00}', '\u{11A8}'))),
+    ('\u{D7A3}', Some(('\u{D788}', '\u{11C2}'))),
+    ('\u{D7A4}', None),
+];
+
+fn decompose(rows: &[(char, Option<(char, char)>)]) -> Result<(), Fail> {
+    for row in rows {
+        want(hangul_parts(row.0) == row.1, "two parts")?;
     }
     Ok(())
 }
@@ -114,27 +105,21 @@ fn compose(rows: &[(char, char, Option<char>)]) -> Result<(), Fail> {
 #[test]
 fn syllables_map_to_pairs(_rt: HostRuntime) -> Result<(), Fail> {
     compose(&PAIRS)?;
-    let parts = hangul_parts('\u{AC01}');
-    want(parts == Some(('\u{AC00}', '\u{11A8}')), "AC01")?;
-    let parts = hangul_parts('\u{D7A3}');
-    want(parts == Some(('\u{D788}', '\u{11C2}')), "the last one")?;
-    want(hangul_parts('\u{D7A4}').is_none(), "none behind it")
+    decompose(&PARTS)
 }
 
-/// How many code points and how many bytes the text of `count` times `c` comes back with.
-fn there_and_back(alloc: Global, c: char, count: usize) -> Result<(usize, usize), Fail> {
-    let chars = vec![in alloc; c; count]?;
-    let text = string_of(alloc, chars.as_slice())?;
-    let back = chars_of(alloc, text.as_str())?;
-    Ok((back.len(), text.len()))
+/// Fails unless the code points have a text of so many bytes, and come back from it.
+fn come_back(alloc: Global, chars: &[char], bytes: usize) -> Result<(), Fail> {
+    let text = string_of(alloc, chars)?;
+    want(text.len() == bytes, "the bytes of the text")?;
+    want(chars_of(alloc, text.as_str())?.as_slice() == chars, "back")
 }
 
 #[test]
 fn long_texts_have_memory(rt: HostRuntime) -> Result<(), Fail> {
     // 2 MiB and more of memory that is there
-    let sizes = there_and_back(rt.alloc(), '\u{E2}', 1_048_577)?;
-    assert_eq!(rt; sizes, (1_048_577, 2_097_154));
-    Ok(())
+    let chars = vec![in rt.alloc(); '\u{E2}'; 1_048_577]?;
+    come_back(rt.alloc(), chars.as_slice(), 2_097_154)
 }
 
 #[test]

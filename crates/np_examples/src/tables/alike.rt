@@ -1,56 +1,33 @@
 //! The plain table and the table of pages beside each other.
 use super::LAST;
 use np_code_points::hangul::is_syllable;
-use np_examples_shared::{Example, Files, Made, S, V1, V2, holds_over, want};
+use np_examples_shared::{Files, Made, S, V1, V2, table_of, want};
 use np_tables::{PageTable, RowTable};
 use np_versions::NormTable;
 use std::alloc::Global;
 use std::test::Fail;
 
-// Second parts of pairs, and neighbours of theirs; 11A7 is no trailing consonant.
-const SECONDS: [char; 12] = [
-    '\u{0}',
-    '\u{301}',
-    '\u{302}',
-    '\u{308}',
-    '\u{30A}',
-    '\u{323}',
-    '\u{93C}',
-    '\u{1161}',
-    '\u{11A7}',
-    '\u{11A8}',
-    '\u{16D67}',
-    '\u{10FFFF}',
+// First parts of pairs and second parts, and neighbours of theirs; 11A7 is no trailing consonant.
+const PARTS: [(char, char); 12] = [
+    ('\u{0}', '\u{0}'),
+    ('\u{41}', '\u{301}'),
+    ('\u{61}', '\u{302}'),
+    ('\u{308}', '\u{308}'),
+    ('\u{915}', '\u{30A}'),
+    ('\u{1100}', '\u{323}'),
+    ('\u{1EA1}', '\u{93C}'),
+    ('\u{AC00}', '\u{1161}'),
+    ('\u{AC01}', '\u{11A7}'),
+    ('\u{D788}', '\u{11A8}'),
+    ('\u{16D67}', '\u{16D67}'),
+    ('\u{10FFFF}', '\u{10FFFF}'),
 ];
 
-// First parts of pairs, and others.
-const FIRSTS: [char; 12] = [
-    '\u{0}',
-    '\u{41}',
-    '\u{61}',
-    '\u{308}',
-    '\u{915}',
-    '\u{1100}',
-    '\u{1EA1}',
-    '\u{AC00}',
-    '\u{AC01}',
-    '\u{D788}',
-    '\u{16D67}',
-    '\u{10FFFF}',
-];
-
-fn same_before<T: NormTable, U: NormTable>(one: &T, two: &U, first: char) -> bool {
-    for second in &SECONDS {
-        if one.pair(first, *second) != two.pair(first, *second) {
-            return false;
-        }
-    }
-    true
-}
-
-fn same_behind<T: NormTable, U: NormTable>(one: &T, two: &U, second: char) -> bool {
-    for first in &FIRSTS {
-        if one.pair(*first, second) != two.pair(*first, second) {
+/// Whether both say the same of the pairs that a code point begins and those that it ends.
+fn same_pairs<T: NormTable, U: NormTable>(one: &T, two: &U, c: char) -> bool {
+    for row in &PARTS {
+        let begins = one.pair(c, row.1) == two.pair(c, row.1);
+        if !begins || one.pair(row.0, c) != two.pair(row.0, c) {
             return false;
         }
     }
@@ -61,11 +38,6 @@ fn same_answers<T: NormTable, U: NormTable>(one: &T, two: &U, c: char) -> bool {
     one.class(c) == two.class(c)
         && one.full(c, false) == two.full(c, false)
         && one.full(c, true) == two.full(c, true)
-}
-
-/// The pairs that a code point begins and those that it ends.
-fn same_pairs<T: NormTable, U: NormTable>(one: &T, two: &U, c: char) -> bool {
-    same_before(one, two, c) && same_behind(one, two, c)
 }
 
 /// Whether a code point lies in one of the two long ranges, of syllables and of private use.
@@ -87,47 +59,54 @@ fn same_of<T: NormTable, U: NormTable>(one: &T, two: &U, c: char) -> bool {
     same_answers(one, two, c) && (is_of_many(code) || same_pairs(one, two, c))
 }
 
-fn answer_alike<T: NormTable, U: NormTable>(one: &T, two: &U) -> Result<(), Fail> {
-    want(one.hangul() == two.hangul(), "the arithmetic")?;
+fn same_at<T: NormTable, U: NormTable>(one: &T, two: &U, code: u32) -> bool {
+    match char::from_u32(code) {
+        Some(c) => same_of(one, two, c),
+        None => true,
+    }
+}
+
+fn same_everywhere<T: NormTable, U: NormTable>(one: &T, two: &U) -> bool {
     for code in 0..0x110000 {
-        if let Some(c) = char::from_u32(code) {
-            want(same_of(one, two, c), "a code point")?;
+        if !same_at(one, two, code) {
+            return false;
         }
     }
-    for first in &FIRSTS {
-        want(same_before(one, two, *first), "a pair")?;
+    true
+}
+
+fn same_between_parts<T: NormTable, U: NormTable>(one: &T, two: &U) -> bool {
+    for row in &PARTS {
+        if !same_pairs(one, two, row.0) {
+            return false;
+        }
     }
-    Ok(())
+    true
 }
 
-/// The plain table answers as another one does.
-#[derive(Drop)]
-struct Like<'t, U> {
-    other: &'t U,
+fn answer_alike<T: NormTable, U: NormTable>(one: &T, two: &U) -> Result<(), Fail> {
+    want(one.hangul() == two.hangul(), "the arithmetic")?;
+    want(same_everywhere(one, two), "a code point")?;
+    want(same_between_parts(one, two), "a pair")
 }
 
-impl<'t, U: NormTable> Example for Like<'t, U> {
-    fn holds<T: Made>(&self, _alloc: Global, table: &T) -> Result<(), Fail> {
-        answer_alike(table, self.other)
-    }
+/// Fails unless a table of the files answers as another one does.
+fn answers_as<T: Made, U: Made>(alloc: Global, one: &T, files: Files<'_>) -> Result<(), Fail> {
+    let two: U = table_of(alloc, files)?;
+    answer_alike(one, &two)
 }
 
-/// A table answers as the plain one of the same files does.
-#[derive(Drop)]
-struct LikePlain<'t> {
-    files: Files<'t>,
+fn both_answer_alike<T: Made, U: Made>(alloc: Global, files: Files<'_>) -> Result<(), Fail> {
+    let one: T = table_of(alloc, files)?;
+    answers_as::<T, U>(alloc, &one, files)
 }
 
-impl<'t> Example for LikePlain<'t> {
-    fn holds<T: Made>(&self, alloc: Global, table: &T) -> Result<(), Fail> {
-        holds_over::<RowTable, Like<'_, T>>(alloc, self.files, &Like { other: table })
-    }
-}
+const EACH: [Files; 4] = [V1, V2, S, (LAST, "")];
 
 #[test]
 fn both_tables_answer_alike_for_every_code_point(rt: HostRuntime) -> Result<(), Fail> {
-    for files in [V1, V2, S, (LAST, "")] {
-        holds_over::<PageTable, LikePlain<'_>>(rt.alloc(), files, &LikePlain { files })?;
+    for files in &EACH {
+        both_answer_alike::<RowTable, PageTable>(rt.alloc(), *files)?;
     }
     Ok(())
 }

@@ -125,13 +125,14 @@ const BOUNDARIES: [(Form, char, bool); 8] = [
 ];
 
 fn tells_quick_spans<T: NormTable>(table: &T, rows: &[(Form, &str, usize)]) -> Result<(), Fail> {
-    for (form, text, count) in rows {
-        want(table.quick_span(*form, false, text).count == *count, text)?;
+    for row in rows {
+        let span = table.quick_span(row.0, false, row.1);
+        want(span.count == row.2, row.1)?;
     }
     Ok(())
 }
 
-// Whether a boundary is told to be behind what passes at the front of a text.
+// Whether a boundary is told to be behind the front of a text that passes.
 const ENDING: [(Form, &str, bool); 4] = [
     (Form::Nfd, "A\u{E2}", true),
     (Form::Nfc, "A\u{302}", false),
@@ -139,39 +140,34 @@ const ENDING: [(Form, &str, bool); 4] = [
     (Form::Nfc, "A", true),
 ];
 
-fn tells_where_runs_end<T: NormTable>(table: &T, rows: &[(Form, &str, bool)]) -> Result<(), Fail> {
-    for (form, text, parts) in rows {
-        want(
-            table.quick_span(*form, false, text).boundary == *parts,
-            text,
-        )?;
+fn tells_boundaries_behind<T: NormTable>(
+    table: &T,
+    rows: &[(Form, &str, bool)],
+) -> Result<(), Fail> {
+    for row in rows {
+        let span = table.quick_span(row.0, false, row.1);
+        want(span.boundary == row.2, row.1)?;
     }
     Ok(())
 }
 
-fn tells_what_stands_assigned<T: NormTable>(
+fn tells_assigned_spans<T: NormTable>(
     table: &T,
     rows: &[(Form, &str, usize, usize)],
 ) -> Result<(), Fail> {
-    for (form, text, any, assigned) in rows {
-        want(table.quick_span(*form, false, text).count == *any, text)?;
-        want(table.quick_span(*form, true, text).count == *assigned, text)?;
+    for row in rows {
+        let any = table.quick_span(row.0, false, row.1).count == row.2;
+        let assigned = table.quick_span(row.0, true, row.1).count == row.3;
+        want(any && assigned, row.1)?;
     }
     Ok(())
 }
 
 fn tells_boundaries<T: NormTable>(table: &T, rows: &[(Form, char, bool)]) -> Result<(), Fail> {
-    for (form, c, parts) in rows {
-        want(table.is_boundary(*form, *c) == *parts, "parts")?;
+    for row in rows {
+        want(table.is_boundary(row.0, row.1) == row.2, "a boundary")?;
     }
     Ok(())
-}
-
-fn tells_what_forms_leave<T: NormTable>(table: &T) -> Result<(), Fail> {
-    tells_quick_spans(table, &QUICK_SPANS)?;
-    tells_what_stands_assigned(table, &LACKING)?;
-    tells_where_runs_end(table, &ENDING)?;
-    tells_boundaries(table, &BOUNDARIES)
 }
 
 // The form of a code point by itself: none is told where it has no mapping of the kind, or where its full
@@ -199,16 +195,17 @@ fn has_precomputed<T: NormTable>(table: &T, form: Form, c: char, text: &str) -> 
     }
 }
 
-fn has_each<T: NormTable>(table: &T) -> Result<(), Fail> {
-    for (form, c, text) in &PRECOMPUTED {
-        want(has_precomputed(&table, *form, *c, text), text)?;
+fn has_each<T: NormTable>(table: &T, rows: &[(Form, char, &str)]) -> Result<(), Fail> {
+    for row in rows {
+        // a borrowed table keeps what the table keeps
+        want(has_precomputed(&table, row.0, row.1, row.2), row.2)?;
     }
     Ok(())
 }
 
-fn has_none<T: NormTable>(table: &T) -> Result<(), Fail> {
-    for (form, c, text) in &PRECOMPUTED {
-        want(has_precomputed(table, *form, *c, ""), text)?;
+fn has_none<T: NormTable>(table: &T, rows: &[(Form, char, &str)]) -> Result<(), Fail> {
+    for row in rows {
+        want(has_precomputed(table, row.0, row.1, ""), row.2)?;
     }
     Ok(())
 }
@@ -228,85 +225,70 @@ const FORMS: [Form; 4] = [Form::Nfd, Form::Nfc, Form::Nfkd, Form::Nfkc];
 /// it is wanted.
 fn tells_once<T: NormTable>(table: &T, leads: bool, ascii: bool) -> bool {
     for form in &FORMS {
-        if table.leading_consonants_are_boundaries(*form) != leads
-            || table.ascii_passes(*form) != ascii
-        {
+        let boundaries = table.leading_consonants_are_boundaries(*form);
+        if boundaries != leads || table.ascii_passes(*form) != ascii {
             return false;
         }
     }
     true
 }
 
+/// What a table of pages tells of the first fixture.
+fn tells_of_the_first<T: NormTable>(table: &T) -> Result<(), Fail> {
+    tells_assigned_spans(table, &LACKING)?;
+    tells_boundaries_behind(table, &ENDING)?;
+    tells_boundaries(table, &BOUNDARIES)?;
+    has_each(table, &PRECOMPUTED)
+}
+
 /// What a table of pages tells beforehand, and a plain table doesn't.
 #[derive(Clone, Copy)]
 enum Hint {
-    QuickSpan,
-    Points,
-    Accents,
-    Precomputed,
-    LeadingConsonants,
-    AsciiPasses,
+    /// Quick spans of so many bytes.
+    Spans(&'static [(Form, &'static str, usize)]),
+    /// What else is told of the first fixture.
+    First,
+    /// That no form is precomputed.
     NonePrecomputed,
-    Neither,
+    /// Whether leading consonants are boundaries, and whether ASCII passes.
+    Once(bool, bool),
 }
 
 impl Example for Hint {
     fn holds<T: Made>(&self, _alloc: Global, table: &T) -> Result<(), Fail> {
         match self {
-            Hint::QuickSpan => tells_what_forms_leave(table),
-            Hint::Points => tells_quick_spans(table, &HEBREW_SPANS),
-            Hint::Accents => tells_quick_spans(table, &ACCENTED_SPANS),
-            Hint::Precomputed => has_each(table),
-            Hint::LeadingConsonants => want(
-                tells_once(&table, true, false),
-                "leading consonants are boundaries",
-            ),
-            Hint::AsciiPasses => want(tells_once(table, true, true), "ASCII passes"),
-            Hint::NonePrecomputed => has_none(table),
-            Hint::Neither => want(
-                tells_once(table, false, false),
-                "a plain table tells neither",
+            Hint::Spans(rows) => tells_quick_spans(table, rows),
+            Hint::First => tells_of_the_first(table),
+            Hint::NonePrecomputed => has_none(table, &PRECOMPUTED),
+            Hint::Once(leads, ascii) => want(
+                tells_once(&table, *leads, *ascii),
+                "leading consonants are boundaries, and ASCII passes",
             ),
         }
     }
 }
 
 #[test]
-fn what_passes_is_told_and_boundaries_are_before_starters(rt: HostRuntime) -> Result<(), Fail> {
-    holds_over::<PageTable, Hint>(rt.alloc(), V1, &Hint::QuickSpan)
+fn quick_spans_are_of_what_passes_the_quick_check(rt: HostRuntime) -> Result<(), Fail> {
+    let alloc = rt.alloc();
+    holds_over::<PageTable, Hint>(alloc, V1, &Hint::Spans(&QUICK_SPANS))?;
+    holds_over::<PageTable, Hint>(alloc, HEBREW, &Hint::Spans(&HEBREW_SPANS))?;
+    holds_over::<PageTable, Hint>(alloc, ACCENTS, &Hint::Spans(&ACCENTED_SPANS))
 }
 
 #[test]
-fn points_stand_in_their_canonical_order(rt: HostRuntime) -> Result<(), Fail> {
-    holds_over::<PageTable, Hint>(rt.alloc(), HEBREW, &Hint::Points)
+fn boundaries_and_precomputed_forms_are_told(rt: HostRuntime) -> Result<(), Fail> {
+    holds_over::<PageTable, Hint>(rt.alloc(), V1, &Hint::First)
 }
 
 #[test]
-fn accents_stand_behind_composites(rt: HostRuntime) -> Result<(), Fail> {
-    holds_over::<PageTable, Hint>(rt.alloc(), ACCENTS, &Hint::Accents)
+fn what_holds_of_each_form_is_told_once(rt: HostRuntime) -> Result<(), Fail> {
+    holds_over::<PageTable, Hint>(rt.alloc(), V1, &Hint::Once(true, false))?;
+    holds_over::<PageTable, Hint>(rt.alloc(), ASCII, &Hint::Once(true, true))
 }
 
 #[test]
-fn forms_of_single_code_points_are_precomputed(rt: HostRuntime) -> Result<(), Fail> {
-    holds_over::<PageTable, Hint>(rt.alloc(), V1, &Hint::Precomputed)
-}
-
-#[test]
-fn a_plain_table_precomputes_nothing(rt: HostRuntime) -> Result<(), Fail> {
-    holds_over::<RowTable, Hint>(rt.alloc(), V1, &Hint::NonePrecomputed)
-}
-
-#[test]
-fn that_leading_consonants_are_boundaries_is_told_once(rt: HostRuntime) -> Result<(), Fail> {
-    holds_over::<PageTable, Hint>(rt.alloc(), V1, &Hint::LeadingConsonants)
-}
-
-#[test]
-fn that_ascii_passes_is_told_once(rt: HostRuntime) -> Result<(), Fail> {
-    holds_over::<PageTable, Hint>(rt.alloc(), ASCII, &Hint::AsciiPasses)
-}
-
-#[test]
-fn a_plain_table_tells_neither(rt: HostRuntime) -> Result<(), Fail> {
-    holds_over::<RowTable, Hint>(rt.alloc(), ASCII, &Hint::Neither)
+fn a_plain_table_tells_nothing(rt: HostRuntime) -> Result<(), Fail> {
+    holds_over::<RowTable, Hint>(rt.alloc(), V1, &Hint::NonePrecomputed)?;
+    holds_over::<RowTable, Hint>(rt.alloc(), ASCII, &Hint::Once(false, false))
 }

@@ -1,42 +1,32 @@
 //! Versions and tables that were refused for want of memory, and are made of the same files after all.
+use super::{has_count, version};
 use np_code_points::Memory;
 use np_code_points::fixtures::{V1_DATA, V1_EXCLUSIONS};
-use np_code_points::watched::Watched;
 use np_examples_shared::{Made, V1, table_of, version_of, want};
 use np_tables::{PageTable, RowTable};
-use np_ucd::{read_exclusions, read_rows};
 use np_versions::{NormTable, TableFault, Version};
 use std::alloc::Global;
 use std::test::Fail;
 
 /// What a table has for the worked examples.
 fn answers<T: NormTable>(table: &T) -> Result<(), Fail> {
-    let pair = table.pair('\u{61}', '\u{323}');
-    want(pair == Some('\u{1EA1}'), "a pair")?;
-    let full = table.full('\u{1EAD}', false);
-    want(
-        full == ['\u{61}', '\u{323}', '\u{302}'].as_slice(),
-        "a full decomposition",
-    )
+    let pair = table.pair('\u{61}', '\u{323}') == Some('\u{1EA1}');
+    let full = table.full('\u{1EAD}', false) == ['\u{61}', '\u{323}', '\u{302}'].as_slice();
+    want(pair && full, "a pair and a full decomposition")
 }
 
 /// The version, of its files read anew where memory was refused to the first one.
-fn version_again(alloc: Global) -> Result<Version, Fail> {
-    let rows = read_rows(alloc, &mut Watched::new(V1_DATA.as_bytes()))?;
-    let exclusions = read_exclusions(alloc, &mut Watched::new(V1_EXCLUSIONS.as_bytes()))?;
-    match Version::build(alloc, rows, exclusions) {
-        Err(TableFault::Memory) => version_of(alloc, V1),
-        answer => Ok(answer?),
+fn version_again(alloc: Global) -> Result<Version, TableFault> {
+    match version(alloc, V1_DATA, V1_EXCLUSIONS) {
+        Err(TableFault::Memory) => version(alloc, V1_DATA, V1_EXCLUSIONS),
+        answer => answer,
     }
-}
-
-fn count_again(alloc: Global) -> Result<u32, Fail> {
-    Ok(version_again(alloc)?.count())
 }
 
 #[test]
 fn a_refused_build_succeeds_after_all(rt: HostRuntime) -> Result<(), Fail> {
-    want(count_again(rt.alloc())? == 17_660, "its code points")
+    let v1 = version_again(rt.alloc())?;
+    has_count(&v1, 17_660)
 }
 
 /// The table, of its files read anew where memory was refused to the first one.

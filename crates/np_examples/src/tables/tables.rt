@@ -28,53 +28,43 @@ const PAIRS: [(char, char, Option<char>); 14] = [
 ];
 
 // Full decompositions of either kind.
-const FULLS: [(char, bool, &str); 4] = [
-    ('\u{1EAD}', false, "\u{61}\u{323}\u{302}"),
-    ('\u{FB01}', true, "\u{66}\u{69}"),
-    ('\u{FB01}', false, ""),
-    ('\u{AC01}', false, ""),
+const FULLS: [(char, bool, &[char]); 4] = [
+    ('\u{1EAD}', false, &['\u{61}', '\u{323}', '\u{302}']),
+    ('\u{FB01}', true, &['\u{66}', '\u{69}']),
+    ('\u{FB01}', false, &[]),
+    ('\u{AC01}', false, &[]),
 ];
 
 fn has_pairs<T: NormTable>(table: &T, rows: &[(char, char, Option<char>)]) -> Result<(), Fail> {
-    for (first, second, composite) in rows {
-        want(table.pair(*first, *second) == *composite, "a pair")?;
+    for row in rows {
+        want(table.pair(row.0, row.1) == row.2, "a pair")?;
     }
     Ok(())
 }
 
-fn has_fulls<T: NormTable>(table: &T, rows: &[(char, bool, &str)]) -> Result<(), Fail> {
-    for (c, compat, decomposition) in rows {
-        want(
-            table
-                .full(*c, *compat)
-                .iter()
-                .copied()
-                .eq(decomposition.chars()),
-            decomposition,
-        )?;
+fn has_fulls<T: NormTable>(table: &T, rows: &[(char, bool, &[char])]) -> Result<(), Fail> {
+    for row in rows {
+        want(table.full(row.0, row.1) == row.2, "a decomposition")?;
     }
     Ok(())
 }
 
 fn answers_by_its_version<T: NormTable>(table: &T) -> Result<(), Fail> {
     want(table.version().count() == 17_660, "all are assigned")?;
-    want(table.class('\u{302}') == 230, "a class")?;
-    want(table.hangul(), "the arithmetic")?;
-    want(table.assigned('\u{212B}'), "an assigned one")?;
-    want(!table.assigned('\u{16D67}'), "one that is not")?;
+    let told = table.class('\u{302}') == 230 && table.hangul();
+    want(told, "a class, and the arithmetic")?;
+    let assigned = table.assigned('\u{212B}') && !table.assigned('\u{16D67}');
+    want(assigned, "an assigned one, and one that is not")?;
     has_pairs(table, &PAIRS)?;
     has_fulls(table, &FULLS)
 }
 
 fn answers_the_last<T: NormTable>(table: &T) -> Result<(), Fail> {
     want(table.version().count() == 2, "two are assigned")?;
-    want(table.assigned('\u{10FFFF}'), "the last is assigned")?;
-    want(!table.assigned('\u{10FFFE}'), "the one before is not")?;
+    let assigned = table.assigned('\u{10FFFF}') && !table.assigned('\u{10FFFE}');
+    want(assigned, "the last is assigned, and the one before is not")?;
     want(table.class('\u{10FFFF}') == 7, "the last has its class")?;
-    want(
-        table.full('\u{10FFFF}', true) == ['a'].as_slice(),
-        "and its mapping",
-    )
+    has_fulls(table, &[('\u{10FFFF}', true, &['a'])])
 }
 
 const MANY: u32 = 70_000;
@@ -92,13 +82,9 @@ fn many_rows(alloc: Global) -> Result<String, Fail> {
 
 fn answers_many<T: NormTable>(table: &T) -> Result<(), Fail> {
     want(table.version().count() == MANY + 1, "all are assigned")?;
+    want(!table.assigned('\u{31170}'), "none is behind the last")?;
     // 20000 and 69,999 more
-    let last = '\u{3116F}';
-    want(
-        table.full(last, true) == ['a'].as_slice(),
-        "the last one maps",
-    )?;
-    want(!table.assigned('\u{31170}'), "none is behind it")
+    has_fulls(table, &[('\u{3116F}', true, &['a'])])
 }
 
 fn answers_no_syllables<T: NormTable>(off: &T) -> Result<(), Fail> {
@@ -128,12 +114,11 @@ impl Example for Shown {
 
 #[test]
 fn tables_answer_by_their_version(rt: HostRuntime) -> Result<(), Fail> {
-    holds_over_each(rt.alloc(), V1, &Shown::First)
-}
-
-#[test]
-fn the_last_code_point_is_one_like_others(rt: HostRuntime) -> Result<(), Fail> {
-    holds_over_each(rt.alloc(), (LAST, ""), &Shown::Last)
+    holds_over_each(rt.alloc(), V1, &Shown::First)?;
+    // the last code point is one like others
+    holds_over_each(rt.alloc(), (LAST, ""), &Shown::Last)?;
+    // no syllable goes by arithmetic where the jamo lack
+    holds_over_each(rt.alloc(), S, &Shown::NoSyllables)
 }
 
 #[test]
@@ -142,16 +127,15 @@ fn many_rows_have_memory(rt: HostRuntime) -> Result<(), Fail> {
     holds_over_each(rt.alloc(), (data.as_str(), ""), &Shown::Many)
 }
 
-#[test]
-fn no_syllable_goes_by_arithmetic_where_the_jamo_lack(rt: HostRuntime) -> Result<(), Fail> {
-    holds_over_each(rt.alloc(), S, &Shown::NoSyllables)
+/// A table shows how many rows its version has, and none of them.
+fn shows<T: fmt::Debug>(alloc: Global, table: &T, wanted: &str) -> Result<(), Fail> {
+    let shown = format!(in alloc; "{table:?}")?;
+    want(shown.as_str() == wanted, wanted)
 }
 
-/// A table shows how many rows its version has, and none of them.
 fn shows_its_rows<T: Made + fmt::Debug>(alloc: Global, wanted: &str) -> Result<(), Fail> {
     let table: T = table_of(alloc, V1)?;
-    let shown = format!(in alloc; "{table:?}")?;
-    want(shown.as_str() == wanted, "what a table shows")
+    shows(alloc, &table, wanted)
 }
 
 #[test]

@@ -1,65 +1,59 @@
 //! Versions: what they tell of their files, and the faults of files that give none.
-use super::version;
-use np_code_points::fixtures::{
-    S_DATA, S_EXCLUSIONS, V1_DATA, V1_EXCLUSIONS, V2_DATA, V2_EXCLUSIONS,
-};
+use super::{has_count, version};
+use np_code_points::fixtures::{V1_DATA, V1_EXCLUSIONS, V2_DATA, V2_EXCLUSIONS};
 use np_code_points::told::want_told;
-use np_examples_shared::want;
+use np_examples_shared::{Files, S, V1, version_of, want};
 use np_ucd::MapKind;
-use np_versions::{TableFault, Version, mapped_code};
+use np_versions::{Pairs, TableFault, Version, mapped_code};
 use std::alloc::{AllocError, Global};
 use std::test::Fail;
 
-fn count_of(alloc: Global, data: &str, exclusions: &str) -> Result<u32, TableFault> {
-    Ok(version(alloc, data, exclusions)?.count())
-}
-
 fn wants_count(alloc: Global, data: &str, exclusions: &str, count: u32) -> Result<(), Fail> {
-    want(count_of(alloc, data, exclusions)? == count, "the count")
+    let version = version(alloc, data, exclusions)?;
+    has_count(&version, count)
 }
 
 #[test]
 fn code_points_are_counted(rt: HostRuntime) -> Result<(), Fail> {
     wants_count(rt.alloc(), "", "", 0)?;
-    wants_count(rt.alloc(), V1_DATA, V1_EXCLUSIONS, 17_660)?;
+    // the first fixture's are counted in the test of `build`
     wants_count(rt.alloc(), V2_DATA, V2_EXCLUSIONS, 17_666)
 }
 
 fn tells_its_files(v1: &Version) -> Result<(), Fail> {
-    want(v1.assigned_code(0xE001), "in a range")?;
-    want(!v1.assigned_code(0x16D67), "one that is not listed")?;
-    want(v1.class_of(0x323) == 220, "a class")?;
-    want(v1.class_of(0x110000) == 0, "the class of no code point")?;
-    want(v1.kind_of(0xFB01) == MapKind::Compatibility, "a kind")?;
-    want(v1.kind_of(0xAC00) == MapKind::Plain, "of a syllable")?;
-    let parts = ['\u{1EA1}', '\u{302}'];
-    want(v1.mapping_of(0x1EAD) == parts.as_slice(), "a mapping")?;
-    want(v1.is_excluded(0x958), "an excluded one")?;
-    want(!v1.is_excluded(0xC5), "one that is not excluded")?;
+    let listed = v1.assigned_code(0xE001) && !v1.assigned_code(0x16D67);
+    want(listed, "one in a range, and one that is not listed")?;
+    let classes = v1.class_of(0x323) == 220 && v1.class_of(0x110000) == 0;
+    want(classes, "a class, and that of no code point")?;
+    let excluded = v1.is_excluded(0x958) && !v1.is_excluded(0xC5);
+    want(excluded, "an excluded one, and one that is not")?;
     want(v1.has_hangul(), "the arithmetic")
 }
 
-#[test]
-fn a_version_tells_what_the_files_say(rt: HostRuntime) -> Result<(), Fail> {
-    let v1 = version(rt.alloc(), V1_DATA, V1_EXCLUSIONS)?;
-    tells_its_files(&v1)
+fn tells_its_mappings(v1: &Version) -> Result<(), Fail> {
+    let mapping = v1.mapping_of(0x1EAD);
+    want(mapping == ['\u{1EA1}', '\u{302}'].as_slice(), "a mapping")?;
+    let kinds = v1.kind_of(0xFB01) == MapKind::Compatibility;
+    want(kinds && v1.kind_of(0xAC00) == MapKind::Plain, "kinds")
 }
 
-fn has_composites(v1: &Version) -> Result<(), Fail> {
-    for code in [0xC5, 0xAC00, 0xAC01] {
-        want(v1.is_primary(code), "a pair, or a syllable of two or three")?;
-    }
-    // a singleton, a pair that begins with a non-starter, an exclusion, a compatibility mapping
-    for code in [0x212B, 0x344, 0x958, 0xFB01] {
-        want(!v1.is_primary(code), "no composite")?;
+// A pair, and syllables of two and of three; then a singleton, a pair that begins with a non-starter, an exclusion,
+// and a compatibility mapping.
+const PRIMARY: [(u32, bool); 7] = [
+    (0xC5, true),
+    (0xAC00, true),
+    (0xAC01, true),
+    (0x212B, false),
+    (0x344, false),
+    (0x958, false),
+    (0xFB01, false),
+];
+
+fn has_composites(version: &Version, rows: &[(u32, bool)]) -> Result<(), Fail> {
+    for row in rows {
+        want(version.is_primary(row.0) == row.1, "a primary composite")?;
     }
     Ok(())
-}
-
-#[test]
-fn composites_are_told_apart(rt: HostRuntime) -> Result<(), Fail> {
-    let v1 = version(rt.alloc(), V1_DATA, V1_EXCLUSIONS)?;
-    has_composites(&v1)
 }
 
 // The composites of the first fixture, in the order of their pairs.
@@ -70,87 +64,75 @@ const COMPOSITES: [(char, char, char); 4] = [
     ('\u{1EA1}', '\u{302}', '\u{1EAD}'),
 ];
 
-fn lists_composites(v1: &Version) -> Result<(), Fail> {
-    want(v1.composites().len() == COMPOSITES.len(), "four composites")?;
-    for (here, (first, second, code)) in v1.composites().iter().zip(COMPOSITES) {
-        want(here.first == first && here.second == second, "a pair")?;
-        want(here.code == code, "its composite")?;
+fn lists_composites(v1: &Version, rows: &[(char, char, char)]) -> Result<(), Fail> {
+    want(v1.composites().len() == rows.len(), "four composites")?;
+    for (here, row) in v1.composites().iter().zip(rows) {
+        let pair = here.first == row.0 && here.second == row.1;
+        want(pair && here.code == row.2, "a pair and its composite")?;
     }
     Ok(())
 }
 
-#[test]
-fn composites_stand_in_the_order_of_their_pairs(rt: HostRuntime) -> Result<(), Fail> {
-    let v1 = version(rt.alloc(), V1_DATA, V1_EXCLUSIONS)?;
-    lists_composites(&v1)
+// (two parts, their composite): a pair of the list, a syllable, and two that have none.
+const FOUND: [(char, char, Option<char>); 3] = [
+    ('\u{61}', '\u{323}', Some('\u{1EA1}')),
+    ('\u{AC00}', '\u{11A8}', Some('\u{AC01}')),
+    ('\u{61}', '\u{62}', None),
+];
+
+fn finds_composites(v1: &Version, rows: &[(char, char, Option<char>)]) -> Result<(), Fail> {
+    for row in rows {
+        want(v1.composite_of(row.0, row.1) == row.2, "a composite")?;
+    }
+    Ok(())
 }
 
-fn finds_composites(v1: &Version) -> Result<(), Fail> {
-    want(
-        v1.composite_of('\u{61}', '\u{323}') == Some('\u{1EA1}'),
-        "a composite",
-    )?;
-    want(
-        v1.composite_of('\u{AC00}', '\u{11A8}') == Some('\u{AC01}'),
-        "a syllable",
-    )?;
-    want(
-        v1.composite_of('\u{61}', '\u{62}').is_none(),
-        "no composite",
-    )?;
-    let pairs = v1.pairs();
-    want(
-        pairs.find('\u{61}', '\u{302}') == Some('\u{E2}'),
-        "one of the list",
-    )?;
-    want(
-        pairs.find('\u{AC00}', '\u{11A8}').is_none(),
-        "no syllable in the list",
-    )?;
-    want(
-        pairs.len() > 0 && pairs.at(0).code == '\u{C5}',
-        "the first of the list",
-    )
+fn finds_pairs(pairs: &Pairs) -> Result<(), Fail> {
+    let found = pairs.find('\u{61}', '\u{302}') == Some('\u{E2}');
+    want(found, "one of the list")?;
+    let syllable = pairs.find('\u{AC00}', '\u{11A8}');
+    want(syllable.is_none(), "no syllable in the list")?;
+    let first = pairs.len() > 0 && pairs.at(0).code == '\u{C5}';
+    want(first, "the first of the list")
 }
 
-#[test]
-fn composites_are_found_by_their_pairs(rt: HostRuntime) -> Result<(), Fail> {
-    let v1 = version(rt.alloc(), V1_DATA, V1_EXCLUSIONS)?;
-    finds_composites(&v1)
-}
-
-fn tells_its_rows(v1: &Version) -> Result<(), Fail> {
-    want(
-        v1.pages().index.len() == 4352,
-        "a block number for each 256 code points",
-    )?;
-    want(v1.place_of(0x110000).is_none(), "no row")?;
-    match v1.place_of(0x1EAD) {
+/// Fails unless the code point has a row, which has its mapping.
+fn has_mapped_row(v1: &Version, code: char) -> Result<(), Fail> {
+    match v1.place_of(u32::from(code)) {
         Some(at) => {
             let row = v1.row_in(at);
-            let alone = !row.mapping.is_empty() && mapped_code(row) == '\u{1EAD}';
+            let alone = !row.mapping.is_empty() && mapped_code(row) == code;
             want(alone, "the row of a code point with a mapping")
         }
         None => want(false, "a row"),
     }
 }
 
-#[test]
-fn rows_are_found_by_their_places(rt: HostRuntime) -> Result<(), Fail> {
-    let v1 = version(rt.alloc(), V1_DATA, V1_EXCLUSIONS)?;
-    tells_its_rows(&v1)
+fn tells_its_rows(v1: &Version) -> Result<(), Fail> {
+    // a block number for each 256 code points
+    let blocks = v1.pages().index.len() == 4352;
+    want(blocks && v1.place_of(0x110000).is_none(), "no row")?;
+    has_mapped_row(v1, '\u{1EAD}')
 }
 
-fn has_no_syllables(s: &Version) -> Result<(), Fail> {
-    want(!s.has_hangul(), "no arithmetic")?;
-    want(!s.is_primary(0xAC00), "no syllable")?;
-    want(s.is_primary(0xF000), "another composite")
+fn tells_its_composites(v1: &Version) -> Result<(), Fail> {
+    has_composites(v1, &PRIMARY)?;
+    lists_composites(v1, &COMPOSITES)?;
+    finds_composites(v1, &FOUND)?;
+    finds_pairs(v1.pairs())
+}
+
+fn tells_all(v1: &Version) -> Result<(), Fail> {
+    tells_its_files(v1)?;
+    tells_its_mappings(v1)?;
+    tells_its_rows(v1)?;
+    tells_its_composites(v1)
 }
 
 #[test]
-fn syllables_need_their_jamo(rt: HostRuntime) -> Result<(), Fail> {
-    let s = version(rt.alloc(), S_DATA, S_EXCLUSIONS)?;
-    has_no_syllables(&s)
+fn a_version_tells_what_the_files_say(rt: HostRuntime) -> Result<(), Fail> {
+    let v1 = version_of(rt.alloc(), V1)?;
+    tells_all(&v1)
 }
 
 // A starter that maps to two non-starters.
@@ -160,29 +142,30 @@ const STARTER: &str = "\
 0F73;X;Mn;0;L;0F71 0F72;;;;N;;;;;
 ";
 
-fn has_no_composite(version: &Version) -> Result<(), Fail> {
-    want(version.class_of(0xF73) == 0, "a starter")?;
-    want(!version.is_primary(0xF73), "and no composite")
+/// Fails unless a version has no arithmetic of syllables, and these composites alone.
+fn has_no_syllables(alloc: Global, files: Files<'_>, rows: &[(u32, bool)]) -> Result<(), Fail> {
+    let version = version_of(alloc, files)?;
+    let told = !version.has_hangul() && version.class_of(0xF73) == 0;
+    want(told, "no arithmetic, and no class")?;
+    has_composites(&version, rows)
 }
 
 #[test]
-fn a_starter_that_maps_to_non_starters_is_no_composite(rt: HostRuntime) -> Result<(), Fail> {
-    let starter = version(rt.alloc(), STARTER, "")?;
-    has_no_composite(&starter)
+fn a_version_tells_what_is_no_composite(rt: HostRuntime) -> Result<(), Fail> {
+    // syllables need their jamo
+    has_no_syllables(rt.alloc(), S, &[(0xAC00, false), (0xF000, true)])?;
+    has_no_syllables(rt.alloc(), (STARTER, ""), &[(0xF73, false)])
 }
 
-/// The text with other lines in place of one.
-fn edited(alloc: Global, text: &str, line: &str, lines: &str) -> Result<String, AllocError> {
-    let mut edited = String::new(alloc);
-    for here in text.lines() {
-        if here == line {
-            edited.push_str(lines)?;
-        } else {
-            edited.push_str(here)?;
-            edited.push('\n')?;
-        }
-    }
-    Ok(edited)
+/// The first fixture's data with `lines` in place of `line`.
+fn edited(alloc: Global, line: &str, lines: &str) -> Result<String, Fail> {
+    let (before, after) = V1_DATA.split_once(line).ok_or("no such line")?;
+    Ok(format!(in alloc; "{before}{lines}{after}")?)
+}
+
+/// The fault of two texts.
+fn fault_of(alloc: Global, data: &str, exclusions: &str) -> Option<TableFault> {
+    version(alloc, data, exclusions).err()
 }
 
 /// Fails unless the two texts have this fault.
@@ -192,7 +175,7 @@ fn wants_fault(
     exclusions: &str,
     wanted: TableFault,
 ) -> Result<(), Fail> {
-    let found = version(alloc, data, exclusions).err();
+    let found = fault_of(alloc, data, exclusions);
     want(found == Some(wanted), wanted.name())
 }
 
@@ -203,24 +186,30 @@ fn wants_fault_of_edit(
     lines: &str,
     wanted: TableFault,
 ) -> Result<(), Fail> {
-    let data = edited(alloc, V1_DATA, line, lines)?;
+    let data = edited(alloc, line, lines)?;
     wants_fault(alloc, data.as_str(), V1_EXCLUSIONS, wanted)
 }
 
 /// A line of the first fixture, what stands in its place, and the fault.
-const EDITED: [(&str, &str, TableFault); 3] = [
+const EDITED: [(&str, &str, TableFault); 4] = [
+    // jamo and syllables come whole
     (
-        "030A;X;Mn;230;L;;;;;N;;;;;",
+        "11C2;<R, Last>;Lo;0;L;;;;;N;;;;;\n",
+        "11C1;<R, Last>;Lo;0;L;;;;;N;;;;;\n",
+        TableFault::HangulWrong { code: 0x11C2 },
+    ),
+    (
+        "030A;X;Mn;230;L;;;;;N;;;;;\n",
         "",
         TableFault::MapsToUnassigned { code: 0xC5 },
     ),
     (
-        "0041;X;Lu;0;L;;;;;N;;;;;",
+        "0041;X;Lu;0;L;;;;;N;;;;;\n",
         "0041;X;Lu;0;L;0041;;;;N;;;;;\n",
         TableFault::TooDeep { code: 0x41 },
     ),
     (
-        "00C5;X;Lu;0;L;0041 030A;;;;N;;;;;",
+        "00C5;X;Lu;0;L;0041 030A;;;;N;;;;;\n",
         "00C4;X;Lu;0;L;0041 030A;;;;N;;;;;\n00C5;X;Lu;0;L;0041 030A;;;;N;;;;;\n",
         TableFault::AmbiguousPair { code: 0xC5 },
     ),
@@ -228,20 +217,9 @@ const EDITED: [(&str, &str, TableFault); 3] = [
 
 #[test]
 fn faults_are_told(rt: HostRuntime) -> Result<(), Fail> {
-    for (line, lines, fault) in &EDITED {
-        wants_fault_of_edit(rt.alloc(), line, lines, *fault)?;
+    for row in &EDITED {
+        wants_fault_of_edit(rt.alloc(), row.0, row.1, row.2)?;
     }
-    Ok(())
-}
-
-#[test]
-fn jamo_and_syllables_come_whole(rt: HostRuntime) -> Result<(), Fail> {
-    wants_fault_of_edit(
-        rt.alloc(),
-        "11C2;<R, Last>;Lo;0;L;;;;;N;;;;;",
-        "11C1;<R, Last>;Lo;0;L;;;;;N;;;;;\n",
-        TableFault::HangulWrong { code: 0x11C2 },
-    )?;
     let lone = TableFault::HangulWrong { code: 0x1101 };
     wants_fault(rt.alloc(), "1100;X;Lo;0;L;;;;;N;;;;;", "", lone)
 }
@@ -253,17 +231,18 @@ const LONG: &str = "\
 0063;X;Ll;0;L;<compat> 0062 0062 0062;;;;N;;;;;
 ";
 
+// 0063 maps to two of these, and not to three.
+const SHORTER: &str = "\
+0061;X;Ll;0;L;;;;;N;;;;;
+0062;X;Ll;0;L;<compat> 0061 0061 0061 0061 0061 0061 0061 0061 0061 0061 0061 0061 0061 0061 0061 0061 0061 0061 0061 0061 0061 0061 0061 0061 0061 0061 0061 0061 0061 0061 0061 0061;;;;N;;;;;
+0063;X;Ll;0;L;<compat> 0062 0062;;;;N;;;;;
+";
+
 #[test]
 fn a_long_decomposition_is_told(rt: HostRuntime) -> Result<(), Fail> {
     let too_long = TableFault::TooLong { code: 0x63 };
     wants_fault(rt.alloc(), LONG, "", too_long)?;
-    let shorter = edited(
-        rt.alloc(),
-        LONG,
-        "0063;X;Ll;0;L;<compat> 0062 0062 0062;;;;N;;;;;",
-        "0063;X;Ll;0;L;<compat> 0062 0062;;;;N;;;;;\n",
-    )?;
-    wants_count(rt.alloc(), shorter.as_str(), "", 3)
+    wants_count(rt.alloc(), SHORTER, "", 3)
 }
 
 /// Faults, and how they are told.
@@ -288,6 +267,6 @@ fn faults_are_told_in_words(rt: HostRuntime) -> Result<(), Fail> {
 fn faults_have_names_and_code_points(_rt: HostRuntime) -> Result<(), Fail> {
     let deep = TableFault::TooDeep { code: 0x41 };
     want(deep.name() == "TooDeep", "a name")?;
-    want(deep.code() == Some(0x41), "a code point")?;
-    want(TableFault::Memory.code().is_none(), "none")
+    let codes = deep.code() == Some(0x41) && TableFault::Memory.code().is_none();
+    want(codes, "a code point, and none")
 }

@@ -1,6 +1,6 @@
 //! What each call answers on worked examples.
 use super::canonical_rows::CANONICAL;
-use super::wants_form;
+use super::{wants_equivalent, wants_form};
 use np_code_points::told::want_told;
 use np_code_points::{Form, Memory};
 use np_examples_shared::{
@@ -25,89 +25,227 @@ pub(super) fn repeated(alloc: Global, before: &str, c: char, count: u32) -> Resu
     Ok(text)
 }
 
-/// Fails unless `text` is refused for this code point.
-fn wants_refusal<T: NormTable>(
+/// A text, its NFD and its NFC.
+type Canonical = (&'static str, &'static str, &'static str);
+
+/// A form, a text, and the text's form.
+type Formed = (Form, &'static str, &'static str);
+
+/// A form, a text, and whether the text has it.
+type Told = (Form, &'static str, bool);
+
+/// Whether compatibility mappings count, two texts, and whether they are equivalent.
+type Compared = (bool, &'static str, &'static str, bool);
+
+/// A form, a text, and the place of what is not assigned in it, and that.
+type Refused = (Form, &'static str, usize, char);
+
+/// A text, and the place of its first code point that is not assigned.
+type Lacking = (&'static str, Option<usize>);
+
+/// What forms show over a version.
+pub(super) struct Shown {
+    canonical: &'static [Canonical],
+    formed: &'static [Formed],
+    told: &'static [Told],
+    compared: &'static [Compared],
+    refused: &'static [Refused],
+    lacking: &'static [Lacking],
+}
+
+/// Over the first fixture.
+pub(super) const FIRST: Shown = Shown {
+    canonical: &CANONICAL,
+    formed: &[
+        // a ligature is compatible with its letters
+        (Form::Nfkd, "\u{FB01}", "fi"),
+        (Form::Nfkc, "\u{FB01}", "fi"),
+        // not assigned
+        (Form::Nfd, "\u{16D6A}", "\u{16D6A}"),
+    ],
+    told: &[
+        (Form::Nfc, "\u{1EAD}", true),
+        (Form::Nfd, "\u{1EAD}", false),
+        // as long as its form, and not its form
+        (Form::Nfd, "\u{61}\u{302}\u{323}", false),
+        (Form::Nfd, "\u{61}\u{323}\u{302}", true),
+    ],
+    compared: &[
+        // a text and its prefix
+        (false, "\u{61}\u{302}", "\u{61}", false),
+        (true, "", "\u{66}", false),
+        // neither is assigned: equivalence asks for no more than the forms
+        (false, "\u{16D6A}", "\u{16D6A}", true),
+        (true, "\u{FB01}", "fi", true),
+        (false, "\u{FB01}", "fi", false),
+    ],
+    refused: &[
+        (Form::Nfc, "\u{41}\u{16D67}", 1, '\u{16D67}'),
+        // the place counts in the text, whose first code point is longer in its form
+        (Form::Nfd, "\u{C5}b", 2, 'b'),
+        (Form::Nfkc, "A\u{10FFFF}", 1, '\u{10FFFF}'),
+        // behind what stays, what changes, what composes, syllables and the jamo of one
+        (
+            Form::Nfc,
+            "AAAAAAAAAAAAAAAAAAAAAAAAAAAAAAAAA\u{16D67}",
+            33,
+            '\u{16D67}',
+        ),
+        (Form::Nfd, "A\u{327}\u{302}\u{16D67}", 5, '\u{16D67}'),
+        (Form::Nfc, "\u{E2}\u{16D67}", 2, '\u{16D67}'),
+        (Form::Nfd, "\u{E2}\u{16D67}", 2, '\u{16D67}'),
+        (Form::Nfc, "a\u{302}\u{16D67}", 3, '\u{16D67}'),
+        (Form::Nfkd, "\u{FB01}\u{16D67}", 3, '\u{16D67}'),
+        (Form::Nfd, "\u{AC00}\u{AC01}\u{16D67}", 6, '\u{16D67}'),
+        (Form::Nfc, "\u{1100}\u{1161}\u{16D67}", 6, '\u{16D67}'),
+    ],
+    // private use is assigned
+    lacking: &[("\u{41}\u{16D67}", Some(1)), ("\u{E000}", None)],
+};
+
+/// Over the second fixture, where starters compose from the left.
+pub(super) const SECOND: Shown = Shown {
+    canonical: &[("\u{41}\u{16D67}", "\u{41}\u{16D67}", "\u{41}\u{16D67}")],
+    formed: &[
+        (
+            Form::Nfc,
+            "\u{16D67}\u{16D67}\u{16D67}",
+            "\u{16D68}\u{16D67}",
+        ),
+        (Form::Nfc, "\u{16D63}\u{16D67}\u{16D67}", "\u{16D6A}"),
+    ],
+    told: &[],
+    compared: &[],
+    refused: &[],
+    // a noncharacter
+    lacking: &[("\u{FFFE}", Some(0))],
+};
+
+/// Over the fixture whose composite spans a non-starter: one that is passed is not visited again.
+pub(super) const SPANNING: Shown = Shown {
+    canonical: &[],
+    formed: &[
+        (Form::Nfc, "\u{41}\u{323}\u{30A}", "\u{C5}\u{323}"),
+        (Form::Nfc, "\u{F000}", "\u{C5}\u{323}"),
+        (Form::Nfc, "\u{C5}\u{323}", "\u{C5}\u{323}"),
+        (Form::Nfd, "\u{AC00}", "\u{AC00}"),
+    ],
+    told: &[],
+    compared: &[],
+    refused: &[(Form::Nfd, "\u{AC00}", 0, '\u{AC00}')],
+    lacking: &[],
+};
+
+/// The key of a text that is given up.
+fn given_up<T: NormTable>(
     alloc: Global,
     table: &T,
     wanted: Form,
     text: &str,
-    fault: NpssFault,
-) -> Result<(), Fail> {
-    want(npss(alloc, table, wanted, text).err() == Some(fault), text)?;
-    let lent = lend_npss(alloc, table, wanted, text).err();
-    want(lent == Some(fault), text)?;
-    let given = repeated(alloc, text, 'A', 0)?;
-    let refused = into_npss(alloc, table, wanted, given).err();
-    want(refused == Some(fault), text)
+) -> Result<String, NpssFault> {
+    match repeated(alloc, text, 'A', 0) {
+        Ok(given) => into_npss(alloc, table, wanted, given),
+        Err(Memory) => Err(NpssFault::Memory),
+    }
 }
 
-/// Fails unless the texts are equivalent.
-fn wants_equivalent<T: NormTable>(
-    alloc: Global,
-    table: &T,
-    compat: bool,
-    left: &str,
-    right: &str,
-) -> Result<(), Fail> {
-    want(equivalent(alloc, table, compat, left, right)?, left)
+fn wants_keys<T: NormTable>(alloc: Global, table: &T, text: &str, key: &str) -> Result<(), Fail> {
+    want(npss(alloc, table, Form::Nfc, text)?.as_str() == key, text)?;
+    want(
+        given_up(alloc, table, Form::Nfc, text)?.as_str() == key,
+        key,
+    )
 }
 
-fn canonical<T: NormTable>(
-    alloc: Global,
-    table: &T,
-    rows: &[(&str, &str, &str)],
-) -> Result<(), Fail> {
-    for (text, nfd, nfc) in rows {
-        wants_form(alloc, table, Form::Nfd, text, nfd)?;
-        let made = npss(alloc, table, Form::Nfc, text)?;
-        want(made.as_str() == *nfc, text)?;
-        let lent = lend_npss(alloc, table, Form::Nfc, text)?;
-        want(lent.as_str() == *nfc, text)?;
-        let given = repeated(alloc, text, 'A', 0)?;
-        let kept = into_npss(alloc, table, Form::Nfc, given)?;
-        want(kept.as_str() == *nfc, text)?;
-        wants_equivalent(alloc, table, false, nfd, nfc)?;
+fn wants_lent<T: NormTable>(alloc: Global, table: &T, text: &str, key: &str) -> Result<(), Fail> {
+    let lent = lend_npss(alloc, table, Form::Nfc, text)?;
+    want(lent.as_str() == key, text)
+}
+
+fn wants_canonical<T: NormTable>(alloc: Global, table: &T, row: &Canonical) -> Result<(), Fail> {
+    wants_form(alloc, table, Form::Nfd, row.0, row.1)?;
+    wants_keys(alloc, table, row.0, row.2)?;
+    wants_lent(alloc, table, row.0, row.2)?;
+    wants_equivalent(alloc, table, row.1, row.2)
+}
+
+fn are_canonical<T: NormTable>(alloc: Global, table: &T, rows: &[Canonical]) -> Result<(), Fail> {
+    for row in rows {
+        wants_canonical(alloc, table, row)?;
     }
     Ok(())
 }
 
-/// A table that knows of a text that it is its own form lets it be lent.
-fn lent<T: NormTable>(alloc: Global, table: &T) -> Result<(), Fail> {
-    let lent = lend_npss(alloc, table, Form::Nfc, "\u{1EAD}")?;
-    want(matches!(lent, CowStr::Borrowed(_)), "is lent")
+fn are_formed<T: NormTable>(alloc: Global, table: &T, rows: &[Formed]) -> Result<(), Fail> {
+    for row in rows {
+        wants_form(alloc, table, row.0, row.1, row.2)?;
+    }
+    Ok(())
 }
 
-fn told_from_others<T: NormTable>(alloc: Global, table: &T) -> Result<(), Fail> {
-    want(is_form(alloc, table, Form::Nfc, "\u{1EAD}")?, "is NFC")?;
-    want(!is_form(alloc, table, Form::Nfd, "\u{1EAD}")?, "is not NFD")?;
-    // as long as its form, and not its form
-    let turned = "\u{61}\u{302}\u{323}";
-    want(!is_form(alloc, table, Form::Nfd, turned)?, "is not ordered")?;
-    let ordered = "\u{61}\u{323}\u{302}";
-    want(is_form(alloc, table, Form::Nfd, ordered)?, "is ordered")
+fn are_told<T: NormTable>(alloc: Global, table: &T, rows: &[Told]) -> Result<(), Fail> {
+    for row in rows {
+        want(is_form(alloc, table, row.0, row.1)? == row.2, row.1)?;
+    }
+    Ok(())
 }
 
-fn prefixes<T: NormTable>(alloc: Global, table: &T) -> Result<(), Fail> {
-    want(
-        !equivalent(alloc, table, false, "\u{61}\u{302}", "\u{61}")?,
-        "a text and its prefix",
-    )?;
-    want(
-        !equivalent(alloc, table, true, "", "\u{66}")?,
-        "the empty text",
-    )?;
-    // neither is assigned: equivalence asks for no more than the forms
-    wants_equivalent(alloc, table, false, "\u{16D6A}", "\u{16D6A}")
+fn are_compared<T: NormTable>(alloc: Global, table: &T, rows: &[Compared]) -> Result<(), Fail> {
+    for row in rows {
+        want(
+            equivalent(alloc, table, row.0, row.1, row.2)? == row.3,
+            row.1,
+        )?;
+    }
+    Ok(())
 }
 
-fn ligature<T: NormTable>(alloc: Global, table: &T) -> Result<(), Fail> {
-    wants_form(alloc, table, Form::Nfkd, "\u{FB01}", "fi")?;
-    wants_form(alloc, table, Form::Nfkc, "\u{FB01}", "fi")?;
-    wants_equivalent(alloc, table, true, "\u{FB01}", "fi")?;
-    want(
-        !equivalent(alloc, table, false, "\u{FB01}", "fi")?,
-        "canonical",
-    )
+fn fault_of<T: NormTable>(alloc: Global, table: &T, row: &Refused) -> Option<NpssFault> {
+    npss(alloc, table, row.0, row.1).err()
+}
+
+fn fault_of_lent<T: NormTable>(alloc: Global, table: &T, row: &Refused) -> Option<NpssFault> {
+    lend_npss(alloc, table, row.0, row.1).err()
+}
+
+fn fault_of_given<T: NormTable>(alloc: Global, table: &T, row: &Refused) -> Option<NpssFault> {
+    given_up(alloc, table, row.0, row.1).err()
+}
+
+/// Fails unless each way to the key of the text is refused for this code point.
+fn wants_refusal<T: NormTable>(alloc: Global, table: &T, row: &Refused) -> Result<(), Fail> {
+    let fault = Some(NpssFault::Unassigned {
+        at: row.2,
+        code: row.3,
+    });
+    want(fault_of(alloc, table, row) == fault, row.1)?;
+    want(fault_of_lent(alloc, table, row) == fault, row.1)?;
+    want(fault_of_given(alloc, table, row) == fault, row.1)
+}
+
+fn are_refused<T: NormTable>(alloc: Global, table: &T, rows: &[Refused]) -> Result<(), Fail> {
+    for row in rows {
+        wants_refusal(alloc, table, row)?;
+    }
+    Ok(())
+}
+
+fn are_lacking<T: NormTable>(table: &T, rows: &[Lacking]) -> Result<(), Fail> {
+    for row in rows {
+        want(first_unassigned(table, row.0) == row.1, row.0)?;
+    }
+    Ok(())
+}
+
+impl Example for Shown {
+    fn holds<T: Made>(&self, alloc: Global, table: &T) -> Result<(), Fail> {
+        are_canonical(alloc, table, self.canonical)?;
+        are_formed(alloc, table, self.formed)?;
+        are_told(alloc, table, self.told)?;
+        are_compared(alloc, table, self.compared)?;
+        are_refused(alloc, table, self.refused)?;
+        are_lacking(table, self.lacking)
+    }
 }
 
 /// Each refusal, and how it is told; a code point in four hex digits at least.
@@ -127,103 +265,24 @@ fn a_refusal_is_told_in_words(rt: HostRuntime) -> Result<(), Fail> {
     want_told(rt.alloc(), &TOLD)
 }
 
-/// Texts whose last code point alone is not assigned: behind what stands, what changes, what composes,
-/// syllables and the jamo of one.
-const LACKING: [(Form, &str, usize); 8] = [
-    (Form::Nfc, "AAAAAAAAAAAAAAAAAAAAAAAAAAAAAAAAA\u{16D67}", 33),
-    (Form::Nfd, "A\u{327}\u{302}\u{16D67}", 5),
-    (Form::Nfc, "\u{E2}\u{16D67}", 2),
-    (Form::Nfd, "\u{E2}\u{16D67}", 2),
-    (Form::Nfc, "a\u{302}\u{16D67}", 3),
-    (Form::Nfkd, "\u{FB01}\u{16D67}", 3),
-    (Form::Nfd, "\u{AC00}\u{AC01}\u{16D67}", 6),
-    (Form::Nfc, "\u{1100}\u{1161}\u{16D67}", 6),
-];
-
-fn lacks_behind_each_front<T: NormTable>(alloc: Global, v1: &T) -> Result<(), Fail> {
-    for (wanted, text, at) in &LACKING {
-        let fault = NpssFault::Unassigned {
-            at: *at,
-            code: '\u{16D67}',
-        };
-        wants_refusal(alloc, v1, *wanted, text, fault)?;
-    }
-    Ok(())
+/// A table that knows of a text that it is its own form lets it be lent.
+fn lends<T: NormTable>(alloc: Global, table: &T) -> Result<(), Fail> {
+    let lent = lend_npss(alloc, table, Form::Nfc, "\u{1EAD}")?;
+    want(matches!(lent, CowStr::Borrowed(_)), "is lent")
 }
 
-fn lacks_kirat_rai<T: NormTable>(alloc: Global, v1: &T) -> Result<(), Fail> {
-    let text = "\u{41}\u{16D67}";
-    let fault = NpssFault::Unassigned {
-        at: 1,
-        code: '\u{16D67}',
-    };
-    wants_refusal(alloc, v1, Form::Nfc, text, fault)?;
-    wants_form(alloc, v1, Form::Nfd, "\u{16D6A}", "\u{16D6A}")?;
-    // the place counts in the text, whose first code point is longer in its form
-    let behind = NpssFault::Unassigned { at: 2, code: 'b' };
-    wants_refusal(alloc, v1, Form::Nfd, "\u{C5}b", behind)?;
-    let last = NpssFault::Unassigned {
-        at: 1,
-        code: '\u{10FFFF}',
-    };
-    wants_refusal(alloc, v1, Form::Nfkc, "A\u{10FFFF}", last)?;
-    lacks_behind_each_front(alloc, v1)?;
-    want(first_unassigned(v1, text) == Some(1), "at the second byte")?;
-    want(
-        first_unassigned(v1, "\u{E000}").is_none(),
-        "private use is assigned",
-    )
+/// Fails unless the form of a text of more than 2 MiB has 3 bytes for each 2 of its own.
+fn has_grown<T: NormTable>(alloc: Global, table: &T, text: &str, made: &str) -> Result<(), Fail> {
+    want(made.len() == 3_145_731, "the form's bytes")?;
+    want(is_form(alloc, table, Form::Nfd, made)?, "its own form")?;
+    want(is_stream_safe(alloc, table, text)?, "is stream-safe")?;
+    wants_equivalent(alloc, table, text, made)
 }
 
-fn has_kirat_rai<T: NormTable>(alloc: Global, v2: &T) -> Result<(), Fail> {
-    let text = "\u{41}\u{16D67}";
-    let made = npss(alloc, v2, Form::Nfc, text)?;
-    want(made.as_str() == text, text)?;
-    want(
-        first_unassigned(v2, "\u{FFFE}") == Some(0),
-        "a noncharacter",
-    )
-}
-
-/// Fails unless a text of more than 2 MiB has a form of 3 bytes for each 2 of its own.
 fn grows<T: NormTable>(alloc: Global, table: &T) -> Result<(), Fail> {
     let text = repeated(alloc, "", '\u{C5}', 1_048_577)?;
     let made = npss(alloc, table, Form::Nfd, text.as_str())?;
-    want(made.len() == 3_145_731, "the form's bytes")?;
-    want(
-        is_form(alloc, table, Form::Nfd, made.as_str())?,
-        "is its own form",
-    )?;
-    wants_equivalent(alloc, table, false, text.as_str(), made.as_str())?;
-    want(
-        is_stream_safe(alloc, table, text.as_str())?,
-        "is stream-safe",
-    )
-}
-
-fn starters<T: NormTable>(alloc: Global, table: &T) -> Result<(), Fail> {
-    let three = "\u{16D67}\u{16D67}\u{16D67}";
-    wants_form(alloc, table, Form::Nfc, three, "\u{16D68}\u{16D67}")?;
-    let nested = "\u{16D63}\u{16D67}\u{16D67}";
-    wants_form(alloc, table, Form::Nfc, nested, "\u{16D6A}")
-}
-
-fn passed_non_starters<T: NormTable>(alloc: Global, table: &T) -> Result<(), Fail> {
-    wants_form(
-        alloc,
-        table,
-        Form::Nfc,
-        "\u{41}\u{323}\u{30A}",
-        "\u{C5}\u{323}",
-    )?;
-    wants_form(alloc, table, Form::Nfc, "\u{F000}", "\u{C5}\u{323}")?;
-    wants_form(alloc, table, Form::Nfc, "\u{C5}\u{323}", "\u{C5}\u{323}")?;
-    wants_form(alloc, table, Form::Nfd, "\u{AC00}", "\u{AC00}")?;
-    let fault = NpssFault::Unassigned {
-        at: 0,
-        code: '\u{AC00}',
-    };
-    wants_refusal(alloc, table, Form::Nfd, "\u{AC00}", fault)
+    has_grown(alloc, table, text.as_str(), made.as_str())
 }
 
 // (form, a piece that stands before and behind something many times and has itself as form, that something, its form)
@@ -258,100 +317,56 @@ const AMID: [(Form, &str, &str, &str); 8] = [
     ),
 ];
 
-fn amid_long_texts<T: NormTable>(alloc: Global, table: &T) -> Result<(), Fail> {
-    for (wanted, piece, turn, made) in &AMID {
-        let text = amid(alloc, piece, turn)?;
-        let normal = amid(alloc, piece, made)?;
-        wants_form(alloc, table, *wanted, text.as_str(), normal.as_str())?;
+fn wants_amid<T: NormTable>(
+    alloc: Global,
+    table: &T,
+    row: &(Form, &str, &str, &str),
+) -> Result<(), Fail> {
+    let text = amid(alloc, row.1, row.2)?;
+    let normal = amid(alloc, row.1, row.3)?;
+    wants_form(alloc, table, row.0, text.as_str(), normal.as_str())
+}
+
+fn are_amid<T: NormTable>(alloc: Global, table: &T) -> Result<(), Fail> {
+    for row in &AMID {
+        wants_amid(alloc, table, row)?;
     }
     Ok(())
 }
 
-/// What forms show.
+/// What forms of long texts show, and a text that is lent.
 #[derive(Clone, Copy)]
-pub(super) enum Shown {
-    Canonical,
+pub(super) enum Long {
+    Grown,
+    Amid,
     Lent,
-    ToldFromOthers,
-    Prefixes,
-    Ligature,
-    LacksKiratRai,
-    HasKiratRai,
-    Growth,
-    Starters,
-    PassedNonStarters,
-    AmidLongTexts,
 }
 
-impl Example for Shown {
+impl Example for Long {
     fn holds<T: Made>(&self, alloc: Global, table: &T) -> Result<(), Fail> {
         match self {
-            Shown::Canonical => canonical(alloc, table, &CANONICAL),
-            Shown::Lent => lent(alloc, table),
-            Shown::ToldFromOthers => told_from_others(alloc, table),
-            Shown::Prefixes => prefixes(alloc, table),
-            Shown::Ligature => ligature(alloc, table),
-            Shown::LacksKiratRai => lacks_kirat_rai(alloc, table),
-            Shown::HasKiratRai => has_kirat_rai(alloc, table),
-            Shown::Growth => grows(alloc, table),
-            Shown::Starters => starters(alloc, table),
-            Shown::PassedNonStarters => passed_non_starters(alloc, table),
-            Shown::AmidLongTexts => amid_long_texts(alloc, table),
+            Long::Grown => grows(alloc, table),
+            Long::Amid => are_amid(alloc, table),
+            Long::Lent => lends(alloc, table),
         }
     }
 }
 
 #[test]
-fn canonical_forms(rt: HostRuntime) -> Result<(), Fail> {
-    holds_over_each(rt.alloc(), V1, &Shown::Canonical)
+fn forms_and_keys_are_those_of_the_version(rt: HostRuntime) -> Result<(), Fail> {
+    let alloc = rt.alloc();
+    holds_over_each(alloc, V1, &FIRST)?;
+    holds_over_each(alloc, V2, &SECOND)?;
+    holds_over_each(alloc, S, &SPANNING)
 }
 
 #[test]
-fn a_text_is_told_from_others_of_its_length(rt: HostRuntime) -> Result<(), Fail> {
-    holds_over_each(rt.alloc(), V1, &Shown::ToldFromOthers)
-}
-
-#[test]
-fn a_text_is_not_equivalent_with_its_prefix(rt: HostRuntime) -> Result<(), Fail> {
-    holds_over_each(rt.alloc(), V1, &Shown::Prefixes)
+fn long_texts_have_their_forms(rt: HostRuntime) -> Result<(), Fail> {
+    holds_over_each(rt.alloc(), V1, &Long::Grown)?;
+    holds_over_each(rt.alloc(), LETTERS, &Long::Amid)
 }
 
 #[test]
 fn a_text_that_is_its_own_form_is_lent(rt: HostRuntime) -> Result<(), Fail> {
-    holds_over::<PageTable, Shown>(rt.alloc(), V1, &Shown::Lent)
-}
-
-#[test]
-fn a_ligature_is_compatible_with_its_letters(rt: HostRuntime) -> Result<(), Fail> {
-    holds_over_each(rt.alloc(), V1, &Shown::Ligature)
-}
-
-#[test]
-fn unassigned_code_points_are_refused(rt: HostRuntime) -> Result<(), Fail> {
-    holds_over_each(rt.alloc(), V1, &Shown::LacksKiratRai)
-}
-
-#[test]
-fn code_points_assigned_later_are_taken(rt: HostRuntime) -> Result<(), Fail> {
-    holds_over_each(rt.alloc(), V2, &Shown::HasKiratRai)
-}
-
-#[test]
-fn long_texts_have_memory(rt: HostRuntime) -> Result<(), Fail> {
-    holds_over_each(rt.alloc(), V1, &Shown::Growth)
-}
-
-#[test]
-fn starters_compose_from_the_left(rt: HostRuntime) -> Result<(), Fail> {
-    holds_over_each(rt.alloc(), V2, &Shown::Starters)
-}
-
-#[test]
-fn passed_non_starters_are_not_visited_again(rt: HostRuntime) -> Result<(), Fail> {
-    holds_over_each(rt.alloc(), S, &Shown::PassedNonStarters)
-}
-
-#[test]
-fn what_stands_amid_long_texts_has_its_form(rt: HostRuntime) -> Result<(), Fail> {
-    holds_over_each(rt.alloc(), LETTERS, &Shown::AmidLongTexts)
+    holds_over::<PageTable, Long>(rt.alloc(), V1, &Long::Lent)
 }

@@ -3,12 +3,13 @@ use np_code_points::devices::Room;
 use np_code_points::text::string_of;
 use np_code_points::watched::Watched;
 use np_code_points::{Form, Memory};
-use np_examples_shared::{Example, Made, V1, again, holds_over_each, want};
+use np_examples_shared::{Example, Made, V1, holds_over_each, want};
 use np_forms::{
     NpssFault, RunFault, Stream, equivalent, form, into_npss, is_form, lend_npss, npss, run,
 };
 use np_versions::NormTable;
 use std::alloc::Global;
+use std::borrow::CowStr;
 use std::test::Fail;
 
 const TEXT: &str = "\u{61}\u{302}\u{323}";
@@ -27,64 +28,117 @@ enum Call {
     Run,
 }
 
+const CHARS: [char; 3] = ['\u{61}', '\u{302}', '\u{323}'];
+
+const KEY: &str = "\u{1EAD}";
+
+fn form_again<T: NormTable>(alloc: Global, table: &T, wanted: Form) -> Result<String, Memory> {
+    match form(alloc, table, wanted, TEXT) {
+        Err(Memory) => form(alloc, table, wanted, TEXT),
+        made => made,
+    }
+}
+
 fn forms<T: NormTable>(alloc: Global, table: &T, wanted: Form, normal: &str) -> Result<(), Fail> {
-    let made = again(&Memory, &|| form(alloc, table, wanted, TEXT))?;
-    want(made.as_str() == normal, "the form")
+    let same = form_again(alloc, table, wanted)?.as_str() == normal;
+    want(same, "the form")
+}
+
+fn npss_again<T: NormTable>(alloc: Global, table: &T) -> Result<String, NpssFault> {
+    match npss(alloc, table, Form::Nfc, TEXT) {
+        Err(NpssFault::Memory) => npss(alloc, table, Form::Nfc, TEXT),
+        made => made,
+    }
+}
+
+/// What is told of a text that has a code point which is not assigned.
+fn fault_of_lacking<T: NormTable>(alloc: Global, table: &T) -> Option<NpssFault> {
+    npss(alloc, table, Form::Nfc, "\u{41}\u{16D67}").err()
 }
 
 fn stabilized<T: NormTable>(alloc: Global, table: &T) -> Result<(), Fail> {
-    let lacking = npss(alloc, table, Form::Nfc, "\u{41}\u{16D67}").err();
     let fault = NpssFault::Unassigned {
         at: 1,
         code: '\u{16D67}',
     };
-    want(lacking == Some(fault), "what is told at once")?;
-    let made = again(&NpssFault::Memory, &|| npss(alloc, table, Form::Nfc, TEXT))?;
-    want(made.as_str() == "\u{1EAD}", "the key")
+    want(
+        fault_of_lacking(alloc, table) == Some(fault),
+        "what is told at once",
+    )?;
+    let same = npss_again(alloc, table)?.as_str() == KEY;
+    want(same, "the key")
+}
+
+fn lend_again<'t, T: NormTable>(
+    alloc: Global,
+    table: &T,
+    text: &'t str,
+) -> Result<CowStr<'t>, NpssFault> {
+    match lend_npss(alloc, table, Form::Nfc, text) {
+        Err(NpssFault::Memory) => lend_npss(alloc, table, Form::Nfc, text),
+        made => made,
+    }
 }
 
 /// A text that changes, lent.
 fn lent<T: NormTable>(alloc: Global, table: &T) -> Result<(), Fail> {
-    let made = again(
-        &NpssFault::Memory,
-        &|| lend_npss(alloc, table, Form::Nfc, TEXT),
-    )?;
-    want(made.as_str() == "\u{1EAD}", "the key")
+    let same = lend_again(alloc, table, TEXT)?.as_str() == KEY;
+    want(same, "the key")
 }
 
-/// A text that changes and one that doesn't, given up: the first is handed over again where memory for
-/// its form was refused.
-fn stabilized_in_place<T: NormTable>(alloc: Global, table: &T) -> Result<(), Fail> {
-    let given = string_of(alloc, &['\u{61}', '\u{302}', '\u{323}'])?;
-    let made = match into_npss(alloc, table, Form::Nfc, given) {
-        Err(NpssFault::Memory) => {
-            let given = string_of(alloc, &['\u{61}', '\u{302}', '\u{323}'])?;
-            into_npss(alloc, table, Form::Nfc, given)?
-        }
-        made => made?,
-    };
-    want(made.as_str() == "\u{1EAD}", "the key")?;
-    let kept = into_npss(alloc, table, Form::Nfc, made)?;
-    want(kept.as_str() == "\u{1EAD}", "the key of the key")
+/// The key of a text that is given up.
+fn give_up<T: NormTable>(alloc: Global, table: &T, chars: &[char]) -> Result<String, NpssFault> {
+    match string_of(alloc, chars) {
+        Ok(given) => into_npss(alloc, table, Form::Nfc, given),
+        Err(Memory) => Err(NpssFault::Memory),
+    }
 }
 
-fn in_form<T: NormTable>(
+/// The text is handed over again where memory for its form was refused.
+fn give_up_again<T: NormTable>(
+    alloc: Global,
+    table: &T,
+    chars: &[char],
+) -> Result<String, NpssFault> {
+    match give_up(alloc, table, chars) {
+        Err(NpssFault::Memory) => give_up(alloc, table, chars),
+        made => made,
+    }
+}
+
+/// A text that changes, or one that doesn't, given up.
+fn given_up<T: NormTable>(alloc: Global, table: &T, chars: &[char]) -> Result<(), Fail> {
+    let same = give_up_again(alloc, table, chars)?.as_str() == KEY;
+    want(same, "the key")
+}
+
+fn is_form_again<T: NormTable>(
     alloc: Global,
     table: &T,
     wanted: Form,
     text: &str,
-    holds: bool,
-) -> Result<(), Fail> {
-    let answer = again(&Memory, &|| is_form(alloc, table, wanted, text))?;
-    want(answer == holds, "whether it is in the form")
+) -> Result<bool, Memory> {
+    match is_form(alloc, table, wanted, text) {
+        Err(Memory) => is_form(alloc, table, wanted, text),
+        answer => answer,
+    }
 }
 
-fn alike<T: NormTable>(alloc: Global, table: &T, compat: bool) -> Result<(), Fail> {
-    let answer = again(
-        &Memory,
-        &|| equivalent(alloc, table, compat, "\u{FB01}", "fi"),
-    )?;
-    want(answer == compat, "whether they are equivalent")
+fn in_form<T: NormTable>(alloc: Global, table: &T) -> Result<(), Fail> {
+    want(is_form_again(alloc, table, Form::Nfc, KEY)?, "in the form")?;
+    want(!is_form_again(alloc, table, Form::Nfd, KEY)?, "in another")
+}
+
+fn equivalent_again<T: NormTable>(alloc: Global, table: &T, compat: bool) -> Result<bool, Memory> {
+    match equivalent(alloc, table, compat, "\u{FB01}", "fi") {
+        Err(Memory) => equivalent(alloc, table, compat, "\u{FB01}", "fi"),
+        answer => answer,
+    }
+}
+
+fn alike<T: NormTable>(alloc: Global, table: &T) -> Result<(), Fail> {
+    want(!equivalent_again(alloc, table, false)?, "canonical")?;
+    want(equivalent_again(alloc, table, true)?, "compatible")
 }
 
 /// Feeds a code point; where there is none, ends the text.
@@ -93,6 +147,11 @@ fn step<T: NormTable>(stream: &mut Stream<'_, T>, code: Option<char>) -> Result<
         Some(code) => stream.feed(code),
         None => stream.finish(),
     }
+}
+
+/// Whether a refused step changed nothing.
+fn is_as_before<T: NormTable>(stream: &Stream<'_, T>, ready: usize, pending: usize) -> bool {
+    stream.ready().len() == ready && stream.pending_len() == pending
 }
 
 /// Takes a step, a second time where memory was refused and that is asked for.
@@ -105,7 +164,7 @@ fn steps<T: NormTable>(
     let pending = stream.pending_len();
     if let Err(refused) = step(stream, code) {
         want(
-            stream.ready().len() == ready && stream.pending_len() == pending,
+            is_as_before(stream, ready, pending),
             "a refused step changes nothing",
         )?;
         if !again {
@@ -116,6 +175,20 @@ fn steps<T: NormTable>(
     Ok(())
 }
 
+/// Fails unless the stream gives the text's form.
+fn feeds<T: NormTable>(
+    alloc: Global,
+    stream: &mut Stream<'_, T>,
+    call: Call,
+    normal: &str,
+) -> Result<(), Fail> {
+    for code in "\u{61}\u{302}\u{323}\u{41}\u{327}\u{30A}\u{FB01}".chars() {
+        steps(stream, Some(code), call == Call::Feed)?;
+    }
+    steps(stream, None, call == Call::Finish)?;
+    want(string_of(alloc, stream.ready())?.as_str() == normal, normal)
+}
+
 fn streams<T: NormTable>(
     alloc: Global,
     table: &T,
@@ -124,12 +197,7 @@ fn streams<T: NormTable>(
     normal: &str,
 ) -> Result<(), Fail> {
     let mut stream = Stream::new(alloc, table, wanted);
-    for code in "\u{61}\u{302}\u{323}\u{41}\u{327}\u{30A}\u{FB01}".chars() {
-        steps(&mut stream, Some(code), call == Call::Feed)?;
-    }
-    steps(&mut stream, None, call == Call::Finish)?;
-    let made = string_of(alloc, stream.ready())?;
-    want(made.as_str() == normal, normal)
+    feeds(alloc, &mut stream, call, normal)
 }
 
 fn both_streams<T: NormTable>(alloc: Global, table: &T, call: Call) -> Result<(), Fail> {
@@ -139,33 +207,28 @@ fn both_streams<T: NormTable>(alloc: Global, table: &T, call: Call) -> Result<()
     streams(alloc, table, Form::Nfkd, call, plain)
 }
 
-/// What a run over 0061 0302 answers and writes.
-fn ran<T: NormTable>(alloc: Global, table: &T) -> Result<(Result<u64, RunFault>, Room), Fail> {
+/// Whether memory was refused to a run, which wrote a front of the form then; else it has written the form.
+fn was_refused(answer: Result<u64, RunFault>, bytes: &[u8]) -> Result<bool, Fail> {
+    if answer == Err(RunFault::Memory) {
+        let front = b"\xc3\xa2".starts_with(bytes);
+        want(front, "a refused run writes a front of the form")?;
+        return Ok(true);
+    }
+    want(answer? == 2 && bytes == b"\xc3\xa2".as_slice(), "the run")?;
+    Ok(false)
+}
+
+/// A run over 0061 0302: whether memory was refused to it.
+fn ran<T: NormTable>(alloc: Global, table: &T) -> Result<bool, Fail> {
     let mut target = Watched::new(Room::new(alloc, 8, 8)?);
     let mut source = Watched::new(b"a\xcc\x82".as_slice());
     let answer = run(alloc, table, Form::Nfc, &mut source, &mut target);
-    Ok((answer, target.into_inner()))
-}
-
-/// Fails unless the run wrote the form.
-fn wants_ran(answer: Result<u64, RunFault>, room: &Room) -> Result<(), Fail> {
-    want(
-        answer? == 2 && room.bytes() == b"\xc3\xa2".as_slice(),
-        "the run",
-    )
+    was_refused(answer, target.into_inner().bytes())
 }
 
 fn runs<T: NormTable>(alloc: Global, table: &T) -> Result<(), Fail> {
-    let (answer, room) = ran(alloc, table)?;
-    if answer != Err(RunFault::Memory) {
-        return wants_ran(answer, &room);
-    }
-    want(
-        b"\xc3\xa2".starts_with(room.bytes()),
-        "a refused run writes a front of the form",
-    )?;
-    let (answer, room) = ran(alloc, table)?;
-    wants_ran(answer, &room)
+    let over = !ran(alloc, table)? || !ran(alloc, table)?;
+    want(over, "Memory, a second time")
 }
 
 impl Example for Call {
@@ -177,15 +240,12 @@ impl Example for Call {
             }
             Call::Npss => stabilized(alloc, table),
             Call::LendNpss => lent(alloc, table),
-            Call::IntoNpss => stabilized_in_place(alloc, table),
-            Call::IsForm => {
-                in_form(alloc, table, Form::Nfc, "\u{1EAD}", true)?;
-                in_form(alloc, table, Form::Nfd, "\u{1EAD}", false)
+            Call::IntoNpss => {
+                given_up(alloc, table, &CHARS)?;
+                given_up(alloc, table, &['\u{1EAD}'])
             }
-            Call::Equivalent => {
-                alike(alloc, table, false)?;
-                alike(alloc, table, true)
-            }
+            Call::IsForm => in_form(alloc, table),
+            Call::Equivalent => alike(alloc, table),
             Call::Feed | Call::Finish => both_streams(alloc, table, *self),
             Call::Run => runs(alloc, table),
         }

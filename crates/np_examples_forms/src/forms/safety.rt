@@ -1,5 +1,6 @@
 //! Which worked examples are stream-safe.
 use super::examples::repeated;
+use np_code_points::Memory;
 use np_examples_shared::{Example, Made, V1, holds_over_each, want};
 use np_forms::is_stream_safe;
 use np_versions::NormTable;
@@ -14,17 +15,29 @@ const SAFE: [(&str, char, u32); 4] = [
     ("a\u{302}a", '\u{323}', 30),
 ];
 
-/// Fails unless `count` times `c` behind `before` is stream-safe, or is not, as told.
+/// Whether so many times a code point behind a text is stream-safe.
+fn is_safe<T: NormTable>(
+    alloc: Global,
+    table: &T,
+    row: &(&str, char, u32),
+    count: u32,
+) -> Result<bool, Memory> {
+    let text = repeated(alloc, row.0, row.1, count)?;
+    is_stream_safe(alloc, table, text.as_str())
+}
+
+/// Fails unless so many times the code point is stream-safe, and once more is not.
 fn wants_safe<T: NormTable>(
     alloc: Global,
     table: &T,
-    before: &str,
-    c: char,
-    count: u32,
-    safe: bool,
+    row: &(&str, char, u32),
+    most: u32,
 ) -> Result<(), Fail> {
-    let text = repeated(alloc, before, c, count)?;
-    want(is_stream_safe(alloc, table, text.as_str())? == safe, before)
+    want(is_safe(alloc, table, row, most)?, row.0)?;
+    want(
+        !is_safe(alloc, table, row, most.saturating_add(1))?,
+        "one more",
+    )
 }
 
 /// How many non-starters are stream-safe.
@@ -32,9 +45,8 @@ struct Limits;
 
 impl Example for Limits {
     fn holds<T: Made>(&self, alloc: Global, table: &T) -> Result<(), Fail> {
-        for (before, c, most) in &SAFE {
-            wants_safe(alloc, table, before, *c, *most, true)?;
-            wants_safe(alloc, table, before, *c, most.saturating_add(1), false)?;
+        for row in &SAFE {
+            wants_safe(alloc, table, row, row.2)?;
         }
         Ok(())
     }

@@ -3,7 +3,6 @@ use np_code_points::Form;
 use np_examples_shared::{Example, LETTERS, Made, holds_over, want};
 use np_forms::quick_check_span;
 use np_tables::{PageTable, RowTable};
-use np_versions::NormTable;
 use std::alloc::Global;
 use std::test::Fail;
 
@@ -17,39 +16,21 @@ const SPANS: [(&str, usize); 5] = [
     ("a\u{316}\u{4E00}", 6),
 ];
 
-fn wants_spans<T: NormTable>(table: &T) -> Result<(), Fail> {
-    for (text, wanted) in &SPANS {
-        want(quick_check_span(table, Form::Nfc, text) == *wanted, text)?;
-    }
-    Ok(())
-}
+/// Texts, and how many bytes of their fronts a table tells to pass under NFC.
+struct Spans(&'static [(&'static str, usize)]);
 
-fn wants_none<T: NormTable>(table: &T) -> Result<(), Fail> {
-    want(quick_check_span(table, Form::Nfc, "ab") == 0, "ab")
-}
-
-/// What a table tells of fronts that pass.
-#[derive(Clone, Copy)]
-enum Shown {
-    Spans,
-    Nothing,
-}
-
-impl Example for Shown {
+impl Example for Spans {
     fn holds<T: Made>(&self, _alloc: Global, table: &T) -> Result<(), Fail> {
-        match self {
-            Shown::Spans => wants_spans(table),
-            Shown::Nothing => wants_none(table),
+        for row in self.0 {
+            want(quick_check_span(table, Form::Nfc, row.0) == row.1, row.0)?;
         }
+        Ok(())
     }
 }
 
 #[test]
 fn fronts_pass_the_quick_check(rt: HostRuntime) -> Result<(), Fail> {
-    holds_over::<PageTable, Shown>(rt.alloc(), LETTERS, &Shown::Spans)
-}
-
-#[test]
-fn a_table_may_tell_nothing(rt: HostRuntime) -> Result<(), Fail> {
-    holds_over::<RowTable, Shown>(rt.alloc(), LETTERS, &Shown::Nothing)
+    holds_over::<PageTable, Spans>(rt.alloc(), LETTERS, &Spans(&SPANS))?;
+    // a table may tell nothing
+    holds_over::<RowTable, Spans>(rt.alloc(), LETTERS, &Spans(&[("ab", 0)]))
 }

@@ -1,10 +1,11 @@
 //! Streams on worked examples.
-use np_code_points::Form;
 use np_code_points::text::string_of;
+use np_code_points::{Form, Memory};
 use np_examples_shared::{Example, Made, V1, V2, holds_over_each, want};
 use np_forms::Stream;
 use np_versions::NormTable;
 use std::alloc::Global;
+use std::fmt;
 use std::test::Fail;
 
 /// A form, what is fed, what is ready then, how many code points are pending at most, and the form.
@@ -61,20 +62,24 @@ fn wants_row<T: NormTable>(alloc: Global, table: &T, row: &Row) -> Result<(), Fa
     feeds_row(alloc, &mut stream, row)
 }
 
+fn feeds<T: NormTable>(stream: &mut Stream<'_, T>, text: &str) -> Result<(), Memory> {
+    for c in text.chars() {
+        stream.feed(c)?;
+    }
+    Ok(())
+}
+
 fn feeds_row<T: NormTable>(
     alloc: Global,
     stream: &mut Stream<'_, T>,
     row: &Row,
 ) -> Result<(), Fail> {
-    let (_form, text, ready, most, whole) = *row;
-    for c in text.chars() {
-        stream.feed(c)?;
-    }
-    wants_text(alloc, stream.ready(), ready)?;
-    want(stream.pending_len() <= most, "pending")?;
+    feeds(stream, row.1)?;
+    wants_text(alloc, stream.ready(), row.2)?;
+    want(stream.pending_len() <= row.3, "pending")?;
     stream.finish()?;
     want(stream.pending_len() == 0, "nothing is pending")?;
-    wants_text(alloc, stream.ready(), whole)
+    wants_text(alloc, stream.ready(), row.4)
 }
 
 fn wants_rows<T: NormTable>(alloc: Global, table: &T, rows: &[Row]) -> Result<(), Fail> {
@@ -90,35 +95,40 @@ fn begins_anew<T: NormTable>(alloc: Global, table: &T) -> Result<(), Fail> {
     ends_and_begins(alloc, &mut stream)
 }
 
+/// Fails unless the text is ready behind what was, where it ends.
+fn ends<T: NormTable>(alloc: Global, stream: &mut Stream<'_, T>, text: &str) -> Result<(), Fail> {
+    feeds(stream, text)?;
+    stream.finish()?;
+    wants_text(alloc, stream.ready(), text)
+}
+
 fn ends_and_begins<T: NormTable>(alloc: Global, stream: &mut Stream<'_, T>) -> Result<(), Fail> {
-    stream.finish()?;
-    wants_text(alloc, stream.ready(), "")?;
-    stream.feed('\u{61}')?;
-    stream.finish()?;
-    wants_text(alloc, stream.ready(), "\u{61}")?;
+    ends(alloc, stream, "")?;
+    ends(alloc, stream, "\u{61}")?;
     stream.clear_ready();
-    stream.feed('\u{302}')?;
-    stream.finish()?;
-    wants_text(alloc, stream.ready(), "\u{302}")
+    ends(alloc, stream, "\u{302}")
 }
 
 /// A stream shows how much it holds, and none of it.
 fn shows_counts<T: NormTable>(alloc: Global, table: &T) -> Result<(), Fail> {
     let mut stream = Stream::new(alloc, table, Form::Nfc);
-    stream.feed('\u{61}')?;
-    stream.feed('\u{41}')?;
-    let text = format!(in alloc; "{stream:?}")?;
-    want(
-        text.as_str() == "Stream { form: Nfc, ready: 1, pending: 1, .. }",
-        "what a stream shows",
+    feeds(&mut stream, "\u{61}\u{41}")?;
+    shows(
+        alloc,
+        &stream,
+        "Stream { form: Nfc, ready: 1, pending: 1, .. }",
     )
+}
+
+fn shows<D: fmt::Debug>(alloc: Global, value: &D, wanted: &str) -> Result<(), Fail> {
+    let shown = format!(in alloc; "{value:?}")?;
+    want(shown.as_str() == wanted, wanted)
 }
 
 /// What streams show.
 #[derive(Clone, Copy)]
 enum Shown {
-    OldRows,
-    NewRows,
+    Rows(&'static [Row]),
     Counts,
     BeginsAnew,
 }
@@ -126,8 +136,7 @@ enum Shown {
 impl Example for Shown {
     fn holds<T: Made>(&self, alloc: Global, table: &T) -> Result<(), Fail> {
         match self {
-            Shown::OldRows => wants_rows(alloc, table, &OLD),
-            Shown::NewRows => wants_rows(alloc, table, &NEW),
+            Shown::Rows(rows) => wants_rows(alloc, table, rows),
             Shown::Counts => shows_counts(alloc, table),
             Shown::BeginsAnew => begins_anew(alloc, table),
         }
@@ -136,20 +145,17 @@ impl Example for Shown {
 
 #[test]
 fn what_is_ready_is_the_form_before_its_last_starter(rt: HostRuntime) -> Result<(), Fail> {
-    holds_over_each(rt.alloc(), V1, &Shown::OldRows)
-}
-
-#[test]
-fn starters_go_into_a_pending_starter(rt: HostRuntime) -> Result<(), Fail> {
-    holds_over_each(rt.alloc(), V2, &Shown::NewRows)
-}
-
-#[test]
-fn a_stream_shows_no_text(rt: HostRuntime) -> Result<(), Fail> {
-    holds_over_each(rt.alloc(), V1, &Shown::Counts)
+    holds_over_each(rt.alloc(), V1, &Shown::Rows(&OLD))?;
+    // starters go into a pending starter
+    holds_over_each(rt.alloc(), V2, &Shown::Rows(&NEW))
 }
 
 #[test]
 fn a_new_text_begins_behind_a_finished_one(rt: HostRuntime) -> Result<(), Fail> {
     holds_over_each(rt.alloc(), V1, &Shown::BeginsAnew)
+}
+
+#[test]
+fn a_stream_shows_no_text(rt: HostRuntime) -> Result<(), Fail> {
+    holds_over_each(rt.alloc(), V1, &Shown::Counts)
 }
