@@ -3,9 +3,9 @@ mod faults;
 mod refused;
 mod row_lists;
 
-use np_code_points::devices::{Endless, Failure, Trickle};
-use np_code_points::fixtures::{V1_DATA, V1_EXCLUSIONS};
 use np_code_points::watched::Watched;
+use np_examples_shared::devices::{Endless, Failure, Trickle};
+use np_examples_shared::fixtures::{V1_DATA, V1_EXCLUSIONS};
 use np_examples_shared::{mended, want};
 use np_ucd::{Exclusions, MapKind, Row, RowRef, Rows, UcdFault, read_exclusions, read_rows};
 use std::alloc::Global;

@@ -2,9 +2,9 @@
 mod rows;
 
 use np_code_points::Memory;
-use np_code_points::devices::{Failure, Room, Trickle};
-use np_code_points::told::want_told;
 use np_code_points::watched::Watched;
+use np_examples_shared::devices::{Failure, Room, Trickle};
+use np_examples_shared::told::want_told;
 use np_examples_shared::{Example, FAILURES, LETTERS, Made, V1, holds_over_each, want};
 use np_lines::{Answers, LinesFault, Wanted, answer_bytes, answer_lines};
 use np_versions::NormTable;

@@ -3,7 +3,7 @@ use np_chain::{Break, BreakKind};
 use np_code_points::Memory;
 use np_code_points::input::InputFault;
 use np_code_points::output::WriteFailed;
-use np_code_points::told::want_told;
+use np_examples_shared::told::want_told;
 use np_jobs::{JobFault, ReplayFault, TextFault, VersionFault};
 use np_ucd::UcdFault;
 use np_versions::TableFault;

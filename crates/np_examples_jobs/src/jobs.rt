@@ -10,8 +10,8 @@ pub(crate) mod words;
 ghost use Rattle.std.specs.Prelude.{◌≡◌, ◌≤◌, ◌%◌, length};
 
 use np_code_points::Form;
-use np_code_points::fixtures::V1_EXCLUSIONS;
 use np_code_points::watched::Watched;
+use np_examples_shared::fixtures::V1_EXCLUSIONS;
 use np_examples_shared::{Files, want};
 use np_jobs::{audit_job, compare_job, key_job, key_under_job, normalize_job};
 use np_program::replay_job;

@@ -1,9 +1,9 @@
 //! The answers to lines as a job, and the words of `npss_lines`, on worked examples.
 use crate::jobs::words::words_of;
 use np_code_points::Form;
-use np_code_points::devices::{Failure, Room, Trickle};
-use np_code_points::fixtures::{V1_DATA, V1_EXCLUSIONS};
 use np_code_points::watched::Watched;
+use np_examples_shared::devices::{Failure, Room, Trickle};
+use np_examples_shared::fixtures::{V1_DATA, V1_EXCLUSIONS};
 use np_examples_shared::{again, want};
 use np_lines::{LineEnd, Wanted};
 use np_lines_job::{Asked, LinesJob, REFUSED, lines_job, lines_usage_text, parse_lines};

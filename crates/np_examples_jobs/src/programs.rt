@@ -2,9 +2,9 @@
 use crate::jobs::opening::Shelf;
 use crate::jobs::words::words_of;
 use crate::jobs::{Answer, Ran, is_answer};
-use np_code_points::devices::Trickle;
-use np_code_points::fixtures::{V1_DATA, V1_EXCLUSIONS};
 use np_code_points::watched::Watched;
+use np_examples_shared::devices::Trickle;
+use np_examples_shared::fixtures::{V1_DATA, V1_EXCLUSIONS};
 use np_examples_shared::want;
 use np_lines_job::{Progress, lines_usage_text, run_words as run_line_words};
 use np_program::{run_words, usage_text};

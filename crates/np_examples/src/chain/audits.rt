@@ -1,8 +1,8 @@
 //! The breaks of one version against another.
 use np_chain::{Break, BreakKind, audit, extends};
 use np_code_points::Memory;
-use np_code_points::fixtures::{V1_DATA, V1_EXCLUSIONS};
-use np_code_points::told::want_told;
+use np_examples_shared::fixtures::{V1_DATA, V1_EXCLUSIONS};
+use np_examples_shared::told::want_told;
 use np_examples_shared::{Files, V1, V2, version_of, want};
 use np_versions::Version;
 use std::alloc::Global;

@@ -1,7 +1,7 @@
 //! Versions in a row.
 use np_chain::{Break, BreakKind, Chain, ChainFault};
 use np_code_points::Form;
-use np_code_points::told::want_told;
+use np_examples_shared::told::want_told;
 use np_examples_shared::{Files, GuestTable, Made, S, V1, V2, made_of, want};
 use np_forms::{first_unassigned, npss};
 use np_tables::RowTable;

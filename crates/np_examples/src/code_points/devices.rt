@@ -1,5 +1,5 @@
 //! The devices for tests keep their own word.
-use np_code_points::devices::{Endless, Failure, Room, Trickle};
+use np_examples_shared::devices::{Endless, Failure, Room, Trickle};
 use np_examples_shared::{FAILURES, want};
 use std::alloc::Global;
 use std::io::{ErrorKind, Read, Result as IoResult, Write};

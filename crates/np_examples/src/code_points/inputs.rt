@@ -1,8 +1,8 @@
 //! Whole inputs: their end, their limit, and what a failure leaves.
-use np_code_points::devices::{Endless, Failure, Trickle};
 use np_code_points::input::{InputFault, LIMIT, read_whole};
-use np_code_points::told::want_told;
 use np_code_points::watched::Watched;
+use np_examples_shared::devices::{Endless, Failure, Trickle};
+use np_examples_shared::told::want_told;
 use np_examples_shared::{FAILURES, mended, want};
 use std::alloc::Global;
 use std::io::Read;

@@ -1,8 +1,8 @@
 //! Whole outputs: pieces, the flush, and what a failure leaves.
 use np_code_points::Memory;
-use np_code_points::devices::{Failure, Room};
 use np_code_points::output::{WriteFailed, flush_once, write_out, write_whole};
 use np_code_points::watched::Watched;
+use np_examples_shared::devices::{Failure, Room};
 use np_examples_shared::{FAILURES, want};
 use std::alloc::Global;
 use std::io::Write;

@@ -3,7 +3,7 @@ use np_code_points::Form;
 use np_code_points::codes::{code_of, hex_value, scalar_of};
 use np_code_points::hangul::{hangul_pair, hangul_parts};
 use np_code_points::text::{NotUtf8, chars_of, string_of, text_of};
-use np_code_points::told::want_told;
+use np_examples_shared::told::want_told;
 use np_examples_shared::want;
 use std::alloc::Global;
 use std::test::Fail;

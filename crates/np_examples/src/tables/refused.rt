@@ -1,7 +1,7 @@
 //! Versions and tables that were refused for want of memory, and are made of the same files after all.
 use super::{has_count, version};
 use np_code_points::Memory;
-use np_code_points::fixtures::{V1_DATA, V1_EXCLUSIONS};
+use np_examples_shared::fixtures::{V1_DATA, V1_EXCLUSIONS};
 use np_examples_shared::{Made, V1, table_of, version_of, want};
 use np_tables::{PageTable, RowTable};
 use np_versions::{NormTable, TableFault, Version};

@@ -1,7 +1,7 @@
 //! Versions: what they tell of their files, and the faults of files that give none.
 use super::{has_count, version};
-use np_code_points::fixtures::{V1_DATA, V1_EXCLUSIONS, V2_DATA, V2_EXCLUSIONS};
-use np_code_points::told::want_told;
+use np_examples_shared::fixtures::{V1_DATA, V1_EXCLUSIONS, V2_DATA, V2_EXCLUSIONS};
+use np_examples_shared::told::want_told;
 use np_examples_shared::{Files, S, V1, version_of, want};
 use np_ucd::MapKind;
 use np_versions::{Pairs, TableFault, Version, mapped_code};

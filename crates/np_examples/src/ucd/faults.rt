@@ -1,6 +1,6 @@
 //! Files that are not what they should be, and the words of faults.
 use super::rows_of;
-use np_code_points::told::want_told;
+use np_examples_shared::told::want_told;
 use np_examples_shared::want;
 use np_ucd::UcdFault;
 use std::alloc::Global;

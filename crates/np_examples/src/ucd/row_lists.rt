@@ -1,7 +1,7 @@
 //! The rows of a file in a list that is kept small.
 use super::{KNOWN, exclusions_of, lent, rows_of};
-use np_code_points::fixtures::V1_DATA;
 use np_code_points::watched::Watched;
+use np_examples_shared::fixtures::V1_DATA;
 use np_examples_shared::want;
 use np_ucd::{RowList, Rows, UcdFault, read_row_list};
 use std::alloc::Global;

@@ -1,7 +1,7 @@
 //! The example of the README and of the crate's head: from two files to a key.
 use np_code_points::Form;
-use np_code_points::fixtures::{V1_DATA, V1_EXCLUSIONS};
 use np_code_points::watched::Watched;
+use np_examples_shared::fixtures::{V1_DATA, V1_EXCLUSIONS};
 use np_examples_shared::want;
 use np_forms::npss;
 use np_tables::{PageTable, Version};

@@ -1,8 +1,8 @@
 //! What each call answers on worked examples.
 use super::canonical_rows::CANONICAL;
 use super::{wants_equivalent, wants_form};
-use np_code_points::told::want_told;
 use np_code_points::{Form, Memory};
+use np_examples_shared::told::want_told;
 use np_examples_shared::{
     Example, LETTERS, Made, S, V1, V2, amid, holds_over, holds_over_each, want,
 };

@@ -1,8 +1,8 @@
 //! Calls that were refused for want of memory, and succeed after all.
-use np_code_points::devices::Room;
 use np_code_points::text::string_of;
 use np_code_points::watched::Watched;
 use np_code_points::{Form, Memory};
+use np_examples_shared::devices::Room;
 use np_examples_shared::{Example, Made, V1, holds_over_each, want};
 use np_forms::{
     NpssFault, RunFault, Stream, equivalent, form, into_npss, is_form, lend_npss, npss, run,

@@ -1,8 +1,8 @@
 //! Runs over whole inputs on worked examples.
 use np_code_points::Form;
-use np_code_points::devices::{Failure, Room, Trickle};
-use np_code_points::told::want_told;
 use np_code_points::watched::Watched;
+use np_examples_shared::devices::{Failure, Room, Trickle};
+use np_examples_shared::told::want_told;
 use np_examples_shared::{Example, FAILURES, Made, V1, holds_over_each, want};
 use np_forms::{RunFault, run};
 use np_versions::NormTable;

@@ -1,7 +1,7 @@
 //! Worked examples of the jobs over the fixtures.
 use super::{Answer, Command, Job, JobRow, are_answered, wants_answer};
 use np_code_points::Form;
-use np_code_points::fixtures::{V1_DATA, V2_EXCLUSIONS};
+use np_examples_shared::fixtures::{V1_DATA, V2_EXCLUSIONS};
 use np_examples_shared::{V1, V2};
 use std::alloc::Global;
 use std::test::Fail;

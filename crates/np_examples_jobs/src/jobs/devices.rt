@@ -2,10 +2,10 @@
 ghost use Rattle.std.specs.Prelude.{◌≡◌, ◌≤◌, ◌%◌, length};
 
 use super::{Command, Job, Ran, is_answer, job_into};
-use np_code_points::devices::{Failure, Room, Trickle};
-use np_code_points::fixtures::{V1_DATA, V1_EXCLUSIONS};
 use np_code_points::watched::Watched;
 use np_code_points::{Form, Memory};
+use np_examples_shared::devices::{Failure, Room, Trickle};
+use np_examples_shared::fixtures::{V1_DATA, V1_EXCLUSIONS};
 use np_examples_shared::{mended, want};
 use np_jobs::{audit_job, key_job, key_under_job};
 use np_program::replay_job;

@@ -1,7 +1,7 @@
 //! Files that are opened by their names as they stand, and the first that doesn't open.
-use np_code_points::devices::Trickle;
 use np_code_points::input::read_whole;
 use np_code_points::watched::Watched;
+use np_examples_shared::devices::Trickle;
 use np_examples_shared::want;
 use np_jobs::{Opener, open_version, open_versions};
 use np_words::VersionFiles;

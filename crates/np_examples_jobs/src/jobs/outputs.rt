@@ -1,9 +1,9 @@
 //! Each job into an output of which one write, or the flush, fails, in each way.
 use super::{Command, Job, job_into};
 use np_code_points::Form;
-use np_code_points::devices::{Failure, Room};
-use np_code_points::fixtures::V1_DATA;
 use np_code_points::watched::Watched;
+use np_examples_shared::devices::{Failure, Room};
+use np_examples_shared::fixtures::V1_DATA;
 use np_examples_shared::{FAILURES, V1, V2, want};
 use std::alloc::Global;
 use std::test::Fail;

@@ -1,6 +1,6 @@
 //! Worked examples of `replay` over the fixtures, and what comes first of several faults.
 use super::{Job, JobRow, are_answered, wants_answer};
-use np_code_points::fixtures::{V1_EXCLUSIONS, V2_EXCLUSIONS};
+use np_examples_shared::fixtures::{V1_EXCLUSIONS, V2_EXCLUSIONS};
 use np_examples_shared::{Files, V1, V2};
 use np_world::fixtures::{
     EXCHANGE_REPORT, EXCHANGE_SCHEDULE, FORGED_REPORT, FORGED_SCHEDULE, FORGETTING_REPORT,

@@ -4,8 +4,8 @@ use super::{
     wants_taken,
 };
 use np_chain::{Break, BreakKind};
-use np_code_points::told::want_told;
 use np_code_points::{Form, Memory};
+use np_examples_shared::told::want_told;
 use np_examples_shared::{Example, Made, V1, V2, holds_over_each, table_of, want};
 use np_node::{Accepted, ImageFault, Node, NodeFault, Taken};
 use np_versions::NormTable;

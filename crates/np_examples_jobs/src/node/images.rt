@@ -1,7 +1,7 @@
 //! Images, and nodes restored from them.
 use super::{NoImage, Row, Step, story, wants_image, wants_no_node, wants_no_nodes};
 use np_code_points::Form;
-use np_code_points::told::want_told;
+use np_examples_shared::told::want_told;
 use np_examples_shared::{Example, Made, V1, V2, holds_over_each, want};
 use np_node::{ImageFault, Node, NodeFault};
 use np_versions::NormTable;

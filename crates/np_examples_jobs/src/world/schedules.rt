@@ -1,6 +1,6 @@
 //! Worked examples of schedules, and of lines that can't stand.
 use np_code_points::Memory;
-use np_code_points::told::want_told;
+use np_examples_shared::told::want_told;
 use np_examples_shared::want;
 use np_schedules::EventLine;
 use np_world::{Schedule, ScheduleFault, read_schedule};
