@@ -88,7 +88,7 @@ fn want_rows_by(alloc: Global, whole: &Rows, piece: usize) -> Result<(), Fail> {
 }
 
 fn want_pieces(alloc: Global, whole: &Rows) -> Result<(), Fail> {
-    has_rows(whole, &KNOWN)?;
+    has_rows(whole, KNOWN)?;
     want_rows_by(alloc, whole, 1)?;
     want_rows_by(alloc, whole, 7)
 }
@@ -100,7 +100,7 @@ fn pieces_decide_nothing(rt: HostRuntime) -> Result<(), Fail> {
 }
 
 // (a place, the row of the first fixture there)
-const KNOWN: [(usize, RowRef<'static>); 3] = [
+const KNOWN: &[(usize, RowRef<'static>)] = &[
     (
         10,
         RowRef {

@@ -91,7 +91,7 @@ fn wants_long<T: NormTable>(
 }
 
 // How long a line is, and whether that is told to be too long, or it is its own key.
-const LONG: [(usize, bool); 4] = [
+const LONG: &[(usize, bool)] = &[
     (65_535, true),
     (65_536, true),
     (65_537, false),
@@ -111,7 +111,7 @@ fn long_line<T: NormTable>(alloc: Global, table: &T, row: &(usize, bool)) -> Res
 }
 
 fn long_lines<T: NormTable>(alloc: Global, table: &T) -> Result<(), Fail> {
-    for row in &LONG {
+    for row in LONG {
         long_line(alloc, table, row)?;
     }
     Ok(())
@@ -119,7 +119,7 @@ fn long_lines<T: NormTable>(alloc: Global, table: &T) -> Result<(), Fail> {
 
 // The number of a read that fails, counted from 0, each of which gives a byte; the whole lines before it, which are
 // answered.
-const READS: [(u64, &[u8]); 6] = [
+const READS: &[(u64, &[u8])] = &[
     (0, b""),
     (1, b""),
     (2, b"=a\n"),
@@ -129,7 +129,7 @@ const READS: [(u64, &[u8]); 6] = [
 ];
 
 fn failed_reads<T: NormTable>(alloc: Global, table: &T, failure: Failure) -> Result<(), Fail> {
-    for row in &READS {
+    for row in READS {
         let source = Trickle::new(b"a\nA\na", 1).failing_at(row.0, failure);
         let answered = Answered {
             what: "the whole lines",
@@ -249,15 +249,15 @@ impl Example for Shown {
 #[test]
 fn each_line_is_answered(rt: HostRuntime) -> Result<(), Fail> {
     let alloc = rt.alloc();
-    holds_over_each(alloc, V1, &Shown::Rows(&ROWS))?;
-    holds_over_each(alloc, MAPS_TO_LF, &Shown::Rows(&LF_ROWS))?;
-    holds_over_each(alloc, ASCII_MAPS_TO_LF, &Shown::Rows(&ASCII_LF_ROWS))?;
-    holds_over_each(alloc, LETTERS, &Shown::Rows(&LETTER_ROWS))?;
+    holds_over_each(alloc, V1, &Shown::Rows(ROWS))?;
+    holds_over_each(alloc, MAPS_TO_LF, &Shown::Rows(LF_ROWS))?;
+    holds_over_each(alloc, ASCII_MAPS_TO_LF, &Shown::Rows(ASCII_LF_ROWS))?;
+    holds_over_each(alloc, LETTERS, &Shown::Rows(LETTER_ROWS))?;
     holds_over_each(alloc, V1, &Shown::Long)
 }
 
 /// Each fault, and how it is told.
-const TOLD: [(LinesFault, &str); 3] = [
+const TOLD: &[(LinesFault, &str)] = &[
     (LinesFault::ReadFailed, "read failed"),
     (LinesFault::WriteFailed, "write failed"),
     (LinesFault::Memory, "out of memory"),
@@ -270,7 +270,7 @@ fn failed_devices_are_told_behind_whole_lines(rt: HostRuntime) -> Result<(), Fai
         holds_over_each(alloc, V1, &Shown::FailedReads(*failure))?;
         holds_over_each(alloc, V1, &Shown::FailedWrites(*failure))?;
     }
-    want_told(alloc, &TOLD)
+    want_told(alloc, TOLD)
 }
 
 #[test]
@@ -281,8 +281,8 @@ fn a_refused_answer_lines_succeeds_after_all(rt: HostRuntime) -> Result<(), Fail
 #[test]
 fn a_refused_answer_bytes_succeeds_after_all(rt: HostRuntime) -> Result<(), Fail> {
     let alloc = rt.alloc();
-    holds_over_each(alloc, V1, &Shown::AtOnce(&ROWS))?;
-    holds_over_each(alloc, MAPS_TO_LF, &Shown::AtOnce(&LF_ROWS))?;
-    holds_over_each(alloc, ASCII_MAPS_TO_LF, &Shown::AtOnce(&ASCII_LF_ROWS))?;
-    holds_over_each(alloc, LETTERS, &Shown::AtOnce(&LETTER_ROWS))
+    holds_over_each(alloc, V1, &Shown::AtOnce(ROWS))?;
+    holds_over_each(alloc, MAPS_TO_LF, &Shown::AtOnce(LF_ROWS))?;
+    holds_over_each(alloc, ASCII_MAPS_TO_LF, &Shown::AtOnce(ASCII_LF_ROWS))?;
+    holds_over_each(alloc, LETTERS, &Shown::AtOnce(LETTER_ROWS))
 }

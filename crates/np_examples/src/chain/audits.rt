@@ -77,7 +77,7 @@ fn wants_between(
     wants_after(alloc, &old, new, wanted)
 }
 
-const LOST: [Break; 6] = [
+const LOST: &[Break] = &[
     Break {
         kind: BreakKind::Lost,
         code: 0x1DFA,
@@ -115,9 +115,9 @@ const NONE: Files = ("", "");
 const INCLUDED: Files = (V1_DATA, "");
 
 // (files, files of a version after them, the breaks)
-const BETWEEN: [(Files, Files, &[Break]); 7] = [
+const BETWEEN: &[(Files, Files, &[Break])] = &[
     (V1, V2, &[]),
-    (V2, V1, &LOST),
+    (V2, V1, LOST),
     (
         INCLUDED,
         V1,
@@ -167,18 +167,18 @@ const MANY: &str = "\
 
 #[test]
 fn the_breaks_between_versions_are_told(rt: HostRuntime) -> Result<(), Fail> {
-    have_breaks(rt.alloc(), &BETWEEN)?;
+    have_breaks(rt.alloc(), BETWEEN)?;
     // many have memory
     wants_between(rt.alloc(), (MANY, ""), NONE, Wanted::Count(524_288))
 }
 
 #[test]
 fn a_refused_audit_succeeds_after_all(rt: HostRuntime) -> Result<(), Fail> {
-    wants_between(rt.alloc(), V2, V1, Wanted::AfterAll(&LOST))
+    wants_between(rt.alloc(), V2, V1, Wanted::AfterAll(LOST))
 }
 
 // (text of the first fixture, what stands in its place, the exclusions, the break or none)
-const ALTERED: [(&str, &str, &str, &[Break]); 10] = [
+const ALTERED: &[(&str, &str, &str, &[Break])] = &[
     (
         "0323;X;Mn;220;",
         "0323;X;Mn;222;",
@@ -297,7 +297,7 @@ fn each_altered(
 #[test]
 fn each_altered_line_is_one_break(rt: HostRuntime) -> Result<(), Fail> {
     let first = version_of(rt.alloc(), V1)?;
-    each_altered(rt.alloc(), &first, &ALTERED)
+    each_altered(rt.alloc(), &first, ALTERED)
 }
 
 #[test]

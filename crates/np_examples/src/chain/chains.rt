@@ -97,7 +97,7 @@ fn wants_broken<T: Made>(
 
 // (versions, the first that breaks, what it loses): among them two that break, and one that extends the first and
 // not the one before.
-const BROKEN: [(&[Files], usize, u32); 4] = [
+const BROKEN: &[(&[Files], usize, u32)] = &[
     (&[V2, V1], 1, 0x1DFA),
     (&[V2, V1, S], 1, 0x1DFA),
     (&[V1, V2, V1, S], 2, 0x1DFA),
@@ -106,14 +106,14 @@ const BROKEN: [(&[Files], usize, u32); 4] = [
 
 #[test]
 fn the_first_version_that_breaks_is_told(rt: HostRuntime) -> Result<(), Fail> {
-    for row in &BROKEN {
+    for row in BROKEN {
         wants_broken::<RowTable>(rt.alloc(), row.0, row.1, row.2)?;
     }
     Ok(())
 }
 
 /// Each fault, and how it is told.
-const TOLD: [(ChainFault, &str); 2] = [
+const TOLD: &[(ChainFault, &str)] = &[
     (
         ChainFault::Broken {
             at: 1,
@@ -129,5 +129,5 @@ const TOLD: [(ChainFault, &str); 2] = [
 
 #[test]
 fn a_fault_is_told_in_words(rt: HostRuntime) -> Result<(), Fail> {
-    want_told(rt.alloc(), &TOLD)
+    want_told(rt.alloc(), TOLD)
 }

@@ -96,7 +96,7 @@ fn an_endless_reader_is_too_large(rt: HostRuntime) -> Result<(), Fail> {
 }
 
 /// Each fault, and how it is told.
-const TOLD: [(InputFault, &str); 3] = [
+const TOLD: &[(InputFault, &str)] = &[
     (InputFault::TooLarge, "more than 16,777,216 bytes"),
     (InputFault::ReadFailed, "read failed"),
     (InputFault::Memory, "out of memory"),
@@ -104,5 +104,5 @@ const TOLD: [(InputFault, &str); 3] = [
 
 #[test]
 fn faults_are_told_in_words(rt: HostRuntime) -> Result<(), Fail> {
-    want_told(rt.alloc(), &TOLD)
+    want_told(rt.alloc(), TOLD)
 }

@@ -41,10 +41,10 @@ fn a_writer_takes_all_and_is_flushed_once(rt: HostRuntime) -> Result<(), Fail> {
 }
 
 /// The number of the call that fails, how many there are then, and how many bytes were taken.
-const FAILED: [(u64, u64, usize); 3] = [(0, 1, 0), (1, 2, 2), (2, 3, 3)];
+const FAILED: &[(u64, u64, usize)] = &[(0, 1, 0), (1, 2, 2), (2, 3, 3)];
 
 fn stops_at_each(alloc: Global, failure: Failure) -> Result<(), Fail> {
-    for (call, calls, taken) in &FAILED {
+    for (call, calls, taken) in FAILED {
         let end = ends(alloc, b"abc", *call, failure)?;
         want(
             end == (Err(WriteFailed), true, *calls, *taken),

@@ -9,7 +9,7 @@ use std::test::Fail;
 
 const TEXT: &str = "\u{61}\u{302}";
 
-const CHARS: [char; 2] = ['\u{61}', '\u{302}'];
+const CHARS: &[char] = &['\u{61}', '\u{302}'];
 
 fn chars_again(alloc: Global) -> Result<Vec<char>, Memory> {
     match chars_of(alloc, TEXT) {
@@ -20,13 +20,13 @@ fn chars_again(alloc: Global) -> Result<Vec<char>, Memory> {
 
 #[test]
 fn a_refused_chars_of_succeeds_after_all(rt: HostRuntime) -> Result<(), Fail> {
-    let same = chars_again(rt.alloc())?.as_slice() == CHARS.as_slice();
+    let same = chars_again(rt.alloc())?.as_slice() == CHARS;
     want(same, "two code points")
 }
 
 fn string_again(alloc: Global) -> Result<String, Memory> {
-    match string_of(alloc, &CHARS) {
-        Err(Memory) => string_of(alloc, &CHARS),
+    match string_of(alloc, CHARS) {
+        Err(Memory) => string_of(alloc, CHARS),
         made => made,
     }
 }

@@ -9,7 +9,7 @@ use std::alloc::Global;
 use std::test::Fail;
 
 // (bytes, the text that they are, or the first that are none)
-const TEXTS: [(&[u8], Result<&str, NotUtf8>); 2] = [
+const TEXTS: &[(&[u8], Result<&str, NotUtf8>)] = &[
     (b"\x61\xcc\x82", Ok("\u{61}\u{302}")),
     (b"a\xcc", Err(NotUtf8 { at: 1 })),
 ];
@@ -22,7 +22,7 @@ fn read_texts(rows: &[(&[u8], Result<&str, NotUtf8>)]) -> Result<(), Fail> {
 }
 
 // (bytes, the code point that they stand for)
-const CODES: [(&[u8], Option<u32>); 6] = [
+const CODES: &[(&[u8], Option<u32>)] = &[
     (b"00e2", Some(0xE2)),
     (b"10FFFF", Some(0x10FFFF)),
     (b"110000", None),
@@ -39,7 +39,7 @@ fn read_codes(rows: &[(&[u8], Option<u32>)]) -> Result<(), Fail> {
 }
 
 // (bytes, the code point that they write, where it is no surrogate)
-const SCALARS: [(&[u8], Option<char>); 5] = [
+const SCALARS: &[(&[u8], Option<char>)] = &[
     (b"0061", Some('a')),
     (b"D7FF", Some('\u{D7FF}')),
     (b"D800", None),
@@ -56,9 +56,9 @@ fn read_scalars(rows: &[(&[u8], Option<char>)]) -> Result<(), Fail> {
 
 #[test]
 fn texts_and_codes_are_read(_rt: HostRuntime) -> Result<(), Fail> {
-    read_texts(&TEXTS)?;
-    read_codes(&CODES)?;
-    read_scalars(&SCALARS)?;
+    read_texts(TEXTS)?;
+    read_codes(CODES)?;
+    read_scalars(SCALARS)?;
     let digits = hex_value(b'f') == Some(15) && hex_value(b'G').is_none();
     want(digits, "a digit, and no digit")
 }
@@ -73,7 +73,7 @@ fn forms_have_names_and_bytes(_rt: HostRuntime) -> Result<(), Fail> {
 }
 
 // (two parts, their syllable)
-const PAIRS: [(char, char, Option<char>); 5] = [
+const PAIRS: &[(char, char, Option<char>)] = &[
     ('\u{1100}', '\u{1161}', Some('\u{AC00}')),
     ('\u{AC00}', '\u{11A7}', None),
     ('\u{AC00}', '\u{11A8}', Some('\u{AC01}')),
@@ -89,7 +89,7 @@ fn compose(rows: &[(char, char, Option<char>)]) -> Result<(), Fail> {
 }
 
 // (a code point, its two parts): AC01, the last syllable, and what is behind it.
-const PARTS: [(char, Option<(char, char)>); 3] = [
+const PARTS: &[(char, Option<(char, char)>)] = &[
     ('\u{AC01}', Some(('\u{AC00}', '\u{11A8}'))),
     ('\u{D7A3}', Some(('\u{D788}', '\u{11C2}'))),
     ('\u{D7A4}', None),
@@ -104,8 +104,8 @@ fn decompose(rows: &[(char, Option<(char, char)>)]) -> Result<(), Fail> {
 
 #[test]
 fn syllables_map_to_pairs(_rt: HostRuntime) -> Result<(), Fail> {
-    compose(&PAIRS)?;
-    decompose(&PARTS)
+    compose(PAIRS)?;
+    decompose(PARTS)
 }
 
 /// Fails unless the code points have a text of so many bytes, and come back from it.

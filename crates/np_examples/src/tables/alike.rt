@@ -8,7 +8,7 @@ use std::alloc::Global;
 use std::test::Fail;
 
 // First parts of pairs and second parts, and neighbours of theirs; 11A7 is no trailing consonant.
-const PARTS: [(char, char); 12] = [
+const PARTS: &[(char, char)] = &[
     ('\u{0}', '\u{0}'),
     ('\u{41}', '\u{301}'),
     ('\u{61}', '\u{302}'),
@@ -25,7 +25,7 @@ const PARTS: [(char, char); 12] = [
 
 /// Whether both say the same of the pairs that a code point begins and those that it ends.
 fn same_pairs<T: NormTable, U: NormTable>(one: &T, two: &U, c: char) -> bool {
-    for row in &PARTS {
+    for row in PARTS {
         let begins = one.pair(c, row.1) == two.pair(c, row.1);
         if !begins || one.pair(row.0, c) != two.pair(row.0, c) {
             return false;
@@ -76,7 +76,7 @@ fn same_everywhere<T: NormTable, U: NormTable>(one: &T, two: &U) -> bool {
 }
 
 fn same_between_parts<T: NormTable, U: NormTable>(one: &T, two: &U) -> bool {
-    for row in &PARTS {
+    for row in PARTS {
         if !same_pairs(one, two, row.0) {
             return false;
         }
@@ -101,11 +101,11 @@ fn both_answer_alike<T: Made, U: Made>(alloc: Global, files: Files<'_>) -> Resul
     answers_as::<T, U>(alloc, &one, files)
 }
 
-const EACH: [Files; 4] = [V1, V2, S, (LAST, "")];
+const EACH: &[Files] = &[V1, V2, S, (LAST, "")];
 
 #[test]
 fn both_tables_answer_alike_for_every_code_point(rt: HostRuntime) -> Result<(), Fail> {
-    for files in &EACH {
+    for files in EACH {
         both_answer_alike::<RowTable, PageTable>(rt.alloc(), *files)?;
     }
     Ok(())

@@ -11,7 +11,7 @@ use std::test::Fail;
 // where no class is less than the one before and, where the form composes, they are no second parts. A
 // second part follows a code point that blocks it, or one without a mapping with which it has no composite.
 // A leading consonant is not taken to pass where the form composes.
-const QUICK_SPANS: [(Form, &str, usize); 29] = [
+const QUICK_SPANS: &[(Form, &str, usize)] = &[
     (Form::Nfc, "\u{915}\u{302}", 5),
     (Form::Nfkc, "\u{915}\u{302}\u{30A}\u{1161}", 10),
     (Form::Nfc, "\u{915}\u{323}\u{302}", 5),
@@ -48,7 +48,7 @@ const QUICK_SPANS: [(Form, &str, usize); 29] = [
 ];
 
 // What is not assigned passes too, but where assigned code points are asked for.
-const LACKING: [(Form, &str, usize, usize); 6] = [
+const LACKING: &[(Form, &str, usize, usize)] = &[
     (Form::Nfd, "A\u{16D67}A", 6, 1),
     (Form::Nfc, "A\u{16D67}A", 6, 1),
     (Form::Nfkd, "\u{10FFFF}", 4, 0),
@@ -72,7 +72,7 @@ FB49;X;Lo;0;R;05E9 05BC;;;;N;;;;;
 );
 
 // The same of pointed Hebrew.
-const HEBREW_SPANS: [(Form, &str, usize); 5] = [
+const HEBREW_SPANS: &[(Form, &str, usize)] = &[
     (Form::Nfc, "\u{5E9}\u{5B7}\u{5BC}\u{5C1}\u{5E9}", 10),
     (Form::Nfd, "\u{5E9}\u{5B7}\u{5BC}\u{5C1}\u{5E9}", 10),
     (Form::Nfc, "\u{5E9}\u{5BC}\u{5B7}", 4),
@@ -98,7 +98,7 @@ const ACCENTS: Files = (
 
 // The same behind a composite: what never composes backward follows, be its class below that of a part or not. What
 // composes with a part doesn't, though it has no composite with the whole.
-const ACCENTED_SPANS: [(Form, &str, usize); 11] = [
+const ACCENTED_SPANS: &[(Form, &str, usize)] = &[
     (Form::Nfc, "\u{E0}\u{5AE}", 4),
     (Form::Nfkc, "\u{E0}\u{5AE}", 4),
     (Form::Nfd, "\u{E0}\u{5AE}", 0),
@@ -113,7 +113,7 @@ const ACCENTED_SPANS: [(Form, &str, usize); 11] = [
 ];
 
 // Whether a boundary of a form is before a code point.
-const BOUNDARIES: [(Form, char, bool); 8] = [
+const BOUNDARIES: &[(Form, char, bool)] = &[
     (Form::Nfd, '\u{E2}', true),
     (Form::Nfc, '\u{E2}', true),
     (Form::Nfkd, '\u{AC01}', true),
@@ -133,7 +133,7 @@ fn tells_quick_spans<T: NormTable>(table: &T, rows: &[(Form, &str, usize)]) -> R
 }
 
 // Whether a boundary is told to be behind the front of a text that passes.
-const ENDING: [(Form, &str, bool); 4] = [
+const ENDING: &[(Form, &str, bool)] = &[
     (Form::Nfd, "A\u{E2}", true),
     (Form::Nfc, "A\u{302}", false),
     (Form::Nfkc, "A\u{1100}\u{1161}", true),
@@ -172,7 +172,7 @@ fn tells_boundaries<T: NormTable>(table: &T, rows: &[(Form, char, bool)]) -> Res
 
 // The form of a code point by itself: none is told where it has no mapping of the kind, or where its full
 // decomposition begins with no starter and the form composes.
-const PRECOMPUTED: [(Form, char, &str); 12] = [
+const PRECOMPUTED: &[(Form, char, &str)] = &[
     (Form::Nfd, '\u{E2}', "a\u{302}"),
     (Form::Nfd, '\u{1EAD}', "a\u{323}\u{302}"),
     (Form::Nfd, '\u{344}', "\u{308}\u{301}"),
@@ -219,12 +219,12 @@ const ASCII: Files = (
     "",
 );
 
-const FORMS: [Form; 4] = [Form::Nfd, Form::Nfc, Form::Nfkd, Form::Nfkc];
+const FORMS: &[Form] = &[Form::Nfd, Form::Nfc, Form::Nfkd, Form::Nfkc];
 
 /// Whether a table tells of each form that leading consonants are boundaries, and that ASCII passes, as
 /// it is wanted.
 fn tells_once<T: NormTable>(table: &T, leads: bool, ascii: bool) -> bool {
-    for form in &FORMS {
+    for form in FORMS {
         let boundaries = table.leading_consonants_are_boundaries(*form);
         if boundaries != leads || table.ascii_passes(*form) != ascii {
             return false;
@@ -235,10 +235,10 @@ fn tells_once<T: NormTable>(table: &T, leads: bool, ascii: bool) -> bool {
 
 /// What a table of pages tells of the first fixture.
 fn tells_of_the_first<T: NormTable>(table: &T) -> Result<(), Fail> {
-    tells_assigned_spans(table, &LACKING)?;
-    tells_boundaries_behind(table, &ENDING)?;
-    tells_boundaries(table, &BOUNDARIES)?;
-    has_each(table, &PRECOMPUTED)
+    tells_assigned_spans(table, LACKING)?;
+    tells_boundaries_behind(table, ENDING)?;
+    tells_boundaries(table, BOUNDARIES)?;
+    has_each(table, PRECOMPUTED)
 }
 
 /// What a table of pages tells beforehand, and a plain table doesn't.
@@ -259,7 +259,7 @@ impl Example for Hint {
         match self {
             Hint::Spans(rows) => tells_quick_spans(table, rows),
             Hint::First => tells_of_the_first(table),
-            Hint::NonePrecomputed => has_none(table, &PRECOMPUTED),
+            Hint::NonePrecomputed => has_none(table, PRECOMPUTED),
             Hint::Once(leads, ascii) => want(
                 tells_once(&table, *leads, *ascii),
                 "leading consonants are boundaries, and ASCII passes",
@@ -271,9 +271,9 @@ impl Example for Hint {
 #[test]
 fn quick_spans_are_of_what_passes_the_quick_check(rt: HostRuntime) -> Result<(), Fail> {
     let alloc = rt.alloc();
-    holds_over::<PageTable, Hint>(alloc, V1, &Hint::Spans(&QUICK_SPANS))?;
-    holds_over::<PageTable, Hint>(alloc, HEBREW, &Hint::Spans(&HEBREW_SPANS))?;
-    holds_over::<PageTable, Hint>(alloc, ACCENTS, &Hint::Spans(&ACCENTED_SPANS))
+    holds_over::<PageTable, Hint>(alloc, V1, &Hint::Spans(QUICK_SPANS))?;
+    holds_over::<PageTable, Hint>(alloc, HEBREW, &Hint::Spans(HEBREW_SPANS))?;
+    holds_over::<PageTable, Hint>(alloc, ACCENTS, &Hint::Spans(ACCENTED_SPANS))
 }
 
 #[test]

@@ -10,7 +10,7 @@ use std::test::Fail;
 
 // The pairs of the first fixture, from the least to the greatest, and neighbours that are none. 0915
 // 093C is excluded, and 11A7 is no trailing consonant.
-const PAIRS: [(char, char, Option<char>); 14] = [
+const PAIRS: &[(char, char, Option<char>)] = &[
     ('\u{41}', '\u{30A}', Some('\u{C5}')),
     ('\u{61}', '\u{302}', Some('\u{E2}')),
     ('\u{61}', '\u{323}', Some('\u{1EA1}')),
@@ -28,7 +28,7 @@ const PAIRS: [(char, char, Option<char>); 14] = [
 ];
 
 // Full decompositions of either kind.
-const FULLS: [(char, bool, &[char]); 4] = [
+const FULLS: &[(char, bool, &[char])] = &[
     ('\u{1EAD}', false, &['\u{61}', '\u{323}', '\u{302}']),
     ('\u{FB01}', true, &['\u{66}', '\u{69}']),
     ('\u{FB01}', false, &[]),
@@ -55,8 +55,8 @@ fn answers_by_its_version<T: NormTable>(table: &T) -> Result<(), Fail> {
     want(told, "a class, and the arithmetic")?;
     let assigned = table.assigned('\u{212B}') && !table.assigned('\u{16D67}');
     want(assigned, "an assigned one, and one that is not")?;
-    has_pairs(table, &PAIRS)?;
-    has_fulls(table, &FULLS)
+    has_pairs(table, PAIRS)?;
+    has_fulls(table, FULLS)
 }
 
 fn answers_the_last<T: NormTable>(table: &T) -> Result<(), Fail> {

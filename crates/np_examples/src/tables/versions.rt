@@ -39,7 +39,7 @@ fn tells_its_mappings(v1: &Version) -> Result<(), Fail> {
 
 // A pair, and syllables of two and of three; then a singleton, a pair that begins with a non-starter, an exclusion,
 // and a compatibility mapping.
-const PRIMARY: [(u32, bool); 7] = [
+const PRIMARY: &[(u32, bool)] = &[
     (0xC5, true),
     (0xAC00, true),
     (0xAC01, true),
@@ -57,7 +57,7 @@ fn has_composites(version: &Version, rows: &[(u32, bool)]) -> Result<(), Fail> {
 }
 
 // The composites of the first fixture, in the order of their pairs.
-const COMPOSITES: [(char, char, char); 4] = [
+const COMPOSITES: &[(char, char, char)] = &[
     ('\u{41}', '\u{30A}', '\u{C5}'),
     ('\u{61}', '\u{302}', '\u{E2}'),
     ('\u{61}', '\u{323}', '\u{1EA1}'),
@@ -74,7 +74,7 @@ fn lists_composites(v1: &Version, rows: &[(char, char, char)]) -> Result<(), Fai
 }
 
 // (two parts, their composite): a pair of the list, a syllable, and two that have none.
-const FOUND: [(char, char, Option<char>); 3] = [
+const FOUND: &[(char, char, Option<char>)] = &[
     ('\u{61}', '\u{323}', Some('\u{1EA1}')),
     ('\u{AC00}', '\u{11A8}', Some('\u{AC01}')),
     ('\u{61}', '\u{62}', None),
@@ -116,9 +116,9 @@ fn tells_its_rows(v1: &Version) -> Result<(), Fail> {
 }
 
 fn tells_its_composites(v1: &Version) -> Result<(), Fail> {
-    has_composites(v1, &PRIMARY)?;
-    lists_composites(v1, &COMPOSITES)?;
-    finds_composites(v1, &FOUND)?;
+    has_composites(v1, PRIMARY)?;
+    lists_composites(v1, COMPOSITES)?;
+    finds_composites(v1, FOUND)?;
     finds_pairs(v1.pairs())
 }
 
@@ -191,7 +191,7 @@ fn wants_fault_of_edit(
 }
 
 /// A line of the first fixture, what stands in its place, and the fault.
-const EDITED: [(&str, &str, TableFault); 4] = [
+const EDITED: &[(&str, &str, TableFault)] = &[
     // jamo and syllables come whole
     (
         "11C2;<R, Last>;Lo;0;L;;;;;N;;;;;\n",
@@ -217,7 +217,7 @@ const EDITED: [(&str, &str, TableFault); 4] = [
 
 #[test]
 fn faults_are_told(rt: HostRuntime) -> Result<(), Fail> {
-    for row in &EDITED {
+    for row in EDITED {
         wants_fault_of_edit(rt.alloc(), row.0, row.1, row.2)?;
     }
     let lone = TableFault::HangulWrong { code: 0x1101 };
@@ -246,7 +246,7 @@ fn a_long_decomposition_is_told(rt: HostRuntime) -> Result<(), Fail> {
 }
 
 /// Faults, and how they are told.
-const TOLD: [(TableFault, &str); 3] = [
+const TOLD: &[(TableFault, &str)] = &[
     (
         TableFault::TooDeep { code: 0x41 },
         "0041 has mappings that lead deeper than 32, or in a circle",
@@ -260,7 +260,7 @@ const TOLD: [(TableFault, &str); 3] = [
 
 #[test]
 fn faults_are_told_in_words(rt: HostRuntime) -> Result<(), Fail> {
-    want_told(rt.alloc(), &TOLD)
+    want_told(rt.alloc(), TOLD)
 }
 
 #[test]

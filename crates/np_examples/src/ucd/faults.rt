@@ -19,7 +19,7 @@ fn want_faults(alloc: Global, rows: &[(&str, Option<UcdFault>)]) -> Result<(), F
 }
 
 // (a file, its fault or none)
-const FAULTS: [(&str, Option<UcdFault>); 10] = [
+const FAULTS: &[(&str, Option<UcdFault>)] = &[
     (
         "0041;X;Lu;0;L;;;;;N;;;;",
         Some(UcdFault::FieldCount { line: 1 }),
@@ -57,7 +57,7 @@ const FAULTS: [(&str, Option<UcdFault>); 10] = [
 ];
 
 // Faults of ranges.
-const RANGES: [(&str, Option<UcdFault>); 6] = [
+const RANGES: &[(&str, Option<UcdFault>)] = &[
     (
         "E000;<R, First>;Co;0;L;;;;;N;;;;;",
         Some(UcdFault::RangeOpen { line: 1 }),
@@ -93,7 +93,7 @@ fn faults_have_names_and_lines(_rt: HostRuntime) -> Result<(), Fail> {
 }
 
 /// Each fault, and how it is told.
-const TOLD: [(UcdFault, &str); 13] = [
+const TOLD: &[(UcdFault, &str)] = &[
     (
         UcdFault::FieldCount { line: 1 },
         "line 1: not exactly 15 fields",
@@ -141,11 +141,11 @@ const TOLD: [(UcdFault, &str); 13] = [
 
 #[test]
 fn faults_are_told_in_words(rt: HostRuntime) -> Result<(), Fail> {
-    want_told(rt.alloc(), &TOLD)
+    want_told(rt.alloc(), TOLD)
 }
 
 // Files of another kind.
-const OTHER_FILES: [(&str, Option<UcdFault>); 6] = [
+const OTHER_FILES: &[(&str, Option<UcdFault>)] = &[
     (
         "0041;X;Lu;0;L;;;;;N;;;;;\n0061;X;L",
         Some(UcdFault::FieldCount { line: 2 }),
@@ -171,9 +171,9 @@ const OTHER_FILES: [(&str, Option<UcdFault>); 6] = [
 
 #[test]
 fn each_fault_has_its_line(rt: HostRuntime) -> Result<(), Fail> {
-    want_faults(rt.alloc(), &FAULTS)?;
-    want_faults(rt.alloc(), &RANGES)?;
-    want_faults(rt.alloc(), &OTHER_FILES)
+    want_faults(rt.alloc(), FAULTS)?;
+    want_faults(rt.alloc(), RANGES)?;
+    want_faults(rt.alloc(), OTHER_FILES)
 }
 
 #[test]

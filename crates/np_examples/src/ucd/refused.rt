@@ -10,9 +10,9 @@ const ROWS: &[u8] = b"0041;X;Lu;0;L;;;;;N;;;;;\r\n\n# a comment\n \t\n0061;X;Ll;
 // Single code points and ranges.
 const LISTED: &[u8] = b"# 0340\n\n  0958\t# QA\r\nfb1d..FB1F\n0958\n10FFFF\nFB1E";
 
-const HELD: [u32; 5] = [0x958, 0xFB1D, 0xFB1E, 0xFB1F, 0x10FFFF];
+const HELD: &[u32] = &[0x958, 0xFB1D, 0xFB1E, 0xFB1F, 0x10FFFF];
 
-const OTHERS: [u32; 7] = [0, 0x340, 0x957, 0x959, 0xFB1C, 0xFB20, 0x10FFFE];
+const OTHERS: &[u32] = &[0, 0x340, 0x957, 0x959, 0xFB1C, 0xFB20, 0x10FFFE];
 
 fn rows_again(alloc: Global) -> Result<Rows, UcdFault> {
     match rows_of(alloc, ROWS, 4096) {
@@ -37,5 +37,5 @@ fn exclusions_again(alloc: Global) -> Result<Exclusions, UcdFault> {
 #[test]
 fn a_refused_read_exclusions_succeeds_after_all(rt: HostRuntime) -> Result<(), Fail> {
     let exclusions = exclusions_again(rt.alloc())?;
-    lists(&exclusions, &HELD, &OTHERS)
+    lists(&exclusions, HELD, OTHERS)
 }

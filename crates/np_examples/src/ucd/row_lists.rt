@@ -15,7 +15,7 @@ fn list_of(alloc: Global, text: &str) -> Result<RowList, UcdFault> {
 /// Fails unless the list of the first fixture lends what stands in the file.
 fn lends_the_first_fixture(list: &RowList) -> Result<(), Fail> {
     want(list.len() == 26 && !list.is_empty(), "26 rows")?;
-    for row in &KNOWN {
+    for row in KNOWN {
         want(list.get(row.0) == Some(row.1), "a row")?;
     }
     want(list.get(26).is_none(), "no further row")

@@ -1,6 +1,6 @@
 //! Texts and their canonical forms under the first fixture's version.
 /// A text, its NFD and its NFC.
-pub(super) const CANONICAL: [(&str, &str, &str); 35] = [
+pub(super) const CANONICAL: &[(&str, &str, &str)] = &[
     ("", "", ""),
     ("\u{61}\u{302}\u{323}", "\u{61}\u{323}\u{302}", "\u{1EAD}"),
     ("\u{212B}", "\u{41}\u{30A}", "\u{C5}"),

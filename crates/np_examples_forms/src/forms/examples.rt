@@ -55,7 +55,7 @@ pub(super) struct Shown {
 
 /// Over the first fixture.
 pub(super) const FIRST: Shown = Shown {
-    canonical: &CANONICAL,
+    canonical: CANONICAL,
     formed: &[
         // a ligature is compatible with its letters
         (Form::Nfkd, "\u{FB01}", "fi"),
@@ -249,7 +249,7 @@ impl Example for Shown {
 }
 
 /// Each refusal, and how it is told; a code point in four hex digits at least.
-const TOLD: [(NpssFault, &str); 2] = [
+const TOLD: &[(NpssFault, &str)] = &[
     (
         NpssFault::Unassigned {
             at: 12,
@@ -262,7 +262,7 @@ const TOLD: [(NpssFault, &str); 2] = [
 
 #[test]
 fn a_refusal_is_told_in_words(rt: HostRuntime) -> Result<(), Fail> {
-    want_told(rt.alloc(), &TOLD)
+    want_told(rt.alloc(), TOLD)
 }
 
 /// A table that knows of a text that it is its own form lets it be lent.
@@ -286,7 +286,7 @@ fn grows<T: NormTable>(alloc: Global, table: &T) -> Result<(), Fail> {
 }
 
 // (form, a piece that stands before and behind something many times and has itself as form, that something, its form)
-const AMID: [(Form, &str, &str, &str); 8] = [
+const AMID: &[(Form, &str, &str, &str)] = &[
     (Form::Nfc, "ab\u{E9}", "e\u{301}", "\u{E9}"),
     (Form::Nfkc, "a\u{E9}", "e\u{316}\u{301}", "\u{E9}\u{316}"),
     (Form::Nfd, "ab\u{4E00}", "\u{E9}", "e\u{301}"),
@@ -328,7 +328,7 @@ fn wants_amid<T: NormTable>(
 }
 
 fn are_amid<T: NormTable>(alloc: Global, table: &T) -> Result<(), Fail> {
-    for row in &AMID {
+    for row in AMID {
         wants_amid(alloc, table, row)?;
     }
     Ok(())

@@ -7,10 +7,10 @@ use np_versions::NormTable;
 use std::alloc::Global;
 use std::test::Fail;
 
-const FORMS: [Form; 4] = [Form::Nfd, Form::Nfc, Form::Nfkd, Form::Nfkc];
+const FORMS: &[Form] = &[Form::Nfd, Form::Nfc, Form::Nfkd, Form::Nfkc];
 
 // Texts of code points that both of the first two fixtures assign.
-const KEPT: [&str; 14] = [
+const KEPT: &[&str] = &[
     "\u{61}\u{302}\u{323}",
     "\u{1EAD}",
     "\u{212B}",
@@ -28,7 +28,7 @@ const KEPT: [&str; 14] = [
 ];
 
 // Texts of the second fixture and of the one whose composite spans a non-starter.
-const OTHERS: [&str; 4] = [
+const OTHERS: &[&str] = &[
     "\u{16D67}\u{16D67}\u{16D67}",
     "\u{16D63}\u{16D67}\u{16D67}",
     "\u{41}\u{323}\u{30A}",
@@ -59,7 +59,7 @@ fn wants_same<T: NormTable>(
 }
 
 fn keeps_forms<T: NormTable>(alloc: Global, table: &T, text: &str) -> Result<(), Fail> {
-    for wanted in &FORMS {
+    for wanted in FORMS {
         wants_itself(alloc, table, *wanted, text)?;
     }
     Ok(())
@@ -71,7 +71,7 @@ fn has_same_forms<T: NormTable>(
     second: &T,
     text: &str,
 ) -> Result<(), Fail> {
-    for wanted in &FORMS {
+    for wanted in FORMS {
         wants_same(alloc, first, second, *wanted, text)?;
     }
     Ok(())
@@ -85,7 +85,7 @@ fn keeps_each<T: NormTable>(alloc: Global, table: &T, texts: &[&str]) -> Result<
 }
 
 /// Texts, and their keys under the second fixture: some code points of keys are not assigned in the first one.
-const KEYS: [(&str, &str); 4] = [
+const KEYS: &[(&str, &str)] = &[
     ("a\u{302}\u{323}", "\u{1EAD}"),
     ("", ""),
     ("\u{16D67}\u{16D67}", "\u{16D68}"),
@@ -106,10 +106,10 @@ fn is_key_under_both<T: NormTable>(
 }
 
 fn are_kept<T: NormTable>(alloc: Global, old: &T, new: &T) -> Result<(), Fail> {
-    for text in &KEPT {
+    for text in KEPT {
         has_same_forms(alloc, old, new, text)?;
     }
-    for row in &KEYS {
+    for row in KEYS {
         is_key_under_both(alloc, old, new, row)?;
     }
     Ok(())
@@ -126,8 +126,8 @@ impl Example for Shown {
     fn holds<T: Made>(&self, alloc: Global, table: &T) -> Result<(), Fail> {
         match self {
             Shown::Itself => {
-                keeps_each(alloc, table, &KEPT)?;
-                keeps_each(alloc, table, &OTHERS)
+                keeps_each(alloc, table, KEPT)?;
+                keeps_each(alloc, table, OTHERS)
             }
             Shown::Kept => {
                 let later: T = table_of(alloc, V2)?;

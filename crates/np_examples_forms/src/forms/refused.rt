@@ -28,7 +28,7 @@ enum Call {
     Run,
 }
 
-const CHARS: [char; 3] = ['\u{61}', '\u{302}', '\u{323}'];
+const CHARS: &[char] = &['\u{61}', '\u{302}', '\u{323}'];
 
 const KEY: &str = "\u{1EAD}";
 
@@ -241,7 +241,7 @@ impl Example for Call {
             Call::Npss => stabilized(alloc, table),
             Call::LendNpss => lent(alloc, table),
             Call::IntoNpss => {
-                given_up(alloc, table, &CHARS)?;
+                given_up(alloc, table, CHARS)?;
                 given_up(alloc, table, &['\u{1EAD}'])
             }
             Call::IsForm => in_form(alloc, table),

@@ -72,7 +72,7 @@ fn cuttings<T: NormTable>(alloc: Global, table: &T) -> Result<(), Fail> {
 /// A form, the input, the answer, and what is written.
 type Row = (Form, &'static [u8], Result<u64, RunFault>, &'static [u8]);
 
-const ROWS: [Row; 9] = [
+const ROWS: &[Row] = &[
     (Form::Nfc, b"a\xcc\x82", Ok(2), b"\xc3\xa2"),
     (Form::Nfkd, b"\xef\xac\x81", Ok(2), b"fi"),
     (Form::Nfd, b"", Ok(0), b""),
@@ -85,7 +85,7 @@ const ROWS: [Row; 9] = [
 ];
 
 fn wants_rows<T: NormTable>(alloc: Global, table: &T) -> Result<(), Fail> {
-    for row in &ROWS {
+    for row in ROWS {
         let whole = Watched::new(Trickle::new(row.1, 64));
         wants_run(alloc, table, row.0, whole, row.2, row.3)?;
     }
@@ -184,7 +184,7 @@ fn failed_devices_are_told(rt: HostRuntime) -> Result<(), Fail> {
 }
 
 /// Each fault, and how it is told.
-const TOLD: [(RunFault, &str); 5] = [
+const TOLD: &[(RunFault, &str)] = &[
     (RunFault::NotUtf8 { at: 17 }, "not UTF-8 at byte 17"),
     (RunFault::ReadFailed, "read failed"),
     (RunFault::WriteFailed, "write failed"),
@@ -194,5 +194,5 @@ const TOLD: [(RunFault, &str); 5] = [
 
 #[test]
 fn faults_are_told_in_words(rt: HostRuntime) -> Result<(), Fail> {
-    want_told(rt.alloc(), &TOLD)
+    want_told(rt.alloc(), TOLD)
 }

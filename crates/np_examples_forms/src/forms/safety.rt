@@ -8,7 +8,7 @@ use std::alloc::Global;
 use std::test::Fail;
 
 // (what stands before, the code point, how many of it are stream-safe)
-const SAFE: [(&str, char, u32); 4] = [
+const SAFE: &[(&str, char, u32)] = &[
     ("a", '\u{302}', 30),
     ("a", '\u{344}', 15),
     ("", '\u{302}', 30),
@@ -45,7 +45,7 @@ struct Limits;
 
 impl Example for Limits {
     fn holds<T: Made>(&self, alloc: Global, table: &T) -> Result<(), Fail> {
-        for row in &SAFE {
+        for row in SAFE {
             wants_safe(alloc, table, row, row.2)?;
         }
         Ok(())

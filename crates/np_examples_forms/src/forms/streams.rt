@@ -11,7 +11,7 @@ use std::test::Fail;
 /// A form, what is fed, what is ready then, how many code points are pending at most, and the form.
 type Row = (Form, &'static str, &'static str, usize, &'static str);
 
-const OLD: [Row; 7] = [
+const OLD: &[Row] = &[
     (Form::Nfc, "\u{61}\u{323}\u{302}", "", 3, "\u{1EAD}"),
     (
         Form::Nfc,
@@ -39,7 +39,7 @@ const OLD: [Row; 7] = [
     ),
 ];
 
-const NEW: [Row; 2] = [
+const NEW: &[Row] = &[
     (Form::Nfc, "\u{16D63}\u{16D67}\u{16D67}", "", 1, "\u{16D6A}"),
     (
         Form::Nfc,
@@ -145,9 +145,9 @@ impl Example for Shown {
 
 #[test]
 fn what_is_ready_is_the_form_before_its_last_starter(rt: HostRuntime) -> Result<(), Fail> {
-    holds_over_each(rt.alloc(), V1, &Shown::Rows(&OLD))?;
+    holds_over_each(rt.alloc(), V1, &Shown::Rows(OLD))?;
     // starters go into a pending starter
-    holds_over_each(rt.alloc(), V2, &Shown::Rows(&NEW))
+    holds_over_each(rt.alloc(), V2, &Shown::Rows(NEW))
 }
 
 #[test]

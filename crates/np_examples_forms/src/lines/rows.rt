@@ -22,7 +22,7 @@ pub(super) const BY_NUL: Wanted = Wanted {
 pub(super) type Row = (Wanted, &'static str, &'static [u8], &'static str, bool);
 
 /// Over the first fixture.
-pub(super) const ROWS: [Row; 11] = [
+pub(super) const ROWS: &[Row] = &[
     (BY_LF, "no line", b"", "", false),
     (BY_LF, "an empty line", b"\n", "=\n", false),
     (BY_LF, "no end", b"a", "=a\n", false),
@@ -98,7 +98,7 @@ pub(super) const ASCII_MAPS_TO_LF: Files = (
     "",
 );
 
-pub(super) const ASCII_LF_ROWS: [Row; 2] = [
+pub(super) const ASCII_LF_ROWS: &[Row] = &[
     (
         DECOMPOSED,
         "a key that has LF, between others",
@@ -109,7 +109,7 @@ pub(super) const ASCII_LF_ROWS: [Row; 2] = [
     (DECOMPOSED, "no key that has LF", b"a\nb", "=a\n=b\n", false),
 ];
 
-pub(super) const LF_ROWS: [Row; 2] = [
+pub(super) const LF_ROWS: &[Row] = &[
     (
         BY_LF,
         "a key that has LF",
@@ -121,7 +121,7 @@ pub(super) const LF_ROWS: [Row; 2] = [
 ];
 
 /// Over a version that assigns all of ASCII.
-pub(super) const LETTER_ROWS: [Row; 8] = [
+pub(super) const LETTER_ROWS: &[Row] = &[
     (BY_LF, "NUL in a line", b"a\0b", "=a\0b\n", false),
     (BY_NUL, "LF in a line", b"a\nb", "=a\nb\0", false),
     (
