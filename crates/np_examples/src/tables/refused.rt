@@ -1,9 +1,11 @@
 //! Versions and tables that were refused for want of memory, and are made of the same files after all.
-use super::{has_count, version};
+use super::has_count;
 use np_code_points::Memory;
+use np_code_points::watched::Watched;
 use np_examples_shared::fixtures::{V1_DATA, V1_EXCLUSIONS};
 use np_examples_shared::{Made, V1, table_of, version_of, want};
 use np_tables::{PageTable, RowTable};
+use np_ucd::{read_exclusions, read_rows};
 use np_versions::{NormTable, TableFault, Version};
 use std::alloc::Global;
 use std::test::Fail;
@@ -15,11 +17,13 @@ fn answers<T: NormTable>(table: &T) -> Result<(), Fail> {
     want(pair && full, "a pair and a full decomposition")
 }
 
-/// The version, of its files read anew where memory was refused to the first one.
-fn version_again(alloc: Global) -> Result<Version, TableFault> {
-    match version(alloc, V1_DATA, V1_EXCLUSIONS) {
-        Err(TableFault::Memory) => version(alloc, V1_DATA, V1_EXCLUSIONS),
-        answer => answer,
+/// The version, of its files read anew where memory was refused to the first one, and not to what it was made of.
+fn version_again(alloc: Global) -> Result<Version, Fail> {
+    let rows = read_rows(alloc, &mut Watched::new(V1_DATA.as_bytes()))?;
+    let exclusions = read_exclusions(alloc, &mut Watched::new(V1_EXCLUSIONS.as_bytes()))?;
+    match Version::build(alloc, rows, exclusions) {
+        Err(TableFault::Memory) => version_of(alloc, V1),
+        answer => Ok(answer?),
     }
 }
 
