@@ -97,7 +97,7 @@ pub fn audit_job<F: Read, O: Write, E: Write>(
     ensures { AuditEnds (readers_of F.remaining
         (old_data_file.old ∷ old_exclusions_file.old ∷ new_data_file.old ∷ new_exclusions_file.old ∷ [])
         (old_data_file.new ∷ old_exclusions_file.new ∷ new_data_file.new ∷ new_exclusions_file.new ∷ [])) (stream_of O.contents output.old output.new)
-            (stream_of E.contents error.old error.new) result }
+        (stream_of E.contents error.old error.new) result }
 {
     let made = made_of_versions(
         alloc,
