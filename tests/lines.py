@@ -2,7 +2,7 @@
 """Runs `npss_lines` end to end: tests/lines.py PROGRAM KEYS, where KEYS is the program npss.
 
 Each line of an input has one line of answer: `=` and its key, or `!` and why it has none (docs/FORMATS.md). The rows
-below are by that page; keys of published strings are compared with `npss key`, one by one. Then come long lines,
+below are by that page; keys of published strings are compared with those of `npss key`. Then come long lines,
 closed streams, devices that fail, a pipe that nobody reads, a bound on memory, and GNU parallel where it is there.
 Ends in a line 'N passed, M failed'.
 """
@@ -39,6 +39,8 @@ LIMIT = 65_536
 MEMORY = 8
 # A long line, in pieces of 1 MiB.
 LONG = 300
+# Of so many published strings one is asked for by itself, for each form: each such run reads the published files anew.
+ALONE = 100
 
 # The first version with all of ASCII.
 ASCII = ("ascii.data", V1[1])
@@ -264,7 +266,8 @@ def check_progress(tally, program, folder):
 
 
 def check_published(tally, program, keys, folder):
-    """The strings of NormalizationTest.txt, answered in one run, against `npss key`, one by one."""
+    """The strings of NormalizationTest.txt, answered in one run, against `npss normalize` and `npss key` over all of them at
+    once, since no form goes across a NUL, and against `npss key` over some by themselves."""
     files, why = package_files()
     if files is None or each_test_string(files) is None:
         print(f"skipped: lines of published strings: {why or 'NormalizationTest.txt is not there'}")
@@ -276,14 +279,15 @@ def check_published(tally, program, keys, folder):
         status, out, err = run(program, asks("--null", form=form, files=version), given, folder)
         answers = out.split(b"\0")[:-1]
         tally.same(f"published strings, {form}", (status, len(answers), err), (0, len(strings), b""))
-        form_of_all = run(keys, ["normalize", "--form", form, *version], given, folder)[1]
-        tally.check(f"published strings, {form}, against npss normalize", b"".join(a[1:] + b"\0" for a in answers) == form_of_all, form)
-        # one process a string: a part of them for each form, and each of them for one form or another
-        part = range(FORMS.index(form), len(strings), len(FORMS))
+        for command in ("normalize", "key"):
+            whole = run(keys, [command, "--form", form, *version], given, folder)[1]
+            tally.check(f"published strings, {form}, against npss {command}", b"".join(a[1:] + b"\0" for a in answers) == whole, form)
+        # one process a string: some of them for each form
+        part = range(FORMS.index(form), len(strings), ALONE)
         with ThreadPoolExecutor(os.cpu_count()) as pool:
             wanted = pool.map(lambda at, form=form: run(keys, ["key", "--form", form, *version], strings[at].encode(), folder), part)
             wrong = [(strings[at], answers[at], key) for at, key in zip(part, wanted) if key != (0, answers[at][1:], b"") or answers[at][:1] != b"="]
-        tally.check(f"published strings, {form}, against npss key", not wrong, shown(wrong[:1]))
+        tally.check(f"published strings, {form}, some by themselves, against npss key", not wrong, shown(wrong[:1]))
 
 
 def check_parallel(tally, program, folder):

@@ -15,7 +15,7 @@ from harness import FORMS, run
 
 SEED = 23
 # Strings whose keys are checked under earlier versions, and how many programs run at once.
-STRINGS = 12_000
+STRINGS = 10_000
 AT_ONCE = 4
 
 
