@@ -155,41 +155,39 @@ fn story<T: NormTable>(alloc: Global, table: &T, room: u32, rows: &[Row]) -> Res
     wants_steps(&mut node, rows)
 }
 
+/// An image, the entry for which it is refused, if it is for one, the fault, and what it shows.
+type NoImage<'i> = (&'i [u8], Option<u32>, NodeFault, &'static str);
+
 /// No node of this room is restored from the image.
 fn wants_no_node<T: NormTable>(
     alloc: Global,
     table: &T,
     room: u32,
-    image: &[u8],
-    wanted: ImageFault,
-    what: &str,
+    row: &NoImage<'_>,
 ) -> Result<(), Fail>
     requires { room ≤ 65536 }
 {
-    match Node::restore(alloc, table, Form::Nfc, room, image) {
-        Ok(_) => Err(Fail::new(what)),
-        Err(fault) => want(fault == wanted, what),
+    let wanted = ImageFault {
+        entry: row.1,
+        fault: row.2,
+    };
+    match Node::restore(alloc, table, Form::Nfc, room, row.0) {
+        Ok(_) => Err(Fail::new(row.3)),
+        Err(fault) => want(fault == wanted, row.3),
     }
 }
-
-/// An image, the entry for which it is refused, if it is for one, the fault, and what it shows.
-type NoImage = (&'static [u8], Option<u32>, NodeFault, &'static str);
 
 /// No node of this room is restored from any of the images.
 fn wants_no_nodes<T: NormTable>(
     alloc: Global,
     table: &T,
     room: u32,
-    rows: &[NoImage],
+    rows: &[NoImage<'_>],
 ) -> Result<(), Fail>
     requires { room ≤ 65536 }
 {
-    for (image, entry, fault, what) in rows {
-        let wanted = ImageFault {
-            entry: *entry,
-            fault: *fault,
-        };
-        wants_no_node(alloc, table, room, image, wanted, what)?;
+    for row in rows {
+        wants_no_node(alloc, table, room, row)?;
     }
     Ok(())
 }

@@ -20,7 +20,7 @@ use std::alloc::Global;
 use std::io::Read;
 
 /// The jobs on one text.
-#[derive(Clone, Copy, Debug, PartialEq, Eq)]
+#[derive(Clone, Copy)]
 pub enum TextJob {
     Key,
     Compare,

@@ -29,7 +29,7 @@ use std::io::{Read, Write};
 pub use usage::usage_text;
 
 /// A command on one text.
-#[derive(Clone, Copy, Debug, PartialEq, Eq)]
+#[derive(Clone, Copy)]
 enum TextCommand {
     Normalize,
     Key,

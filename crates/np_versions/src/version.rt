@@ -23,6 +23,7 @@ use crate::row_places::row_in;
 use crate::syllables::arithmetic_pair;
 use np_ucd::{Exclusions, MapKind, RowList, RowRef, Rows};
 use std::alloc::Global;
+use std::boxed::Box;
 use std::fmt;
 use std::marker::Model;
 
@@ -31,7 +32,7 @@ use std::marker::Model;
 /// unassigned, of class 0 and without a mapping.
 #[derive(Drop)]
 pub struct Version {
-    characters: CharacterData,
+    characters: Box<CharacterData>,
     pairs: Pairs,
 }
 
@@ -42,9 +43,9 @@ impl Model for Version {
 
     ghost Value = { VersionData };
 
-    ghost view = { λ a. a.characters };
+    ghost view = { λ a. a.characters.value };
 
-    ghost invariant = { λ a. IsSound a.characters × AreOfFile a.characters a.pairs };
+    ghost invariant = { λ a. IsSound a.characters.value × AreOfFile a.characters.value a.pairs };
 }
 
 /// Shows how many rows the data file has, and none of them.
@@ -92,15 +93,18 @@ impl Version {
         ensures fault { IfErr result (λ f. (f ≡ OutOfMemory) ⊎ IsLeastFault (record { entries = rows; exclusions = exclusions }) f) }
     {
         let characters = CharacterData::new(alloc, rows, exclusions)?;
-        Version::of_characters(alloc, characters)
+        match Box::new(alloc, characters) {
+            Ok(characters) => Version::of_characters(alloc, characters),
+            Err(_) => Err(TableFault::Memory),
+        }
     }
 
     /// The version of these characters. What is owned is handed on at each step, since the checks of a
     /// function that owns much are dear.
-    fn of_characters(alloc: Global, characters: CharacterData) -> Result<Version, TableFault>
-        ensures version { IfOk result (λ v. v ≡ characters) }
-        ensures faultless { OnOk result (IsFaultless characters) }
-        ensures fault { IfErr result (λ f. (f ≡ OutOfMemory) ⊎ IsLeastFault characters f) }
+    fn of_characters(alloc: Global, characters: Box<CharacterData>) -> Result<Version, TableFault>
+        ensures version { IfOk result (λ v. v ≡ characters.value) }
+        ensures faultless { OnOk result (IsFaultless characters.value) }
+        ensures fault { IfErr result (λ f. (f ≡ OutOfMemory) ⊎ IsLeastFault characters.value f) }
     {
         let pairs = Pairs::new(alloc, &characters)?;
         Version::of_parts(alloc, characters, pairs)
@@ -109,23 +113,23 @@ impl Version {
     /// The version of these characters and their composites.
     fn of_parts(
         alloc: Global,
-        characters: CharacterData,
+        characters: Box<CharacterData>,
         pairs: Pairs,
     ) -> Result<Version, TableFault>
-        requires { AreOfFile characters pairs }
-        ensures version { IfOk result (λ v. v ≡ characters) }
-        ensures faultless { OnOk result (IsFaultless characters) }
-        ensures fault { IfErr result (λ f. (f ≡ OutOfMemory) ⊎ IsLeastFault characters f) }
+        requires { AreOfFile characters.value pairs }
+        ensures version { IfOk result (λ v. v ≡ characters.value) }
+        ensures faultless { OnOk result (IsFaultless characters.value) }
+        ensures fault { IfErr result (λ f. (f ≡ OutOfMemory) ⊎ IsLeastFault characters.value f) }
     {
         judge(alloc, &characters, &pairs)?;
         Ok(Version::of_faultless(characters, pairs))
     }
 
     /// The version of these characters.
-    fn of_faultless(characters: CharacterData, pairs: Pairs) -> Version
-        requires faultless { IsFaultless characters }
-        requires pairs { AreOfFile characters pairs }
-        ensures { result ≡ characters }
+    fn of_faultless(characters: Box<CharacterData>, pairs: Pairs) -> Version
+        requires faultless { IsFaultless characters.value }
+        requires pairs { AreOfFile characters.value pairs }
+        ensures { result ≡ characters.value }
     {
         characters.are_in_order();
         Version { characters, pairs }

@@ -13,20 +13,21 @@ use std::test::Fail;
 /// The letter a with a circumflex and a dot below, which compose to 1EAD.
 const LETTER: &[u8] = &[0x61, 0xcc, 0x82, 0xcc, 0xa3];
 
-/// Fails unless a run over the source answers this, and writes these bytes.
+/// The form of a run, its answer, and what it writes.
+type Wanted<'b> = (Form, Result<u64, RunFault>, &'b [u8]);
+
+/// Fails unless a run over the source is as wanted.
 fn wants_run<R: Read + Drop, T: NormTable>(
     alloc: Global,
     table: &T,
-    form: Form,
     mut source: Watched<R>,
-    wanted: Result<u64, RunFault>,
-    bytes: &[u8],
+    wanted: Wanted<'_>,
 ) -> Result<(), Fail> {
     let mut target = Watched::new(Room::new(alloc, 64, 64)?);
-    let made = run(alloc, table, form, &mut source, &mut target);
+    let made = run(alloc, table, wanted.0, &mut source, &mut target);
     let room = target.into_inner();
-    want(made == wanted, "the answer")?;
-    want(room.bytes() == bytes, "the bytes")
+    want(made == wanted.1, "the answer")?;
+    want(room.bytes() == wanted.2, "the bytes")
 }
 
 /// Whether a cutting of five bytes cuts before a place: of 1 to 4, the bit of that place tells.
@@ -58,7 +59,7 @@ fn cut<T: NormTable>(alloc: Global, table: &T, cutting: usize) -> Result<(), Fai
     let front = piece_at(cutting, 0).chain(piece_at(cutting, 1));
     let behind = piece_at(cutting, 3).chain(piece_at(cutting, 4));
     let source = Watched::new(front.chain(piece_at(cutting, 2)).chain(behind));
-    wants_run(alloc, table, Form::Nfc, source, Ok(3), b"\xe1\xba\xad")
+    wants_run(alloc, table, source, (Form::Nfc, Ok(3), b"\xe1\xba\xad"))
 }
 
 /// The five bytes in the pieces of each of their 16 cuttings.
@@ -87,7 +88,7 @@ const ROWS: &[Row] = &[
 fn wants_rows<T: NormTable>(alloc: Global, table: &T) -> Result<(), Fail> {
     for row in ROWS {
         let whole = Watched::new(Trickle::new(row.1, 64));
-        wants_run(alloc, table, row.0, whole, row.2, row.3)?;
+        wants_run(alloc, table, whole, (row.0, row.2, row.3))?;
     }
     Ok(())
 }
@@ -101,8 +102,8 @@ fn wants_failed_read<T: NormTable>(
     bytes: &[u8],
 ) -> Result<(), Fail> {
     let source = Trickle::new(b"a\xcc\x82A", 1).failing_at(call, failure);
-    let fault = Err(RunFault::ReadFailed);
-    wants_run(alloc, table, Form::Nfc, Watched::new(source), fault, bytes)
+    let wanted = (Form::Nfc, Err(RunFault::ReadFailed), bytes);
+    wants_run(alloc, table, Watched::new(source), wanted)
 }
 
 fn failed_reads<T: NormTable>(alloc: Global, table: &T, failure: Failure) -> Result<(), Fail> {

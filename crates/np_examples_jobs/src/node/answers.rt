@@ -7,7 +7,7 @@ use np_chain::{Break, BreakKind};
 use np_code_points::{Form, Memory};
 use np_examples_shared::told::want_told;
 use np_examples_shared::{Example, Made, V1, V2, holds_over_each, table_of, want};
-use np_node::{Accepted, ImageFault, Node, NodeFault, Taken};
+use np_node::{Accepted, Node, NodeFault, Taken};
 use np_versions::NormTable;
 use std::alloc::Global;
 use std::test::Fail;
@@ -95,11 +95,8 @@ fn told_too_long<T: NormTable>(
 /// A string that is too long is refused in an image.
 fn saved_too_long<T: NormTable>(alloc: Global, table: &T, over: &[u8]) -> Result<(), Fail> {
     let image = behind(alloc, b"NPS1C\0\0\0\x01", over)?;
-    let wanted = ImageFault {
-        entry: Some(0),
-        fault: NodeFault::TooLong,
-    };
-    wants_no_node(alloc, table, 4, &image, wanted, "saved")
+    let row = (image.as_slice(), Some(0), NodeFault::TooLong, "saved");
+    wants_no_node(alloc, table, 4, &row)
 }
 
 /// A string that is too long is refused by each call.

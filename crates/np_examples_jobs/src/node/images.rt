@@ -96,11 +96,8 @@ fn cut<T: NormTable>(alloc: Global, table: &T) -> Result<(), Fail> {
             29..=32 => 29,
             _ => 33,
         };
-        let wanted = ImageFault {
-            entry: None,
-            fault: NodeFault::Malformed { at },
-        };
-        wants_no_node(alloc, table, 4, &FIRST[..length], wanted, "cut")?;
+        let row = (&FIRST[..length], None, NodeFault::Malformed { at }, "cut");
+        wants_no_node(alloc, table, 4, &row)?;
     }
     Ok(())
 }
