@@ -98,7 +98,7 @@ fn adds_nothing(old: &Version, new: &Version) -> bool
     ensures { IsTrue result → (c : ℕ) → AddsNoBreak old.now new.now c }
 {
     old.meets_conditions();
-    for composite in new.composites() {
+    for composite in new.pairs().as_slice() {
         if !adds_no_break(old, new, u32::from(composite.code)) {
             return false;
         }

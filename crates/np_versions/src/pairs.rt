@@ -149,8 +149,8 @@ impl Pairs {
         self.composites.len()
     }
 
-    /// The composites.
-    pub(crate) fn as_slice(&self) -> &[Composite]
+    /// The composites, in the order of their pairs.
+    pub fn as_slice(&self) -> &[Composite]
         ensures same { result.now ≡ self.now }
         ensures order { AreOrdered self.now }
     {

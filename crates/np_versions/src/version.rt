@@ -6,7 +6,7 @@ ghost use Rattle.np_versions.specs.Composites.{IsCompositeOf, IsPrimary};
 ghost use Rattle.np_versions.specs.inside.CompositeSearch.{composite};
 ghost use Rattle.np_versions.specs.inside.Primaries.{is_primary};
 ghost use Rattle.np_versions.specs.Conditions.{IsSound};
-ghost use Rattle.np_versions.specs.CompositeLists.{AreOfFile, AreOrdered};
+ghost use Rattle.np_versions.specs.CompositeLists.{AreOfFile};
 ghost use Rattle.np_versions.specs.Counts.{assigned_count};
 ghost use Rattle.np_versions.specs.Versions.{class_of, entry_at, file_kind, file_mapping, has_hangul, is_assigned, is_excluded};
 ghost use Rattle.np_versions.specs.inside.RowPages.{AreRowPages};
@@ -17,7 +17,7 @@ use crate::characters::CharacterData;
 use crate::counts::assigned_count as count_of;
 use crate::faults::TableFault;
 use crate::first_faults::fault_of;
-use crate::pairs::{Composite, Pairs};
+use crate::pairs::Pairs;
 use crate::row_pages::RowPages;
 use crate::row_places::row_in;
 use crate::syllables::arithmetic_pair;
@@ -149,21 +149,12 @@ impl Version {
         self.characters.pages()
     }
 
-    /// The primary composites of the data file, in the order of their pairs, by which one is found. Where the Hangul
-    /// arithmetic is on, its syllables are none of them.
+    /// The primary composites of the data file (The Unicode Standard, D114), in the order of their pairs, by which one is
+    /// found. Where the Hangul arithmetic is on, its syllables are none of them.
     pub fn pairs(&self) -> &Pairs
         ensures { AreOfFile self.now result.now }
     {
         &self.pairs
-    }
-
-    /// The primary composites of the data file (The Unicode Standard, D114), in the order of their
-    /// pairs. Where the Hangul arithmetic is on, its syllables are none of them.
-    pub fn composites(&self) -> &[Composite]
-        ensures file { AreOfFile self.now result.now }
-        ensures order { AreOrdered result.now }
-    {
-        self.pairs.as_slice()
     }
 
     /// The primary composite with this pair, syllables too.

@@ -5,7 +5,7 @@ use np_code_points::watched::Watched;
 use np_examples_shared::fixtures::{V1_DATA, V1_EXCLUSIONS};
 use np_examples_shared::{Made, V1, table_of, version_of, want};
 use np_tables::{PageTable, RowTable};
-use np_ucd::{read_exclusions, read_rows};
+use np_ucd::{Exclusions, Rows, read_exclusions, read_rows};
 use np_versions::{NormTable, TableFault, Version};
 use std::alloc::Global;
 use std::test::Fail;
@@ -18,13 +18,17 @@ fn answers<T: NormTable>(table: &T) -> Result<(), Fail> {
 }
 
 /// The version, of its files read anew where memory was refused to the first one, and not to what it was made of.
-fn version_again(alloc: Global) -> Result<Version, Fail> {
-    let rows = read_rows(alloc, &mut Watched::new(V1_DATA.as_bytes()))?;
-    let exclusions = read_exclusions(alloc, &mut Watched::new(V1_EXCLUSIONS.as_bytes()))?;
+fn build_again(alloc: Global, rows: Rows, exclusions: Exclusions) -> Result<Version, Fail> {
     match Version::build(alloc, rows, exclusions) {
         Err(TableFault::Memory) => version_of(alloc, V1),
         answer => Ok(answer?),
     }
+}
+
+fn version_again(alloc: Global) -> Result<Version, Fail> {
+    let rows = read_rows(alloc, &mut Watched::new(V1_DATA.as_bytes()))?;
+    let exclusions = read_exclusions(alloc, &mut Watched::new(V1_EXCLUSIONS.as_bytes()))?;
+    build_again(alloc, rows, exclusions)
 }
 
 #[test]

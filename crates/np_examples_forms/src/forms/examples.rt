@@ -54,7 +54,7 @@ pub(super) struct Shown {
 }
 
 /// Over the first fixture.
-pub(super) const FIRST: Shown = Shown {
+pub(super) const FIRST: &Shown = &Shown {
     canonical: CANONICAL,
     formed: &[
         // a ligature is compatible with its letters
@@ -104,7 +104,7 @@ pub(super) const FIRST: Shown = Shown {
 };
 
 /// Over the second fixture, where starters compose from the left.
-pub(super) const SECOND: Shown = Shown {
+pub(super) const SECOND: &Shown = &Shown {
     canonical: &[("\u{41}\u{16D67}", "\u{41}\u{16D67}", "\u{41}\u{16D67}")],
     formed: &[
         (
@@ -122,7 +122,7 @@ pub(super) const SECOND: Shown = Shown {
 };
 
 /// Over the fixture whose composite spans a non-starter: one that is passed is not visited again.
-pub(super) const SPANNING: Shown = Shown {
+pub(super) const SPANNING: &Shown = &Shown {
     canonical: &[],
     formed: &[
         (Form::Nfc, "\u{41}\u{323}\u{30A}", "\u{C5}\u{323}"),
@@ -355,9 +355,9 @@ impl Example for Long {
 #[test]
 fn forms_and_keys_are_those_of_the_version(rt: HostRuntime) -> Result<(), Fail> {
     let alloc = rt.alloc();
-    holds_over_each(alloc, V1, &FIRST)?;
-    holds_over_each(alloc, V2, &SECOND)?;
-    holds_over_each(alloc, S, &SPANNING)
+    holds_over_each(alloc, V1, FIRST)?;
+    holds_over_each(alloc, V2, SECOND)?;
+    holds_over_each(alloc, S, SPANNING)
 }
 
 #[test]

@@ -99,8 +99,7 @@ fn is_key_under_both<T: NormTable>(
     new: &T,
     row: &(&str, &str),
 ) -> Result<(), Fail> {
-    let key = npss(alloc, new, Form::Nfc, row.0)?;
-    want(key.as_str() == row.1, row.0)?;
+    want(npss(alloc, new, Form::Nfc, row.0)?.as_str() == row.1, row.0)?;
     want(is_form(alloc, old, Form::Nfc, row.1)?, "under the first")?;
     want(is_form(alloc, new, Form::Nfc, row.1)?, "under the second")
 }

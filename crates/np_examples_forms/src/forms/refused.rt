@@ -175,17 +175,26 @@ fn steps<T: NormTable>(
     Ok(())
 }
 
+/// The code points of a text, fed to the stream one by one.
+const FED: &[char] = &[
+    '\u{61}', '\u{302}', '\u{323}', '\u{41}', '\u{327}', '\u{30A}', '\u{FB01}',
+];
+
+fn feeds<T: NormTable>(stream: &mut Stream<'_, T>, call: Call) -> Result<(), Fail> {
+    for code in FED {
+        steps(stream, Some(*code), call == Call::Feed)?;
+    }
+    steps(stream, None, call == Call::Finish)
+}
+
 /// Fails unless the stream gives the text's form.
-fn feeds<T: NormTable>(
+fn gives<T: NormTable>(
     alloc: Global,
     stream: &mut Stream<'_, T>,
     call: Call,
     normal: &str,
 ) -> Result<(), Fail> {
-    for code in "\u{61}\u{302}\u{323}\u{41}\u{327}\u{30A}\u{FB01}".chars() {
-        steps(stream, Some(code), call == Call::Feed)?;
-    }
-    steps(stream, None, call == Call::Finish)?;
+    feeds(stream, call)?;
     want(string_of(alloc, stream.ready())?.as_str() == normal, normal)
 }
 
@@ -197,7 +206,7 @@ fn streams<T: NormTable>(
     normal: &str,
 ) -> Result<(), Fail> {
     let mut stream = Stream::new(alloc, table, wanted);
-    feeds(alloc, &mut stream, call, normal)
+    gives(alloc, &mut stream, call, normal)
 }
 
 fn both_streams<T: NormTable>(alloc: Global, table: &T, call: Call) -> Result<(), Fail> {
