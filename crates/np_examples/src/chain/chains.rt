@@ -43,12 +43,14 @@ fn wants_form<T: NormTable>(
 
 /// Fails unless the chain lends its two tables.
 fn lends<T: NormTable>(alloc: Global, chain: &Chain<'_, T>) -> Result<(), Fail> {
+    let length = !chain.is_empty() && chain.clone()?.tables().len() == 2;
+    want(length, "its tables")?;
     wants_form(alloc, chain, Form::Nfc, "\u{E2}\u{AC00}")?;
     wants_form(alloc, chain, Form::Nfd, "a\u{302}\u{1100}\u{1161}")?;
-    let place = first_unassigned(chain.at(0), "a\u{1DFA}");
-    want(place == Some(1), "not in the first")?;
-    let length = !chain.is_empty() && chain.clone()?.tables().len() == 2;
-    want(length, "its tables")
+    want(
+        first_unassigned(chain.at(0), "a\u{1DFA}") == Some(1),
+        "not in the first",
+    )
 }
 
 /// Fails unless borrowed tables make a chain, which lends them.
