@@ -101,9 +101,6 @@ module _ (old new : VersionData) (sound_old : IsSound old) (sound_new : IsSound 
 
   -- ---- a row of the old version
 
-  pub kept-none : (at : ℕ) → slice_get old.entries at ≡ None → IsKept old new at
-  kept-none at none c e is at_c = absurd (none-some e (sym none ∙ is))
-
   pub kept-single : (at : ℕ) (r : Entry) → slice_get old.entries at ≡ Some r → r.first ≡ r.last → break_of old new r.first ≡ None → IsKept old new at
   kept-single at r is single none c e is_e at_c =
       let same = same_Some r e (sym is ∙ is_e) in

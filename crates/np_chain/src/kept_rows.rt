@@ -1,7 +1,7 @@
 //! Whether a version breaks nothing of another, asked of the old one's rows and of the new one's
 //! primary composites: a quick way to the answer that most pairs have. A published version has some
 //! 35,000 rows and 1,000 such composites, and there are 1,114,112 code points.
-ghost use Rattle.std.specs.Prelude.{◌≡◌, ◌≢◌, ℕ, IsTrue, None};
+ghost use Rattle.std.specs.Prelude.{◌≡◌, ◌≢◌, ℕ, ◌<◌, length, IsTrue, None};
 ghost use Rattle.np_chain.specs.inside.BreakTests.{break_of};
 ghost use Rattle.np_chain.specs.inside.KeptRows.{AddsNoBreak, HasNoPair, IsKept, IsSameWithin, LiesSame};
 ghost use Rattle.np_ucd.specs.RowValues.{lent_entry};
@@ -48,8 +48,8 @@ fn is_same_within(row: RowRef<'_>, wide: RowRef<'_>) -> bool
 fn lies_same(new: &Version, row: RowRef<'_>) -> bool
     ensures { IsTrue result → LiesSame new.now (lent_entry row.entry) }
 {
-    match new.row_at(row.first) {
-        Some(wide) => is_same_within(row, wide),
+    match new.place_of(row.first) {
+        Some(at) => is_same_within(row, new.row_in(at)),
         None => false,
     }
 }
@@ -57,13 +57,12 @@ fn lies_same(new: &Version, row: RowRef<'_>) -> bool
 /// Whether the row of the old version at a place is kept by the new one: `true` only where no code
 /// point in it has a break.
 fn keeps_row(old: &Version, new: &Version, at: usize) -> bool
+    requires { at < length old.now.entries }
     ensures { IsTrue result → IsKept old.now new.now at }
 {
     old.meets_conditions();
     new.meets_conditions();
-    let Some(row) = old.row(at) else {
-        return true;
-    };
+    let row = old.row_in(at);
     if lies_same(new, row) {
         return true;
     }

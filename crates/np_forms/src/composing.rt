@@ -11,10 +11,9 @@ use crate::classes::Classed;
 use crate::lookups::composite_of;
 use np_versions::NormTable;
 
-/// A composition inside its own list. The first `kept` places hold what was composed so far, beside
-/// classes that are of no account; what is still to be read stands at a place that is no smaller. Of what
-/// was composed, the place of the last starter, and the class of the last code point that was kept behind
-/// it, 0 where there is none.
+/// A composition inside its own list. The first `kept` places hold what was composed so far, beside classes that are of
+/// no account; what is still to be read stands at a place that is no smaller. Of what was composed, the place of the
+/// last starter, and the class of the last code point that was kept behind it, 0 where there is none.
 #[derive(Drop)]
 struct Composer {
     list: Vec<Classed>,
@@ -78,8 +77,7 @@ fn take_in<T: NormTable>(composer: &mut Composer, table: &T, at: usize)
     composer.last = class;
 }
 
-/// The composition of a list in canonical order, in the list's own memory, beside classes that are of no
-/// account.
+/// The composition of a list in canonical order, in the list's own memory, beside classes that are of no account.
 pub(crate) fn compose<T: NormTable>(table: &T, text: Vec<Classed>) -> Vec<Classed>
     ensures { (cs : List ℕ) → text.items ≡ with_classes (T.model table.now) cs → is_ordered (class_of (T.model table.now)) cs ≡ true →
         codes_of result.items ≡ compose_of (T.model table.now) cs }

@@ -48,9 +48,8 @@ pub(crate) struct QuickCut<'a> {
     pub more: usize,
 }
 
-/// Cuts off the longest front that is known to pass the quick check; where `assigned` is asked for,
-/// each of its code points is. It is made part of each loop that calls it, so that what the form asks is looked
-/// up once.
+/// Cuts off the longest front that is known to pass the quick check; where `assigned` is asked for, each of its code
+/// points is. It is made part of each loop that calls it, so that what the form asks is looked up once.
 #[inline(always)]
 pub(crate) fn split_quick_span<'a, T: NormTable>(
     table: &T,
@@ -75,8 +74,7 @@ pub(crate) fn split_quick_span<'a, T: NormTable>(
     QuickCut { front, rest, more }
 }
 
-/// Cuts before the first code point that is known to be a boundary. It too is made part of each
-/// loop that calls it.
+/// Cuts before the first code point that is known to be a boundary. It too is made part of each loop that calls it.
 #[inline(always)]
 pub(crate) fn split_head<'a, T: NormTable>(
     table: &T,
@@ -100,8 +98,7 @@ pub(crate) fn split_head<'a, T: NormTable>(
     }
 }
 
-/// Cuts a text before the last code point that is known to be a boundary; nothing is before it
-/// where there is none.
+/// Cuts a text before the last code point that is known to be a boundary; nothing is before it where there is none.
 #[inline(always)]
 pub(crate) fn split_tail<'a, T: NormTable>(
     table: &T,

@@ -52,8 +52,7 @@ pub(crate) fn hold_front<'a, T: NormTable>(
     }
 }
 
-/// Puts a list in canonical order, and composes it where `composes`. After that its classes are of no
-/// account.
+/// Puts a list in canonical order, and composes it where `composes`. After that its classes are of no account.
 pub(crate) fn settle<T: NormTable>(
     alloc: Global,
     table: &T,

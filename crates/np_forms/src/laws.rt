@@ -3,15 +3,13 @@ ghost use Rattle.np_forms.specs.Boundaries.{FormsAtBoundary, YesStarterForm};
 ghost use Rattle.np_forms.specs.Laws.{FewBytes, FewCodePoints, OneForm, OneOrderedForm, PrecomputedForm, PremisesAreMet, QuickSpanForm};
 ghost use Rattle.np_forms.specs.StreamLaws.{OneMore};
 
-/// Whatever gives the combining classes, a list has exactly one ordered form (The Unicode Standard,
-/// D109).
+/// Whatever gives the combining classes, a list has exactly one ordered form (The Unicode Standard, D109).
 pub fn ordered_form()
     ensures { OneOrderedForm }
 {}
 
-/// Under each version that meets the conditions, a text has exactly one normal form of each kind;
-/// the conditions are met by the version of empty files, by one with a primary composite, and by one
-/// with the Hangul arithmetic on.
+/// Under each version that meets the conditions, a text has exactly one normal form of each kind; the conditions are
+/// met by the version of empty files, by one with a primary composite, and by one with the Hangul arithmetic on.
 pub fn one_form()
     ensures only { OneForm }
     ensures met { PremisesAreMet }

@@ -70,8 +70,7 @@ fn read_piece<R: Read>(
     }
 }
 
-/// How bytes begin: how many the longest prefix has that is UTF-8, and whether what follows it may
-/// begin a character.
+/// How bytes begin: how many the longest prefix has that is UTF-8, and whether what follows it may begin a character.
 #[derive(Clone, Copy)]
 struct Utf8Prefix {
     text: usize,
@@ -149,8 +148,7 @@ struct Input {
     ghost space: { vec_len piece ≡ 65536 },
 }
 
-/// Reads once, and answers how many bytes of the chunk are a text; the rest is kept. None at the
-/// end of the input.
+/// Reads once, and answers how many bytes of the chunk are a text; the rest is kept. None at the end of the input.
 fn next_chunk<R: Read>(
     input: &mut Input,
     source: &mut Watched<R>,

@@ -136,8 +136,7 @@ fn jamo_text_front(text: &str) -> Option<(u32, &str)>
     Some((syllable, &text[len..]))
 }
 
-/// The syllable that a text begins with, precomposed or, where `joins` asks for that, by its jamo, and what
-/// follows it.
+/// The syllable that a text begins with, precomposed or, where `joins` asks for that, by its jamo, and what follows it.
 #[inline(always)]
 fn syllable_front(joins: bool, text: &str) -> Option<(u32, &str)>
     ensures { IfSome result (λ cut. BeginsWithSyllable text.now cut.1.now cut.0) }

@@ -23,15 +23,13 @@ use std::alloc::Global;
 use std::fmt;
 use std::marker::Model;
 
-/// The fast table. A code point's block is found by its number divided by 256; blocks without an
-/// assigned code point are one shared block, and blocks in the midst of a range another. Its properties
-/// tell the class, whether it is assigned, whether it can be the second part of a pair, and where
-/// its full decompositions stand, which are shared where both kinds are the same. Beside these
-/// is the quick check of each under the four forms, a byte for each.
+/// The fast table. A code point's block is found by its number divided by 256; blocks without an assigned code point
+/// are one shared block, and blocks in the midst of a range another. Its properties tell the class, whether it is
+/// assigned, whether it can be the second part of a pair, and where its full decompositions stand, which are shared
+/// where both kinds are the same. Beside these is the quick check of each under the four forms, a byte for each.
 ///
-/// It takes some 1.7 MiB beside its version for the files of Unicode 15. Each call takes constant
-/// time, but `pair`, which searches by halves where the pair shares its slot with others, and
-/// `quick_span`, which reads what it counts.
+/// It takes some 1.7 MiB beside its version for the files of Unicode 15. Each call takes constant time, but `pair`,
+/// which searches by halves where the pair shares its slot with others, and `quick_span`, which reads what it counts.
 #[derive(Drop)]
 pub struct PageTable {
     version: Version,

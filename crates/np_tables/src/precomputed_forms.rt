@@ -26,8 +26,7 @@ pub(crate) struct ByteRange {
     pub end: u32,
 }
 
-/// What is written under one form for the code point of each slot, in one flat list: nothing where
-/// that is not known.
+/// What is written under one form for the code point of each slot, in one flat list: nothing where that is not known.
 #[derive(Drop)]
 pub(crate) struct PrecomputedForms {
     bytes: Vec<u8>,
@@ -144,8 +143,7 @@ fn write_decomposition(version: &Version, lent: &[char], text: &mut String) -> R
     Ok(true)
 }
 
-/// Appends the form of a full decomposition by itself. False where it is not known: then what was
-/// appended is no form.
+/// Appends the form of a full decomposition by itself. False where it is not known: then what was appended is no form.
 fn write_form(
     version: &Version,
     seconds: &[bool],

@@ -26,8 +26,7 @@ use std::alloc::Global;
 /// The quick check of a starter that passes: a code point of any class may follow. All classes are less.
 const YES: u8 = 255;
 
-/// The quick check of what is not assigned, which passes, below all else; the non-starters of class 1
-/// have it too.
+/// The quick check of what is not assigned, which passes, below all else; the non-starters of class 1 have it too.
 const UNASSIGNED: u8 = 1;
 
 /// Of what passes under every form.

@@ -1,6 +1,5 @@
-//! Fronts of texts that pass the quick check (UAX #15, section 9): starters that pass the
-//! quick check, and behind them non-starters in canonical order that never compose backward, or don't compose
-//! where they are.
+//! Fronts of texts that pass the quick check (UAX #15, section 9): starters that pass the quick check, and behind them
+//! non-starters in canonical order that never compose backward, or don't compose where they are.
 //!
 //! A non-starter that is the second part of no composite follows a composite whatever its class is: the parts
 //! that canonical ordering puts behind it still compose with the starter. One that may compose backward is not taken

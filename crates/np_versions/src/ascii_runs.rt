@@ -9,8 +9,7 @@ use std::simd::prelude::*;
 /// How many bytes are looked at at once, each in a lane of its own.
 const LANES: usize = 16;
 
-/// How many of the `LANES` bytes from a place on stand before the first that is not ASCII: all where
-/// there is none.
+/// How many of the `LANES` bytes from a place on stand before the first that is not ASCII: all where there is none.
 #[inline(always)]
 fn ascii_in_lanes(bytes: &[u8], from: usize) -> usize
     requires { from + 16 ≤ length bytes.now }

@@ -66,8 +66,7 @@ fn first_at(characters: &CharacterData, at: usize) -> Option<u32>
     }
 }
 
-/// The marks of the rows in the last round. A round that changes none is the last one that is
-/// made.
+/// The marks of the rows in the last round. A round that changes none is the last one that is made.
 fn final_marks(alloc: Global, characters: &CharacterData) -> Result<Vec<u8>, Memory>
     ensures marks { IfOk result (λ m. m.items ≡ row_marks characters.now 32) }
     ensures rows { AreRows characters.now.entries }
@@ -107,8 +106,7 @@ fn bare_marks(alloc: Global, characters: &CharacterData) -> Result<Vec<u8>, Memo
     Ok(marks)
 }
 
-/// Appends the marks in front of the first that is not known, and answers those behind it, `None`
-/// where all are known.
+/// Appends the marks in front of the first that is not known, and answers those behind it, `None` where all are known.
 fn take_known<'a>(left: &'a [u8], next: &mut Vec<u8>) -> Result<Option<&'a [u8]>, Memory>
     ensures known { IfOk result (λ _. next.new.items ≡ next.old.items ++ before_byte 0 left.now) }
     ensures later { IfOk result (λ later. option_map (λ rest. rest.now) later ≡ after_byte 0 left.now) }
@@ -118,8 +116,7 @@ fn take_known<'a>(left: &'a [u8], next: &mut Vec<u8>) -> Result<Option<&'a [u8]>
     Ok(later)
 }
 
-/// The marks of the rows in the round after this one. A mark that is known stays, so that few rows
-/// are looked at.
+/// The marks of the rows in the round after this one. A mark that is known stays, so that few rows are looked at.
 fn next_marks(
     alloc: Global,
     characters: &CharacterData,

@@ -59,8 +59,7 @@ fn right_from(rows: &RowIndex, place: u32) -> u32
     }
 }
 
-/// Whether all syllables and jamo are assigned, of class 0 and without a mapping, which no
-/// exclusion changes.
+/// Whether all syllables and jamo are assigned, of class 0 and without a mapping, which no exclusion changes.
 #[tactic(auto, using(crate::proofs::RightLemmas::wrong_at, crate::proofs::RightLemmas::right_below))]
 pub(crate) fn all_right(rows: &RowIndex) -> bool
     requires { AreRows rows.now }

@@ -58,8 +58,7 @@ fn number_at(rows: &RowList, at: usize, code: u32) -> Numbered
     }
 }
 
-/// Appends the row numbers of the 256 code points from `first` on, and answers the place of the
-/// next row.
+/// Appends the row numbers of the 256 code points from `first` on, and answers the place of the next row.
 fn push_block(
     rows: &RowList,
     from: usize,

@@ -115,9 +115,8 @@ pub trait NormTable {
         UNKNOWN
     }
 
-    /// Whether each ASCII character is known to be assigned, its own form, and a boundary: there is one
-    /// before it. What follows it may compose with it, as 0301 does with `e`. A table may answer `false`
-    /// where all of this holds.
+    /// Whether each ASCII character is known to be assigned, its own form, and a boundary: there is one before it. What
+    /// follows it may compose with it, as 0301 does with `e`. A table may answer `false` where all of this holds.
     fn ascii_passes(&self, form: Form) -> bool
         ensures assigned { IsTrue result → (c : ℕ) → c < 128 → is_assigned (model self.now) c ≡ true }
         ensures yes_starter { IsTrue result → (c : ℕ) → c < 128 → IsYesStarter (model self.now) form c }
@@ -126,11 +125,10 @@ pub trait NormTable {
         UNKNOWN
     }
 
-    /// The front of a text that is known to be its own form, if a boundary or nothing follows.
-    /// It has starters that pass the quick check (UAX #15, section 9). Behind these may be other code points
-    /// without a mapping that do not compose with what is before them: non-starters in canonical order, and starters
-    /// (class 0) too. Where `assigned` is asked for, each of its code points is. A table may answer less, down to
-    /// 0 bytes and no boundary.
+    /// The front of a text that is known to be its own form, if a boundary or nothing follows. It has starters that
+    /// pass the quick check (UAX #15, section 9). Behind these may be other code points without a mapping that do not
+    /// compose with what is before them: non-starters in canonical order, and starters (class 0) too. Where `assigned`
+    /// is asked for, each of its code points is. A table may answer less, down to 0 bytes and no boundary.
     fn quick_span(&self, form: Form, assigned: bool, text: &str) -> QuickSpan
         ensures quick_span { IsQuickSpan (model self.now) form text.now result.count }
         ensures assigned { IsTrue assigned → list_all (is_assigned (model self.now)) (chars (take result.count text.now)) ≡ true }

@@ -1,5 +1,5 @@
 //! Versions of the character tables (UAX #44).
-ghost use Rattle.std.specs.Prelude.{◌≡◌, ◌↔◌, ◌⊎◌, ℕ, length, option_map, slice_get, IfOk, OnOk, IfErr, IfSome, IfNone, IsTrue, ◌<◌, None, Some};
+ghost use Rattle.std.specs.Prelude.{◌≡◌, ◌↔◌, ◌⊎◌, ℕ, length, slice_get, IfOk, OnOk, IfErr, IfSome, IfNone, IsTrue, ◌<◌, None, Some};
 ghost use Rattle.np_versions.specs.TableFaults.{IsFaultless, IsLeastFault};
 ghost use Rattle.np_versions.specs.declared.faults.TableFault.TheVariants.{Memory as OutOfMemory};
 ghost use Rattle.np_versions.specs.Composites.{IsCompositeOf, IsPrimary};
@@ -27,9 +27,8 @@ use std::boxed::Box;
 use std::fmt;
 use std::marker::Model;
 
-/// A version of the character tables that has none of the faults of
-/// [`TableFault`](crate::TableFault). A code point is any number here: one that no row lists is
-/// unassigned, of class 0 and without a mapping.
+/// A version of the character tables that has none of the faults of [`TableFault`](crate::TableFault). A code point is
+/// any number here: one that no row lists is unassigned, of class 0 and without a mapping.
 #[derive(Drop)]
 pub struct Version {
     characters: Box<CharacterData>,
@@ -70,9 +69,8 @@ fn judge(alloc: Global, characters: &CharacterData, pairs: &Pairs) -> Result<(),
 }
 
 impl Version {
-    /// The version that these rows and exclusions make. An `Err` tells the fault at the least code
-    /// point, and of the faults there the first in the list of [`TableFault`]; or that memory ran
-    /// out.
+    /// The version that these rows and exclusions make. An `Err` tells the fault at the least code point, and of the
+    /// faults there the first in the list of [`TableFault`]; or that memory ran out.
     pub fn build(alloc: Global, rows: Rows, exclusions: Exclusions) -> Result<Version, TableFault>
         ensures version { IfOk result (λ v. v ≡ record { entries = rows; exclusions = exclusions }) }
         ensures faultless { OnOk result (IsFaultless (record { entries = rows; exclusions = exclusions })) }
@@ -176,14 +174,8 @@ impl Version {
         self.characters.len()
     }
 
-    /// The row at a place, from 0 in the order of their code points.
-    pub fn row(&self, at: usize) -> Option<RowRef<'_>>
-        ensures { option_map lent_entry result ≡ slice_get self.now.entries at }
-    {
-        self.characters.row(at)
-    }
-
-    /// The row at a place, from 0. The place is less than [`row_count`](Version::row_count).
+    /// The row at a place, from 0 in the order of their code points. The place is less than
+    /// [`row_count`](Version::row_count).
     pub fn row_in(&self, at: usize) -> RowRef<'_>
         requires { at < length self.now.entries }
         ensures place { slice_get self.now.entries at ≡ Some (lent_entry result) }
@@ -200,13 +192,6 @@ impl Version {
         ensures row { IfSome result (λ at. slice_get self.now.entries at ≡ entry_at self.now.entries code) }
     {
         self.characters.place_of(code)
-    }
-
-    /// The row in which a code point lies.
-    pub fn row_at(&self, code: u32) -> Option<RowRef<'_>>
-        ensures { option_map lent_entry result ≡ entry_at self.now.entries code }
-    {
-        self.characters.row_at(code)
     }
 
     /// Whether a code point is assigned: listed, alone or inside a range.

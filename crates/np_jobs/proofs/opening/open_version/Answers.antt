@@ -1,4 +1,4 @@
-use Rattle.std.proofs.Common.{[], ◌∷◌, ◌∙◌, ap, refl, string_bytes, sym}
+use Rattle.std.proofs.Common.{rules, [], ◌∷◌, ◌∙◌, ap, refl, string_bytes, sym}
 use Rattle.std.proofs.lemmas.Result.{err_from_is_err_and}
 use Rattle.np_jobs.proofs.OpeningLemmas.{unopened_among}
 use Rattle.np_words.specs.Words.{names_of}
@@ -24,3 +24,6 @@ returns-in_err-exclusions-clause-told g c =
     c.in_ok-data.ensures.silent
     (ap (λ name. name ∷ (exclusions ∷ [])) (sym c.as_str.ensures.value) ∙ ap (λ name. first ∷ (name ∷ [])) (sym c.as_str-2.ensures.value))
     (c.in_ok-data.ensures.file, tt) c.in_err-exclusions.ensures.told)
+
+pub returns-clause-files : goal.returns-clause-files
+returns-clause-files g c = search rules

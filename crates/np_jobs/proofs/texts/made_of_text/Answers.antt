@@ -1,4 +1,4 @@
-use Rattle.std.proofs.Common.{inr, refl, subst}
+use Rattle.std.proofs.Common.{rules, inr, refl, subst}
 use Rattle.std.proofs.lemmas.Result.{err_from_is_err_and}
 use Rattle.np_jobs.specs.Streams.{Stream}
 use Rattle.np_jobs.specs.Texts.{IsTextFault}
@@ -14,3 +14,6 @@ returns-in_err-made_under-clause-refused g c =
     let refused = subst (λ (s : Stream). IsTextFault (JobRefuses c.args.job table) s fault) input c.in_err-made_under.ensures.refused in
     let p = err_from_is_err_and c.from_residual-in_err-made_under.result c.from_residual-in_err-made_under.ensures.1 in
     rw (p.1, p.2) (inr (table, c.in_ok-table.ensures.built, (fault, refl, refused)))
+
+pub returns-in_err-table-clause-refused : goal.returns-in_err-table-clause-refused
+returns-in_err-table-clause-refused g c = search rules

@@ -1,5 +1,5 @@
 use Rattle.std.proofs.Common.{rules}
-use Rattle.np_versions.proofs.version.Version.row_at.Goals as goal
+use Rattle.np_versions.proofs.characters.CharacterData.is_listed.Goals as goal
 
 pub returns : goal.returns
 returns c = search rules

@@ -1,0 +1,5 @@
+use Rattle.std.proofs.Common.{rules}
+use Rattle.np_versions.proofs.faults.TableFault.name.Goals as goal
+
+pub returns-in-TooDeep : goal.returns-in-TooDeep
+returns-in-TooDeep c = search rules

@@ -1,5 +1,0 @@
-use Rattle.std.proofs.Common.{rules}
-use Rattle.np_versions.proofs.version.Version.row.Goals as goal
-
-pub returns : goal.returns
-returns c = search rules
