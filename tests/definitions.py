@@ -11,7 +11,8 @@ The second has for each promise the public contracts that carry it, the files th
 (contracts.py finds them), and the statements of these with all that they need. Each file of definitions
 outside `inside` has to be reached by a promise; none may import one of `inside`; a public contract that
 cites one of `inside` has to be named below the tables. In the table 'Where is' of docs/ARCHITECTURE.md
-each name has to stand in the file before it. Prints the sums, and ends in a line 'N passed, M failed'.
+each name has to stand in the file before it. Code and those files have lines under 160 characters, but for
+imports. Prints the sums, and ends in a line 'N passed, M failed'.
 """
 
 import re
@@ -22,7 +23,7 @@ from pathlib import Path
 sys.dont_write_bytecode = True
 
 import pages
-from contracts import CRATES, public_contracts
+from contracts import CRATES, public_contracts, sources
 from harness import ROOT, Tally
 
 DEFINITIONS = ROOT / "docs" / "DEFINITIONS.md"
@@ -37,6 +38,8 @@ ROOTS = ("", "crates")
 ENDINGS = ("", ".antt", ".rt")
 # The folders that each crate may have, of which documents speak in general.
 OF_A_CRATE = ("src", "specs", "proofs", "must-fail", "out")
+# What no line of code or of a definition reaches.
+WIDTH = 160
 FILES, PROMISES = "## The files, in reading order", "## What a promise rests on"
 
 
@@ -250,6 +253,14 @@ def check_where(tally):
     tally.check("there is a table 'Where is'", len(rows) >= 20, f"{len(rows)} rows")
 
 
+def check_widths(tally):
+    """Code with its contracts, and the files that are to be believed, have no wide line but of an import."""
+    wide = [f"{name_of(path)} line {number}" for path in [*sources(), *believed()]
+            for number, line in enumerate(path.read_text(encoding="utf-8").splitlines(), 1)
+            if len(line) >= WIDTH and not re.match(r"(pub )?(ghost )?use ", line)]
+    tally.check(f"lines are under {WIDTH} characters", not wide, ", ".join(wide))
+
+
 def show_for(name):
     """Prints what to read for a contract, in reading order."""
     contracts = [contract for contract in public_contracts() if contract.name.removesuffix(" (model)") == name]
@@ -272,6 +283,7 @@ def main():
     check_inside(tally)
     check_paths(tally)
     check_where(tally)
+    check_widths(tally)
     pages.check_pages(tally)
     pages.check_comments(tally)
     tally.finish()

@@ -45,12 +45,14 @@ FewBytes =
 -- a front that passes the quick check, as a table's scan over a text tells it, is its own normal form
 abbrev pub QuickSpanForm : Type 0
 QuickSpanForm =
-    (v : VersionData) (form : Form) (text : List ℕ) (n : ℕ) → IsSound v → IsUtf8 text → IsQuickSpan v form text n → IsNormalForm v form (chars (take n text)) (chars (take n text))
+    (v : VersionData) (form : Form) (text : List ℕ) (n : ℕ) → IsSound v → IsUtf8 text → IsQuickSpan v form text n
+    → IsNormalForm v form (chars (take n text)) (chars (take n text))
 
 -- the precomputed form that a table has of a code point is its normal form
 abbrev pub PrecomputedForm : Type 0
 PrecomputedForm =
-    (v : VersionData) (form : Form) (c : ℕ) (bytes : List ℕ) (count : ℕ) → IsSound v → IsPrecomputed v form c bytes count → IsNormalForm v form (c ∷ []) (chars (take count bytes))
+    (v : VersionData) (form : Form) (c : ℕ) (bytes : List ℕ) (count : ℕ) → IsSound v → IsPrecomputed v form c bytes count
+    → IsNormalForm v form (c ∷ []) (chars (take count bytes))
 
 -- the premise of these laws on a version is met: by the version of empty files; by one of three rows, a starter, a
 -- non-starter of class 230 and their primary composite; and by one with the Hangul arithmetic on

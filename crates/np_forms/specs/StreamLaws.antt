@@ -6,8 +6,7 @@ use Rattle.np_forms.specs.Streams.{IsCutAtLastStarter}
 use Rattle.np_versions.specs.Conditions.{IsSound}
 use Rattle.np_versions.specs.Versions.{VersionData}
 
--- one more code point changes a normal form x ++ y from its last starter on alone: y and that code point have the rest as
--- their normal form
+-- one more code point changes a normal form x ++ y from its last starter on alone: y and that code point have the rest as their normal form
 abbrev pub OneMore : Type 0
 OneMore =
     (v : VersionData) (form : Form) (text x y z : List ℕ) (c : ℕ) → IsSound v → IsNormalForm v form text (x ++ y) → IsCutAtLastStarter v x y →

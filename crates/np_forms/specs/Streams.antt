@@ -72,7 +72,8 @@ pub record TakesIn (old new : StreamState) (c : ℕ) : Type 0 where
   pub ready : new.ready ≡ old.ready ++ more
   pub version : new.version ≡ old.version
   pub form : new.form ≡ old.form
-  pub carries : (fed out : List ℕ) → IsStreaming old.version old.form fed out old.pending → IsStreaming old.version old.form (fed ++ c ∷ []) (out ++ more) new.pending
+  pub carries : (fed out : List ℕ) → IsStreaming old.version old.form fed out old.pending
+      → IsStreaming old.version old.form (fed ++ c ∷ []) (out ++ more) new.pending
 
 -- the text ended; `more` became ready, which is the rest of its normal form, and what comes later is a new text
 pub record Finishes (old new : StreamState) : Type 0 where

@@ -53,7 +53,9 @@ pub(crate) fn pair_with_last<T: NormTable>(
 fn take_in<T: NormTable>(composer: &mut Composer, table: &T, at: usize)
     requires kept { composer.old.kept ≤ at }
     requires place { at < vec_len composer.old.list }
-    ensures composing { (whole : List ℕ) → IsInPlace (T.model table.now) whole at composer.old.list.items composer.old.kept composer.old.starter composer.old.last → IsInPlace (T.model table.now) whole (at + 1) composer.new.list.items composer.new.kept composer.new.starter composer.new.last }
+    ensures composing { (whole : List ℕ)
+        → IsInPlace (T.model table.now) whole at composer.old.list.items composer.old.kept composer.old.starter composer.old.last
+        → IsInPlace (T.model table.now) whole (at + 1) composer.new.list.items composer.new.kept composer.new.starter composer.new.last }
     ensures kept { composer.new.kept ≤ at + 1 }
     ensures length { vec_len composer.new.list ≡ vec_len composer.old.list }
 {

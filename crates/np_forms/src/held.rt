@@ -72,7 +72,8 @@ pub(crate) fn settle<T: NormTable>(
 
 /// The composite of the one code point of a settled list and a starter behind it.
 fn joined<T: NormTable>(table: &T, composes: bool, settled: &[Classed], d: char) -> Option<char>
-    ensures some { IfSome result (λ p. (composes ≡ true) × ((head : ℕ) × (codes_of settled.now ≡ head ∷ []) × (composite (T.model table.now) head d ≡ Some p))) }
+    ensures some { IfSome result (λ p. (composes ≡ true) × ((head : ℕ) × (codes_of settled.now ≡ head ∷ [])
+        × (composite (T.model table.now) head d ≡ Some p))) }
     ensures none { IfNone result ((head : ℕ) → composes ≡ true → codes_of settled.now ≡ head ∷ [] → composite (T.model table.now) head d ≡ None) }
 {
     if !composes {
@@ -96,7 +97,8 @@ fn push<T: NormTable>(
     requires sound { IsSound (T.model table.now) }
     requires class { d ≡ spec_with_class (T.model table.now) d.code }
     requires classed { AreClassed (T.model table.now) held.old.pending.items }
-    ensures ok { OnOk result (Advances (T.model table.now) composes (d.code ∷ []) held.old.ready.items (codes_of held.old.pending.items) held.new.ready.items (codes_of held.new.pending.items)) }
+    ensures ok { OnOk result (Advances (T.model table.now) composes (d.code ∷ []) held.old.ready.items (codes_of held.old.pending.items)
+        held.new.ready.items (codes_of held.new.pending.items)) }
     ensures classed { OnOk result (AreClassed (T.model table.now) held.new.pending.items) }
     ensures ready { (more : List ℕ) × (held.new.ready.items ≡ held.old.ready.items ++ more) }
 {
@@ -127,7 +129,8 @@ pub(crate) fn push_all<T: NormTable>(
     requires sound { IsSound (T.model table.now) }
     requires parts { AreClassed (T.model table.now) parts.now }
     requires classed { AreClassed (T.model table.now) held.old.pending.items }
-    ensures ok { OnOk result (Advances (T.model table.now) composes (codes_of parts.now) held.old.ready.items (codes_of held.old.pending.items) held.new.ready.items (codes_of held.new.pending.items)) }
+    ensures ok { OnOk result (Advances (T.model table.now) composes (codes_of parts.now) held.old.ready.items (codes_of held.old.pending.items)
+        held.new.ready.items (codes_of held.new.pending.items)) }
     ensures classed { OnOk result (AreClassed (T.model table.now) held.new.pending.items) }
     ensures ready { (more : List ℕ) × (held.new.ready.items ≡ held.old.ready.items ++ more) }
 {
@@ -145,7 +148,8 @@ pub(crate) fn finish<T: NormTable>(
     held: &mut Held,
 ) -> Result<(), Memory>
     requires { AreClassed (T.model table.now) held.old.pending.items }
-    ensures ok { OnOk result (held.new.ready.items ≡ held.old.ready.items ++ ended (T.model table.now) composes (canonical_order (class_of (T.model table.now)) (codes_of held.old.pending.items))) }
+    ensures ok { OnOk result (held.new.ready.items
+        ≡ held.old.ready.items ++ ended (T.model table.now) composes (canonical_order (class_of (T.model table.now)) (codes_of held.old.pending.items))) }
     ensures nothing { OnOk result (held.new.pending.items ≡ []) }
     ensures ready { (more : List ℕ) × (held.new.ready.items ≡ held.old.ready.items ++ more) }
 {

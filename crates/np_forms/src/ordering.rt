@@ -30,7 +30,8 @@ struct NonStarters {
 fn non_starters_at_front(list: &[Classed]) -> NonStarters
     ensures bound { result.count ≤ length list.now }
     ensures non_starters { (v : VersionData) (cs : List ℕ) → list.now ≡ with_classes v cs → list_all (is_non_starter v) (take result.count cs) ≡ true }
-    ensures starter { (v : VersionData) (cs : List ℕ) → list.now ≡ with_classes v cs → result.count < length cs → class_of v (slice_index cs result.count) ≡ 0 }
+    ensures starter { (v : VersionData) (cs : List ℕ) → list.now ≡ with_classes v cs
+        → result.count < length cs → class_of v (slice_index cs result.count) ≡ 0 }
     ensures ordered { (v : VersionData) (cs : List ℕ) → list.now ≡ with_classes v cs → result.ordered ≡ true →
         is_ordered (class_of v) (take result.count cs) ≡ true }
 {
@@ -64,7 +65,8 @@ pub(crate) fn sort_non_starters(
     alloc: Global,
     non_starters: &mut [Classed],
 ) -> Result<(), AllocError>
-    ensures ok { OnOk result ((v : VersionData) (cs : List ℕ) → list_all (is_non_starter v) cs ≡ true → non_starters.old ≡ with_classes v cs → non_starters.new ≡ with_classes v (canonical_order (class_of v) cs)) }
+    ensures ok { OnOk result ((v : VersionData) (cs : List ℕ) → list_all (is_non_starter v) cs ≡ true
+        → non_starters.old ≡ with_classes v cs → non_starters.new ≡ with_classes v (canonical_order (class_of v) cs)) }
     ensures err { OnErr result (non_starters.new ≡ non_starters.old) }
 {
     non_starters.sort_by_key(alloc, |c| c.class())

@@ -156,9 +156,11 @@ fn next_chunk<R: Read>(
     requires clear { has_failed source.old ≡ false }
     requires fits { input.old.total ≤ RUN_LIMIT }
     requires inside { vec_len input.old.kept ≤ input.old.total }
-    ensures some { IfOk result (λ next. IfSome next (λ n. IsNextChunk (R.remaining (device_of source.old)) (R.remaining (device_of source.new)) input.old.kept.items input.new.chunk.items input.new.kept.items input.old.total input.new.total n)) }
+    ensures some { IfOk result (λ next. IfSome next (λ n. IsNextChunk (R.remaining (device_of source.old)) (R.remaining (device_of source.new))
+        input.old.kept.items input.new.chunk.items input.new.kept.items input.old.total input.new.total n)) }
     ensures few { IfOk result (λ next. IfSome next (λ _. vec_len input.new.kept ≤ 3)) }
-    ensures end { IfOk result (λ next. IfNone next (IsAtEnd (R.remaining (device_of source.new)) × Consumes (R.remaining (device_of source.old)) (R.remaining (device_of source.new)) [])) }
+    ensures end { IfOk result (λ next. IfNone next (IsAtEnd (R.remaining (device_of source.new))
+        × Consumes (R.remaining (device_of source.old)) (R.remaining (device_of source.new)) [])) }
     ensures same { IfOk result (λ next. IfNone next ((input.new.kept.items ≡ input.old.kept.items) × (input.new.total ≡ input.old.total))) }
     ensures err { IfErr result (IsInputFault (R.remaining (device_of source.old)) (R.remaining (device_of source.new)) input.old.kept.items input.old.total) }
     ensures failed { result ≡ Err RunFault.ReadFailed ↔ (has_failed source.new ≡ true) }
@@ -222,7 +224,8 @@ fn write_piece<W: Write, T: NormTable>(
     requires moved { stream.old.ready ≡ [] }
     requires empty { output.old.text ≡ [] }
     requires clear { has_failed target.old ≡ false }
-    ensures ok { OnOk result (IsPieceWritten stream.old stream.new (W.contents (device_of target.old)) (W.contents (device_of target.new)) output.old.count output.new.count (chars_in text.now)) }
+    ensures ok { OnOk result (IsPieceWritten stream.old stream.new (W.contents (device_of target.old)) (W.contents (device_of target.new))
+        output.old.count output.new.count (chars_in text.now)) }
     ensures empty { OnOk result (output.new.text ≡ []) }
     ensures err { OnErr result (IsPieceCut stream.old (W.contents (device_of target.old)) (W.contents (device_of target.new)) (chars_in text.now)) }
     ensures failed { result ≡ Err RunFault.WriteFailed ↔ (has_failed target.new ≡ true) }
@@ -243,7 +246,8 @@ fn write_rest<W: Write, T: NormTable>(
     requires moved { stream.old.ready ≡ [] }
     requires empty { output.old.text ≡ [] }
     requires clear { has_failed target.old ≡ false }
-    ensures ok { OnOk result (IsRestWritten stream.old (W.contents (device_of target.old)) (W.contents (device_of target.new)) output.old.count output.new.count) }
+    ensures ok { OnOk result (IsRestWritten stream.old (W.contents (device_of target.old)) (W.contents (device_of target.new))
+        output.old.count output.new.count) }
     ensures err { OnErr result (IsRestCut stream.old (W.contents (device_of target.old)) (W.contents (device_of target.new))) }
     ensures failed { result ≡ Err RunFault.WriteFailed ↔ (has_failed target.new ≡ true) }
     ensures fault { IfErr result (λ fault. (fault ≡ RunFault.WriteFailed) ⊎ (fault ≡ RunFault.Memory)) }
@@ -267,11 +271,14 @@ fn feed_all<R: Read, W: Write, T: NormTable>(
     target: &mut Watched<W>,
 ) -> Result<(), RunFault>
     requires { IsBetweenReads stream.old output.old.text (vec_len input.old.kept) input.old.total (has_failed source.old) (has_failed target.old) }
-    ensures ok { OnOk result (Goes stream.old stream.new (R.remaining (device_of source.old)) (R.remaining (device_of source.new)) (W.contents (device_of target.old)) (W.contents (device_of target.new)) input.old.kept.items input.new.kept.items input.old.total input.new.total output.old.count output.new.count) }
+    ensures ok { OnOk result (Goes stream.old stream.new
+        (R.remaining (device_of source.old)) (R.remaining (device_of source.new)) (W.contents (device_of target.old)) (W.contents (device_of target.new))
+        input.old.kept.items input.new.kept.items input.old.total input.new.total output.old.count output.new.count) }
     ensures end { OnOk result (IsAtEnd (R.remaining (device_of source.new))) }
     ensures fits { OnOk result (input.new.total ≤ RUN_LIMIT) }
     ensures moved { OnOk result ((stream.new.ready ≡ []) × (output.new.text ≡ []) × (vec_len input.new.kept ≤ input.new.total)) }
-    ensures err { IfErr result (λ fault. Stops stream.old (R.remaining (device_of source.old)) (R.remaining (device_of source.new)) (W.contents (device_of target.old)) (W.contents (device_of target.new)) input.old.kept.items input.old.total output.old.count (Err fault)) }
+    ensures err { IfErr result (λ fault. Stops stream.old (R.remaining (device_of source.old)) (R.remaining (device_of source.new))
+        (W.contents (device_of target.old)) (W.contents (device_of target.new)) input.old.kept.items input.old.total output.old.count (Err fault)) }
     ensures read { result ≡ Err RunFault.ReadFailed ↔ (has_failed source.new ≡ true) }
     ensures write { result ≡ Err RunFault.WriteFailed ↔ (has_failed target.new ≡ true) }
 {
@@ -294,7 +301,8 @@ fn run_on<R: Read, W: Write, T: NormTable>(
     target: &mut Watched<W>,
 ) -> Result<u64, RunFault>
     requires { IsBetweenReads stream.old output.old.text (vec_len input.old.kept) input.old.total (has_failed source.old) (has_failed target.old) }
-    ensures ends { Stops stream.old (R.remaining (device_of source.old)) (R.remaining (device_of source.new)) (W.contents (device_of target.old)) (W.contents (device_of target.new)) input.old.kept.items input.old.total output.old.count result }
+    ensures ends { Stops stream.old (R.remaining (device_of source.old)) (R.remaining (device_of source.new))
+        (W.contents (device_of target.old)) (W.contents (device_of target.new)) input.old.kept.items input.old.total output.old.count result }
     ensures read { result ≡ Err RunFault.ReadFailed ↔ (has_failed source.new ≡ true) }
     ensures write { result ≡ Err RunFault.WriteFailed ↔ (has_failed target.new ≡ true) }
 {
@@ -345,7 +353,12 @@ pub fn run<R: Read, W: Write, T: NormTable>(
     source: &mut Watched<R>,
     target: &mut Watched<W>,
 ) -> Result<u64, RunFault>
-    ensures ends { RunEnds (T.model table.now) form (record { in_before = R.remaining (device_of source.old); in_after = R.remaining (device_of source.new); out_before = W.contents (device_of target.old); out_after = W.contents (device_of target.new) }) result }
+    ensures ends { RunEnds (T.model table.now) form (record {
+      in_before = R.remaining (device_of source.old);
+      in_after = R.remaining (device_of source.new);
+      out_before = W.contents (device_of target.old);
+      out_after = W.contents (device_of target.new);
+    }) result }
     ensures read { result ≡ Err RunFault.ReadFailed ↔ (has_failed source.new ≡ true) }
     ensures write { result ≡ Err RunFault.WriteFailed ↔ (has_failed target.new ≡ true) }
 {

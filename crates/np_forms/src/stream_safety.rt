@@ -53,7 +53,8 @@ fn run_past_syllable<T: NormTable>(table: &T, run: usize, c: char) -> usize
     requires run { run ≤ 31 }
     requires syllable { in_block c ≡ true }
     ensures few { result ≤ 31 }
-    ensures over { (rest : List ℕ) → runs_over (class_of (T.model table.now)) result rest ≡ runs_over (class_of (T.model table.now)) run (syllable_parts c ++ rest) }
+    ensures over { (rest : List ℕ) → runs_over (class_of (T.model table.now)) result rest
+        ≡ runs_over (class_of (T.model table.now)) run (syllable_parts c ++ rest) }
 {
     // each syllable has parts
     let Some((first, second)) = hangul_parts(c) else {
@@ -72,7 +73,8 @@ fn run_past_full<T: NormTable>(table: &T, hangul: bool, run: usize, c: char) -> 
     requires hangul { hangul ≡ has_hangul (T.model table.now) }
     requires run { run ≤ 31 }
     ensures few { result ≤ 31 }
-    ensures over { (rest : List ℕ) → runs_over (class_of (T.model table.now)) result rest ≡ runs_over (class_of (T.model table.now)) run (full_of (T.model table.now) true c ++ rest) }
+    ensures over { (rest : List ℕ) → runs_over (class_of (T.model table.now)) result rest
+        ≡ runs_over (class_of (T.model table.now)) run (full_of (T.model table.now) true c ++ rest) }
 {
     let full = lent(table, c, true);
     if !full.is_empty() {

@@ -55,4 +55,5 @@ LacksCompareOutput v text fault =
 
 -- `compare`: whether the two lines of the input are equivalent
 abbrev pub CompareEnds : Form → TextReaders → Stream → Stream → ℕ → Type 0
-CompareEnds form readers output error status = JobEnds (MakesOfText (IsCompareOutput form) readers) (RefusesText LacksCompareOutput readers) output error status
+CompareEnds form readers output error status =
+    JobEnds (MakesOfText (IsCompareOutput form) readers) (RefusesText LacksCompareOutput readers) output error status

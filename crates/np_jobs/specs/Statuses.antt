@@ -1,4 +1,5 @@
--- The statuses of refusals: 1 for versions that don't extend one another, 3 for a code point that is not assigned, 4 for bad data, text or schedule, 5 for a device that failed, 6 for want of memory. Here those of files and tables.
+-- The statuses of refusals: 1 for versions that don't extend one another, 3 for a code point that is not assigned, 4 for bad data, text
+-- or schedule, 5 for a device that failed, 6 for want of memory. Here those of files and tables.
 use Rattle.std.specs.Prelude.{ℕ, is_some, if◌then◌else◌}
 use Rattle.np_code_points.specs.declared.channels.input.InputFault.{InputFault}
 use Rattle.np_code_points.specs.declared.channels.input.InputFault.TheVariants as Inputs

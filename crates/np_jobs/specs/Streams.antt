@@ -27,7 +27,8 @@ pub record WasRead (s : Stream) (bytes : List ℕ) : Type 0 where
   pub read : IsReadWhole s.before s.after bytes
   pub clear : s.failed ≡ false
 
--- an input was not read whole: at most 16,777,217 bytes were taken, exactly so many where it is too large, and the device failed exactly where that is the reason
+-- an input was not read whole: at most 16,777,217 bytes were taken, exactly so many where it is too large, and the device failed
+-- exactly where that is the reason
 pub record WasNotRead (s : Stream) (fault : InputFault) : Type 0 where
   pub taken : (bytes : List ℕ) × (length bytes ≤ 16777217) × Consumes s.before s.after bytes
   pub past : fault ≡ TooLarge → IsReadPastLimit s.before s.after

@@ -52,7 +52,8 @@ file_line version file fault = version_head version file ++ (line_head (files.li
 
 -- version K tables: NAME CODE
 abbrev pub tables_line : ℕ → TableFault → List ℕ
-tables_line version fault = version_head version (codes "tables") ++ (tables.name_of fault ++ (codes " " ++ (code_digits (tables.place_of fault) ++ codes "\n")))
+tables_line version fault = version_head version (codes "tables")
+    ++ (tables.name_of fault ++ (codes " " ++ (code_digits (tables.place_of fault) ++ codes "\n")))
 
 -- want of memory is told alike for each file and for the tables
 abbrev pub named : ℕ → List ℕ → Telling

@@ -45,7 +45,8 @@ pub fn read_version<R: Read>(
     data_file: &mut Watched<R>,
     exclusions_file: &mut Watched<R>,
 ) -> Result<Version, VersionFault>
-    ensures built { IfOk result (WasBuilt (stream_of R.remaining data_file.old data_file.new) (stream_of R.remaining exclusions_file.old exclusions_file.new)) }
+    ensures built { IfOk result (WasBuilt (stream_of R.remaining data_file.old data_file.new)
+        (stream_of R.remaining exclusions_file.old exclusions_file.new)) }
     ensures refused { IfErr result (IsVersionFault version (stream_of R.remaining data_file.old data_file.new)
         (stream_of R.remaining exclusions_file.old exclusions_file.new)) }
 {
@@ -115,7 +116,8 @@ pub fn read_table<R: Read>(
     data_file: &mut Watched<R>,
     exclusions_file: &mut Watched<R>,
 ) -> Result<PageTable, VersionFault>
-    ensures built { IfOk result (WasBuilt (stream_of R.remaining data_file.old data_file.new) (stream_of R.remaining exclusions_file.old exclusions_file.new)) }
+    ensures built { IfOk result (WasBuilt (stream_of R.remaining data_file.old data_file.new)
+        (stream_of R.remaining exclusions_file.old exclusions_file.new)) }
     ensures refused { IfErr result (IsVersionFault version (stream_of R.remaining data_file.old data_file.new)
         (stream_of R.remaining exclusions_file.old exclusions_file.new)) }
 {

@@ -14,4 +14,5 @@ without_name a = record a { top = record a.top { no_binary_name = true } }
 
 -- --form FORM DATA EXCL --null --strict --progress
 abbrev pub lines_app : App
-lines_app = with_rule (with_rule (with_rule (without_name (text_app (codes "npss_lines"))) (flag_rule (codes "null"))) (flag_rule (codes "strict"))) (flag_rule (codes "progress"))
+lines_app = with_rule (with_rule (with_rule (without_name (text_app (codes "npss_lines")))
+    (flag_rule (codes "null"))) (flag_rule (codes "strict"))) (flag_rule (codes "progress"))

@@ -43,5 +43,6 @@ lines_status is_strict any_refused = if is_strict && any_refused then 3 else 0
 -- each line of the input has its answer, and nothing is told; or the run stopped, and why is told
 abbrev pub LinesEnd : Asked → TextReaders → Stream → Stream → ℕ → Type 0
 LinesEnd asked readers output error status =
-    (((any_refused : Bool) × WasAnswered asked.wanted readers output (Ok any_refused) × (status ≡ lines_status asked.is_strict any_refused)) × IsUntouched error)
+    (((any_refused : Bool) × WasAnswered asked.wanted readers output (Ok any_refused) × (status ≡ lines_status asked.is_strict any_refused))
+    × IsUntouched error)
     ⊎ ((fault : JobFault) × IsStopped asked.wanted readers output fault × TellsRefusal fault error status)

@@ -64,7 +64,8 @@ fn run<P: Opener, I: Read, O: Write, E: Write>(
 ) -> Result<u8, u8>
     ensures done { IfOk result (EndsOverFiles (P.gives opener.now) job.now
         (stream_of I.remaining input.old input.new) (stream_of O.contents output.old output.new) (stream_of E.contents error.old error.new)) }
-    ensures unopened { IfErr result (IsUnopened (P.gives opener.now) (P.lacks opener.now) (asked_of job.now).files (stream_of E.contents error.old error.new)) }
+    ensures unopened { IfErr result (IsUnopened (P.gives opener.now) (P.lacks opener.now) (asked_of job.now).files
+        (stream_of E.contents error.old error.new)) }
     ensures unwritten { IfErr result (λ status. output.new ≡ output.old) }
 {
     match job {

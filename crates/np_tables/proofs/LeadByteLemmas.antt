@@ -53,8 +53,7 @@ no_lead_bytes : (xs : List ℕ) → prefix_len (λ x. not (is_lead_byte x)) xs �
 no_lead_bytes [] e = refl
 no_lead_bytes (x ∷ xs) e = none_fails (is_lead_byte x) _ (length xs) _ (prefix_len-le-length (λ y. not (is_lead_byte y)) xs) (omega arith) (no_lead_bytes xs)
 
--- where the lowest bit of what is left of a mask stands, the first character of several bytes begins, and behind it that bit
--- is gone
+-- where the lowest bit of what is left of a mask stands, the first character of several bytes begins, and behind it that bit is gone
 module _ (text : List ℕ) (from left skip : ℕ) (long : 64 ≤ length text) (inside : from ≤ 64) (is : left ≡ mask_l (map is_lead_byte (chunk from (64 - from) text))) where
   room : from + (64 - from) ≤ length text
   room = omega (arith, long, inside)

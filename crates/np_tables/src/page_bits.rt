@@ -76,7 +76,8 @@ fn bare_bits(version: &Version, row: RowRef<'_>, own: Hints, leading_never_secon
     requires rows { IsRow (lent_entry row) }
     requires bare { row.mapping.now ≡ [] }
     requires leading_consonants { IsTrue leading_never_second → AreLeadingNeverSecond version.now }
-    requires own { (compat : Bool) (c : ℕ) → entry_at version.now.entries c ≡ Some (lent_entry row) → is_final version.now compat c ≡ true → AreHints version.now compat c own }
+    requires own { (compat : Bool) (c : ℕ) → entry_at version.now.entries c ≡ Some (lent_entry row)
+        → is_final version.now compat c ≡ true → AreHints version.now compat c own }
     ensures { AreRowBits version.now (lent_entry row.entry) result }
 {
     version.meets_conditions();

@@ -33,7 +33,8 @@ fn push_row(
     requires first { entry_at version.now.entries row.first ≡ Some (lent_entry row) }
     requires canonical { AreCodeRanges codes.old.items canonical.old.items }
     requires compatible { AreCodeRanges codes.old.items compatible.old.items }
-    ensures { IfOk result (λ _. IsSlotPushed version.now row.entry.first codes.old.items canonical.old.items compatible.old.items codes.new.items canonical.new.items compatible.new.items) }
+    ensures { IfOk result (λ _. IsSlotPushed version.now row.entry.first codes.old.items canonical.old.items compatible.old.items
+        codes.new.items canonical.new.items compatible.new.items) }
 {
     let start = codes.len();
     push_full(version, false, row, codes)?;

@@ -132,7 +132,8 @@ fn write_composition(
 
 /// Appends a full decomposition as it is, where nothing moves in it. False where something does.
 fn write_decomposition(version: &Version, lent: &[char], text: &mut String) -> Result<bool, Memory>
-    ensures { IfOk result (λ known. IsTrue known → NeverFalls (class_of version.now) lent.now × (string_bytes text.new ≡ string_bytes text.old ++ encode_utf8_all lent.now)) }
+    ensures { IfOk result (λ known. IsTrue known → NeverFalls (class_of version.now) lent.now
+        × (string_bytes text.new ≡ string_bytes text.old ++ encode_utf8_all lent.now)) }
 {
     if !never_falls(version, lent) {
         return Ok(false);

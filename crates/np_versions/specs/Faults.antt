@@ -28,8 +28,7 @@ pub record IsAmbiguous (v : VersionData) (c : ℕ) : Type 0 where
   pub other_primary : IsPrimary v other
   pub same : decomposition_mapping v other ≡ decomposition_mapping v c
 
--- it is a syllable or a jamo, some of which are assigned, and isn't as the arithmetic wants it:
--- unassigned, of non-zero class, or with a mapping in the file
+-- it is a syllable or a jamo, some of which are assigned, and isn't as the arithmetic wants it: unassigned, of non-zero class, or with a mapping in the file
 pub record IsHangulWrong (v : VersionData) (c : ℕ) : Type 0 where
   pub hangul : is_hangul c ≡ true
   pub some : ℕ

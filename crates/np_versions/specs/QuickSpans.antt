@@ -15,13 +15,15 @@ NeverComposesBackward v form c = composes form ≡ true → (a p : ℕ) → ¬ (
 -- right behind the code point `kept` c does not compose: that is a non-starter which blocks it, or a starter with which it is the
 -- pair of no primary composite, and which has no mapping of the form's kind, since with a part of that it might be one
 abbrev pub CannotComposeAfter : VersionData → Form → ℕ → ℕ → Type 0
-CannotComposeAfter v form kept c = ((0 < class_of v kept) × (class_of v c ≤ class_of v kept)) ⊎ ((class_of v kept ≡ 0) × (is_final v (is_compat form) kept ≡ true) × ((p : ℕ) → ¬ (IsCompositeOf v kept c p)))
+CannotComposeAfter v form kept c = ((0 < class_of v kept) × (class_of v c ≤ class_of v kept))
+    ⊎ ((class_of v kept ≡ 0) × (is_final v (is_compat form) kept ≡ true) × ((p : ℕ) → ¬ (IsCompositeOf v kept c p)))
 
--- behind the code point `before`, where no class but 0 may follow that is below `last`, c may pass the quick check, and behind
--- it n is such a bound: c is a starter that passes the quick check, whatever n is; or it has no mapping of the form's kind,
--- its class may follow, and it does not compose
+-- behind the code point `before`, where no class but 0 may follow that is below `last`, c may pass the quick check, and behind it n is such a bound: c is a
+-- starter that passes the quick check, whatever n is; or it has no mapping of the form's kind, its class may follow, and it does not compose
 abbrev pub MayFollow : VersionData → Form → Option ℕ → ℕ → ℕ → ℕ → Type 0
-MayFollow v form before last c n = IsYesStarter v form c ⊎ ((is_final v (is_compat form) c ≡ true) × (n ≡ class_of v c) × ((n ≡ 0) ⊎ (last ≤ n)) × (NeverComposesBackward v form c ⊎ ((kept : ℕ) × (before ≡ Some kept) × CannotComposeAfter v form kept c)))
+MayFollow v form before last c n = IsYesStarter v form c
+    ⊎ ((is_final v (is_compat form) c ≡ true) × (n ≡ class_of v c) × ((n ≡ 0) ⊎ (last ≤ n))
+    × (NeverComposesBackward v form c ⊎ ((kept : ℕ) × (before ≡ Some kept) × CannotComposeAfter v form kept c)))
 
 -- a walk over a list, which begins behind a code point, or none, with one number and ends with another: each step leads from
 -- the code point before and a number over a code point to a number

@@ -83,7 +83,8 @@ counted_files_of count rows = option_and_then (counted count) (all_of (codes "FI
 abbrev pub key_asked : List Row → Option Asked
 key_asked rows =
     if checks_under rows
-    then option_map (λ p. record { command = codes "key"; form = Some p.0; checks_under = true; files = p.1 }) (option_zip (form_of rows) (counted_files_of 4 rows))
+    then option_map (λ p. record { command = codes "key"; form = Some p.0; checks_under = true; files = p.1 })
+    (option_zip (form_of rows) (counted_files_of 4 rows))
     else asked_with (codes "key") (form_of rows) (counted_files_of 2 rows)
 
 -- the comparison of two versions, four files

@@ -23,7 +23,8 @@ pub(crate) fn step<'t, T: NormTable>(
     requires shown { IsShown T.model (rules_of common.now) members.old sent.old.items }
     requires named { node_of (event_of event.now) < length members.old }
     requires version { NamesVersion (length common.now.chain.now) (event_of event.now) }
-    ensures step { IfOk result (λ reply. Steps T.model (rules_of common.now) members.old sent.old.items (event_of event.now) reply members.new sent.new.items) }
+    ensures step { IfOk result (λ reply. Steps T.model (rules_of common.now) members.old sent.old.items (event_of event.now) reply
+        members.new sent.new.items) }
     ensures images { IfOk result (λ reply. LeavesImages (event_of event.now) members.old members.new) }
 {
     match event {

@@ -27,7 +27,8 @@ is_same_kind _ _ = false
 
 -- the same kind of mapping, and the same mapping
 unfoldable pub maps_alike : VersionData → VersionData → ℕ → Bool
-maps_alike old new c = is_same_kind (decomposition_kind new c) (decomposition_kind old c) && bytes_eq (decomposition_mapping new c) (decomposition_mapping old c)
+maps_alike old new c = is_same_kind (decomposition_kind new c) (decomposition_kind old c)
+    && bytes_eq (decomposition_mapping new c) (decomposition_mapping old c)
 
 -- assigned in both, with unlike kinds of mapping or unlike mappings
 unfoldable pub changes_mapping : VersionData → VersionData → ℕ → Bool

@@ -19,8 +19,7 @@ use Rattle.np_tables.specs.inside.PageHints.{AreBits}
 use Rattle.np_versions.specs.inside.Pages.{AreWithin, property_place}
 use Rattle.np_tables.specs.inside.QuickChecks.{quick_check_in}
 
--- ---- slots of full decompositions
-
+-- the full decompositions of either kind, each by its range of `codes`
 abbrev pub lists_of : List ℕ → List CodeRange → List CodeRange → FullLists
 lists_of codes canonical compatible = record { canonical = map (code_range_of codes) canonical; compatible = map (code_range_of codes) compatible }
 
@@ -51,19 +50,17 @@ pub record AreSlotsSoFar (v : VersionData) (count : ℕ) (codes : List ℕ) (can
   pub few : length canonical ≤ count + 1
   pub are_slots : AreSlots v count (lists_of codes canonical compatible) slots
 
--- ---- rows that have second parts of composites
-
--- of the first `count` composites
+-- the rows are marked that have second parts of the first `count` composites
 pub record AreSecondRows (es : List Entry) (cs : List Composite) (count : ℕ) (seconds : List Bool) : Type 0 where
   pub size : length seconds ≡ length es
-  pub each : (j : ℕ) (x : Composite) (k : ℕ) (e : Entry) → j < count → slice_get cs j ≡ Some x → slice_get es k ≡ Some e → e.first ≤ x.second → x.second ≤ e.last → slice_index_or seconds k false ≡ true
+  pub each : (j : ℕ) (x : Composite) (k : ℕ) (e : Entry) → j < count → slice_get cs j ≡ Some x → slice_get es k ≡ Some e
+      → e.first ≤ x.second → x.second ≤ e.last → slice_index_or seconds k false ≡ true
 
 -- a row that has the second part of a primary composite is marked, unless it is that of a syllable, which is a jamo
 pub record AreSeconds (v : VersionData) (seconds : List Bool) : Type 0 where
   pub size : length seconds ≡ length v.entries
-  pub each : (a b p k : ℕ) (e : Entry) → IsCompositeOf v a b p → (has_hangul v && is_syllable p) ≡ false → slice_get v.entries k ≡ Some e → e.first ≤ b → b ≤ e.last → slice_index_or seconds k false ≡ true
-
--- ---- properties
+  pub each : (a b p k : ℕ) (e : Entry) → IsCompositeOf v a b p → (has_hangul v && is_syllable p) ≡ false → slice_get v.entries k ≡ Some e
+      → e.first ≤ b → b ≤ e.last → slice_index_or seconds k false ≡ true
 
 -- whether a row has one of the code points from `first` to `last`
 abbrev pub touches : ℕ → ℕ → Entry → Bool
@@ -117,8 +114,6 @@ pub record ArePages (v : VersionData) (lists : FullLists) (blocks : List ℕ) (a
   -- slot 0 is empty
   pub none : (compat : Bool) → slice_index_or (of_kind compat lists) 0 [] ≡ []
   pub each : (c : ℕ) → c < 0x110000 → ArePropertiesOf v lists c (slice_index_or all_properties (property_place blocks c) no_properties)
-
--- ---- what may follow as it is
 
 -- the last code point of a list, or else the one before it
 abbrev pub last_behind : Option ℕ → List ℕ → Option ℕ

@@ -84,7 +84,9 @@ pub record AreRules {T : Type 0} (model : T → VersionData) (rules : Rules T) :
   pub room : rules.room ≤ 65536
 
 -- the machine has such a step, and what it leaves is mirrored
-pub record IsTurn {T : Type 0} (model : T → VersionData) (rules : Rules T) (deed : VersionData → VersionData → Scene → Reply → Scene → Type 0) (node : MachineNode) (sent : List (List ℕ)) (version last : VersionData) (reply : Reply) (member : Member T) (told : List (Vec ℕ Global)) : Type 0 where
+pub record IsTurn {T : Type 0} (model : T → VersionData) (rules : Rules T)
+    (deed : VersionData → VersionData → Scene → Reply → Scene → Type 0) (node : MachineNode) (sent : List (List ℕ))
+    (version last : VersionData) (reply : Reply) (member : Member T) (told : List (Vec ℕ Global)) : Type 0 where
   pub next : MachineNode
   pub more : List (List ℕ)
   pub does : deed version last (record { node = node; sent = sent }) reply (record { node = next; sent = more })
@@ -92,7 +94,9 @@ pub record IsTurn {T : Type 0} (model : T → VersionData) (rules : Rules T) (de
   pub messages : AreMessages (setting_of model rules) told more
 
 -- from whatever the machine has that a member and the messages mirror
-abbrev pub Turns : {T : Type 0} (model : T → VersionData) (rules : Rules T) (deed : VersionData → VersionData → Scene → Reply → Scene → Type 0) (old : Member T) (sent : List (Vec ℕ Global)) (reply : Reply) (new : Member T) (messages : List (Vec ℕ Global)) → Type 0
+abbrev pub Turns : {T : Type 0} (model : T → VersionData) (rules : Rules T)
+    (deed : VersionData → VersionData → Scene → Reply → Scene → Type 0)
+    (old : Member T) (sent : List (Vec ℕ Global)) (reply : Reply) (new : Member T) (messages : List (Vec ℕ Global)) → Type 0
 Turns model rules deed old sent reply new messages =
     (node : MachineNode) (strings : List (List ℕ)) (version last : VersionData)
     → AreRules model rules → Mirrors model rules old node → AreMessages (setting_of model rules) sent strings

@@ -16,7 +16,8 @@ abbrev pub rules_over : {T : Type 0} → List T → Form → ScheduleData → Ru
 rules_over tables form schedule = record { tables = tables; form = form; room = schedule.room }
 
 -- the replies, the messages and the members mirror the machine's run
-pub record IsPlayedBy {T : Type 0} (model : T → VersionData) (tables : List T) (form : Form) (schedule : ScheduleData) (replies : List Reply) (told : List (Vec ℕ Global)) (members : List (Member T)) : Type 0 where
+pub record IsPlayedBy {T : Type 0} (model : T → VersionData) (tables : List T) (form : Form) (schedule : ScheduleData)
+    (replies : List Reply) (told : List (Vec ℕ Global)) (members : List (Member T)) : Type 0 where
   pub rules_hold : AreRules model (rules_over tables form schedule)
   pub ends : EndsRun model (rules_over tables form schedule) schedule.starts schedule.events replies members told
 

@@ -17,7 +17,8 @@ AreMirrored model rules [] (node ∷ nodes) = ⊥
 AreMirrored model rules (member ∷ members) [] = ⊥
 
 -- the members and the messages are those of the machine's world
-pub record ShowsWorld {T : Type 0} (model : T → VersionData) (rules : Rules T) (members : List (Member T)) (told : List (Vec ℕ Global)) (world : World) : Type 0 where
+pub record ShowsWorld {T : Type 0} (model : T → VersionData) (rules : Rules T) (members : List (Member T))
+    (told : List (Vec ℕ Global)) (world : World) : Type 0 where
   pub nodes : AreMirrored model rules members world.nodes
   pub sent : AreMessages (setting_of model rules) told world.sent
 
@@ -28,7 +29,8 @@ pub record IsShown {T : Type 0} (model : T → VersionData) (rules : Rules T) (m
   pub shows : ShowsWorld model rules members told world
 
 -- from each world that is shown the machine has this step to one that is shown
-abbrev pub Steps : {T : Type 0} → (T → VersionData) → Rules T → List (Member T) → List (Vec ℕ Global) → Event → Reply → List (Member T) → List (Vec ℕ Global) → Type 0
+abbrev pub Steps : {T : Type 0} → (T → VersionData) → Rules T → List (Member T) → List (Vec ℕ Global)
+    → Event → Reply → List (Member T) → List (Vec ℕ Global) → Type 0
 Steps model rules old sent event reply new told =
     (world : World) → AreRules model rules → ShowsWorld model rules old sent world
     → (after : World) × IsStep (setting_of model rules) world event reply after × ShowsWorld model rules new told after
@@ -58,7 +60,8 @@ pub record Begins {T : Type 0} (model : T → VersionData) (rules : Rules T) (me
   pub images : HaveImages members []
 
 -- the machine's run over events ends in a world that is shown, and the images are those of the nodes that an event saved
-pub record EndsRun {T : Type 0} (model : T → VersionData) (rules : Rules T) (starts : List ℕ) (events : List Event) (replies : List Reply) (members : List (Member T)) (told : List (Vec ℕ Global)) : Type 0 where
+pub record EndsRun {T : Type 0} (model : T → VersionData) (rules : Rules T) (starts : List ℕ) (events : List Event)
+    (replies : List Reply) (members : List (Member T)) (told : List (Vec ℕ Global)) : Type 0 where
   pub world : World
   pub run : IsRun (setting_of model rules) (start starts) events replies world
   pub shows : ShowsWorld model rules members told world
