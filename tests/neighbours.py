@@ -14,10 +14,8 @@ import ucd
 from harness import FORMS, run
 
 SEED = 23
-# Strings whose keys are checked under earlier versions, how many of them are lines of one text, since each run reads
-# two versions anew, and how many programs run at once.
+# Strings whose keys are checked under earlier versions, and how many programs run at once.
 STRINGS = 10_000
-TOGETHER = 5
 AT_ONCE = 4
 
 
@@ -137,9 +135,8 @@ def check_lagging(tally, program, versions, newest, rows):
             fault = fault_of_cut(version, rows)
             want = (4, b"", fault) if fault else (1, b"", breaks[version.name])
             tally.same(f"a key under {version.name}, which {newest.name} doesn't extend", got, want)
-    strings = list(drawn_strings([*versions, newest], rows))
-    texts = ["\n".join(strings[at:at + TOGETHER]) for at in range(0, STRINGS, TOGETHER)]
-    print(f"keys of {newest.name} under earlier versions: {len(strings):,} strings in {len(texts):,} texts, {len(tested)} versions: "
+    texts = list(drawn_strings([*versions, newest], rows))
+    print(f"keys of {newest.name} under earlier versions: {len(texts):,} strings, {len(tested)} versions: "
           + ", ".join(version.name for version in tested))
 
     def answer(job):
