@@ -1,4 +1,4 @@
-use Rattle.std.proofs.Common.{chars, string_bytes, sym, ap, subst}
+use Rattle.std.proofs.Common.{chars, inl, string_bytes, sym, ap, subst}
 use Rattle.std.proofs.lemmas.Str.{encodes-chars, IsUtf8-string_bytes}
 use Rattle.np_forms.specs.Forms.{IsNormalForm}
 use Rattle.np_c.proofs.keys.normal_form_of.Goals as goal
@@ -13,3 +13,6 @@ returns-in-Ok-form_of-clause-made g c =
       is = subst (λ l. IsNormalForm v c.args.form (chars l) (chars made)) c.in-Ok.ensures.text c.in-Ok-form_of.ensures.normal;
       bytes_are = sym (encodes-chars made (IsUtf8-string_bytes c.in-Ok-form_of.made));
     }
+
+pub returns-in-Err-clause-refused : goal.returns-in-Err-clause-refused
+returns-in-Err-clause-refused g c = inl c.in-Err.ensures.refused
