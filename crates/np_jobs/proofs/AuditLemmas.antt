@@ -1,15 +1,30 @@
 -- What `audit` makes and why it is refused, by what became of the old version and of the new one.
-use Rattle.std.proofs.Common.{[], ◌∷◌, inl, inr, refl, string_bytes, Result, Ok, Err, IfOk, IfErr}
+use Rattle.std.proofs.Common.{◌≡◌, ◌==◌, true, false, List, [], ◌∷◌, length, flat_map, codes, inl, inr, refl, sym, arith, string_bytes, Result, Ok, Err, IfOk, IfErr}
+use Rattle.std.proofs.lemmas.Bool.{false≢true}
+use Rattle.std.proofs.lemmas.Bool.Decides.{Decides-eqb}
 use Rattle.std.proofs.lemmas.List.Elements.{All-cons, All-nil}
+use Rattle.np_chain.specs.declared.breaks.Break.{Break}
 use Rattle.np_versions.specs.Versions.{VersionData}
-use Rattle.np_jobs.specs.Audits.{MakesAudit, RefusesAudit}
+use Rattle.np_jobs.specs.Audits.{MakesAudit, RefusesAudit, audit_text}
 use Rattle.np_jobs.specs.Chains.{AreUntouched, LacksOne, VersionReaders}
 use Rattle.np_jobs.specs.Streams.{IsUntouched}
+use Rattle.np_jobs.specs.Tellings.{break_line}
 use Rattle.np_jobs.specs.Versions.{IsVersionFault, WasBuilt}
 use Rattle.np_jobs.specs.inside.AuditSteps.{LacksAgainst, MakesAgainst}
 use Rattle.np_jobs.specs.declared.ending.Made.{Made}
 use Rattle.np_jobs.specs.declared.faults.JobFault.{JobFault}
 use Rattle.np_jobs.specs.declared.faults.VersionFault.{VersionFault}
+
+-- the text of no break, and of some
+pub text_of_none : (breaks : List Break) → true ≡ (length breaks == 0) → codes "extends\n" ≡ audit_text breaks
+text_of_none [] none = refl
+text_of_none (b ∷ bs) none =
+    let same : length (b ∷ bs) ≡ 0 = (Decides-eqb (length (b ∷ bs)) 0).0 (sym none) in
+    absurd (omega (arith, same))
+
+pub text_of_some : (breaks : List Break) → false ≡ (length breaks == 0) → flat_map break_line breaks ≡ audit_text breaks
+text_of_some [] some = absurd (false≢true some)
+text_of_some (b ∷ bs) some = refl
 
 -- the old version was refused, and the new one's files not looked at
 pub lacks_old : (old new : VersionReaders) (fault : VersionFault) → IsVersionFault 0 old.data_file old.exclusions_file fault → IsUntouched new.data_file → IsUntouched new.exclusions_file

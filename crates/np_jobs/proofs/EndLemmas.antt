@@ -13,10 +13,14 @@ pub same_stream : {D : Type 0} (tells : D → Option (List ℕ)) (a b new : Watc
 same_stream tells a b new e = ap (λ d. record { before = tells d; after = tells (device_of new); failed = has_failed new }) e
 
 -- the same of a property of two streams
+pub on_both : {D E : Type 0} (tells : D → Option (List ℕ)) (holds : E → Option (List ℕ)) (a b new : Watched D) (c d other : Watched E) → device_of a ≡ device_of b → device_of c ≡ device_of d
+    → (P : Stream → Stream → Type 0) → P (stream_of tells a new) (stream_of holds c other) → P (stream_of tells b new) (stream_of holds d other)
+on_both tells holds a b new c d other one two P is =
+    subst (λ s. P s (stream_of holds d other)) (same_stream tells a b new one) (subst (λ s. P (stream_of tells a new) s) (same_stream holds c d other two) is)
+
 pub on_same : {D : Type 0} (tells : D → Option (List ℕ)) (a b new c d other : Watched D) → device_of a ≡ device_of b → device_of c ≡ device_of d → (P : Stream → Stream → Type 0)
     → P (stream_of tells a new) (stream_of tells c other) → P (stream_of tells b new) (stream_of tells d other)
-on_same tells a b new c d other one two P holds =
-    subst (λ s. P s (stream_of tells d other)) (same_stream tells a b new one) (subst (λ s. P (stream_of tells a new) s) (same_stream tells c d other two) holds)
+on_same tells = on_both tells tells
 
 -- a device whose mark alone was taken away
 pub untouched : {D : Type 0} (tells : D → Option (List ℕ)) (old new : Watched D) → device_of new ≡ device_of old → has_failed new ≡ false → IsUntouched (stream_of tells old new)

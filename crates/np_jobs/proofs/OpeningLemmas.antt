@@ -8,6 +8,7 @@ use Rattle.np_code_points.specs.declared.channels.watched.Watched.{Watched}
 use Rattle.np_jobs.specs.Chains.{readers_of}
 use Rattle.np_jobs.specs.Opening.{IsFirstUnopened, IsUnopened, Opens, both_files}
 use Rattle.np_jobs.specs.Streams.{Stream, stream_of}
+use Rattle.np_jobs.specs.inside.OpeningSteps.{AreOpenedBehind}
 use Rattle.np_words.specs.Words.{names_of}
 use Rattle.np_words.specs.declared.files.VersionFiles.{VersionFiles}
 
@@ -78,27 +79,21 @@ names_up_to versions i files inside is =
     let on : i + 1 ≡ suc i = omega arith in
     ap (λ n. flat_map names_of (take n versions)) on ∙ up_to versions i files inside is
 
--- the files of one more version were opened, and are kept behind the others
+-- the files of one more version were opened behind the others
 module _ (Gives : List ℕ → Option (List ℕ) → Type 0) {D : Type 0} (tells : D → Option (List ℕ)) where
   abbrev told_by : List (Watched D) → List (Option (List ℕ))
   told_by files = map (λ (file : Watched D). tells (device_of file)) files
 
-  two_kept : (kept one two : List (Watched D)) (d e : Watched D) → one ≡ kept ++ d ∷ [] → two ≡ one ++ e ∷ []
-      → told_by two ≡ told_by kept ++ (tells (device_of d) ∷ (tells (device_of e) ∷ []))
-  two_kept kept one two d e first second =
-      ap told_by (second ∙ ap (λ l. l ++ e ∷ []) first ∙ append_assoc kept (d ∷ []) (e ∷ []))
-      ∙ map-append (λ (file : Watched D). tells (device_of file)) kept (d ∷ (e ∷ []))
-
-  pub opened_more : (versions : List VersionFiles) (i : ℕ) (files : VersionFiles) (kept one two : List (Watched D)) (d e : Watched D)
+  pub opened_more : (versions : List VersionFiles) (i : ℕ) (files : VersionFiles) (kept new : List (Watched D))
       → i < length versions → slice_index_or versions i files ≡ files
       → AllZip Gives (flat_map names_of (take i versions)) (map (λ (file : Watched D). tells (device_of file)) kept)
-      → AllZip Gives (names_of files) (tells (device_of d) ∷ (tells (device_of e) ∷ []))
-      → one ≡ kept ++ d ∷ [] → two ≡ one ++ e ∷ []
-      → AllZip Gives (flat_map names_of (take (i + 1) versions)) (map (λ (file : Watched D). tells (device_of file)) two)
-  opened_more versions i files kept one two d e inside is so_far both first second =
-      subst (λ names. AllZip Gives names (told_by two)) (sym (names_up_to versions i files inside is))
-      (subst (AllZip Gives (flat_map names_of (take i versions) ++ names_of files)) (sym (two_kept kept one two d e first second))
-      (all_zip-append Gives (flat_map names_of (take i versions)) (names_of files) (told_by kept) _ so_far both))
+      → AreOpenedBehind tells Gives (names_of files) kept new
+      → AllZip Gives (flat_map names_of (take (i + 1) versions)) (map (λ (file : Watched D). tells (device_of file)) new)
+  opened_more versions i files kept new inside is so_far behind =
+      subst (λ names. AllZip Gives names (told_by new)) (sym (names_up_to versions i files inside is))
+      (subst (AllZip Gives (flat_map names_of (take i versions) ++ names_of files))
+      (sym (ap told_by behind.are ∙ map-append (λ (file : Watched D). tells (device_of file)) kept behind.more))
+      (all_zip-append Gives (flat_map names_of (take i versions)) (names_of files) (told_by kept) (told_by behind.more) so_far behind.opened))
 
 -- files in pairs tell before a job what they told one by one
 pub befores : {D : Type 0} (tells : D → Option (List ℕ)) (count : ℕ) (old new : List (Watched D)) → length old ≡ 2 * count → length new ≡ 2 * count

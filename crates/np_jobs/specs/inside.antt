@@ -1,5 +1,7 @@
 pub mod AuditSteps
 pub mod ChainSteps
 pub mod Groups
+pub mod OpeningSteps
 pub mod TextJobs
 pub mod UnderSteps
+pub mod VersionSteps

@@ -42,6 +42,17 @@ fn make_audit(alloc: Global, old: &Version, new: &Version) -> Result<Made, Memor
     })
 }
 
+/// The same, or why a job is refused.
+fn audited(alloc: Global, old: &Version, new: &Version) -> Result<Made, JobFault>
+    ensures made { IfOk result (λ m. IsAudit old.now new.now m.is_yes (string_bytes m.text)) }
+    ensures refused { IfErr result (λ fault. fault ≡ JobFault.Memory) }
+{
+    match make_audit(alloc, old, new) {
+        Ok(made) => Ok(made),
+        Err(_) => Err(JobFault::Memory),
+    }
+}
+
 /// Reads the new version, and audits it against the old one.
 fn made_against<F: Read>(
     alloc: Global,
@@ -54,10 +65,9 @@ fn made_against<F: Read>(
     ensures refused { IfErr result (LacksAgainst
         (stream_of F.remaining new_data_file.old new_data_file.new) (stream_of F.remaining new_exclusions_file.old new_exclusions_file.new)) }
 {
-    let new = read_version(alloc, 1, new_data_file, new_exclusions_file)?;
-    match make_audit(alloc, old, &new) {
-        Ok(made) => Ok(made),
-        Err(_) => Err(JobFault::Memory),
+    match read_version(alloc, 1, new_data_file, new_exclusions_file) {
+        Ok(new) => audited(alloc, old, &new),
+        Err(fault) => Err(JobFault::Version { fault }),
     }
 }
 

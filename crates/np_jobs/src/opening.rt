@@ -2,15 +2,16 @@
 ghost use Rattle.std.specs.Prelude.{◌≡◌, ◌∷◌, ◌++◌, ◌+◌, ◌*◌, [], flat_map, length, map, vec_len, IfOk, IfErr, OnOk};
 ghost use Rattle.std.specs.List.{AllZip};
 ghost use Rattle.np_code_points.specs.Watched.{device_of};
-ghost use Rattle.np_jobs.specs.Ends.{TellsRefusal};
 ghost use Rattle.np_jobs.specs.Opening.{IsUnopened};
 ghost use Rattle.np_jobs.specs.Streams.{stream_of};
+ghost use Rattle.np_jobs.specs.inside.OpeningSteps.{AreOpenedBehind};
 ghost use Rattle.np_words.specs.Words.{names_of};
 
 use crate::ending::{refuse, tell};
 use crate::faults::JobFault;
 use crate::openers::Opener;
 use crate::statuses::FAILED;
+use np_code_points::Memory;
 use np_code_points::watched::Watched;
 use np_words::VersionFiles;
 use std::alloc::Global;
@@ -77,23 +78,38 @@ pub fn open_version<O: Opener, E: Write>(
     Ok((data, exclusions))
 }
 
-/// Puts an opened file behind others.
+/// Puts the two opened files of a version behind others.
+fn keep_both<F: Drop>(
+    files: &mut Vec<Watched<F>>,
+    both: (Watched<F>, Watched<F>),
+) -> Result<(), Memory>
+    ensures both { OnOk result (files.new.items ≡ files.old.items ++ (both.0 ∷ both.1 ∷ [])) }
+    ensures count { OnOk result (vec_len files.new ≡ vec_len files.old + 2) }
+{
+    let (data_file, exclusions_file) = both;
+    files.push(data_file)?;
+    Ok(files.push(exclusions_file)?)
+}
+
+/// Opens the two files of a version, and puts them behind others.
 ///
 /// # Errors
 ///
-/// The status that was told, where memory ran out.
-fn keep_file<F: Drop, E: Write>(
+/// The status that was told, of the first that can't be opened, or where memory ran out.
+fn open_behind<O: Opener, E: Write>(
+    opener: &O,
     alloc: Global,
     error: &mut Watched<E>,
-    files: &mut Vec<Watched<F>>,
-    file: Watched<F>,
+    files: &mut Vec<Watched<O::File>>,
+    version: &VersionFiles,
 ) -> Result<(), u8>
-    ensures one { OnOk result (files.new.items ≡ files.old.items ++ (file ∷ [])) }
-    ensures count { OnOk result (vec_len files.new ≡ vec_len files.old + 1) }
+    ensures opened { OnOk result (AreOpenedBehind O.File.remaining (O.gives opener.now) (names_of version.now) files.old.items files.new.items) }
+    ensures count { OnOk result (vec_len files.new ≡ vec_len files.old + 2) }
     ensures silent { OnOk result (error.new ≡ error.old) }
-    ensures told { IfErr result (TellsRefusal JobFault.Memory (stream_of E.contents error.old error.new)) }
+    ensures told { IfErr result (IsUnopened (O.gives opener.now) (O.lacks opener.now) (names_of version.now) (stream_of E.contents error.old error.new)) }
 {
-    match files.push(file) {
+    let both = open_version(opener, alloc, error, version)?;
+    match keep_both(files, both) {
         Ok(()) => Ok(()),
         Err(_) => Err(refuse(alloc, error, &JobFault::Memory)),
     }
@@ -119,9 +135,7 @@ pub fn open_versions<O: Opener, E: Write>(
 {
     let mut files = Vec::new(alloc);
     for version in versions {
-        let (data, exclusions) = open_version(opener, alloc, error, version)?;
-        keep_file(alloc, error, &mut files, data)?;
-        keep_file(alloc, error, &mut files, exclusions)?;
+        open_behind(opener, alloc, error, &mut files, version)?;
     }
     Ok(files)
 }

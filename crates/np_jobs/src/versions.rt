@@ -3,6 +3,7 @@ ghost use Rattle.std.specs.Prelude.{◌≡◌, ◌⊎◌, IfOk, IfErr};
 ghost use Rattle.np_jobs.specs.Streams.{stream_of};
 ghost use Rattle.np_jobs.specs.Versions.{IsTablesFault, IsVersionFault, WasBuilt};
 ghost use Rattle.np_jobs.specs.Wraps.{Wraps};
+ghost use Rattle.np_jobs.specs.inside.VersionSteps.{IsFaultOver, WasBuiltOver};
 ghost use Rattle.np_versions.specs.TableFaults.{IsFaultless};
 
 use crate::faults::VersionFault;
@@ -31,6 +32,22 @@ fn version_of(
     }
 }
 
+/// Reads the exclusions file of a version of which the rows are there, and builds it.
+fn version_over<R: Read>(
+    alloc: Global,
+    version: usize,
+    rows: RowList,
+    exclusions_file: &mut Watched<R>,
+) -> Result<Version, VersionFault>
+    ensures built { IfOk result (WasBuiltOver rows (stream_of R.remaining exclusions_file.old exclusions_file.new)) }
+    ensures refused { IfErr result (IsFaultOver version rows (stream_of R.remaining exclusions_file.old exclusions_file.new)) }
+{
+    match read_exclusions(alloc, exclusions_file) {
+        Ok(exclusions) => version_of(alloc, version, rows, exclusions),
+        Err(fault) => Err(VersionFault::Exclusions { version, fault }),
+    }
+}
+
 /// Reads the two files of a version, the data first, and builds it. The version has a number, from
 /// 0, which the fault tells.
 ///
@@ -51,15 +68,10 @@ pub fn read_version<R: Read>(
         (stream_of R.remaining exclusions_file.old exclusions_file.new)) }
 {
     exclusions_file.clear();
-    let rows = match read_row_list(alloc, data_file) {
-        Ok(rows) => rows,
-        Err(fault) => return Err(VersionFault::Data { version, fault }),
-    };
-    let exclusions = match read_exclusions(alloc, exclusions_file) {
-        Ok(exclusions) => exclusions,
-        Err(fault) => return Err(VersionFault::Exclusions { version, fault }),
-    };
-    version_of(alloc, version, rows, exclusions)
+    match read_row_list(alloc, data_file) {
+        Ok(rows) => version_over(alloc, version, rows, exclusions_file),
+        Err(fault) => Err(VersionFault::Data { version, fault }),
+    }
 }
 
 /// A table that is made of a version. The jobs own their table by this bound alone: a proof of what owns a table of

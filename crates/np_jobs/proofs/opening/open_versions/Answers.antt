@@ -4,8 +4,8 @@ use Rattle.np_jobs.proofs.OpeningLemmas.{names_at, opened_more, unopened_among}
 use Rattle.np_words.specs.Words.{names_of}
 use Rattle.np_jobs.proofs.opening.open_versions.Goals as goal
 
-pub returns-in_err-data-clause-told : goal.returns-in_err-data-clause-told
-returns-in_err-data-clause-told g c =
+pub returns-in_err-open_behind-clause-told : goal.returns-in_err-open_behind-clause-told
+returns-in_err-open_behind-clause-told g c =
     let p = err_from_is_err_and c.from_residual.result c.from_residual.ensures.1 in
     let opener = c.args.opener.now in
     let versions = c.args.versions.now in
@@ -13,16 +13,14 @@ returns-in_err-data-clause-told g c =
     let files = c.version-item.result in
     rw (p.1, p.2)
     (unopened_among (g.O.Opener.gives opener) (g.O.Opener.lacks opener) g.E.Write.contents (flat_map names_of versions)
-    (flat_map names_of (take at versions)) (names_of files) (flat_map names_of (drop (suc at) versions)) _ c.args.error.now c.loop-version.error c.open_version.new.error _
-    c.loop-version.invariant.silent (names_at versions at files c.loop-version-test.true (sym c.version-item.is)) c.loop-version.invariant.files c.in_err-data.ensures.told)
+    (flat_map names_of (take at versions)) (names_of files) (flat_map names_of (drop (suc at) versions)) _ c.args.error.now c.loop-version.error c.open_behind.new.error _
+    c.loop-version.invariant.silent (names_at versions at files c.loop-version-test.true (sym c.version-item.is)) c.loop-version.invariant.files c.in_err-open_behind.ensures.told)
 
 pub loop-version-preserved : goal.loop-version-preserved
 loop-version-preserved g c =
     record {
       files = opened_more (g.O.Opener.gives c.args.opener.now) g.O.File.Read.remaining c.args.versions.now c.loop-version.version-index c.version-item.result
-          c.loop-version.files.items c.keep_file.new.files.items c.keep_file-in-loop-version.new.files.items c.in_ok-data.data c.in_ok-data.exclusions
-          c.loop-version-test.true (sym c.version-item.is) c.loop-version.invariant.files c.in_ok-data.ensures.files
-          c.in_ok-keep_file.ensures.one c.in_ok-keep_file-2.ensures.one;
-      count = omega (arith, c.in_ok-keep_file-2.ensures.count, c.in_ok-keep_file.ensures.count, c.loop-version.invariant.count);
-      silent = c.in_ok-keep_file-2.ensures.silent ∙ c.in_ok-keep_file.ensures.silent ∙ c.in_ok-data.ensures.silent ∙ c.loop-version.invariant.silent;
+          c.loop-version.files.items c.open_behind.new.files.items c.loop-version-test.true (sym c.version-item.is) c.loop-version.invariant.files c.in_ok-open_behind.ensures.opened;
+      count = omega (arith, c.in_ok-open_behind.ensures.count, c.loop-version.invariant.count);
+      silent = c.in_ok-open_behind.ensures.silent ∙ c.loop-version.invariant.silent;
     }
