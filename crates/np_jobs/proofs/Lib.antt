@@ -1,6 +1,7 @@
 pub mod AuditLemmas
 pub mod ChainLemmas
 pub mod EndLemmas
+pub mod LineLemmas
 pub mod OpeningLemmas
 pub mod UnderLemmas
 pub mod VersionLemmas

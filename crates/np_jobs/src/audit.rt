@@ -88,8 +88,10 @@ fn made_of_versions<F: Read>(
 {
     new_data_file.clear();
     new_exclusions_file.clear();
-    let old = read_version(alloc, 0, old_data_file, old_exclusions_file)?;
-    made_against(alloc, &old, new_data_file, new_exclusions_file)
+    match read_version(alloc, 0, old_data_file, old_exclusions_file) {
+        Ok(old) => made_against(alloc, &old, new_data_file, new_exclusions_file),
+        Err(fault) => Err(JobFault::Version { fault }),
+    }
 }
 
 /// Writes what the new version breaks of the old one, a line for each code point that has a break,

@@ -16,3 +16,9 @@ returns g c =
       built = IfOk-weaker c.read_table_of.result _ _ (λ table holds. at (λ d e. WasBuilt d e (g.T.NormTable.model table)) holds) c.read_table_of.ensures.built;
       refused = IfErr-weaker c.read_table_of.result _ _ (λ f holds. at (λ d e. IsVersionFault c.args.number d e f) holds) c.read_table_of.ensures.refused;
     }
+
+pub bounds-front-number : goal.bounds-front-number
+bounds-front-number g c = omega (arith, c.requires, c.split_at_mut-front.ensures.front_len)
+
+pub bounds-behind-0 : goal.bounds-behind-0
+bounds-behind-0 g c = omega (arith, c.requires, c.split_at_mut-front.ensures.back_len)

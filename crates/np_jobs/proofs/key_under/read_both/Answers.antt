@@ -1,7 +1,7 @@
 use Rattle.std.proofs.lemmas.Result.{err_from_is_err_and}
 use Rattle.np_jobs.specs.Chains.{VersionReaders}
 use Rattle.np_jobs.specs.Streams.{stream_of}
-use Rattle.np_jobs.specs.Versions.{IsVersionFault}
+use Rattle.np_jobs.specs.Versions.{IsVersionFault, WasBuilt}
 use Rattle.np_jobs.proofs.AuditLemmas.{lacks_new, lacks_old}
 use Rattle.np_jobs.proofs.EndLemmas.{on_same, untouched}
 use Rattle.np_jobs.proofs.key_under.read_both.Goals as goal
@@ -26,3 +26,10 @@ returns-in_err-table-clause-refused g c =
     c.clear-2.ensures.device (λ d e. IsVersionFault 1 d e fault) c.in_err-table.ensures.refused in
     let p = err_from_is_err_and c.from_residual-in_err-table.result c.from_residual-in_err-table.ensures.1 in
     rw (p.1, p.2) (lacks_new old_files new_files c.in_ok-old.old fault c.in_ok-old.ensures.built refused)
+
+pub returns-clause-built : goal.returns-clause-built
+returns-clause-built g c =
+    let table = g.T.NormTable.model c.in_ok-table.table in
+    let built = on_same g.F.Read.remaining c.clear.new.self c.args.data_file.now c.read_table_of.new.data_file c.clear-2.new.self c.args.exclusions_file.now c.read_table_of.new.exclusions_file c.clear.ensures.device
+    c.clear-2.ensures.device (λ d e. WasBuilt d e table) c.in_ok-table.ensures.built in
+    (c.in_ok-old.ensures.built, (built, tt))

@@ -1,7 +1,11 @@
-use Rattle.std.proofs.Common.{flat_map, take, drop, suc, sym, ◌∙◌, arith}
+use Rattle.std.proofs.Common.{List, flat_map, map, take, drop, suc, sym, refl, subst, ◌∙◌, arith}
+use Rattle.std.proofs.lemmas.List.{take_all}
 use Rattle.std.proofs.lemmas.Result.{err_from_is_err_and}
+use Rattle.std.specs.List.{AllZip}
+use Rattle.np_code_points.specs.Watched.{device_of}
 use Rattle.np_jobs.proofs.OpeningLemmas.{names_at, opened_more, unopened_among}
 use Rattle.np_words.specs.Words.{names_of}
+use Rattle.np_words.specs.declared.files.VersionFiles.{VersionFiles}
 use Rattle.np_jobs.proofs.opening.open_versions.Goals as goal
 
 pub returns-in_err-open_behind-clause-told : goal.returns-in_err-open_behind-clause-told
@@ -24,3 +28,19 @@ loop-version-preserved g c =
       count = omega (arith, c.in_ok-open_behind.ensures.count, c.loop-version.invariant.count);
       silent = c.in_ok-open_behind.ensures.silent ∙ c.loop-version.invariant.silent;
     }
+
+pub loop-version-init : goal.loop-version-init
+loop-version-init g c = record { files = rw c.new-files.ensures.items tt; count = c.new-files.ensures.len; silent = refl }
+
+pub returns-clause-files : goal.returns-clause-files
+returns-clause-files g c =
+    let opener = c.args.opener.now in
+    let tells = g.O.File.Read.remaining in
+    subst (λ (opened : List VersionFiles). AllZip (g.O.Opener.gives opener) (flat_map names_of opened) (map (λ file. tells (device_of file)) c.loop-version.files.items))
+    (take_all c.loop-version.version-index c.args.versions.now c.loop-version-test.false) c.loop-version.invariant.files
+
+pub returns-clause-count : goal.returns-clause-count
+returns-clause-count g c = omega (arith, c.loop-version.invariant.count, c.loop-version-test.false, c.loop-version.auto.version-index-end)
+
+pub returns-clause-silent : goal.returns-clause-silent
+returns-clause-silent g c = c.loop-version.invariant.silent

@@ -1,9 +1,9 @@
-use Rattle.std.proofs.Common.{rules, inr, refl, subst}
+use Rattle.std.proofs.Common.{inl, inr, refl, string_bytes, subst}
 use Rattle.std.proofs.lemmas.Result.{err_from_is_err_and}
 use Rattle.np_jobs.specs.Streams.{Stream}
-use Rattle.np_jobs.specs.Texts.{IsTextFault}
-use Rattle.np_jobs.specs.inside.TextJobs.{JobRefuses}
-use Rattle.np_jobs.proofs.EndLemmas.{same_stream}
+use Rattle.np_jobs.specs.Texts.{IsMadeOfText, IsTextFault}
+use Rattle.np_jobs.specs.inside.TextJobs.{JobMakes, JobRefuses}
+use Rattle.np_jobs.proofs.EndLemmas.{same_stream, untouched}
 use Rattle.np_jobs.proofs.texts.made_of_text.Goals as goal
 
 pub returns-in_err-made_under-clause-refused : goal.returns-in_err-made_under-clause-refused
@@ -16,4 +16,18 @@ returns-in_err-made_under-clause-refused g c =
     rw (p.1, p.2) (inr (table, c.in_ok-table.ensures.built, (fault, refl, refused)))
 
 pub returns-in_err-table-clause-refused : goal.returns-in_err-table-clause-refused
-returns-in_err-table-clause-refused g c = search rules
+returns-in_err-table-clause-refused g c =
+    let input = untouched g.I.Read.remaining c.args.input.now c.clear.new.self c.clear.ensures.device c.clear.ensures.clear in
+    let p = err_from_is_err_and c.from_residual.result c.from_residual.ensures.1 in
+    rw (p.1, p.2) (inl ((c.in_err-table.field-0.0, refl, c.in_err-table.ensures.refused), input))
+
+pub returns-clause-made : goal.returns-clause-made
+returns-clause-made g c =
+    let made = c.in_ok-made_under.field-0 in
+    let table = g.T.NormTable.model c.in_ok-table.table in
+    let input = same_stream g.I.Read.remaining c.clear.new.self c.args.input.now c.made_under.new.input c.clear.ensures.device in
+    record {
+      v = table;
+      built = c.in_ok-table.ensures.built;
+      made = subst (λ (s : Stream). IsMadeOfText (JobMakes c.args.job c.args.form table) s made.is_yes (string_bytes made.text)) input c.in_ok-made_under.ensures.made;
+    }
