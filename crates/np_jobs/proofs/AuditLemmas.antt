@@ -1,7 +1,9 @@
 -- What `audit` makes and why it is refused, by what became of the old version and of the new one.
-use Rattle.std.proofs.Common.{◌≡◌, ◌==◌, true, false, List, [], ◌∷◌, length, flat_map, codes, inl, inr, refl, sym, arith, string_bytes, Result, Ok, Err, IfOk, IfErr}
+use Rattle.std.proofs.Common.{◌≡◌, ◌==◌, ◌<◌, ◌+◌, ◌∙◌, ℕ, true, false, List, [], ◌∷◌, ◌++◌, length, take, get_or, ap, append-nil, flat_map, codes, inl, inr, refl, sym, arith, string_bytes, Result, Ok, Err, IfOk, IfErr}
 use Rattle.std.proofs.lemmas.Bool.{false≢true}
 use Rattle.std.proofs.lemmas.Bool.Decides.{Decides-eqb}
+use Rattle.std.proofs.lemmas.List.{take_more}
+use Rattle.std.proofs.lemmas.List.Concat.{flat_map-append}
 use Rattle.std.proofs.lemmas.List.Elements.{All-cons, All-nil}
 use Rattle.np_chain.specs.declared.breaks.Break.{Break}
 use Rattle.np_versions.specs.Versions.{VersionData}
@@ -25,6 +27,18 @@ text_of_none (b ∷ bs) none =
 pub text_of_some : (breaks : List Break) → false ≡ (length breaks == 0) → flat_map break_line breaks ≡ audit_text breaks
 text_of_some [] some = absurd (false≢true some)
 text_of_some (b ∷ bs) some = refl
+
+-- the text of one more break
+pub text_more : (breaks : List Break) (i : ℕ) (d : Break) (old new : List ℕ) → i < length breaks → old ≡ flat_map break_line (take i breaks) → new ≡ old ++ break_line (get_or breaks i d)
+    → new ≡ flat_map break_line (take (i + 1) breaks)
+text_more breaks i d old new inside so_far more =
+    let line = break_line (get_or breaks i d) in
+    let before = flat_map break_line (take i breaks) in
+    more
+    ∙ ap (λ (l : List ℕ). l ++ line) so_far
+    ∙ ap (λ (l : List ℕ). before ++ l) (sym (append-nil line))
+    ∙ sym (flat_map-append break_line (take i breaks) (get_or breaks i d ∷ []))
+    ∙ ap (flat_map break_line) (sym (take_more breaks i d inside))
 
 -- the old version was refused, and the new one's files not looked at
 pub lacks_old : (old new : VersionReaders) (fault : VersionFault) → IsVersionFault 0 old.data_file old.exclusions_file fault → IsUntouched new.data_file → IsUntouched new.exclusions_file

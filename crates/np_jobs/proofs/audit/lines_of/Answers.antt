@@ -1,7 +1,7 @@
 use Rattle.std.proofs.Common.{ap, flat_map, ◌∙◌}
 use Rattle.std.proofs.lemmas.List.{take_all}
 use Rattle.np_jobs.specs.Tellings.{break_line}
-use Rattle.np_jobs.proofs.AuditLemmas.{text_of_none, text_of_some}
+use Rattle.np_jobs.proofs.AuditLemmas.{text_more, text_of_none, text_of_some}
 use Rattle.np_jobs.proofs.audit.lines_of.Goals as goal
 
 pub returns-then-is_empty : goal.returns-then-is_empty
@@ -11,3 +11,6 @@ pub returns : goal.returns
 returns c =
     let breaks = c.args.breaks.now in
     c.loop-found.invariant ∙ ap (flat_map break_line) (take_all c.loop-found.found-index breaks c.loop-found-test.false) ∙ text_of_some breaks c.if-is_empty.ensures
+
+pub loop-found-preserved : goal.loop-found-preserved
+loop-found-preserved c = text_more c.args.breaks.now c.loop-found.found-index _ _ _ c.loop-found-test.true c.loop-found.invariant c.in_ok-write_break.ensures
