@@ -8,7 +8,7 @@ use std::fmt;
 use thiserror::Error;
 
 /// Why a string, a message or an image is refused.
-#[derive(Clone, Copy, Debug, PartialEq, Eq, Error)]
+#[derive(Clone, Copy, PartialEq, Eq, Error)]
 pub enum NodeFault {
     /// The bytes are no message, or no image. `at` is the offset, from 0, of the first field that
     /// is not whole or not allowed, or of the first byte left over.
@@ -40,6 +40,13 @@ pub enum NodeFault {
     /// the table has fewer, `have` of them.
     #[error("older tables: need {need} code points, have {have}")]
     OlderTables { need: u32, have: u32 },
+}
+
+/// Shows the fault as it is told.
+impl fmt::Debug for NodeFault {
+    fn fmt<W: fmt::Write>(&self, f: &mut fmt::Formatter<W>) -> fmt::Result {
+        fmt::Display::fmt(self, f)
+    }
 }
 
 impl NodeFault {

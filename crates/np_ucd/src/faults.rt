@@ -5,10 +5,11 @@ ghost use Rattle.np_ucd.specs.inside.Memories.{no_memory};
 
 use np_code_points::Memory;
 use std::alloc::{AllocError, AllocFailed};
+use std::fmt;
 use thiserror::Error;
 
 /// Why a file was not read. Lines count from 1.
-#[derive(Clone, Copy, Debug, PartialEq, Eq, Error)]
+#[derive(Clone, Copy, PartialEq, Eq, Error)]
 pub enum UcdFault {
     /// A record has not exactly 15 fields.
     #[error("line {line}: not exactly 15 fields")]
@@ -49,6 +50,13 @@ pub enum UcdFault {
     /// Memory ran out.
     #[error("out of memory")]
     Memory,
+}
+
+/// Shows the fault as it is told.
+impl fmt::Debug for UcdFault {
+    fn fmt<W: fmt::Write>(&self, f: &mut fmt::Formatter<W>) -> fmt::Result {
+        fmt::Display::fmt(self, f)
+    }
 }
 
 impl From<Memory> for UcdFault {
