@@ -12,7 +12,7 @@ use np_versions::TableFault;
 use thiserror::Error;
 
 /// Why no version came of two files. Versions are numbered from 0.
-#[derive(Clone, Copy, Debug, Drop, Error)]
+#[derive(Clone, Copy, Debug, PartialEq, Eq, Drop, Error)]
 pub enum VersionFault {
     /// The data file was not read, or has a fault.
     #[error("version {version} data: {fault}")]
@@ -26,7 +26,7 @@ pub enum VersionFault {
 }
 
 /// Why a text is not answered. Places are bytes from 0.
-#[derive(Clone, Copy, Debug, Drop, Error)]
+#[derive(Clone, Copy, Debug, PartialEq, Eq, Drop, Error)]
 pub enum TextFault {
     /// The input was not read whole.
     #[error("input: {fault}")]
@@ -52,7 +52,7 @@ pub enum TextFault {
 }
 
 /// Why a chain of versions and a schedule give no report. Lines are numbered from 1.
-#[derive(Clone, Copy, Debug, Drop, Error)]
+#[derive(Clone, Copy, Debug, PartialEq, Eq, Drop, Error)]
 pub enum ReplayFault {
     /// The schedule was not read whole.
     #[error("schedule: {fault}")]
@@ -66,7 +66,7 @@ pub enum ReplayFault {
 }
 
 /// Why a job is refused. Versions are numbered from 0.
-#[derive(Clone, Copy, Debug, Drop, Error)]
+#[derive(Clone, Copy, Debug, PartialEq, Eq, Drop, Error)]
 pub enum JobFault {
     /// The two files of a version make none.
     #[error(transparent)]

@@ -19,7 +19,7 @@ use std::alloc::Global;
 pub const OUT_OF_MEMORY: &str = "out of memory\n";
 
 /// A line with its line end. One that is always the same takes no memory.
-#[derive(Drop)]
+#[derive(Debug, Drop)]
 pub enum Line {
     /// It is always the same.
     Fixed(&'static str),
