@@ -89,7 +89,7 @@ def check_model(tally):
 
 def check_example(tally):
     """The Rust example of the README and of the crates' heads is the one that a unit test runs."""
-    tested = (CRATES / "np_examples_forms" / "src" / "forms" / "example.rt").read_text(encoding="utf-8")
+    tested = (CRATES / "np_examples" / "src" / "forms" / "example.rt").read_text(encoding="utf-8")
     for page, fence, sign in ((ROOT / "README.md", "```rust\n", ""), (CRATES / "np_forms/src/lib.rt", "//! ```\n", "//! "),
                               (CRATES / "np_tables/src/lib.rt", "//! ```\n", "//! ")):
         block = page.read_text(encoding="utf-8").split(fence)[1].split("```")[0]

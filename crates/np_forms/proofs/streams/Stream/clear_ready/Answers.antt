@@ -1,5 +1,5 @@
-use Rattle.std.proofs.Common.{rules}
+use Rattle.std.proofs.Common.{refl}
 use Rattle.np_forms.proofs.streams.Stream.clear_ready.Goals as goal
 
 pub returns : goal.returns
-returns c = search rules
+returns g c = rw (← c.self.view_is, c.clear.ensures.items) refl
