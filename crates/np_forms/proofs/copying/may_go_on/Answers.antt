@@ -1,4 +1,4 @@
-use Rattle.std.proofs.Common.{◌++◌, sym, ap, ◌∙◌, rules}
+use Rattle.std.proofs.Common.{◌++◌, sym, ap, ◌∙◌}
 use Rattle.np_forms.proofs.CopyLemmas.{front_of, seam}
 use Rattle.np_forms.proofs.TextLemmas.{assigned-front, lacks-unassigned, IsReadAssigned-front}
 use Rattle.np_forms.proofs.copying.may_go_on.Goals as goal
@@ -19,4 +19,4 @@ returns-in-Some-clause-lacking g c = λ _ all.
     lacks-unassigned _ _ _ _ c.in-Some.ensures.some (assigned-front _ _ c.range.result.now _ c.range.utf8 parts all)
 
 pub returns-in-Some-clause-read : goal.returns-in-Some-clause-read
-returns-in-Some-clause-read c = search rules
+returns-in-Some-clause-read g c = λ _ no. (let clash = no in cc)
