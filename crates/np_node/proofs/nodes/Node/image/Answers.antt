@@ -19,6 +19,7 @@ pub returns : goal.returns
 returns g c =
     let model = g.T.NormTable.model in
     let was = c.self.inside in
-    subst (λ n. IfOk c.image_of.result (λ bytes. bytes.items ≡ image_bytes (image_of (Some (assigned_count (model n.table))) (state_of model n)))) c.self.view_is
+    subst (λ n. IfOk c.image_of.result (λ bytes. bytes.items ≡ image_bytes (image_of (Some (assigned_count (model n.table))) (state_of model n))))
+    c.self.view_is
     (subst (λ (k : ℕ). IfOk c.image_of.result (λ bytes. bytes.items ≡ image_bytes (record { needs = Some k; form = was.form; entries = was.kept })))
     (c.count.ensures ∙ ap assigned_count c.version.ensures.same) c.image_of.ensures)
