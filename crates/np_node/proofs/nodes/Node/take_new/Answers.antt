@@ -1,4 +1,5 @@
-use Rattle.std.proofs.Common.{arith, List, ℕ, ◌≡◌, ◌<◌, true, false, length, string_bytes, sym, ap, subst, ◌∙◌}
+use Rattle.std.proofs.Common.{arith, List, ℕ, ◌≡◌, ◌≤◌, ◌<◌, true, false, length, string_bytes, sym, ap, subst, ◌∙◌}
+use Rattle.std.proofs.lemmas.Bool.{both_ways}
 use Rattle.np_node.proofs.NodeLemmas.{other-key}
 use Rattle.np_node.specs.Nodes.{with_entry}
 use Rattle.np_node.specs.Strings.{IsKeepable, IsKey}
@@ -24,7 +25,8 @@ returns-clause-answer g c =
     let told : string_bytes c.in_ok-key.key ≡ c.args.told.now = sym c.as_bytes.ensures.value ∙ c.same_bytes.ensures.0 on in
     let keepable = subst (λ n. IsKeepable (model n.table) c.args.text.now) c.self.view_is c.in_ok-check_assigned.ensures.ok in
     let key = subst (λ n. IsKey (model n.table) n.form c.args.text.now c.args.told.now) c.self.view_is (subst (IsKey (model was.table.now) was.form c.args.text.now) told c.in_ok-key.ensures.key) in
-    let room : length c.args.self.now.entries < c.args.self.now.room = grind arith in
+    let not_full : ¬ (c.args.self.now.room ≤ length c.args.self.now.entries) = λ full. both_ways c.is_full.result c.if-is_full.false (c.is_full.ensures.1 full) in
+    let room : length c.args.self.now.entries < c.args.self.now.room = omega (arith, not_full) in
     (record { keepable = keepable; key = key }, record { new = record { keepable = keepable; absent = c.requires.absent }; room = room })
 
 pub returns-then-is_full-clause-answer : goal.returns-then-is_full-clause-answer
@@ -41,7 +43,8 @@ returns-then-is_full-clause-answer g c =
 pub keep-requires-clause-place : goal.keep-requires-clause-place
 keep-requires-clause-place g c =
     let keepable = subst (λ n. IsKeepable (g.T.NormTable.model n.table) c.args.text.now) c.self.view_is c.in_ok-check_assigned.ensures.ok in
-    let room : length c.args.self.now.entries < c.args.self.now.room = grind arith in
+    let not_full : ¬ (c.args.self.now.room ≤ length c.args.self.now.entries) = λ full. both_ways c.is_full.result c.if-is_full.false (c.is_full.ensures.1 full) in
+    let room : length c.args.self.now.entries < c.args.self.now.room = omega (arith, not_full) in
     record { new = record { keepable = keepable; absent = c.requires.absent }; room = room }
 
 pub keep-requires-clause-key : goal.keep-requires-clause-key
