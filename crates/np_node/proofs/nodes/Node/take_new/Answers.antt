@@ -1,4 +1,4 @@
-use Rattle.std.proofs.Common.{arith, List, ℕ, ◌≡◌, ◌≤◌, ◌<◌, true, false, length, string_bytes, sym, ap, subst, ◌∙◌}
+use Rattle.std.proofs.Common.{arith, List, ℕ, ◌≡◌, ◌≤◌, ◌<◌, ◌↔◌, IsTrue, true, false, length, string_bytes, sym, ap, subst, ◌∙◌}
 use Rattle.std.proofs.lemmas.Bool.{both_ways}
 use Rattle.np_node.proofs.NodeLemmas.{other-key}
 use Rattle.np_node.specs.Nodes.{with_entry}
@@ -10,11 +10,12 @@ returns-then-not-same_bytes-clause-answer g c =
     let model = g.T.NormTable.model in
     let was = c.self.inside in
     let made = c.as_bytes.ensures.value in
+    let same : IsTrue c.same_bytes.result ↔ (c.as_bytes.result.now ≡ c.args.told.now) = c.same_bytes.ensures in
     let off : c.same_bytes.result ≡ false = c.if-not-same_bytes.true in (
       subst (λ n. IsKeepable (model n.table) c.args.text.now) c.self.view_is c.in_ok-check_assigned.ensures.ok,
       subst (λ n. ¬ IsKey (model n.table) n.form c.args.text.now c.args.told.now) c.self.view_is
           (other-key (model was.table.now) was.form c.args.text.now (string_bytes c.in_ok-key.key) c.args.told.now c.same_bytes.result c.self.invariant.sound c.in_ok-key.ensures.key
-          (λ h. sym made ∙ c.same_bytes.ensures.0 h, λ e. c.same_bytes.ensures.1 (made ∙ e)) off),
+          (λ h. sym made ∙ same.0 h, λ e. same.1 (made ∙ e)) off),
     )
 
 pub returns-clause-answer : goal.returns-clause-answer
@@ -53,5 +54,5 @@ keep-requires-clause-key g c =
 
 pub returns-clause-node : goal.returns-clause-node
 returns-clause-node g c =
-    let told = sym c.as_bytes.ensures.value ∙ c.same_bytes.ensures.0 c.if-not-same_bytes.false in
+    let told : string_bytes c.in_ok-key.key ≡ c.args.told.now = sym c.as_bytes.ensures.value ∙ c.same_bytes.ensures.0 c.if-not-same_bytes.false in
     c.in_ok-keep.ensures.ok ∙ ap (λ (k : List ℕ). with_entry c.args.self.now (record { string = c.args.text.now; key = k })) told
