@@ -18,9 +18,10 @@ returns-in-Ok g c =
 pub returns-in_ok-push_refusal-in-Err : goal.returns-in_ok-push_refusal-in-Err
 returns-in_ok-push_refusal-in-Err g c =
     let at = c.in-Err.fault.at in
+    let why = c.as_str.ensures.value ∙ c.in_ok-why-in-Err.ensures in
     record {
       answer = told_refusal (not_utf8 at);
       is = inr (omega arith, inl (at, record { invalid = λ valid. false≢true (c.in-Err.ensures.valid.1 valid); longest = c.in-Err.ensures.place }, refl));
-      out_is = c.in_ok-push_refusal-in-Err.ensures ∙ ap (λ (why : List ℕ). c.args.out.now.items ++ told_refusal why) (c.as_str.ensures.value ∙ c.in_ok-why-in-Err.ensures);
+      out_is = c.in_ok-push_refusal-in-Err.ensures ∙ ap (λ (l : List ℕ). c.args.out.now.items ++ told_refusal l) why;
       told = refl;
     }

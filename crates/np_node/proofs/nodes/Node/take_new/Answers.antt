@@ -26,8 +26,9 @@ returns-clause-answer g c =
     let told : string_bytes c.in_ok-key.key ≡ c.args.told.now = sym c.as_bytes.ensures.value ∙ c.same_bytes.ensures.0 on in
     let keepable = subst (λ n. IsKeepable (model n.table) c.args.text.now) c.self.view_is c.in_ok-check_assigned.ensures.ok in
     let key = subst (λ n. IsKey (model n.table) n.form c.args.text.now c.args.told.now) c.self.view_is (subst (IsKey (model was.table.now) was.form c.args.text.now) told c.in_ok-key.ensures.key) in
-    let not_full : ¬ (c.args.self.now.room ≤ length c.args.self.now.entries) = λ full. both_ways c.is_full.result c.if-is_full.false (c.is_full.ensures.1 full) in
-    let room : length c.args.self.now.entries < c.args.self.now.room = omega (arith, not_full) in
+    let now = c.args.self.now in
+    let not_full : ¬ (now.room ≤ length now.entries) = λ full. both_ways c.is_full.result c.if-is_full.false (c.is_full.ensures.1 full) in
+    let room : length now.entries < now.room = omega (arith, not_full) in
     (record { keepable = keepable; key = key }, record { new = record { keepable = keepable; absent = c.requires.absent }; room = room })
 
 pub returns-then-is_full-clause-answer : goal.returns-then-is_full-clause-answer
@@ -44,8 +45,9 @@ returns-then-is_full-clause-answer g c =
 pub keep-requires-clause-place : goal.keep-requires-clause-place
 keep-requires-clause-place g c =
     let keepable = subst (λ n. IsKeepable (g.T.NormTable.model n.table) c.args.text.now) c.self.view_is c.in_ok-check_assigned.ensures.ok in
-    let not_full : ¬ (c.args.self.now.room ≤ length c.args.self.now.entries) = λ full. both_ways c.is_full.result c.if-is_full.false (c.is_full.ensures.1 full) in
-    let room : length c.args.self.now.entries < c.args.self.now.room = omega (arith, not_full) in
+    let now = c.args.self.now in
+    let not_full : ¬ (now.room ≤ length now.entries) = λ full. both_ways c.is_full.result c.if-is_full.false (c.is_full.ensures.1 full) in
+    let room : length now.entries < now.room = omega (arith, not_full) in
     record { new = record { keepable = keepable; absent = c.requires.absent }; room = room }
 
 pub keep-requires-clause-key : goal.keep-requires-clause-key
