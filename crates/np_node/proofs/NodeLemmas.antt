@@ -1,5 +1,6 @@
 -- What holds of a node as strings come to it, and along an extension.
 use Rattle.std.proofs.Common.{◌≡◌, ◌≢◌, ℕ, zero, suc, ◌<◌, List, [], ◌∷◌, ◌++◌, length, take, slice_get, Some, get_or, All, AllPairs, Contains, Bool, false, true≢false, IsTrue, ◌↔◌, Result, Ok, Err, OnOk, OnErr, refl, sym, ap, subst, ◌∙◌, arith, length-append}
+use Rattle.std.proofs.lemmas.List.{get_or-map, length-map}
 use Rattle.std.proofs.lemmas.List.Elements.{All-push, All-weaker, All-head, All-tail}
 use Rattle.std.proofs.lemmas.List.Quantifiers.{all_pairs_push}
 use Rattle.np_chain.specs.Chain.{Extends}
@@ -25,6 +26,14 @@ get_or-any (x ∷ xs) (suc k) d e lt = get_or-any xs k d e (omega arith)
 -- what holds of each element holds of one that the list contains
 pub All-Contains : {A : Type 0} (P : A → Type 0) (xs : List A) (x : A) → All P xs → Contains xs x → P x
 All-Contains P xs x all (k, lt, is) = subst P is (all k x lt)
+
+-- the string of an entry is kept
+pub entry_is_kept : (entries : List Entry) (e : Entry) → Contains entries e → IsKept entries e.string
+entry_is_kept entries e has = (
+  has.0,
+  omega (arith, has.1, length-map entries (λ (x : Entry). x.string)),
+  get_or-map (λ (x : Entry). x.string) entries has.0 e e.string has.1 ∙ ap (λ (x : Entry). x.string) has.2,
+)
 
 -- ---- one more entry
 

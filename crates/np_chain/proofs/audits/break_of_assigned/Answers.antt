@@ -11,3 +11,6 @@ returns-then-class_of c =
     sym
     (break-class c.args.old.now c.args.new.now c.args.code c.requires (sym c.assigned_code.ensures ∙ c.if-not-assigned_code.false)
     (λ e. c.if-class_of.true (c.class_of.ensures ∙ e ∙ sym c.class_of-2.ensures)))
+
+pub break_of_kept-requires-clause-class : goal.break_of_kept-requires-clause-class
+break_of_kept-requires-clause-class c = sym c.class_of.ensures ∙ c.if-class_of.false ∙ c.class_of-2.ensures

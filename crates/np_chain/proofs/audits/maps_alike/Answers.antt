@@ -1,6 +1,7 @@
-use Rattle.std.proofs.Common.{◌∙◌, sym, ap₂}
+use Rattle.std.proofs.Common.{◌≡◌, ◌∙◌, sym, ap₂}
 use Rattle.std.proofs.lemmas.Bool.{and_left}
 use Rattle.std.specs.Prelude.{bytes_eq}
+use Rattle.np_versions.specs.Versions.{file_mapping}
 use Rattle.np_chain.specs.inside.BreakTests.{is_same_kind}
 use Rattle.np_chain.proofs.SyllableLemmas.{alike-syllable, alike-listed, alike-when}
 use Rattle.np_chain.proofs.audits.maps_alike.Goals as goal
@@ -20,7 +21,8 @@ returns-then-not-same_kind c =
 pub returns : goal.returns
 returns c =
     let kinds = ap₂ is_same_kind c.kind_of.ensures c.kind_of-2.ensures in
-    let maps = ap₂ bytes_eq c.mapping_of.ensures c.mapping_of-2.ensures in
+    let old : c.mapping_of-2.result.now ≡ file_mapping c.args.old.now c.args.code = c.mapping_of-2.ensures in
+    let maps = ap₂ bytes_eq c.mapping_of.ensures old in
     c.eq.ensures ∙ maps
     ∙ alike-when c.args.old.now c.args.new.now c.args.code (sym c.is_syllable.ensures ∙ c.if-is_syllable.false)
     (sym kinds ∙ sym c.same_kind.ensures ∙ c.if-not-same_kind.false)

@@ -1,6 +1,7 @@
-use Rattle.std.proofs.Common.{arith, rules}
+use Rattle.std.proofs.Common.{ℕ, List, ◌++◌, arith, refl, ap, inl, inr, ◌∙◌}
+use Rattle.std.proofs.lemmas.Bool.{false≢true}
 use Rattle.std.proofs.lemmas.Result.{IfOk-weaker}
-use Rattle.np_lines.specs.Answers.{IsAnswer, IsAnswerWithin}
+use Rattle.np_lines.specs.Answers.{IsAnswer, IsAnswerWithin, not_utf8, told_refusal}
 use Rattle.np_lines.specs.inside.Steps.{IsTold}
 use Rattle.np_lines.proofs.AnswerLemmas.{told_of_text}
 use Rattle.np_lines.proofs.answers.push_answer.Goals as goal
@@ -15,4 +16,12 @@ returns-in-Ok g c =
     (λ refused t. told_of_text v w c.args.line.now c.in-Ok.text.now c.args.out.now.items out refused (omega arith) c.in-Ok.ensures.ok t) c.push_text_answer.ensures
 
 pub returns-in_ok-push_refusal-in-Err : goal.returns-in_ok-push_refusal-in-Err
-returns-in_ok-push_refusal-in-Err c = search rules
+returns-in_ok-push_refusal-in-Err g c =
+    let at = c.in-Err.fault.at in
+    let why = c.as_str.ensures.value ∙ c.in_ok-why-in-Err.ensures in
+    record {
+      answer = told_refusal (not_utf8 at);
+      is = inr (omega arith, inl (at, record { invalid = λ valid. false≢true (c.in-Err.ensures.valid.1 valid); longest = c.in-Err.ensures.place }, refl));
+      out_is = c.in_ok-push_refusal-in-Err.ensures ∙ ap (λ (l : List ℕ). c.args.out.now.items ++ told_refusal l) why;
+      told = refl;
+    }

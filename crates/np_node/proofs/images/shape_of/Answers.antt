@@ -14,6 +14,9 @@ loop-number-preserved c =
     let told = c.in-Ok.ensures.ok in
     read-more c.args.bytes.now head.needs head.form head.count c.loop-number.fields c.spelled.new.self c.loop-number._number _ c.loop-number.invariant told.0 told.1
 
+pub returns-in-Err-clause-ok : goal.returns-in-Err-clause-ok
+returns-in-Err-clause-ok c = tt
+
 pub returns-in-Err-clause-err : goal.returns-in-Err-clause-err
 returns-in-Err-clause-err c =
     let head = c.in_ok-head.head in

@@ -1,4 +1,4 @@
-use Rattle.std.proofs.Common.{ℕ, ◌∷◌, [], subst, rules}
+use Rattle.std.proofs.Common.{ℕ, ◌∷◌, [], subst}
 use Rattle.std.proofs.lemmas.Bool.{both_ways}
 use Rattle.np_node.proofs.MarkedReading.{passes-same-key, passes-other-key, other-lacks}
 use Rattle.np_node.specs.inside.Reading.{Passes}
@@ -27,4 +27,7 @@ returns-in-Err-clause-err c =
     other-lacks _ _ _ string.0 string.1 _ marker inner _ fault place
 
 pub returns-in-Ok-clause-ok : goal.returns-in-Ok-clause-ok
-returns-in-Ok-clause-ok c = search rules
+returns-in-Ok-clause-ok c = tt
+
+pub returns-in-Some-clause-ok : goal.returns-in-Some-clause-ok
+returns-in-Some-clause-ok c = tt

@@ -1,18 +1,8 @@
-use Rattle.std.proofs.Common.{List, Contains, ap, arith, sym, subst, ◌∙◌}
-use Rattle.std.proofs.lemmas.List.{get_or-map, length-map}
+use Rattle.std.proofs.Common.{sym, subst, ◌∙◌}
 use Rattle.np_node.proofs.KeyLemmas.{same_keys}
-use Rattle.np_node.specs.Nodes.{IsKept}
-use Rattle.np_node.specs.Strings.{Entry}
+use Rattle.np_node.proofs.NodeLemmas.{entry_is_kept}
 use Rattle.np_versions.specs.Conditions.{IsSound}
 use Rattle.np_node.proofs.nodes.Node.same.Goals as goal
-
--- the string of an entry is kept
-entry_is_kept : (entries : List Entry) (e : Entry) → Contains entries e → IsKept entries e.string
-entry_is_kept entries e has = (
-  has.0,
-  omega (arith, has.1, length-map entries (λ (x : Entry). x.string)),
-  get_or-map (λ (x : Entry). x.string) entries has.0 e e.string has.1 ∙ ap (λ (x : Entry). x.string) has.2,
-)
 
 pub returns : goal.returns
 returns g c =
