@@ -21,8 +21,9 @@ pub handed_on : {before after : Option (List ℕ)} {items bytes : List ℕ} → 
 handed_on same whole = rw same whole
 
 -- what is told of a file that was read, where it has no fault
-pub same_read : {T : Type 0} {before after : Option (List ℕ)} {bytes : List ℕ} (fault : List ℕ → Option UcdFault) (P : List ℕ → T → Type 0) → IsReadWhole before after bytes
-    → (r : Result T UcdFault) → OnOk r (fault bytes ≡ None) → IfOk r (P bytes) → IfOk r (λ v. (bytes : List ℕ) × IsReadWhole before after bytes × (fault bytes ≡ None) × P bytes v)
+pub same_read : {T : Type 0} {before after : Option (List ℕ)} {bytes : List ℕ} (fault : List ℕ → Option UcdFault)
+    → (P : List ℕ → T → Type 0) → IsReadWhole before after bytes → (r : Result T UcdFault) → OnOk r (fault bytes ≡ None) → IfOk r (P bytes)
+    → IfOk r (λ v. (bytes : List ℕ) × IsReadWhole before after bytes × (fault bytes ≡ None) × P bytes v)
 same_read {bytes = bytes} fault P whole (Ok v) fine is = (bytes, whole, fine, is)
 same_read fault P whole (Err e) fine is = tt
 
