@@ -20,6 +20,13 @@ use Rattle.np_ucd.proofs.RowGrammar.{are_all_rows}
 pub handed_on : {before after : Option (List ℕ)} {items bytes : List ℕ} → bytes ≡ items → IsReadWhole before after items → IsReadWhole before after bytes
 handed_on same whole = rw same whole
 
+-- what is told of a file that was read, where it has no fault
+pub same_read : {T : Type 0} {before after : Option (List ℕ)} {bytes : List ℕ} (fault : List ℕ → Option UcdFault)
+    → (P : List ℕ → T → Type 0) → IsReadWhole before after bytes → (r : Result T UcdFault) → OnOk r (fault bytes ≡ None) → IfOk r (P bytes)
+    → IfOk r (λ v. (bytes : List ℕ) × IsReadWhole before after bytes × (fault bytes ≡ None) × P bytes v)
+same_read {bytes = bytes} fault P whole (Ok v) fine is = (bytes, whole, fine, is)
+same_read fault P whole (Err e) fine is = tt
+
 -- the rows of a file that was read
 pub rows_read : {before after : Option (List ℕ)} {bytes : List ℕ} → IsReadWhole before after bytes → (r : Result (List Entry) UcdFault) → OnOk r (first_fault bytes ≡ None) → IfOk r (λ rows. rows ≡ rows_in bytes) → IfOk r (λ rows. (bytes : List ℕ) × IsReadWhole before after bytes × HasNoFault bytes × AreAllRows bytes rows)
 rows_read {bytes = bytes} whole (Ok rows) fine is =

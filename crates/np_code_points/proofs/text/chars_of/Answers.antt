@@ -1,4 +1,4 @@
-use Rattle.std.proofs.Common.{sym, ◌∙◌, map-id, rules}
+use Rattle.std.proofs.Common.{◌++◌, ◌∷◌, [], sym, ap, ◌∙◌, map-id}
 use Rattle.std.proofs.lemmas.Iterator.{YieldsList-from_chars}
 use Rattle.std.proofs.lemmas.Iterator.Consumers.{YieldsList-end}
 use Rattle.np_code_points.proofs.text.chars_of.Goals as goal
@@ -9,4 +9,4 @@ returns c =
     c.loop-c.invariant ∙ (sym (map-id c.loop-c.yielded) ∙ end.0)
 
 pub loop-c-preserved : goal.loop-c-preserved
-loop-c-preserved c = search rules
+loop-c-preserved c = c.in_ok-push.ensures.items ∙ ap (λ l. l ++ c.in-Some.c ∷ []) c.loop-c.invariant

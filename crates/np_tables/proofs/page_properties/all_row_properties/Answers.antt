@@ -1,4 +1,4 @@
-use Rattle.std.proofs.Common.{◌+◌, sym, subst, arith, rules}
+use Rattle.std.proofs.Common.{◌+◌, sym, subst, arith, refl}
 use Rattle.np_tables.proofs.Words.{AreAllRowProperties}
 use Rattle.np_tables.proofs.PageLemmas.{all_properties-more}
 use Rattle.np_tables.proofs.page_properties.all_row_properties.Goals as goal
@@ -20,4 +20,5 @@ pub row_bits-hints-requires-clause-leading_consonants : goal.row_bits-hints-requ
 row_bits-hints-requires-clause-leading_consonants c = c.are_leading_never_second-leading_never_second.ensures
 
 pub loop-at-init : goal.loop-at-init
-loop-at-init c = search rules
+loop-at-init c =
+    rw (c.in_ok-push.ensures.items, c.in_ok-all_properties.ensures.items) (record { size = refl; none = refl; each = λ k e lt. absurd (omega arith) })

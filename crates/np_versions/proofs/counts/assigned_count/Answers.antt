@@ -25,5 +25,4 @@ loop-at-preserved c =
     ]
 
 pub returns : goal.returns
-returns c =
-    omega (arith, sizes-end c.args.characters.now.entries c.loop-at.at (omega arith), sizes-count c.args.characters.now c.len-at-end.ensures.rows)
+returns c = omega (arith, sizes-end c.args.characters.now.entries c.loop-at.at (omega arith), sizes-count c.args.characters.now c.len-at-end.ensures.rows)

@@ -19,5 +19,4 @@ loop-at-preserved c =
     ∙ row_marks_more _ 0 c.loop-at.at c.if-is_empty.push c.loop-at.marks.items lt c.loop-at.invariant (mark ∙ ap (mapping_mark _ 0) c.mapping_at-mapping.ensures)
 
 pub returns-clause-marks : goal.returns-clause-marks
-returns-clause-marks c =
-    row_marks_all c.args.characters.now 0 c.loop-at.at c.loop-at.marks.items (omega arith) c.loop-at.invariant
+returns-clause-marks c = row_marks_all c.args.characters.now 0 c.loop-at.at c.loop-at.marks.items (omega arith) c.loop-at.invariant

@@ -18,5 +18,4 @@ returns-then-not-is_hangul_row c =
     (sym (ap (is_hangul_row _) c.hangul_at-code.ensures) ∙ sym c.is_hangul_row.ensures ∙ c.if-not-is_hangul_row.true))
 
 pub returns : goal.returns
-returns c =
-    first_wrong-none c.args.characters.now (λ k lt. c.loop-place.invariant k (omega arith))
+returns c = first_wrong-none c.args.characters.now (λ k lt. c.loop-place.invariant k (omega arith))

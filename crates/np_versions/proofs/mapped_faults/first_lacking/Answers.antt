@@ -9,8 +9,7 @@ returns-then-not-are_assigned c =
     (sym c.are_assigned.ensures ∙ c.if-not-are_assigned.true) c.loop-at.invariant
 
 pub returns : goal.returns
-returns c =
-    first_lacking-none c.args.characters.now (λ k lt. c.loop-at.invariant k (omega arith))
+returns c = first_lacking-none c.args.characters.now (λ k lt. c.loop-at.invariant k (omega arith))
 
 pub loop-at-preserved : goal.loop-at-preserved
 loop-at-preserved c = search rules

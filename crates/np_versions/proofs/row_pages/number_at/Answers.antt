@@ -4,12 +4,10 @@ use Rattle.np_versions.proofs.RowLemmas.{at-row, place-bounded, none_behind, non
 use Rattle.np_versions.proofs.row_pages.number_at.Goals as goal
 
 pub overflow_cast-result : goal.overflow_cast-result
-overflow_cast-result c =
-    omega (arith, place-bounded c.args.rows.now c.args.at (lent_entry c.in-Some.row) c.requires.rows (sym c.in-Some.ensures.row))
+overflow_cast-result c = omega (arith, place-bounded c.args.rows.now c.args.at (lent_entry c.in-Some.row) c.requires.rows (sym c.in-Some.ensures.row))
 
 pub overflow_add-result : goal.overflow_add-result
-overflow_add-result c =
-    omega (arith, place-bounded c.args.rows.now c.args.at (lent_entry c.in-Some.row) c.requires.rows (sym c.in-Some.ensures.row))
+overflow_add-result c = omega (arith, place-bounded c.args.rows.now c.args.at (lent_entry c.in-Some.row) c.requires.rows (sym c.in-Some.ensures.row))
 
 pub returns-in-Some-clause-number : goal.returns-in-Some-clause-number
 returns-in-Some-clause-number c =
@@ -17,8 +15,7 @@ returns-in-Some-clause-number c =
     number-some c.args.rows.now c.args.at c.args.code (c.args.at + 1) _ c.requires.rows (sym c.in-Some.ensures.row) c.if-row-code.true ends (omega arith)
 
 pub returns-in-Some-clause-bound : goal.returns-in-Some-clause-bound
-returns-in-Some-clause-bound c =
-    λ _. place-bounded c.args.rows.now c.args.at (lent_entry c.in-Some.row) c.requires.rows (sym c.in-Some.ensures.row)
+returns-in-Some-clause-bound c = λ _. place-bounded c.args.rows.now c.args.at (lent_entry c.in-Some.row) c.requires.rows (sym c.in-Some.ensures.row)
 
 pub returns-in-Some-clause-ends : goal.returns-in-Some-clause-ends
 returns-in-Some-clause-ends c =

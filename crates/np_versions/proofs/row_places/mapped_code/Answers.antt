@@ -1,5 +1,4 @@
-use Rattle.std.proofs.Common.{rules}
 use Rattle.np_versions.proofs.row_places.mapped_code.Goals as goal
 
 pub returns : goal.returns
-returns c = search rules
+returns c = c.in-Some.ensures.value.1

@@ -1,5 +1,4 @@
-use Rattle.std.proofs.Common.{rules}
 use Rattle.np_versions.proofs.pairs.Pairs.find.Goals as goal
 
 pub returns-in-Some-clause-some : goal.returns-in-Some-clause-some
-returns-in-Some-clause-some c = search rules
+returns-in-Some-clause-some c = c.in-Some.ensures.some
