@@ -13,7 +13,10 @@ pub returns-in_err-made_of_input-clause-refused : goal.returns-in_err-made_of_in
 returns-in_err-made_of_input-clause-refused g c =
     let p = err_from_is_err_and c.from_residual.result c.from_residual.ensures.1 in
     rw (p.1, p.2)
-    (inr (rw (← c.version.ensures.same) (c.in_default.ensures.extends.0 refl), (c.in_err-made_of_input.field-0.0, refl, c.in_err-made_of_input.ensures.refused)))
+    (inr (
+      rw (← c.version.ensures.same) (c.in_default.ensures.extends.0 refl),
+      (c.in_err-made_of_input.field-0.0, refl, c.in_err-made_of_input.ensures.refused),
+    ))
 
 pub returns-clause-made : goal.returns-clause-made
 returns-clause-made g c =

@@ -12,4 +12,5 @@ pub returns-then-eq-clause-status : goal.returns-then-eq-clause-status
 returns-then-eq-clause-status g c = λ ne. absurd (ne (sym c.kind.ensures ∙ same_true the_type (search rules) _ _ (sym c.if-eq.ensures)))
 
 pub returns-else-eq-clause-memory : goal.returns-else-eq-clause-memory
-returns-else-eq-clause-memory g c = λ is. absurd (false≢true (c.if-eq.ensures ∙ ap (λ (k : ErrorKind). sameb the_type k ErrorKind.OutOfMemory) (c.kind.ensures ∙ is)))
+returns-else-eq-clause-memory g c = λ is.
+    absurd (false≢true (c.if-eq.ensures ∙ ap (λ (k : ErrorKind). sameb the_type k ErrorKind.OutOfMemory) (c.kind.ensures ∙ is)))

@@ -11,11 +11,11 @@ at_place members k m within is = rw (slice_get-map end_of members k, slice_get_r
 pub returns-in-Some : goal.returns-in-Some
 returns-in-Some g c =
     let found = c.in_ok-image.ensures.lookup in
-    rw (← c.self.view_is, ← c.deref.ensures.value)
-    (ap Some c.as_slice.ensures.value ∙ sym (at_place c.deref.result.now c.args.number c.in_ok-image.field-0.now found.3.0 found.1 ∙ ap (option_map bytes_in) c.in-Some.is))
+    let at = at_place c.deref.result.now c.args.number c.in_ok-image.field-0.now found.3.0 found.1 in
+    rw (← c.self.view_is, ← c.deref.ensures.value) (ap Some c.as_slice.ensures.value ∙ sym (at ∙ ap (option_map bytes_in) c.in-Some.is))
 
 pub returns-in-None : goal.returns-in-None
 returns-in-None g c =
     let found = c.in_ok-image.ensures.lookup in
-    rw (← c.self.view_is, ← c.deref.ensures.value)
-    (sym (at_place c.deref.result.now c.args.number c.in_ok-image.field-0.now found.3.0 found.1 ∙ ap (option_map bytes_in) c.in-None.is))
+    let at = at_place c.deref.result.now c.args.number c.in_ok-image.field-0.now found.3.0 found.1 in
+    rw (← c.self.view_is, ← c.deref.ensures.value) (sym (at ∙ ap (option_map bytes_in) c.in-None.is))
