@@ -17,6 +17,6 @@ returns-in_err-made_over_chain-in-Ok-clause-refused g c =
 
 pub returns-in_ok-made_over_chain-in-Ok-clause-made : goal.returns-in_ok-made_over_chain-in-Ok-clause-made
 returns-in_ok-made_over_chain-in-Ok-clause-made g c =
-    let made = c.in_ok-made_over_chain-in-Ok.field-0 in
+    let ended = c.in_ok-made_over_chain-in-Ok in
     let schedule_file = stream_of g.F.Read.remaining c.args.schedule_file.now c.made_over_chain.new.schedule_file in
-    subst (λ tables. MakesOverChain c.args.form (map g.T.NormTable.model tables) schedule_file made) c.in-Ok.ensures.tables c.in_ok-made_over_chain-in-Ok.ensures.made
+    subst (λ tables. MakesOverChain c.args.form (map g.T.NormTable.model tables) schedule_file ended.field-0) c.in-Ok.ensures.tables ended.ensures.made
