@@ -1,5 +1,5 @@
-use Rattle.std.proofs.Common.{rules}
+use Rattle.std.proofs.Common.{sym, ap, is_some, ◌∙◌}
 use Rattle.np_c.proofs.exports.npss_close.Goals as goal
 
 pub returns : goal.returns
-returns c = search rules
+returns c = sym c.take-shared.new.self.is_held ∙ ap is_some c.take-shared.ensures.left

@@ -1,5 +1,4 @@
-use Rattle.std.proofs.Common.{rules}
 use Rattle.np_c.proofs.exports.npss_key.Goals as goal
 
 pub returns-in-Some-clause-key : goal.returns-in-Some-clause-key
-returns-in-Some-clause-key c = search rules
+returns-in-Some-clause-key c = rw (c.in-Some.ensures.some, ← c.deref.ensures, ← c.deref-in-Some.ensures) c.write_key-answer.ensures

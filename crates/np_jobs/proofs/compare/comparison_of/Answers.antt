@@ -1,5 +1,9 @@
-use Rattle.std.proofs.Common.{rules}
 use Rattle.np_jobs.proofs.compare.comparison_of.Goals as goal
 
 pub returns-in-Ok-clause-equal : goal.returns-in-Ok-clause-equal
-returns-in-Ok-clause-equal c = search rules
+returns-in-Ok-clause-equal g c =
+    record {
+      first_assigned = c.in_default.ensures.none;
+      second_assigned = c.in_default-first_unassigned_char.ensures.none;
+      answer = rw (← c.compat.ensures) c.in-Ok.ensures;
+    }

@@ -1,5 +1,5 @@
-use Rattle.std.proofs.Common.{rules}
+use Rattle.std.proofs.Common.{inl}
 use Rattle.np_jobs.proofs.ending.refuse.Goals as goal
 
 pub returns-in-Ok : goal.returns-in-Ok
-returns-in-Ok c = search rules
+returns-in-Ok g c = inl (rw (← c.in-Ok.ensures.line, ← c.as_str.ensures) c.tell.ensures, c.status.ensures)

@@ -1,4 +1,4 @@
-use Rattle.std.proofs.Common.{rules, chars, string_bytes, refl, sym}
+use Rattle.std.proofs.Common.{chars, string_bytes, refl, sym}
 use Rattle.std.proofs.lemmas.Str.{encodes-chars, IsUtf8-string_bytes}
 use Rattle.np_jobs.proofs.key.key_of.Goals as goal
 
@@ -14,4 +14,4 @@ returns-in-Ok-clause-key g c =
     }
 
 pub returns-in-Ok-clause-normal : goal.returns-in-Ok-clause-normal
-returns-in-Ok-clause-normal g c = search rules
+returns-in-Ok-clause-normal g c = c.in-Ok.ensures.normal

@@ -1,5 +1,4 @@
-use Rattle.std.proofs.Common.{rules}
 use Rattle.np_jobs.proofs.opening.open_file.Goals as goal
 
 pub returns-in-Err-clause-told : goal.returns-in-Err-clause-told
-returns-in-Err-clause-told c = search rules
+returns-in-Err-clause-told g c = c.refuse_file.ensures

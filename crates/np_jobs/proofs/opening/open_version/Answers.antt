@@ -1,4 +1,4 @@
-use Rattle.std.proofs.Common.{rules, [], ◌∷◌, ◌∙◌, ap, refl, string_bytes, sym}
+use Rattle.std.proofs.Common.{[], ◌∷◌, ◌∙◌, ap, refl, string_bytes, sym}
 use Rattle.std.proofs.lemmas.Result.{err_from_is_err_and}
 use Rattle.np_jobs.proofs.OpeningLemmas.{unopened_among}
 use Rattle.np_words.specs.Words.{names_of}
@@ -26,4 +26,4 @@ returns-in_err-exclusions-clause-told g c =
     (c.in_ok-data.ensures.file, tt) c.in_err-exclusions.ensures.told)
 
 pub returns-clause-files : goal.returns-clause-files
-returns-clause-files g c = search rules
+returns-clause-files g c = (rw (← c.as_str.ensures.value) c.in_ok-data.ensures.file, (rw (← c.as_str-2.ensures.value) c.in_ok-exclusions.ensures.file, tt))

@@ -1,5 +1,5 @@
-use Rattle.std.proofs.Common.{rules}
+use Rattle.std.proofs.Common.{refl}
 use Rattle.np_jobs.proofs.versions.version_of.Goals as goal
 
 pub returns-in-Err-clause-refused : goal.returns-in-Err-clause-refused
-returns-in-Err-clause-refused c = search rules
+returns-in-Err-clause-refused c = (_, refl, c.in-Err.ensures.fault)

@@ -1,8 +1,11 @@
-use Rattle.std.proofs.Common.{◌<◌, length, map, subst, sym, take}
+use Rattle.std.proofs.Common.{◌<◌, List, length, map, subst, sym, take}
+use Rattle.std.proofs.lemmas.List.{take_all}
 use Rattle.np_schedules.specs.Events.{node_of}
 use Rattle.np_schedules.specs.Schedules.{NamesVersion}
 use Rattle.np_world.specs.inside.Mirrors.{rules_of}
 use Rattle.np_schedules.specs.EventLines.{event_of}
+use Rattle.np_schedules.specs.declared.events.EventLine.{EventLine}
+use Rattle.np_world.specs.inside.Worlds.{EndsRun}
 use Rattle.np_world.proofs.RunLemmas.{count_ends, ends-more, named_at, version_at}
 use Rattle.np_world.proofs.replays.run_events.Goals as goal
 
@@ -28,3 +31,10 @@ loop-event-preserved g c =
     let i = c.loop-event.event-index in
     ends-more model rules c.args.starts.now c.args.events.now i c.event-item.result c.loop-event.replies.items c.loop-event.members c.step.new.members c.loop-event.sent.items c.step.new.sent.items c.in_ok-step.field-0
     c.push.new.self.items c.loop-event-test.true c.in_ok-push.ensures.items c.event-item.is c.requires.rules c.loop-event.invariant c.in_ok-step.ensures.step c.in_ok-step.ensures.images
+
+pub returns : goal.returns
+returns g c =
+    let rules = rules_of c.args.common.now in
+    let run = c.loop-event in
+    subst (λ (events : List EventLine). EndsRun g.T.NormTable.model rules c.args.starts.now (map event_of events) run.replies.items run.members run.sent.items)
+    (take_all run.event-index c.args.events.now c.loop-event-test.false) run.invariant

@@ -11,3 +11,9 @@ returns-then-forget-clause-turn g c = λ messages.
 pub returns-else-forget-clause-turn : goal.returns-else-forget-clause-turn
 returns-else-forget-clause-turn g c = λ messages.
     forgets-none g.T.NormTable.model (rules_of c.args.common.now) c.args.member.now _ c.args.string.now c.utf8.string messages c.if-forget.ensures.0 refl refl c.if-forget.ensures.1
+
+pub returns-then-forget-clause-image : goal.returns-then-forget-clause-image
+returns-then-forget-clause-image g c = refl
+
+pub returns-else-forget-clause-image : goal.returns-else-forget-clause-image
+returns-else-forget-clause-image g c = refl
