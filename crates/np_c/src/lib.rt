@@ -5,6 +5,7 @@
 mod answers;
 mod apart;
 mod comparing;
+mod content;
 mod exports;
 mod handles;
 mod held;
