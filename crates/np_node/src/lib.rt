@@ -15,6 +15,7 @@ mod strings;
 mod taking;
 
 pub use accepting::Accepted;
+pub use entries::Entries;
 pub use faults::{ImageFault, NodeFault};
 pub use nodes::{MOST_ROOM, Node};
 pub use taking::Taken;
