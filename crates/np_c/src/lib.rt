@@ -9,6 +9,8 @@ mod content;
 mod exports;
 mod handles;
 mod held;
+mod keeping;
+mod kept_node;
 mod keys;
 mod lines;
 mod opening;
