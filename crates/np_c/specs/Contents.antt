@@ -1,11 +1,25 @@
 -- What a handle holds.
 use Rattle.std.specs.Prelude.{Option, Some, None}
+use Rattle.np_node.specs.Nodes.{NodeState}
+use Rattle.np_versions.specs.Versions.{VersionData}
 use Rattle.np_c.specs.declared.content.Content.{Content}
-use Rattle.np_c.specs.declared.content.Content.TheVariants.{Nothing, Table}
+use Rattle.np_c.specs.declared.content.Content.TheVariants.{Nothing, Table, Node}
 use Rattle.np_c.specs.declared.shared.Shared.{Shared}
+
+-- a node as a handle holds it: in the table's place it has the version
+abbrev pub HeldNode : Type 0
+HeldNode = NodeState VersionData
 
 -- the table among what is held, where it is one
 abbrev pub table_in : Option Content → Option Shared
 table_in None = None
 table_in (Some Nothing) = None
 table_in (Some (Table shared)) = Some shared
+table_in (Some (Node kept)) = None
+
+-- the node among what is held, where it is one
+abbrev pub node_in : Option Content → Option HeldNode
+node_in None = None
+node_in (Some Nothing) = None
+node_in (Some (Table shared)) = None
+node_in (Some (Node kept)) = Some kept.value

@@ -1,19 +1,23 @@
 -- How each call of a node ends. What the node answered is told by a status and what stands beside it, exactly: what a status has
 -- no use for is 0.
-use Rattle.std.specs.Prelude.{◌≡◌, ℕ, List, Option, Some, None, Result, Ok, Err}
+use Rattle.std.specs.Prelude.{◌≡◌, ℕ, Bool, true, false, List, Option, Result, Ok, Err}
 use Rattle.np_node.specs.Accepting.{AnswersKeep, LeavesKept}
-use Rattle.np_node.specs.Nodes.{NodeState, State, state_of}
+use Rattle.np_node.specs.Forgetting.{Forgets}
+use Rattle.np_node.specs.Nodes.{State, state_of}
 use Rattle.np_node.specs.Taking.{AnswersTake, LeavesTaken}
 use Rattle.np_node.specs.declared.faults.NodeFault.{NodeFault}
 use Rattle.np_node.specs.declared.faults.NodeFault.TheVariants.{Malformed, OtherForm, TooLong, NotUtf8, Unassigned, KeyDiffers, Full, Memory, OlderTables}
 use Rattle.np_node.specs.declared.taking.Taken.{Taken}
 use Rattle.np_node.specs.declared.taking.Taken.TheVariants.{Kept, Known}
 use Rattle.np_versions.specs.Versions.{VersionData}
+use Rattle.np_c.specs.Contents.{HeldNode, node_in}
+use Rattle.np_c.specs.Versions.{content_of}
 use Rattle.np_c.specs.declared.answers.Answer.{Answer}
+use Rattle.np_c.specs.declared.handles.Handle.{Handle}
 
--- a node as a handle holds it: it names its version in the table's place
-abbrev pub HeldNode : Type 0
-HeldNode = NodeState VersionData
+-- none where the handle is closed, or holds another thing
+abbrev pub node_of : Handle → Option HeldNode
+node_of handle = node_in (content_of handle)
 
 abbrev pub itself : VersionData → VersionData
 itself v = v
@@ -47,6 +51,11 @@ told_taken (Ok Kept) = alone 0
 told_taken (Ok Known) = alone 13
 told_taken (Err fault) = told_fault fault
 
+-- whether a string was kept
+abbrev pub told_kept : Bool → Answer
+told_kept true = alone 0
+told_kept false = alone 14
+
 -- ---- strings that come and go
 
 -- `npss_node_accept`
@@ -62,3 +71,9 @@ pub record IsTakeAnswer (old new : HeldNode) (message : List ℕ) (a : Answer) :
   pub answers : AnswersTake (state_in old) message outcome
   pub leaves : LeavesTaken old new message outcome
   pub told : a ≡ told_taken outcome
+
+-- `npss_node_forget`
+pub record IsForgetAnswer (old new : HeldNode) (string : List ℕ) (a : Answer) : Type 0 where
+  pub outcome : Bool
+  pub leaves : Forgets old new string outcome
+  pub told : a ≡ told_kept outcome

@@ -1,7 +1,9 @@
 //! What handles hold.
-ghost use Rattle.std.specs.Prelude.{◌≡◌, IfOk};
+ghost use Rattle.std.specs.Prelude.{◌≡◌, Some, IfOk};
 ghost use Rattle.np_c.specs.declared.content.Content.TheVariants.{Table};
+ghost use Rattle.np_c.specs.Contents.{node_in};
 
+use crate::kept_node::KeptNode;
 use crate::shared::Shared;
 use np_code_points::Memory;
 use std::alloc::Global;
@@ -14,6 +16,8 @@ pub enum Content {
     Nothing,
     /// A table.
     Table(Shared),
+    /// A node, in a box of its own, so that a table is handed over by two words.
+    Node(Box<KeptNode>),
 }
 
 impl Content {
@@ -26,6 +30,18 @@ impl Content {
         ensures { IfOk result (λ b. b.value ≡ Table shared) }
     {
         Ok(Box::new(alloc, Content::Table(shared))?)
+    }
+
+    /// A node in a box.
+    ///
+    /// # Errors
+    ///
+    /// `Memory` where memory ran out.
+    pub fn of_node(alloc: Global, kept: KeptNode) -> Result<Box<Content>, Memory>
+        ensures { IfOk result (λ b. node_in (Some b.value) ≡ Some kept) }
+    {
+        let inner = Box::new(alloc, kept)?;
+        Ok(Box::new(alloc, Content::Node(inner))?)
     }
 }
 

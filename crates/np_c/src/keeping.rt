@@ -1,13 +1,17 @@
 //! Strings that come to a node of C, and go.
-ghost use Rattle.np_c.specs.Nodes.{told_fault, told_taken, IsAcceptAnswer, IsTakeAnswer};
 ghost use Rattle.std.specs.Prelude.{◌≡◌};
+ghost use Rattle.np_c.specs.Nodes.{told_fault, told_kept, told_taken, IsAcceptAnswer, IsForgetAnswer, IsTakeAnswer};
+ghost use Rattle.np_node.specs.Forgetting.{Forgets};
+ghost use Rattle.np_node.specs.Nodes.{state_of, IsNode};
 
 use crate::answers::{
     Answer, DONE, FULL, KEY_DIFFERS, KNOWN, MALFORMED, MEMORY, NOT_KEPT, NOT_UTF8, OLDER_TABLES,
     OTHER_FORM, TOO_LONG, UNASSIGNED,
 };
 use crate::kept_node::{KeptNode, no_entries};
+use crate::texts::whole_text;
 use np_node::{Node, NodeFault, Taken};
+use np_versions::NormTable;
 use std::alloc::Global;
 use std::mem;
 
@@ -76,4 +80,37 @@ pub fn take_in(alloc: Global, kept: &mut KeptNode, message: &[u8]) -> Answer
     let outcome = node.take(message);
     kept.entries = node.into_entries();
     of_taken(outcome)
+}
+
+/// The answer that tells whether a string was kept.
+fn of_kept(kept: bool) -> Answer
+    ensures { result ≡ told_kept kept }
+{
+    if kept {
+        Answer::of(DONE)
+    } else {
+        Answer::of(NOT_KEPT)
+    }
+}
+
+/// Forgets the string of bytes, where they are one. What isn't UTF-8 is never kept.
+fn forget_bytes<T: NormTable>(node: &mut Node<'_, T>, string: &[u8]) -> bool
+    requires { IsNode (state_of T.model node.old) }
+    ensures { Forgets node.old node.new string.now result }
+{
+    match whole_text(string) {
+        Some(text) => node.forget(text),
+        None => false,
+    }
+}
+
+/// Forgets a string.
+pub fn forget_in(alloc: Global, kept: &mut KeptNode, string: &[u8]) -> Answer
+    ensures { IsForgetAnswer kept.old kept.new string.now result }
+{
+    let entries = mem::replace(&mut kept.entries, no_entries(alloc, &*kept.shared.table));
+    let mut node = Node::of_entries(&*kept.shared.table, kept.form, kept.room, entries);
+    let gone = forget_bytes(&mut node, string);
+    kept.entries = node.into_entries();
+    of_kept(gone)
 }
