@@ -2,6 +2,8 @@ pub mod Answers
 pub mod Contents
 pub mod Files
 pub mod Lines
+pub mod NodeOpening
+pub mod NodeReading
 pub mod Nodes
 pub mod Texts
 pub mod Versions

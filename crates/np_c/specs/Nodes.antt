@@ -1,6 +1,6 @@
 -- How each call of a node ends. What the node answered is told by a status and what stands beside it, exactly: what a status has
 -- no use for is 0.
-use Rattle.std.specs.Prelude.{◌≡◌, ℕ, Bool, true, false, List, Option, Result, Ok, Err}
+use Rattle.std.specs.Prelude.{◌≡◌, ℕ, Bool, true, false, List, Option, Some, Result, Ok, Err}
 use Rattle.np_node.specs.Accepting.{AnswersKeep, LeavesKept}
 use Rattle.np_node.specs.Forgetting.{Forgets}
 use Rattle.np_node.specs.Nodes.{State, state_of}
@@ -77,3 +77,14 @@ pub record IsForgetAnswer (old new : HeldNode) (string : List ℕ) (a : Answer) 
   pub outcome : Bool
   pub leaves : Forgets old new string outcome
   pub told : a ≡ told_kept outcome
+
+-- ---- handles
+
+-- the handle holds a node with this property
+abbrev pub IsChanged : Handle → (HeldNode → Type 0) → Type 0
+IsChanged handle P = (new : HeldNode) × (node_of handle ≡ Some new) × P new
+
+-- the handle holds no node, and nothing changed
+pub record IsClosedNode (before after : Handle) (a : Answer) : Type 0 where
+  pub told : a ≡ alone 5
+  pub same : content_of after ≡ content_of before
