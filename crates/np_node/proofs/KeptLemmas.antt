@@ -1,5 +1,5 @@
 -- What holds of the strings and keys that a node keeps.
-use Rattle.std.proofs.Common.{◌≡◌, ℕ, ◌<◌, ◌∷◌, [], List, length, slice_get, Some, Contains, IsUtf8, sym, ap, subst, ◌∙◌, arith}
+use Rattle.std.proofs.Common.{◌≡◌, ℕ, ◌<◌, [], List, length, slice_get, Some, Contains, IsUtf8, sym, subst, ◌∙◌, arith}
 use Rattle.std.proofs.lemmas.List.{get_or-map, length-map}
 use Rattle.np_node.proofs.KeyLemmas.{fits-entry}
 use Rattle.np_node.proofs.NodeLemmas.{All-Contains, All-at}

@@ -6,6 +6,8 @@ pub mod ListLemmas
 pub mod MessageLemmas
 pub mod NodeLemmas
 pub mod KeptLemmas
+pub mod WritingLemmas
+pub mod ImageWriting
 pub mod ReadingLemmas
 pub mod MarkedReading
 pub mod HeadLemmas

@@ -1,7 +1,7 @@
 //! Strings that a host hands to its own node.
 
 use crate::faults::NodeFault;
-use crate::messages::message_of;
+use crate::lent_messages::LentMessage;
 use crate::nodes::Node;
 use crate::strings::{check_assigned, key_for, short_text};
 use crate::taking::Taken;
@@ -79,7 +79,7 @@ impl<'t, T: NormTable> Node<'t, T> {
         ensures node { LeavesAccepted T.model self.old self.new text.now result }
     {
         let key = self.new_key(text)?;
-        let message = message_of(self.kept.allocator(), self.form, text, key.as_str())?;
+        let message = LentMessage::new(self.form, text, key.as_str()).spell(self.kept.allocator())?;
         self.keep(text, key)?;
         Ok(Accepted::Kept(message))
     }
