@@ -16,6 +16,7 @@ mod lines;
 mod node_exports;
 mod node_opening;
 mod node_reading;
+mod node_writing;
 mod opening;
 mod room;
 mod shared;
