@@ -16,20 +16,25 @@ import shutil
 import subprocess
 import sys
 import tempfile
+import unicodedata
 from pathlib import Path
+from typing import NamedTuple
 
 # How often five bytes stand in a large text.
 LARGE = 8_000_000
 # Nothing is written into the tree but crates/*/out and out/c.
 sys.dont_write_bytecode = True
 
+import histories
 import ucd
 import versions
 from harness import ROOT, Tally, run
 
 HERE = ROOT / "tests" / "doors"
 V1, V2 = ([str(ROOT / "fixtures" / name) for name in version] for version in (versions.V1, versions.V2))
-CALLS = ("answers", "close", "count", "equivalent", "extends", "is_form", "key", "normalize", "open", "share")
+CALLS = ("answers", "close", "count", "equivalent", "extends", "is_form", "key", "node_accept", "node_close", "node_count",
+         "node_entry", "node_forget", "node_image", "node_key", "node_message", "node_new", "node_restore", "node_same",
+         "node_take", "node_upgrade", "node_version", "normalize", "open", "share")
 # The form's letter for C, and its name for the program.
 LETTERS = {"D": "nfd", "C": "nfc", "d": "nfkd", "c": "nfkc"}
 # The keys of the lines of the input, by Python: words are the form and the two files.
@@ -38,11 +43,19 @@ import sys, npss
 tables, texts = npss.Tables.open(*sys.argv[2:]), sys.stdin.read()[:-1].split("\\n")
 sys.stdout.writelines(key + "\\n" for key in tables.keys(texts, sys.argv[1]))
 """
+# The ages of the versions of a history, before the published one.
+AGES = ((5, 2), (9, 0), (13, 0), (14, 0))
 # How many keys the threads make together.
 KEYS = 10_000_000
 # No command is waited for longer, in seconds; but the proof of the library, from nothing on a slow machine.
 PATIENCE = 600
 BUILDING = 3600
+
+
+class Published(NamedTuple):
+    """What the published version assigns."""
+
+    assigned: set
 
 
 def wanted(*commands):
@@ -158,13 +171,35 @@ def check_python(tally, prefix, folder):
     if headers is None or not Path(headers.strip(), "Python.h").exists():
         print("skipped: the module for Python, since Python.h is not here")
         return None
-    build = [sys.executable, ROOT / "bindings" / "python" / "build.py", site, prefix]
+    build = [sys.executable, ROOT / "bindings" / "python" / "build.py", "--prefix", prefix, site]
     if done(tally, "the module for Python is built", build) is None:
         return None
     environment = {**os.environ, "PYTHONPATH": str(site)}
     counted(tally, "the module for Python", [sys.executable, ROOT / "bindings" / "python" / "test.py", *V1, *V2], env=environment)
     counted(tally, "accounts in a database", [sys.executable, ROOT / "examples" / "accounts.py", "--test", *V1, *V2], env=environment)
     return environment
+
+
+def check_histories(tally, program, folder, files, environment):
+    """A long history of the published versions, by the module's nodes and by the program: the same report."""
+    text = ucd.text_of(files, "DerivedAge.txt")
+    if text is None:
+        print("skipped: histories through Python's nodes: DerivedAge.txt is not there")
+        return
+    version, form = [str(files[ucd.DATA]), str(files[ucd.EXCLUSIONS])], "nfkc"
+    chain, assigned = [], []
+    for age in AGES:
+        names, kept = ucd.write_cut(files, age, folder)
+        chain += names
+        assigned.append(kept)
+    newest = {code for row in ucd.rows(ucd.text_of(files, ucd.DATA)) for code in row.codes()}
+    known = {code for code in newest if unicodedata.category(chr(code)) not in ("Cn", "Cs") and code != 0x0A}
+    schedule, _ = histories.draw_history(Published(newest), known, [*(newest & kept for kept in assigned), newest], form)
+    path = folder / "history"
+    path.write_text(schedule, encoding="ascii")
+    _, whole, _ = run(program, ["replay", "--form", form, path, *chain, *version])
+    _, made, error = run(sys.executable, [HERE / "histories.py", form, path, *chain, *version], env=environment)
+    tally.check("a history of 20,000 events by Python's nodes", made == whole and made.count(b"\n") > 20_000, error.decode()[-500:])
 
 
 def check_rust(tally, prefix, folder):
@@ -215,6 +250,8 @@ def check_published(tally, program, prefix, folder, environment):
     if environment:
         accounts = [sys.executable, ROOT / "examples" / "accounts.py", "--test", *version]
         counted(tally, "accounts under the published version", accounts, env=environment)
+        if program.exists():
+            check_histories(tally, program, folder, files, environment)
     if not strings or not program.exists():
         print("skipped: the strings of NormalizationTest.txt through the doors: no such file, or no program")
         return

@@ -12,7 +12,8 @@ import unittest
 from pathlib import Path
 
 import npss
-from npss import BadTables, Break, Tables, Unassigned
+from npss import (Accepted, BadEntry, BadTables, Break, Entry, Full, KeyDiffers, Malformed, Node, NotUtf8, OlderTables, OtherForm,
+                  Refused, Tables, TooLong, Unassigned)
 
 V1, V2 = sys.argv[1:3], sys.argv[3:5]
 MARKED = "a\u0302\u0323"
@@ -165,15 +166,197 @@ class Versions(unittest.TestCase):
         self.assertRaises(TypeError, first.extends, None)
 
 
+def field(content):
+    """A length and what it counts, as docs/FORMATS.md spells it."""
+    return len(content).to_bytes(4, "big") + content
+
+
+def message(form, string, key):
+    """The bytes of a message."""
+    return form + field(string.encode()) + field(key.encode())
+
+
+class Nodes(unittest.TestCase):
+    def setUp(self):
+        self.old, self.new = Tables.open(*V1), Tables.open(*V2)
+        self.node = Node(self.old, "nfc", 4)
+
+    def state(self, node=None):
+        return list(self.node if node is None else node)
+
+    def refused(self, kind, call, *given):
+        """A refusal changes nothing."""
+        before = self.state()
+        with self.assertRaises(kind) as caught:
+            call(*given)
+        self.assertIsInstance(caught.exception, Refused)
+        self.assertEqual(self.state(), before)
+        self.assertTrue(str(caught.exception))
+        return caught.exception
+
+    def test_a_node_begins_with_nothing(self):
+        node = Node(self.old)
+        self.assertEqual((len(node), node.form, node.room, node.tables, list(node)), (0, "nfc", 65536, self.old, []))
+        node = Node(tables=self.old, form="NFKD", room=0)
+        self.assertEqual((node.form, node.room), ("nfkd", 0))
+        self.assertRaises(Full, node.accept, "")
+        for wrong in (-1, 65537, 2 ** 70):
+            self.assertRaisesRegex(ValueError, "65536", Node, self.old, "nfc", wrong)
+        self.assertRaises(ValueError, Node, self.old, "nfx")
+        for words in ((None,), (self.old, 3), (self.old, "nfc", "4"), ()):
+            self.assertRaises(TypeError, Node, *words)
+
+    def test_strings_are_kept_beside_their_keys(self):
+        self.assertIs(self.node.accept("a\u0302"), Accepted.KEPT)
+        self.assertIs(self.node.accept(b"a\xcc\x82"), Accepted.KNOWN)
+        self.assertIs(self.node.accept("\u00e2"), Accepted.KEPT)
+        self.assertEqual(self.state(), [("a\u0302", "\u00e2"), ("\u00e2", "\u00e2")])
+        self.assertIsInstance(self.node[0], Entry)
+        self.assertEqual((self.node[0].string, self.node[-1].key), ("a\u0302", "\u00e2"))
+        self.assertEqual(self.node[0:9], self.state())
+        self.assertEqual(self.node[::-1], self.state()[::-1])
+        self.assertEqual(list(reversed(self.node)), self.state()[::-1])
+        for wrong in (2, -3, 2 ** 70):
+            self.assertRaises(IndexError, self.node.__getitem__, wrong)
+        self.assertRaises(TypeError, self.node.__getitem__, "a")
+        self.assertEqual(self.node.key("a\u0302"), "\u00e2")
+        self.assertIsNone(self.node.key("A"))
+        self.assertIsNone(self.node.key(b"\xff"))
+        self.assertIn("a\u0302", self.node)
+        self.assertIn(b"\xc3\xa2", self.node)
+        self.assertNotIn("A", self.node)
+        self.assertNotIn("A" * 70_000, self.node)
+        self.assertTrue(self.node.same("a\u0302", "\u00e2"))
+        self.assertIsNone(self.node.same("a\u0302", "A"))
+        self.node.accept("A")
+        self.assertFalse(self.node.same("A", b"\xc3\xa2"))
+        self.assertRaises(TypeError, self.node.same, "A")
+
+    def test_what_is_refused(self):
+        error = self.refused(Unassigned, self.node.accept, "\u1ead\U00016d67")
+        self.assertEqual((error.code, error.place, error.index), (0x16D67, 3, 1))
+        self.assertEqual(self.refused(NotUtf8, self.node.accept, b"A\xcc").place, 1)
+        self.refused(TooLong, self.node.accept, "A" * 65_537)
+        self.assertIs(self.node.accept("A" * 65_536), Accepted.KEPT)
+        for string in ("a", "i", "\u1ead"):
+            self.node.accept(string)
+        self.refused(Full, self.node.accept, "A")
+        self.assertIs(self.node.accept("a"), Accepted.KNOWN)
+        for call in (self.node.accept, self.node.key, self.node.message, self.node.forget, self.node.__contains__):
+            self.assertRaises(UnicodeEncodeError, call, "a\ud800")
+            self.assertRaises(TypeError, call, 3)
+
+    def test_messages(self):
+        self.assertIsNone(self.node.message("a\u0302"))
+        self.node.accept("a\u0302")
+        told = self.node.message("a\u0302")
+        self.assertEqual(told, message(b"C", "a\u0302", "\u00e2"))
+        away = Node(self.new, room=4)
+        self.assertIs(away.take(told), Accepted.KEPT)
+        self.assertIs(away.take(bytearray(told)), Accepted.KNOWN)
+        self.assertIs(away.take(memoryview(told)), Accepted.KNOWN)
+        self.assertEqual(self.state(away), self.state())
+        for wrong in ("text", [67], None):
+            self.assertRaises(TypeError, away.take, wrong)
+
+    def test_messages_that_are_refused(self):
+        good = message(b"C", "a\u0302", "\u00e2")
+        self.refused(KeyDiffers, self.node.take, message(b"C", "a\u0302", "a\u0302"))
+        self.refused(OtherForm, self.node.take, b"D" + good[1:])
+        self.assertEqual(self.refused(Malformed, self.node.take, good + b"\0").place, len(good))
+        self.assertEqual(self.refused(Malformed, self.node.take, b"").place, 0)
+        self.assertEqual(self.refused(Malformed, self.node.take, bytes(1000)).place, 0)
+        for end in range(1, len(good)):
+            self.refused(Malformed, self.node.take, good[:end])
+        error = self.refused(Unassigned, self.node.take, message(b"C", "\u1ead\U00016d67", ""))
+        self.assertEqual((error.code, error.place, error.index), (0x16D67, 3, 1))
+        self.assertEqual(self.refused(NotUtf8, self.node.take, b"C" + field(b"A\xff") + field(b"")).place, 1)
+        self.refused(TooLong, self.node.take, message(b"C", "A" * 65_537, ""))
+        self.assertEqual(self.node.take(good), Accepted.KEPT)
+
+    def test_forgetting(self):
+        for string in ("A", "a", "i"):
+            self.node.accept(string)
+        self.assertTrue(self.node.forget("a"))
+        self.assertFalse(self.node.forget("a"))
+        self.assertEqual([entry.string for entry in self.node], ["A", "i"])
+        self.node.accept("a")
+        self.assertEqual([entry.string for entry in self.node], ["A", "i", "a"])
+
+    def image(self, *entries, form=b"C", needs=17660):
+        """An image of the second layout."""
+        told = b"".join(field(string.encode()) + (b"\0" if string == key else b"\1" + field(key.encode())) for string, key in entries)
+        return b"NPS2" + form + needs.to_bytes(4, "big") + len(entries).to_bytes(4, "big") + told
+
+    def test_images(self):
+        self.node.accept("a\u0302")
+        self.node.accept("\u00e2")
+        saved = self.node.image()
+        self.assertEqual(saved, self.image(("a\u0302", "\u00e2"), ("\u00e2", "\u00e2")))
+        for tables in (self.old, self.new):
+            again = Node.restore(tables, saved, room=2)
+            self.assertEqual((self.state(again), again.room), (self.state(), 2))
+        first = b"NPS1C" + (1).to_bytes(4, "big") + field("a\u0302".encode()) + field("\u00e2".encode())
+        self.assertEqual(self.state(Node.restore(tables=self.old, image=bytearray(first), form="nfc", room=1)), [("a\u0302", "\u00e2")])
+
+    def test_images_that_are_refused(self):
+        good = ("a\u0302", "\u00e2")
+        self.assertEqual(self.refused(Malformed, Node.restore, self.old, b"NPS3").place, 0)
+        self.assertEqual(self.refused(Malformed, Node.restore, self.old, b"NPS2C" + bytes(4) + (65_536).to_bytes(4, "big")[:3]).place, 9)
+        self.refused(Malformed, Node.restore, self.old, b"NPS1C" + (65_536).to_bytes(4, "big") + bytes(3))
+        self.refused(OtherForm, Node.restore, self.old, self.image(form=b"D"))
+        self.refused(Full, Node.restore, self.old, self.image(good, ("A", "A")), "nfc", 1)
+        error = self.refused(OlderTables, Node.restore, self.old, self.image(good, needs=17666))
+        self.assertEqual((error.needs, error.has), (17666, 17660))
+        error = self.refused(BadEntry, Node.restore, self.old, self.image(good, ("A", "a")))
+        self.assertEqual((error.index, type(error.cause)), (1, KeyDiffers))
+        error = self.refused(BadEntry, Node.restore, self.old, self.image(good, ("\u1ead\U00016d67", "A"), good))
+        self.assertEqual((error.index, error.cause.code, error.cause.place, error.cause.index), (1, 0x16D67, 3, 1))
+        error = self.refused(BadEntry, Node.restore, self.old, self.image(good, good))
+        self.assertEqual((error.index, type(error.cause), error.cause.place), (1, Malformed, 13 + 14))
+        self.assertRaises(TypeError, Node.restore, self.old, "image")
+
+    def test_upgrades(self):
+        self.node.accept("a\u0302")
+        self.assertIsNone(self.node.upgrade(self.new))
+        self.assertIs(self.node.tables, self.new)
+        self.assertEqual(self.node.accept("\u1dfa"), Accepted.KEPT)
+        before = self.state()
+        self.assertEqual(self.node.upgrade(self.old), ("Lost", 0x1DFA))
+        self.assertIs(self.node.tables, self.new)
+        self.assertEqual(self.state(), before)
+        self.assertRaises(TypeError, self.node.upgrade, None)
+
+    def test_a_node_outlives_its_tables(self):
+        node = Node(Tables.open(*V1))
+        node.accept(MARKED)
+        node.upgrade(self.new)
+        self.assertEqual(node.key(MARKED), "\u1ead")
+
+    def test_what_is_shown_holds_no_string(self):
+        self.node.accept("A")
+        self.assertEqual(repr(self.node), "<npss.Node: 1 strings, form 'nfc', room 4>")
+
+    def test_many_entries(self):
+        node = Node(self.old)
+        strings = [MARKED * count for count in range(1, 2_000)]
+        for string in strings:
+            node.accept(string)
+        self.assertEqual([entry.string for entry in node], strings)
+        self.assertEqual(node.key(strings[-1]), "\u1ead" * 1_999)
+        self.assertEqual(self.state(Node.restore(self.old, node.image())), self.state(node))
+
+
 class Pages(unittest.TestCase):
     def test_each_call_has_a_page(self):
         page = pydoc.render_doc(npss, renderer=pydoc.plaintext)
-        for word in ("key(self, /, text, form='nfc')", "open(data, exclusions)", "stabilized string", "class Unassigned"):
+        for word in ("accept(self, string, /)", "key(self, /, text, form='nfc')", "open(data, exclusions)", "stabilized string", "class Unassigned"):
             self.assertIn(word, page)
-        stub = Path(npss.__file__).with_suffix(".pyi").read_text(encoding="utf-8")
-        for name in (name for name in dir(Tables) if not name.startswith("_")):
-            self.assertTrue(getattr(Tables, name).__doc__)
-            self.assertIn(f"def {name}(", stub)
+        stub = Path(npss.__file__).with_name("_npss.pyi").read_text(encoding="utf-8")
+        for kind in (Tables, Node):
+            for name in (name for name in dir(kind) if not name.startswith("_")):
+                self.assertTrue(getattr(kind, name).__doc__)
+                self.assertIn(f"def {name}(", stub)
         self.assertEqual(Break.__doc__.split()[0], "What")
 
 

@@ -9,10 +9,23 @@ A key is a stabilized string (UAX #15, section 12): the normal form of a text, a
 the version assigns. It stays the same under each later version. The work is done by a proved library;
 this module, which hands the texts over, is tested.
 
-One Tables serves all threads. Long texts are worked on without the interpreter's lock.
+A Node keeps strings beside their keys, tells them to other nodes by messages, and survives upgrades and restarts.
+
+    >>> from npss import Accepted, Node
+    >>> home, away = Node(tables), Node(tables)
+    >>> if home.accept("Zo\u00eb") is Accepted.KEPT:
+    ...     away.take(home.message("Zo\u00eb"))
+    <Accepted.KEPT: 'kept'>
+
+One Tables serves all threads. Long texts are worked on without the interpreter's lock. What is refused is told by an
+exception under Refused, and changes nothing.
 """
 
-from npss._errors import BadTables, Unassigned
-from npss._npss import Break, Tables
+from npss._accepted import Accepted
+from npss._errors import (BadEntry, BadTables, Full, KeyDiffers, Malformed, NotUtf8, OlderTables, OtherForm, Refused,
+                          TooLong, Unassigned)
+from npss._npss import Break, Entry, Node, Tables
 
-__all__ = ["BadTables", "Break", "Tables", "Unassigned"]
+__all__ = ["Accepted", "BadEntry", "BadTables", "Break", "Entry", "Full", "KeyDiffers", "Malformed", "Node", "NotUtf8",
+           "OlderTables", "OtherForm", "Refused", "Tables", "TooLong", "Unassigned"]
+__version__ = "0.1.0"

@@ -1,36 +1,23 @@
-import os
-from typing import Iterable, Literal, NamedTuple, Optional, Union
+from typing import Iterable, Iterator, Literal, NamedTuple, Optional, Union, overload
+from typing import final
 
-Form = Literal["nfc", "nfd", "nfkc", "nfkd", "NFC", "NFD", "NFKC", "NFKD"]
-File = Union[str, "os.PathLike[str]", bytes, bytearray, memoryview]
+from npss._accepted import Accepted as Accepted
+from npss._errors import BadEntry as BadEntry
+from npss._errors import BadTables as BadTables
+from npss._errors import Full as Full
+from npss._errors import KeyDiffers as KeyDiffers
+from npss._errors import Malformed as Malformed
+from npss._errors import NotUtf8 as NotUtf8
+from npss._errors import OlderTables as OlderTables
+from npss._errors import OtherForm as OtherForm
+from npss._errors import Refused as Refused
+from npss._errors import TooLong as TooLong
+from npss._errors import Unassigned as Unassigned
+from npss._npss import Break as Break
+from npss._npss import Entry as Entry
+from npss._npss import Node as Node
+from npss._npss import Tables as Tables
 
-class Unassigned(ValueError):
-    code: int
-    place: int
-    index: int
-    def __init__(self, code: int, place: int, index: int) -> None: ...
-
-class BadTables(ValueError):
-    file: Literal["data", "exclusions", "tables"]
-    line: Optional[int]
-    name: str
-    code: Optional[int]
-    def __init__(self, file: str, line: Optional[int], name: str, code: Optional[int] = None) -> None: ...
-
-class Break(NamedTuple):
-    kind: Literal["Lost", "ClassChanged", "MappingChanged", "NowExcluded", "NowIncluded", "NewComposite"]
-    code: int
-
-class Tables:
-    @classmethod
-    def open(cls, data: File, exclusions: File) -> Tables: ...
-    @property
-    def count(self) -> int: ...
-    def key(self, text: str, form: Form = "nfc") -> str: ...
-    def keys(self, texts: Iterable[str], form: Form = "nfc") -> list[str]: ...
-    def answers(self, lines: Union[bytes, bytearray, memoryview], form: Form = "nfc", end: Literal[b"\n", b"\0"] = b"\n") -> bytes: ...
-    def normalize(self, text: str, form: Form = "nfc") -> str: ...
-    def is_normalized(self, text: str, form: Form = "nfc") -> bool: ...
-    def equivalent(self, left: str, right: str, compatible: bool = False) -> bool: ...
-    def extends(self, older: Tables) -> bool: ...
-    def first_break(self, older: Tables) -> Optional[Break]: ...
+__all__ = ["Accepted", "BadEntry", "BadTables", "Break", "Entry", "Full", "KeyDiffers", "Malformed", "Node", "NotUtf8",
+           "OlderTables", "OtherForm", "Refused", "Tables", "TooLong", "Unassigned"]
+__version__: str

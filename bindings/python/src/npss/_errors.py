@@ -1,15 +1,25 @@
 """What npss raises."""
 
-__all__ = ["BadTables", "Unassigned"]
+from typing import Optional
+
+__all__ = ["BadEntry", "BadTables", "Full", "KeyDiffers", "Malformed", "NotUtf8", "OlderTables", "OtherForm", "Refused",
+           "TooLong", "Unassigned"]
 
 
-class Unassigned(ValueError):
+class Refused(ValueError):
+    """A text has no key, or a node does not take what it was given. What was asked is as it was before."""
+
+
+class Unassigned(Refused):
     """A text has a code point that the version does not assign, so it has no key.
 
-    code:  the first such code point, a number
-    place: where it stands, in bytes of UTF-8, from 0
-    index: where it stands, in characters of the str, from 0
+    code:   the first such code point, a number
+    place:  where it stands, in bytes of UTF-8, from 0
+    index:  where it stands, in characters of the str, from 0
+    number: of Tables.keys, which of the texts it is, from 0; else None
     """
+
+    number: Optional[int] = None
 
     def __init__(self, code: int, place: int, index: int):
         super().__init__(code, place, index)
@@ -21,6 +31,94 @@ class Unassigned(ValueError):
         return f"{self.code:04X} at character {self.index} (byte {self.place}) is not assigned"
 
 
+class TooLong(Refused):
+    """A string has more than 65,536 bytes of UTF-8."""
+
+    def __str__(self) -> str:
+        return "the string has more than 65,536 bytes"
+
+
+class NotUtf8(Refused):
+    """A string that came as bytes is not UTF-8.
+
+    place: how many bytes its longest front has that is
+    """
+
+    def __init__(self, place: int):
+        super().__init__(place)
+        self.place = place
+
+    def __str__(self) -> str:
+        return f"the string is not UTF-8 at byte {self.place}"
+
+
+class Full(Refused):
+    """A node keeps as many strings as its room."""
+
+    def __str__(self) -> str:
+        return "the node has no room for one more string"
+
+
+class Malformed(Refused):
+    """Bytes are no message, or no image.
+
+    place: the byte, from 0, of the first field that isn't whole or isn't allowed, or the first byte left over
+    """
+
+    def __init__(self, place: int):
+        super().__init__(place)
+        self.place = place
+
+    def __str__(self) -> str:
+        return f"malformed at byte {self.place}"
+
+
+class OtherForm(Refused):
+    """A message or an image is of another form than the node."""
+
+    def __str__(self) -> str:
+        return "it is of another form than the node"
+
+
+class KeyDiffers(Refused):
+    """The key that came with a string is not the string's key."""
+
+    def __str__(self) -> str:
+        return "the key is not that of the string"
+
+
+class OlderTables(Refused):
+    """An image was saved under a later version than that of the tables.
+
+    needs: how many code points that version assigns
+    has:   how many the tables assign
+    """
+
+    def __init__(self, needs: int, has: int):
+        super().__init__(needs, has)
+        self.needs = needs
+        self.has = has
+
+    def __str__(self) -> str:
+        return f"the image needs tables of {self.needs} code points, these have {self.has}"
+
+
+class BadEntry(Refused):
+    """An entry of an image is refused.
+
+    index: the entry's number, from 0
+    cause: why, as another Refused
+    """
+
+    def __init__(self, index: int, cause: Refused):
+        super().__init__(index, cause)
+        self.index = index
+        self.cause = cause
+
+    def __str__(self) -> str:
+        return f"entry {self.index} of the image: {self.cause}"
+
+
 class BadTables(ValueError):
     """Two files make no version.
 
@@ -30,7 +128,7 @@ class BadTables(ValueError):
     code: the code point of a fault of tables, else None
     """
 
-    def __init__(self, file: str, line: "int | None", name: str, code: "int | None" = None):
+    def __init__(self, file: str, line: Optional[int], name: str, code: Optional[int] = None):
         super().__init__(file, line, name, code)
         self.file = file
         self.line = line

@@ -1,18 +1,10 @@
-/* The C half of the Python module `npss`: it hands texts to the proved library and answers back.
- * It stands on CPython's stable ABI, from version 3.10 on. */
+/* Tables: keys, normal forms and questions under one version. */
 #include "arguments.h"
-#include "refusals.h"
 
-/* Texts of more bytes are worked on without the interpreter's lock. */
-#define LONG_TEXT 4096
-/* The room on the stack for what is made of others. */
-#define SMALL_ROOM 6144
-
-typedef struct tables {
-    PyObject_HEAD npss_handle handle;
-} tables;
-
-static PyTypeObject *tables_type, *break_type;
+/* After so many texts of a list Python is asked whether a signal came. */
+#define TEXTS 1024
+/* Lines are answered in pieces of so many bytes, and Python is asked after each. */
+#define PIECE (1 << 20)
 
 /* A call that writes into a room, and what it is asked for. */
 typedef struct maker {
@@ -60,7 +52,7 @@ static uint8_t *make_long(tables *self, const maker *maker, bytes b, size_t size
     npss_close(&own);
     if (a->status == NPSS_DONE) return room;
     PyMem_Free(room);
-    refuse(*a, b.at);
+    refuse(self->state, *a, b.at);
     return NULL;
 }
 
@@ -74,7 +66,7 @@ static PyObject *make(tables *self, const maker *maker, PyObject *text) {
     if (b.length <= LONG_TEXT) {
         a = call(maker, &self->handle, b, small, sizeof small);
         if (a.status == NPSS_DONE) return str_of(text, b, small, a.length);
-        if (a.status != NPSS_NO_ROOM) return refuse(a, b.at);
+        if (a.status != NPSS_NO_ROOM) return refuse(self->state, a, b.at);
     }
     if (!(room = make_long(self, maker, b, (size_t)b.length + (size_t)b.length / 2, &a))) return NULL;
     made = str_of(text, b, room, a.length);
@@ -87,28 +79,47 @@ static const char *const text_names[] = {"text", "form", NULL};
 static PyObject *tables_key(PyObject *self, PyObject *const *given, Py_ssize_t count, PyObject *words) {
     maker key = {KEY, {0, 0}};
     PyObject *taken[2];
-    if (take(given, count, words, text_names, 1, taken) || form_of(taken[1], &key.asked.form)) return NULL;
+    if (take(given, count, words, text_names, 1, taken) || form_of(((tables *)self)->state, taken[1], &key.asked.form)) return NULL;
     return make((tables *)self, &key, taken[0]);
 }
 
 static PyObject *tables_normalize(PyObject *self, PyObject *const *given, Py_ssize_t count, PyObject *words) {
     maker form = {FORM, {0, 0}};
     PyObject *taken[2];
-    if (take(given, count, words, text_names, 1, taken) || form_of(taken[1], &form.asked.form)) return NULL;
+    if (take(given, count, words, text_names, 1, taken) || form_of(((tables *)self)->state, taken[1], &form.asked.form)) return NULL;
     return make((tables *)self, &form, taken[0]);
 }
 
-static PyObject *tables_keys(PyObject *self, PyObject *const *given, Py_ssize_t count, PyObject *words) {
+/* Tells in an Unassigned which of several texts it is of, from 0. */
+static void add_number(const module_state *state, Py_ssize_t number) {
+    PyObject *class, *error, *trace, *told;
+    if (!PyErr_ExceptionMatches(state->of[UNASSIGNED])) return;
+    PyErr_Fetch(&class, &error, &trace);
+    PyErr_NormalizeException(&class, &error, &trace);
+    if ((told = PyLong_FromSsize_t(number)) && !PyObject_SetAttrString(error, "number", told)) {
+        PyErr_Restore(class, error, trace);
+    } else {
+        Py_XDECREF(class);
+        Py_XDECREF(error);
+        Py_XDECREF(trace);
+    }
+    Py_XDECREF(told);
+}
+
+static PyObject *tables_keys(PyObject *of, PyObject *const *given, Py_ssize_t count, PyObject *words) {
     static const char *const names[] = {"texts", "form", NULL};
+    tables *self = (tables *)of;
     maker key = {KEY, {0, 0}};
     PyObject *taken[2], *iterator, *text, *keys;
-    if (take(given, count, words, names, 1, taken) || form_of(taken[1], &key.asked.form)) return NULL;
+    Py_ssize_t number = 0;
+    if (take(given, count, words, names, 1, taken) || form_of(self->state, taken[1], &key.asked.form)) return NULL;
     if (!(iterator = PyObject_GetIter(taken[0]))) return NULL;
     keys = PyList_New(0);
     while (keys && (text = PyIter_Next(iterator))) {
-        PyObject *made = make((tables *)self, &key, text);
+        PyObject *made = make(self, &key, text);
         Py_DECREF(text);
-        if (!made || PyList_Append(keys, made)) Py_CLEAR(keys);
+        if (!made) add_number(self->state, number);
+        if (!made || PyList_Append(keys, made) || (++number % TEXTS == 0 && PyErr_CheckSignals())) Py_CLEAR(keys);
         Py_XDECREF(made);
     }
     Py_DECREF(iterator);
@@ -129,53 +140,112 @@ static int end_of(PyObject *given, uint8_t *end) {
     return -1;
 }
 
-static PyObject *tables_answers(PyObject *self, PyObject *const *given, Py_ssize_t count, PyObject *words) {
-    static const char *const names[] = {"lines", "form", "end", NULL};
-    maker answers = {ANSWERS, {0, 0}};
-    PyObject *taken[3], *lines, *made = NULL;
+/* What is made of lines, as it grows. */
+typedef struct answers {
     uint8_t *room;
+    size_t used, size;
+    int refused;
+} answers;
+
+/* Appends the answers to some whole lines. Worked on without the interpreter's lock. */
+static npss_answer append(answers *made, const maker *maker, npss_handle *own, bytes lines) {
     npss_answer a;
-    bytes b;
-    if (take(given, count, words, names, 1, taken) || form_of(taken[1], &answers.asked.form) ||
-        end_of(taken[2], &answers.asked.end) || !(lines = PyBytes_FromObject(taken[0])))
+    for (;;) {
+        uint8_t *larger;
+        Py_BEGIN_ALLOW_THREADS
+        a = call(maker, own, lines, made->room + made->used, made->size - made->used);
+        Py_END_ALLOW_THREADS
+        if (a.status != NPSS_NO_ROOM) break;
+        /* By half as much more, so that it is not copied at each piece. */
+        made->size = made->used + (size_t)a.length + made->size / 2;
+        if (!(larger = PyMem_Realloc(made->room, made->size))) {
+            a.status = NPSS_MEMORY;
+            break;
+        }
+        made->room = larger;
+    }
+    if (a.status == NPSS_DONE) {
+        made->used += (size_t)a.length;
+        made->refused |= a.fault != 0;
+    }
+    return a;
+}
+
+/* How many bytes the first lines have, some PIECE of them, or all that are left. */
+static Py_ssize_t first_lines(bytes left, uint8_t end) {
+    const uint8_t *found;
+    if (left.length <= PIECE) return left.length;
+    found = memchr(left.at + PIECE, end, (size_t)(left.length - PIECE));
+    return found ? found - left.at + 1 : left.length;
+}
+
+/* Answers lines piece by piece; -1 where an error was raised. */
+static int answer_pieces(tables *self, const maker *maker, bytes left, answers *made) {
+    npss_handle own = {0, NULL};
+    npss_answer a = npss_share(&self->handle, &own);
+    int signalled = 0;
+    made->size = (size_t)(left.length < PIECE ? left.length : PIECE) * 3 / 2 + 64;
+    if (a.status == NPSS_DONE && !(made->room = PyMem_Malloc(made->size))) a.status = NPSS_MEMORY;
+    while (a.status == NPSS_DONE && left.length > 0 && !(signalled = PyErr_CheckSignals())) {
+        bytes lines = {left.at, first_lines(left, maker->asked.end), NULL};
+        a = append(made, maker, &own, lines);
+        left.at += lines.length;
+        left.length -= lines.length;
+    }
+    npss_close(&own);
+    if (a.status != NPSS_DONE) refuse(self->state, a, NULL);
+    return signalled || a.status != NPSS_DONE ? -1 : 0;
+}
+
+static PyObject *tables_answers(PyObject *of, PyObject *const *given, Py_ssize_t count, PyObject *words) {
+    static const char *const names[] = {"lines", "form", "end", NULL};
+    tables *self = (tables *)of;
+    maker maker = {ANSWERS, {0, 0}};
+    answers made = {NULL, 0, 0, 0};
+    PyObject *taken[3], *told = NULL;
+    bytes lines;
+    if (take(given, count, words, names, 1, taken) || form_of(self->state, taken[1], &maker.asked.form) ||
+        end_of(taken[2], &maker.asked.end) || data_of(taken[0], &lines))
         return NULL;
-    b.at = (const uint8_t *)PyBytes_AsString(lines);
-    b.length = PyBytes_Size(lines);
-    if ((room = make_long((tables *)self, &answers, b, (size_t)b.length + (size_t)b.length / 2, &a)))
-        made = PyBytes_FromStringAndSize((const char *)room, (Py_ssize_t)a.length);
-    PyMem_Free(room);
-    Py_DECREF(lines);
-    return made;
+    if (!answer_pieces(self, &maker, lines, &made))
+        told = PyBytes_FromStringAndSize((const char *)made.room, (Py_ssize_t)made.used);
+    PyMem_Free(made.room);
+    let_go(&lines);
+    return told;
 }
 
 /* The answer to a question; -1 where an error was raised. */
-static int told(npss_answer a) {
+static int told(const module_state *state, npss_answer a) {
     if (a.status == NPSS_DONE || a.status == NPSS_DIFFERENT) return a.status == NPSS_DONE;
-    refuse(a, NULL);
+    refuse(state, a, NULL);
     return -1;
 }
 
 static PyObject *tables_is_normalized(PyObject *of, PyObject *const *given, Py_ssize_t count, PyObject *words) {
+    tables *self = (tables *)of;
     npss_handle own = {0, NULL};
     PyObject *taken[2];
     npss_answer a;
     uint8_t form;
     bytes b;
     int yes;
-    if (take(given, count, words, text_names, 1, taken) || form_of(taken[1], &form) || text_of(taken[0], &b))
+    if (take(given, count, words, text_names, 1, taken) || form_of(self->state, taken[1], &form) ||
+        text_of(taken[0], &b))
         return NULL;
     if (b.length <= LONG_TEXT) {
-        a = npss_is_form(&((tables *)of)->handle, form, b.at, (size_t)b.length);
-    } else if ((a = npss_share(&((tables *)of)->handle, &own)).status == NPSS_DONE) {
-        Py_BEGIN_ALLOW_THREADS a = npss_is_form(&own, form, b.at, (size_t)b.length);
+        a = npss_is_form(&self->handle, form, b.at, (size_t)b.length);
+    } else if ((a = npss_share(&self->handle, &own)).status == NPSS_DONE) {
+        Py_BEGIN_ALLOW_THREADS
+        a = npss_is_form(&own, form, b.at, (size_t)b.length);
         npss_close(&own);
         Py_END_ALLOW_THREADS
     }
-    return (yes = told(a)) < 0 ? NULL : PyBool_FromLong(yes);
+    return (yes = told(self->state, a)) < 0 ? NULL : PyBool_FromLong(yes);
 }
 
 static PyObject *tables_equivalent(PyObject *of, PyObject *const *given, Py_ssize_t count, PyObject *words) {
     static const char *const names[] = {"left", "right", "compatible", NULL};
+    tables *self = (tables *)of;
     npss_handle own = {0, NULL};
     PyObject *taken[3];
     npss_answer a;
@@ -185,29 +255,30 @@ static PyObject *tables_equivalent(PyObject *of, PyObject *const *given, Py_ssiz
         return NULL;
     if (taken[2] && (compatible = PyObject_IsTrue(taken[2])) < 0) return NULL;
     if (left.length + right.length <= LONG_TEXT) {
-        a = npss_equivalent(&((tables *)of)->handle, compatible != 0, left.at, (size_t)left.length, right.at,
+        a = npss_equivalent(&self->handle, compatible != 0, left.at, (size_t)left.length, right.at,
                             (size_t)right.length);
-    } else if ((a = npss_share(&((tables *)of)->handle, &own)).status == NPSS_DONE) {
-        Py_BEGIN_ALLOW_THREADS a =
-            npss_equivalent(&own, compatible != 0, left.at, (size_t)left.length, right.at, (size_t)right.length);
+    } else if ((a = npss_share(&self->handle, &own)).status == NPSS_DONE) {
+        Py_BEGIN_ALLOW_THREADS
+        a = npss_equivalent(&own, compatible != 0, left.at, (size_t)left.length, right.at, (size_t)right.length);
         npss_close(&own);
         Py_END_ALLOW_THREADS
     }
-    return (yes = told(a)) < 0 ? NULL : PyBool_FromLong(yes);
+    return (yes = told(self->state, a)) < 0 ? NULL : PyBool_FromLong(yes);
 }
 
 /* Whether this version extends an older one; both handles are used under the interpreter's lock. */
-static int extension(PyObject *self, PyObject *older, npss_answer *a) {
-    if (!PyObject_TypeCheck(older, tables_type)) {
+static int extension(PyObject *of, PyObject *older, npss_answer *a) {
+    tables *self = (tables *)of;
+    if (!PyObject_TypeCheck(older, (PyTypeObject *)self->state->of[TABLES_TYPE])) {
         PyErr_Format(PyExc_TypeError, "a Tables is wanted, not %R", (PyObject *)Py_TYPE(older));
         return -1;
     }
-    if (self == older) {
+    if (of == older) {
         memset(a, 0, sizeof *a);
     } else {
-        *a = npss_extends(&((tables *)older)->handle, &((tables *)self)->handle);
+        *a = npss_extends(&((tables *)older)->handle, &self->handle);
     }
-    return told(*a);
+    return told(self->state, *a);
 }
 
 static PyObject *tables_extends(PyObject *self, PyObject *older) {
@@ -217,20 +288,11 @@ static PyObject *tables_extends(PyObject *self, PyObject *older) {
 }
 
 static PyObject *tables_first_break(PyObject *self, PyObject *older) {
-    static const char *const kinds[] = {
-        "", "Lost", "ClassChanged", "MappingChanged", "NowExcluded", "NowIncluded", "NewComposite"};
-    PyObject *found, *kind, *code;
     npss_answer a;
     int yes = extension(self, older, &a);
     if (yes < 0) return NULL;
     if (yes) Py_RETURN_NONE;
-    if (!(found = PyStructSequence_New(break_type))) return NULL;
-    kind = PyUnicode_FromString(kinds[a.fault]);
-    code = PyLong_FromUnsignedLong(a.code);
-    PyStructSequence_SetItem(found, 0, kind);
-    PyStructSequence_SetItem(found, 1, code);
-    if (!kind || !code) Py_CLEAR(found);
-    return found;
+    return break_of(((tables *)self)->state, a);
 }
 
 static PyObject *tables_count(PyObject *self, void *unused) {
@@ -238,51 +300,40 @@ static PyObject *tables_count(PyObject *self, void *unused) {
     return PyLong_FromUnsignedLongLong(npss_count(&((tables *)self)->handle).length);
 }
 
-/* The bytes of a file: those of a path, or bytes themselves. */
-static PyObject *contents(PyObject *file) {
-    PyObject *path, *io, *stream, *found = NULL;
-    if (!PyUnicode_Check(file) && !PyObject_HasAttrString(file, "__fspath__")) return PyBytes_FromObject(file);
-    if (!(path = PyOS_FSPath(file))) return NULL;
-    io = PyImport_ImportModule("io");
-    stream = io ? PyObject_CallMethod(io, "open", "Os", path, "rb") : NULL;
-    if (stream) {
-        PyObject *closed;
-        found = PyObject_CallMethod(stream, "read", NULL);
-        closed = PyObject_CallMethod(stream, "close", NULL);
-        if (!closed) Py_CLEAR(found);
-        Py_XDECREF(closed);
-    }
-    Py_XDECREF(stream);
-    Py_XDECREF(io);
-    Py_DECREF(path);
-    return found;
-}
-
 static PyObject *tables_open(PyObject *class, PyObject *const *given, Py_ssize_t count, PyObject *words) {
     static const char *const names[] = {"data", "exclusions", NULL};
-    PyObject *taken[2], *data, *exclusions;
-    char *d, *e;
-    Py_ssize_t dl, el;
+    const module_state *state = PyType_GetModuleState((PyTypeObject *)class);
+    allocfunc alloc = (allocfunc)PyType_GetSlot((PyTypeObject *)class, Py_tp_alloc);
+    PyObject *taken[2], *data, *exclusions = NULL;
+    bytes d = {NULL, 0, NULL}, e = {NULL, 0, NULL};
     tables *made = NULL;
     npss_answer a;
     if (take(given, count, words, names, 2, taken)) return NULL;
-    if (!(data = contents(taken[0]))) return NULL;
-    if ((exclusions = contents(taken[1])) && !PyBytes_AsStringAndSize(data, &d, &dl) &&
-        !PyBytes_AsStringAndSize(exclusions, &e, &el)) {
-        allocfunc alloc = (allocfunc)PyType_GetSlot((PyTypeObject *)class, Py_tp_alloc);
-        made = (tables *)alloc((PyTypeObject *)class, 0); /* zeros: closed */
-        if (made) {
-            Py_BEGIN_ALLOW_THREADS a =
-                npss_open(&made->handle, (const uint8_t *)d, (size_t)dl, (const uint8_t *)e, (size_t)el);
-            Py_END_ALLOW_THREADS if (a.status != NPSS_DONE) {
-                refuse(a, NULL);
-                Py_CLEAR(made);
-            }
+    data = PyObject_CallFunctionObjArgs(state->of[CONTENTS], taken[0], NULL);
+    if (data) exclusions = PyObject_CallFunctionObjArgs(state->of[CONTENTS], taken[1], NULL);
+    if (exclusions && !data_of(data, &d) && !data_of(exclusions, &e) &&
+        (made = (tables *)alloc((PyTypeObject *)class, 0))) { /* zeros: closed */
+        made->state = state;
+        Py_BEGIN_ALLOW_THREADS
+        a = npss_open(&made->handle, d.at, (size_t)d.length, e.at, (size_t)e.length);
+        Py_END_ALLOW_THREADS
+        if (a.status != NPSS_DONE) {
+            refuse(state, a, NULL);
+            Py_CLEAR(made);
         }
     }
-    Py_DECREF(data);
+    let_go(&d);
+    let_go(&e);
+    Py_XDECREF(data);
     Py_XDECREF(exclusions);
     return (PyObject *)made;
+}
+
+/* A handle is this process's own. Without this, protocols 0 and 1 would pickle what can't be read back. */
+static PyObject *tables_reduce(PyObject *self, PyObject *unused) {
+    (void)self, (void)unused;
+    return PyErr_Format(PyExc_TypeError,
+                        "a Tables isn't pickled: hand over the names of its two files, and call Tables.open there");
 }
 
 static void tables_dealloc(PyObject *self) {
@@ -305,7 +356,7 @@ static PyMethodDef methods[] = {
      "and UnicodeEncodeError at a lone surrogate."},
     {"keys", FAST(tables_keys),
      "keys($self, /, texts, form='nfc')\n--\n\nThe keys of several texts, a list. Raises as key does, at the first "
-     "text that has none."},
+     "text that has none;\nUnassigned tells in `number` which, from 0."},
     {"answers", FAST(tables_answers),
      "answers($self, /, lines, form='nfc', end=b'\\n')\n--\n\nThe answers to the lines of some bytes, which are told as "
      "bytes.\n\nThe end is b'\\n' or b'\\0'. The answer to a line is '=' and its key, or '!' and why it has none, and "
@@ -318,6 +369,7 @@ static PyMethodDef methods[] = {
     {"equivalent", FAST(tables_equivalent),
      "equivalent($self, /, left, right, compatible=False)\n--\n\nWhether two texts are canonical equivalents, or "
      "compatible ones where `compatible`."},
+    {"__reduce__", tables_reduce, METH_NOARGS, "Raises TypeError: a Tables isn't pickled."},
     {"extends", tables_extends, METH_O,
      "extends($self, older, /)\n--\n\nWhether this version extends an older one, so that keys under the older one stay "
      "keys."},
@@ -340,7 +392,7 @@ static PyType_Slot slots[] = {
     {0, NULL},
 };
 
-static PyType_Spec spec = {"npss.Tables", sizeof(tables), 0, Py_TPFLAGS_DEFAULT | Py_TPFLAGS_DISALLOW_INSTANTIATION,
+PyType_Spec tables_spec = {"npss.Tables", sizeof(tables), 0, Py_TPFLAGS_DEFAULT | Py_TPFLAGS_DISALLOW_INSTANTIATION,
                            slots};
 
 static PyStructSequence_Field break_fields[] = {
@@ -349,21 +401,5 @@ static PyStructSequence_Field break_fields[] = {
     {NULL, NULL},
 };
 
-static PyStructSequence_Desc break_description = {
+PyStructSequence_Desc break_description = {
     "npss.Break", "What a newer version breaks of an older one, at a code point.", break_fields, 2};
-
-static struct PyModuleDef module = {
-    PyModuleDef_HEAD_INIT, "npss._npss", "The C half of npss.", -1, NULL, NULL, NULL, NULL, NULL};
-
-PyMODINIT_FUNC PyInit__npss(void) {
-    PyObject *made = PyModule_Create(&module), *errors = PyImport_ImportModule("npss._errors");
-    if (!made || !errors || intern_forms() || !(bad_tables = PyObject_GetAttrString(errors, "BadTables")) ||
-        !(unassigned = PyObject_GetAttrString(errors, "Unassigned")) ||
-        !(tables_type = (PyTypeObject *)PyType_FromSpec(&spec)) ||
-        !(break_type = PyStructSequence_NewType(&break_description)) ||
-        PyModule_AddObjectRef(made, "Tables", (PyObject *)tables_type) ||
-        PyModule_AddObjectRef(made, "Break", (PyObject *)break_type))
-        Py_CLEAR(made);
-    Py_XDECREF(errors);
-    return made;
-}

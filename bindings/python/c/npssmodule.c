@@ -1,0 +1,74 @@
+/* The C half of the Python module `npss`: it hands texts to the proved library, and answers back. */
+#include "arguments.h"
+
+static const char *const error_names[] = {"BadTables", "Refused",   "TooLong",    "NotUtf8",     "Unassigned", "Full",
+                                          "Malformed", "OtherForm", "KeyDiffers", "OlderTables", "BadEntry"};
+
+/* Puts an attribute of a Python half into the state. */
+static int bring(module_state *state, int member, PyObject *from, const char *name) {
+    return (state->of[member] = PyObject_GetAttrString(from, name)) ? 0 : -1;
+}
+
+static int bring_python_half(module_state *state) {
+    PyObject *errors = PyImport_ImportModule("npss._errors"), *files = PyImport_ImportModule("npss._files");
+    PyObject *accepted = errors && files ? PyImport_ImportModule("npss._accepted") : NULL;
+    PyObject *members = accepted ? PyObject_GetAttrString(accepted, "Accepted") : NULL;
+    int failed = !members || bring(state, CONTENTS, files, "contents") || bring(state, KEPT, members, "KEPT") ||
+                 bring(state, KNOWN, members, "KNOWN");
+    for (int i = 0; !failed && i <= BAD_ENTRY - BAD_TABLES; i++)
+        failed = bring(state, BAD_TABLES + i, errors, error_names[i]);
+    Py_XDECREF(members);
+    Py_XDECREF(accepted);
+    Py_XDECREF(files);
+    Py_XDECREF(errors);
+    return failed;
+}
+
+/* Puts a type into the state and the module. */
+static int add_type(PyObject *module, module_state *state, int member, const char *name, PyObject *type) {
+    state->of[member] = type;
+    return type ? PyModule_AddObjectRef(module, name, type) : -1;
+}
+
+static int begin(PyObject *module) {
+    module_state *state = PyModule_GetState(module);
+    for (size_t i = 0; i < FORM_NAMES; i++) {
+        if (!(state->of[FORM_NAME + i] = PyUnicode_InternFromString(form_names[i].name))) return -1;
+    }
+    if (bring_python_half(state)) return -1;
+    if (add_type(module, state, TABLES_TYPE, "Tables", PyType_FromModuleAndSpec(module, &tables_spec, NULL)) ||
+        add_type(module, state, NODE_TYPE, "Node", PyType_FromModuleAndSpec(module, &node_spec, NULL)) ||
+        add_type(module, state, BREAK_TYPE, "Break", (PyObject *)PyStructSequence_NewType(&break_description)) ||
+        add_type(module, state, ENTRY_TYPE, "Entry", (PyObject *)PyStructSequence_NewType(&entry_description)))
+        return -1;
+    return 0;
+}
+
+static int traverse(PyObject *module, visitproc visit, void *arg) {
+    module_state *state = PyModule_GetState(module);
+    for (int i = 0; i < MEMBERS; i++) Py_VISIT(state->of[i]);
+    return 0;
+}
+
+static int clear(PyObject *module) {
+    module_state *state = PyModule_GetState(module);
+    for (int i = 0; i < MEMBERS; i++) Py_CLEAR(state->of[i]);
+    return 0;
+}
+
+static void end(void *module) {
+    clear(module);
+}
+
+static PyModuleDef_Slot parts[] = {
+    {Py_mod_exec, begin},
+    {0, NULL},
+};
+
+static struct PyModuleDef module = {PyModuleDef_HEAD_INIT, "npss._npss", "The C half of npss.", sizeof(module_state),
+                                    NULL,                  parts,        traverse,              clear,
+                                    end};
+
+PyMODINIT_FUNC PyInit__npss(void) {
+    return PyModuleDef_Init(&module);
+}

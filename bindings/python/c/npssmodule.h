@@ -1,0 +1,75 @@
+/* What the files of the module share. It stands on CPython's stable ABI, from version 3.10 on. */
+#ifndef NPSS_MODULE_H
+#define NPSS_MODULE_H
+
+#define PY_SSIZE_T_CLEAN
+#define Py_LIMITED_API 0x030A0000
+#include <Python.h>
+#include <npss.h>
+#include <string.h>
+
+/* Texts of more bytes are worked on without the interpreter's lock. */
+#define LONG_TEXT 4096
+/* The room on the stack for what is made of others. */
+#define SMALL_ROOM 6144
+
+/* The objects that each interpreter has of its own. */
+enum member {
+    /* The names of the forms, interned, so that mostly the object tells: in the order of `form_names`. */
+    FORM_NAME,
+    FORM_NAMES = 8,
+    /* The bytes of a file, from npss._files. */
+    CONTENTS = FORM_NAMES,
+    /* What is raised, from npss._errors, in the order of `error_names`. */
+    BAD_TABLES,
+    REFUSED,
+    TOO_LONG,
+    NOT_UTF8,
+    UNASSIGNED,
+    FULL,
+    MALFORMED,
+    OTHER_FORM,
+    KEY_DIFFERS,
+    OLDER_TABLES,
+    BAD_ENTRY,
+    /* The members of npss._accepted.Accepted. */
+    KEPT,
+    KNOWN,
+    /* The module's own types. */
+    TABLES_TYPE,
+    NODE_TYPE,
+    BREAK_TYPE,
+    ENTRY_TYPE,
+    MEMBERS
+};
+
+typedef struct module_state {
+    PyObject *of[MEMBERS];
+} module_state;
+
+typedef struct tables {
+    PyObject_HEAD
+    const module_state *state;
+    npss_handle handle;
+} tables;
+
+/* Bytes that are lent, and what has to be let go afterwards; NULL where that is nothing. */
+typedef struct bytes {
+    const uint8_t *at;
+    Py_ssize_t length;
+    PyObject *owner;
+} bytes;
+
+extern PyType_Spec tables_spec, node_spec;
+extern PyStructSequence_Desc break_description, entry_description;
+
+/* Raises what an answer tells that is not done, and answers NULL. `text` has the bytes in which a place counts. */
+PyObject *refuse(const module_state *state, npss_answer a, const uint8_t *text);
+
+/* The same of an image; `image` has its bytes. */
+PyObject *refuse_image(const module_state *state, npss_answer a, const uint8_t *image);
+
+/* The first break, which an answer tells. */
+PyObject *break_of(const module_state *state, npss_answer a);
+
+#endif

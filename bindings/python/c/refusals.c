@@ -1,0 +1,118 @@
+/* What is raised where the library refuses. */
+#include "npssmodule.h"
+
+/* How many characters stand before a byte place. */
+static Py_ssize_t index_at(const uint8_t *text, uint64_t place) {
+    Py_ssize_t index = 0;
+    for (uint64_t i = 0; i < place; i++) index += (text[i] & 0xC0) != 0x80;
+    return index;
+}
+
+static PyObject *bad_tables(const module_state *state, npss_answer a) {
+    static const char *const file_faults[] = {"",         "FieldCount", "BadCode",   "OutOfOrder", "BadCategory",
+                                              "BadClass", "BadMapping", "RangeOpen", "RangeLone",  "RangeDiffers",
+                                              "RangeMaps"};
+    static const char *const table_faults[] = {"",        "MapsToUnassigned", "TooDeep",
+                                               "TooLong", "AmbiguousPair",    "HangulWrong"};
+    PyObject *class = state->of[BAD_TABLES];
+    if (a.status == NPSS_TABLES)
+        return PyObject_CallFunction(class, "sOsI", "tables", Py_None, table_faults[a.fault], a.code);
+    if (a.status == NPSS_TOO_LARGE)
+        return PyObject_CallFunction(class, "sOs", a.fault == 1 ? "data" : "exclusions", Py_None, "TooLarge");
+    return PyObject_CallFunction(class, "sKs", a.status == NPSS_DATA ? "data" : "exclusions",
+                                 (unsigned long long)a.place, file_faults[a.fault]);
+}
+
+/* The class of a refusal that tells nothing but itself, or a place alone; -1 of any other. */
+static int plain_class(uint32_t status) {
+    switch (status) {
+    case NPSS_TOO_LONG:
+        return TOO_LONG;
+    case NPSS_FULL:
+        return FULL;
+    case NPSS_OTHER_FORM:
+        return OTHER_FORM;
+    case NPSS_KEY_DIFFERS:
+        return KEY_DIFFERS;
+    default:
+        return -1;
+    }
+}
+
+/* The exception of an answer that is not done; NULL where an error was raised. */
+static PyObject *refusal(const module_state *state, npss_answer a, const uint8_t *text) {
+    unsigned long long place = a.place, length = a.length;
+    int plain = plain_class(a.status);
+    if (plain >= 0) return PyObject_CallObject(state->of[plain], NULL);
+    switch (a.status) {
+    case NPSS_UNASSIGNED:
+        return PyObject_CallFunction(state->of[UNASSIGNED], "IKn", a.code, place, index_at(text, a.place));
+    case NPSS_NOT_UTF8:
+        return PyObject_CallFunction(state->of[NOT_UTF8], "K", place);
+    case NPSS_MALFORMED:
+        return PyObject_CallFunction(state->of[MALFORMED], "K", place);
+    case NPSS_OLDER_TABLES:
+        return PyObject_CallFunction(state->of[OLDER_TABLES], "KK", place, length);
+    case NPSS_DATA:
+    case NPSS_EXCLUSIONS:
+    case NPSS_TABLES:
+    case NPSS_TOO_LARGE:
+        return bad_tables(state, a);
+    case NPSS_MEMORY:
+        return PyErr_NoMemory();
+    default:
+        return PyErr_Format(PyExc_SystemError, "the library answered %u", a.status);
+    }
+}
+
+static PyObject *raise(PyObject *error) {
+    if (error) {
+        PyErr_SetObject((PyObject *)Py_TYPE(error), error);
+        Py_DECREF(error);
+    }
+    return NULL;
+}
+
+PyObject *refuse(const module_state *state, npss_answer a, const uint8_t *text) {
+    return raise(refusal(state, a, text));
+}
+
+/* Behind a length and what it counts. The library has told that they are there. */
+static const uint8_t *behind_field(const uint8_t *at) {
+    size_t length = (size_t)at[0] << 24 | (size_t)at[1] << 16 | (size_t)at[2] << 8 | at[3];
+    return at + 4 + length;
+}
+
+/* The string of an entry of an image that has it (docs/FORMATS.md, "Image"). */
+static const uint8_t *string_at(const uint8_t *image, uint64_t number) {
+    int second = image[3] == '2';
+    const uint8_t *at = image + (second ? 13 : 9);
+    while (number-- > 0) {
+        at = behind_field(at);
+        if (!second || *at++ == 1) at = behind_field(at);
+    }
+    return at + 4;
+}
+
+PyObject *refuse_image(const module_state *state, npss_answer a, const uint8_t *image) {
+    npss_answer of = {0};
+    PyObject *cause;
+    if (a.status != NPSS_BAD_ENTRY) return refuse(state, a, NULL);
+    of.status = a.fault, of.code = a.code, of.place = a.place;
+    if (!(cause = refusal(state, of, string_at(image, a.length)))) return NULL;
+    /* "N" takes the cause. */
+    return raise(PyObject_CallFunction(state->of[BAD_ENTRY], "KN", (unsigned long long)a.length, cause));
+}
+
+PyObject *break_of(const module_state *state, npss_answer a) {
+    static const char *const kinds[] = {
+        "", "Lost", "ClassChanged", "MappingChanged", "NowExcluded", "NowIncluded", "NewComposite"};
+    PyObject *kind, *code, *found = PyStructSequence_New((PyTypeObject *)state->of[BREAK_TYPE]);
+    if (!found) return NULL;
+    kind = PyUnicode_FromString(kinds[a.fault]);
+    code = PyLong_FromUnsignedLong(a.code);
+    PyStructSequence_SetItem(found, 0, kind);
+    PyStructSequence_SetItem(found, 1, code);
+    if (!kind || !code) Py_CLEAR(found);
+    return found;
+}
