@@ -1,5 +1,7 @@
 //! Why a call has no answer.
 
+use crate::raw::{self, Answer};
+use crate::values::Break;
 use std::error::Error;
 use std::fmt;
 
@@ -103,3 +105,191 @@ impl fmt::Display for Memory {
 }
 
 impl Error for Memory {}
+
+/// Why a node does not take a string. The node is as it was.
+#[derive(Clone, Copy, Debug, PartialEq, Eq)]
+#[non_exhaustive]
+pub enum Refused {
+    /// The string has more than 65,536 bytes.
+    TooLong,
+    /// The string is not UTF-8.
+    NotUtf8 {
+        /// How many bytes its longest front has that is.
+        at: usize,
+    },
+    /// The version does not assign a code point of the string.
+    Unassigned {
+        /// The byte place in the string, from 0, of the first such code point.
+        at: usize,
+        /// That code point.
+        code: char,
+    },
+    /// The node keeps as many strings as its room.
+    Full,
+    /// The bytes are no message, or a string of an image stands twice.
+    Malformed {
+        /// The byte, from 0, where they stop being the beginning of one.
+        at: usize,
+    },
+    /// The message is of another form than the node.
+    OtherForm,
+    /// The key that came with the string is not the string's key.
+    KeyDiffers,
+    /// Memory ran out.
+    Memory,
+}
+
+impl Refused {
+    /// What the library's answer tells.
+    pub(crate) fn of(a: Answer) -> Refused {
+        let at = a.place as usize;
+        match (a.status, char::from_u32(a.code)) {
+            (raw::TOO_LONG, _) => Refused::TooLong,
+            (raw::NOT_UTF8, _) => Refused::NotUtf8 { at },
+            (raw::UNASSIGNED, Some(code)) => Refused::Unassigned { at, code },
+            (raw::FULL, _) => Refused::Full,
+            (raw::MALFORMED, _) => Refused::Malformed { at },
+            (raw::OTHER_FORM, _) => Refused::OtherForm,
+            (raw::KEY_DIFFERS, _) => Refused::KeyDiffers,
+            _ => Refused::Memory,
+        }
+    }
+}
+
+impl fmt::Display for Refused {
+    fn fmt(&self, f: &mut fmt::Formatter<'_>) -> fmt::Result {
+        match self {
+            Refused::TooLong => f.write_str("too long: more than 65,536 bytes"),
+            Refused::NotUtf8 { at } => write!(f, "not UTF-8 at byte {at}"),
+            Refused::Unassigned { at, code } => {
+                write!(f, "unassigned {:04X} at byte {at}", u32::from(*code))
+            }
+            Refused::Full => f.write_str("full"),
+            Refused::Malformed { at } => write!(f, "malformed at byte {at}"),
+            Refused::OtherForm => f.write_str("another form"),
+            Refused::KeyDiffers => f.write_str("key differs"),
+            Refused::Memory => f.write_str("out of memory"),
+        }
+    }
+}
+
+impl Error for Refused {}
+
+/// Why an image is no node.
+#[derive(Clone, Copy, Debug, PartialEq, Eq)]
+#[non_exhaustive]
+pub enum RestoreError {
+    /// The room is over 65,536.
+    BadRoom,
+    /// The bytes are no image.
+    Malformed {
+        /// The byte, from 0, where they stop being the beginning of one.
+        at: usize,
+    },
+    /// The image is of another form.
+    OtherForm,
+    /// The image was saved under a later version.
+    OlderTables {
+        /// How many code points that version assigns.
+        needs: u64,
+        /// How many the tables assign.
+        has: u64,
+    },
+    /// The image has more entries than the room.
+    Full,
+    /// An entry is refused.
+    Entry {
+        /// The entry's number, from 0.
+        index: u64,
+        /// Why.
+        cause: Refused,
+    },
+    /// Memory ran out.
+    Memory,
+}
+
+impl RestoreError {
+    /// What the library's answer tells.
+    pub(crate) fn of(a: Answer) -> RestoreError {
+        match a.status {
+            raw::BAD_ROOM => RestoreError::BadRoom,
+            raw::MALFORMED => RestoreError::Malformed {
+                at: a.place as usize,
+            },
+            raw::OTHER_FORM => RestoreError::OtherForm,
+            raw::OLDER_TABLES => RestoreError::OlderTables {
+                needs: a.place,
+                has: a.length,
+            },
+            raw::FULL => RestoreError::Full,
+            raw::BAD_ENTRY => RestoreError::Entry {
+                index: a.length,
+                cause: Refused::of(Answer {
+                    status: a.fault,
+                    ..a
+                }),
+            },
+            _ => RestoreError::Memory,
+        }
+    }
+}
+
+impl fmt::Display for RestoreError {
+    fn fmt(&self, f: &mut fmt::Formatter<'_>) -> fmt::Result {
+        match self {
+            RestoreError::BadRoom => f.write_str("a node has room for at most 65,536 strings"),
+            RestoreError::Malformed { at } => write!(f, "malformed at byte {at}"),
+            RestoreError::OtherForm => f.write_str("another form"),
+            RestoreError::OlderTables { needs, has } => {
+                write!(f, "older tables: need {needs} code points, have {has}")
+            }
+            RestoreError::Full => f.write_str("full"),
+            RestoreError::Entry { index, cause } => write!(f, "entry {index}: {cause}"),
+            RestoreError::Memory => f.write_str("out of memory"),
+        }
+    }
+}
+
+impl Error for RestoreError {}
+
+/// Why there is no new node.
+#[derive(Clone, Copy, Debug, PartialEq, Eq)]
+#[non_exhaustive]
+pub enum NewNodeError {
+    /// The room is over 65,536.
+    BadRoom,
+    /// Memory ran out.
+    Memory,
+}
+
+impl fmt::Display for NewNodeError {
+    fn fmt(&self, f: &mut fmt::Formatter<'_>) -> fmt::Result {
+        f.write_str(match self {
+            NewNodeError::BadRoom => "a node has room for at most 65,536 strings",
+            NewNodeError::Memory => "out of memory",
+        })
+    }
+}
+
+impl Error for NewNodeError {}
+
+/// Why a node does not go on to a version. Nothing changed.
+#[derive(Clone, Copy, Debug, PartialEq, Eq)]
+#[non_exhaustive]
+pub enum UpgradeError {
+    /// The version does not extend the present one: its first break.
+    Breaks(Break),
+    /// Memory ran out.
+    Memory,
+}
+
+impl fmt::Display for UpgradeError {
+    fn fmt(&self, f: &mut fmt::Formatter<'_>) -> fmt::Result {
+        match self {
+            UpgradeError::Breaks(first) => write!(f, "{:?} {:04X}", first.kind, first.code),
+            UpgradeError::Memory => f.write_str("out of memory"),
+        }
+    }
+}
+
+impl Error for UpgradeError {}

@@ -13,7 +13,7 @@ pub struct Answer {
     pub length: u64,
 }
 
-/// A handle on a table; zeros are a closed one.
+/// A handle on a table or a node; zeros are a closed one.
 #[repr(C)]
 #[derive(Debug)]
 pub struct Handle {
@@ -31,6 +31,7 @@ pub struct Asked {
 
 pub const DONE: u32 = 0;
 pub const UNASSIGNED: u32 = 1;
+pub const NOT_UTF8: u32 = 2;
 pub const NO_ROOM: u32 = 3;
 pub const MEMORY: u32 = 4;
 pub const DATA: u32 = 7;
@@ -38,6 +39,16 @@ pub const EXCLUSIONS: u32 = 8;
 pub const TABLES: u32 = 9;
 pub const TOO_LARGE: u32 = 10;
 pub const DIFFERENT: u32 = 11;
+pub const KNOWN: u32 = 13;
+pub const NOT_KEPT: u32 = 14;
+pub const TOO_LONG: u32 = 15;
+pub const FULL: u32 = 16;
+pub const MALFORMED: u32 = 17;
+pub const OTHER_FORM: u32 = 18;
+pub const KEY_DIFFERS: u32 = 19;
+pub const OLDER_TABLES: u32 = 20;
+pub const BAD_ENTRY: u32 = 21;
+pub const BAD_ROOM: u32 = 22;
 
 extern "C" {
     pub fn npss_open(
@@ -89,4 +100,48 @@ extern "C" {
     pub fn npss_extends(older: *mut Handle, newer: *mut Handle) -> Answer;
     pub fn npss_count(handle: *mut Handle) -> Answer;
     pub fn npss_close(handle: *mut Handle);
+    pub fn npss_node_new(node: *mut Handle, tables: *mut Handle, form: u8, room: u32) -> Answer;
+    pub fn npss_node_restore(
+        node: *mut Handle,
+        tables: *mut Handle,
+        form: u8,
+        room: u32,
+        image: *const u8,
+        image_length: usize,
+    ) -> Answer;
+    pub fn npss_node_accept(node: *mut Handle, string: *const u8, string_length: usize) -> Answer;
+    pub fn npss_node_message(
+        node: *mut Handle,
+        string: *const u8,
+        string_length: usize,
+        room: *mut u8,
+        room_length: usize,
+    ) -> Answer;
+    pub fn npss_node_take(node: *mut Handle, message: *const u8, message_length: usize) -> Answer;
+    pub fn npss_node_forget(node: *mut Handle, string: *const u8, string_length: usize) -> Answer;
+    pub fn npss_node_same(
+        node: *mut Handle,
+        left: *const u8,
+        left_length: usize,
+        right: *const u8,
+        right_length: usize,
+    ) -> Answer;
+    pub fn npss_node_key(
+        node: *mut Handle,
+        string: *const u8,
+        string_length: usize,
+        room: *mut u8,
+        room_length: usize,
+    ) -> Answer;
+    pub fn npss_node_entry(
+        node: *mut Handle,
+        index: u64,
+        room: *mut u8,
+        room_length: usize,
+    ) -> Answer;
+    pub fn npss_node_count(node: *mut Handle) -> Answer;
+    pub fn npss_node_image(node: *mut Handle, room: *mut u8, room_length: usize) -> Answer;
+    pub fn npss_node_upgrade(node: *mut Handle, tables: *mut Handle) -> Answer;
+    pub fn npss_node_version(node: *mut Handle) -> Answer;
+    pub fn npss_node_close(node: *mut Handle);
 }

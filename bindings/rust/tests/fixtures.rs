@@ -1,6 +1,7 @@
 //! The calls over the fixtures of the repository.
 
 use npss::{Break, BreakKind, File, Form, KeyError, LineEnd, OpenError, Tables};
+use std::sync::Arc;
 use std::thread;
 
 const FOLDER: &str = concat!(env!("CARGO_MANIFEST_DIR"), "/../../fixtures/");
@@ -16,7 +17,7 @@ fn version(name: &str) -> Tables {
 
 #[test]
 fn forms_of_a_text() {
-    let mut v1 = version("v1");
+    let v1 = version("v1");
     for (form, text, made) in [
         (Form::Nfd, "a\u{302}\u{323}", "a\u{323}\u{302}"),
         (Form::Nfc, "a\u{302}\u{323}", "\u{1ead}"),
@@ -35,7 +36,7 @@ fn forms_of_a_text() {
 
 #[test]
 fn unassigned_code_points_are_told() {
-    let mut v1 = version("v1");
+    let v1 = version("v1");
     let error = v1.key(Form::Nfc, "A\u{16d67}").unwrap_err();
     assert_eq!(
         error,
@@ -53,7 +54,7 @@ fn unassigned_code_points_are_told() {
 
 #[test]
 fn lines_are_answered() {
-    let mut v1 = version("v1");
+    let v1 = version("v1");
     for (form, end, lines, answers, any_refused) in [
         (Form::Nfc, LineEnd::Lf, "", "", false),
         (
@@ -112,35 +113,58 @@ fn files_are_refused() {
 
 #[test]
 fn versions_beside_one_another() {
-    let (mut v1, mut v2) = (version("v1"), version("v2"));
+    let (v1, v2) = (version("v1"), version("v2"));
     assert_eq!((v1.count(), v2.count()), (17_660, 17_666));
-    assert_eq!(v2.first_break(&mut v1), None);
+    assert_eq!(v2.first_break(&v1), None);
     let lost = Break {
         kind: BreakKind::Lost,
         code: 0x1dfa,
     };
-    assert_eq!(v1.first_break(&mut v2), Some(lost));
+    assert_eq!(v1.first_break(&v2), Some(lost));
 }
 
 #[test]
 fn threads_share_a_table() {
-    let mut tables = version("v1");
-    let threads: Vec<_> = (0..5)
-        .map(|_| {
-            let mut own = tables.share().unwrap();
+    let tables = Arc::new(version("v1"));
+    let other = tables.share().unwrap();
+    let threads: Vec<_> = (0..40)
+        .map(|number| {
+            let tables = Arc::clone(&tables);
             thread::spawn(move || {
-                (0..20_000)
-                    .all(|_| own.key(Form::Nfc, "a\u{302}\u{323}").as_deref() == Ok("\u{1ead}"))
+                let text = "a\u{302}\u{323}".repeat(number + 1);
+                (0..2_000).all(|_| {
+                    tables.key(Form::Nfc, &text).as_deref() == Ok(&"\u{1ead}".repeat(number + 1))
+                })
             })
         })
         .collect();
     drop(tables);
     assert!(threads.into_iter().all(|thread| thread.join().unwrap()));
+    assert_eq!(other.count(), 17_660);
+}
+
+#[test]
+fn questions_on_two_versions_from_both_sides_at_once() {
+    let (v1, v2) = (version("v1"), version("v2"));
+    thread::scope(|scope| {
+        for number in 0..40 {
+            let (v1, v2) = (&v1, &v2);
+            scope.spawn(move || {
+                for _ in 0..20 {
+                    if number % 2 == 0 {
+                        assert!(v1.first_break(v2).is_some());
+                    } else {
+                        assert!(v2.first_break(v1).is_none());
+                    }
+                }
+            });
+        }
+    });
 }
 
 #[test]
 fn long_texts() {
-    let mut v1 = version("v1");
+    let v1 = version("v1");
     let text = "a\u{302}\u{323}".repeat(1_000_000);
     assert_eq!(
         v1.key(Form::Nfc, &text).unwrap(),
