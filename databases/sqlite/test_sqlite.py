@@ -1,0 +1,300 @@
+#!/usr/bin/env python3
+"""test_sqlite.py EXTENSION FOLDER: tests the extension npss.so for SQLite.
+
+FOLDER has the folders 13.0, 14.0 and 15.0, each with UnicodeData.txt and CompositionExclusions.txt. This Python's sqlite3
+loads extensions. Ends in a line 'N passed, M failed'.
+"""
+
+import contextlib
+import os
+import resource
+import sqlite3
+import subprocess
+import sys
+import tempfile
+import threading
+import unicodedata
+import unittest
+from pathlib import Path
+
+EXTENSION, FOLDER = sys.argv[1], Path(sys.argv[2])
+OLD, MIDDLE, NEW = (str(FOLDER / version) for version in ("13.0", "14.0", "15.0"))
+# New in 14.0 and in 15.0.
+YOUNG, YOUNGEST = "\u1df9\u1dfa", "\U0001e08f"
+MARKED = "a\u0302\u0323"
+FILES = ("UnicodeData.txt", "CompositionExclusions.txt")
+
+
+class Case(unittest.TestCase):
+    def setUp(self):
+        room = tempfile.TemporaryDirectory()
+        self.addCleanup(room.cleanup)
+        self.path = os.path.join(room.name, "base")
+
+    def connect(self, path=None, loads=True):
+        base = sqlite3.connect(path or self.path, isolation_level=None, timeout=30)
+        self.addCleanup(base.close)
+        if loads:
+            base.enable_load_extension(True)
+            base.load_extension(EXTENSION)
+        return base
+
+    def with_names(self, version=OLD):
+        base = self.connect()
+        base.execute("SELECT npss_raise(?)", (version,))
+        base.execute("CREATE TABLE account (name TEXT NOT NULL)")
+        base.execute("CREATE UNIQUE INDEX account_key ON account (npss_nfc(name))")
+        return base
+
+    def asked(self, base, text, *given):
+        return base.execute(f"SELECT {text}", given).fetchone()[0]
+
+    def refused(self, words, base, text, *given):
+        with self.assertRaisesRegex(sqlite3.Error, words):
+            base.execute(text, given).fetchall()
+
+    def whole(self, base):
+        self.assertEqual(base.execute("PRAGMA integrity_check").fetchall(), [("ok",)])
+
+
+class Functions(Case):
+    def test_keys(self):
+        base = self.with_names(NEW)
+        for form, text, made in (("nfc", MARKED, "\u1ead"), ("nfd", MARKED, "a\u0323\u0302"), ("nfkc", "\ufb01", "fi"), ("nfkd", "\ufb01", "fi"),
+                                 ("nfc", "", ""), ("nfc", "a\0" + MARKED, "a\0\u1ead"), ("nfd", "\u1ead" * 9_000, "a\u0323\u0302" * 9_000)):
+            for call in ("npss_key(?, ?)", "npss_try_key(?, ?)", "npss_normalize(?, upper(?))"):
+                self.assertEqual(self.asked(base, call, text, form), made)
+            self.assertEqual(self.asked(base, f"npss_{form}(?)", text), made)
+            self.assertEqual(self.asked(base, "npss_is_normalized(?, ?)", text, form), int(text == made))
+        self.assertEqual(self.asked(base, "npss_key(?)", MARKED), "\u1ead")
+        self.assertEqual(self.asked(base, "npss_is_normalized(?)", MARKED), 0)
+        self.assertEqual(self.asked(base, "npss_key(3)"), "3")
+        for call in ("npss_key(NULL)", "npss_nfkc(NULL)", "npss_equivalent(NULL, 'a')", "npss_is_normalized(NULL)", "npss_try_key(NULL, 'nfd')"):
+            self.assertIsNone(self.asked(base, call))
+        self.assertEqual(self.asked(base, "npss_version()"), 288767)
+
+    def test_equivalence(self):
+        base = self.with_names(NEW)
+        self.assertEqual(self.asked(base, "npss_equivalent(?, ?)", MARKED, "\u1ead"), 1)
+        self.assertEqual(self.asked(base, "npss_equivalent('\ufb01', 'fi')"), 0)
+        self.assertEqual(self.asked(base, "npss_equivalent('\ufb01', 'fi', 'nfkd')"), 1)
+
+    def test_refusals(self):
+        base = self.with_names()
+        self.refused("U\\+1DFA at byte 4 is not assigned", base, "SELECT npss_key(?)", "a\u1df9\u1dfa"[0] + YOUNG[0] + YOUNG[1])
+        self.assertIsNone(self.asked(base, "npss_try_key(?)", YOUNG))
+        self.assertEqual(self.asked(base, "npss_normalize(?)", YOUNG), YOUNG)
+        self.refused("not UTF-8 at byte 1", base, "SELECT npss_key(CAST(x'61ff' AS TEXT))")
+        self.refused("nfc, nfd, nfkc or nfkd, not 'nfx'", base, "SELECT npss_key('a', 'nfx')")
+        self.refused("not NULL", base, "SELECT npss_key('a', NULL)")
+
+    def test_without_a_version(self):
+        base = self.connect()
+        self.refused("records no version", base, "SELECT npss_key('a')")
+        self.assertEqual(self.asked(base, "npss_open(?)", OLD), self.asked(base, "npss_version()"))
+        self.assertEqual(self.asked(base, "npss_key(?)", MARKED), "\u1ead")
+        base.execute("SELECT npss_raise(?)", (OLD,))
+        self.refused("has its version", base, "SELECT npss_open(?)", OLD)
+
+    def test_each_name_is_that_of_python(self):
+        base = self.with_names(NEW)
+        known = [chr(code) for code in range(0x110000) if unicodedata.category(chr(code)) not in ("Cn", "Cs")]
+        texts = ["".join(known[at:at + 50]) for at in range(0, len(known), 50)]
+        for form in ("nfc", "nfd", "nfkc", "nfkd"):
+            for text in texts:
+                self.assertEqual(self.asked(base, f"npss_{form}(?)", text), unicodedata.normalize(form.upper(), text))
+
+
+class Indexes(Case):
+    def test_equivalent_names_are_one_account(self):
+        base = self.with_names()
+        base.execute("INSERT INTO account VALUES (?)", (MARKED,))
+        self.refused("UNIQUE constraint", base, "INSERT INTO account VALUES ('\u1ead')")
+        self.refused("not assigned", base, "INSERT INTO account VALUES (?)", YOUNG)
+        found = base.execute("SELECT name FROM account WHERE npss_nfc(name) = npss_nfc(?)", ("\u1ea1\u0302",)).fetchall()
+        self.assertEqual(found, [(MARKED,)])
+        plan = base.execute("EXPLAIN QUERY PLAN SELECT name FROM account WHERE npss_nfc(name) = npss_nfc('a')").fetchone()[3]
+        self.assertIn("account_key", plan)
+        self.whole(base)
+
+    def test_generated_columns_checks_and_order(self):
+        base = self.connect()
+        base.execute("SELECT npss_raise(?)", (NEW,))
+        base.execute("CREATE TABLE file (name TEXT CHECK (npss_nfd(name) = name), key TEXT AS (npss_nfkc(name)) STORED UNIQUE)")
+        self.refused("CHECK constraint", base, "INSERT INTO file VALUES ('\u1ead')")
+        base.execute("INSERT INTO file VALUES ('\ufb01')")
+        self.refused("UNIQUE", base, "INSERT INTO file VALUES ('fi')")
+        base.execute("INSERT INTO file VALUES ('fa')")
+        self.assertEqual(base.execute("SELECT key FROM file ORDER BY key").fetchall(), [("fa",), ("fi",)])
+        self.whole(base)
+
+    def test_no_index_stands_on_what_a_raise_changes(self):
+        base = self.with_names()
+        for call in ("npss_try_key(name)", "npss_normalize(name)", "npss_is_normalized(name)", "npss_equivalent(name, 'a')", "npss_version()"):
+            self.refused("non-deterministic", base, f"CREATE INDEX other ON account ({call})")
+
+    def test_where_schemas_are_not_trusted(self):
+        base = self.with_names()
+        base.execute("PRAGMA trusted_schema = OFF")
+        base.execute("INSERT INTO account VALUES ('a')")
+        self.whole(base)
+        base.execute("CREATE VIEW raising AS SELECT npss_raise('/')")
+        self.refused("unsafe use", base, "SELECT * FROM raising")
+
+
+class Raises(Case):
+    def test_from_version_to_version(self):
+        base, beside = self.with_names(), self.connect()
+        names = [name for name in (MARKED, "\u212b", "\u0958", "a\u0327\u0302") for name in (name, name + "x")]
+        base.executemany("INSERT INTO account VALUES (?)", [(name,) for name in names])
+        keys = base.execute("SELECT npss_nfc(name) FROM account").fetchall()
+        for version, young in ((MIDDLE, YOUNG[1] + "a"), (NEW, YOUNGEST)):
+            self.refused("not assigned", beside, "INSERT INTO account VALUES (?)", young)
+            self.assertEqual(self.asked(base, "npss_audit(?)", version), "extends")
+            base.execute("SELECT npss_raise(?)", (version,))
+            # The other connection follows before it refuses.
+            beside.execute("INSERT INTO account VALUES (?)", (young,))
+            self.assertEqual(base.execute("SELECT npss_nfc(name) FROM account").fetchall()[:len(keys)], keys)
+            self.whole(base)
+        self.assertEqual(self.asked(base, "npss_audit(?)", OLD), "Lost 061D")
+        self.refused("do not extend", base, "SELECT npss_raise(?)", OLD)
+        self.assertEqual(self.asked(base, "npss_version()"), 288767)
+
+    def test_a_raise_that_was_rolled_back(self):
+        base = self.with_names()
+        base.execute("BEGIN")
+        base.execute("SELECT npss_raise(?)", (NEW,))
+        base.execute("INSERT INTO account VALUES (?)", (YOUNGEST,))
+        base.execute("ROLLBACK")
+        self.refused("not assigned", base, "INSERT INTO account VALUES (?)", YOUNGEST)
+        self.whole(base)
+
+    def test_a_first_raise_that_was_rolled_back(self):
+        base = self.connect()
+        base.execute("BEGIN")
+        base.execute("SELECT npss_raise(?)", (NEW,))
+        base.execute("ROLLBACK")
+        self.refused("records no version", base, "SELECT npss_key('a')")
+
+    def test_the_record_is_written_by_raises_alone(self):
+        base = self.with_names()
+        for text in ("UPDATE npss_record SET data = x''", "DELETE FROM npss_record", "REPLACE INTO npss_record VALUES (1, 2, x'', x'')"):
+            self.refused("npss_raise alone", base, text)
+
+    def test_files_that_are_handed_over(self):
+        base = self.connect()
+        blobs = [Path(NEW, name).read_bytes() for name in FILES]
+        self.assertEqual(self.asked(base, "npss_raise(?, ?)", *blobs), 288767)
+        self.assertEqual(self.asked(base, "npss_audit(?, ?)", *blobs), "extends")
+        self.refused("two blobs", base, "SELECT npss_raise('a', 'b')")
+
+    def test_files_that_are_faulty(self):
+        base = self.connect()
+        with tempfile.TemporaryDirectory() as folder:
+            self.refused("can't be opened", base, "SELECT npss_raise(?)", folder)
+            for data, words in ((b"0041;x\n", "UnicodeData.txt, line 1: FieldCount"), (b"0041;X;Lu;0;L;0042;;;;N;;;;;\n", "MapsToUnassigned 0041"),
+                                (b"\n" * 16_777_217, "UnicodeData.txt has more than")):
+                Path(folder, FILES[0]).write_bytes(data)
+                Path(folder, FILES[1]).write_bytes(b"")
+                self.refused(words, base, "SELECT npss_raise(?)", folder)
+            Path(folder, FILES[0]).unlink()
+            Path(folder, FILES[0]).mkdir()
+            self.refused("can't be read", base, "SELECT npss_raise(?)", folder)
+        self.refused("a folder is wanted", base, "SELECT npss_raise(NULL)")
+        self.refused("records no version", base, "SELECT npss_key('a')")
+
+    def test_two_raises_at_once(self):
+        self.with_names()
+        ended = []
+
+        def work(version):
+            with contextlib.closing(sqlite3.connect(self.path, isolation_level=None, timeout=30)) as base:
+                base.enable_load_extension(True)
+                base.load_extension(EXTENSION)
+                try:
+                    ended.append((version, base.execute("SELECT npss_raise(?)", (version,)).fetchone()[0]))
+                except sqlite3.Error as error:
+                    ended.append((version, str(error)))
+
+        threads = [threading.Thread(target=work, args=(version,)) for version in (MIDDLE, NEW)]
+        for thread in threads:
+            thread.start()
+        for thread in threads:
+            thread.join()
+        base = self.connect()
+        self.assertEqual(self.asked(base, "npss_version()"), 288767, ended)
+        self.whole(base)
+
+
+class Dumps(Case):
+    def dumped(self, path):
+        return subprocess.run(["sqlite3", path, "-cmd", f".load {EXTENSION}", ".dump"], stdout=subprocess.PIPE, check=True).stdout
+
+    def restored(self, dump, *commands):
+        words = ["sqlite3", "-bail", self.path + "2", "-cmd", f".load {EXTENSION}"]
+        for command in commands:
+            words += ["-cmd", command]
+        return subprocess.run(words, input=dump, stdout=subprocess.PIPE, stderr=subprocess.STDOUT, check=False)
+
+    def generated(self, base):
+        base.execute("CREATE TABLE file (name TEXT, key TEXT AS (npss_nfc(name)) STORED)")
+        base.execute("CREATE INDEX file_key ON file (npss_nfc(name))")
+        base.execute("INSERT INTO file (name) VALUES (?)", (MARKED,))
+
+    def test_a_dump_with_the_record_first_comes_back_without_help(self):
+        base = self.connect()
+        base.execute("SELECT npss_raise(?)", (OLD,))
+        self.generated(base)
+        back = self.restored(self.dumped(self.path))
+        self.assertEqual((back.returncode, back.stdout), (0, b""))
+        again = self.connect(self.path + "2")
+        self.assertEqual(again.execute("SELECT key FROM file").fetchall(), [("\u1ead",)])
+        self.refused("npss_raise alone", again, "DELETE FROM npss_record")
+        self.whole(again)
+
+    def test_a_dump_with_the_record_behind_says_what_to_do(self):
+        base = self.connect()
+        base.execute("SELECT npss_open(?)", (OLD,))
+        self.generated(base)
+        base.execute("SELECT npss_raise(?)", (OLD,))
+        dump = self.dumped(self.path)
+        back = self.restored(dump)
+        self.assertNotEqual(back.returncode, 0)
+        self.assertIn(b"SELECT npss_open(FOLDER) first", back.stdout)
+        os.unlink(self.path + "2")
+        back = self.restored(dump, f"SELECT npss_open('{OLD}')")
+        self.assertEqual(back.returncode, 0, back.stdout)
+        again = self.connect(self.path + "2")
+        self.assertEqual(again.execute("SELECT key FROM file").fetchall(), [("\u1ead",)])
+        self.refused("not assigned", again, "INSERT INTO file (name) VALUES (?)", YOUNG)
+        self.whole(again)
+
+
+class Memory(Case):
+    def test_memory_that_runs_out_is_told(self):
+        # In a process of its own, whose memory is bounded behind its start.
+        code = f"""
+import resource, sqlite3, sys
+base = sqlite3.connect({self.path!r}); base.enable_load_extension(True); base.load_extension({EXTENSION!r})
+base.execute("SELECT npss_raise(?)", ({NEW!r},))
+used = int(open("/proc/self/statm").read().split()[0]) * 4096
+text = "\\u1ead" * 2_000_000
+resource.setrlimit(resource.RLIMIT_AS, (used + int(sys.argv[1]),) * 2)
+try:
+    print(len(base.execute("SELECT npss_nfd(?)", (text,)).fetchone()[0]))
+except (sqlite3.Error, MemoryError) as error:
+    print(type(error).__name__)
+print(base.execute("SELECT npss_nfc('a')").fetchone()[0])
+"""
+        for room in range(8_000_000, 90_000_000, 6_000_000):
+            ran = subprocess.run([sys.executable, "-c", code, str(room)], stdout=subprocess.PIPE, stderr=subprocess.PIPE, check=False)
+            self.assertEqual(ran.returncode, 0, ran.stderr)
+            self.assertIn(ran.stdout.split()[0], (b"6000000", b"MemoryError", b"OperationalError"))
+            self.assertEqual(ran.stdout.split()[1], b"a")
+
+
+if __name__ == "__main__":
+    result = unittest.main(argv=sys.argv[:1], exit=False, verbosity=0).result
+    bad = len(result.failures) + len(result.errors)
+    print(f"{result.testsRun - bad} passed, {bad} failed", flush=True)
+    sys.exit(1 if bad else 0)
