@@ -1,0 +1,218 @@
+"""The command `npss-registry`."""
+
+import argparse
+import os
+import sys
+from collections.abc import Sequence
+from pathlib import Path
+from typing import Optional, Union
+
+from npss import BadTables, Refused
+
+from npss_registry import LogAway, Outcome, Registration, Registry, RegistryError, Version, init
+from npss_registry.judge import MOST_BYTES, MOST_EVENTS, Judge
+from npss_registry.records import Setup
+from npss_registry.relog import relog
+
+# The statuses are those of `npss` where they mean the same.
+DONE, NO, REFUSED, FAULTY, AWAY = 0, 1, 3, 4, 5
+FORMS = ("nfc", "nfd", "nfkc", "nfkd")
+
+
+def version_of(data: str, exclusions: str) -> Version:
+    """The version of two files, which have to make one."""
+    version = Version(Path(data).read_bytes(), Path(exclusions).read_bytes())
+    version.tables()
+    return version
+
+
+def name_of(word: str) -> Union[str, bytes]:
+    """A name as it was typed: text, or the bytes of a word that isn't UTF-8."""
+    try:
+        word.encode()
+    except UnicodeEncodeError:
+        return os.fsencode(word)
+    return word
+
+
+def told(outcome: Outcome) -> str:
+    """What became of a claim or a forget, as a line."""
+    holder = outcome.holder
+    if holder is None:
+        return outcome.what
+    return f"{outcome.what} {holder.string!r} of {holder.owner!r} at place {holder.place}"
+
+
+def row_of(found: Registration) -> str:
+    return f"{found.place}\t{found.string!r}\t{found.owner}" + ("\tparked" if found.parked else "")
+
+
+def _init(words: argparse.Namespace) -> int:
+    setup: Optional[Setup] = None
+    if any(value is not None for value in (words.form, words.room, words.shards)) or words.equivalents:
+        setup = Setup(words.form or "nfc", 65536 if words.room is None else words.room, 1 if words.shards is None else words.shards,
+                      words.equivalents)
+    made = init(words.store, version_of(words.data, words.exclusions), setup, words.log or f"{words.store}.log")
+    print(f"form {made.form}, room {made.room}, shards {made.shards}, equivalents {'allowed' if made.equivalents else 'refused'}")
+    return DONE
+
+
+def _claim(words: argparse.Namespace, registry: Registry) -> int:
+    outcome = registry.claim(name_of(words.name), words.owner)
+    print(told(outcome))
+    return DONE if outcome.what == "registered" else NO
+
+
+def _forget(words: argparse.Namespace, registry: Registry) -> int:
+    outcome = registry.forget(name_of(words.name), words.owner)
+    print(told(outcome))
+    return DONE if outcome.what == "forgotten" else NO
+
+
+def _find(words: argparse.Namespace, registry: Registry) -> int:
+    registry.catch_up()
+    found = registry.find(name_of(words.name))
+    for row in found:
+        print(row_of(row))
+    return DONE if found else NO
+
+
+def _same(words: argparse.Namespace, registry: Registry) -> int:
+    registry.catch_up()
+    same = registry.same(name_of(words.left), name_of(words.right))
+    print({None: "not registered", True: "equal", False: "different"}[same])
+    return DONE if same else NO
+
+
+def _list(words: argparse.Namespace, registry: Registry) -> int:
+    registry.catch_up()
+    for number in range(registry.setup.shards):
+        for row in registry.store.registrations(number):
+            print(row_of(row))
+    return DONE
+
+
+def _status(words: argparse.Namespace, registry: Registry) -> int:
+    for status in registry.status():
+        print(f"shard {status.shard}: place {status.place} of {status.last}, {status.registered} registered, {status.parked} parked")
+    print(f"node {registry.store.node}: the tables assign {registry.tables.count} code points")
+    return DONE
+
+
+def _upgrade(words: argparse.Namespace, registry: Registry) -> int:
+    registry.catch_up()
+    parked = registry.upgrade(version_of(words.data, words.exclusions))
+    print(f"the tables assign {registry.tables.count} code points; {len(parked)} strings are still parked")
+    for row in parked:
+        print(row_of(row))
+    return DONE
+
+
+def _backup(words: argparse.Namespace, registry: Registry) -> int:
+    registry.store.backup(words.to)
+    return DONE
+
+
+def _relog(words: argparse.Namespace) -> int:
+    count, lost = relog(words.stores, words.log)
+    print(f"{count} strings are registered in the new log, {len(lost)} are lost")
+    for one in lost:
+        print(f"lost from {one.store}: {row_of(one.registration)}")
+    return NO if lost else DONE
+
+
+def _check(words: argparse.Namespace) -> int:
+    judge = Judge(words.stores, words.program, words.most_events, words.most_bytes)
+    try:
+        findings = judge.run()
+    finally:
+        judge.close()
+    for finding in findings:
+        print(finding)
+    print(f"{judge.events} events of {len(words.stores)} stores replayed: " + (f"{len(findings)} differ" if findings else "all as they are kept"))
+    return NO if findings else DONE
+
+
+def parser() -> argparse.ArgumentParser:
+    """The words of the command."""
+    made = argparse.ArgumentParser(prog="npss-registry", description="A registry of names whose nodes run on several machines.")
+    commands = made.add_subparsers(dest="command", required=True, metavar="COMMAND")
+
+    def command(name: str, help: str, *places: str) -> argparse.ArgumentParser:
+        one = commands.add_parser(name, help=help, description=help)
+        for place in places:
+            one.add_argument(place, metavar=place.upper())
+        return one
+
+    one = command("init", "makes a store over a log, which it sets up where nobody has", "store", "data", "exclusions")
+    one.add_argument("--log", help="the path of a SQLite file, or redis://HOST:PORT/NUMBER#PREFIX; else STORE.log")
+    one.add_argument("--form", choices=FORMS, help="the form of the keys; nfc where nobody says otherwise")
+    one.add_argument("--room", type=int, help="the most strings of a shard, up to 65536")
+    one.add_argument("--shards", type=int, help="how many shards, up to 1024; never to be changed")
+    one.add_argument("--equivalents", action="store_true", help="register equivalent strings side by side, as file names")
+    one = command("claim", "registers a name for an owner", "store", "name")
+    one.add_argument("--owner", required=True)
+    one = command("forget", "gives a name up", "store", "name")
+    one.add_argument("--owner", help="only where this owner has it")
+    command("find", "tells who has a name, or an equivalent one", "store", "name")
+    command("same", "tells whether two registered names are equivalent", "store", "left", "right")
+    command("list", "lists the registered names, with their places and owners", "store")
+    command("status", "tells how far each shard was read, and what is parked", "store")
+    command("upgrade", "goes on to a later version of Unicode", "store", "data", "exclusions")
+    command("backup", "copies the store into a new file", "store", "to")
+    one = command("relog", "begins a new log from what stores have read, where the old one lost records")
+    one.add_argument("stores", metavar="STORE", nargs="+")
+    one.add_argument("--log", required=True, help="the new log, as init names it")
+    one = command("serve", "serves the registry as JSON over HTTP, and as pages", "store")
+    one.add_argument("--host", default="127.0.0.1", help="the address; else that of this machine alone")
+    one.add_argument("--port", type=int, default=8765)
+    one.add_argument("--token-file", help="a file whose first line has to come with each claim and forget; else none is taken")
+    one = command("check", "has `npss replay` judge what stores did")
+    one.add_argument("stores", metavar="STORE", nargs="+")
+    one.add_argument("--program", default="npss", help="the program npss")
+    one.add_argument("--most-events", type=int, default=MOST_EVENTS, help=argparse.SUPPRESS)
+    one.add_argument("--most-bytes", type=int, default=MOST_BYTES, help=argparse.SUPPRESS)
+    return made
+
+
+RUNS = {"claim": _claim, "forget": _forget, "find": _find, "same": _same, "list": _list, "status": _status,
+        "upgrade": _upgrade, "backup": _backup}
+
+
+def run(words: argparse.Namespace) -> int:
+    """Runs the command that the words ask for; its status."""
+    if words.command == "init":
+        return _init(words)
+    if words.command == "check":
+        return _check(words)
+    if words.command == "relog":
+        return _relog(words)
+    if words.command == "serve":
+        from npss_registry.server import serve
+
+        return serve(words.store, words.host, words.port, words.token_file)
+    registry = Registry(words.store)
+    try:
+        status = RUNS[words.command](words, registry)
+    except BaseException:
+        registry.abandon()
+        raise
+    registry.close()
+    return status
+
+
+def main(given: Optional[Sequence[str]] = None) -> int:
+    """The command. Status 0: done; 1: no, or taken; 2: bad words; 3: refused; 4: a store, log or file is faulty; 5: the log is away."""
+    words = parser().parse_args(given)
+    try:
+        return run(words)
+    except Refused as error:
+        status, why = REFUSED, f"{type(error).__name__}: {error}"
+    except LogAway as error:
+        status, why = AWAY, str(error)
+    except (RegistryError, BadTables) as error:
+        status, why = FAULTY, str(error)
+    except OSError as error:
+        status, why = AWAY, f"{error.filename}: {error.strerror}" if error.filename else str(error)
+    print(f"npss-registry: {why}", file=sys.stderr)
+    return status

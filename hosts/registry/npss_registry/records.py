@@ -1,0 +1,102 @@
+"""What stands in a log: the setup of a shard, claims and forgets, and how they are spelled."""
+
+import base64
+import hashlib
+import json
+from dataclasses import dataclass
+from typing import Union
+
+from npss_registry.errors import LogBroken
+
+# A message is the form's byte, the length of the string in four bytes, the string, and its key likewise.
+_LENGTH = 4
+_FORM_BYTES = {"nfd": b"D", "nfc": b"C", "nfkd": b"d", "nfkc": b"c"}
+
+
+@dataclass(frozen=True)
+class Setup:
+    """What all stores of a log share. It is each shard's first record."""
+
+    form: str
+    room: int
+    shards: int
+    equivalents: bool
+
+
+@dataclass(frozen=True)
+class Claim:
+    """Somebody claims a string. The message of a node holds the string and its key."""
+
+    message: bytes
+    owner: str
+
+    @property
+    def string(self) -> str:
+        """The string of the message."""
+        return _field(self.message, 1).decode()
+
+    @property
+    def key(self) -> str:
+        """The key of the message."""
+        return _field(self.message, 1 + _LENGTH + len(_field(self.message, 1))).decode()
+
+
+@dataclass(frozen=True)
+class Forget:
+    """A string is given up. `place` is that of the registration that it ends, so that a repeated one harms nothing."""
+
+    string: str
+    place: int
+
+
+Record = Union[Setup, Claim, Forget]
+
+
+def message(form: str, string: str, key: str) -> bytes:
+    """The message of a string and its key, as a node spells it (docs/FORMATS.md, "Message")."""
+    parts = (string.encode(), key.encode())
+    return _FORM_BYTES[form] + b"".join(len(part).to_bytes(_LENGTH, "big") + part for part in parts)
+
+
+def _field(message: bytes, at: int) -> bytes:
+    """The bytes behind a length at a place of a message."""
+    length = int.from_bytes(message[at:at + _LENGTH], "big")
+    found = message[at + _LENGTH:at + _LENGTH + length]
+    if len(found) != length:
+        raise ValueError("the message ends within a field")
+    return found
+
+
+def spelled(record: Record) -> bytes:
+    """The bytes of a record, JSON that a person can read."""
+    if isinstance(record, Setup):
+        told: dict[str, object] = {"setup": 1, "form": record.form, "room": record.room, "shards": record.shards,
+                                   "equivalents": record.equivalents}
+    elif isinstance(record, Claim):
+        told = {"claim": base64.b64encode(record.message).decode(), "owner": record.owner}
+    else:
+        told = {"forget": record.string, "place": record.place}
+    return json.dumps(told, ensure_ascii=False, separators=(",", ":")).encode()
+
+
+def read(place: int, body: bytes) -> Record:
+    """The record of bytes at a place of a log. LogBroken where they are none."""
+    try:
+        told = json.loads(body)
+        if told.get("setup") == 1:
+            return Setup(str(told["form"]), int(told["room"]), int(told["shards"]), bool(told["equivalents"]))
+        if "claim" in told:
+            return Claim(base64.b64decode(told["claim"], validate=True), str(told["owner"]))
+        return Forget(str(told["forget"]), int(told["place"]))
+    except (AttributeError, KeyError, TypeError, ValueError) as error:
+        raise LogBroken(place, f"what stands there is no record: {error!r}") from error
+
+
+def sum_of(body: bytes) -> bytes:
+    """The sum by which a node knows its last record again."""
+    return hashlib.sha256(body).digest()
+
+
+def shard_of(key: str, shards: int) -> int:
+    """The shard of a key, which no version changes: the first 8 bytes of its SHA-256, modulo their number."""
+    return int.from_bytes(hashlib.sha256(key.encode()).digest()[:8], "big") % shards

@@ -1,0 +1,274 @@
+"""A registry's node: a store, a log, and what a client may ask of them."""
+
+import threading
+from collections.abc import Iterable, Iterator, Sequence
+from contextlib import contextmanager
+from dataclasses import dataclass
+from typing import Optional, Union
+
+from npss import Node, Refused, Tables
+
+from npss_registry import records
+from npss_registry.errors import Differs, LogBroken, NotOneChain, StoreError
+from npss_registry.logs import Log, open_log
+from npss_registry.records import Claim, Forget, Setup
+from npss_registry.shards import PIECE, Outcome, Shard
+from npss_registry.store import Registration, Store, Version
+
+MOST_SHARDS = 1024
+
+
+@dataclass(frozen=True)
+class ShardStatus:
+    """How far a shard was read, how many records stand behind that place at least, what is registered, what is parked."""
+
+    shard: int
+    place: int
+    last: int
+    registered: int
+    parked: int
+
+
+def init(path: str, version: Version, setup: Optional[Setup], log_name: str) -> Setup:
+    """Makes a store over a log, and sets the log up where nobody has. Without a setup the log's own is taken."""
+    tables = version.tables()
+    log = open_log(log_name)
+    try:
+        found = _setup_of(log)
+        if found is None:
+            _set_up(log, setup or Setup("nfc", 65536, 1, False))
+            found = _setup_of(log)
+            assert found is not None
+        if setup is not None and setup != found:
+            raise Differs(f"the log was set up otherwise: {found}")
+    finally:
+        log.close()
+    Store.create(path, found, log_name, version, Node(tables, found.form, found.room).image())
+    return found
+
+
+def _setup_of(log: Log) -> Optional[Setup]:
+    """The setup in the first record of a log; None of an empty one."""
+    first = log.read(0, 0, 1)
+    if not first:
+        return None
+    setup = records.read(*first[0])
+    if not isinstance(setup, Setup):
+        raise LogBroken(first[0][0], "the first record is no setup")
+    return setup
+
+
+def _set_up(log: Log, setup: Setup) -> None:
+    if not 1 <= setup.shards <= MOST_SHARDS:
+        raise StoreError(f"a registry has 1 to {MOST_SHARDS} shards, not {setup.shards}")
+    if not 0 <= setup.room <= 65536:
+        raise StoreError(f"a shard has room for 0 to 65536 strings, not {setup.room}")
+    body = records.spelled(setup)
+    log.begin([(shard, body) for shard in range(setup.shards)])
+
+
+class Registry:
+    """The node of a store. It serves one thread at a time, and keeps others waiting."""
+
+    def __init__(self, path: str):
+        self._lock = threading.RLock()
+        self._ended = False
+        self.store = Store(path)
+        try:
+            self.setup = self.store.setup
+            self._use(self.store.versions()[-1].tables())
+            self.log = open_log(self.store.log)
+            try:
+                self._begin()
+            except BaseException:
+                self.log.close()
+                raise
+        except BaseException:
+            self.store.close()
+            raise
+
+    def _use(self, tables: Tables) -> None:
+        """Goes by these tables from now on."""
+        self.tables = tables
+        self._speller = Node(tables, self.setup.form, 1)
+
+    def _begin(self) -> None:
+        found = _setup_of(self.log)
+        if found != self.setup:
+            raise Differs(f"the store was set up as {self.setup}, its log as {found}")
+        version = len(self.store.versions()) - 1
+        self.shards = [Shard(number, self.store, self.log, self.tables, version) for number in range(self.setup.shards)]
+        with self.store.transaction():
+            if self.store.is_copy:
+                self.store.rename_node()
+                for shard in self.shards:
+                    shard.begin_journal()
+            else:
+                for shard in self.shards:
+                    shard.note_restart()
+
+    def close(self) -> None:
+        """Saves what each shard keeps, and lets store and log go."""
+        with self._lock:
+            if not self._ended:
+                with self._writing():
+                    for shard in self.shards:
+                        shard.save()
+            self.abandon()
+
+    @contextmanager
+    def _writing(self) -> Iterator[None]:
+        """A transaction of the store. Where it fails, nodes are ahead of the store: it has to be opened anew."""
+        if self._ended:
+            raise StoreError(f"{self.store.path}: this node has stopped; open the store anew")
+        try:
+            with self.store.transaction():
+                yield
+        except BaseException:
+            self._ended = True
+            raise
+
+    def abandon(self) -> None:
+        """Lets store and log go as they are."""
+        self.log.close()
+        self.store.close()
+
+    # ---- reading the log
+
+    def catch_up(self, shards: Optional[Iterable[int]] = None) -> dict[tuple[int, int], Outcome]:
+        """Reads shards of the log to their ends, and tells what became of each record, by its shard and place."""
+        outcomes: dict[tuple[int, int], Outcome] = {}
+        with self._lock:
+            left = set(range(self.setup.shards) if shards is None else shards)
+            while left:
+                pieces = {number: self.log.read(number, self.shards[number].place, PIECE) for number in left}
+                with self._writing():
+                    for number, piece in pieces.items():
+                        for place, outcome in self.shards[number].apply(piece).items():
+                            outcomes[number, place] = outcome
+                left = {number for number, piece in pieces.items() if len(piece) == PIECE}
+        return outcomes
+
+    # ---- what clients ask
+
+    def claim(self, string: Union[str, bytes], owner: str) -> Outcome:
+        """Claims a string. Raises Refused where no node of this version would register it."""
+        outcome = self.claim_many([(string, owner)])[0]
+        if isinstance(outcome, Refused):
+            raise outcome
+        return outcome
+
+    def claim_many(self, claims: Sequence[tuple[Union[str, bytes], str]]) -> list[Union[Outcome, Refused]]:
+        """Claims strings, each for its owner. What is refused at once stands in its place."""
+        with self._lock:
+            made = [self._message_of(string, owner) for string, owner in claims]
+            places = {index: self._shard_of(claim.key) for index, claim in enumerate(made) if isinstance(claim, Claim)}
+            self.catch_up(set(places.values()))
+            outcomes: dict[int, Union[Outcome, Refused]] = {
+                index: claim for index, claim in enumerate(made) if not isinstance(claim, Claim)}
+            publish = []
+            for index, number in places.items():
+                claim = made[index]
+                assert isinstance(claim, Claim)
+                decided = self.shards[number].decided(claim.string, claim.key, claim.owner)
+                if decided:
+                    outcomes[index] = decided
+                else:
+                    publish.append((index, number, records.spelled(claim)))
+            outcomes.update(self._published(publish))
+        return [outcomes[index] for index in range(len(claims))]
+
+    def _message_of(self, string: Union[str, bytes], owner: str) -> Union[Claim, Refused]:
+        """The claim of a string, by a node that keeps nothing else; or why there is none."""
+        try:
+            self._speller.accept(string)
+        except Refused as error:
+            return error
+        message = self._speller.message(string)
+        assert message is not None
+        self._speller.forget(string)
+        return Claim(message, owner)
+
+    def _shard_of(self, key: str) -> int:
+        return records.shard_of(key, self.setup.shards)
+
+    def _published(self, publish: Sequence[tuple[int, int, bytes]]) -> dict[int, Outcome]:
+        """Writes records to the log, and answers when each was read back: what became of it, by its index."""
+        if not publish:
+            return {}
+        places = self.log.append([(number, body) for _, number, body in publish])
+        told = self.catch_up({number for _, number, _ in publish})
+        return {index: told[number, place] for (index, number, _), place in zip(publish, places)}
+
+    def forget(self, string: Union[str, bytes], owner: Optional[str] = None) -> Outcome:
+        """Gives a string up; where an owner is named, only that owner's. Raises Refused of what can't be registered."""
+        with self._lock:
+            number, name = self._place_of(string)
+            self.catch_up([number])
+            holder = self.store.holder(number, name)
+            if holder is None:
+                return Outcome("not registered")
+            if owner is not None and holder.owner != owner:
+                return Outcome("taken", holder)
+            return self._published([(0, number, records.spelled(Forget(name, holder.place)))])[0]
+
+    def find(self, string: Union[str, bytes]) -> list[Registration]:
+        """The registrations whose keys are equal to that of a string, as far as the log was read."""
+        with self._lock:
+            name = _text(string)
+            key = self.tables.key(name, self.setup.form)
+            return self.store.with_key(self._shard_of(key), key)
+
+    def same(self, left: Union[str, bytes], right: Union[str, bytes]) -> Optional[bool]:
+        """Whether two registered strings are equivalent; None where one of them isn't registered."""
+        with self._lock:
+            (first, one), (second, other) = self._place_of(left), self._place_of(right)
+            holders = self.store.holder(first, one), self.store.holder(second, other)
+            if holders[0] is None or holders[1] is None:
+                return None
+            if first != second:
+                return False
+            told = self.shards[first].node.same(one, other)
+            return holders[0].key == holders[1].key if told is None else told
+
+    def _place_of(self, string: Union[str, bytes]) -> tuple[int, str]:
+        """The shard of a string, and the string as text."""
+        name = _text(string)
+        return self._shard_of(self.tables.key(name, self.setup.form)), name
+
+    def status(self) -> list[ShardStatus]:
+        with self._lock:
+            return [ShardStatus(shard.number, shard.place, self.log.last(shard.number), self.store.count(shard.number),
+                                len(self.store.parked(shard.number))) for shard in self.shards]
+
+    # ---- a new version
+
+    def upgrade(self, version: Version) -> list[Registration]:
+        """Goes on to a version that extends the present one; answers what is still parked. All of it is done, or none."""
+        with self._lock:
+            tables = version.tables()
+            first = tables.first_break(self.tables)
+            if first is not None:
+                raise NotOneChain(first)
+            if version.sums == self.store.versions()[-1].sums:
+                return [parked for shard in self.shards for parked in self.store.parked(shard.number)]
+            claims = [shard.parked_claims() for shard in self.shards]
+            parked = []
+            with self._writing():
+                number = self.store.add_version(version)
+                for shard, found in zip(self.shards, claims):
+                    parked += shard.upgrade(tables, number, found)
+            self._use(tables)
+            return parked
+
+
+def _text(string: Union[str, bytes]) -> str:
+    """A string as text. NotUtf8 of bytes that are none."""
+    if isinstance(string, str):
+        return string
+    try:
+        return string.decode()
+    except UnicodeDecodeError as error:
+        from npss import NotUtf8
+
+        raise NotUtf8(error.start) from error

@@ -1,0 +1,182 @@
+"""A registry as JSON over HTTP, with the names in the bodies."""
+
+import asyncio
+import contextlib
+import hmac
+import json
+import sys
+from collections.abc import AsyncIterator
+from pathlib import Path
+from typing import Any, Optional
+
+import uvicorn
+from npss import Refused, Unassigned
+from starlette.applications import Starlette
+from starlette.requests import Request
+from starlette.responses import JSONResponse, Response
+from starlette.routing import Route
+
+from npss_registry.errors import LogAway, RegistryError, StoreError
+from npss_registry.shards import Outcome
+from npss_registry.store import Registration
+from npss_registry.worker import Worker
+
+# A name has 65,536 bytes at most, of which JSON may spell each character in 6.
+MOST_BODY = 524_288
+MOST_OWNER = 1_000
+
+
+class Fault(Exception):
+    """A request that isn't answered, with its status and a sentence."""
+
+    def __init__(self, status: int, why: str):
+        super().__init__(why)
+        self.status = status
+
+
+def _told(found: Registration) -> dict[str, Any]:
+    return {"name": found.string, "owner": found.owner, "place": found.place, "key": found.key, "parked": found.parked}
+
+
+async def _body(request: Request) -> dict[str, Any]:
+    """The JSON object of a request."""
+    body = bytearray()
+    async for piece in request.stream():
+        body += piece
+        if len(body) > MOST_BODY:
+            raise Fault(413, f"a body has at most {MOST_BODY} bytes")
+    try:
+        told = json.loads(body)
+    except ValueError as error:
+        raise Fault(400, f"the body is no JSON: {error}") from error
+    if not isinstance(told, dict):
+        raise Fault(400, "the body is no JSON object")
+    return told
+
+
+def _text(told: dict[str, Any], name: str) -> str:
+    """A text that has to be there."""
+    found = told.get(name)
+    if not isinstance(found, str):
+        raise Fault(400, f"the body wants a text {name!r}")
+    try:
+        found.encode()
+    except UnicodeEncodeError as error:
+        raise Fault(422, f"{name!r} has a lone surrogate at character {error.start}") from error
+    return found
+
+
+def _owner(told: dict[str, Any]) -> str:
+    owner = _text(told, "owner")
+    if not 0 < len(owner.encode()) <= MOST_OWNER:
+        raise Fault(422, f"an owner has 1 to {MOST_OWNER} bytes")
+    return owner
+
+
+def _refused(error: Refused) -> JSONResponse:
+    """What no node of this version registers."""
+    told: dict[str, Any] = {"error": type(error).__name__, "why": str(error)}
+    if isinstance(error, Unassigned):
+        told.update(code=f"{error.code:04X}", place=error.place, index=error.index)
+    return JSONResponse(told, 422)
+
+
+def _answered(outcome: Outcome) -> JSONResponse:
+    told = {"outcome": outcome.what, "holder": _told(outcome.holder) if outcome.holder else None}
+    statuses = {"registered": 201 if outcome.new else 200, "taken": 409, "full": 507, "forgotten": 200, "not registered": 404}
+    return JSONResponse(told, statuses[outcome.what])
+
+
+class Service:
+    """The routes over one worker."""
+
+    def __init__(self, worker: Worker, token: Optional[str]):
+        self._worker = worker
+        self._token = token
+
+    def check_token(self, request: Request) -> None:
+        """What changes names wants the token."""
+        if self._token is None:
+            raise Fault(403, "this server takes no changes; start it with --token-file")
+        given = request.headers.get("authorization", "")
+        if not hmac.compare_digest(given.encode(), f"Bearer {self._token}".encode()):
+            raise Fault(401, "the token is wrong or missing: Authorization: Bearer TOKEN")
+
+    async def claim(self, request: Request) -> Response:
+        self.check_token(request)
+        told = await _body(request)
+        name, owner = _text(told, "name"), _owner(told)
+        return _answered(await asyncio.wrap_future(self._worker.claim(name, owner)))
+
+    async def forget(self, request: Request) -> Response:
+        self.check_token(request)
+        told = await _body(request)
+        name = _text(told, "name")
+        owner = _owner(told) if "owner" in told else None
+        return _answered(await self._work(lambda registry: registry.forget(name, owner)))
+
+    async def find(self, request: Request) -> Response:
+        name = _text(await _body(request), "name")
+        found = await self._work(lambda registry: registry.find(name))
+        return JSONResponse([_told(one) for one in found], 200 if found else 404)
+
+    async def same(self, request: Request) -> Response:
+        told = await _body(request)
+        left, right = _text(told, "left"), _text(told, "right")
+        same = await self._work(lambda registry: registry.same(left, right))
+        return JSONResponse({"same": same}, 404 if same is None else 200)
+
+    async def status(self, request: Request) -> Response:
+        rows = await self._work(lambda registry: registry.status())
+        registry = self._worker.registry
+        shards = [{"shard": row.shard, "place": row.place, "last": row.last, "behind": row.last - row.place,
+                   "registered": row.registered, "parked": row.parked} for row in rows]
+        return JSONResponse({"node": registry.store.node, "assigned": registry.tables.count, "form": registry.setup.form,
+                             "room": registry.setup.room, "shards": shards})
+
+    async def _work(self, work: Any) -> Any:
+        return await asyncio.wrap_future(self._worker.work(work))
+
+
+def _failed(request: Request, error: Exception) -> Response:
+    if isinstance(error, Refused):
+        return _refused(error)
+    if isinstance(error, Fault):
+        return JSONResponse({"error": "BadRequest", "why": str(error)}, error.status)
+    why = f"{error}; the outcome is unknown, ask again" if isinstance(error, LogAway) else str(error)
+    return JSONResponse({"error": type(error).__name__, "why": why}, 503)
+
+
+def application(worker: Worker, token: Optional[str]) -> Starlette:
+    """The application over a worker, which is closed with it."""
+    service = Service(worker, token)
+
+    @contextlib.asynccontextmanager
+    async def lifespan(_app: Starlette) -> AsyncIterator[None]:
+        yield
+        worker.close()
+
+    routes = [Route("/claim", service.claim, methods=["POST"]), Route("/forget", service.forget, methods=["POST"]),
+              Route("/find", service.find, methods=["POST"]), Route("/same", service.same, methods=["POST"]),
+              Route("/status", service.status, methods=["GET"])]
+    faults: dict[Any, Any] = {kind: _failed for kind in (Refused, Fault, RegistryError)}
+    return Starlette(routes=routes, exception_handlers=faults, lifespan=lifespan)
+
+
+def token_in(path: Optional[str]) -> Optional[str]:
+    """The first line of a file."""
+    if path is None:
+        return None
+    token = Path(path).read_text(encoding="utf-8").partition("\n")[0].strip()
+    if len(token) < 16:
+        raise StoreError(f"{path}: a token has 16 characters or more")
+    return token
+
+
+def serve(store: str, host: str, port: int, token_file: Optional[str]) -> int:
+    """Serves a store until the process is told to end."""
+    token = token_in(token_file)
+    worker = Worker(store)
+    print(f"npss-registry: {store} at http://{host}:{port}/" + ("" if token else ", to be read alone"), file=sys.stderr)
+    uvicorn.run(application(worker, token), host=host, port=port, log_level="warning")
+    return 0 if worker.failure is None else 4

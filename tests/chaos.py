@@ -1,0 +1,327 @@
+#!/usr/bin/env python3
+"""tests/chaos.py [--seconds N] [--seed S] [--log sqlite|redis] PROGRAM: five nodes of a registry that are killed, cut off and upgraded.
+
+PROGRAM is npss, with which the judge replays. The nodes are processes of their own (chaos_node.py), whose versions are
+13.0, 14.0 and 15.0 of the published files, the earlier two cut from the last. Each ends itself at a write to store or
+log that the seed draws; a Redis server is killed and started again, and nodes are cut off from it by a proxy that drops;
+nodes are upgraded in any order; names are claimed at all nodes at once, given up, and claimed again. At the end the
+judge has to be silent; nodes that read to the end register the same; each key has one holder; no name that was answered
+`registered`, with no forget behind it, is missing; each key is what PROGRAM makes under the last version.
+Prints its seed. Ends in a line 'N passed, M failed'. The modules npss and npss_registry are on PYTHONPATH.
+"""
+
+import argparse
+import json
+import random
+import shutil
+import signal
+import socket
+import subprocess
+import sys
+import tempfile
+import threading
+import time
+from pathlib import Path
+
+import ucd
+from harness import Tally
+
+from npss_registry import Version, init
+from npss_registry.judge import Judge
+from npss_registry.records import Setup
+
+HERE = Path(__file__).resolve().parent
+NODES = 5
+AGES = ((13, 0), (14, 0), (15, 0))
+# A node ends at one of so many writes.
+WRITES = 40
+# Code points of versions 14.0 and 15.0, equivalent spellings, and what has the key of another under NFKC.
+NAMES = ["Jörg", "Jo\u0308rg", "ﬁn", "fin", "Å", "\u212b", "A\u030a", "\U0001E030", "\u0430", "x\U0001E030", "x\u0430", "\u0870a",
+         "\U00010570z", "\U0001E08F\u0301", "한", "\u1112\u1161\u11ab", "", "\u1ead", "a\u0323\u0302", "a\u0302\u0323", "\u0958",
+         "\u0915\u093c", "\U0001D15E", "s\u0323\u0307", "s\u0307\u0323", "\u1e69", "\u0378", "\U0001FAE8", "\u0CF3\u0CF3"]
+
+
+class Proxy:
+    """Hands bytes on to a server, and drops each connection while it is cut."""
+
+    def __init__(self, port):
+        self.to = port
+        self.cut = False
+        self._open = set()
+        self._listener = socket.create_server(("127.0.0.1", 0))
+        self.port = self._listener.getsockname()[1]
+        threading.Thread(target=self._serve, daemon=True).start()
+
+    def _serve(self):
+        while True:
+            try:
+                near, _ = self._listener.accept()
+                if self.cut:
+                    near.close()
+                    continue
+                far = socket.create_connection(("127.0.0.1", self.to), timeout=2)
+            except OSError:
+                continue
+            for one, other in ((near, far), (far, near)):
+                self._open.add(one)
+                threading.Thread(target=self._pass, args=(one, other), daemon=True).start()
+
+    def _pass(self, one, other):
+        try:
+            while (piece := one.recv(65536)) and not self.cut:
+                other.sendall(piece)
+        except OSError:
+            pass
+        for end in (one, other):
+            end.close()
+            self._open.discard(end)
+
+    def drop(self, cut):
+        """Cuts the way, or lets it be."""
+        self.cut = cut
+        for end in list(self._open) if cut else ():
+            try:
+                end.shutdown(socket.SHUT_RDWR)
+            except OSError:
+                pass
+
+
+class Server:
+    """A Redis server that is killed and started again."""
+
+    def __init__(self, folder):
+        with socket.create_server(("127.0.0.1", 0)) as free:
+            self.port = free.getsockname()[1]
+        self._words = ["redis-server", "--port", str(self.port), "--bind", "127.0.0.1", "--dir", str(folder), "--appendonly", "yes",
+                       "--appendfsync", "always", "--save", "", "--logfile", str(folder / "redis.log")]
+        self.start()
+
+    def start(self):
+        self._process = subprocess.Popen(self._words, stdout=subprocess.DEVNULL, stderr=subprocess.DEVNULL)
+        for _ in range(200):
+            try:
+                socket.create_connection(("127.0.0.1", self.port), timeout=1).close()
+                return
+            except OSError:
+                time.sleep(0.05)
+        raise RuntimeError("the Redis server doesn't start")
+
+    def kill(self):
+        self._process.kill()
+        self._process.wait()
+
+
+class Told:
+    """What nodes answered, for the end: each name that is registered for sure, and each that may have been given up."""
+
+    def __init__(self):
+        self._lock = threading.Lock()
+        self.registered = []
+        self.forgets = []
+        self.broken = []
+        self.ends = 0
+
+    def add(self, asked, answer):
+        with self._lock:
+            if asked["do"] == "forget" and (answer is None or answer["what"] != "not registered"):
+                self.forgets.append(asked["name"])
+            if answer is None:
+                self.ends += 1
+            elif answer["what"] == "broken":
+                self.broken.append(answer["why"])
+            elif asked["do"] == "claim" and answer["what"] == "registered":
+                self.registered.append((asked["name"], asked["owner"]))
+
+
+class Node(threading.Thread):
+    """Asks one node at random, and starts it again where it ended."""
+
+    def __init__(self, number, chaos, seed):
+        super().__init__()
+        self.number = number
+        self.chaos = chaos
+        self.source = random.Random(seed)
+        self.version = number % len(AGES)
+        self.process = None
+
+    def start_process(self, ends=True):
+        number = self.source.randint(1, WRITES) if ends else 0
+        words = [sys.executable, str(HERE / "chaos_node.py"), str(self.chaos.store(self.number)), str(number), str(self.source.randint(0, 1))]
+        self.process = subprocess.Popen(words, stdin=subprocess.PIPE, stdout=subprocess.PIPE, text=True)
+        return self.read() is not None
+
+    def read(self):
+        line = self.process.stdout.readline()
+        return json.loads(line) if line else None
+
+    def ask(self, asked):
+        """The answer; None where the node ended meanwhile."""
+        try:
+            self.process.stdin.write(json.dumps(asked) + "\n")
+            self.process.stdin.flush()
+            answer = self.read()
+        except (BrokenPipeError, ValueError):
+            answer = None
+        self.chaos.told.add(asked, answer)
+        return answer
+
+    def stop(self):
+        if self.process:
+            self.process.stdin.close()
+            self.process.wait()
+            self.process.stdout.close()
+
+    def drawn(self):
+        """What is asked next."""
+        source, chance = self.source, self.source.random()
+        name = source.choice(self.chaos.pool) + source.choice(("", "1", "\u0301", str(source.randint(1, 30))))
+        if chance < 0.62:
+            return {"do": "claim", "name": name, "owner": source.choice("abc")}
+        if chance < 0.76:
+            return {"do": "forget", "name": name}
+        if chance < 0.92:
+            return {"do": "read"}
+        if chance < 0.985:
+            return {"do": "same", "left": name, "right": source.choice(self.chaos.pool)}
+        return {"do": "upgrade", "files": self.chaos.files[min(self.version + 1, len(AGES) - 1)]}
+
+    def run(self):
+        open_now = False
+        last = None
+        while time.time() < self.chaos.end:
+            if not open_now:
+                self.stop()
+                open_now = self.start_process()
+                if not open_now:
+                    time.sleep(0.05)
+                continue
+            asked = last if last and last["do"] == "claim" and self.source.random() < 0.5 else self.drawn()
+            answer = self.ask(asked)
+            # A claim whose answer was lost is asked again.
+            last = None if answer and answer["what"] != "refused" else asked
+            open_now = answer is not None and answer["what"] != "broken"
+            if asked["do"] == "upgrade" and answer and answer["what"] == "upgraded":
+                self.version = min(self.version + 1, len(AGES) - 1)
+        self.stop()
+
+
+class Chaos:
+    """Five nodes over one log."""
+
+    def __init__(self, folder, words):
+        self.folder = folder
+        self.source = random.Random(words.seed)
+        self.told = Told()
+        self.pool = NAMES
+        self.files = self._versions()
+        self.server = Server(folder) if words.log == "redis" else None
+        self.proxies = [Proxy(self.server.port) for _ in range(NODES)] if self.server else []
+        setup = Setup(self.source.choice(("nfc", "nfkc")), self.source.choice((40, 65536)), self.source.choice((1, 3)),
+                      self.source.random() < 0.2)
+        self.setup = setup
+        for number in range(NODES):
+            data, exclusions = (Path(name).read_bytes() for name in self.files[number % len(AGES)])
+            init(str(self.store(number)), Version(data, exclusions), setup, self.log(number))
+        self.end = time.time() + words.seconds
+        self.nodes = [Node(number, self, words.seed * 100 + number) for number in range(NODES)]
+
+    def store(self, number):
+        return self.folder / f"store{number}"
+
+    def log(self, number):
+        return f"redis://127.0.0.1:{self.proxies[number].port}/0#chaos" if self.server else str(self.folder / "log")
+
+    def _versions(self):
+        files, why = ucd.package_files()
+        if files is None:
+            print(f"skipped: chaos over the published versions: {why}")
+            Tally().finish()
+        cut = [ucd.write_cut(files, age, self.folder)[0] for age in AGES[:-1]]
+        return [*cut, [str(files[ucd.DATA]), str(files[ucd.EXCLUSIONS])]]
+
+    def run(self):
+        for node in self.nodes:
+            node.start()
+        while time.time() < self.end:
+            time.sleep(self.source.uniform(0.5, 2.0))
+            if self.server and self.source.random() < 0.2:
+                self.server.kill()
+                time.sleep(self.source.uniform(0, 0.5))
+                self.server.start()
+            for proxy in self.proxies:
+                proxy.drop(self.source.random() < 0.15)
+        for proxy in self.proxies:
+            proxy.drop(False)
+        for node in self.nodes:
+            node.join()
+
+
+def finished(chaos):
+    """Each node goes on to the last version and reads to the end: what each has registered."""
+    found = []
+    for node in chaos.nodes:
+        if not node.start_process(ends=False):
+            found.append(None)
+            continue
+        node.ask({"do": "read"})
+        while node.version < len(AGES) - 1:
+            node.version += 1
+            node.ask({"do": "upgrade", "files": chaos.files[node.version]})
+        node.ask({"do": "read"})
+        found.append(node.ask({"do": "rows"}))
+        node.stop()
+    return found
+
+
+def check_keys(tally, chaos, rows, program):
+    """Each key is what the program makes of its string, under the last version."""
+    lines = Path(program).resolve().parents[2] / "npss_lines" / "out" / "npss_lines"
+    text = b"".join(row[1].encode() + b"\0" for row in rows)
+    ran = subprocess.run([lines, "--null", "--form", chaos.setup.form, *chaos.files[-1]], input=text, stdout=subprocess.PIPE, check=False)
+    tally.same("each key is its string's", ran.stdout, b"".join(b"=" + row[2].encode() + b"\0" for row in rows))
+
+
+def check(tally, chaos, program):
+    """What has to hold in the end."""
+    found = finished(chaos)
+    tally.same("no node found the log broken", chaos.told.broken, [])
+    tally.check("each node opens in the end", None not in found, found)
+    rows = [told["rows"] for told in found if told]
+    for number, other in enumerate(rows[1:], start=1):
+        tally.same(f"nodes 0 and {number} register the same", other, rows[0])
+    tally.same("nothing is parked under the last version", [row for row in rows[0] if row[4]], [])
+    keys = [row[2] for row in rows[0]]
+    tally.check("each key has one holder", chaos.setup.equivalents or len(set(keys)) == len(keys), "two have one key")
+    owners = {row[1]: row[3] for row in rows[0]}
+    lost = [name for name, owner in chaos.told.registered if name not in chaos.told.forgets and owners.get(name) != owner]
+    tally.same("what was answered as registered", lost, [])
+    check_keys(tally, chaos, rows[0], program)
+    judge = Judge([str(chaos.store(number)) for number in range(NODES)], program)
+    tally.same("the judge", judge.run(), [])
+    judge.close()
+    print(f"{judge.events} events replayed, {len(rows[0])} names registered, {chaos.told.ends} times a node ended itself")
+
+
+def main():
+    parser = argparse.ArgumentParser()
+    parser.add_argument("--seconds", type=float, default=180)
+    parser.add_argument("--seed", type=int, default=random.SystemRandom().randrange(1_000_000))
+    parser.add_argument("--log", choices=("sqlite", "redis"), default="redis" if shutil.which("redis-server") else "sqlite")
+    parser.add_argument("program")
+    words = parser.parse_args()
+    print(f"seed {words.seed}, {words.seconds} seconds over {words.log}", flush=True)
+    signal.signal(signal.SIGTERM, lambda *_: sys.exit(143))
+    tally = Tally()
+    with tempfile.TemporaryDirectory() as name:
+        chaos = Chaos(Path(name), words)
+        try:
+            chaos.run()
+            check(tally, chaos, words.program)
+        finally:
+            if chaos.server:
+                chaos.server.kill()
+    tally.finish()
+
+
+if __name__ == "__main__":
+    main()

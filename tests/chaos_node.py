@@ -1,0 +1,109 @@
+#!/usr/bin/env python3
+"""A node of tests/chaos.py: chaos_node.py STORE ENDS AFTER.
+
+It opens the store, and does what each line of its standard input asks, which is JSON; it answers in a line of JSON. At
+its write number ENDS to store or log, from 1, it ends itself at once: behind the write where AFTER is 1, else before it.
+0 never ends it.
+"""
+
+import json
+import os
+import sys
+from contextlib import contextmanager
+
+from npss import Refused
+from npss_registry import LogAway, LogBroken, NotOneChain, Version
+from npss_registry.logs import RedisLog, SqliteLog
+from npss_registry.registry import Registry
+from npss_registry.store import Store
+
+
+class Ends:
+    """Counts the writes to store and log, and ends the process at one."""
+
+    def __init__(self, number, behind):
+        self.left = number
+        self.behind = behind
+
+    @contextmanager
+    def write(self):
+        self.left -= 1
+        if self.left == 0 and not self.behind:
+            os._exit(9)
+        yield
+        if self.left == 0:
+            os._exit(9)
+
+
+def hooked(ends):
+    """Store and logs whose writes are counted."""
+    commit, appends = Store.transaction, {log: log.append for log in (SqliteLog, RedisLog)}
+
+    @contextmanager
+    def transaction(self):
+        with ends.write(), commit(self):
+            yield
+
+    def append_of(log):
+        def append(self, records):
+            with ends.write():
+                return appends[log](self, records)
+        return append
+
+    Store.transaction = transaction
+    for log in appends:
+        log.append = append_of(log)
+
+
+def outcome(told):
+    holder = told.holder
+    return {"what": told.what, "place": holder and holder.place, "string": holder and holder.string}
+
+
+def done(registry, asked):
+    """What a request comes to."""
+    what = asked["do"]
+    if what == "claim":
+        return outcome(registry.claim(asked["name"], asked["owner"]))
+    if what == "forget":
+        return outcome(registry.forget(asked["name"]))
+    if what == "read":
+        registry.catch_up()
+        return {"what": "read"}
+    if what == "same":
+        registry.catch_up()
+        return {"what": str(registry.same(asked["left"], asked["right"]))}
+    if what == "upgrade":
+        data, exclusions = (open(name, "rb").read() for name in asked["files"])
+        return {"what": "upgraded", "parked": len(registry.upgrade(Version(data, exclusions)))}
+    return {"what": "registered", "rows": [(row.place, row.string, row.key, row.owner, row.parked)
+                                           for shard in registry.shards for row in registry.store.registrations(shard.number)]}
+
+
+def answer(registry, asked):
+    """The answer to a request; a refusal is one too."""
+    try:
+        return done(registry, asked)
+    except (Refused, LogAway, NotOneChain) as error:
+        return {"what": "refused", "why": type(error).__name__}
+
+
+def main():
+    store, number, behind = sys.argv[1], int(sys.argv[2]), sys.argv[3] == "1"
+    hooked(Ends(number, behind))
+    try:
+        registry = Registry(store)
+    except LogAway:
+        sys.exit(5)
+    print(json.dumps({"what": "opened"}), flush=True)
+    for line in sys.stdin:
+        try:
+            told = answer(registry, json.loads(line))
+        except LogBroken as error:
+            told = {"what": "broken", "why": str(error)}
+        print(json.dumps(told), flush=True)
+    registry.close()
+
+
+if __name__ == "__main__":
+    main()

@@ -1,0 +1,91 @@
+#!/usr/bin/env python3
+"""tests/registry.py PROGRAM [PREFIX] [--seconds N]: tests the registry of hosts/registry, and runs it in chaos.
+
+PROGRAM is npss. PREFIX is where ./build-c installed the library, that of this tree where none is named; the module npss is
+built over it. In turn: the registry's own tests; chaos over a SQLite file and over a Redis server, for N seconds together,
+60 where nobody says otherwise. Run as root it installs Debian's redis-server, python3-redis, python3-starlette and
+python3-uvicorn where they are missing, unless NO_APT=1 is set; what can't be had is skipped, with its name. Ends in a line
+'N passed, M failed'.
+"""
+
+import argparse
+import os
+import re
+import shutil
+import subprocess
+import sys
+import tempfile
+from pathlib import Path
+
+from harness import ROOT, Tally
+
+HOST = ROOT / "hosts" / "registry"
+PACKAGES = ("redis-server", "python3-redis", "python3-starlette", "python3-uvicorn")
+MODULES = "import redis, starlette, uvicorn"
+SYSTEM_PYTHON = "/usr/bin/python3"
+
+
+def with_modules():
+    """A Python that has the modules; else this one, and what is missing is told."""
+    for python in (sys.executable, SYSTEM_PYTHON):
+        if Path(python).exists() and subprocess.run([python, "-c", MODULES], stderr=subprocess.DEVNULL, check=False).returncode == 0:
+            return python
+    return None
+
+
+def install():
+    """Asks Debian for what is missing, where that may be."""
+    if (with_modules() and shutil.which("redis-server")) or os.environ.get("NO_APT") or os.geteuid() or not shutil.which("apt-get"):
+        return
+    print(f"installing {' '.join(PACKAGES)} by apt-get", flush=True)
+    environment = {**os.environ, "DEBIAN_FRONTEND": "noninteractive"}
+    for words in (["update", "-q"], ["install", "-q", "-y", "--no-install-recommends", *PACKAGES]):
+        subprocess.run(["apt-get", *words], env=environment, stdout=subprocess.DEVNULL, stderr=subprocess.DEVNULL, check=False)
+
+
+def counted(tally, name, command, environment):
+    """Runs a test that ends in a line 'N passed, M failed', shows what it skipped, and adds it up."""
+    ran = subprocess.run(list(map(str, command)), env=environment, stdin=subprocess.DEVNULL, stdout=subprocess.PIPE,
+                         stderr=subprocess.STDOUT, text=True, check=False)
+    lines = ran.stdout.strip().splitlines()
+    last = re.fullmatch(r"(\d+) passed, (\d+) failed", lines[-1] if lines else "")
+    print("\n".join(line for line in lines[:-1] if last and not int(last[2]) or line.startswith("skipped: ")), flush=True)
+    if last:
+        tally.passed += int(last[1])
+        tally.failed += int(last[2])
+    if not last or int(last[2]):
+        print(ran.stdout[-6000:])
+    tally.check(name, last and ran.returncode == (1 if int(last[2]) else 0), f"status {ran.returncode}")
+
+
+def main():
+    parser = argparse.ArgumentParser()
+    parser.add_argument("program", type=Path)
+    parser.add_argument("prefix", nargs="?", type=Path, default=ROOT / "out" / "c")
+    parser.add_argument("--seconds", type=float, default=60)
+    words = parser.parse_args()
+    tally = Tally()
+    if not (words.prefix / "lib" / "libnpss.a").exists() or not shutil.which("cc"):
+        print("skipped: the registry: the library for C isn't built, or there is no C compiler")
+        tally.finish()
+    install()
+    python = with_modules()
+    if python is None:
+        print("skipped: the registry over HTTP and over Redis: python3-redis, python3-starlette or python3-uvicorn is missing")
+    python = python or sys.executable
+    with tempfile.TemporaryDirectory() as site:
+        build = [sys.executable, ROOT / "bindings" / "python" / "build.py", "--prefix", words.prefix, site]
+        built = subprocess.run(build, stdout=subprocess.PIPE, stderr=subprocess.STDOUT, text=True, check=False)
+        if not tally.check("the module for Python is built", built.returncode == 0, built.stdout):
+            tally.finish()
+        environment = {**os.environ, "PYTHONPATH": f"{site}:{HOST}"}
+        counted(tally, "the registry's own tests", [python, HOST / "tests" / "test_registry.py", words.program, ROOT / "fixtures"], environment)
+        logs = ["sqlite", *(["redis"] if shutil.which("redis-server") and with_modules() else [])]
+        for log in logs:
+            chaos = [python, ROOT / "tests" / "chaos.py", "--seconds", words.seconds / len(logs), "--log", log, words.program]
+            counted(tally, f"chaos over {log}", chaos, environment)
+    tally.finish()
+
+
+if __name__ == "__main__":
+    main()
