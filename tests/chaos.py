@@ -6,16 +6,19 @@ PROGRAM is npss, with which the judge replays. The nodes are processes of their 
 log that the seed draws; a Redis server is killed and started again, and nodes are cut off from it by a proxy that drops;
 nodes are upgraded in any order; names are claimed at all nodes at once, given up, and claimed again. At the end the
 judge has to be silent; nodes that read to the end register the same; each key has one holder; no name that was answered
-`registered`, with no forget behind it, is missing; each key is what PROGRAM makes under the last version.
+`registered`, with no forget behind it, is missing; each key is what PROGRAM makes under the last version; and a log that
+lost its tail is refused.
 Prints its seed. Ends in a line 'N passed, M failed'. The modules npss and npss_registry are on PYTHONPATH.
 """
 
 import argparse
+import contextlib
 import json
 import random
 import shutil
 import signal
 import socket
+import sqlite3
 import subprocess
 import sys
 import tempfile
@@ -26,9 +29,10 @@ from pathlib import Path
 import ucd
 from harness import Tally
 
-from npss_registry import Version, init
+from npss_registry import LogBroken, Registry, Version, init
 from npss_registry.judge import Judge
-from npss_registry.records import Setup
+from npss_registry.logs import open_log
+from npss_registry.records import Forget, Setup, spelled
 
 HERE = Path(__file__).resolve().parent
 NODES = 5
@@ -143,6 +147,8 @@ class Node(threading.Thread):
         self.source = random.Random(seed)
         self.version = number % len(AGES)
         self.process = None
+        # When the node goes on to each version that it has not yet; some do only in the end.
+        self.upgrades = sorted(chaos.begin + self.source.uniform(0.2, 1.4) * chaos.seconds for _ in AGES[self.version + 1:])
 
     def start_process(self, ends=True):
         number = self.source.randint(1, WRITES) if ends else 0
@@ -174,6 +180,8 @@ class Node(threading.Thread):
     def drawn(self):
         """What is asked next."""
         source, chance = self.source, self.source.random()
+        if self.upgrades and time.time() > self.upgrades[0]:
+            return {"do": "upgrade", "files": self.chaos.files[self.version + 1]}
         name = source.choice(self.chaos.pool) + source.choice(("", "1", "\u0301", str(source.randint(1, 30))))
         if chance < 0.62:
             return {"do": "claim", "name": name, "owner": source.choice("abc")}
@@ -181,9 +189,7 @@ class Node(threading.Thread):
             return {"do": "forget", "name": name}
         if chance < 0.92:
             return {"do": "read"}
-        if chance < 0.985:
-            return {"do": "same", "left": name, "right": source.choice(self.chaos.pool)}
-        return {"do": "upgrade", "files": self.chaos.files[min(self.version + 1, len(AGES) - 1)]}
+        return {"do": "same", "left": name, "right": source.choice(self.chaos.pool)}
 
     def run(self):
         open_now = False
@@ -201,7 +207,8 @@ class Node(threading.Thread):
             last = None if answer and answer["what"] != "refused" else asked
             open_now = answer is not None and answer["what"] != "broken"
             if asked["do"] == "upgrade" and answer and answer["what"] == "upgraded":
-                self.version = min(self.version + 1, len(AGES) - 1)
+                self.version += 1
+                self.upgrades.pop(0)
         self.stop()
 
 
@@ -222,7 +229,8 @@ class Chaos:
         for number in range(NODES):
             data, exclusions = (Path(name).read_bytes() for name in self.files[number % len(AGES)])
             init(str(self.store(number)), Version(data, exclusions), setup, self.log(number))
-        self.end = time.time() + words.seconds
+        self.seconds, self.begin = words.seconds, time.time()
+        self.end = self.begin + words.seconds
         self.nodes = [Node(number, self, words.seed * 100 + number) for number in range(NODES)]
 
     def store(self, number):
@@ -273,6 +281,26 @@ def finished(chaos):
     return found
 
 
+def check_lost_tail(tally, chaos):
+    """A log that lost its last record, or has another one in its place, is not read on. What is done here is not mended."""
+    log = open_log(chaos.log(0))
+    last = max(range(chaos.setup.shards), key=log.last)
+    place = log.last(last)
+    log.close()
+    if chaos.server:
+        import redis
+
+        redis.Redis(port=chaos.server.port).xdel(f"chaos:{last}", f"0-{place}")
+    else:
+        with contextlib.closing(sqlite3.connect(chaos.log(0))) as base, base:
+            base.execute("UPDATE record SET body = ? WHERE place = ?", (spelled(Forget("another", 1)), place))
+    try:
+        Registry(str(chaos.store(0))).abandon()
+        tally.check("a log that lost its tail is refused", False, "it is read on")
+    except LogBroken as error:
+        tally.same("the place of the loss", error.place, place)
+
+
 def check_keys(tally, chaos, rows, program):
     """Each key is what the program makes of its string, under the last version."""
     lines = Path(program).resolve().parents[2] / "npss_lines" / "out" / "npss_lines"
@@ -299,6 +327,7 @@ def check(tally, chaos, program):
     judge = Judge([str(chaos.store(number)) for number in range(NODES)], program)
     tally.same("the judge", judge.run(), [])
     judge.close()
+    check_lost_tail(tally, chaos)
     print(f"{judge.events} events replayed, {len(rows[0])} names registered, {chaos.told.ends} times a node ended itself")
 
 

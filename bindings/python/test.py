@@ -13,7 +13,7 @@ from pathlib import Path
 
 import npss
 from npss import (Accepted, BadEntry, BadTables, Break, Entry, Full, KeyDiffers, Malformed, Node, NotUtf8, OlderTables, OtherForm,
-                  Refused, Tables, TooLong, Unassigned)
+                  Refused, Stream, Tables, TooLong, Unassigned)
 
 V1, V2 = sys.argv[1:3], sys.argv[3:5]
 MARKED = "a\u0302\u0323"
@@ -150,6 +150,87 @@ class Texts(unittest.TestCase):
         for thread in threads:
             thread.join()
         self.assertEqual(wrong, [])
+
+
+class Codes(unittest.TestCase):
+    def setUp(self):
+        self.tables = Tables.open(*V1)
+
+    def test_properties(self):
+        for code, told in ((0x61, (True, 0, None, False)), ("\u0323", (True, 220, None, False)), (0x1EAD, (True, 0, "canonical", False)),
+                           ("\ufb01", (True, 0, "compatibility", False)), (0x958, (True, 0, "canonical", True)), (0xAC01, (True, 0, "canonical", False)),
+                           (0x10FFFF, (False, 0, None, False)), (0xD800, (False, 0, None, False)), (0, (False, 0, None, False))):
+            self.assertEqual(tuple(self.tables.property(code)), told, code)
+        self.assertEqual(self.tables.property("a").combining_class, 0)
+        for wrong in (-1, 0x110000, 2 ** 70, "ab", ""):
+            self.assertRaises(ValueError, self.tables.property, wrong)
+        self.assertRaises(TypeError, self.tables.property, 1.5)
+
+    def test_decompositions(self):
+        for code, compatible, made in (("\u1ead", False, "a\u0323\u0302"), (0xFB01, False, "\ufb01"), (0xFB01, True, "fi"), (0xAC01, False, "\u1100\u1161\u11a8"),
+                                       ("a", True, "a"), (0x378, False, "\u0378"), (0x10FFFF, True, "\U0010ffff")):
+            self.assertEqual(self.tables.decomposition(code, compatible), made)
+        self.assertRaises(ValueError, self.tables.decomposition, 0xD800)
+        self.assertRaises(ValueError, self.tables.decomposition, 0x110000)
+
+    def test_composites(self):
+        self.assertEqual(self.tables.composite("a", "\u0302"), "\u00e2")
+        self.assertEqual(self.tables.composite(0x1100, 0x1161), "\uac00")
+        for first, second in (("a", "a"), (0x915, 0x93C), (0xD800, 0x61)):
+            self.assertIsNone(self.tables.composite(first, second))
+        self.assertRaises(TypeError, self.tables.composite, "a")
+
+    def test_the_first_unassigned(self):
+        self.assertIsNone(self.tables.first_unassigned(MARKED))
+        told = self.tables.first_unassigned("\u1ead\U00016d67")
+        self.assertIsInstance(told, Unassigned)
+        self.assertEqual((told.code, told.place, told.index), (0x16D67, 3, 1))
+
+
+class Streams(unittest.TestCase):
+    def setUp(self):
+        self.tables = Tables.open(*V1)
+
+    def made(self, pieces, form="nfc"):
+        stream = self.tables.stream(form)
+        return b"".join([*map(stream.feed, pieces), stream.finish()]), stream.unassigned
+
+    def test_a_text_in_pieces(self):
+        text = (MARKED + "\ufb01\u0915\u093c\u1100\u1161\u11a8A") * 3
+        whole = text.encode()
+        for form in ("nfc", "nfd", "nfkc", "nfkd"):
+            made = self.tables.key(text, form).encode()
+            for at in range(len(whole) + 1):
+                self.assertEqual(self.made([whole[:at], whole[at:]], form), (made, None))
+            self.assertEqual(self.made([bytes([byte]) for byte in whole], form), (made, None))
+        self.assertEqual(self.made([]), (b"", None))
+        self.assertEqual(self.made(["a", "\u0302", ""]), ("\u00e2".encode(), None))
+
+    def test_a_long_text(self):
+        made, unassigned = self.made([MARKED * 100_000, "a" + "\u0302" * 100_000])
+        self.assertEqual((made.decode(), unassigned), ("\u1ead" * 100_000 + "\u00e2" + "\u0302" * 99_999, None))
+
+    def test_a_text_without_a_key(self):
+        made, unassigned = self.made(["\u1ead", "\U00016d67", "A"])
+        self.assertEqual(made.decode(), "\u1ead\U00016d67A")
+        self.assertEqual((unassigned.code, unassigned.place, unassigned.index), (0x16D67, 3, None))
+
+    def test_what_is_no_text(self):
+        stream = self.tables.stream()
+        made = stream.feed(b"A\xe1\xba")
+        with self.assertRaises(NotUtf8) as caught:
+            stream.feed(b"A")
+        self.assertEqual(caught.exception.place, 1)
+        self.assertRaises(NotUtf8, stream.finish)
+        self.assertRaises(ValueError, lambda: stream.unassigned)
+        self.assertEqual(made + stream.feed(b"\xad") + stream.finish(), "A\u1ead".encode())
+        self.assertRaises(ValueError, stream.feed, "A")
+        self.assertRaises(ValueError, stream.finish)
+
+    def test_a_stream_outlives_its_tables(self):
+        stream = Tables.open(*V1).stream("nfd")
+        self.assertEqual(stream.feed("\u1ead") + stream.finish(), "a\u0323\u0302".encode())
+        self.assertRaises(TypeError, type(stream))
 
 
 class Versions(unittest.TestCase):
@@ -353,7 +434,7 @@ class Pages(unittest.TestCase):
         for word in ("accept(self, string, /)", "key(self, /, text, form='nfc')", "open(data, exclusions)", "stabilized string", "class Unassigned"):
             self.assertIn(word, page)
         stub = Path(npss.__file__).with_name("_npss.pyi").read_text(encoding="utf-8")
-        for kind in (Tables, Node):
+        for kind in (Tables, Node, Stream):
             for name in (name for name in dir(kind) if not name.startswith("_")):
                 self.assertTrue(getattr(kind, name).__doc__)
                 self.assertIn(f"def {name}(", stub)

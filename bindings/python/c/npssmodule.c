@@ -38,6 +38,8 @@ static int begin(PyObject *module) {
     if (bring_python_half(state)) return -1;
     if (add_type(module, state, TABLES_TYPE, "Tables", PyType_FromModuleAndSpec(module, &tables_spec, NULL)) ||
         add_type(module, state, NODE_TYPE, "Node", PyType_FromModuleAndSpec(module, &node_spec, NULL)) ||
+        add_type(module, state, STREAM_TYPE, "Stream", PyType_FromModuleAndSpec(module, &stream_spec, NULL)) ||
+        add_type(module, state, PROPERTY_TYPE, "Property", (PyObject *)PyStructSequence_NewType(&property_description)) ||
         add_type(module, state, BREAK_TYPE, "Break", (PyObject *)PyStructSequence_NewType(&break_description)) ||
         add_type(module, state, ENTRY_TYPE, "Entry", (PyObject *)PyStructSequence_NewType(&entry_description)))
         return -1;

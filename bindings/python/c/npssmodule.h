@@ -38,8 +38,10 @@ enum member {
     /* The module's own types. */
     TABLES_TYPE,
     NODE_TYPE,
+    STREAM_TYPE,
     BREAK_TYPE,
     ENTRY_TYPE,
+    PROPERTY_TYPE,
     MEMBERS
 };
 
@@ -60,10 +62,13 @@ typedef struct bytes {
     PyObject *owner;
 } bytes;
 
-extern PyType_Spec tables_spec, node_spec;
-extern PyStructSequence_Desc break_description, entry_description;
+extern PyType_Spec tables_spec, node_spec, stream_spec;
+extern PyStructSequence_Desc break_description, entry_description, property_description;
 
-/* Raises what an answer tells that is not done, and answers NULL. `text` has the bytes in which a place counts. */
+/* The exception of an answer that is not done; NULL where an error was raised. `text` has the bytes in which a place counts. */
+PyObject *refusal(const module_state *state, npss_answer a, const uint8_t *text);
+
+/* Raises what an answer tells that is not done, and answers NULL. */
 PyObject *refuse(const module_state *state, npss_answer a, const uint8_t *text);
 
 /* The same of an image; `image` has its bytes. */

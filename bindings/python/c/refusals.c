@@ -39,8 +39,7 @@ static int plain_class(uint32_t status) {
     }
 }
 
-/* The exception of an answer that is not done; NULL where an error was raised. */
-static PyObject *refusal(const module_state *state, npss_answer a, const uint8_t *text) {
+PyObject *refusal(const module_state *state, npss_answer a, const uint8_t *text) {
     unsigned long long place = a.place, length = a.length;
     int plain = plain_class(a.status);
     if (plain >= 0) return PyObject_CallObject(state->of[plain], NULL);

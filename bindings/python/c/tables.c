@@ -1,5 +1,5 @@
 /* Tables: keys, normal forms and questions under one version. */
-#include "arguments.h"
+#include "tables.h"
 
 /* After so many texts of a list Python is asked whether a signal came. */
 #define TEXTS 1024
@@ -369,6 +369,19 @@ static PyMethodDef methods[] = {
     {"equivalent", FAST(tables_equivalent),
      "equivalent($self, /, left, right, compatible=False)\n--\n\nWhether two texts are canonical equivalents, or "
      "compatible ones where `compatible`."},
+    {"property", tables_property, METH_O,
+     "property($self, code, /)\n--\n\nWhat the version says of a code point, a Property. It is a number, or a str of one "
+     "character."},
+    {"decomposition", FAST(tables_decomposition),
+     "decomposition($self, /, code, compatible=False)\n--\n\nThe full decomposition of a code point: the canonical one, or "
+     "the compatible one.\n\nOf one that has no mapping it is the code point itself."},
+    {"composite", (PyCFunction)(void (*)(void))tables_composite, METH_FASTCALL,
+     "composite($self, first, second, /)\n--\n\nThe primary composite of two code points; None where there is none."},
+    {"first_unassigned", tables_first_unassigned, METH_O,
+     "first_unassigned($self, text, /)\n--\n\nThe Unassigned that key would raise; None where each code point is "
+     "assigned.\n\nWith the tables of an earlier version it tells what a machine that lags behind lacks of a key."},
+    {"stream", FAST(tables_stream),
+     "stream($self, /, form='nfc')\n--\n\nA Stream, for a text that comes in pieces."},
     {"__reduce__", tables_reduce, METH_NOARGS, "Raises TypeError: a Tables isn't pickled."},
     {"extends", tables_extends, METH_O,
      "extends($self, older, /)\n--\n\nWhether this version extends an older one, so that keys under the older one stay "

@@ -6,17 +6,22 @@ import hmac
 import json
 import sys
 from collections.abc import AsyncIterator
+from http import HTTPStatus
 from pathlib import Path
 from typing import Any, Optional
+from urllib.parse import parse_qs
 
 import uvicorn
 from npss import Refused, Unassigned
 from starlette.applications import Starlette
 from starlette.requests import Request
-from starlette.responses import JSONResponse, Response
+from starlette.responses import HTMLResponse, JSONResponse, Response
 from starlette.routing import Route
 
+from npss_registry import pages
 from npss_registry.errors import LogAway, RegistryError, StoreError
+from npss_registry.explaining import Names, compared
+from npss_registry.registry import Registry
 from npss_registry.shards import Outcome
 from npss_registry.store import Registration
 from npss_registry.worker import Worker
@@ -38,15 +43,20 @@ def _told(found: Registration) -> dict[str, Any]:
     return {"name": found.string, "owner": found.owner, "place": found.place, "key": found.key, "parked": found.parked}
 
 
-async def _body(request: Request) -> dict[str, Any]:
-    """The JSON object of a request."""
+async def _bounded(request: Request) -> bytes:
+    """The body of a request, up to its limit."""
     body = bytearray()
     async for piece in request.stream():
         body += piece
         if len(body) > MOST_BODY:
             raise Fault(413, f"a body has at most {MOST_BODY} bytes")
+    return bytes(body)
+
+
+async def _body(request: Request) -> dict[str, Any]:
+    """The JSON object of a request."""
     try:
-        told = json.loads(body)
+        told = json.loads(await _bounded(request))
     except ValueError as error:
         raise Fault(400, f"the body is no JSON: {error}") from error
     if not isinstance(told, dict):
@@ -93,6 +103,7 @@ class Service:
     def __init__(self, worker: Worker, token: Optional[str]):
         self._worker = worker
         self._token = token
+        self._known: Optional[tuple[int, Names]] = None
 
     def check_token(self, request: Request) -> None:
         """What changes names wants the token."""
@@ -134,15 +145,54 @@ class Service:
         return JSONResponse({"node": registry.store.node, "assigned": registry.tables.count, "form": registry.setup.form,
                              "room": registry.setup.room, "shards": shards})
 
+    # ---- pages for people
+
+    async def home(self, request: Request) -> Response:
+        rows = await self._work(lambda registry: registry.status())
+        registry = self._worker.registry
+        return _html(pages.home(registry.store.node, registry.tables.count, registry.setup.form, rows))
+
+    async def search(self, request: Request) -> Response:
+        name = (await _fields(request, "name"))[0]
+        try:
+            found = await self._work(lambda registry: registry.find(name))
+        except Refused as error:
+            return _html(pages.search(name, [], str(error)))
+        return _html(pages.search(name, found))
+
+    async def why(self, request: Request) -> Response:
+        left, right = await _fields(request, "left", "right")
+        form = self._worker.registry.setup.form
+        return _html(pages.why(form, await self._work(lambda registry: compared(registry.tables, self._names(registry), form, left, right))))
+
+    def _names(self, registry: Registry) -> Names:
+        """The names of the code points of the version in use, which are read once."""
+        if self._known is None or self._known[0] != registry.tables.count:
+            self._known = registry.tables.count, Names(registry.store.versions()[-1])
+        return self._known[1]
+
     async def _work(self, work: Any) -> Any:
         return await asyncio.wrap_future(self._worker.work(work))
+
+
+async def _fields(request: Request, *names: str) -> list[str]:
+    """The fields of a form that a page sent."""
+    try:
+        told = parse_qs((await _bounded(request)).decode(), keep_blank_values=True, errors="strict")
+    except ValueError as error:
+        raise Fault(400, "the form is not UTF-8") from error
+    return [told.get(name, [""])[0] for name in names]
+
+
+def _html(text: str) -> HTMLResponse:
+    return HTMLResponse(text, headers={"Content-Security-Policy": "default-src 'none'; style-src 'unsafe-inline'; form-action 'self'"})
 
 
 def _failed(request: Request, error: Exception) -> Response:
     if isinstance(error, Refused):
         return _refused(error)
     if isinstance(error, Fault):
-        return JSONResponse({"error": "BadRequest", "why": str(error)}, error.status)
+        return JSONResponse({"error": HTTPStatus(error.status).phrase, "why": str(error)}, error.status)
     why = f"{error}; the outcome is unknown, ask again" if isinstance(error, LogAway) else str(error)
     return JSONResponse({"error": type(error).__name__, "why": why}, 503)
 
@@ -158,7 +208,8 @@ def application(worker: Worker, token: Optional[str]) -> Starlette:
 
     routes = [Route("/claim", service.claim, methods=["POST"]), Route("/forget", service.forget, methods=["POST"]),
               Route("/find", service.find, methods=["POST"]), Route("/same", service.same, methods=["POST"]),
-              Route("/status", service.status, methods=["GET"])]
+              Route("/status", service.status, methods=["GET"]), Route("/", service.home, methods=["GET"]),
+              Route("/search", service.search, methods=["POST"]), Route("/why", service.why, methods=["POST"])]
     faults: dict[Any, Any] = {kind: _failed for kind in (Refused, Fault, RegistryError)}
     return Starlette(routes=routes, exception_handlers=faults, lifespan=lifespan)
 

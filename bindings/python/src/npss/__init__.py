@@ -17,6 +17,9 @@ A Node keeps strings beside their keys, tells them to other nodes by messages, a
     ...     away.take(home.message("Zo\u00eb"))
     <Accepted.KEPT: 'kept'>
 
+Tables.stream makes the form of a text that comes in pieces. Tables.property, decomposition and composite tell what a
+version says of code points, for those who have to explain a key.
+
 One Tables serves all threads. Long texts are worked on without the interpreter's lock. What is refused is told by an
 exception under Refused, and changes nothing.
 """
@@ -24,8 +27,8 @@ exception under Refused, and changes nothing.
 from npss._accepted import Accepted
 from npss._errors import (BadEntry, BadTables, Full, KeyDiffers, Malformed, NotUtf8, OlderTables, OtherForm, Refused,
                           TooLong, Unassigned)
-from npss._npss import Break, Entry, Node, Tables
+from npss._npss import Break, Entry, Node, Property, Stream, Tables
 
 __all__ = ["Accepted", "BadEntry", "BadTables", "Break", "Entry", "Full", "KeyDiffers", "Malformed", "Node", "NotUtf8",
-           "OlderTables", "OtherForm", "Refused", "Tables", "TooLong", "Unassigned"]
+           "OlderTables", "OtherForm", "Property", "Refused", "Stream", "Tables", "TooLong", "Unassigned"]
 __version__ = "0.1.0"

@@ -1,6 +1,3 @@
-from typing import Iterable, Iterator, Literal, NamedTuple, Optional, Union, overload
-from typing import final
-
 from npss._accepted import Accepted as Accepted
 from npss._errors import BadEntry as BadEntry
 from npss._errors import BadTables as BadTables
@@ -16,8 +13,10 @@ from npss._errors import Unassigned as Unassigned
 from npss._npss import Break as Break
 from npss._npss import Entry as Entry
 from npss._npss import Node as Node
+from npss._npss import Property as Property
+from npss._npss import Stream as Stream
 from npss._npss import Tables as Tables
 
 __all__ = ["Accepted", "BadEntry", "BadTables", "Break", "Entry", "Full", "KeyDiffers", "Malformed", "Node", "NotUtf8",
-           "OlderTables", "OtherForm", "Refused", "Tables", "TooLong", "Unassigned"]
+           "OlderTables", "OtherForm", "Property", "Refused", "Stream", "Tables", "TooLong", "Unassigned"]
 __version__: str

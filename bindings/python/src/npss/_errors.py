@@ -15,19 +15,21 @@ class Unassigned(Refused):
 
     code:   the first such code point, a number
     place:  where it stands, in bytes of UTF-8, from 0
-    index:  where it stands, in characters of the str, from 0
+    index:  where it stands, in characters of the str, from 0; None where the text came in pieces
     number: of Tables.keys, which of the texts it is, from 0; else None
     """
 
     number: Optional[int] = None
 
-    def __init__(self, code: int, place: int, index: int):
+    def __init__(self, code: int, place: int, index: Optional[int]):
         super().__init__(code, place, index)
         self.code = code
         self.place = place
         self.index = index
 
     def __str__(self) -> str:
+        if self.index is None:
+            return f"{self.code:04X} at byte {self.place} is not assigned"
         return f"{self.code:04X} at character {self.index} (byte {self.place}) is not assigned"
 
 

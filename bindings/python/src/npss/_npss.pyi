@@ -1,6 +1,7 @@
 from typing import Iterable, Iterator, Literal, NamedTuple, NoReturn, Optional, Union, final, overload
 
 from npss._accepted import Accepted
+from npss._errors import Unassigned
 from npss._files import File
 
 _Form = Literal["nfc", "nfd", "nfkc", "nfkd", "NFC", "NFD", "NFKC", "NFKD"]
@@ -14,6 +15,19 @@ class Break(NamedTuple):
 class Entry(NamedTuple):
     string: str
     key: str
+
+class Property(NamedTuple):
+    assigned: bool
+    combining_class: int
+    mapping: Optional[Literal["canonical", "compatibility"]]
+    excluded: bool
+
+@final
+class Stream:
+    def feed(self, piece: _String, /) -> bytes: ...
+    def finish(self) -> bytes: ...
+    @property
+    def unassigned(self) -> Optional[Unassigned]: ...
 
 @final
 class Tables:
@@ -29,6 +43,11 @@ class Tables:
     def equivalent(self, left: str, right: str, compatible: bool = False) -> bool: ...
     def extends(self, older: Tables, /) -> bool: ...
     def first_break(self, older: Tables, /) -> Optional[Break]: ...
+    def property(self, code: Union[int, str], /) -> Property: ...
+    def decomposition(self, code: Union[int, str], compatible: bool = False) -> str: ...
+    def composite(self, first: Union[int, str], second: Union[int, str], /) -> Optional[str]: ...
+    def first_unassigned(self, text: str, /) -> Optional[Unassigned]: ...
+    def stream(self, form: _Form = "nfc") -> Stream: ...
     def __reduce__(self) -> NoReturn: ...
 
 @final

@@ -1,0 +1,100 @@
+"""Why two names are the same or not: what a version says of each of their code points, and where their keys part."""
+
+from bisect import bisect_right
+from dataclasses import dataclass
+from typing import Optional
+
+from npss import Tables, Unassigned
+
+from npss_registry.store import Version
+
+
+class Names:
+    """The names of code points, as UnicodeData.txt has them."""
+
+    def __init__(self, version: Version):
+        self._single: dict[int, str] = {}
+        self._firsts: list[int] = []
+        self._ranges: list[tuple[int, str]] = []
+        first = 0
+        for line in version.data.decode(errors="replace").splitlines():
+            code, _, rest = line.partition(";")
+            name = rest.partition(";")[0]
+            if not code or code.startswith("#"):
+                continue
+            if name.endswith(", First>"):
+                first = int(code, 16)
+            elif name.endswith(", Last>"):
+                self._firsts.append(first)
+                self._ranges.append((int(code, 16), f"{name.removesuffix(', Last>')}>"))
+            else:
+                self._single[int(code, 16)] = name
+
+    def name(self, code: int) -> str:
+        """The name of a code point, or of its range; empty where it isn't assigned."""
+        found = self._single.get(code)
+        if found is not None:
+            return found
+        at = bisect_right(self._firsts, code) - 1
+        return self._ranges[at][1] if at >= 0 and code <= self._ranges[at][0] else ""
+
+
+@dataclass(frozen=True)
+class Row:
+    """What a version says of one code point of a name."""
+
+    code: int
+    name: str
+    assigned: bool
+    combining_class: int
+    mapping: Optional[str]
+    decomposition: str
+
+
+@dataclass(frozen=True)
+class Side:
+    """A name, code point by code point, and its key; none where a code point isn't assigned."""
+
+    text: str
+    rows: list[Row]
+    key: Optional[str]
+    refusal: Optional[Unassigned]
+
+
+@dataclass(frozen=True)
+class Verdict:
+    """Two names beside one another. `place` is the first code point, from 0, where their keys differ."""
+
+    left: Side
+    right: Side
+    same: Optional[bool]
+    place: Optional[int]
+
+
+def hex_of(code: int) -> str:
+    return f"{code:04X}"
+
+
+def side(tables: Tables, names: Names, form: str, text: str) -> Side:
+    """A name as the page shows it."""
+    rows = []
+    for character in text:
+        told = tables.property(character)
+        decomposition = tables.decomposition(character, form in ("nfkd", "nfkc"))
+        rows.append(Row(ord(character), names.name(ord(character)), told.assigned, told.combining_class, told.mapping,
+                        " ".join(hex_of(ord(one)) for one in decomposition) if decomposition != character else ""))
+    try:
+        return Side(text, rows, tables.key(text, form), None)
+    except Unassigned as error:
+        return Side(text, rows, None, error)
+
+
+def compared(tables: Tables, names: Names, form: str, left: str, right: str) -> Verdict:
+    """Why two names are the same or not, under a form."""
+    one, other = side(tables, names, form, left), side(tables, names, form, right)
+    if one.key is None or other.key is None:
+        return Verdict(one, other, None, None)
+    if one.key == other.key:
+        return Verdict(one, other, True, None)
+    place = next((at for at, (a, b) in enumerate(zip(one.key, other.key)) if a != b), min(len(one.key), len(other.key)))
+    return Verdict(one, other, False, place)

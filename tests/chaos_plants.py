@@ -1,0 +1,105 @@
+#!/usr/bin/env python3
+"""tests/chaos_plants.py [--seconds N] [NAME..] PROGRAM: plants bugs into the registry, and sees that chaos finds each.
+
+Each bug is one edit of a copy of hosts/registry. Chaos runs over the copy, over a SQLite file and over a Redis server in
+turn, half a minute each, until it fails or N seconds are over, 180 where nobody says otherwise. On demand: not called by
+./test. Ends in a line 'N passed, M failed'.
+"""
+
+import argparse
+import os
+import shutil
+import subprocess
+import sys
+import tempfile
+import time
+from pathlib import Path
+
+from harness import ROOT, Tally
+
+# For each bug its file, a text that stands there once, and what stands there in its place.
+PLANTS = {
+    "a transaction is split in two": ("registry.py", """                with self._writing():
+                    for number, piece in pieces.items():
+                        for place, outcome in self.shards[number].apply(piece).items():
+                            outcomes[number, place] = outcome
+""", """                for number, piece in pieces.items():
+                    for one in piece:
+                        with self._writing():
+                            self.store.applied(number, one[0], records.sum_of(one[1]))
+                        with self._writing():
+                            for place, outcome in self.shards[number].apply([one]).items():
+                                outcomes[number, place] = outcome
+"""),
+    "the place is written before its records": ("shards.py", """        outcomes = {}
+        for place, body in piece:
+""", """        outcomes = {}
+        if piece:
+            self._store.applied(self.number, piece[-1][0], records.sum_of(piece[-1][1]))
+            self._store._base.execute("COMMIT")
+            self._store._base.execute("BEGIN IMMEDIATE")
+            __import__("random").random() < 0.02 and __import__("os")._exit(9)
+        for place, body in piece:
+"""),
+    "a parked record is dropped": ("shards.py", """        refused = self._take(place, claim)
+        new =""", """        refused = self._take(place, claim)
+        if refused:
+            return Outcome("full")
+        new ="""),
+    "a parked key is not counted": ("shards.py", """else self._store.with_key(self.number, key)""",
+                                    """else [one for one in self._store.with_key(self.number, key) if not one.parked]"""),
+    "a forget without its place": ("shards.py", """if holder is None or holder.place != forget.place:""", """if holder is None:"""),
+    "an image with the wrong place": ("shards.py", """self._store.save(self.number, self.node.image(), self.place, self._version)""",
+                                      """self._store.save(self.number, self.node.image(), max(self.place - 1, 0), self._version)"""),
+    "the last record is not compared": ("shards.py", """if found is None or records.sum_of(found) != known:""", """if found is None:"""),
+    "an answer before the record is read back": ("registry.py", """        told = self.catch_up({number for _, number, _ in publish})
+        return {index: told[number, place] for (index, number, _), place in zip(publish, places)}
+""", """        return {index: Outcome("registered") for index, _, _ in publish}
+"""),
+}
+
+
+def planted(folder, name):
+    """A copy of the registry with a bug in it."""
+    file, old, new = PLANTS[name]
+    copy = Path(folder, "registry")
+    shutil.copytree(ROOT / "hosts" / "registry", copy)
+    path = copy / "npss_registry" / file
+    text = path.read_text(encoding="utf-8")
+    if text.count(old) != 1:
+        raise SystemExit(f"{name}: the text to be edited stands {text.count(old)} times in {file}")
+    path.write_text(text.replace(old, new), encoding="utf-8")
+    return copy
+
+
+def found_after(copy, program, seconds):
+    """After how many seconds chaos failed; None where it didn't."""
+    environment = {**os.environ, "PYTHONPATH": f"{copy}:{os.environ.get('PYTHONPATH', '')}"}
+    begun, seed = time.time(), 0
+    while time.time() - begun < seconds:
+        for log in ("sqlite", "redis"):
+            seed += 1
+            words = [sys.executable, ROOT / "tests" / "chaos.py", "--seconds", "30", "--seed", str(seed), "--log", log, program]
+            ran = subprocess.run(list(map(str, words)), env=environment, stdout=subprocess.PIPE, stderr=subprocess.STDOUT, text=True, check=False)
+            if ran.returncode:
+                return time.time() - begun
+    return None
+
+
+def main():
+    parser = argparse.ArgumentParser()
+    parser.add_argument("--seconds", type=float, default=180)
+    parser.add_argument("--only", choices=list(PLANTS), action="append")
+    parser.add_argument("program", type=Path)
+    words = parser.parse_args()
+    tally = Tally()
+    for name in words.only or PLANTS:
+        with tempfile.TemporaryDirectory() as folder:
+            seconds = found_after(planted(folder, name), words.program, words.seconds)
+        tally.check(name, seconds is not None, f"not found within {words.seconds} seconds")
+        print(f"{name}: found after {seconds and round(seconds)} seconds", flush=True)
+    tally.finish()
+
+
+if __name__ == "__main__":
+    main()
