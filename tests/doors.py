@@ -29,7 +29,9 @@ from harness import ROOT, Tally, run
 
 HERE = ROOT / "tests" / "doors"
 V1, V2 = ([str(ROOT / "fixtures" / name) for name in version] for version in (versions.V1, versions.V2))
-CALLS = ("answers", "close", "count", "equivalent", "extends", "is_form", "key", "normalize", "open", "share")
+CALLS = ("answers", "close", "count", "equivalent", "extends", "is_form", "key", "node_accept", "node_close", "node_count",
+         "node_entry", "node_forget", "node_image", "node_key", "node_message", "node_new", "node_restore", "node_same",
+         "node_take", "node_upgrade", "node_version", "normalize", "open", "share")
 # The form's letter for C, and its name for the program.
 LETTERS = {"D": "nfd", "C": "nfc", "d": "nfkd", "c": "nfkc"}
 # The keys of the lines of the input, by Python: words are the form and the two files.
@@ -111,14 +113,15 @@ def check_names(tally, prefix):
 def check_c(tally, prefix, folder):
     """Each call and each status, from C, and threads."""
     files = [*V1, *V2]
-    for shared in (False, True):
-        program = compiled(tally, prefix, folder, "calls", shared)
-        if program:
-            counted(tally, program.name, [program, *files, LARGE])
-    program = folder / "calls"
-    if program.exists() and wanted("valgrind"):
-        counted(tally, "the calls under valgrind", ["valgrind", "-q", "--error-exitcode=9", "--leak-check=full",
-                                                    "--show-leak-kinds=all", program, *files, LARGE // 100])
+    for name in ("calls", "nodes"):
+        for shared in (False, True):
+            program = compiled(tally, prefix, folder, name, shared)
+            if program:
+                counted(tally, program.name, [program, *files, LARGE])
+        program = folder / name
+        if program.exists() and wanted("valgrind"):
+            counted(tally, f"{name} under valgrind", ["valgrind", "-q", "--error-exitcode=9", "--leak-check=full",
+                                                      "--show-leak-kinds=all", program, *files, LARGE // 100])
     program = compiled(tally, prefix, folder, "threads")
     if program:
         counted(tally, "threads", [program, *V1, KEYS])
