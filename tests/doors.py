@@ -124,14 +124,15 @@ def check_names(tally, prefix):
 def check_c(tally, prefix, folder):
     """Each call and each status, from C, and threads."""
     files = [*V1, *V2]
-    for shared in (False, True):
-        program = compiled(tally, prefix, folder, "calls", shared)
-        if program:
-            counted(tally, program.name, [program, *files, LARGE])
-    program = folder / "calls"
-    if program.exists() and wanted("valgrind"):
-        counted(tally, "the calls under valgrind", ["valgrind", "-q", "--error-exitcode=9", "--leak-check=full",
-                                                    "--show-leak-kinds=all", program, *files, LARGE // 100])
+    for name in ("calls", "nodes"):
+        for shared in (False, True):
+            program = compiled(tally, prefix, folder, name, shared)
+            if program:
+                counted(tally, program.name, [program, *files, LARGE])
+        program = folder / name
+        if program.exists() and wanted("valgrind"):
+            counted(tally, f"{name} under valgrind", ["valgrind", "-q", "--error-exitcode=9", "--leak-check=full",
+                                                      "--show-leak-kinds=all", program, *files, LARGE // 100])
     program = compiled(tally, prefix, folder, "threads")
     if program:
         counted(tally, "threads", [program, *V1, KEYS])

@@ -48,7 +48,7 @@ CALLS = {
     "forms": ("form", "npss", "lend_npss", "into_npss", "is_form", "equivalent", "feed", "finish", "run"),
     "chain": ("audit",),
     "lines": ("answer_lines", "answer_bytes"),
-    "node": ("accept", "take", "image", "restore"),
+    "node": ("accept", "keep_string", "spell", "take", "image", "restore"),
     "world": ("read_schedule", "replay", "report_text"),
     "jobs": ("parse",),
     "lines_job": ("parse_lines",),
