@@ -1,4 +1,5 @@
 pub mod Answers
+pub mod Codes
 pub mod Files
 pub mod Lines
 pub mod Texts

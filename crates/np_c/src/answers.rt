@@ -27,6 +27,8 @@ pub const TOO_LARGE: u32 = 10;
 pub const DIFFERENT: u32 = 11;
 /// The byte that is to end lines is neither 10 nor 0.
 pub const NO_END: u32 = 12;
+/// The number is no code point.
+pub const NO_CODE: u32 = 23;
 
 /// How a call ended. What a status has no use for is 0.
 #[repr(C)]

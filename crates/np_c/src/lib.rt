@@ -4,6 +4,7 @@
 
 mod answers;
 mod apart;
+mod code_exports;
 mod comparing;
 mod exports;
 mod handles;
@@ -11,6 +12,7 @@ mod held;
 mod keys;
 mod lines;
 mod opening;
+mod properties;
 mod room;
 mod shared;
 mod texts;

@@ -18,6 +18,7 @@ mod classes;
 mod composing;
 mod copying;
 mod decomposing;
+mod decompositions;
 mod equivalence;
 mod forms;
 mod fronts;
@@ -41,6 +42,7 @@ mod utf8_bytes;
 mod written;
 
 pub use assigned::{first_unassigned, first_unassigned_char, first_unassigned_in_version};
+pub use decompositions::full_decomposition;
 pub use equivalence::equivalent;
 pub use forms::{form, is_form};
 pub use quick_check::quick_check_span;
