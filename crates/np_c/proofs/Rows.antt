@@ -1,4 +1,4 @@
--- The rows that the walks speak of: the box of a shared table, its parts, and what a handle holds.
+-- The rows that the walks speak of: the box of a thing, its parts, and what a handle holds.
 use mathlib.Core.List.{[]}
 use mir.Syntax.{impl, tnil, dnil}
 use denote.RattleType.{RattleType}
@@ -8,26 +8,26 @@ use Rattle.std_alloc.proofs.BoxSteps.Form.{Bx}
 use Rattle.std_heap.specs.contracts.Global as Heap
 use Rattle.std_heap.specs.contracts.GlobalAllocator.TheImpl.{ghosts, dict}
 use Rattle.std_heap.proofs.Global.TheLaws as heap
-use Rattle.np_c.specs.contracts.shared.Shared as Shared
-use Rattle.np_c.proofs.shared.Shared.TheLaws as shared
+use Rattle.np_c.specs.contracts.content.Content as Content
+use Rattle.np_c.proofs.content.Content.TheLaws as content
 use Rattle.np_c.specs.contracts.apart.Apart as Apart
 use Rattle.np_c.specs.contracts.held.Held as Held
 
--- the box of a shared table, whose memory is the program's
+-- the box of a thing, whose memory is the program's
 abbrev pub TheBox : Bx
-TheBox = record { row = Shared.the_row; laws = shared.the_row_laws; al = record { row = Heap.the_row; laws = heap.the_row_laws; g = ghosts; d = dict; drops = impl [] tnil dnil } }
+TheBox = record { row = Content.the_row; laws = content.the_row_laws; al = record { row = Heap.the_row; laws = heap.the_row_laws; g = ghosts; d = dict; drops = impl [] tnil dnil } }
 
 abbrev pub Memory : RattleType
 Memory = Heap.the_row
 
 abbrev pub Parts : RattleType
-Parts = Apart.the_row Shared.the_row Heap.the_row ghosts
+Parts = Apart.the_row Content.the_row Heap.the_row ghosts
 
 abbrev pub Kept : RattleType
 Kept = Held.the_row
 
 abbrev pub Owner : Type 0
-Owner = Shared.the_row.Denot
+Owner = Content.the_row.Denot
 
 -- where something is held, that
 pub owner_of : (o : Option Owner) → is_some o ≡ true → (x : Owner) × (o ≡ Some x)

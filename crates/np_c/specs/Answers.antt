@@ -9,7 +9,9 @@ use Rattle.np_forms.specs.Forms.{IsEquivalent, IsNormalForm}
 use Rattle.np_versions.specs.Versions.{VersionData}
 use Rattle.np_c.specs.Files.{IsNoVersion, IsVersionOf}
 use Rattle.np_c.specs.Texts.{IsFormLetter, IsFormOf, IsKeyOf, IsNoForm, IsNoKey, IsNoText}
+use Rattle.np_c.specs.Versions.{version_in}
 use Rattle.np_c.specs.declared.answers.Answer.{Answer}
+use Rattle.np_c.specs.declared.content.Content.{Content}
 
 -- ---- what is written
 
@@ -86,11 +88,11 @@ IsExtensionAnswer old new a = ((a.status ≡ 0) × Extends old new) ⊎ IsBreakA
 -- ---- handles
 
 -- `npss_open`: the handle is open on the version of the two files; or closed, and they make none, or memory ran out
-abbrev pub IsOpenAnswer : List ℕ → List ℕ → Option VersionData → Answer → Type 0
+abbrev pub IsOpenAnswer : List ℕ → List ℕ → Option Content → Answer → Type 0
 IsOpenAnswer data_file exclusions_file held a =
-    ((a.status ≡ 0) × ((v : VersionData) × (held ≡ Some v) × IsVersionOf data_file exclusions_file v))
+    ((a.status ≡ 0) × ((v : VersionData) × (version_in held ≡ Some v) × IsVersionOf data_file exclusions_file v))
     ⊎ ((held ≡ None) × IsNoVersion data_file exclusions_file a)
 
 -- `npss_share`: the other handle is open on the same version; or closed, and memory ran out
-abbrev pub IsShareAnswer : VersionData → Option VersionData → Answer → Type 0
-IsShareAnswer v other a = ((a.status ≡ 0) × (other ≡ Some v)) ⊎ ((a.status ≡ 4) × (other ≡ None))
+abbrev pub IsShareAnswer : VersionData → Option Content → Answer → Type 0
+IsShareAnswer v other a = ((a.status ≡ 0) × (version_in other ≡ Some v)) ⊎ ((a.status ≡ 4) × (other ≡ None))

@@ -1,5 +1,6 @@
 pub mod Answers
 pub mod Codes
+pub mod Contents
 pub mod Files
 pub mod Lines
 pub mod Texts

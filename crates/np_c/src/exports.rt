@@ -3,14 +3,14 @@ ghost use Rattle.std.specs.Prelude.{◌≡◌, false, None, IfSome};
 ghost use Rattle.np_versions.specs.Counts.{assigned_count};
 ghost use Rattle.np_c.specs.Answers.{IsEquivalentAnswer, IsExtensionAnswer, IsFormAnswer, IsKeyAnswer, IsOpenAnswer, IsOwnFormAnswer, IsShareAnswer};
 ghost use Rattle.np_c.specs.Lines.{IsAnswersAnswer};
-ghost use Rattle.np_c.specs.Versions.{version_of};
+ghost use Rattle.np_c.specs.Versions.{content_of, version_of};
 
 use crate::answers::{Answer, CLOSED, DONE, MEMORY};
 use crate::comparing::{tell_equivalent, tell_extension, tell_form};
 use crate::handles::Handle;
 use crate::keys::{write_form, write_key};
 use crate::lines::{Asked, write_answers};
-use crate::opening::shared_of;
+use crate::opening::{another_of, shared_of};
 use np_versions::NormTable;
 use std::alloc::Global;
 
@@ -22,12 +22,12 @@ pub extern "C" fn npss_open(
     data_file: &[u8],
     exclusions_file: &[u8],
 ) -> Answer
-    ensures { IsOpenAnswer data_file.now exclusions_file.now (version_of handle.new) result }
+    ensures { IsOpenAnswer data_file.now exclusions_file.now (content_of handle.new) result }
 {
     drop(handle.take(alloc));
     match shared_of(alloc, data_file, exclusions_file) {
-        Ok(shared) => {
-            *handle = Handle::open(shared);
+        Ok(content) => {
+            *handle = Handle::open(content);
             Answer::of(DONE)
         }
         Err(answer) => answer,
@@ -37,24 +37,21 @@ pub extern "C" fn npss_open(
 /// Closes the other handle, and opens it on the version of the handle, for another thread: both share the table.
 #[unsafe(no_mangle)]
 pub extern "C" fn npss_share(alloc: Global, handle: &mut Handle, other: &mut Handle) -> Answer
-    ensures same { version_of handle.new ≡ version_of handle.old }
-    ensures shared { IfSome (version_of handle.old) (λ v. IsShareAnswer v (version_of other.new) result) }
-    ensures closed { handle.old.is_open ≡ false → (result.status ≡ 5) × (version_of other.new ≡ None) }
+    ensures same { content_of handle.new ≡ content_of handle.old }
+    ensures shared { IfSome (version_of handle.old) (λ v. IsShareAnswer v (content_of other.new) result) }
+    ensures closed { version_of handle.old ≡ None → (result.status ≡ 5) × (content_of other.new ≡ None) }
 {
     drop(other.take(alloc));
-    match handle.take(alloc) {
+    match handle.take_table(alloc) {
         None => Answer::of(CLOSED),
-        Some(shared) => {
-            let made = shared.another();
-            *handle = Handle::open(shared);
+        Some((shared, content)) => {
+            let made = another_of(alloc, &shared);
+            handle.put_table(content, shared);
             match made {
-                Ok(one) => match Box::new(alloc, one) {
-                    Ok(second) => {
-                        *other = Handle::open(second);
-                        Answer::of(DONE)
-                    }
-                    Err(_) => Answer::of(MEMORY),
-                },
+                Ok(second) => {
+                    *other = Handle::open(second);
+                    Answer::of(DONE)
+                }
                 Err(_) => Answer::of(MEMORY),
             }
         }
@@ -71,15 +68,15 @@ pub extern "C" fn npss_key(
     text: &[u8],
     room: &mut [u8],
 ) -> Answer
-    ensures same { version_of handle.new ≡ version_of handle.old }
+    ensures same { content_of handle.new ≡ content_of handle.old }
     ensures key { IfSome (version_of handle.old) (λ v. IsKeyAnswer v form text.now room.old room.new result) }
-    ensures closed { handle.old.is_open ≡ false → (result.status ≡ 5) × (room.new ≡ room.old) }
+    ensures closed { version_of handle.old ≡ None → (result.status ≡ 5) × (room.new ≡ room.old) }
 {
-    match handle.take(alloc) {
+    match handle.take_table(alloc) {
         None => Answer::of(CLOSED),
-        Some(shared) => {
+        Some((shared, content)) => {
             let answer = write_key(alloc, &*shared.table, form, text, room);
-            *handle = Handle::open(shared);
+            handle.put_table(content, shared);
             answer
         }
     }
@@ -94,15 +91,15 @@ pub extern "C" fn npss_normalize(
     text: &[u8],
     room: &mut [u8],
 ) -> Answer
-    ensures same { version_of handle.new ≡ version_of handle.old }
+    ensures same { content_of handle.new ≡ content_of handle.old }
     ensures made { IfSome (version_of handle.old) (λ v. IsFormAnswer v form text.now room.old room.new result) }
-    ensures closed { handle.old.is_open ≡ false → (result.status ≡ 5) × (room.new ≡ room.old) }
+    ensures closed { version_of handle.old ≡ None → (result.status ≡ 5) × (room.new ≡ room.old) }
 {
-    match handle.take(alloc) {
+    match handle.take_table(alloc) {
         None => Answer::of(CLOSED),
-        Some(shared) => {
+        Some((shared, content)) => {
             let answer = write_form(alloc, &*shared.table, form, text, room);
-            *handle = Handle::open(shared);
+            handle.put_table(content, shared);
             answer
         }
     }
@@ -117,15 +114,15 @@ pub extern "C" fn npss_answers(
     text: &[u8],
     room: &mut [u8],
 ) -> Answer
-    ensures same { version_of handle.new ≡ version_of handle.old }
+    ensures same { content_of handle.new ≡ content_of handle.old }
     ensures made { IfSome (version_of handle.old) (λ v. IsAnswersAnswer v asked.now text.now room.old room.new result) }
-    ensures closed { handle.old.is_open ≡ false → (result.status ≡ 5) × (room.new ≡ room.old) }
+    ensures closed { version_of handle.old ≡ None → (result.status ≡ 5) × (room.new ≡ room.old) }
 {
-    match handle.take(alloc) {
+    match handle.take_table(alloc) {
         None => Answer::of(CLOSED),
-        Some(shared) => {
+        Some((shared, content)) => {
             let answer = write_answers(alloc, &*shared.table, asked, text, room);
-            *handle = Handle::open(shared);
+            handle.put_table(content, shared);
             answer
         }
     }
@@ -134,15 +131,15 @@ pub extern "C" fn npss_answers(
 /// Whether a text is its own normal form.
 #[unsafe(no_mangle)]
 pub extern "C" fn npss_is_form(alloc: Global, handle: &mut Handle, form: u8, text: &[u8]) -> Answer
-    ensures same { version_of handle.new ≡ version_of handle.old }
+    ensures same { content_of handle.new ≡ content_of handle.old }
     ensures told { IfSome (version_of handle.old) (λ v. IsOwnFormAnswer v form text.now result) }
-    ensures closed { handle.old.is_open ≡ false → result.status ≡ 5 }
+    ensures closed { version_of handle.old ≡ None → result.status ≡ 5 }
 {
-    match handle.take(alloc) {
+    match handle.take_table(alloc) {
         None => Answer::of(CLOSED),
-        Some(shared) => {
+        Some((shared, content)) => {
             let answer = tell_form(alloc, &*shared.table, form, text);
-            *handle = Handle::open(shared);
+            handle.put_table(content, shared);
             answer
         }
     }
@@ -157,15 +154,15 @@ pub extern "C" fn npss_equivalent(
     left: &[u8],
     right: &[u8],
 ) -> Answer
-    ensures same { version_of handle.new ≡ version_of handle.old }
+    ensures same { content_of handle.new ≡ content_of handle.old }
     ensures told { IfSome (version_of handle.old) (λ v. IsEquivalentAnswer v compat left.now right.now result) }
-    ensures closed { handle.old.is_open ≡ false → result.status ≡ 5 }
+    ensures closed { version_of handle.old ≡ None → result.status ≡ 5 }
 {
-    match handle.take(alloc) {
+    match handle.take_table(alloc) {
         None => Answer::of(CLOSED),
-        Some(shared) => {
+        Some((shared, content)) => {
             let answer = tell_equivalent(alloc, &*shared.table, compat, left, right);
-            *handle = Handle::open(shared);
+            handle.put_table(content, shared);
             answer
         }
     }
@@ -174,24 +171,24 @@ pub extern "C" fn npss_equivalent(
 /// Whether the version of the newer handle extends that of the older one; else the first break.
 #[unsafe(no_mangle)]
 pub extern "C" fn npss_extends(alloc: Global, older: &mut Handle, newer: &mut Handle) -> Answer
-    ensures same_older { version_of older.new ≡ version_of older.old }
-    ensures same_newer { version_of newer.new ≡ version_of newer.old }
+    ensures same_older { content_of older.new ≡ content_of older.old }
+    ensures same_newer { content_of newer.new ≡ content_of newer.old }
     ensures told { IfSome (version_of older.old) (λ old. IfSome (version_of newer.old) (λ new. IsExtensionAnswer old new result)) }
-    ensures older_closed { older.old.is_open ≡ false → result.status ≡ 5 }
-    ensures newer_closed { newer.old.is_open ≡ false → result.status ≡ 5 }
+    ensures older_closed { version_of older.old ≡ None → result.status ≡ 5 }
+    ensures newer_closed { version_of newer.old ≡ None → result.status ≡ 5 }
 {
-    match older.take(alloc) {
+    match older.take_table(alloc) {
         None => Answer::of(CLOSED),
-        Some(old) => {
-            let answer = match newer.take(alloc) {
+        Some((old, old_content)) => {
+            let answer = match newer.take_table(alloc) {
                 None => Answer::of(CLOSED),
-                Some(new) => {
+                Some((new, new_content)) => {
                     let answer = tell_extension(old.table.version(), new.table.version());
-                    *newer = Handle::open(new);
+                    newer.put_table(new_content, new);
                     answer
                 }
             };
-            *older = Handle::open(old);
+            older.put_table(old_content, old);
             answer
         }
     }
@@ -200,15 +197,15 @@ pub extern "C" fn npss_extends(alloc: Global, older: &mut Handle, newer: &mut Ha
 /// How many code points the version assigns: the length of the answer.
 #[unsafe(no_mangle)]
 pub extern "C" fn npss_count(alloc: Global, handle: &mut Handle) -> Answer
-    ensures same { version_of handle.new ≡ version_of handle.old }
+    ensures same { content_of handle.new ≡ content_of handle.old }
     ensures count { IfSome (version_of handle.old) (λ v. (result.status ≡ 0) × (result.length ≡ assigned_count v)) }
-    ensures closed { handle.old.is_open ≡ false → result.status ≡ 5 }
+    ensures closed { version_of handle.old ≡ None → result.status ≡ 5 }
 {
-    match handle.take(alloc) {
+    match handle.take_table(alloc) {
         None => Answer::of(CLOSED),
-        Some(shared) => {
+        Some((shared, content)) => {
             let count = shared.table.version().count();
-            *handle = Handle::open(shared);
+            handle.put_table(content, shared);
             Answer {
                 length: u64::from(count),
                 ..Answer::of(DONE)
@@ -222,6 +219,6 @@ pub extern "C" fn npss_count(alloc: Global, handle: &mut Handle) -> Answer
 pub extern "C" fn npss_close(alloc: Global, handle: &mut Handle)
     ensures { handle.new.is_open ≡ false }
 {
-    let shared = handle.take(alloc);
-    drop(shared);
+    let content = handle.take(alloc);
+    drop(content);
 }

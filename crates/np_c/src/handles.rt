@@ -1,14 +1,16 @@
-//! Handles: what C keeps of a table.
+//! Handles: what C keeps of a thing.
 ghost use Rattle.std.specs.Prelude.{◌≡◌, true, false, Some, None, is_some, IfSome, IfNone};
-ghost use Rattle.std.specs.Arc.{arc_value};
+ghost use Rattle.np_c.specs.declared.content.Content.TheVariants.{Table};
+ghost use Rattle.np_c.specs.Contents.{table_in};
 
 use crate::apart::Apart;
+use crate::content::Content;
 use crate::held::Held;
 use crate::shared::Shared;
 use std::alloc::Global;
 use std::mem;
 
-/// A handle on a table, or a closed one. Zeros are a closed one.
+/// A handle on a thing, or a closed one. Zeros are a closed one.
 #[repr(C)]
 #[derive(Drop)]
 pub struct Handle {
@@ -28,18 +30,18 @@ impl Handle {
         }
     }
 
-    /// A handle on a table.
-    pub fn open(shared: Box<Shared>) -> Handle
-        ensures { result.held.held ≡ Some shared.value }
+    /// A handle on a thing.
+    pub fn open(content: Box<Content>) -> Handle
+        ensures { result.held.held ≡ Some content.value }
     {
         Handle {
             is_open: true,
-            held: Held::of_parts(Apart::of_box(shared)),
+            held: Held::of_parts(Apart::of_box(content)),
         }
     }
 
     /// Takes out what is held, and leaves nothing.
-    pub fn take(&mut self, alloc: Global) -> Option<Box<Shared>>
+    pub fn take(&mut self, alloc: Global) -> Option<Box<Content>>
         ensures left { self.new.held.held ≡ None }
         ensures some { IfSome result (λ b. self.old.held.held ≡ Some b.value) }
         ensures none { IfNone result (self.old.held.held ≡ None) }
@@ -50,5 +52,29 @@ impl Handle {
         } else {
             None
         }
+    }
+
+    /// Takes out the table, and the box in which it stood; nothing changes where no table is held.
+    pub fn take_table(&mut self, alloc: Global) -> Option<(Shared, Box<Content>)>
+        ensures some { IfSome result (λ p. self.old.held.held ≡ Some (Table p.0)) }
+        ensures none { IfNone result (table_in self.old.held.held ≡ None) }
+        ensures same { IfNone result (self.new.held.held ≡ self.old.held.held) }
+    {
+        let mut content = self.take(alloc)?;
+        match Box::replace(&mut content, Content::Nothing) {
+            Content::Table(shared) => Some((shared, content)),
+            Content::Nothing => {
+                *self = Handle::open(content);
+                None
+            }
+        }
+    }
+
+    /// Puts a table into a box, and holds it.
+    pub fn put_table(&mut self, mut content: Box<Content>, shared: Shared)
+        ensures { self.new.held.held ≡ Some (Table shared) }
+    {
+        drop(Box::replace(&mut content, Content::Table(shared)));
+        *self = Handle::open(content);
     }
 }

@@ -1,10 +1,10 @@
-//! What C keeps of a table: two words of its own memory.
+//! What C keeps of a thing: two words of its own memory.
 ghost use Rattle.std.specs.Prelude.{◌≡◌, Option, Some, None, true, is_some};
-ghost use Rattle.np_c.specs.declared.shared.Shared.{Shared};
+ghost use Rattle.np_c.specs.declared.content.Content.{Content};
 ghost use Rattle.np_c.specs.inside.Owned.{owns_held, held_coded};
 
 use crate::apart::Apart;
-use crate::shared::Shared;
+use crate::content::Content;
 use std::alloc::Global;
 use std::marker::Model;
 
@@ -14,7 +14,7 @@ use std::marker::Model;
 pub struct Held {
     at: *mut u8,
     alloc: Global,
-    pub ghost held: { Option Shared } by { held_coded },
+    pub ghost held: { Option Content } by { held_coded },
 }
 
 impl Model for Held {
@@ -33,7 +33,7 @@ impl Held {
     }
 
     /// What a box held that was taken apart.
-    pub fn of_parts(parts: Apart<Shared, Global>) -> Held
+    pub fn of_parts(parts: Apart<Content, Global>) -> Held
         ensures { result.held ≡ Some parts.value }
     {
         let Apart { at, alloc } = parts;
@@ -44,13 +44,13 @@ impl Held {
     }
 
     /// The parts again.
-    pub fn into_parts(self) -> Apart<Shared, Global>
+    pub fn into_parts(self) -> Apart<Content, Global>
         requires { is_some self.held ≡ true }
         ensures { self.held ≡ Some result.value }
     {
         let Held { at, alloc } = self;
         Apart {
-            at: at as *mut Shared,
+            at: at as *mut Content,
             alloc,
         }
     }

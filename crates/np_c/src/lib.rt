@@ -6,6 +6,7 @@ mod answers;
 mod apart;
 mod code_exports;
 mod comparing;
+mod content;
 mod exports;
 mod handles;
 mod held;

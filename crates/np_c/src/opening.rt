@@ -1,14 +1,17 @@
 //! The table of two files, from their bytes.
-ghost use Rattle.std.specs.Prelude.{◌≡◌, ◌↔◌, ℕ, true, IfOk, IfErr};
+ghost use Rattle.std.specs.Prelude.{◌≡◌, ◌↔◌, ℕ, true, Some, IfOk, IfErr};
 ghost use Rattle.std.specs.Arc.{arc_value};
 ghost use Rattle.np_ucd.specs.AllRows.{AreAllRows};
 ghost use Rattle.np_ucd.specs.Exclusions.{AreReadable, IsFirstBadLine, IsListedIn};
 ghost use Rattle.np_ucd.specs.FirstFaults.{HasNoFault, IsFirstFault};
 ghost use Rattle.np_ucd.specs.Listed.{is_listed};
 ghost use Rattle.np_c.specs.Files.{IsFileRefused, IsNoVersion, IsVersionOf};
+ghost use Rattle.np_versions.specs.Versions.{VersionData};
+ghost use Rattle.np_c.specs.Versions.{version_in};
 ghost use Rattle.np_c.specs.inside.FaultAnswers.{at_line, at_code, file_answer, tables_answer};
 
 use crate::answers::{Answer, DATA, EXCLUSIONS, MEMORY, TABLES, TOO_LARGE};
+use crate::content::Content;
 use crate::shared::Shared;
 use np_code_points::Memory;
 use np_code_points::watched::Watched;
@@ -125,11 +128,22 @@ fn version_of(alloc: Global, data_file: &[u8], exclusions_file: &[u8]) -> Result
 }
 
 /// The table of a version, shared, in a box.
-fn boxed(alloc: Global, version: Version) -> Result<Box<Shared>, Memory>
-    ensures { IfOk result (λ b. arc_value b.value.table ≡ version) }
+fn boxed(alloc: Global, version: Version) -> Result<Box<Content>, Memory>
+    ensures { IfOk result (λ b. version_in (Some b.value) ≡ Some version) }
 {
     let table = PageTable::new(alloc, version)?;
-    Ok(Box::new(alloc, Shared::new(alloc, table)?)?)
+    Content::of_table(alloc, Shared::new(alloc, table)?)
+}
+
+/// One more owner of a table, in a box of its own.
+///
+/// # Errors
+///
+/// `Memory` where memory ran out, or the table has too many owners.
+pub fn another_of(alloc: Global, shared: &Shared) -> Result<Box<Content>, Memory>
+    ensures { IfOk result (λ b. version_in (Some b.value) ≡ Some (arc_value shared.now.table)) }
+{
+    Content::of_table(alloc, shared.another()?)
 }
 
 /// The shared table of two files, in a box.
@@ -141,8 +155,8 @@ pub fn shared_of(
     alloc: Global,
     data_file: &[u8],
     exclusions_file: &[u8],
-) -> Result<Box<Shared>, Answer>
-    ensures version { IfOk result (λ b. IsVersionOf data_file.now exclusions_file.now (arc_value b.value.table)) }
+) -> Result<Box<Content>, Answer>
+    ensures version { IfOk result (λ b. (v : VersionData) × (version_in (Some b.value) ≡ Some v) × IsVersionOf data_file.now exclusions_file.now v) }
     ensures refused { IfErr result (IsNoVersion data_file.now exclusions_file.now) }
 {
     let version = match version_of(alloc, data_file, exclusions_file) {

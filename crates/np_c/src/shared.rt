@@ -40,17 +40,3 @@ impl Shared {
         })
     }
 }
-
-/// A value that may be handed to another thread.
-fn crossing<T: Send>(value: T) -> T
-    ensures { result ≡ value }
-{
-    value
-}
-
-/// An owner of a table may be handed to another thread, as C does with a handle.
-pub fn crosses(shared: Shared) -> Shared
-    ensures { result ≡ shared }
-{
-    crossing(shared)
-}

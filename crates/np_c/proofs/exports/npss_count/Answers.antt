@@ -4,5 +4,5 @@ use Rattle.np_c.proofs.exports.npss_count.Goals as goal
 
 pub returns-in-Some-clause-count : goal.returns-in-Some-clause-count
 returns-in-Some-clause-count c =
-    rw (c.in-Some.ensures.some, ← c.deref.ensures, ← c.deref-in-Some.ensures, ← c.version.ensures.same)
+    rw (c.in-Some.ensures.some, ← c.deref.ensures, ← c.version.ensures.same)
     (ap (λ (a : Answer). a.status) c.of-in-Some.ensures, c.from.ensures ∙ c.count-count.ensures)

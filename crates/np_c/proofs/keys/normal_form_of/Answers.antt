@@ -1,4 +1,4 @@
-use Rattle.std.proofs.Common.{chars, inl, string_bytes, sym, ap, subst}
+use Rattle.std.proofs.Common.{chars, inl, string_bytes, sym, subst}
 use Rattle.std.proofs.lemmas.Str.{encodes-chars, IsUtf8-string_bytes}
 use Rattle.np_forms.specs.Forms.{IsNormalForm}
 use Rattle.np_c.proofs.keys.normal_form_of.Goals as goal
