@@ -1,7 +1,7 @@
 //! The functions that C calls to ask a version of code points.
-ghost use Rattle.std.specs.Prelude.{◌≡◌, false, IfSome};
+ghost use Rattle.std.specs.Prelude.{◌≡◌, None, IfSome};
 ghost use Rattle.np_c.specs.Codes.{IsAssignedAnswer, IsCompositeAnswer, IsDecompositionAnswer, IsPropertyAnswer, alone};
-ghost use Rattle.np_c.specs.Versions.{version_of};
+ghost use Rattle.np_c.specs.Versions.{content_of, version_of};
 
 use crate::answers::{Answer, CLOSED};
 use crate::handles::Handle;
@@ -15,15 +15,15 @@ use std::alloc::Global;
 /// whether it is excluded from composition. A syllable of the Hangul arithmetic has a canonical mapping.
 #[unsafe(no_mangle)]
 pub extern "C" fn npss_property(alloc: Global, handle: &mut Handle, code: u32) -> Answer
-    ensures same { version_of handle.new ≡ version_of handle.old }
+    ensures same { content_of handle.new ≡ content_of handle.old }
     ensures told { IfSome (version_of handle.old) (λ v. IsPropertyAnswer v code result) }
-    ensures closed { handle.old.is_open ≡ false → result ≡ alone 5 }
+    ensures closed { version_of handle.old ≡ None → result ≡ alone 5 }
 {
-    match handle.take(alloc) {
+    match handle.take_table(alloc) {
         None => Answer::of(CLOSED),
-        Some(shared) => {
+        Some((shared, content)) => {
             let answer = tell_property(shared.table.version(), code);
-            *handle = Handle::open(shared);
+            handle.put_table(content, shared);
             answer
         }
     }
@@ -38,15 +38,15 @@ pub extern "C" fn npss_decomposition(
     code: u32,
     room: &mut [u8],
 ) -> Answer
-    ensures same { version_of handle.new ≡ version_of handle.old }
+    ensures same { content_of handle.new ≡ content_of handle.old }
     ensures made { IfSome (version_of handle.old) (λ v. IsDecompositionAnswer v compat code room.old room.new result) }
-    ensures closed { handle.old.is_open ≡ false → (result ≡ alone 5) × (room.new ≡ room.old) }
+    ensures closed { version_of handle.old ≡ None → (result ≡ alone 5) × (room.new ≡ room.old) }
 {
-    match handle.take(alloc) {
+    match handle.take_table(alloc) {
         None => Answer::of(CLOSED),
-        Some(shared) => {
+        Some((shared, content)) => {
             let answer = write_decomposition(alloc, &*shared.table, compat, code, room);
-            *handle = Handle::open(shared);
+            handle.put_table(content, shared);
             answer
         }
     }
@@ -60,15 +60,15 @@ pub extern "C" fn npss_composite(
     first: u32,
     second: u32,
 ) -> Answer
-    ensures same { version_of handle.new ≡ version_of handle.old }
+    ensures same { content_of handle.new ≡ content_of handle.old }
     ensures told { IfSome (version_of handle.old) (λ v. IsCompositeAnswer v first second result) }
-    ensures closed { handle.old.is_open ≡ false → result ≡ alone 5 }
+    ensures closed { version_of handle.old ≡ None → result ≡ alone 5 }
 {
-    match handle.take(alloc) {
+    match handle.take_table(alloc) {
         None => Answer::of(CLOSED),
-        Some(shared) => {
+        Some((shared, content)) => {
             let answer = tell_composite(shared.table.version(), first, second);
-            *handle = Handle::open(shared);
+            handle.put_table(content, shared);
             answer
         }
     }
@@ -77,15 +77,15 @@ pub extern "C" fn npss_composite(
 /// The first code point of a text that the version doesn't assign.
 #[unsafe(no_mangle)]
 pub extern "C" fn npss_first_unassigned(alloc: Global, handle: &mut Handle, text: &[u8]) -> Answer
-    ensures same { version_of handle.new ≡ version_of handle.old }
+    ensures same { content_of handle.new ≡ content_of handle.old }
     ensures told { IfSome (version_of handle.old) (λ v. IsAssignedAnswer v text.now result) }
-    ensures closed { handle.old.is_open ≡ false → result ≡ alone 5 }
+    ensures closed { version_of handle.old ≡ None → result ≡ alone 5 }
 {
-    match handle.take(alloc) {
+    match handle.take_table(alloc) {
         None => Answer::of(CLOSED),
-        Some(shared) => {
+        Some((shared, content)) => {
             let answer = tell_first_unassigned(&*shared.table, text);
-            *handle = Handle::open(shared);
+            handle.put_table(content, shared);
             answer
         }
     }
