@@ -8,16 +8,9 @@ use Rattle.np_versions.specs.Composites.{IsCompositeOf}
 use Rattle.np_versions.specs.Mappings.{IsFullDecomposition}
 use Rattle.np_versions.specs.Versions.{VersionData, class_of, decomposition_kind, is_assigned, is_excluded}
 use Rattle.np_c.specs.Answers.{IsPut}
+use Rattle.np_c.specs.Statuses.{alone, with_code}
 use Rattle.np_c.specs.Texts.{IsNoText, IsUnassigned}
 use Rattle.np_c.specs.declared.answers.Answer.{Answer}
-
--- a status and nothing beside it
-abbrev pub alone : ℕ → Answer
-alone status = record { status = status; fault = 0; code = 0; place = 0; length = 0 }
-
--- a status and a code point
-abbrev pub with_code : ℕ → ℕ → Answer
-with_code status code = record { status = status; fault = 0; code = code; place = 0; length = 0 }
 
 -- ---- properties
 

@@ -3,6 +3,9 @@ pub mod Codes
 pub mod Contents
 pub mod Files
 pub mod Lines
+pub mod Statuses
+pub mod StreamAnswers
+pub mod Streams
 pub mod Texts
 pub mod Versions
 pub mod inside

@@ -1,6 +1,7 @@
 //! The functions that C calls to ask a version of code points.
 ghost use Rattle.std.specs.Prelude.{◌≡◌, None, IfSome};
-ghost use Rattle.np_c.specs.Codes.{IsAssignedAnswer, IsCompositeAnswer, IsDecompositionAnswer, IsPropertyAnswer, alone};
+ghost use Rattle.np_c.specs.Codes.{IsAssignedAnswer, IsCompositeAnswer, IsDecompositionAnswer, IsPropertyAnswer};
+ghost use Rattle.np_c.specs.Statuses.{alone};
 ghost use Rattle.np_c.specs.Versions.{content_of, version_of};
 
 use crate::answers::{Answer, CLOSED};

@@ -1,7 +1,9 @@
 //! What handles hold.
-ghost use Rattle.std.specs.Prelude.{◌≡◌, IfOk};
+ghost use Rattle.std.specs.Prelude.{◌≡◌, Some, IfOk};
+ghost use Rattle.np_c.specs.Contents.{stream_in};
 ghost use Rattle.np_c.specs.declared.content.Content.TheVariants.{Table};
 
+use crate::kept_streams::KeptStream;
 use crate::shared::Shared;
 use np_code_points::Memory;
 use std::alloc::Global;
@@ -14,6 +16,8 @@ pub enum Content {
     Nothing,
     /// A table.
     Table(Shared),
+    /// A stream.
+    Stream(Box<KeptStream>),
 }
 
 impl Content {
@@ -26,6 +30,18 @@ impl Content {
         ensures { IfOk result (λ b. b.value ≡ Table shared) }
     {
         Ok(Box::new(alloc, Content::Table(shared))?)
+    }
+
+    /// A stream in a box.
+    ///
+    /// # Errors
+    ///
+    /// `Memory` where memory ran out.
+    pub fn of_stream(alloc: Global, kept: KeptStream) -> Result<Box<Content>, Memory>
+        ensures { IfOk result (λ b. stream_in (Some b.value) ≡ Some kept) }
+    {
+        let boxed = Box::new(alloc, kept)?;
+        Ok(Box::new(alloc, Content::Stream(boxed))?)
     }
 }
 

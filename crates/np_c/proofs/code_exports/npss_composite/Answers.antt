@@ -2,4 +2,4 @@ use Rattle.np_c.proofs.code_exports.npss_composite.Goals as goal
 
 pub returns-in-Some-clause-told : goal.returns-in-Some-clause-told
 returns-in-Some-clause-told c =
-    rw (c.in-Some.ensures.some, ← c.deref.ensures, ← c.deref-in-Some.ensures, ← c.version.ensures.same) c.tell_composite-answer.ensures
+    rw (c.in-Some.ensures.some, ← c.deref.ensures, ← c.version.ensures.same) c.tell_composite-answer.ensures
