@@ -32,6 +32,13 @@ pub record IsTooSmall (made before after : List ℕ) (a : Answer) : Type 0 where
 abbrev pub IsPut : List ℕ → List ℕ → List ℕ → Answer → Type 0
 IsPut made before after a = IsWritten made before after a ⊎ IsTooSmall made before after a
 
+-- the same, and beside it a place is told and nothing else
+pub record IsPutTelling (place : ℕ) (made before after : List ℕ) (a : Answer) : Type 0 where
+  pub put : IsPut made before after a
+  pub at : a.place ≡ place
+  pub fault : a.fault ≡ 0
+  pub code : a.code ≡ 0
+
 -- the letter is none, and nothing changed
 pub record LacksForm (letter : ℕ) (before after : List ℕ) (a : Answer) : Type 0 where
   pub status : a.status ≡ 6
@@ -73,6 +80,10 @@ pub record AreEquivalentAnswer (v : VersionData) (compat : Bool) (left right : L
 abbrev pub IsEquivalentAnswer : VersionData → Bool → List ℕ → List ℕ → Answer → Type 0
 IsEquivalentAnswer v compat left right a =
     IsNoText 1 left a ⊎ ((IsUtf8 left × IsNoText 2 right a) ⊎ AreEquivalentAnswer v compat left right a)
+
+-- a break, by the number of its kind, at its code point
+abbrev pub told_break : Break → Answer
+told_break first = record { status = 11; fault = number_of first.kind; code = first.code; place = 0; length = 0 }
 
 -- `npss_extends`: the newer version extends the older one; or the break at the least code point that has one, by the number of its kind
 pub record IsBreakAnswer (old new : VersionData) (a : Answer) : Type 0 where

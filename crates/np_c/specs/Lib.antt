@@ -3,6 +3,9 @@ pub mod Codes
 pub mod Contents
 pub mod Files
 pub mod Lines
+pub mod NodeOpening
+pub mod NodeReading
+pub mod Nodes
 pub mod Statuses
 pub mod StreamAnswers
 pub mod Streams

@@ -27,6 +27,26 @@ pub const TOO_LARGE: u32 = 10;
 pub const DIFFERENT: u32 = 11;
 /// The byte that is to end lines is neither 10 nor 0.
 pub const NO_END: u32 = 12;
+/// The string was kept already.
+pub const KNOWN: u32 = 13;
+/// No such string, or no such entry, is kept.
+pub const NOT_KEPT: u32 = 14;
+/// A string has more than 65,536 bytes.
+pub const TOO_LONG: u32 = 15;
+/// The node keeps as many strings as its room.
+pub const FULL: u32 = 16;
+/// The bytes are no message, or no image.
+pub const MALFORMED: u32 = 17;
+/// The message or image is of another form.
+pub const OTHER_FORM: u32 = 18;
+/// The key beside the string is not the string's key.
+pub const KEY_DIFFERS: u32 = 19;
+/// The image was saved under a version with more code points.
+pub const OLDER_TABLES: u32 = 20;
+/// An entry of the image is refused.
+pub const BAD_ENTRY: u32 = 21;
+/// A node has no room for so many strings.
+pub const BAD_ROOM: u32 = 22;
 /// The number is no code point.
 pub const NO_CODE: u32 = 23;
 

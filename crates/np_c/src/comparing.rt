@@ -1,18 +1,18 @@
 //! Questions on texts and versions.
 ghost use Rattle.std.specs.Prelude.{◌≡◌};
-ghost use Rattle.np_c.specs.Answers.{IsEquivalentAnswer, IsExtensionAnswer, IsOwnFormAnswer};
+ghost use Rattle.np_c.specs.Answers.{told_break, IsEquivalentAnswer, IsExtensionAnswer, IsOwnFormAnswer};
 ghost use Rattle.np_chain.specs.Breaks.{number_of};
 ghost use Rattle.np_c.specs.inside.FaultAnswers.{told_answer};
 
 use crate::answers::{Answer, DIFFERENT, DONE, MEMORY, NO_FORM};
 use crate::texts::{form_in, text_in};
-use np_chain::{BreakKind, extends};
+use np_chain::{Break, BreakKind, extends};
 use np_forms::{equivalent, is_form};
 use np_versions::{NormTable, Version};
 use std::alloc::Global;
 
 /// The answer to a question.
-fn told(yes: bool) -> Answer
+pub fn told(yes: bool) -> Answer
     ensures { result ≡ told_answer yes }
 {
     if yes {
@@ -77,16 +77,23 @@ fn kind_number(kind: BreakKind) -> u32
     }
 }
 
+/// The answer that tells a break.
+pub fn of_break(first: Break) -> Answer
+    ensures { result ≡ told_break first }
+{
+    Answer {
+        fault: kind_number(first.kind),
+        code: first.code,
+        ..Answer::of(DIFFERENT)
+    }
+}
+
 /// Whether a version extends an older one, and its first break where it doesn't.
 pub fn tell_extension(old: &Version, new: &Version) -> Answer
     ensures { IsExtensionAnswer old.now new.now result }
 {
     match extends(old, new) {
         Ok(()) => Answer::of(DONE),
-        Err(first) => Answer {
-            fault: kind_number(first.kind),
-            code: first.code,
-            ..Answer::of(DIFFERENT)
-        },
+        Err(first) => of_break(first),
     }
 }

@@ -1,8 +1,9 @@
 //! What handles hold.
 ghost use Rattle.std.specs.Prelude.{◌≡◌, Some, IfOk};
-ghost use Rattle.np_c.specs.Contents.{stream_in};
 ghost use Rattle.np_c.specs.declared.content.Content.TheVariants.{Table};
+ghost use Rattle.np_c.specs.Contents.{node_in, stream_in};
 
+use crate::kept_node::KeptNode;
 use crate::kept_streams::KeptStream;
 use crate::shared::Shared;
 use np_code_points::Memory;
@@ -16,7 +17,9 @@ pub enum Content {
     Nothing,
     /// A table.
     Table(Shared),
-    /// A stream.
+    /// A node, in a box of its own, so that a table is handed over by two words.
+    Node(Box<KeptNode>),
+    /// A stream, in a box of its own.
     Stream(Box<KeptStream>),
 }
 
@@ -32,6 +35,18 @@ impl Content {
         Ok(Box::new(alloc, Content::Table(shared))?)
     }
 
+    /// A node in a box.
+    ///
+    /// # Errors
+    ///
+    /// `Memory` where memory ran out.
+    pub fn of_node(alloc: Global, kept: KeptNode) -> Result<Box<Content>, Memory>
+        ensures { IfOk result (λ b. node_in (Some b.value) ≡ Some kept) }
+    {
+        let inner = Box::new(alloc, kept)?;
+        Ok(Box::new(alloc, Content::Node(inner))?)
+    }
+
     /// A stream in a box.
     ///
     /// # Errors
@@ -40,8 +55,8 @@ impl Content {
     pub fn of_stream(alloc: Global, kept: KeptStream) -> Result<Box<Content>, Memory>
         ensures { IfOk result (λ b. stream_in (Some b.value) ≡ Some kept) }
     {
-        let boxed = Box::new(alloc, kept)?;
-        Ok(Box::new(alloc, Content::Stream(boxed))?)
+        let inner = Box::new(alloc, kept)?;
+        Ok(Box::new(alloc, Content::Stream(inner))?)
     }
 }
 

@@ -1,11 +1,12 @@
 //! Handles: what C keeps of a thing.
 ghost use Rattle.std.specs.Prelude.{◌≡◌, true, false, Some, None, is_some, IfSome, IfNone};
-ghost use Rattle.np_c.specs.declared.content.Content.TheVariants.{Stream, Table};
-ghost use Rattle.np_c.specs.Contents.{stream_in, table_in};
+ghost use Rattle.np_c.specs.declared.content.Content.TheVariants.{Node, Stream, Table};
+ghost use Rattle.np_c.specs.Contents.{node_in, stream_in, table_in};
 
 use crate::apart::Apart;
 use crate::content::Content;
 use crate::held::Held;
+use crate::kept_node::KeptNode;
 use crate::kept_streams::KeptStream;
 use crate::shared::Shared;
 use std::alloc::Global;
@@ -64,6 +65,10 @@ impl Handle {
         let mut content = self.take(alloc)?;
         match Box::replace(&mut content, Content::Nothing) {
             Content::Table(shared) => Some((shared, content)),
+            Content::Node(kept) => {
+                self.put_node(content, kept);
+                None
+            }
             Content::Stream(kept) => {
                 self.put_stream(content, kept);
                 None
@@ -83,6 +88,38 @@ impl Handle {
         *self = Handle::open(content);
     }
 
+    /// Takes out the node, and the box in which it stood; nothing changes where no node is held.
+    pub fn take_node(&mut self, alloc: Global) -> Option<(Box<KeptNode>, Box<Content>)>
+        ensures some { IfSome result (λ p. self.old.held.held ≡ Some (Node p.0)) }
+        ensures none { IfNone result (node_in self.old.held.held ≡ None) }
+        ensures same { IfNone result (self.new.held.held ≡ self.old.held.held) }
+    {
+        let mut content = self.take(alloc)?;
+        match Box::replace(&mut content, Content::Nothing) {
+            Content::Node(kept) => Some((kept, content)),
+            Content::Stream(kept) => {
+                self.put_stream(content, kept);
+                None
+            }
+            Content::Table(shared) => {
+                self.put_table(content, shared);
+                None
+            }
+            Content::Nothing => {
+                *self = Handle::open(content);
+                None
+            }
+        }
+    }
+
+    /// Puts a node into a box, and holds it.
+    pub fn put_node(&mut self, mut content: Box<Content>, kept: Box<KeptNode>)
+        ensures { self.new.held.held ≡ Some (Node kept) }
+    {
+        drop(Box::replace(&mut content, Content::Node(kept)));
+        *self = Handle::open(content);
+    }
+
     /// Takes out the stream, and the box in which it stood; nothing changes where no stream is held.
     pub fn take_stream(&mut self, alloc: Global) -> Option<(Box<KeptStream>, Box<Content>)>
         ensures some { IfSome result (λ p. self.old.held.held ≡ Some (Stream p.0)) }
@@ -92,6 +129,10 @@ impl Handle {
         let mut content = self.take(alloc)?;
         match Box::replace(&mut content, Content::Nothing) {
             Content::Stream(kept) => Some((kept, content)),
+            Content::Node(kept) => {
+                self.put_node(content, kept);
+                None
+            }
             Content::Table(shared) => {
                 self.put_table(content, shared);
                 None

@@ -27,6 +27,17 @@ pub fn text_in(number: u32, bytes: &[u8]) -> Result<&str, Answer>
     }
 }
 
+/// The text of bytes, where they are one.
+pub fn whole_text(bytes: &[u8]) -> Option<&str>
+    ensures some { IfSome result (λ text. text.now ≡ bytes.now) }
+    ensures none { IfNone result (¬ IsUtf8 bytes.now) }
+{
+    match text_in(0, bytes) {
+        Ok(text) => Some(text),
+        Err(_) => None,
+    }
+}
+
 /// The form of a letter.
 pub fn form_in(letter: u8) -> Option<Form>
     ensures some { IfSome result (λ form. letter ≡ byte_of form) }

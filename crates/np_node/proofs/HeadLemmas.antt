@@ -1,5 +1,5 @@
 -- The head of an image that is read or written.
-use Rattle.std.proofs.Common.{◌≡◌, ◌≢◌, ℕ, ◌<◌, inl, inr, List, [], ◌∷◌, ◌++◌, length, drop, codes, Some, None, refl, sym, ap, ◌∙◌, arith, append_assoc, length-append}
+use Rattle.std.proofs.Common.{◌≡◌, ◌≢◌, ℕ, ◌<◌, inl, inr, List, [], ◌∷◌, ◌++◌, length, drop, codes, Some, None, refl, sym, ap, ◌∙◌, arith, length-append}
 use Rattle.np_code_points.specs.Forms.{byte_of}
 use Rattle.np_code_points.specs.declared.forms.Form.{Form}
 use Rattle.np_node.proofs.ImageLemmas.{length-name}
@@ -71,13 +71,3 @@ module _ (a : Fields) (zero_ : a.at ≡ 0) where
             short = short;
             place = omega (arith, place, r.place, q.place, p.place, zero_, ap length named, length-name t);
           }))))
-
--- ---- a head that is written
-
-pub head-pushed : (a b c d e : List ℕ) (form : Form) (needs n : ℕ) → b ≡ a ++ codes "NPS2" → c ≡ b ++ byte_of form ∷ [] → d ≡ c ++ number_bytes needs → e ≡ d ++ number_bytes n
-    → e ≡ a ++ head_bytes (Some needs) form n
-unfolding head_bytes
-head-pushed a b c d e form needs n p q r s =
-    s ∙ ap (λ l. l ++ number_bytes n) (r ∙ ap (λ l. l ++ number_bytes needs) (q ∙ ap (λ l. l ++ byte_of form ∷ []) p ∙ append_assoc a (codes "NPS2") (byte_of form ∷ []))
-    ∙ append_assoc a (codes "NPS2" ++ byte_of form ∷ []) (number_bytes needs))
-    ∙ append_assoc a (codes "NPS2" ++ byte_of form ∷ number_bytes needs) (number_bytes n)

@@ -5,6 +5,9 @@ pub mod KeyLemmas
 pub mod ListLemmas
 pub mod MessageLemmas
 pub mod NodeLemmas
+pub mod KeptLemmas
+pub mod WritingLemmas
+pub mod ImageWriting
 pub mod ReadingLemmas
 pub mod MarkedReading
 pub mod HeadLemmas

@@ -30,6 +30,10 @@ key-same e same = elim (ways e) [ inl a ↦ a.bytes | inr a ↦ absurd (a.other 
 pub key-other : (e : Entry) → e.key ≢ e.string → key_bytes e ≡ 1 ∷ field_bytes e.key
 key-other e other = elim (ways e) [ inl a ↦ absurd (other a.same) | inr a ↦ a.bytes ]
 
+-- a key is its string, or it isn't
+pub key-ways : (e : Entry) → (e.key ≡ e.string) ⊎ (e.key ≢ e.string)
+key-ways e = elim (ways e) [ inl a ↦ inl a.same | inr a ↦ inr a.other ]
+
 pub marked-cut : (e : Entry) (us : List ℕ) → marked_bytes e ++ us ≡ field_bytes e.string ++ (key_bytes e ++ us)
 unfolding marked_bytes
 marked-cut e us = append_assoc (field_bytes e.string) (key_bytes e) us

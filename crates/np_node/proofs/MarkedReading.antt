@@ -1,5 +1,5 @@
--- Entries whose key a marker tells, read and written.
-use Rattle.std.proofs.Common.{◌≡◌, ◌≢◌, ℕ, ◌+◌, ◌<◌, ◌^◌, inl, inr, List, [], ◌∷◌, ◌++◌, length, Result, Ok, Err, OnOk, refl, sym, ap, ◌∙◌, arith, append_assoc}
+-- Entries whose key a marker tells, read.
+use Rattle.std.proofs.Common.{◌≡◌, ◌≢◌, ℕ, ◌+◌, ◌<◌, ◌^◌, inl, inr, List, [], ◌∷◌, ◌++◌, length, refl, sym, ap, ◌∙◌, arith}
 use Rattle.np_node.proofs.MarkedLemmas.{key-same, key-other}
 use Rattle.np_node.proofs.ReadingLemmas.{passes-more, passes-same}
 use Rattle.np_node.specs.Fields.{field_bytes, key_bytes, marked_bytes, IsFieldFault, IsMarkedFault}
@@ -59,23 +59,3 @@ module _ (a b : Fields) (string : List ℕ) (p : Passes a b (field_bytes string)
       }))),
       place ∙ p.place,
     )
-
--- ---- written
-
-marked-pushed : (before mid now xs : List ℕ) (e : Entry) → mid ≡ before ++ field_bytes e.string → now ≡ mid ++ xs → key_bytes e ≡ xs → now ≡ before ++ marked_bytes e
-unfolding marked_bytes
-marked-pushed before mid now xs e p q is =
-    q ∙ ap (λ l. l ++ xs) p ∙ append_assoc before (field_bytes e.string) xs ∙ ap (λ l. before ++ (field_bytes e.string ++ l)) (sym is)
-
-pub same-pushed : (before mid now : List ℕ) (e : Entry) → mid ≡ before ++ field_bytes e.string → now ≡ mid ++ 0 ∷ [] → e.key ≡ e.string → now ≡ before ++ marked_bytes e
-same-pushed before mid now e p q same = marked-pushed before mid now (0 ∷ []) e p q (key-same e same)
-
-other-pushed : (before mid then_ now : List ℕ) (e : Entry) → mid ≡ before ++ field_bytes e.string → then_ ≡ mid ++ 1 ∷ [] → now ≡ then_ ++ field_bytes e.key → e.key ≢ e.string
-    → now ≡ before ++ marked_bytes e
-other-pushed before mid then_ now e p q r other =
-    marked-pushed before mid now (1 ∷ field_bytes e.key) e p (r ∙ ap (λ l. l ++ field_bytes e.key) q ∙ append_assoc mid (1 ∷ []) (field_bytes e.key)) (key-other e other)
-
-pub other-written : {E : Type 0} (r : Result (Unit {0}) E) (before mid then_ now : List ℕ) (e : Entry) → mid ≡ before ++ field_bytes e.string → then_ ≡ mid ++ 1 ∷ [] → OnOk r (now ≡ then_ ++ field_bytes e.key)
-    → e.key ≢ e.string → OnOk r (now ≡ before ++ marked_bytes e)
-other-written (Ok x) before mid then_ now e p q r other = other-pushed before mid then_ now e p q r other
-other-written (Err x) before mid then_ now e p q r other = r

@@ -7,7 +7,7 @@ use Rattle.np_chain.specs.Chain.{Extends}
 use Rattle.np_chain.specs.Laws.{Stability}
 use Rattle.np_code_points.specs.declared.forms.Form.{Form}
 use Rattle.np_node.proofs.KeyLemmas.{later_entry, one_key}
-use Rattle.np_node.specs.Accepting.{AnswersAccept}
+use Rattle.np_node.specs.Accepting.{AnswersAccept, AnswersKeep}
 use Rattle.np_node.specs.Nodes.{State, strings_of, HasPlace, IsKept, AreUnlike, IsNode}
 use Rattle.np_node.specs.Strings.{Entry, IsEntry, IsKey, IsStringFault}
 use Rattle.np_node.specs.Taking.{AnswersEntry}
@@ -97,6 +97,9 @@ string_faults v string Wanted long cut lacks (OlderTables need have) h = absurd 
 -- it is refused with it
 pub refuses-accept : (node : State) (string : List ℕ) (fault : NodeFault) → IsStringFault node.version string fault → AnswersAccept node string (Err fault)
 refuses-accept node string = string_faults node.version string (λ fault. AnswersAccept node string (Err fault)) (λ h. h) (λ at h. h) (λ at code h. h)
+
+pub refuses-keep : (node : State) (string : List ℕ) (fault : NodeFault) → IsStringFault node.version string fault → AnswersKeep node string (Err fault)
+refuses-keep node string fault h = refuses-accept node string fault h
 
 pub refuses-entry : (node : State) (e : Entry) (fault : NodeFault) → IsStringFault node.version e.string fault → AnswersEntry node e (Err fault)
 refuses-entry node e = string_faults node.version e.string (λ fault. AnswersEntry node e (Err fault)) (λ h. h) (λ at h. h) (λ at code h. h)

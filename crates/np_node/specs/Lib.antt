@@ -4,6 +4,7 @@ pub mod Fields
 pub mod Forgetting
 pub mod Images
 pub mod Laws
+pub mod LentMessages
 pub mod Messages
 pub mod Names
 pub mod Nodes

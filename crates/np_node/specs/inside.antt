@@ -3,3 +3,4 @@ pub mod Removed
 pub mod Shown
 pub mod Shapes
 pub mod Told
+pub mod Writing

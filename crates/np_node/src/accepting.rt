@@ -1,10 +1,10 @@
 //! Strings that a host hands to its own node.
 
 use crate::faults::NodeFault;
-use crate::messages::message_of;
+use crate::lent_messages::LentMessage;
 use crate::nodes::Node;
 use crate::strings::{check_assigned, key_for, short_text};
-use np_code_points::Memory;
+use crate::taking::Taken;
 use np_versions::NormTable;
 use std::fmt;
 
@@ -28,10 +28,10 @@ impl fmt::Debug for Accepted {
 }
 
 impl<'t, T: NormTable> Node<'t, T> {
-    ghost use Rattle.std.specs.Prelude.{◌≡◌, ◌≤◌, length, IfOk, OnErr};
-    ghost use Rattle.np_node.specs.Accepting.{AnswersAccept, KeepsAndTells, LeavesAccepted};
+    ghost use Rattle.std.specs.Prelude.{◌≤◌, ◌<◌, ◌^◌, length, string_bytes, IfOk, IfErr, Err};
+    ghost use Rattle.np_node.specs.Accepting.{AnswersAccept, AnswersKeep, LeavesAccepted, LeavesKept};
     ghost use Rattle.np_node.specs.Nodes.{state_of, HasPlace, IsKept};
-    ghost use Rattle.np_node.specs.Strings.{most_bytes};
+    ghost use Rattle.np_node.specs.Strings.{most_bytes, IsKey};
 
     /// Keeps a string behind the others, beside its key, and answers the message that tells it.
     ///
@@ -55,31 +55,60 @@ impl<'t, T: NormTable> Node<'t, T> {
         }
     }
 
-    /// Keeps a string that is not kept yet.
+    /// Keeps a string as `accept` does, and spells no message. `message_of` tells it at any time.
+    ///
+    /// # Errors
+    ///
+    /// Those of `accept`, in its order.
+    pub fn keep_string(&mut self, string: &[u8]) -> Result<Taken, NodeFault>
+        ensures answer { AnswersKeep (state_of T.model self.old) string.now result }
+        ensures node { LeavesKept T.model self.old self.new string.now result }
+    {
+        match short_text(string) {
+            Ok(text) if self.kept.key_of(text).is_some() => Ok(Taken::Known),
+            Ok(text) => self.keep_text(text),
+            Err(fault) => Err(fault),
+        }
+    }
+
+    /// Keeps a string that is not kept yet, and answers the message that tells it.
     fn accept_new(&mut self, text: &str) -> Result<Accepted, NodeFault>
         requires short { length text.now ≤ most_bytes }
         requires absent { ¬ IsKept self.old.entries text.now }
         ensures answer { AnswersAccept (state_of T.model self.old) text.now result }
         ensures node { LeavesAccepted T.model self.old self.new text.now result }
     {
+        let key = self.new_key(text)?;
+        let message = LentMessage::new(self.form, text, key.as_str()).spell(self.kept.allocator())?;
+        self.keep(text, key)?;
+        Ok(Accepted::Kept(message))
+    }
+
+    /// Keeps a string that is not kept yet.
+    fn keep_text(&mut self, text: &str) -> Result<Taken, NodeFault>
+        requires short { length text.now ≤ most_bytes }
+        requires absent { ¬ IsKept self.old.entries text.now }
+        ensures answer { AnswersKeep (state_of T.model self.old) text.now result }
+        ensures node { LeavesKept T.model self.old self.new text.now result }
+    {
+        let key = self.new_key(text)?;
+        self.keep(text, key)?;
+        Ok(Taken::Kept)
+    }
+
+    /// The key of a string that is not kept yet, where it may be and there is room for it.
+    fn new_key(&self, text: &str) -> Result<String, NodeFault>
+        requires short { length text.now ≤ most_bytes }
+        requires absent { ¬ IsKept self.now.entries text.now }
+        ensures place { IfOk result (λ _. HasPlace (state_of T.model self.now) text.now) }
+        ensures key { IfOk result (λ key. IsKey (T.model self.now.table) self.now.form text.now (string_bytes key)) }
+        ensures size { IfOk result (λ key. length (string_bytes key) < 2 ^ 32) }
+        ensures fault { IfErr result (λ fault. AnswersAccept (state_of T.model self.now) text.now (Err fault)) }
+    {
         check_assigned(self.table, text)?;
         if self.is_full() {
             return Err(NodeFault::Full);
         }
-        let message = self.keep_new(text)?;
-        Ok(Accepted::Kept(message))
-    }
-
-    /// Keeps a new string that there is room for, and answers its message.
-    fn keep_new(&mut self, text: &str) -> Result<Vec<u8>, Memory>
-        requires { HasPlace (state_of T.model self.old) text.now }
-        ensures ok { IfOk result (λ message. KeepsAndTells T.model self.old self.new text.now message.items) }
-        ensures err { OnErr result (self.new ≡ self.old) }
-    {
-        let alloc = self.kept.allocator();
-        let key = key_for(alloc, self.table, self.form, text)?;
-        let message = message_of(alloc, self.form, text, key.as_str())?;
-        self.keep(text, key)?;
-        Ok(message)
+        Ok(key_for(self.kept.allocator(), self.table, self.form, text)?)
     }
 }

@@ -11,7 +11,7 @@ use std::marker::Model;
 
 /// Strings beside their keys, found by place and by string. Contracts see the list of entries.
 #[derive(Drop)]
-pub(crate) struct Entries {
+pub struct Entries {
     map: IndexMap<String, String>,
 }
 

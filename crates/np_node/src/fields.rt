@@ -1,13 +1,12 @@
-//! The fields of messages and images, read and written.
+//! The fields of messages and images, read.
 
-use np_code_points::{Form, Memory};
-use std::alloc::Global;
+use np_code_points::Form;
 
 /// The marker of a key that is its string.
-const SAME_KEY: u8 = 0;
+pub(crate) const SAME_KEY: u8 = 0;
 
 /// The marker of a key that is another than its string, and follows.
-const OTHER_KEY: u8 = 1;
+pub(crate) const OTHER_KEY: u8 = 1;
 
 /// Bytes that are read field by field, and the place up to which they are read.
 #[derive(Drop)]
@@ -164,54 +163,4 @@ impl<'b> Fields<'b> {
             Some(_count) => self.marked(),
         }
     }
-}
-
-ghost use Rattle.std.specs.Prelude.{◌++◌, ◌^◌, ◌<◌, OnOk};
-ghost use Rattle.np_node.specs.Fields.{entry_bytes as entry_spelled, field_bytes as field_spelled, number_bytes as number_spelled};
-ghost use Rattle.np_node.specs.Fields.{marked_bytes as marked_spelled};
-
-/// Appends a number.
-#[tactic(auto, unfolding(crate::specs::Fields::number_bytes))]
-pub(crate) fn push_number(out: &mut Vec<u8>, number: u32) -> Result<(), Memory>
-    ensures { OnOk result (out.new.items ≡ out.old.items ++ number_spelled number) }
-{
-    out.extend_from_slice(&number.to_be_bytes())?;
-    Ok(())
-}
-
-/// Appends a list of bytes behind its length.
-#[tactic(auto, using(crate::proofs::ListLemmas::joined), unfolding(crate::specs::Fields::field_bytes))]
-fn push_field(out: &mut Vec<u8>, bytes: &[u8]) -> Result<(), Memory>
-    requires { length bytes.now < 2 ^ 32 }
-    ensures { OnOk result (out.new.items ≡ out.old.items ++ field_spelled bytes.now) }
-{
-    push_number(out, bytes.len() as u32)?;
-    out.extend_from_slice(bytes)?;
-    Ok(())
-}
-
-/// Appends a string and its key.
-#[tactic(auto, using(crate::proofs::ListLemmas::joined), unfolding(crate::specs::Fields::entry_bytes))]
-pub(crate) fn push_entry(out: &mut Vec<u8>, string: &[u8], key: &[u8]) -> Result<(), Memory>
-    requires string { length string.now < 2 ^ 32 }
-    requires key { length key.now < 2 ^ 32 }
-    ensures { OnOk result (out.new.items ≡ out.old.items ++ entry_spelled (record { string = string.now; key = key.now })) }
-{
-    push_field(out, string)?;
-    push_field(out, key)
-}
-
-/// Appends a string, and its key behind a marker, where it is another.
-pub(crate) fn push_marked(out: &mut Vec<u8>, string: &[u8], key: &[u8]) -> Result<(), Memory>
-    requires string { length string.now < 2 ^ 32 }
-    requires key { length key.now < 2 ^ 32 }
-    ensures { OnOk result (out.new.items ≡ out.old.items ++ marked_spelled (record { string = string.now; key = key.now })) }
-{
-    push_field(out, string)?;
-    if same_bytes(key, string) {
-        out.push(SAME_KEY)?;
-        return Ok(());
-    }
-    out.push(OTHER_KEY)?;
-    push_field(out, key)
 }

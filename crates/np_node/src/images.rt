@@ -1,15 +1,17 @@
 //! Images, read and written.
-ghost use Rattle.std.specs.Prelude.{◌≡◌, ◌++◌, ◌≤◌, ◌<◌, ◌^◌, length, All, IfOk, IfErr, IfSome, IfNone, OnOk, Some};
+ghost use Rattle.std.specs.Prelude.{◌≡◌, ◌≤◌, ◌<◌, ◌^◌, length, All, IfOk, IfErr, IfSome, IfNone, Some};
 ghost use Rattle.np_node.specs.Fields.{FitsFields};
-ghost use Rattle.np_node.specs.Images.{head_bytes, image_bytes, image_name, needs_bytes, FitsNeeds, IsImageFault};
+ghost use Rattle.np_node.specs.Images.{entries_bytes, head_bytes, image_bytes, image_name, needs_bytes, FitsNeeds, IsImageFault};
 ghost use Rattle.np_node.specs.inside.Reading.{left_of, Passes};
+ghost use Rattle.np_node.specs.inside.Writing.{IsWritten};
 ghost use Rattle.np_node.specs.inside.Shapes.{layout_name, HasShape};
 ghost use Rattle.np_node.specs.declared.images.Layout.TheVariants.{Second};
 ghost use Rattle.np_versions.specs.Counts.{assigned_count};
 
 use crate::entries::Entries;
-use crate::fields::{Fields, push_marked, push_number, same_bytes};
+use crate::fields::{Fields, same_bytes};
 use crate::nodes::Node;
+use crate::writing::{marked_length, put_bytes, put_marked, put_number};
 use np_code_points::{Form, Memory};
 use np_versions::NormTable;
 
@@ -110,30 +112,44 @@ pub(crate) fn shape_of(bytes: &[u8]) -> Result<Head, usize>
     Ok(head)
 }
 
-/// Appends what stands before the entries in the second layout.
-fn push_head(out: &mut Vec<u8>, needs: u32, form: Form, count: u32) -> Result<(), Memory>
-    ensures { OnOk result (out.new.items ≡ out.old.items ++ head_bytes (Some needs) form count) }
+/// Puts what stands before the entries in the second layout to the front of the room.
+fn put_head(room: &mut [u8], needs: u32, form: Form, count: u32) -> usize
+    requires { 13 ≤ length room.old }
+    ensures { IsWritten room.old room.new 0 result (head_bytes (Some needs) form count) }
 {
-    out.extend_from_slice(&SECOND_NAME)?;
-    out.push(form.byte())?;
-    push_number(out, needs)?;
-    push_number(out, count)?;
-    Ok(())
+    let named = put_bytes(room, 0, &SECOND_NAME);
+    let formed = put_bytes(room, named, &[form.byte()]);
+    let needed = put_number(room, formed, needs);
+    put_number(room, needed, count)
 }
 
-/// The image of the second layout of a form and entries.
-fn image_of(needs: u32, form: Form, entries: &Entries) -> Result<Vec<u8>, Memory>
+/// Puts the image of the second layout of a form and entries into room of its length.
+fn put_image_of(room: &mut [u8], needs: u32, form: Form, entries: &Entries)
     requires count { length entries.now ≤ 65536 }
     requires fits { All FitsFields entries.now }
-    ensures { IfOk result (λ bytes. bytes.items ≡ image_bytes (record { needs = Some needs; form = form; entries = entries.now })) }
+    requires room { length room.old ≡ length (image_bytes (record { needs = Some needs; form = form; entries = entries.now })) }
+    ensures { room.new ≡ image_bytes (record { needs = Some needs; form = form; entries = entries.now }) }
 {
-    let mut bytes = Vec::new(entries.allocator());
-    push_head(&mut bytes, needs, form, entries.len() as u32)?;
+    let mut at = put_head(room, needs, form, entries.len() as u32);
     for index in 0..entries.len() {
         let (string, key) = entries.get(index).unwrap();
-        push_marked(&mut bytes, string.as_bytes(), key.as_bytes())?;
+        at = put_marked(room, at, string.as_bytes(), key.as_bytes());
     }
-    Ok(bytes)
+}
+
+/// How many bytes entries have in the second layout.
+fn entries_length(entries: &Entries) -> usize
+    requires count { length entries.now ≤ 65536 }
+    requires fits { All FitsFields entries.now }
+    ensures length { result ≡ length (entries_bytes (Some 0) entries.now) }
+    ensures bound { result < 2 ^ 60 }
+{
+    let mut length = 0;
+    for index in 0..entries.len() {
+        let (text, key) = entries.get(index).unwrap();
+        length += marked_length(text.as_bytes(), key.as_bytes());
+    }
+    length
 }
 
 impl<'t, T: NormTable> Node<'t, T> {
@@ -150,6 +166,24 @@ impl<'t, T: NormTable> Node<'t, T> {
     pub fn image(&self) -> Result<Vec<u8>, Memory>
         ensures { IfOk result (λ bytes. bytes.items ≡ image_bytes (image_told (Some (assigned_count (T.model self.now.table))) (state_of T.model self.now))) }
     {
-        image_of(self.table.version().count(), self.form, &self.kept)
+        let mut bytes = Vec::from_elem(self.kept.allocator(), 0u8, self.image_length())?;
+        self.put_image(bytes.as_mut_slice());
+        Ok(bytes)
+    }
+
+    /// How many bytes the image has. It takes the time of a comparison of each key with its string, and no
+    /// memory.
+    pub fn image_length(&self) -> usize
+        ensures { result ≡ length (image_bytes (image_told (Some (assigned_count (T.model self.now.table))) (state_of T.model self.now))) }
+    {
+        13 + entries_length(&self.kept)
+    }
+
+    /// Spells the image into room of its length. It takes no memory.
+    pub fn put_image(&self, room: &mut [u8])
+        requires { length room.old ≡ length (image_bytes (image_told (Some (assigned_count (T.model self.now.table))) (state_of T.model self.now))) }
+        ensures { room.new ≡ image_bytes (image_told (Some (assigned_count (T.model self.now.table))) (state_of T.model self.now)) }
+    {
+        put_image_of(room, self.table.version().count(), self.form, &self.kept);
     }
 }

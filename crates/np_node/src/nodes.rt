@@ -72,12 +72,7 @@ impl<'t, T: NormTable> Node<'t, T> {
         ensures { result ≡ record { table = table.now; form = form; room = room; entries = [] } }
     {
         table.meets_conditions();
-        Node {
-            table,
-            form,
-            room,
-            kept: Entries::new(alloc),
-        }
+        Node::of_entries(table, form, room, Entries::new(alloc))
     }
 
     /// How many strings are kept. Constant time.
@@ -186,5 +181,33 @@ impl<'t, T: NormTable> Node<'t, T> {
         ensures err { OnErr result (self.new ≡ self.old) }
     {
         self.kept.push(string, key)
+    }
+
+    /// Takes the node apart: what it keeps, without its table. Nothing is looked at or copied. For a
+    /// host that owns the table beside the node.
+    pub fn into_entries(self) -> Entries
+        ensures entries { result ≡ self.entry.entries }
+        ensures node { IsNode (state_of T.model self.entry) }
+    {
+        let Node {
+            table: _,
+            form: _,
+            room: _,
+            kept: left,
+        } = self;
+        left
+    }
+
+    /// The node of entries that a node over a table of the same version was taken apart into.
+    pub fn of_entries(table: &'t T, form: Form, room: u32, entries: Entries) -> Node<'t, T>
+        requires { IsNode (record { version = T.model table.now; form = form; room = room; entries = entries }) }
+        ensures { result ≡ record { table = table.now; form = form; room = room; entries = entries } }
+    {
+        Node {
+            table,
+            form,
+            room,
+            kept: entries,
+        }
     }
 }
