@@ -44,7 +44,7 @@ enum npss_status {
     NPSS_NO_ROOM = 3,
     /* Memory ran out. */
     NPSS_MEMORY = 4,
-    /* The handle or the node is closed. */
+    /* The handle, the node or the stream is closed, or the stream was finished. */
     NPSS_CLOSED = 5,
     /* The form is none of the four. */
     NPSS_NO_FORM = 6,
@@ -123,18 +123,21 @@ enum npss_break {
     NPSS_NEW_COMPOSITE = 6
 };
 
+/* The kinds of mapping of a code point. */
+enum npss_mapping { NPSS_NO_MAPPING = 0, NPSS_CANONICAL = 1, NPSS_COMPATIBILITY = 2 };
+
 /* The normalization forms. */
 enum npss_form { NPSS_NFD = 'D', NPSS_NFC = 'C', NPSS_NFKD = 'd', NPSS_NFKC = 'c' };
 
 /* How a call ended. What a status has no use for is 0. */
 typedef struct npss_answer {
     uint32_t status; /* an npss_status */
-    uint32_t fault;  /* the number of a fault or a break, which of two files or texts is meant, from 1, 1 where a line
-                      * was refused, or the status of an entry's refusal */
-    uint32_t code;   /* a code point */
-    uint64_t place;  /* a byte place from 0, a line from 1, or as NPSS_OLDER_TABLES and npss_node_entry tell */
-    uint64_t length; /* bytes that were written or have no room, code points that are assigned, strings that are kept,
-                      * or an entry's number */
+    uint32_t fault;  /* the number of a fault, a break or a kind of mapping, which of two files or texts is meant, from 1, 1
+                      * where a line was refused, or the status of an entry's refusal */
+    uint32_t code;   /* a code point, or a combining class */
+    uint64_t place;  /* a byte place from 0, a line from 1, or as the calls of nodes, streams and code points tell */
+    uint64_t length; /* bytes that were written, have no room or are ready, code points that are assigned, strings that
+                      * are kept, or an entry's number */
 } npss_answer;
 
 /* A handle on the table of a version, in the caller's memory: two words. Zeros are a closed handle. */
@@ -191,6 +194,25 @@ npss_answer npss_extends(npss_handle *older, npss_handle *newer);
 
 /* How many code points the version assigns: `length`. DONE, CLOSED. */
 npss_answer npss_count(npss_handle *handle);
+
+/* What the version says of a code point. DONE (it is assigned): `code` is its combining class, `fault` the kind of its
+ * mapping, an npss_mapping, and `place` 1 where it is excluded from composition, else 0. A syllable of the Hangul
+ * arithmetic has a canonical mapping. A surrogate is a code point here. UNASSIGNED (`code` is the code point), NO_CODE, CLOSED. */
+npss_answer npss_property(npss_handle *handle, uint32_t code);
+
+/* Writes the full decomposition of a code point to the front of the room, as UTF-8: the compatible one where `compat`, else
+ * the canonical one. Where no mapping counts that is the code point itself, whether or not it is assigned. It is not put in
+ * canonical order. `length` tells how many bytes it has. A surrogate has no UTF-8, and is NO_CODE.
+ * DONE, NO_ROOM, NO_CODE, MEMORY, CLOSED. */
+npss_answer npss_decomposition(npss_handle *handle, bool compat, uint32_t code, uint8_t *room, size_t room_length);
+
+/* The primary composite of two code points: `code`. A surrogate is NO_CODE.
+ * DONE, DIFFERENT (there is none), NO_CODE, CLOSED. */
+npss_answer npss_composite(npss_handle *handle, uint32_t first, uint32_t second);
+
+/* The first code point of a text that is not assigned. Takes no memory.
+ * DONE (each is assigned), UNASSIGNED, NOT_UTF8, CLOSED. */
+npss_answer npss_first_unassigned(npss_handle *handle, const uint8_t *text, size_t text_length);
 
 /* Closes the handle. A closed one stays closed. */
 void npss_close(npss_handle *handle);
@@ -273,6 +295,49 @@ npss_answer npss_node_version(npss_node *node);
 
 /* Closes the node. A closed one stays closed. */
 void npss_node_close(npss_node *node);
+
+/* A stream makes the normal form of a text that comes in pieces, in the memory of a piece and of its longest run of
+ * non-starters. The form can be taken as it becomes ready:
+ *
+ *     npss_stream stream = {0};
+ *     npss_answer a = npss_stream_new(&stream, &handle, NPSS_NFC);
+ *     while (a.status == NPSS_DONE && (n = fread(piece, 1, sizeof piece, in)) > 0) {
+ *         a = npss_stream_feed(&stream, piece, n);
+ *         while ((t = npss_stream_take(&stream, room, sizeof room)).length > 0) fwrite(room, 1, t.length, out);
+ *     }
+ *     if (a.status == NPSS_DONE) a = npss_stream_finish(&stream);
+ *     while ((t = npss_stream_take(&stream, room, sizeof room)).length > 0) fwrite(room, 1, t.length, out);
+ *     npss_stream_close(&stream);
+ *
+ * It is in the caller's memory: two words. Zeros are a closed stream. The rules for handles hold for streams as well. A
+ * stream may be handed to another thread. After a refusal it is as it was before the call, and may go on. */
+typedef struct npss_stream {
+    uint8_t is_open; /* 1 or 0; to be read alone */
+    void *held;      /* none of the caller's */
+} npss_stream;
+
+/* Closes the stream, and opens it at the front of a text, under the version of the tables. It shares the tables, which live
+ * as long as the longest of their handles and streams. After a refusal it is closed.
+ * DONE, MEMORY, CLOSED (the tables are), NO_FORM. */
+npss_answer npss_stream_new(npss_stream *stream, npss_handle *tables, uint8_t form);
+
+/* Goes on with the next piece of the text, which may begin and end within a character. `length` tells how many bytes of the
+ * form are ready. NOT_UTF8: what came and the piece begin no text; the longest front of them that is one has `place` bytes.
+ * DONE, NOT_UTF8, MEMORY, CLOSED (also of a stream that was finished). */
+npss_answer npss_stream_feed(npss_stream *stream, const uint8_t *piece, size_t piece_length);
+
+/* Writes as much as fits of what is ready to the front of the room, which may end within a character: `length` bytes.
+ * `place` tells how many are still ready. DONE, CLOSED. */
+npss_answer npss_stream_take(npss_stream *stream, uint8_t *room, size_t room_length);
+
+/* Ends the text: what was held back is ready too. `length` tells how many bytes are ready. DONE: all that was and will be
+ * taken is the key of the text. UNASSIGNED: it is the normal form of the text, which has no key; `code` and `place`
+ * tell the first code point of the whole text that is not assigned. NOT_UTF8: the text ends within a character, at
+ * `place`, and the stream goes on. DONE, UNASSIGNED, NOT_UTF8, MEMORY, CLOSED (also of a stream that was finished). */
+npss_answer npss_stream_finish(npss_stream *stream);
+
+/* Closes the stream. A closed one stays closed. */
+void npss_stream_close(npss_stream *stream);
 
 #ifdef __cplusplus
 }

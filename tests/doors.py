@@ -32,9 +32,10 @@ from harness import ROOT, Tally, run
 
 HERE = ROOT / "tests" / "doors"
 V1, V2 = ([str(ROOT / "fixtures" / name) for name in version] for version in (versions.V1, versions.V2))
-CALLS = ("answers", "close", "count", "equivalent", "extends", "is_form", "key", "node_accept", "node_close", "node_count",
-         "node_entry", "node_forget", "node_image", "node_key", "node_message", "node_new", "node_restore", "node_same",
-         "node_take", "node_upgrade", "node_version", "normalize", "open", "share")
+CALLS = ("answers", "close", "composite", "count", "decomposition", "equivalent", "extends", "first_unassigned", "is_form", "key",
+         "node_accept", "node_close", "node_count", "node_entry", "node_forget", "node_image", "node_key", "node_message",
+         "node_new", "node_restore", "node_same", "node_take", "node_upgrade", "node_version", "normalize", "open", "property",
+         "share", "stream_close", "stream_feed", "stream_finish", "stream_new", "stream_take")
 # The form's letter for C, and its name for the program.
 LETTERS = {"D": "nfd", "C": "nfc", "d": "nfkd", "c": "nfkc"}
 # The keys of the lines of the input, by Python: words are the form and the two files.

@@ -1,2 +1,3 @@
 mod AnswerLemmas
 mod Rows
+mod StreamLemmas

@@ -1,10 +1,14 @@
 pub mod Answers
+pub mod Codes
 pub mod Contents
 pub mod Files
 pub mod Lines
 pub mod NodeOpening
 pub mod NodeReading
 pub mod Nodes
+pub mod Statuses
+pub mod StreamAnswers
+pub mod Streams
 pub mod Texts
 pub mod Versions
 pub mod inside

@@ -1,2 +1,3 @@
 pub mod FaultAnswers
 pub mod Owned
+pub mod Streams

@@ -47,6 +47,8 @@ pub const OLDER_TABLES: u32 = 20;
 pub const BAD_ENTRY: u32 = 21;
 /// A node has no room for so many strings.
 pub const BAD_ROOM: u32 = 22;
+/// The number is no code point.
+pub const NO_CODE: u32 = 23;
 
 /// How a call ended. What a status has no use for is 0.
 #[repr(C)]

@@ -1,9 +1,10 @@
 //! What handles hold.
 ghost use Rattle.std.specs.Prelude.{◌≡◌, Some, IfOk};
 ghost use Rattle.np_c.specs.declared.content.Content.TheVariants.{Table};
-ghost use Rattle.np_c.specs.Contents.{node_in};
+ghost use Rattle.np_c.specs.Contents.{node_in, stream_in};
 
 use crate::kept_node::KeptNode;
+use crate::kept_streams::KeptStream;
 use crate::shared::Shared;
 use np_code_points::Memory;
 use std::alloc::Global;
@@ -18,6 +19,8 @@ pub enum Content {
     Table(Shared),
     /// A node, in a box of its own, so that a table is handed over by two words.
     Node(Box<KeptNode>),
+    /// A stream, in a box of its own.
+    Stream(Box<KeptStream>),
 }
 
 impl Content {
@@ -42,6 +45,18 @@ impl Content {
     {
         let inner = Box::new(alloc, kept)?;
         Ok(Box::new(alloc, Content::Node(inner))?)
+    }
+
+    /// A stream in a box.
+    ///
+    /// # Errors
+    ///
+    /// `Memory` where memory ran out.
+    pub fn of_stream(alloc: Global, kept: KeptStream) -> Result<Box<Content>, Memory>
+        ensures { IfOk result (λ b. stream_in (Some b.value) ≡ Some kept) }
+    {
+        let inner = Box::new(alloc, kept)?;
+        Ok(Box::new(alloc, Content::Stream(inner))?)
     }
 }
 

@@ -1,12 +1,13 @@
 //! Handles: what C keeps of a thing.
 ghost use Rattle.std.specs.Prelude.{◌≡◌, true, false, Some, None, is_some, IfSome, IfNone};
-ghost use Rattle.np_c.specs.declared.content.Content.TheVariants.{Table, Node};
-ghost use Rattle.np_c.specs.Contents.{node_in, table_in};
+ghost use Rattle.np_c.specs.declared.content.Content.TheVariants.{Node, Stream, Table};
+ghost use Rattle.np_c.specs.Contents.{node_in, stream_in, table_in};
 
 use crate::apart::Apart;
 use crate::content::Content;
 use crate::held::Held;
 use crate::kept_node::KeptNode;
+use crate::kept_streams::KeptStream;
 use crate::shared::Shared;
 use std::alloc::Global;
 use std::mem;
@@ -68,6 +69,10 @@ impl Handle {
                 self.put_node(content, kept);
                 None
             }
+            Content::Stream(kept) => {
+                self.put_stream(content, kept);
+                None
+            }
             Content::Nothing => {
                 *self = Handle::open(content);
                 None
@@ -92,6 +97,10 @@ impl Handle {
         let mut content = self.take(alloc)?;
         match Box::replace(&mut content, Content::Nothing) {
             Content::Node(kept) => Some((kept, content)),
+            Content::Stream(kept) => {
+                self.put_stream(content, kept);
+                None
+            }
             Content::Table(shared) => {
                 self.put_table(content, shared);
                 None
@@ -108,6 +117,38 @@ impl Handle {
         ensures { self.new.held.held ≡ Some (Node kept) }
     {
         drop(Box::replace(&mut content, Content::Node(kept)));
+        *self = Handle::open(content);
+    }
+
+    /// Takes out the stream, and the box in which it stood; nothing changes where no stream is held.
+    pub fn take_stream(&mut self, alloc: Global) -> Option<(Box<KeptStream>, Box<Content>)>
+        ensures some { IfSome result (λ p. self.old.held.held ≡ Some (Stream p.0)) }
+        ensures none { IfNone result (stream_in self.old.held.held ≡ None) }
+        ensures same { IfNone result (self.new.held.held ≡ self.old.held.held) }
+    {
+        let mut content = self.take(alloc)?;
+        match Box::replace(&mut content, Content::Nothing) {
+            Content::Stream(kept) => Some((kept, content)),
+            Content::Node(kept) => {
+                self.put_node(content, kept);
+                None
+            }
+            Content::Table(shared) => {
+                self.put_table(content, shared);
+                None
+            }
+            Content::Nothing => {
+                *self = Handle::open(content);
+                None
+            }
+        }
+    }
+
+    /// Puts a stream into a box, and holds it.
+    pub fn put_stream(&mut self, mut content: Box<Content>, kept: Box<KeptStream>)
+        ensures { self.new.held.held ≡ Some (Stream kept) }
+    {
+        drop(Box::replace(&mut content, Content::Stream(kept)));
         *self = Handle::open(content);
     }
 }

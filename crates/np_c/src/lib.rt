@@ -4,13 +4,16 @@
 
 mod answers;
 mod apart;
+mod code_exports;
 mod comparing;
 mod content;
 mod exports;
+mod first_unassigned;
 mod handles;
 mod held;
 mod keeping;
 mod kept_node;
+mod kept_streams;
 mod keys;
 mod lines;
 mod node_exports;
@@ -18,6 +21,9 @@ mod node_opening;
 mod node_reading;
 mod node_writing;
 mod opening;
+mod properties;
 mod room;
 mod shared;
+mod stream_exports;
+mod stream_opening;
 mod texts;

@@ -17,6 +17,7 @@ pub mod ShortLemmas
 pub mod SortLemmas
 pub mod StreamLemmas
 pub mod StreamSafeLemmas
+pub mod StreamTextLemmas
 pub mod SyllableLemmas
 pub mod SyllableTextLemmas
 pub mod TextLemmas

@@ -1,3 +1,4 @@
+pub mod ApartStreams
 pub mod Assigned
 pub mod Boundaries
 pub mod Composition
@@ -10,5 +11,7 @@ pub mod RunEnds
 pub mod Starters
 pub mod StreamSafe
 pub mod StreamLaws
+pub mod StreamTexts
 pub mod Streams
+pub mod Utf8Prefixes
 pub mod inside

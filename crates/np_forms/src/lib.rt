@@ -13,11 +13,13 @@
 //! ```
 #![tactic(auto)]
 
+mod apart_streams;
 mod assigned;
 mod classes;
 mod composing;
 mod copying;
 mod decomposing;
+mod decompositions;
 mod equivalence;
 mod forms;
 mod fronts;
@@ -35,12 +37,16 @@ mod runs;
 mod segments;
 mod stabilized;
 mod stream_safety;
+mod stream_texts;
 mod streams;
 mod syllable_texts;
 mod utf8_bytes;
+mod utf8_prefixes;
 mod written;
 
+pub use apart_streams::ApartStream;
 pub use assigned::{first_unassigned, first_unassigned_char, first_unassigned_in_version};
+pub use decompositions::full_decomposition;
 pub use equivalence::equivalent;
 pub use forms::{form, is_form};
 pub use quick_check::quick_check_span;
@@ -48,3 +54,4 @@ pub use runs::{RUN_LIMIT, RunFault, run};
 pub use stabilized::{NpssFault, into_npss, lend_npss, npss};
 pub use stream_safety::is_stream_safe;
 pub use streams::Stream;
+pub use utf8_prefixes::{Utf8Prefix, utf8_prefix_of};

@@ -8,6 +8,7 @@ ghost use Rattle.np_forms.specs.inside.Running.{IsBetweenReads, MayBegin, MayNot
 
 use crate::out_texts::OutText;
 use crate::streams::Stream;
+use crate::utf8_prefixes::utf8_prefix_of;
 use crate::written::{close_text, feed_text};
 use np_code_points::output::{flush_once, write_whole};
 use np_code_points::watched::Watched;
@@ -67,31 +68,6 @@ fn read_piece<R: Read>(
     match source.read(&mut piece[..want]) {
         Ok(n) => Ok(n),
         Err(_) => Err(RunFault::ReadFailed),
-    }
-}
-
-/// How bytes begin: how many the longest prefix has that is UTF-8, and whether what follows it may begin a character.
-#[derive(Clone, Copy)]
-struct Utf8Prefix {
-    text: usize,
-    may_begin: bool,
-}
-
-/// How these bytes begin.
-fn utf8_prefix_of(bytes: &[u8]) -> Utf8Prefix
-    ensures begins { result.may_begin ≡ true → MayBegin bytes.now result.text }
-    ensures ends { result.may_begin ≡ false → MayNotBegin bytes.now result.text }
-    ensures few { result.may_begin ≡ true → length bytes.now ≤ result.text + 3 }
-{
-    match simdutf8::compat::from_utf8(bytes) {
-        Ok(text) => Utf8Prefix {
-            text: text.len(),
-            may_begin: true,
-        },
-        Err(fault) => Utf8Prefix {
-            text: fault.valid_up_to(),
-            may_begin: fault.error_len().is_none(),
-        },
     }
 }
 

@@ -1,9 +1,13 @@
 //! Text that comes code point by code point, and its normal form as it becomes ready (The Unicode
 //! Standard, D118 to D121).
-ghost use Rattle.std.specs.Prelude.{◌≡◌, [], length, IfOk, OnErr, OnOk};
+ghost use Rattle.std.specs.Prelude.{◌≡◌, ◌++◌, ℕ, List, [], length, map, take, IfOk, OnErr, OnOk};
+ghost use Rattle.np_forms.specs.ApartStreams.{ApartState, IsApartOf};
 ghost use Rattle.np_forms.specs.Streams.{IsStreaming, StreamState, TakesIn, Finishes};
+ghost use Rattle.np_forms.specs.inside.Classes.{AreClassed, codes_of};
 ghost use Rattle.np_forms.specs.inside.Written.{Breaks, HoldsFront};
+ghost use Rattle.np_versions.specs.Versions.{class_of};
 
+use crate::apart_streams::ApartStream;
 use crate::classes::Classed;
 use crate::decomposing::{append, is_own};
 use crate::held::{Held, finish, hold_front, push_all, settle};
@@ -73,17 +77,7 @@ impl<'t, T: NormTable> Stream<'t, T> {
         ensures begins { IsStreaming (T.model table.now) form [] [] result.pending }
     {
         table.meets_conditions();
-        Stream {
-            table,
-            form,
-            alloc,
-            held: Held {
-                ready: Vec::new(alloc),
-                pending: Vec::new(alloc),
-            },
-            parts: Vec::new(alloc),
-            kept: Vec::new(alloc),
-        }
+        Stream::of_pending(alloc, table, form, Vec::new(alloc))
     }
 
     /// What the stream goes by, for those who write a part of the text beside it.
@@ -189,12 +183,84 @@ impl<'t, T: NormTable> Stream<'t, T> {
     /// what follows them.
     #[tactic(auto, using(crate::proofs::HeldLemmas::front_answers))]
     pub(crate) fn take_front<'a>(&mut self, text: &'a str) -> Result<&'a str, Memory>
-        ensures { IfOk result (λ rest. HoldsFront self.old self.new text.now rest.now) }
+        ensures ok { IfOk result (λ rest. HoldsFront self.old self.new text.now rest.now) }
+        ensures held { OnOk result ((front : List ℕ) × (self.new.pending ≡ self.old.pending ++ front)) }
+        ensures err { OnErr result (self.new ≡ self.old) }
     {
         self.table.meets_conditions();
         let kind = self.form.compat();
-        let rest = hold_front(self.table, kind, text, &mut self.held.pending)?;
-        Ok(rest)
+        let count = self.held.pending.len();
+        match hold_front(self.table, kind, text, &mut self.held.pending) {
+            Ok(rest) => Ok(rest),
+            Err(fault) => {
+                self.held.pending.truncate(count);
+                Err(fault)
+            }
+        }
+    }
+
+    /// Holds back no more than the first `count` code points.
+    pub(crate) fn hold_first(&mut self, count: usize)
+        ensures { self.new ≡ record self.old { pending = take count self.old.pending } }
+    {
+        self.held.pending.truncate(count);
+    }
+
+    /// The same stream once more, where nothing is ready.
+    pub(crate) fn copied(&self) -> Result<Stream<'t, T>, Memory>
+        ensures { IfOk result (λ s. s ≡ record self.now { ready = [] }) }
+    {
+        let mut pending = Vec::new(self.alloc);
+        copy_to(&mut pending, &self.held.pending)?;
+        Ok(Stream::of_pending(self.alloc, self.table, self.form, pending))
+    }
+
+    /// A stream that holds code points back.
+    fn of_pending(alloc: Global, table: &'t T, form: Form, pending: Vec<Classed>) -> Stream<'t, T>
+        requires { AreClassed (T.model table.now) pending.items }
+        ensures { result ≡ record { version = T.model table.now; form = form; ready = []; pending = codes_of pending.items } }
+    {
+        Stream {
+            table,
+            form,
+            alloc,
+            held: Held {
+                ready: Vec::new(alloc),
+                pending,
+            },
+            parts: Vec::new(alloc),
+            kept: Vec::new(alloc),
+        }
+    }
+
+    /// Takes the stream apart: what it is without its table and without what is ready. Nothing is copied.
+    pub fn into_apart(self) -> ApartStream
+        ensures { result ≡ record { form = self.entry.form; pending = self.entry.pending; classes = map (class_of self.entry.version) self.entry.pending } }
+    {
+        let Stream {
+            form,
+            alloc,
+            held,
+            ..
+        } = self;
+        ApartStream {
+            form,
+            alloc,
+            pending: held.pending,
+        }
+    }
+
+    /// The stream that was taken apart, over a table of the same version. Nothing is copied.
+    pub fn of_apart(table: &'t T, apart: ApartStream) -> Stream<'t, T>
+        requires { IsApartOf (T.model table.now) apart }
+        ensures { result ≡ record { version = T.model table.now; form = apart.form; ready = []; pending = apart.pending } }
+    {
+        let ApartStream {
+            form,
+            alloc,
+            pending,
+        } = apart;
+        Stream::of_pending(alloc, table, form, pending)
     }
 
     /// Ends the text, and appends the rest of its form to a text, where all that was ready is taken. What

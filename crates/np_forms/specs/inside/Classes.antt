@@ -29,3 +29,7 @@ pub record IsOrderedOn (v : VersionData) (old : List ℕ) (at next : ℕ) (list 
   pub new : List ℕ
   pub is : list ≡ with_classes v new
   pub same : take at old ++ canonical_order (class_of v) (drop at old) ≡ take next new ++ canonical_order (class_of v) (drop next new)
+
+-- the classes alone
+abbrev pub classes_in : List CodeAndClass → List ℕ
+classes_in xs = map (λ (x : CodeAndClass). x.class) xs

@@ -1,11 +1,11 @@
 -- A run between two reads.
-use Rattle.std.specs.Prelude.{◌≡◌, ◌≢◌, ℕ, ◌+◌, ◌<◌, ◌≤◌, ◌⊎◌, ◌++◌, Bool, false, List, [], length, take, drop, chars, encode_utf8_all, IsUtf8, Option, None, Result}
+use Rattle.std.specs.Prelude.{◌≡◌, ℕ, ◌+◌, ◌<◌, ◌≤◌, ◌⊎◌, ◌++◌, Bool, false, List, [], length, take, drop, chars, encode_utf8_all, IsUtf8, Option, Result}
 use Rattle.std.specs.Io.KnownBytes.{Appends, Consumes}
-use Rattle.std.specs.Str.Lossy.{utf8_error_len}
 use Rattle.np_code_points.specs.Text.{IsLongestValidPrefix}
 use Rattle.np_code_points.specs.declared.forms.Form.{Form}
 use Rattle.np_forms.specs.Forms.{IsNormalForm}
 use Rattle.np_forms.specs.RunEnds.{RunEnds}
+pub use Rattle.np_forms.specs.Utf8Prefixes.{MayBegin, MayNotBegin}
 use Rattle.np_forms.specs.Streams.{IsStreaming, StreamState}
 use Rattle.np_forms.specs.declared.runs.RunFault.{RunFault}
 use Rattle.np_forms.specs.declared.runs.RunFault.TheVariants.{NotUtf8, ReadFailed, WriteFailed, TooLarge, Memory}
@@ -36,16 +36,6 @@ pub record IsBetweenReads (s : StreamState) (text : List ℕ) (kept total : ℕ)
   pub writes : write_failed ≡ false
   pub fits : total ≤ 4294967295
   pub inside : kept ≤ total
-
--- n bytes are the longest prefix of a chunk that is a text, and what follows them may begin a character
-pub record MayBegin (chunk : List ℕ) (n : ℕ) : Type 0 where
-  pub prefix : IsLongestValidPrefix chunk n
-  pub begins : utf8_error_len (drop n chunk) ≡ None
-
--- n bytes are the longest prefix of a chunk that is a text, and what follows them begins no character
-pub record MayNotBegin (chunk : List ℕ) (n : ℕ) : Type 0 where
-  pub prefix : IsLongestValidPrefix chunk n
-  pub ends : utf8_error_len (drop n chunk) ≢ None
 
 -- that holds of a chunk without its last byte, of which k bytes are a text
 pub record IsBeforeLast (Begins : List ℕ → ℕ → Type 0) (chunk : List ℕ) : Type 0 where

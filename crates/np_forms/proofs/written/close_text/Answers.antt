@@ -17,6 +17,6 @@ returns g c =
     (λ made.
     Closes-held (g.T.NormTable.model c.normalizer-normalizer.result.table.now) c.meets_conditions.ensures c.normalizer-normalizer.result.form
     c.args.stream.now _ _ _ c.args.out.now _ _ c.write_form-2.new.out c.args.text.now _ _ c.split_head.result.1.now
-    c.normalizer-normalizer.ensures.version c.normalizer-normalizer.ensures.form c.requires c.in_ok-rest.ensures c.split_head.ensures.parts c.split_head.ensures.front c.split_head.ensures.at
+    c.normalizer-normalizer.ensures.version c.normalizer-normalizer.ensures.form c.requires c.in_ok-rest.ensures.ok c.split_head.ensures.parts c.split_head.ensures.front c.split_head.ensures.at
     c.in_ok-write_chars.ensures c.in_ok-finish_into.ensures made)
     c.write_form-2.ensures

@@ -15,7 +15,7 @@ chars-init g c =
 pub chars-preserved : goal.chars-preserved
 chars-preserved g c =
     let a = c.chars.invariant in
-    let h = c.in_ok-take_front.ensures in
+    let h = c.in_ok-take_front.ensures.ok in
     let rest = c.in_ok-take_front.field-0.now in
     let front = a.front ++ h.front in
     let reads : IsRead c.args.text.now rest front =
@@ -29,7 +29,7 @@ chars-preserved g c =
 pub returns-in_default : goal.returns-in_default
 returns-in_default g c =
     let a = c.chars.invariant in
-    let h = c.in_ok-take_front.ensures in
+    let h = c.in_ok-take_front.ensures.ok in
     let rest = c.in_ok-take_front.field-0.now in
     let front = a.front ++ h.front in
     let reads : IsRead c.args.text.now rest front =

@@ -4,7 +4,7 @@ use Rattle.std.specs.Option.{is_some}
 use Rattle.std.specs.Str.Lossy.{utf8_error_len}
 use Rattle.np_code_points.proofs.TextLemmas.{longest_valid_prefix}
 use Rattle.np_forms.proofs.RunTextLemmas.{whole_prefix}
-use Rattle.np_forms.proofs.runs.utf8_prefix_of.Goals as goal
+use Rattle.np_forms.proofs.utf8_prefixes.utf8_prefix_of.Goals as goal
 
 nothing : utf8_error_len [] ≡ None
 unfolding utf8_error_len
