@@ -124,16 +124,17 @@ def check_names(tally, prefix):
 
 def check_c(tally, prefix, folder):
     """Each call and each status, from C, and threads."""
-    files = [*V1, *V2]
-    for name in ("calls", "nodes"):
+    both = [*V1, *V2]
+    for name, words in (("calls", [*both, LARGE]), ("nodes", [*both, LARGE]), ("codes", V1), ("streams", [*V1, LARGE])):
         for shared in (False, True):
             program = compiled(tally, prefix, folder, name, shared)
             if program:
-                counted(tally, program.name, [program, *files, LARGE])
+                counted(tally, program.name, [program, *words])
         program = folder / name
         if program.exists() and wanted("valgrind"):
+            fewer = [word // 100 if word == LARGE else word for word in words]
             counted(tally, f"{name} under valgrind", ["valgrind", "-q", "--error-exitcode=9", "--leak-check=full",
-                                                      "--show-leak-kinds=all", program, *files, LARGE // 100])
+                                                      "--show-leak-kinds=all", program, *fewer])
     program = compiled(tally, prefix, folder, "threads")
     if program:
         counted(tally, "threads", [program, *V1, KEYS])
