@@ -47,8 +47,11 @@ typedef struct Failure
 	char	   *hint;			/* or NULL */
 } Failure;
 
+/* npss_pg.c */
+extern const char *npss_folder(void);
+extern const char *npss_wanted_version(void);
+
 /* versions.c */
-extern char *npss_folder;		/* npss.folder */
 extern Version *open_version(const char *label, Failure *failure);
 extern Version *find_version(const char *digest);
 extern void keep_version(Version *version);
@@ -63,6 +66,6 @@ extern void report(int level, const Failure *failure);
 extern Version *version_in_force(FunctionCallInfo call);
 extern bool needs_no_tables(FunctionCallInfo call, const char *text, size_t length);
 extern Version *newer_version(FunctionCallInfo call, Version *version);
-extern void begin_record(void);
+extern void listen_to_record(void);
 
 #endif

@@ -16,7 +16,6 @@
 #include "storage/lmgr.h"
 #include "utils/backend_status.h"
 #include "utils/builtins.h"
-#include "utils/guc.h"
 #include "utils/inval.h"
 #include "utils/lsyscache.h"
 #include "utils/rel.h"
@@ -41,7 +40,6 @@ static struct
 }			known;
 
 static Oid	watched = InvalidOid;	/* the table whose changes are listened to */
-static char *wanted_label = NULL;	/* npss.version */
 
 /* ---------- the rows */
 
@@ -247,11 +245,8 @@ record_changed(Datum unused, Oid relation)
 }
 
 void
-begin_record(void)
+listen_to_record(void)
 {
-	DefineCustomStringVariable("npss.version",
-							   "The version that CREATE EXTENSION npss records in place of the newest in npss.folder.",
-							   NULL, &wanted_label, "", PGC_SUSET, 0, NULL, NULL, NULL);
 	CacheRegisterRelcacheCallback(record_changed, (Datum) 0);
 }
 
@@ -348,8 +343,8 @@ npss_pg_newest(PG_FUNCTION_ARGS)
 	List	   *labels;
 	ListCell   *at;
 
-	if (wanted_label != NULL && wanted_label[0] != '\0')
-		PG_RETURN_TEXT_P(cstring_to_text(wanted_label));
+	if (npss_wanted_version()[0] != '\0')
+		PG_RETURN_TEXT_P(cstring_to_text(npss_wanted_version()));
 	labels = labels_in_folder(&failure);
 	foreach(at, labels)
 	{

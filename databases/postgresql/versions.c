@@ -23,7 +23,6 @@ typedef struct Bytes
 	size_t		length;
 } Bytes;
 
-char	   *npss_folder = NULL;
 static Version *versions = NULL;	/* all that are kept open in this process */
 
 static const char *const breaks[] = {"none", "Lost", "ClassChanged", "MappingChanged", "NowExcluded", "NowIncluded",
@@ -64,7 +63,7 @@ fail(Failure *failure, int sqlstate, char *message, char *detail, char *hint)
 static bool
 read_file(const char *label, const char *name, Bytes *bytes, Failure *failure)
 {
-	char	   *path = psprintf("%s/%s/%s", npss_folder, label, name);
+	char	   *path = psprintf("%s/%s/%s", npss_folder(), label, name);
 	int			file = OpenTransientFile(path, O_RDONLY | O_NONBLOCK | PG_BINARY);
 	struct stat about;
 	ssize_t		got = 1;
@@ -73,7 +72,7 @@ read_file(const char *label, const char *name, Bytes *bytes, Failure *failure)
 		return fail(failure, errno == EACCES || errno == EPERM ? ERRCODE_INSUFFICIENT_PRIVILEGE : ERRCODE_UNDEFINED_FILE,
 					psprintf("npss: could not open file \"%s\": %m", path), NULL,
 					psprintf("Put UnicodeData.txt and CompositionExclusions.txt into a folder of \"%s\" that is named \"%s\".",
-							 npss_folder, label));
+							 npss_folder(), label));
 	if (fstat(file, &about) != 0 || !S_ISREG(about.st_mode) || about.st_size > MOST_OF_A_FILE)
 	{
 		CloseTransientFile(file);
@@ -218,7 +217,7 @@ fill_version(Version *version, const char *label, Failure *failure)
 static bool
 has_folder(Failure *failure)
 {
-	if (npss_folder != NULL && npss_folder[0] != '\0')
+	if (npss_folder()[0] != '\0')
 		return true;
 	return fail(failure, ERRCODE_OBJECT_NOT_IN_PREREQUISITE_STATE, "npss.folder is not set", NULL,
 				"A superuser sets npss.folder to a folder that has one folder for each Unicode version.");
@@ -320,14 +319,14 @@ labels_in_folder(Failure *failure)
 
 	if (!has_folder(failure))
 		return NIL;
-	dir = AllocateDir(npss_folder);
-	while (dir != NULL && (entry = ReadDirExtended(dir, npss_folder, LOG)) != NULL)
+	dir = AllocateDir(npss_folder());
+	while (dir != NULL && (entry = ReadDirExtended(dir, npss_folder(), LOG)) != NULL)
 		if (is_label(entry->d_name))
 			labels = lappend(labels, pstrdup(entry->d_name));
 	if (dir != NULL)
 		FreeDir(dir);
 	if (labels == NIL)
-		fail(failure, ERRCODE_OBJECT_NOT_IN_PREREQUISITE_STATE, psprintf("npss.folder \"%s\" has no version", npss_folder), NULL,
+		fail(failure, ERRCODE_OBJECT_NOT_IN_PREREQUISITE_STATE, psprintf("npss.folder \"%s\" has no version", npss_folder()), NULL,
 			 "Put UnicodeData.txt and CompositionExclusions.txt into a folder of it that is named for the version, such as 15.0.");
 	return labels;
 }
