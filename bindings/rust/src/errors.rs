@@ -4,6 +4,7 @@ use crate::raw::{self, Answer};
 use crate::values::Break;
 use std::error::Error;
 use std::fmt;
+use std::io;
 
 /// Which of the two files of a version.
 #[derive(Clone, Copy, Debug, PartialEq, Eq)]
@@ -293,3 +294,52 @@ impl fmt::Display for UpgradeError {
 }
 
 impl Error for UpgradeError {}
+
+/// Why a stream does not go on. It is as it was.
+#[derive(Clone, Copy, Debug, PartialEq, Eq)]
+#[non_exhaustive]
+pub enum StreamError {
+    /// What came is no text, or ends within a character.
+    NotUtf8 {
+        /// How many bytes the longest front of the whole text has that is one.
+        at: u64,
+    },
+    /// The stream was finished before.
+    Finished,
+    /// Memory ran out.
+    Memory,
+}
+
+impl StreamError {
+    /// What the library's answer tells.
+    pub(crate) fn of(a: Answer) -> StreamError {
+        match a.status {
+            raw::NOT_UTF8 => StreamError::NotUtf8 { at: a.place },
+            raw::CLOSED => StreamError::Finished,
+            _ => StreamError::Memory,
+        }
+    }
+}
+
+impl fmt::Display for StreamError {
+    fn fmt(&self, f: &mut fmt::Formatter<'_>) -> fmt::Result {
+        match self {
+            StreamError::NotUtf8 { at } => write!(f, "not UTF-8 at byte {at}"),
+            StreamError::Finished => f.write_str("the stream was finished"),
+            StreamError::Memory => f.write_str("out of memory"),
+        }
+    }
+}
+
+impl Error for StreamError {}
+
+impl From<StreamError> for io::Error {
+    fn from(error: StreamError) -> io::Error {
+        let kind = match error {
+            StreamError::NotUtf8 { .. } => io::ErrorKind::InvalidData,
+            StreamError::Finished => io::ErrorKind::InvalidInput,
+            StreamError::Memory => io::ErrorKind::OutOfMemory,
+        };
+        io::Error::new(kind, error)
+    }
+}

@@ -27,12 +27,15 @@ mod nodes;
 mod pool;
 #[allow(missing_docs)]
 mod raw;
+mod streams;
 mod tables;
 mod values;
 
 pub use errors::{
-    File, KeyError, Memory, NewNodeError, OpenError, Refused, RestoreError, UpgradeError,
+    File, KeyError, Memory, NewNodeError, OpenError, Refused, RestoreError, StreamError,
+    UpgradeError,
 };
 pub use nodes::{Accepted, Entry, Node, MOST_ROOM};
+pub use streams::{Normalizer, Stream};
 pub use tables::Tables;
-pub use values::{Answers, Break, BreakKind, Form, LineEnd};
+pub use values::{Answers, Break, BreakKind, Form, LineEnd, Mapping, Property, Unassigned};

@@ -13,7 +13,7 @@ pub struct Answer {
     pub length: u64,
 }
 
-/// A handle on a table or a node; zeros are a closed one.
+/// A handle on a table, a node or a stream; zeros are a closed one.
 #[repr(C)]
 #[derive(Debug)]
 pub struct Handle {
@@ -34,6 +34,7 @@ pub const UNASSIGNED: u32 = 1;
 pub const NOT_UTF8: u32 = 2;
 pub const NO_ROOM: u32 = 3;
 pub const MEMORY: u32 = 4;
+pub const CLOSED: u32 = 5;
 pub const DATA: u32 = 7;
 pub const EXCLUSIONS: u32 = 8;
 pub const TABLES: u32 = 9;
@@ -100,6 +101,25 @@ extern "C" {
     pub fn npss_extends(older: *mut Handle, newer: *mut Handle) -> Answer;
     pub fn npss_count(handle: *mut Handle) -> Answer;
     pub fn npss_close(handle: *mut Handle);
+    pub fn npss_property(handle: *mut Handle, code: u32) -> Answer;
+    pub fn npss_decomposition(
+        handle: *mut Handle,
+        compat: bool,
+        code: u32,
+        room: *mut u8,
+        room_length: usize,
+    ) -> Answer;
+    pub fn npss_composite(handle: *mut Handle, first: u32, second: u32) -> Answer;
+    pub fn npss_first_unassigned(
+        handle: *mut Handle,
+        text: *const u8,
+        text_length: usize,
+    ) -> Answer;
+    pub fn npss_stream_new(stream: *mut Handle, tables: *mut Handle, form: u8) -> Answer;
+    pub fn npss_stream_feed(stream: *mut Handle, piece: *const u8, piece_length: usize) -> Answer;
+    pub fn npss_stream_take(stream: *mut Handle, room: *mut u8, room_length: usize) -> Answer;
+    pub fn npss_stream_finish(stream: *mut Handle) -> Answer;
+    pub fn npss_stream_close(stream: *mut Handle);
     pub fn npss_node_new(node: *mut Handle, tables: *mut Handle, form: u8, room: u32) -> Answer;
     pub fn npss_node_restore(
         node: *mut Handle,

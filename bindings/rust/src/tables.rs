@@ -3,7 +3,7 @@
 use crate::errors::{File, KeyError, Memory, OpenError};
 use crate::pool::Pool;
 use crate::raw::{self, Answer, Handle};
-use crate::values::{Answers, Break, BreakKind, Form, LineEnd};
+use crate::values::{Answers, Break, BreakKind, Form, LineEnd, Mapping, Property, Unassigned};
 
 /// The tables of a version of Unicode. They serve all threads at once.
 #[derive(Debug)]
@@ -269,6 +269,79 @@ impl Tables {
                 .pool
                 .call(|old| self.pool.call(|new| unsafe { raw::npss_extends(old, new) })),
         )
+    }
+
+    /// What the version says of a code point; none where it does not assign it.
+    ///
+    /// ```
+    /// # use npss::{Mapping, Tables};
+    /// let tables = Tables::open(b"0061;X;Ll;0;L;;;;;N;;;;;\n00E2;X;Ll;0;L;0061 0302;;;;N;;;;;\n0302;X;Mn;230;L;;;;;N;;;;;\n", b"")?;
+    /// assert_eq!(tables.property('\u{302}').unwrap().combining_class, 230);
+    /// assert_eq!(tables.property('\u{e2}').unwrap().mapping, Some(Mapping::Canonical));
+    /// assert_eq!(tables.property('b'), None);
+    /// assert_eq!(tables.decomposition('\u{e2}', false)?, "a\u{302}");
+    /// assert_eq!(tables.composite('a', '\u{302}'), Some('\u{e2}'));
+    /// # Ok::<(), Box<dyn std::error::Error>>(())
+    /// ```
+    pub fn property(&self, code: char) -> Option<Property> {
+        // SAFETY: the handle is ours.
+        let a = self
+            .pool
+            .call(|handle| unsafe { raw::npss_property(handle, u32::from(code)) });
+        let mapping = match a.fault {
+            1 => Some(Mapping::Canonical),
+            2 => Some(Mapping::Compatibility),
+            _ => None,
+        };
+        (a.status == raw::DONE).then_some(Property {
+            combining_class: a.code as u8,
+            mapping,
+            excluded: a.place != 0,
+        })
+    }
+
+    /// The full decomposition of a code point: the compatible one where `compatible`, else the canonical one. Of a code
+    /// point without a mapping that is the code point itself.
+    ///
+    /// # Errors
+    ///
+    /// `Memory` where memory ran out.
+    pub fn decomposition(&self, code: char, compatible: bool) -> Result<String, Memory> {
+        let made = filled(64, |room, length| {
+            // SAFETY: the room is writable.
+            self.pool.call(|handle| unsafe {
+                raw::npss_decomposition(handle, compatible, u32::from(code), room, length)
+            })
+        });
+        match made {
+            // SAFETY: what is written is the UTF-8 of code points; that is proved.
+            Ok((bytes, _)) => Ok(unsafe { String::from_utf8_unchecked(bytes) }),
+            Err(_) => Err(Memory),
+        }
+    }
+
+    /// The primary composite of two code points.
+    pub fn composite(&self, first: char, second: char) -> Option<char> {
+        // SAFETY: the handle is ours.
+        let a = self.pool.call(|handle| unsafe {
+            raw::npss_composite(handle, u32::from(first), u32::from(second))
+        });
+        (a.status == raw::DONE)
+            .then(|| char::from_u32(a.code))
+            .flatten()
+    }
+
+    /// The first code point of a text that the version does not assign. With the tables of an earlier version it tells
+    /// what a machine that lags behind lacks of a key.
+    pub fn first_unassigned(&self, text: &str) -> Option<Unassigned> {
+        // SAFETY: the text is readable.
+        let a = self.pool.call(|handle| unsafe {
+            raw::npss_first_unassigned(handle, text.as_ptr(), text.len())
+        });
+        match (a.status, char::from_u32(a.code)) {
+            (raw::UNASSIGNED, Some(code)) => Some(Unassigned { at: a.place, code }),
+            _ => None,
+        }
     }
 
     /// How many code points the version assigns.

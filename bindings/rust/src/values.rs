@@ -77,3 +77,32 @@ pub struct Break {
     /// The code point.
     pub code: u32,
 }
+
+/// A code point of a text that the version does not assign.
+#[derive(Clone, Copy, Debug, PartialEq, Eq)]
+pub struct Unassigned {
+    /// Its byte place, from 0.
+    pub at: u64,
+    /// The code point.
+    pub code: char,
+}
+
+/// The kind of mapping of a code point.
+#[derive(Clone, Copy, Debug, PartialEq, Eq)]
+pub enum Mapping {
+    /// It counts for all four forms.
+    Canonical,
+    /// It counts for NFKD and NFKC.
+    Compatibility,
+}
+
+/// What a version says of a code point that it assigns.
+#[derive(Clone, Copy, Debug, PartialEq, Eq)]
+pub struct Property {
+    /// Its combining class; 0 is a starter.
+    pub combining_class: u8,
+    /// The kind of its mapping. A syllable of the Hangul arithmetic has a canonical one.
+    pub mapping: Option<Mapping>,
+    /// Whether it is excluded from composition.
+    pub excluded: bool,
+}
