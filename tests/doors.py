@@ -179,8 +179,31 @@ def check_python(tally, prefix, folder):
         return None
     environment = {**os.environ, "PYTHONPATH": str(site)}
     counted(tally, "the module for Python", [sys.executable, ROOT / "bindings" / "python" / "test.py", *V1, *V2], env=environment)
+    check_python_strictly(tally, prefix, folder, environment)
     counted(tally, "accounts in a database", [sys.executable, ROOT / "examples" / "accounts.py", "--test", *V1, *V2], env=environment)
     return environment
+
+
+def check_python_strictly(tally, prefix, folder, environment):
+    """The module under a debug Python, under the sanitizers of the C compiler, and beside its stub."""
+    test = [ROOT / "bindings" / "python" / "test.py", *V1, *V2]
+    if wanted("python3-dbg"):
+        counted(tally, "the module under a debug Python", ["python3-dbg", *test], env=environment)
+    site, flags = folder / "checked", "-g -fsanitize=address,undefined -fno-sanitize-recover=undefined"
+    build = [sys.executable, ROOT / "bindings" / "python" / "build.py", "--prefix", prefix, site]
+    libraries = [done(tally, name, ["cc", f"-print-file-name={name}"]) or "" for name in ("libasan.so", "libubsan.so")]
+    if not all(Path(library.strip()).is_absolute() for library in libraries):
+        print("skipped: the module under the sanitizers: the C compiler has none")
+    elif done(tally, "the module is built with checks", build, env={**os.environ, "CFLAGS": flags}) is not None:
+        checked = {**os.environ, "PYTHONPATH": str(site), "PYTHONMALLOC": "malloc", "ASAN_OPTIONS": "detect_leaks=0",
+                   "LD_PRELOAD": " ".join(library.strip() for library in libraries)}
+        counted(tally, "the module under the sanitizers", [sys.executable, *test], env=checked)
+    stubtest = [python for python in (sys.executable, "/usr/bin/python3") if Path(python).exists() and
+                subprocess.run([python, "-c", "import mypy.stubtest"], stderr=subprocess.DEVNULL, check=False).returncode == 0]
+    if stubtest:
+        done(tally, "the stub says what there is", [stubtest[0], "-m", "mypy.stubtest", "npss"], env=environment, cwd=folder)
+    else:
+        print("skipped: the stub beside the module: mypy is not here")
 
 
 def check_histories(tally, program, folder, files, environment):

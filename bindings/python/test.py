@@ -4,10 +4,16 @@
 The module is one that build.py made, on PYTHONPATH. Ends in a line 'N passed, M failed'.
 """
 
+import copy
+import itertools
+import os
 import pickle
 import pydoc
+import signal
 import sys
+import tempfile
 import threading
+import time
 import unittest
 from pathlib import Path
 
@@ -52,6 +58,58 @@ class Opening(unittest.TestCase):
             Tables()
 
 
+    def test_a_large_file_is_not_read_whole(self):
+        with tempfile.NamedTemporaryFile() as file:
+            file.truncate(1 << 40)
+            error = self.refused(file.name, b"")
+        self.assertEqual((error.file, error.name), ("data", "TooLarge"))
+
+    def test_tables_are_not_pickled(self):
+        tables = Tables.open(*V1)
+        for protocol in range(pickle.HIGHEST_PROTOCOL + 1):
+            self.assertRaisesRegex(TypeError, "call Tables.open there", pickle.dumps, tables, protocol)
+        self.assertRaises(TypeError, copy.copy, tables)
+
+    def test_a_read_that_fails(self):
+        self.assertRaises(OSError, Tables.open, "/proc/self/mem", b"")
+        self.assertRaises(OSError, Tables.open, os.sep, b"")
+
+
+class Interpreters(unittest.TestCase):
+    def test_each_interpreter_has_classes_of_its_own(self):
+        try:
+            import _xxsubinterpreters as interpreters
+        except ImportError:
+            self.skipTest("this Python has no sub-interpreters by this name")
+        code = f"import npss\ntry: npss.Tables.open(b'', b'none')\nexcept npss.BadTables: print('caught', flush=True)\n"
+        for _ in range(3):
+            other = interpreters.create()
+            interpreters.run_string(other, code)
+            interpreters.destroy(other)
+        self.assertRaises(BadTables, Tables.open, b"", b"none")
+
+
+class Signals(unittest.TestCase):
+    """Ctrl-C ends a call that takes long."""
+
+    def interrupted(self, call):
+        before = signal.signal(signal.SIGALRM, signal.default_int_handler)
+        begun = time.monotonic()
+        signal.setitimer(signal.ITIMER_REAL, 0.2)
+        try:
+            self.assertRaises(KeyboardInterrupt, call)
+        finally:
+            signal.setitimer(signal.ITIMER_REAL, 0)
+            signal.signal(signal.SIGALRM, before)
+        self.assertLess(time.monotonic() - begun, 5)
+
+    def test_signals(self):
+        tables = Tables.open(*V1)
+        self.interrupted(lambda: tables.keys(itertools.repeat(MARKED)))
+        lines = (MARKED + "\n").encode() * 30_000_000
+        self.interrupted(lambda: tables.answers(lines))
+
+
 class Texts(unittest.TestCase):
     def setUp(self):
         self.tables = Tables.open(*V1)
@@ -83,8 +141,10 @@ class Texts(unittest.TestCase):
         self.assertEqual(str(error), "16D67 at character 1 (byte 3) is not assigned")
         self.assertEqual(pickle.loads(pickle.dumps(error)).place, 3)
         self.assertEqual(self.tables.normalize(text), text)
-        with self.assertRaises(Unassigned):
-            self.tables.keys(["A", text])
+        self.assertIsNone(error.number)
+        with self.assertRaises(Unassigned) as caught:
+            self.tables.keys(["A", "a", text, "A"])
+        self.assertEqual((caught.exception.number, caught.exception.place), (2, 3))
 
     def test_lone_surrogates(self):
         for call in (self.tables.key, self.tables.normalize, self.tables.is_normalized):
@@ -101,6 +161,8 @@ class Texts(unittest.TestCase):
         self.assertEqual(self.tables.answers(marked + b"\n"), b"=" + made + b"\n")
         self.assertEqual(self.tables.answers(b"a\0A", end=b"\0"), b"=a\0=A\0")
         self.assertEqual(self.tables.answers(b"\xff\n" * 100_000), b"!not UTF-8 at byte 0\n" * 100_000)
+        long = b"A" * 3_000_000 + b"\n" + marked + b"\n" + b"a" * 65_536
+        self.assertEqual(self.tables.answers(long * 2), (b"!too long\n=" + made + b"\n") + b"!too long\n=" + made + b"\n=" + b"a" * 65_536 + b"\n")
         self.assertRaises(TypeError, self.tables.answers, "a")
         self.assertRaises(ValueError, self.tables.answers, b"a", "nfc", b";")
         self.assertRaises(TypeError, self.tables.answers, b"a", "nfc", "\n")
@@ -117,6 +179,11 @@ class Texts(unittest.TestCase):
                      lambda: self.tables.key("A", text="A"), lambda: self.tables.key("A", kind="nfc"), lambda: self.tables.keys(3)):
             self.assertRaises(TypeError, call)
         self.assertRaisesRegex(ValueError, "'nfx'", self.tables.key, "A", "nfx")
+        for call in (lambda: self.tables.key("A", "nfc\0junk"), lambda: self.tables.key("A", "Nfc")):
+            self.assertRaises(ValueError, call)
+        for call in (lambda: self.tables.key("A", None), lambda: self.tables.key("A", b"nfc"), lambda: self.tables.answers([97, 10]),
+                     lambda: self.tables.answers(5)):
+            self.assertRaises(TypeError, call)
 
     def test_equivalent(self):
         self.assertTrue(self.tables.equivalent(MARKED, "\u1ead"))
