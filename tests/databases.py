@@ -1,0 +1,107 @@
+#!/usr/bin/env python3
+"""tests/databases.py [PREFIX]: tests the keys in PostgreSQL and SQLite, over versions 13.0, 14.0 and 15.0.
+
+PREFIX is where ./build-c installed the library, that of this tree where none is named. The versions are those of Debian's
+package unicode-data, 15.0, and two that are cut from it. Run as root it installs Debian's postgresql, its headers,
+libsqlite3-dev and sqlite3 where they are missing, unless NO_APT=1 is set; what can't be had is skipped, with its name. Ends
+in a line 'N passed, M failed'.
+"""
+
+import os
+import re
+import shutil
+import subprocess
+import sys
+import tempfile
+from pathlib import Path
+
+import ucd
+from harness import ROOT, Tally
+
+POSTGRESQL, SQLITE = ROOT / "databases" / "postgresql", ROOT / "databases" / "sqlite"
+PACKAGES = ("postgresql", "postgresql-server-dev-all", "libsqlite3-dev", "sqlite3")
+AGES = ((13, 0), (14, 0))
+SYSTEM_PYTHON = "/usr/bin/python3"
+LOADS = "import sqlite3; sqlite3.connect(':memory:').enable_load_extension(True)"
+
+
+def has_postgresql():
+    return all(Path("/usr/lib/postgresql/15", name).exists() for name in ("bin/initdb", "lib/pgxs"))
+
+
+def has_sqlite():
+    return Path("/usr/include/sqlite3ext.h").exists() and shutil.which("sqlite3")
+
+
+def install():
+    """Asks Debian for what is missing, where that may be."""
+    if (has_postgresql() and has_sqlite()) or os.environ.get("NO_APT") or os.geteuid() or not shutil.which("apt-get"):
+        return
+    print(f"installing {' '.join(PACKAGES)} by apt-get", flush=True)
+    environment = {**os.environ, "DEBIAN_FRONTEND": "noninteractive"}
+    for words in (["update", "-q"], ["install", "-q", "-y", "--no-install-recommends", *PACKAGES]):
+        subprocess.run(["apt-get", *words], env=environment, stdout=subprocess.DEVNULL, stderr=subprocess.DEVNULL, check=False)
+
+
+def versions_below(files, folder):
+    """A folder that has one folder for each version, for anybody to read."""
+    named = {".".join(map(str, age)): ucd.write_cut(files, age, folder)[0] for age in AGES}
+    named["15.0"] = [files[ucd.DATA], files[ucd.EXCLUSIONS]]
+    for label, names in named.items():
+        (folder / label).mkdir()
+        for name, to in zip(names, (ucd.DATA, ucd.EXCLUSIONS)):
+            shutil.copy(name, folder / label / to)
+    folder.chmod(0o755)
+    return folder
+
+
+def counted(tally, name, words):
+    """Runs a test that ends in a line 'N passed, M failed', and adds it up."""
+    ran = subprocess.run(list(map(str, words)), stdin=subprocess.DEVNULL, stdout=subprocess.PIPE, stderr=subprocess.STDOUT, text=True, check=False)
+    lines = ran.stdout.strip().splitlines()
+    last = re.fullmatch(r"(\d+) passed, (\d+) failed", lines[-1] if lines else "")
+    print("".join(f"{line}\n" for line in lines if line.startswith("skipped: ")), end="", flush=True)
+    if last:
+        tally.passed += int(last[1])
+        tally.failed += int(last[2])
+    if not last or int(last[2]):
+        print(ran.stdout[-8000:])
+    tally.check(name, last and ran.returncode == (1 if int(last[2]) else 0), f"status {ran.returncode}")
+
+
+def check_sqlite(tally, prefix, versions, room):
+    """The extension for SQLite, built with all warnings."""
+    pythons = [python for python in (sys.executable, SYSTEM_PYTHON) if Path(python).exists()
+               and subprocess.run([python, "-c", LOADS], stderr=subprocess.DEVNULL, check=False).returncode == 0]
+    if not has_sqlite() or not pythons:
+        print("skipped: keys in SQLite: its headers, its shell, or a Python that loads extensions")
+        return
+    make = ["make", "-s", "-C", SQLITE, f"NPSS={prefix}", f"OUT={room}", "CFLAGS=-O2 -g -Wall -Wextra -Werror"]
+    built = subprocess.run(list(map(str, make)), stdout=subprocess.PIPE, stderr=subprocess.STDOUT, text=True, check=False)
+    if tally.check("the extension for SQLite is built", built.returncode == 0, built.stdout):
+        counted(tally, "keys in SQLite", [pythons[0], SQLITE / "test_sqlite.py", room / "npss.so", versions])
+
+
+def main():
+    prefix = Path(sys.argv[1] if len(sys.argv) > 1 else ROOT / "out" / "c").resolve()
+    tally = Tally()
+    files, why = ucd.package_files()
+    if files is None or not (prefix / "lib" / "libnpss.a").exists() or not (shutil.which("cc") and shutil.which("make")):
+        print(f"skipped: keys in databases: {why or 'the library for C is not built, or there is no cc or make'}")
+        tally.finish()
+    install()
+    with tempfile.TemporaryDirectory() as name:
+        versions, room = Path(name, "versions"), Path(name, "sqlite")
+        Path(name).chmod(0o755)
+        versions.mkdir()
+        versions_below(files, versions)
+        check_sqlite(tally, prefix, versions, room)
+        if has_postgresql():
+            counted(tally, "keys in PostgreSQL", [sys.executable, POSTGRESQL / "test_postgresql.py", prefix, versions, ROOT / "fixtures"])
+        else:
+            print("skipped: keys in PostgreSQL: PostgreSQL 15 or its headers are not here")
+    tally.finish()
+
+
+if __name__ == "__main__":
+    main()
