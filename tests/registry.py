@@ -80,6 +80,13 @@ def main():
             tally.finish()
         environment = {**os.environ, "PYTHONPATH": f"{site}:{HOST}"}
         counted(tally, "the registry's own tests", [python, HOST / "tests" / "test_registry.py", words.program, ROOT / "fixtures"], environment)
+        mypy = [one for one in (python, SYSTEM_PYTHON) if subprocess.run([one, "-c", "import mypy"], stderr=subprocess.DEVNULL, check=False).returncode == 0]
+        if mypy:
+            typed = subprocess.run([mypy[0], "-m", "mypy", "--cache-dir", os.devnull, "npss_registry"], cwd=HOST, stdout=subprocess.PIPE,
+                                   stderr=subprocess.STDOUT, text=True, env={**os.environ, "MYPYPATH": site}, check=False)
+            tally.check("the registry's types", typed.returncode == 0, typed.stdout)
+        else:
+            print("skipped: the registry's types: mypy is not here")
         logs = ["sqlite", *(["redis"] if shutil.which("redis-server") and with_modules() else [])]
         for log in logs:
             chaos = [python, ROOT / "tests" / "chaos.py", "--seconds", words.seconds / len(logs), "--log", log, words.program]

@@ -35,26 +35,18 @@ static PyObject *mapping_name(uint32_t kind) {
 
 PyObject *tables_property(PyObject *of, PyObject *given) {
     tables *self = (tables *)of;
-    PyObject *found, *fields[4];
+    PyObject *mapping;
     npss_answer a;
     uint32_t code;
+    int assigned;
     if (code_of(given, &code)) return NULL;
     a = npss_property(&self->handle, code);
-    if (a.status != NPSS_DONE && a.status != NPSS_UNASSIGNED) return refuse(self->state, a, NULL);
-    if (a.status == NPSS_UNASSIGNED) a.code = 0;
-    if (!(found = PyStructSequence_New((PyTypeObject *)self->state->of[PROPERTY_TYPE]))) return NULL;
-    fields[0] = PyBool_FromLong(a.status == NPSS_DONE);
-    fields[1] = PyLong_FromUnsignedLong(a.code);
-    fields[2] = mapping_name(a.fault);
-    fields[3] = PyBool_FromLong(a.place != 0);
-    for (int i = 0; i < 4; i++) PyStructSequence_SetItem(found, i, fields[i]);
-    for (int i = 0; i < 4; i++) {
-        if (!fields[i]) {
-            Py_DECREF(found);
-            return NULL;
-        }
-    }
-    return found;
+    assigned = a.status == NPSS_DONE;
+    if (!assigned && a.status != NPSS_UNASSIGNED) return refuse(self->state, a, NULL);
+    if (!(mapping = mapping_name(a.fault))) return NULL;
+    /* "N" takes the mapping. */
+    return PyObject_CallFunction(self->state->of[PROPERTY_CLASS], "OINO", assigned ? Py_True : Py_False, assigned ? a.code : 0, mapping,
+                                 a.place ? Py_True : Py_False);
 }
 
 PyObject *tables_decomposition(PyObject *of, PyObject *const *given, Py_ssize_t count, PyObject *words) {
@@ -96,13 +88,3 @@ PyObject *tables_first_unassigned(PyObject *of, PyObject *text) {
     if (a.status == NPSS_DONE) Py_RETURN_NONE;
     return a.status == NPSS_UNASSIGNED ? refusal(self->state, a, b.at) : refuse(self->state, a, b.at);
 }
-
-static PyStructSequence_Field fields[] = {
-    {"assigned", "whether the version assigns it"},
-    {"combining_class", "its combining class; 0 is a starter"},
-    {"mapping", "'canonical', 'compatibility', or None"},
-    {"excluded", "whether it is excluded from composition"},
-    {NULL, NULL},
-};
-
-PyStructSequence_Desc property_description = {"npss.Property", "What a version says of a code point.", fields, 4};

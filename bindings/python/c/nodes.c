@@ -282,20 +282,18 @@ static Py_ssize_t node_length(PyObject *self) {
 
 /* The entry of a string and its key, which stand behind one another in a room. */
 static PyObject *entry_of(const module_state *state, const uint8_t *room, npss_answer a) {
-    PyObject *string, *key, *found = PyStructSequence_New((PyTypeObject *)state->of[ENTRY_TYPE]);
     Py_ssize_t of_string = (Py_ssize_t)a.place, of_key = (Py_ssize_t)(a.length - a.place);
-    if (!found) return NULL;
-    string = PyUnicode_DecodeUTF8((const char *)room, of_string, NULL);
+    PyObject *string = PyUnicode_DecodeUTF8((const char *)room, of_string, NULL), *key;
+    if (!string) return NULL;
     if (of_string == of_key && !memcmp(room, room + of_string, (size_t)of_key)) {
         key = string;
-        Py_XINCREF(key);
-    } else {
-        key = PyUnicode_DecodeUTF8((const char *)room + of_string, of_key, NULL);
+        Py_INCREF(key);
+    } else if (!(key = PyUnicode_DecodeUTF8((const char *)room + of_string, of_key, NULL))) {
+        Py_DECREF(string);
+        return NULL;
     }
-    PyStructSequence_SetItem(found, 0, string);
-    PyStructSequence_SetItem(found, 1, key);
-    if (!string || !key) Py_CLEAR(found);
-    return found;
+    /* "N" takes them. */
+    return PyObject_CallFunction(state->of[ENTRY_CLASS], "NN", string, key);
 }
 
 /* Entry number `index`, from 0; IndexError where there is none. */
@@ -454,11 +452,3 @@ static PyType_Slot slots[] = {
 };
 
 PyType_Spec node_spec = {"npss.Node", sizeof(node), 0, Py_TPFLAGS_DEFAULT, slots};
-
-static PyStructSequence_Field entry_fields[] = {
-    {"string", "the string, as it was given"},
-    {"key", "its key"},
-    {NULL, NULL},
-};
-
-PyStructSequence_Desc entry_description = {"npss.Entry", "A string that a node keeps, beside its key.", entry_fields, 2};

@@ -1,6 +1,8 @@
 /* The C half of the Python module `npss`: it hands texts to the proved library, and answers back. */
 #include "arguments.h"
 
+static const char *const file_names[] = {"contents"};
+static const char *const value_names[] = {"Break", "Entry", "Property"};
 static const char *const error_names[] = {"BadTables", "Refused",   "TooLong",    "NotUtf8",     "Unassigned", "Full",
                                           "Malformed", "OtherForm", "KeyDiffers", "OlderTables", "BadEntry"};
 
@@ -9,18 +11,21 @@ static int bring(module_state *state, int member, PyObject *from, const char *na
     return (state->of[member] = PyObject_GetAttrString(from, name)) ? 0 : -1;
 }
 
-static int bring_python_half(module_state *state) {
-    PyObject *errors = PyImport_ImportModule("npss._errors"), *files = PyImport_ImportModule("npss._files");
-    PyObject *accepted = errors && files ? PyImport_ImportModule("npss._accepted") : NULL;
+/* Puts attributes of a module of the Python half into the state, from a member on. */
+static int bring_all(module_state *state, const char *module, int first, const char *const *names, int count) {
+    PyObject *from = PyImport_ImportModule(module);
+    int failed = !from;
+    for (int i = 0; !failed && i < count; i++) failed = bring(state, first + i, from, names[i]);
+    Py_XDECREF(from);
+    return failed;
+}
+
+static int bring_members(module_state *state) {
+    PyObject *accepted = PyImport_ImportModule("npss._accepted");
     PyObject *members = accepted ? PyObject_GetAttrString(accepted, "Accepted") : NULL;
-    int failed = !members || bring(state, CONTENTS, files, "contents") || bring(state, KEPT, members, "KEPT") ||
-                 bring(state, KNOWN, members, "KNOWN");
-    for (int i = 0; !failed && i <= BAD_ENTRY - BAD_TABLES; i++)
-        failed = bring(state, BAD_TABLES + i, errors, error_names[i]);
+    int failed = !members || bring(state, KEPT, members, "KEPT") || bring(state, KNOWN, members, "KNOWN");
     Py_XDECREF(members);
     Py_XDECREF(accepted);
-    Py_XDECREF(files);
-    Py_XDECREF(errors);
     return failed;
 }
 
@@ -35,13 +40,13 @@ static int begin(PyObject *module) {
     for (size_t i = 0; i < FORM_NAMES; i++) {
         if (!(state->of[FORM_NAME + i] = PyUnicode_InternFromString(form_names[i].name))) return -1;
     }
-    if (bring_python_half(state)) return -1;
+    if (bring_all(state, "npss._files", CONTENTS, file_names, 1) ||
+        bring_all(state, "npss._errors", BAD_TABLES, error_names, BAD_ENTRY - BAD_TABLES + 1) ||
+        bring_all(state, "npss._values", BREAK_CLASS, value_names, 3) || bring_members(state))
+        return -1;
     if (add_type(module, state, TABLES_TYPE, "Tables", PyType_FromModuleAndSpec(module, &tables_spec, NULL)) ||
         add_type(module, state, NODE_TYPE, "Node", PyType_FromModuleAndSpec(module, &node_spec, NULL)) ||
-        add_type(module, state, STREAM_TYPE, "Stream", PyType_FromModuleAndSpec(module, &stream_spec, NULL)) ||
-        add_type(module, state, PROPERTY_TYPE, "Property", (PyObject *)PyStructSequence_NewType(&property_description)) ||
-        add_type(module, state, BREAK_TYPE, "Break", (PyObject *)PyStructSequence_NewType(&break_description)) ||
-        add_type(module, state, ENTRY_TYPE, "Entry", (PyObject *)PyStructSequence_NewType(&entry_description)))
+        add_type(module, state, STREAM_TYPE, "Stream", PyType_FromModuleAndSpec(module, &stream_spec, NULL)))
         return -1;
     return 0;
 }

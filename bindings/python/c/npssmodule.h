@@ -35,13 +35,14 @@ enum member {
     /* The members of npss._accepted.Accepted. */
     KEPT,
     KNOWN,
+    /* The classes of npss._values. */
+    BREAK_CLASS,
+    ENTRY_CLASS,
+    PROPERTY_CLASS,
     /* The module's own types. */
     TABLES_TYPE,
     NODE_TYPE,
     STREAM_TYPE,
-    BREAK_TYPE,
-    ENTRY_TYPE,
-    PROPERTY_TYPE,
     MEMBERS
 };
 
@@ -63,7 +64,6 @@ typedef struct bytes {
 } bytes;
 
 extern PyType_Spec tables_spec, node_spec, stream_spec;
-extern PyStructSequence_Desc break_description, entry_description, property_description;
 
 /* The exception of an answer that is not done; NULL where an error was raised. `text` has the bytes in which a place counts. */
 PyObject *refusal(const module_state *state, npss_answer a, const uint8_t *text);

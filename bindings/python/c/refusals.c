@@ -106,12 +106,5 @@ PyObject *refuse_image(const module_state *state, npss_answer a, const uint8_t *
 PyObject *break_of(const module_state *state, npss_answer a) {
     static const char *const kinds[] = {
         "", "Lost", "ClassChanged", "MappingChanged", "NowExcluded", "NowIncluded", "NewComposite"};
-    PyObject *kind, *code, *found = PyStructSequence_New((PyTypeObject *)state->of[BREAK_TYPE]);
-    if (!found) return NULL;
-    kind = PyUnicode_FromString(kinds[a.fault]);
-    code = PyLong_FromUnsignedLong(a.code);
-    PyStructSequence_SetItem(found, 0, kind);
-    PyStructSequence_SetItem(found, 1, code);
-    if (!kind || !code) Py_CLEAR(found);
-    return found;
+    return PyObject_CallFunction(state->of[BREAK_CLASS], "sI", kinds[a.fault], a.code);
 }

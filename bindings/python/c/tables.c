@@ -407,12 +407,3 @@ static PyType_Slot slots[] = {
 
 PyType_Spec tables_spec = {"npss.Tables", sizeof(tables), 0, Py_TPFLAGS_DEFAULT | Py_TPFLAGS_DISALLOW_INSTANTIATION,
                            slots};
-
-static PyStructSequence_Field break_fields[] = {
-    {"kind", "the name of the kind of break"},
-    {"code", "the code point, a number"},
-    {NULL, NULL},
-};
-
-PyStructSequence_Desc break_description = {
-    "npss.Break", "What a newer version breaks of an older one, at a code point.", break_fields, 2};

@@ -11,12 +11,11 @@ from npss import BadTables, Refused
 
 from npss_registry import LogAway, Outcome, Registration, Registry, RegistryError, Version, init
 from npss_registry.judge import MOST_BYTES, MOST_EVENTS, Judge
-from npss_registry.records import Setup
+from npss_registry.records import FORMS, Setup
 from npss_registry.relog import relog
 
 # The statuses are those of `npss` where they mean the same.
 DONE, NO, REFUSED, FAULTY, AWAY = 0, 1, 3, 4, 5
-FORMS = ("nfc", "nfd", "nfkc", "nfkd")
 
 
 def version_of(data: str, exclusions: str) -> Version:

@@ -4,7 +4,7 @@ from bisect import bisect_right
 from dataclasses import dataclass
 from typing import Optional
 
-from npss import Tables, Unassigned
+from npss import Form, Tables, Unassigned
 
 from npss_registry.store import Version
 
@@ -75,7 +75,7 @@ def hex_of(code: int) -> str:
     return f"{code:04X}"
 
 
-def side(tables: Tables, names: Names, form: str, text: str) -> Side:
+def side(tables: Tables, names: Names, form: Form, text: str) -> Side:
     """A name as the page shows it."""
     rows = []
     for character in text:
@@ -89,7 +89,7 @@ def side(tables: Tables, names: Names, form: str, text: str) -> Side:
         return Side(text, rows, None, error)
 
 
-def compared(tables: Tables, names: Names, form: str, left: str, right: str) -> Verdict:
+def compared(tables: Tables, names: Names, form: Form, left: str, right: str) -> Verdict:
     """Why two names are the same or not, under a form."""
     one, other = side(tables, names, form, left), side(tables, names, form, right)
     if one.key is None or other.key is None:

@@ -300,7 +300,7 @@ class Judge:
                 return None
             base = Node.restore(self._tables[chain[row.base_version]], row.base, self._setup.form, self._setup.room)
         return Judged(store.path, rows, journal, row.place, chain, row.base_version, row.base_place,
-                      [entry.string for entry in base], [tuple(entry) for entry in now.node])
+                      [entry.string for entry in base], [(entry.string, entry.key) for entry in now.node])
 
     def _number(self, version: Version) -> int:
         return next(i for i, one in enumerate(self._chain) if one.sums == version.sums)

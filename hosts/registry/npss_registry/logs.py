@@ -89,11 +89,11 @@ class SqliteLog:
     def record(self, shard: int, place: int) -> Optional[bytes]:
         with _reached():
             found = self._base.execute("SELECT body FROM record WHERE shard = ? AND place = ?", (shard, place)).fetchone()
-        return found and found[0]
+        return bytes(found[0]) if found else None
 
     def last(self, shard: int) -> int:
         with _reached():
-            return self._base.execute("SELECT coalesce(max(place), 0) FROM record WHERE shard = ?", (shard,)).fetchone()[0]
+            return int(self._base.execute("SELECT coalesce(max(place), 0) FROM record WHERE shard = ?", (shard,)).fetchone()[0])
 
     def close(self) -> None:
         self._base.close()
@@ -174,4 +174,6 @@ class RedisLog:
 
 def open_log(name: str) -> Log:
     """The log of a name: the path of a SQLite file, or redis://HOST:PORT/NUMBER#PREFIX."""
-    return RedisLog(name) if name.startswith(("redis://", "rediss://", "unix://")) else SqliteLog(name)
+    if name.startswith(("redis://", "rediss://", "unix://")):
+        return RedisLog(name)
+    return SqliteLog(name)

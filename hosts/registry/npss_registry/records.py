@@ -6,18 +6,21 @@ import json
 from dataclasses import dataclass
 from typing import Union
 
+from npss import Form
+
 from npss_registry.errors import LogBroken
 
 # A message is the form's byte, the length of the string in four bytes, the string, and its key likewise.
 _LENGTH = 4
 _FORM_BYTES = {"nfd": b"D", "nfc": b"C", "nfkd": b"d", "nfkc": b"c"}
+FORMS: tuple[Form, ...] = ("nfc", "nfd", "nfkc", "nfkd")
 
 
 @dataclass(frozen=True)
 class Setup:
     """What all stores of a log share. It is each shard's first record."""
 
-    form: str
+    form: Form
     room: int
     shards: int
     equivalents: bool
@@ -52,10 +55,18 @@ class Forget:
 Record = Union[Setup, Claim, Forget]
 
 
-def message(form: str, string: str, key: str) -> bytes:
+def message(form: Form, string: str, key: str) -> bytes:
     """The message of a string and its key, as a node spells it (docs/FORMATS.md, "Message")."""
     parts = (string.encode(), key.encode())
     return _FORM_BYTES[form] + b"".join(len(part).to_bytes(_LENGTH, "big") + part for part in parts)
+
+
+def form_of(name: object) -> Form:
+    """The form of a name; ValueError where it is none."""
+    for form in FORMS:
+        if name == form:
+            return form
+    raise ValueError(f"{name!r} is no form")
 
 
 def _field(message: bytes, at: int) -> bytes:
@@ -84,7 +95,7 @@ def read(place: int, body: bytes) -> Record:
     try:
         told = json.loads(body)
         if told.get("setup") == 1:
-            return Setup(str(told["form"]), int(told["room"]), int(told["shards"]), bool(told["equivalents"]))
+            return Setup(form_of(told["form"]), int(told["room"]), int(told["shards"]), bool(told["equivalents"]))
         if "claim" in told:
             return Claim(base64.b64decode(told["claim"], validate=True), str(told["owner"]))
         return Forget(str(told["forget"]), int(told["place"]))

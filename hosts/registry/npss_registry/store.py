@@ -14,7 +14,7 @@ from typing import Any, Optional
 from npss import Tables
 
 from npss_registry.errors import InUse, StoreError
-from npss_registry.records import Setup
+from npss_registry.records import Setup, form_of
 
 _LAYOUT = 1
 _TABLES = """
@@ -121,7 +121,7 @@ class Store:
         if row is None or row[0] != _LAYOUT:
             self.close()
             raise StoreError(f"{path}: its layout is not one that this version reads")
-        self.setup = Setup(row[1], row[2], row[3], bool(row[4]))
+        self.setup = Setup(form_of(row[1]), row[2], row[3], bool(row[4]))
         self.log, self.node, self._file = row[5], row[6], row[7]
 
     @staticmethod
@@ -215,7 +215,7 @@ class Store:
     @property
     def is_copy(self) -> bool:
         """Whether this file isn't the one that the node's name was given to: a backup that was brought back."""
-        return self._file != _identity(self.path)
+        return bool(self._file != _identity(self.path))
 
     def rename_node(self) -> None:
         """Gives the node another name, and its file is this one."""

@@ -75,9 +75,9 @@ class Worker:
                     if not asked.answer.done():
                         asked.answer.set_exception(error)
         while not self._asked.empty():
-            asked = self._asked.get()
-            if asked is not None:
-                asked.answer.set_exception(self.failure or LogAway("the server ends; ask again"))
+            left = self._asked.get()
+            if left is not None:
+                left.answer.set_exception(self.failure or LogAway("the server ends; ask again"))
 
     def _batch(self) -> tuple[list[_Asked], bool]:
         """What waits, up to a claim batch; whether more may come."""

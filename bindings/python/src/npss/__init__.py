@@ -27,8 +27,9 @@ exception under Refused, and changes nothing.
 from npss._accepted import Accepted
 from npss._errors import (BadEntry, BadTables, Full, KeyDiffers, Malformed, NotUtf8, OlderTables, OtherForm, Refused,
                           TooLong, Unassigned)
-from npss._npss import Break, Entry, Node, Property, Stream, Tables
+from npss._npss import Node, Stream, Tables
+from npss._values import Break, Entry, Form, Property
 
-__all__ = ["Accepted", "BadEntry", "BadTables", "Break", "Entry", "Full", "KeyDiffers", "Malformed", "Node", "NotUtf8",
+__all__ = ["Accepted", "BadEntry", "BadTables", "Break", "Entry", "Form", "Full", "KeyDiffers", "Malformed", "Node", "NotUtf8",
            "OlderTables", "OtherForm", "Property", "Refused", "Stream", "Tables", "TooLong", "Unassigned"]
 __version__ = "0.1.0"

@@ -10,13 +10,14 @@ from npss._errors import OtherForm as OtherForm
 from npss._errors import Refused as Refused
 from npss._errors import TooLong as TooLong
 from npss._errors import Unassigned as Unassigned
-from npss._npss import Break as Break
-from npss._npss import Entry as Entry
 from npss._npss import Node as Node
-from npss._npss import Property as Property
 from npss._npss import Stream as Stream
 from npss._npss import Tables as Tables
+from npss._values import Break as Break
+from npss._values import Entry as Entry
+from npss._values import Form as Form
+from npss._values import Property as Property
 
-__all__ = ["Accepted", "BadEntry", "BadTables", "Break", "Entry", "Full", "KeyDiffers", "Malformed", "Node", "NotUtf8",
+__all__ = ["Accepted", "BadEntry", "BadTables", "Break", "Entry", "Form", "Full", "KeyDiffers", "Malformed", "Node", "NotUtf8",
            "OlderTables", "OtherForm", "Property", "Refused", "Stream", "Tables", "TooLong", "Unassigned"]
 __version__: str
