@@ -135,6 +135,9 @@ def check_c(tally, prefix, folder):
             fewer = [word // 100 if word == LARGE else word for word in words]
             counted(tally, f"{name} under valgrind", ["valgrind", "-q", "--error-exitcode=9", "--leak-check=full",
                                                       "--show-leak-kinds=all", program, *fewer])
+    program = compiled(tally, prefix, folder, "fences")
+    if program:
+        counted(tally, "fences", [program, *both])
     program = compiled(tally, prefix, folder, "threads")
     if program:
         counted(tally, "threads", [program, *V1, KEYS])

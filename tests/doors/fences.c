@@ -1,0 +1,251 @@
+/* fences DATA EXCLUSIONS DATA2 EXCLUSIONS2: calls of nodes and streams between fences, and with memory that is refused.
+ *
+ * Each text and each room lies right before a page that may not be touched, or right behind one. Then each call is made with
+ * its first allocation refused, its second, and so on until it is done: it answers that memory ran out, and what it works on
+ * is as it was. The second version extends the first. */
+#define _GNU_SOURCE
+#include "files.h"
+
+#include <sys/mman.h>
+#include <unistd.h>
+
+/* a, circumflex, dot below; and its key under NFC. */
+#define NAME "a\xcc\x82\xcc\xa3"
+#define KEY "\xe1\xba\xad"
+
+/* ---- memory that is refused: the C library's own calls stand behind these. */
+
+extern void *__libc_malloc(size_t), *__libc_calloc(size_t, size_t), *__libc_realloc(void *, size_t), *__libc_memalign(size_t, size_t);
+static long left = -1; /* how many allocations are granted before one is refused; none is where it is negative */
+static int refused;
+static int met; /* how many calls answered that memory ran out */
+
+static int refuses(void) {
+    if (left < 0 || left-- > 0) return 0;
+    refused = 1;
+    return 1;
+}
+
+void *malloc(size_t size) {
+    return refuses() ? NULL : __libc_malloc(size);
+}
+
+void *calloc(size_t count, size_t size) {
+    return refuses() ? NULL : __libc_calloc(count, size);
+}
+
+void *realloc(void *old, size_t size) {
+    return refuses() ? NULL : __libc_realloc(old, size);
+}
+
+int posix_memalign(void **made, size_t alignment, size_t size) {
+    if (refuses()) return 12; /* ENOMEM */
+    *made = __libc_memalign(alignment, size);
+    return *made ? 0 : 12;
+}
+
+void *aligned_alloc(size_t alignment, size_t size) {
+    return refuses() ? NULL : __libc_memalign(alignment, size);
+}
+
+/* ---- fences */
+
+/* So many bytes that end at a fence, or begin behind one. */
+static uint8_t *fenced(size_t length, int at_end) {
+    const size_t page = (size_t)sysconf(_SC_PAGESIZE), pages = (length + page - 1) / page + (length == 0);
+    uint8_t *whole = mmap(NULL, (pages + 2) * page, PROT_NONE, MAP_PRIVATE | MAP_ANONYMOUS, -1, 0);
+    if (whole == MAP_FAILED || mprotect(whole + page, pages * page, PROT_READ | PROT_WRITE)) exit(3);
+    return whole + page + (at_end ? pages * page - length : 0);
+}
+
+static const uint8_t *fenced_text(const char *bytes, size_t length, int at_end) {
+    uint8_t *made = fenced(length, at_end);
+    memcpy(made, bytes, length);
+    return made;
+}
+
+static int ended(npss_answer a, uint32_t status, uint64_t length) {
+    return a.status == status && a.length == length;
+}
+
+/* Each call of a node, with its texts and rooms at fences. */
+static void check_node(npss_handle *old, npss_handle *new, int at_end) {
+    static const char message[] = "C\0\0\0\5" NAME "\0\0\0\3" KEY;
+    const size_t name = sizeof NAME - 1, key = sizeof KEY - 1, told = sizeof message - 1, image = 13 + 4 + name + 1 + 4 + key;
+    const uint8_t *text = fenced_text(NAME, name, at_end), *other = fenced_text(KEY, key, at_end);
+    npss_node node = {0}, away = {0};
+    CHECK("a node is new", npss_node_new(&node, old, NPSS_NFC, 3).status == NPSS_DONE);
+    CHECK("a string at a fence", npss_node_accept(&node, text, name).status == NPSS_DONE);
+    CHECK("no string at a fence", npss_node_accept(&node, fenced(0, at_end), 0).status == NPSS_DONE && npss_node_forget(&node, text, 0).status == NPSS_DONE);
+    uint8_t *room = fenced(told, at_end);
+    CHECK("a message into a room of its length", ended(npss_node_message(&node, text, name, room, told), NPSS_DONE, told) && !memcmp(room, message, told));
+    CHECK("into one that lacks a byte", ended(npss_node_message(&node, text, name, fenced(told - 1, at_end), told - 1), NPSS_NO_ROOM, told));
+    CHECK("a message at a fence", npss_node_new(&away, new, NPSS_NFC, 3).status == NPSS_DONE && npss_node_take(&away, room, told).status == NPSS_DONE);
+    for (size_t length = 0; length < told; length++)
+        CHECK("a message that is cut", npss_node_take(&away, fenced_text(message, length, at_end), length).status == NPSS_MALFORMED);
+    room = fenced(key, at_end);
+    CHECK("a key", ended(npss_node_key(&node, text, name, room, key), NPSS_DONE, key) && !memcmp(room, KEY, key));
+    CHECK("a key without its room", ended(npss_node_key(&node, text, name, fenced(key - 1, at_end), key - 1), NPSS_NO_ROOM, key));
+    room = fenced(name + key, at_end);
+    CHECK("an entry", ended(npss_node_entry(&node, 0, room, name + key), NPSS_DONE, name + key) && !memcmp(room, NAME KEY, name + key));
+    CHECK("an entry without its room", ended(npss_node_entry(&node, 0, fenced(1, at_end), 1), NPSS_NO_ROOM, name + key));
+    CHECK("no such entry", npss_node_entry(&node, UINT64_MAX, fenced(0, at_end), 0).status == NPSS_NOT_KEPT);
+    CHECK("two strings", npss_node_accept(&node, other, key).status == NPSS_DONE && npss_node_same(&node, text, name, other, key).status == NPSS_DONE);
+    CHECK("one is forgotten", npss_node_forget(&node, other, key).status == NPSS_DONE);
+    room = fenced(image, at_end);
+    CHECK("an image", ended(npss_node_image(&node, room, image), NPSS_DONE, image));
+    CHECK("an image without its room", ended(npss_node_image(&node, fenced(image - 1, at_end), image - 1), NPSS_NO_ROOM, image));
+    CHECK("an image at a fence", npss_node_restore(&away, old, NPSS_NFC, 3, room, image).status == NPSS_DONE && npss_node_count(&away).length == 1);
+    for (size_t length = 0; length < image; length++)
+        CHECK("an image that is cut", npss_node_restore(&away, old, NPSS_NFC, 3, fenced_text((char *)room, length, at_end), length).status == NPSS_MALFORMED);
+    npss_node_close(&node);
+    npss_node_close(&away);
+}
+
+/* A stream whose pieces and rooms stand at fences. */
+static void check_stream(npss_handle *tables, int at_end) {
+    const size_t name = sizeof NAME - 1, key = sizeof KEY - 1;
+    npss_stream stream = {0};
+    CHECK("a stream is new", npss_stream_new(&stream, tables, NPSS_NFC).status == NPSS_DONE);
+    for (size_t at = 0; at < name; at++)
+        CHECK("a byte at a fence", npss_stream_feed(&stream, fenced_text(&NAME[at], 1, at_end), 1).status == NPSS_DONE);
+    CHECK("its end", ended(npss_stream_finish(&stream), NPSS_DONE, key));
+    for (size_t at = 0; at < key; at++) {
+        uint8_t *room = fenced(1, at_end);
+        CHECK("a byte is taken", ended(npss_stream_take(&stream, room, 1), NPSS_DONE, 1) && *room == (uint8_t)KEY[at]);
+    }
+    CHECK("no more", ended(npss_stream_take(&stream, fenced(0, at_end), 0), NPSS_DONE, 0));
+    npss_stream_close(&stream);
+}
+
+/* ---- refusals */
+
+typedef npss_answer step(void *on);
+
+/* Makes a step with each of its allocations refused in turn; `is_as_before` is asked after each refusal. */
+static void refuse_each(const char *name, step *made, int (*is_as_before)(void *), void *on) {
+    for (long granted = 0; granted < 1000; granted++) {
+        npss_answer a;
+        left = granted;
+        refused = 0;
+        a = made(on);
+        left = -1;
+        if (!refused) {
+            CHECK(name, a.status == NPSS_DONE || a.status == NPSS_UNASSIGNED);
+            return;
+        }
+        /* A refusal that the call can do without, as of a larger buffer, may be none of its own. */
+        if (a.status == NPSS_DONE) return;
+        CHECK(name, a.status == NPSS_MEMORY && is_as_before(on));
+        met += a.status == NPSS_MEMORY;
+    }
+    CHECK(name, !"its allocations end");
+}
+
+/* A node, two tables, and the image that the node had before. */
+typedef struct kept {
+    npss_node node;
+    npss_stream stream;
+    npss_handle *old, *new;
+    uint8_t image[4096], saved[4096];
+    size_t length, saved_length;
+} kept;
+
+static int is_same_node(void *on) {
+    kept *of = on;
+    uint8_t now[4096];
+    npss_answer a = npss_node_image(&of->node, now, sizeof now);
+    return a.status == NPSS_DONE && a.length == of->length && !memcmp(now, of->image, of->length);
+}
+
+static int is_closed_node(void *on) {
+    return npss_node_count(&((kept *)on)->node).status == NPSS_CLOSED;
+}
+
+static int is_open_stream(void *on) {
+    return npss_stream_take(&((kept *)on)->stream, ((kept *)on)->saved, 0).status == NPSS_DONE;
+}
+
+static int is_closed_stream(void *on) {
+    return npss_stream_take(&((kept *)on)->stream, ((kept *)on)->saved, 0).status == NPSS_CLOSED;
+}
+
+static void remember(kept *of) {
+    of->length = (size_t)npss_node_image(&of->node, of->image, sizeof of->image).length;
+}
+
+static npss_answer make_new(void *on) {
+    kept *of = on;
+    return npss_node_new(&of->node, of->old, NPSS_NFC, 9);
+}
+
+static npss_answer accept_long(void *on) {
+    return npss_node_accept(&((kept *)on)->node, (const uint8_t *)NAME NAME NAME NAME NAME, 5 * (sizeof NAME - 1));
+}
+
+static npss_answer take_one(void *on) {
+    static const char message[] = "C\0\0\0\5" NAME "\0\0\0\3" KEY;
+    return npss_node_take(&((kept *)on)->node, (const uint8_t *)message, sizeof message - 1);
+}
+
+static npss_answer upgrade(void *on) {
+    kept *of = on;
+    return npss_node_upgrade(&of->node, of->new);
+}
+
+static npss_answer restore(void *on) {
+    kept *of = on;
+    return npss_node_restore(&of->node, of->old, NPSS_NFC, 9, of->saved, of->saved_length);
+}
+
+static npss_answer stream_new(void *on) {
+    kept *of = on;
+    return npss_stream_new(&of->stream, of->old, NPSS_NFC);
+}
+
+static npss_answer stream_feed(void *on) {
+    return npss_stream_feed(&((kept *)on)->stream, (const uint8_t *)NAME KEY NAME, 2 * sizeof NAME + sizeof KEY - 3);
+}
+
+static npss_answer stream_finish(void *on) {
+    return npss_stream_finish(&((kept *)on)->stream);
+}
+
+static void check_refusals(npss_handle *old, npss_handle *new) {
+    kept of = {0};
+    of.old = old;
+    of.new = new;
+    refuse_each("memory for a new node", make_new, is_closed_node, &of);
+    remember(&of);
+    refuse_each("memory for a string", accept_long, is_same_node, &of);
+    remember(&of);
+    refuse_each("memory for a message's string", take_one, is_same_node, &of);
+    remember(&of);
+    memcpy(of.saved, of.image, of.length);
+    of.saved_length = of.length;
+    refuse_each("memory for an upgrade", upgrade, is_same_node, &of);
+    refuse_each("memory for an image's node", restore, is_closed_node, &of);
+    CHECK("the image came back", npss_node_count(&of.node).length == 2);
+    npss_node_close(&of.node);
+    refuse_each("memory for a new stream", stream_new, is_closed_stream, &of);
+    refuse_each("memory for a piece", stream_feed, is_open_stream, &of);
+    refuse_each("memory for the end", stream_finish, is_open_stream, &of);
+    npss_answer a = npss_stream_take(&of.stream, of.image, sizeof of.image);
+    CHECK("the form is whole", a.length == 9 && !memcmp(of.image, KEY KEY KEY, 9));
+    npss_stream_close(&of.stream);
+    CHECK("each kind of call was refused memory", met >= 8);
+}
+
+int main(int argc, char **argv) {
+    if (argc != 5) return 2;
+    npss_handle old = {0}, new = {0};
+    CHECK("open", open_files(&old, argv[1], argv[2]).status == NPSS_DONE && open_files(&new, argv[3], argv[4]).status == NPSS_DONE);
+    for (int at_end = 0; at_end < 2; at_end++) {
+        check_node(&old, &new, at_end);
+        check_stream(&old, at_end);
+    }
+    check_refusals(&old, &new);
+    npss_close(&old);
+    npss_close(&new);
+    return finish();
+}
