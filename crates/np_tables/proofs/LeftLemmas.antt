@@ -1,6 +1,6 @@
 -- What is left of 64 bytes to be looked up, and starters that pass whatever stands before them.
 use Rattle.std.proofs.Common.{◌≡◌, ◌≢◌, ℕ, ◌+◌, ◌-◌, ◌<◌, ◌≤◌, ◌^◌, Bool, true, false, cond, List, length, encode_utf8, IsUtf8, drop, take, get_or, get_or-take, bit_and, refl, sym, ap, subst, ◌∙◌, arith, inl, inr}
-use Rattle.np_tables.proofs.Words.{AreLeft, AreYes, BeginsWithChar, IsCharBoundary, IsYes, cases_lt, chars_past_char, count_trailing_zeros, get_or-drop, get_or_append_left, is_doubtful, quick_check_in}
+use Rattle.np_tables.proofs.Words.{AreLeft, AreYes, BeginsWithChar, IsCharBoundary, IsYes, cases_lt, chars_past_char, count_trailing_zeros, get_or-drop, get_or_append_left, is_doubtful, row_of, quick_check_in}
 use Rattle.np_tables.specs.declared.scans.Scan.{Scan}
 use Rattle.np_tables.proofs.DoubtfulLeadLemmas.{low_byte-safe}
 use Rattle.np_tables.proofs.LeadByteLemmas.{lowest_gone, others_kept}
@@ -21,7 +21,7 @@ inside_boundary text k within inside =
 
 module _ (s : Scan) (text : List ℕ) where
   -- what begins with a byte that is not doubtful
-  pub safe_yes : s.ascii ≡ true → (k : ℕ) → is_doubtful s.doubtful.now (get_or text k 0) ≡ false → AreYes s text k (k + 1)
+  pub safe_yes : s.ascii ≡ true → (k : ℕ) → is_doubtful (row_of s.form s.doubtful.now) (get_or text k 0) ≡ false → AreYes s text k (k + 1)
   safe_yes on at safe k from to c rest scalar e =
       let place : k ≡ at = omega (arith, from, to) in
       let zero : k + 0 ≡ k = omega arith in
@@ -29,7 +29,7 @@ module _ (s : Scan) (text : List ℕ) where
       ap (λ n. get_or text n 0) (sym (zero ∙ place)) ∙ sym (get_or-drop k text 0 0) ∙ ap (λ l. get_or l 0 0) e ∙ get_or_append_left (encode_utf8 c) rest 0 0 (encode_some c) in
       elim (cases_lt c 128) [
         | inl ascii ↦ ap (quick_check_in s.form) (s.ascii_is_yes on c ascii) ∙ yes_quick_check s.form
-        | inr several ↦ s.safe c scalar several (sym (ap (is_doubtful s.doubtful.now) byte) ∙ safe)
+        | inr several ↦ s.safe c scalar several (sym (ap (is_doubtful (row_of s.form s.doubtful.now)) byte) ∙ safe)
       ]
 
   -- a character that was read, and is one
@@ -50,15 +50,15 @@ module _ (s : Scan) (text : List ℕ) where
   yes_reach on end from to before inside k ge lt =
       elim (cases_lt k from) [
         | inl less ↦ before k ge less
-        | inr more ↦ safe_yes on k (low_byte-safe s.doubtful.now (get_or text k 0) (inside k ge more lt)) k (omega arith) (omega arith)
+        | inr more ↦ safe_yes on k (low_byte-safe (row_of s.form s.doubtful.now) (get_or text k 0) (inside k ge more lt)) k (omega arith) (omega arith)
       ]
 
   -- each doubtful byte has its bit
   pub left-mask : s.ascii ≡ true → (end from mask : ℕ) → AreYes s text end from → ((k : ℕ) → from ≤ k → k < end → get_or text k 0 < 192)
-      → ((k : ℕ) → k < 64 → bit_at mask k ≡ cond (is_doubtful s.doubtful.now (get_or text (from + k) 0)) 1 0) → AreLeft s text end from mask
+      → ((k : ℕ) → k < 64 → bit_at mask k ≡ cond (is_doubtful (row_of s.form s.doubtful.now) (get_or text (from + k) 0)) 1 0) → AreLeft s text end from mask
   left-mask on end from mask before inside bits =
       let lead : (k : ℕ) → k < 64 → bit_at mask k ≡ 1 → 192 ≤ get_or text (from + k) 0 = λ k lt set. elim (cases_lt (get_or text (from + k) 0) 192) [
-        | inl low ↦ absurd (omega (arith, set, bits k lt, ap {B = ℕ} (λ t. cond t 1 0) (low_byte-safe s.doubtful.now (get_or text (from + k) 0) low)))
+        | inl low ↦ absurd (omega (arith, set, bits k lt, ap {B = ℕ} (λ t. cond t 1 0) (low_byte-safe (row_of s.form s.doubtful.now) (get_or text (from + k) 0) low)))
         | inr high ↦ high
       ] in
       record {
@@ -75,12 +75,13 @@ module _ (s : Scan) (text : List ℕ) where
       none true e = absurd (omega arith)
       none false e = refl
 
-  -- the same, of bytes that are the text
-  pub left-lanes : s.ascii ≡ true → (end from mask : ℕ) → AreYes s text end from → ((k : ℕ) → from ≤ k → k < end → get_or text k 0 < 192) → (bytes : List ℕ) → bytes ≡ text → from + 64 ≤ length bytes
-      → ((k : ℕ) → k < 64 → bit_at mask k ≡ cond (is_doubtful s.doubtful.now (get_or (take (length bytes - from) (drop from bytes)) k 0)) 1 0) → AreLeft s text end from mask
-  left-lanes on end from mask before inside bytes same long bits =
+  -- the same, of bytes that are the text and the row that is looked up
+  pub left-lanes : s.ascii ≡ true → (end from mask : ℕ) → AreYes s text end from → ((k : ℕ) → from ≤ k → k < end → get_or text k 0 < 192) → (row bytes : List ℕ) → row ≡ row_of s.form s.doubtful.now → bytes ≡ text → from + 64 ≤ length bytes
+      → ((k : ℕ) → k < 64 → bit_at mask k ≡ cond (is_doubtful row (get_or (take (length bytes - from) (drop from bytes)) k 0)) 1 0) → AreLeft s text end from mask
+  left-lanes on end from mask before inside row bytes looked_up same long bits =
       left-mask on end from mask before inside
-      (λ k lt. bits k lt ∙ ap {B = ℕ} (λ b. cond (is_doubtful s.doubtful.now b) 1 0)
+      (λ k lt. bits k lt ∙ ap {B = ℕ} (λ r. cond (is_doubtful r (get_or (take (length bytes - from) (drop from bytes)) k 0)) 1 0) looked_up
+      ∙ ap {B = ℕ} (λ b. cond (is_doubtful (row_of s.form s.doubtful.now) b) 1 0)
       (get_or-take (length bytes - from) (drop from bytes) k 0 (omega (arith, long, lt)) ∙ get_or-drop from bytes k 0 ∙ ap (λ l. get_or l (from + k) 0) same))
 
   -- without the lowest, which is the bit t

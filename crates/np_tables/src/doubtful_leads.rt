@@ -121,7 +121,8 @@ fn doubtful_bits(commons: Commons, form: Form) -> u8
         + 8
 }
 
-/// Which bytes are doubtful under each form.
+/// Which bytes are doubtful under each form. It stands by itself so that loops that make a table keep their registers.
+#[inline(never)]
 pub(crate) fn doubtful_leads(blocks: &[u16], quick_checks: &[u32]) -> DoubtfulLeads
     requires { AreWithin 4352 blocks.now (length quick_checks.now) }
     ensures { (form : Form) → AreSafe form blocks.now quick_checks.now (row_of form result) }

@@ -199,7 +199,7 @@ impl<'t> Scan<'t> {
         ensures starters { result.ended ≡ false → AreYes self.now text.now result.end (from + 64) }
         ensures inside { result.ended ≡ false → (k : ℕ) → from + 64 ≤ k → k < result.end → slice_index text.now k < 192 }
     {
-        let doubtful = doubtful_in_lanes(self.doubtful, &text.as_bytes()[from..]);
+        let doubtful = doubtful_in_lanes(self.doubtful.row(self.form), &text.as_bytes()[from..]);
         if doubtful.count_ones() > MANY {
             return self.reach(text, from, reached);
         }
@@ -212,8 +212,9 @@ impl<'t> Scan<'t> {
 
     /// Passes the characters at the front of a text that may follow one another as they are, the first of them
     /// behind a quick check of `low`, `LANES` bytes at a time. What is left is shorter, or is not known to
-    /// follow. Where it isn't known that all ASCII passes, that is all.
-    #[inline(always)]
+    /// follow. Where it isn't known that all ASCII passes, that is all. It stands by itself since few texts come so far at
+    /// a time where a form changes much, and their loop then keeps its registers.
+    #[inline(never)]
     pub(crate) fn pass_by_lead_bytes<'a>(&self, low: u8, text: &'a str) -> Passed<'a>
         requires { self.now.least ≤ low }
         ensures { ScansOn self.now text.now low result.rest.now result.low }

@@ -233,7 +233,7 @@ impl NormTable for PageTable {
             index: &self.index,
             all_properties: &self.all_properties,
             quick_checks: &self.quick_checks,
-            doubtful: self.doubtful.row(form),
+            doubtful: &self.doubtful,
             ascii: self.ascii,
             least: least_quick_check(assigned),
             form,

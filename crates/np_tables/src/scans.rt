@@ -1,9 +1,10 @@
 //! A scan of a text for code points that may follow one another as they are, and how far it comes.
 ghost use Rattle.std.specs.Prelude.{◌≡◌, ◌≤◌, length, true};
-ghost use Rattle.np_tables.specs.inside.DoubtfulLeads.{AreSafe};
+ghost use Rattle.np_tables.specs.inside.DoubtfulLeads.{AreSafe, row_of};
 ghost use Rattle.np_tables.specs.inside.PageProperties.{IsAsciiYes};
 ghost use Rattle.np_versions.specs.inside.Pages.{AreWithin};
 
+use crate::doubtful_leads::DoubtfulLeads;
 use crate::page_properties::Properties;
 use crate::quick_checks::{low_behind, quick_check_at, quick_check_place};
 use np_code_points::Form;
@@ -19,15 +20,15 @@ pub(crate) struct Scan<'t> {
     pub all_properties: &'t [Properties],
     /// The quick check of each under each form.
     pub quick_checks: &'t [u32],
-    /// With which upper halves of a byte each lower half may begin a character that needs a look-up.
-    pub doubtful: &'t [u8; 16],
+    /// Which bytes begin characters that need a look-up, under each form.
+    pub doubtful: &'t DoubtfulLeads,
     /// Whether all ASCII passes: it is then passed many bytes at a time, and what is between as well.
     pub ascii: bool,
     /// The least quick check that may pass.
     pub least: u8,
     pub form: Form,
     ghost within: { AreWithin 4352 index.now (length quick_checks.now) },
-    ghost safe: { AreSafe form index.now quick_checks.now doubtful.now },
+    ghost safe: { AreSafe form index.now quick_checks.now (row_of form doubtful.now) },
     ghost ascii_is_yes: { ascii ≡ true → IsAsciiYes index.now quick_checks.now },
     ghost some: { 1 ≤ least },
 }
