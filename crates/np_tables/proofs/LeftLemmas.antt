@@ -34,16 +34,12 @@ module _ (s : Scan) (text : List ℕ) where
 
   -- a character that was read, and is one
   pub read_yes : (at c count : ℕ) → IsUtf8 (drop at text) → BeginsWithChar (drop at text) c count → IsYes s.form s.index.now s.quick_checks.now c → AreYes s text at (at + 1)
-  read_yes at c count utf8 begins starters k from to d rest scalar e =
+  read_yes at c count utf8 begins starter k from to d rest scalar e =
       let place : k ≡ at = omega (arith, from, to) in
       let one = chars_past_char (drop at text) (drop count (drop at text)) c utf8 begins.parts in
       let two = chars_past_char (drop at text) rest d utf8 (ap (λ n. drop n text) (sym place) ∙ e) in
       let same : c ≡ d = ap (λ l. get_or l 0 0) (sym one ∙ two) in
-      subst (IsYes s.form s.index.now s.quick_checks.now) same starters
-
-  -- one stretch and another
-  pub yes_on : (from middle to : ℕ) → AreYes s text from middle → AreYes s text middle to → AreYes s text from to
-  yes_on from middle to one two k ge lt = elim (cases_lt k middle) [ inl less ↦ one k ge less | inr more ↦ two k more lt ]
+      subst (IsYes s.form s.index.now s.quick_checks.now) same starter
 
   -- what stands before a character that begins at `from` or behind it
   pub yes_reach : s.ascii ≡ true → (end from to : ℕ) → AreYes s text end from → ((k : ℕ) → end ≤ k → from ≤ k → k < to → get_or text k 0 < 192) → AreYes s text end to

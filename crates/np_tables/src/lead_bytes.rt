@@ -6,6 +6,7 @@
 ghost use Rattle.std.specs.Prelude.{◌≡◌, ◌+◌, ◌<◌, ◌≤◌, ℕ, length, drop, slice_index, true, false, IfSome};
 ghost use Rattle.std.specs.Int.{bit_at};
 ghost use Rattle.std.specs.Str.{IsCharBoundary};
+ghost use Rattle.np_tables.specs.inside.DoubtfulLeads.{row_of};
 ghost use Rattle.np_tables.specs.inside.LeadBytes.{BeginsWithChar};
 ghost use Rattle.np_tables.specs.inside.Scans.{AreLeft, AreYes, ScansOn, PassesCode};
 
@@ -185,9 +186,10 @@ impl<'t> Scan<'t> {
         }
     }
 
-    /// Passes the characters that begin in the lanes behind `from`: none where many are doubtful.
+    /// Passes the characters that begin in the lanes behind `from`: none where many are doubtful. The row is that of the form.
     #[inline(always)]
-    fn pass_lanes(&self, text: &str, from: usize, reached: Reached) -> Reached
+    fn pass_lanes(&self, row: &[u8; 16], text: &str, from: usize, reached: Reached) -> Reached
+        requires row { row.now ≡ row_of self.now.form self.now.doubtful.now }
         requires ascii { self.now.ascii ≡ true }
         requires long { from + 67 ≤ length text.now }
         requires low { self.now.least ≤ reached.low }
@@ -199,7 +201,7 @@ impl<'t> Scan<'t> {
         ensures starters { result.ended ≡ false → AreYes self.now text.now result.end (from + 64) }
         ensures inside { result.ended ≡ false → (k : ℕ) → from + 64 ≤ k → k < result.end → slice_index text.now k < 192 }
     {
-        let doubtful = doubtful_in_lanes(self.doubtful.row(self.form), &text.as_bytes()[from..]);
+        let doubtful = doubtful_in_lanes(row, &text.as_bytes()[from..]);
         if doubtful.count_ones() > MANY {
             return self.reach(text, from, reached);
         }
@@ -222,6 +224,7 @@ impl<'t> Scan<'t> {
         if !self.ascii {
             return Passed { low, rest: text };
         }
+        let row = self.doubtful.row(self.form);
         let mut from = 0;
         let mut reached = Reached {
             low,
@@ -230,7 +233,7 @@ impl<'t> Scan<'t> {
             starters: true,
         };
         'lanes: while text.len() - from >= WHOLE {
-            reached = self.pass_lanes(text, from, reached);
+            reached = self.pass_lanes(row, text, from, reached);
             if reached.ended {
                 return Passed {
                     low: reached.low,

@@ -12,7 +12,7 @@ returns-then-doubtful-gt-MANY-clause-inside c = λ on. absurd (true≢false (sym
 
 pub pass_starters-left-requires-clause-doubtful : goal.pass_starters-left-requires-clause-doubtful
 pass_starters-left-requires-clause-doubtful c =
-    (left-lanes c.args.self.now c.args.text.now c.requires.ascii c.args.reached.end c.args.from c.doubtful_in_lanes-doubtful.result c.requires.starters c.requires.inside c.row.result.now c.as_bytes.result.now c.row.ensures c.as_bytes.ensures.value
+    (left-lanes c.args.self.now c.args.text.now c.requires.ascii c.args.reached.end c.args.from c.doubtful_in_lanes-doubtful.result c.requires.starters c.requires.inside c.args.row.now c.as_bytes.result.now c.requires.row c.as_bytes.ensures.value
     (omega (arith, c.as_bytes.ensures.len, c.requires.long)) c.doubtful_in_lanes-doubtful.ensures).lead_byte
 
 pub returns-then-left-eq0-clause-goes_on : goal.returns-then-left-eq0-clause-goes_on
@@ -24,12 +24,12 @@ returns-then-left-eq0-clause-goes_on c =
 pub returns-then-left-eq0-clause-starters : goal.returns-then-left-eq0-clause-starters
 returns-then-left-eq0-clause-starters c = λ _.
     let end = c.args.reached.end in
-    let mask = left-lanes c.args.self.now c.args.text.now c.requires.ascii c.args.reached.end c.args.from c.doubtful_in_lanes-doubtful.result c.requires.starters c.requires.inside c.row.result.now c.as_bytes.result.now c.row.ensures c.as_bytes.ensures.value
+    let mask = left-lanes c.args.self.now c.args.text.now c.requires.ascii c.args.reached.end c.args.from c.doubtful_in_lanes-doubtful.result c.requires.starters c.requires.inside c.args.row.now c.as_bytes.result.now c.requires.row c.as_bytes.ensures.value
     (omega (arith, c.as_bytes.ensures.len, c.requires.long)) c.doubtful_in_lanes-doubtful.ensures in
     left-none c.args.self.now c.args.text.now end c.args.from (subst (AreLeft c.args.self.now c.args.text.now end c.args.from) c.if-left-eq0.true (c.pass_starters-left.ensures end mask))
 
 pub pass_doubtful-requires-clause-left : goal.pass_doubtful-requires-clause-left
 pass_doubtful-requires-clause-left c =
     c.pass_starters-left.ensures c.args.reached.end
-    (left-lanes c.args.self.now c.args.text.now c.requires.ascii c.args.reached.end c.args.from c.doubtful_in_lanes-doubtful.result c.requires.starters c.requires.inside c.row.result.now c.as_bytes.result.now c.row.ensures c.as_bytes.ensures.value
+    (left-lanes c.args.self.now c.args.text.now c.requires.ascii c.args.reached.end c.args.from c.doubtful_in_lanes-doubtful.result c.requires.starters c.requires.inside c.args.row.now c.as_bytes.result.now c.requires.row c.as_bytes.ensures.value
     (omega (arith, c.as_bytes.ensures.len, c.requires.long)) c.doubtful_in_lanes-doubtful.ensures)
