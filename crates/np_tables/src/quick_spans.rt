@@ -126,9 +126,7 @@ impl<'t> Scan<'t> {
             if few.ended {
                 return few.passed;
             }
-            // what is lent to a call stands in memory: a copy, so that the other loops keep theirs in registers
-            let scan = *self;
-            passed = scan.pass_by_lead_bytes(few.passed.low, few.passed.rest);
+            passed = self.pass_by_lead_bytes(few.passed.low, few.passed.rest);
         }
     }
 

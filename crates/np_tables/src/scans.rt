@@ -11,7 +11,7 @@ use np_code_points::Form;
 use np_versions::Version;
 
 /// What a scan reads.
-#[derive(Clone, Copy)]
+#[derive(Drop)]
 pub(crate) struct Scan<'t> {
     pub version: &'t Version,
     /// For each 256 code points the number of their block.
