@@ -1,5 +1,7 @@
+pub mod DoubtfulLeadLemmas
 pub mod FullListLemmas
 pub mod LeadByteLemmas
+pub mod LeftLemmas
 pub mod PageLemmas
 pub mod PrecomputedFormLemmas
 pub mod QuickSpanLemmas

@@ -1,13 +1,16 @@
--- How far a scan comes by the quick checks of code points, and between two characters of several bytes.
-use Rattle.std.proofs.Common.{◌≡◌, ℕ, ◌<◌, ◌≤◌, true, List, Option, ◌++◌, length, length-append, encode_utf8, encode_utf8_all, ap, arith, inl, IsUtf8, zero}
-use Rattle.std.proofs.Common.{suc, ◌+◌, ◌-◌, [], ◌∷◌, All, append_assoc, chars, take, drop, get_or, refl, sym, subst, ◌∙◌, inr}
-use Rattle.np_tables.proofs.Words.{IsUtf8-past_char, VersionData, Follows, IsPast, ScansOn, PassesCode, cases_lt, drop-drop, get_or-drop, length-drop}
-use Rattle.np_tables.proofs.Words.{IsCharBoundary-from_rest, chars_past_char, FollowsByQuickCheck, IsWalkedTo, IsAscii, IsCharBoundary, BeginsWithChar}
+-- How far a scan comes by the quick checks of code points, and over starters that pass whatever stands before them.
+use Rattle.std.proofs.Common.{◌≡◌, ℕ, ◌<◌, ◌≤◌, true, List, Option, ◌++◌, length, length-append, encode_utf8, encode_utf8_all, ap, arith, inl, IsUtf8}
+use Rattle.std.proofs.Common.{◌+◌, ◌-◌, [], ◌∷◌, All, append_assoc, chars, take, drop, get_or, refl, sym, subst, ◌∙◌, inr}
+use Rattle.np_tables.proofs.Words.{All-head, All-tail, AreYes, BeginsWithChar, Follows, FollowsByQuickCheck, IsPast, IsUtf8-past_char, IsUtf8-take, IsWalkedTo}
+use Rattle.np_tables.proofs.Words.{IsYes, PassesCode, ScansOn, VersionData, and_parts, cases_lt, chars-append, chars_from_encodes, chars_past_char}
+use Rattle.np_tables.proofs.Words.{drop-drop, drop_at, length-drop}
 use Rattle.np_tables.specs.declared.scans.Scan.{Scan}
 use Rattle.np_tables.proofs.QuickSpanLemmas.{IsWalkedTo-next, IsWalkedTo-past, ascii_follows}
-use Rattle.np_versions.proofs.TableLemmas.{IsPast-ascii, past_boundary}
-use Rattle.np_versions.proofs.AsciiLemmas.{low_take}
 use Rattle.np_versions.proofs.Utf8Lemmas.{encode_four, encode_one, encode_three, encode_two}
+use Rattle.std.proofs.lemmas.List.{take-append-drop}
+use Rattle.std.proofs.lemmas.List.Elements.{All-cons, All-nil}
+use Rattle.std.proofs.lemmas.Str.{IsCharBoundary-from_drop}
+use lib.Utf8.{scalar, scalar_cases, scalars}
 
 module _ (s : Scan) where
   abbrev Step : VersionData → Option ℕ → ℕ → ℕ → ℕ → Type 0
@@ -22,6 +25,10 @@ module _ (s : Scan) where
         front = omega (arith, one.front, two.front);
         utf8 = two.utf8;
       }
+
+  -- over nothing
+  pub goes-none : (text : List ℕ) (low : ℕ) → s.least ≤ low → IsUtf8 text → ScansOn s text low text low
+  goes-none text low least utf8 = record { least = least; walks = λ v t last under walked. (last, (under, walked)); front = omega arith; utf8 = utf8 }
 
   -- over a character
   pub goes-past : (text : List ℕ) (low c : ℕ) (rest : List ℕ) (next : ℕ) → IsUtf8 text → s.least ≤ next → PassesCode s low c next → text ≡ encode_utf8 c ++ rest → ScansOn s text low rest next
@@ -46,7 +53,7 @@ module _ (s : Scan) where
         utf8 = past.utf8;
       }
 
--- ---- what stands between two characters of several bytes, and behind the bytes that begin them
+-- ---- the bytes of a character
 
 -- the bytes of a character of several, as by its size
 by_bytes : (c : ℕ) → (P : Type 0)
@@ -57,24 +64,13 @@ by_bytes : (c : ℕ) → (P : Type 0)
     → P
 by_bytes c P one two three four = grind (arith, encode_one, two, encode_two, three, encode_three, four, encode_four)
 
--- what is no first byte of several up to some place is ASCII
-low_bytes : (ks : List ℕ) (m : ℕ) → ((k : ℕ) → k < m → get_or (encode_utf8_all ks) k 0 < 192) → (i : ℕ) → i < m → get_or (encode_utf8_all ks) i 0 < 128
-low_bytes [] m low i lt = omega arith
-low_bytes (k ∷ ks) m low i lt =
-    let rest = encode_utf8_all ks in
-    let none : (x : ℕ) (l : List ℕ) → 192 ≤ x → encode_utf8 k ++ rest ≡ x ∷ l → get_or (encode_utf8 k ++ rest) i 0 < 128 = λ x l big e. absurd (omega (arith, big, low 0 (omega (arith, lt)), ap (λ s. get_or s 0 0) e)) in
-    by_bytes k (get_or (encode_utf8 k ++ rest) i 0 < 128)
-    (λ single e. subst (λ l. get_or (l ++ rest) i 0 < 128) (sym e) (of i lt single (λ j less. low_bytes ks (m - 1) (λ n under. subst (λ l. get_or (l ++ rest) (suc n) 0 < 192) e (low (suc n) (omega arith))) j (omega arith))))
-    (λ x y big _ e. none x _ big (ap (λ l. l ++ rest) e))
-    (λ x y z big _ _ e. none x _ big (ap (λ l. l ++ rest) e))
-    (λ x y z w big _ _ _ e. none x _ big (ap (λ l. l ++ rest) e))
-  where
-    of : (i : ℕ) → i < m → k < 0x80 → ((j : ℕ) → suc j < m → get_or (encode_utf8_all ks) j 0 < 128) → get_or (k ∷ encode_utf8_all ks) i 0 < 128
-    of zero lt single later = single
-    of (suc i) lt single later = later i lt
-
-pub no_lead_bytes_ascii : (text : List ℕ) (m : ℕ) → IsUtf8 text → ((k : ℕ) → k < m → get_or text k 0 < 192) → IsAscii (take m text)
-no_lead_bytes_ascii text m utf8 low = low_take m text (λ k lt. subst (λ l. get_or l k 0 < 128) utf8.1.1 (low_bytes utf8.0 m (λ j less. subst (λ l. get_or l j 0 < 192) (sym utf8.1.1) (low j less)) k lt))
+pub encode_some : (c : ℕ) → 0 < length (encode_utf8 c)
+encode_some c =
+    by_bytes c (0 < length (encode_utf8 c))
+    (λ _ e. omega (arith, ap length e))
+    (λ x y _ _ e. omega (arith, ap length e))
+    (λ x y z _ _ _ e. omega (arith, ap length e))
+    (λ x y z w _ _ _ _ e. omega (arith, ap length e))
 
 -- behind its first byte a character has none that begins one
 pub inside_low : (text : List ℕ) (c count : ℕ) → BeginsWithChar text c count → (k : ℕ) → 1 ≤ k → k < count → get_or text k 0 < 192
@@ -97,61 +93,85 @@ inside_low text c count begins k some less =
     four : (x y z w : ℕ) (rest : List ℕ) → y < 192 → z < 192 → w < 192 → (k : ℕ) → 1 ≤ k → k < 4 → get_or (x ∷ y ∷ z ∷ w ∷ rest) k 0 < 192
     four x y z w rest low next last k some less = grind arith
 
--- where nothing begins a character of several bytes behind a place, each place behind it is one between two characters
-pub boundary_at : (text : List ℕ) (end at : ℕ) → end ≤ at → at ≤ length text → IsUtf8 (drop end text) → ((k : ℕ) → end ≤ k → k < at → get_or text k 0 < 192) → IsCharBoundary text at
-boundary_at text end at before within utf8 none =
-    let m = at - end in
-    let whole : end + m ≡ at = omega (arith, before) in
-    grind (arith, IsCharBoundary-from_rest, past_boundary, length-drop, no_lead_bytes_ascii, get_or-drop)
+-- ---- starters that pass, whatever stands before them
+
+-- a code point is one by its quick check
+abbrev pub IsYesIn : Scan → ℕ → Type 0
+IsYesIn s c = (c < 0x110000) × IsYes s.form s.index.now s.quick_checks.now c
+
+pub yes_follows : (s : Scan) → s.least ≤ 255 → (last c : ℕ) → IsYesIn s c → FollowsByQuickCheck s.least s.index.now s.quick_checks.now s.form last c 0
+yes_follows s le last c starters = (starters.0, omega (arith, starters.1, le), inl starters.1)
+
+module _ (s : Scan) (text : List ℕ) (end at : ℕ) (within : at ≤ length text) where
+  -- the code points up to a place
+  all_yes : (cs : List ℕ) (from : ℕ) → from ≤ at → scalars cs ≡ true → drop from text ≡ encode_utf8_all cs ++ drop at text → AreYes s text from at → All (IsYesIn s) cs
+  all_yes [] from before are e starters = All-nil (IsYesIn s)
+  all_yes (c ∷ cs) from before are e starters =
+      let parts = and_parts (scalar c) (scalars cs) are in
+      let later = encode_utf8_all cs ++ drop at text in
+      let whole : drop from text ≡ encode_utf8 c ++ later = e ∙ append_assoc (encode_utf8 c) (encode_utf8_all cs) (drop at text) in
+      let size = length (encode_utf8 c) in
+      let some : 0 < size = encode_some c in
+      let count : at ≡ from + size + length (encode_utf8_all cs) = omega (arith, ap length whole, length-append (encode_utf8 c) later, length-append (encode_utf8_all cs) (drop at text), length-drop from text, length-drop at text, within, before) in
+      let scalar : c < 0x110000 = grind (arith, scalar_cases c parts.0) in
+      All-cons (IsYesIn s) c cs (scalar, starters from (omega arith) (omega (arith, count, some)) c later scalar whole)
+      (all_yes cs (from + size) (omega (arith, count)) parts.1 (sym (drop-drop size from text) ∙ ap (drop size) whole ∙ drop_at (encode_utf8 c) later size refl) (λ k ge lt. starters k (omega (arith, ge)) lt))
+
+  pub past_yes : end ≤ at → IsUtf8 (drop end text) → IsUtf8 (drop at text) → AreYes s text end at → IsPast (IsYesIn s) (drop end text) (drop at text)
+  past_yes before utf8 rest starters =
+      let m = at - end in
+      let t = drop end text in
+      let whole : end + m ≡ at = omega (arith, before) in
+      let same : drop m t ≡ drop at text = drop-drop m end text ∙ ap (λ n. drop n text) whole in
+      let cut = IsCharBoundary-from_drop t m (omega (arith, length-drop end text, within, before)) (subst IsUtf8 (sym same) rest) in
+      let front = IsUtf8-take t m utf8 cut in
+      let halves : t ≡ take m t ++ drop at text = sym (take-append-drop m t) ∙ ap (λ l. take m t ++ l) same in
+      let split : t ≡ encode_utf8_all front.0 ++ drop at text = halves ∙ ap (λ l. l ++ drop at text) (sym front.1.1) in
+      record {
+        front = front.0;
+        split = split;
+        text_is = ap chars halves ∙ chars-append (take m t) (drop at text) front ∙ ap (λ l. l ++ chars (drop at text)) (sym (chars_from_encodes front.0 (take m t) front front.1.1));
+        utf8 = rest;
+        passed = all_yes front.0 end before front.1.0 split starters;
+      }
 
 -- ---- what a scan passed of a text is a walk
 
-module _ (s : Scan) (on : s.ascii ≡ true) (le : s.least ≤ 255) where
-  -- some ASCII, and it leads to 0
-  past_some : (v : VersionData) (t rest later : List ℕ) (last : ℕ) → IsWalkedTo (Step s v) t rest last → (past : IsPast (λ c. c < 128) rest later) → length later < length rest → IsWalkedTo (Step s v) t later 0
+module _ (s : Scan) (le : s.least ≤ 255) where
+  -- some starters that pass, and they lead to 0
+  past_some : (v : VersionData) (t rest later : List ℕ) (last : ℕ) → IsWalkedTo (Step s v) t rest last → (past : IsPast (IsYesIn s) rest later) → length later < length rest → IsWalkedTo (Step s v) t later 0
   past_some v t rest later last walked past less = of past.front past.split past.text_is past.passed
     where
-      follows : (last c : ℕ) → c < 128 → FollowsByQuickCheck s.least s.index.now s.quick_checks.now s.form last c 0
-      follows last c lt = ascii_follows s.least s.index.now s.quick_checks.now s.form le (s.ascii_is_yes on) last c lt
-
-      of : (front : List ℕ) → rest ≡ encode_utf8_all front ++ later → chars rest ≡ front ++ chars later → All (λ c. c < 128) front → IsWalkedTo (Step s v) t later 0
+      of : (front : List ℕ) → rest ≡ encode_utf8_all front ++ later → chars rest ≡ front ++ chars later → All (IsYesIn s) front → IsWalkedTo (Step s v) t later 0
       of [] e read all = absurd (omega (arith, less, ap length e))
       of (c ∷ cs) e read all =
-          let low = all 0 c (omega arith) in
           let next = encode_utf8_all cs ++ later in
           let parts : rest ≡ encode_utf8 c ++ next = e ∙ append_assoc (encode_utf8 c) (encode_utf8_all cs) later in
-          let first = IsWalkedTo-next (Step s v) t rest last c next 0 walked parts (inl (follows last c low)) in
-          IsWalkedTo-past (Step s v) (λ d. d < 128) (λ before d lt. inl (follows 0 d lt)) t next later first
+          let first = IsWalkedTo-next (Step s v) t rest last c next 0 walked parts (inl (yes_follows s le last c (All-head (IsYesIn s) c cs all))) in
+          IsWalkedTo-past (Step s v) (IsYesIn s) (λ before d starters. inl (yes_follows s le 0 d starters)) t next later first
           record {
             front = cs;
             split = refl;
             text_is = ap (λ l. drop 1 l) (sym (chars_past_char rest next c walked.utf8 parts) ∙ read);
             utf8 = past.utf8;
-            passed = λ k d lt. all (suc k) d (omega arith);
+            passed = All-tail (IsYesIn s) c cs all;
           }
 
-  -- from `end`, behind which nothing begins a character of several bytes up to `at`
-  pub goes-at : (text here : List ℕ) (end at low now behind : ℕ) → end ≤ at → at ≤ length text → here ≡ drop at text → ((k : ℕ) → end ≤ k → k < at → get_or text k 0 < 192)
-      → s.least ≤ behind → (end < at → behind ≡ s.least) → (at ≤ end → behind ≡ now) → IsUtf8 here → ScansOn s text low (drop end text) now → ScansOn s text low here behind
-  goes-at text here end at low now behind before within is none least ascii_is same_is utf8 goes =
+  -- from `end`, behind which there are only such up to `at`
+  pub goes-at : (text before : List ℕ) (end at low now behind : ℕ) → end ≤ at → at ≤ length text → AreYes s text end at
+      → s.least ≤ behind → (end < at → behind ≡ s.least) → (at ≤ end → behind ≡ now) → IsUtf8 (drop at text) → ScansOn s before low (drop end text) now → ScansOn s before low (drop at text) behind
+  goes-at text before end at low now behind order within starters least less_is same_is utf8 goes =
       record {
         least = least;
         walks = elim (cases_lt end at) [
           | inl less ↦ λ v t last under walked.
-              (let one = goes.walks v t last under walked in (0, (omega arith, past_some v t (drop end text) here one.0 one.1.1 (past less) (omega (arith, ap length is, length-drop at text, length-drop end text, less, within)))))
+              (let one = goes.walks v t last under walked in
+              (0, (omega arith, past_some v t (drop end text) (drop at text) one.0 one.1.1 (past_yes s text end at within order goes.utf8 utf8 starters) (omega (arith, length-drop at text, length-drop end text, less, within)))))
           | inr more ↦ λ v t last under walked.
               (let one = goes.walks v t last under walked in
-              let same : end ≡ at = omega (arith, before, more) in
-              (one.0, (omega (arith, one.1.0, same_is more), subst (λ l. IsWalkedTo (Step s v) t l one.0) (ap (λ k. drop k text) same ∙ sym is) one.1.1)))
+              let same : end ≡ at = omega (arith, order, more) in
+              (one.0, (omega (arith, one.1.0, same_is more), subst (λ l. IsWalkedTo (Step s v) t l one.0) (ap (λ k. drop k text) same) one.1.1)))
         ];
-        front = omega (arith, ap length is, length-drop at text);
+        front = omega (arith, length-drop at text, length-drop end text, goes.front, order);
         utf8 = utf8;
       }
-    where
-      past : end < at → IsPast (λ c. c < 128) (drop end text) here
-      past less =
-          let m = at - end in
-          let whole : end + m ≡ at = omega (arith, less) in
-          IsPast-ascii (drop end text) m goes.utf8 (omega (arith, length-drop end text, within, less))
-          (no_lead_bytes_ascii (drop end text) m goes.utf8 (λ k lt. subst (λ n. n < 192) (sym (get_or-drop end text k 0)) (none (end + k) (omega arith) (omega (arith, lt, less)))))
-          (λ c. c < 128) here (is ∙ ap (λ k. drop k text) (sym whole) ∙ sym (drop-drop m end text)) (λ c lt. lt)

@@ -36,9 +36,10 @@ pub use Rattle.np_tables.specs.declared.page_properties.Properties.{Properties}
 pub use Rattle.np_versions.specs.declared.pairs.Composite.{Composite}
 unfoldable pub use Rattle.np_versions.specs.inside.CompositeSearch.{composite}
 unfoldable pub use Rattle.np_versions.specs.inside.FullDecompositions.{full, full_of, table_full}
+pub use Rattle.np_tables.specs.inside.DoubtfulLeads.{AreHalfSafe, AreSafe, HaveInCommon, HaveYesInCommon, high_bits, is_doubtful, IsYes, lead_byte, row_of}
 pub use Rattle.np_tables.specs.inside.FullLists.{AreFulls, FullLists, of_kind, row_full}
 pub use Rattle.np_tables.specs.inside.FullRanges.{AreCodeRanges, code_range_of, IsCodeRange, IsGrown}
-pub use Rattle.np_tables.specs.inside.LeadBytes.{BeginsWithChar, is_lead_byte}
+pub use Rattle.np_tables.specs.inside.LeadBytes.{BeginsWithChar}
 pub use Rattle.np_tables.specs.inside.PageHints.{AreBits, AreHints, AreLeadingNeverSecond, bit, boundary_place, boundary_under, ComposesByPairs, eight_bits}
 pub use Rattle.np_tables.specs.inside.PageHints.{has_bit, is_late_jamo, IsNeverSecond, own_hints, syllable_hints, yes_place, yes_under}
 pub use Rattle.np_tables.specs.inside.PageProperties.{AreAllRowProperties, AreFollowing, ArePages, ArePropertiesOf, AreRowBits, AreRowProperties}
@@ -51,7 +52,7 @@ pub use Rattle.np_versions.specs.inside.Pages.{AreWithin}
 unfoldable pub use Rattle.np_versions.specs.inside.Pages.{property_place}
 pub use Rattle.np_versions.specs.CompositeLists.{AreOfFile}
 pub use Rattle.np_versions.specs.inside.RowPages.{AreRowPages, IsRowNumber}
-pub use Rattle.np_tables.specs.inside.Scans.{PassesCode, ScansOn}
+pub use Rattle.np_tables.specs.inside.Scans.{AreLeft, AreYes, PassesCode, ScansOn}
 pub use Rattle.np_tables.specs.inside.PrecomputedForms.{AreByteRanges, ArePrecomputedForms, ArePrecomputedSoFar, byte_range_of, Composes, ComposesOn}
 pub use Rattle.np_tables.specs.inside.PrecomputedForms.{IsByteRange, IsFront, IsPrecomputedForm, Settles, Writes}
 pub use Rattle.np_tables.specs.inside.QuickChecks.{all_quick_checks, quick_check_in}

@@ -1,3 +1,4 @@
+pub mod DoubtfulLeads
 pub mod FullLists
 pub mod FullRanges
 pub mod LeadBytes

@@ -10,6 +10,7 @@
 //! ```
 #![tactic(auto)]
 
+mod doubtful_leads;
 mod fulls;
 mod lead_bytes;
 mod leading_consonants;

@@ -1,11 +1,14 @@
 //! The table of pages: properties of each code point in blocks of 256, one flat list of full
 //! decompositions, and one sorted list of pairs.
 ghost use Rattle.std.specs.Prelude.{◌≡◌, true, IfOk};
+ghost use Rattle.np_code_points.specs.declared.forms.Form.{Form};
+ghost use Rattle.np_tables.specs.inside.DoubtfulLeads.{AreSafe, row_of};
 ghost use Rattle.np_tables.specs.inside.LeadingConsonants.{AreLeadingBoundaries};
 ghost use Rattle.np_tables.specs.inside.PageProperties.{ArePages, IsAsciiYes};
 ghost use Rattle.np_tables.specs.inside.PrecomputedTables.{ArePrecomputedTables};
 ghost use Rattle.np_tables.specs.inside.QuickChecks.{all_quick_checks as spec_all_quick_checks};
 
+use crate::doubtful_leads::{DoubtfulLeads, doubtful_leads};
 use crate::fulls::Fulls;
 use crate::leading_consonants::are_leading_boundaries;
 use crate::page_hints::boundary_place;
@@ -39,6 +42,8 @@ pub struct PageTable {
     all_properties: Vec<Properties>,
     /// The quick check of each under each form.
     quick_checks: Vec<u32>,
+    /// Which bytes begin characters that need a look-up, under each form.
+    doubtful: DoubtfulLeads,
     fulls: Fulls,
     /// The forms of single code points.
     precomputed: PrecomputedTables,
@@ -47,6 +52,7 @@ pub struct PageTable {
     /// Whether each leading consonant of syllables is a boundary of every form.
     leading_consonants: bool,
     ghost are_quick_checks: { quick_checks.items ≡ spec_all_quick_checks all_properties.items },
+    ghost are_safe: { (form : Form) → AreSafe form index.items quick_checks.items (row_of form doubtful) },
     ghost ascii_is_yes: { ascii ≡ true → IsAsciiYes index.items quick_checks.items },
     ghost are_leading: { leading_consonants ≡ true → AreLeadingBoundaries index.items all_properties.items },
 }
@@ -145,11 +151,13 @@ impl PageTable {
     {
         let ascii = is_ascii_yes(&kept.index, &quick_checks);
         let leading_consonants = are_leading_boundaries(&kept.index, &kept.all_properties);
+        let doubtful = doubtful_leads(&kept.index, &quick_checks);
         PageTable {
             version,
             index: kept.index,
             all_properties: kept.all_properties,
             quick_checks,
+            doubtful,
             fulls: kept.fulls,
             precomputed: kept.precomputed,
             ascii,
@@ -225,6 +233,7 @@ impl NormTable for PageTable {
             index: &self.index,
             all_properties: &self.all_properties,
             quick_checks: &self.quick_checks,
+            doubtful: &self.doubtful,
             ascii: self.ascii,
             least: least_quick_check(assigned),
             form,

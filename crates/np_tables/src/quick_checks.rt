@@ -24,13 +24,13 @@ use np_code_points::{Form, Memory};
 use std::alloc::Global;
 
 /// The quick check of a starter that passes: a code point of any class may follow. All classes are less.
-const YES: u8 = 255;
+pub(crate) const YES: u8 = 255;
 
 /// The quick check of what is not assigned, which passes, below all else; the non-starters of class 1 have it too.
 const UNASSIGNED: u8 = 1;
 
 /// Of what passes under every form.
-const ALL_YES: u32 = 0xFFFF_FFFF;
+pub(crate) const ALL_YES: u32 = 0xFFFF_FFFF;
 
 /// Whether the code point is a starter that passes the quick check of a form.
 fn is_yes(form: Form, properties: Properties) -> bool

@@ -1,9 +1,5 @@
 -- Characters of several bytes, found by the bytes that begin them (The Unicode Standard, table 3-6).
-use Rattle.std.specs.Prelude.{◌≡◌, ◌<◌, ◌≤◌, ◌++◌, ℕ, Bool, nat_le, List, drop, encode_utf8, length}
-
--- whether a byte begins a character of several bytes
-abbrev pub is_lead_byte : ℕ → Bool
-is_lead_byte b = nat_le 192 b
+use Rattle.std.specs.Prelude.{◌≡◌, ◌<◌, ◌≤◌, ◌++◌, ℕ, List, drop, encode_utf8, length}
 
 -- a text begins with a character of so many bytes
 pub record BeginsWithChar (text : List ℕ) (c count : ℕ) : Type 0 where

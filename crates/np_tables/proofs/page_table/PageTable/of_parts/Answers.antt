@@ -1,4 +1,5 @@
 use Rattle.std.proofs.Common.{IsTrue, length, sym, subst}
+use Rattle.np_tables.specs.inside.DoubtfulLeads.{AreSafe, row_of}
 use Rattle.np_tables.specs.inside.LeadingConsonants.{AreLeadingBoundaries}
 use Rattle.np_tables.specs.inside.PageProperties.{IsAsciiYes}
 use Rattle.np_versions.specs.inside.Pages.{AreWithin}
@@ -8,15 +9,21 @@ pub invariant_of-result : goal.invariant_of-result
 invariant_of-result c =
     let kept = c.args.kept in
     let ascii = c.is_ascii_yes-ascii in
-    let leading = c.are_leading_boundaries-leading_consonants in (
+    let leading = c.are_leading_boundaries-leading_consonants in
+    let doubtful = c.doubtful_leads-doubtful in (
       c.requires.quick_checks,
       (
-        subst (λ q. IsTrue ascii.result → IsAsciiYes kept.index.items q) c.deref-2.ensures.value
-            (subst (λ i. IsTrue ascii.result → IsAsciiYes i c.deref-2.result.now) c.deref.ensures.value ascii.ensures),
+        λ form.
+            subst (λ q. AreSafe form kept.index.items q (row_of form doubtful.result)) c.deref-6.ensures.value
+            (subst (λ i. AreSafe form i c.deref-6.result.now (row_of form doubtful.result)) c.deref-5.ensures.value (doubtful.ensures form)),
         (
-          subst (λ p. IsTrue leading.result → AreLeadingBoundaries kept.index.items p) c.deref-4.ensures.value
-              (subst (λ i. IsTrue leading.result → AreLeadingBoundaries i c.deref-4.result.now) c.deref-3.ensures.value leading.ensures),
-          tt,
+          subst (λ q. IsTrue ascii.result → IsAsciiYes kept.index.items q) c.deref-2.ensures.value
+              (subst (λ i. IsTrue ascii.result → IsAsciiYes i c.deref-2.result.now) c.deref.ensures.value ascii.ensures),
+          (
+            subst (λ p. IsTrue leading.result → AreLeadingBoundaries kept.index.items p) c.deref-4.ensures.value
+                (subst (λ i. IsTrue leading.result → AreLeadingBoundaries i c.deref-4.result.now) c.deref-3.ensures.value leading.ensures),
+            tt,
+          ),
         ),
       ),
     )
