@@ -29,7 +29,8 @@ from harness import ROOT, Tally, run
 
 HERE = ROOT / "tests" / "doors"
 V1, V2 = ([str(ROOT / "fixtures" / name) for name in version] for version in (versions.V1, versions.V2))
-CALLS = ("answers", "close", "count", "equivalent", "extends", "is_form", "key", "normalize", "open", "share")
+# The calls that the header names, without their prefix.
+CALLS = sorted(re.findall(r"^(?:npss_answer|void) npss_(\w+)\(", (ROOT / "include" / "npss.h").read_text(encoding="utf-8"), re.MULTILINE))
 # The form's letter for C, and its name for the program.
 LETTERS = {"D": "nfd", "C": "nfc", "d": "nfkd", "c": "nfkc"}
 # The keys of the lines of the input, by Python: words are the form and the two files.
@@ -109,16 +110,16 @@ def check_names(tally, prefix):
 
 
 def check_c(tally, prefix, folder):
-    """Each call and each status, from C, and threads."""
-    files = [*V1, *V2]
-    for shared in (False, True):
-        program = compiled(tally, prefix, folder, "calls", shared)
-        if program:
-            counted(tally, program.name, [program, *files, LARGE])
-    program = folder / "calls"
-    if program.exists() and wanted("valgrind"):
-        counted(tally, "the calls under valgrind", ["valgrind", "-q", "--error-exitcode=9", "--leak-check=full",
-                                                    "--show-leak-kinds=all", program, *files, LARGE // 100])
+    """Each call and each status, from C, and threads. What stands behind the files is how large the largest text is, and under valgrind."""
+    for name, words, large in (("calls", [*V1, *V2], LARGE), ("codes", V1, None), ("streams", V1, LARGE // 2)):
+        for shared in (False, True):
+            program = compiled(tally, prefix, folder, name, shared)
+            if program:
+                counted(tally, program.name, [program, *words, *([large] if large else [])])
+        program = folder / name
+        if program.exists() and wanted("valgrind"):
+            counted(tally, f"{name} under valgrind", ["valgrind", "-q", "--error-exitcode=9", "--leak-check=full", "--show-leak-kinds=all",
+                                                      program, *words, *([large // 100] if large else [])])
     program = compiled(tally, prefix, folder, "threads")
     if program:
         counted(tally, "threads", [program, *V1, KEYS])

@@ -2,6 +2,7 @@
 ghost use Rattle.std.specs.Prelude.{◌≡◌, ℕ, chars, length, encode_utf8_all, IfSome, IfNone};
 ghost use Rattle.np_forms.specs.Assigned.{IsAssigned, IsFirstUnassigned};
 
+use np_code_points::Form;
 use np_versions::{NormTable, Version};
 
 /// The first code point that is not assigned, with its byte place, from 0; none where each is
@@ -11,15 +12,19 @@ pub fn first_unassigned_char<T: NormTable>(table: &T, text: &str) -> Option<(usi
     ensures none { IfNone result (IsAssigned (T.model table.now) (chars text.now)) }
     ensures some { IfSome result (λ found. IsFirstUnassigned (T.model table.now) (chars text.now) found.0 found.1) }
 {
-    let mut iter = text.chars();
+    let mut rest = text;
     'scan: loop {
-        let here = iter.as_str();
+        // what is known to be assigned is passed at once; a table that knows nothing passes nothing
+        let span = table.quick_span(Form::Nfc, true, rest);
+        let (_, here) = rest.split_at(span.count);
+        let mut iter = here.chars();
         let Some(c) = iter.next() else {
             return None;
         };
         if !table.assigned(c) {
             return Some((text.len() - here.len(), c));
         }
+        rest = iter.as_str();
     }
 }
 
