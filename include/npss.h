@@ -44,7 +44,7 @@ enum npss_status {
     NPSS_NO_ROOM = 3,
     /* Memory ran out. */
     NPSS_MEMORY = 4,
-    /* The handle is closed, or the stream was finished. */
+    /* The handle, the node or the stream is closed, or the stream was finished. */
     NPSS_CLOSED = 5,
     /* The form is none of the four. */
     NPSS_NO_FORM = 6,
@@ -62,25 +62,27 @@ enum npss_status {
     NPSS_NO_END = 12,
     /* The string was kept already. Nothing changed. */
     NPSS_KNOWN = 13,
-    /* No such string, or no such entry, is kept. Of two strings `fault` tells which isn't, from 1: the first of them. */
+    /* No such string, or no such entry, is kept. Of two strings `fault` tells which isn't, from 1: the first of
+     * them. */
     NPSS_NOT_KEPT = 14,
     /* The string has more than 65,536 bytes. */
     NPSS_TOO_LONG = 15,
     /* The node keeps as many strings as its room; or its room is too small for an image. */
     NPSS_FULL = 16,
-    /* The bytes are no message, or no image: at byte `place` is the first field that is not whole or not allowed, or the
-     * first byte left over. */
+    /* The bytes are no message, or no image: at byte `place` is the first field that is not whole or not allowed,
+     * or the first byte left over. */
     NPSS_MALFORMED = 17,
     /* The message or image is of another form than the node. */
     NPSS_OTHER_FORM = 18,
     /* The key beside the string is not the string's key. */
     NPSS_KEY_DIFFERS = 19,
-    /* The image was saved under a version with `place` assigned code points. The tables' version has fewer, `length`. */
+    /* The image was saved under a version with `place` assigned code points. The tables' version has fewer,
+     * `length`. */
     NPSS_OLDER_TABLES = 20,
     /* Entry number `length`, from 0, of the image is refused. `fault` is the status that tells why, NPSS_TOO_LONG,
-     * NPSS_NOT_UTF8, NPSS_UNASSIGNED, NPSS_KEY_DIFFERS, or NPSS_MALFORMED where an earlier entry has the string; `code`
-     * and `place` are that status's. The place of NPSS_MALFORMED is the entry's first byte in the image, each other place
-     * is one in the string. */
+     * NPSS_NOT_UTF8, NPSS_UNASSIGNED, NPSS_KEY_DIFFERS, or NPSS_MALFORMED where an earlier entry has the string;
+     * `code` and `place` are that status's. The place of NPSS_MALFORMED is the entry's first byte in the image,
+     * each other place is one in the string. */
     NPSS_BAD_ENTRY = 21,
     /* A node has room for at most 65,536 strings. */
     NPSS_BAD_ROOM = 22,
@@ -130,11 +132,12 @@ enum npss_form { NPSS_NFD = 'D', NPSS_NFC = 'C', NPSS_NFKD = 'd', NPSS_NFKC = 'c
 /* How a call ended. What a status has no use for is 0. */
 typedef struct npss_answer {
     uint32_t status; /* an npss_status */
-    uint32_t fault;  /* the number of a fault, a break or a kind of mapping, which of two files or texts is meant, from 1,
-                      * or 1 where a line was refused */
+    uint32_t fault;  /* the number of a fault, a break or a kind of mapping, which of two files or texts is meant, from 1, 1
+                      * where a line was refused, or the status of an entry's refusal */
     uint32_t code;   /* a code point, or a combining class */
-    uint64_t place;  /* a byte place from 0, or a line from 1 */
-    uint64_t length; /* bytes that were written, have no room or are ready, or code points that are assigned */
+    uint64_t place;  /* a byte place from 0, a line from 1, or as NPSS_OLDER_TABLES and npss_node_entry tell */
+    uint64_t length; /* bytes that were written, have no room or are ready, code points that are assigned, strings that are
+                      * kept, or an entry's number */
 } npss_answer;
 
 /* A handle on the table of a version, in the caller's memory: two words. Zeros are a closed handle. */
@@ -223,37 +226,38 @@ void npss_close(npss_handle *handle);
  *     if (a.status == NPSS_DONE) send(room, a.length);
  *     npss_node_close(&node);
  *
- * It is in the caller's memory: two words. Zeros are a closed node. The rules for handles hold for nodes as well. A node
- * may be handed to another thread. Messages and images are laid out as docs/FORMATS.md tells. */
+ * It is in the caller's memory: two words. Zeros are a closed node. The rules for handles hold for nodes as well, and
+ * a node may be handed to another thread. Messages and images are laid out as docs/FORMATS.md tells. */
 typedef struct npss_node {
     uint8_t is_open; /* 1 or 0; to be read alone */
     void *held;      /* none of the caller's */
 } npss_node;
 
-/* Closes the node, and opens it on the version of the tables with nothing kept, for keys of a form and with room for so many
- * strings. The node shares the tables, which live as long as the longest of their handles and nodes.
+/* Closes the node, and opens it on the version of the tables with nothing kept, for keys of a form and with room
+ * for so many strings. The node shares the tables, which live as long as the longest of their handles and nodes.
  * In this order: CLOSED (the tables are), NO_FORM, BAD_ROOM, MEMORY, DONE. After a refusal the node is closed. */
 npss_answer npss_node_new(npss_node *node, npss_handle *tables, uint8_t form, uint32_t room);
 
-/* The same with what an image of either layout holds. No key of the image is trusted: each is made anew. A refusal for the
- * shape, the form, the version or the room takes no memory, whatever the image promises.
- * In this order: CLOSED, NO_FORM, BAD_ROOM, MALFORMED, OTHER_FORM, OLDER_TABLES, FULL, BAD_ENTRY, DONE; behind FULL may
- * MEMORY stand in place of each. */
+/* The same with what an image of either layout holds. No key of the image is trusted: each is made anew. A refusal
+ * for the shape, the form, the version or the room takes no memory, whatever the image promises. In this order:
+ * CLOSED, NO_FORM, BAD_ROOM, MALFORMED, OTHER_FORM, OLDER_TABLES, FULL, BAD_ENTRY, DONE. MEMORY may stand in
+ * place of what comes behind FULL. After a refusal the node is closed. */
 npss_answer npss_node_restore(npss_node *node, npss_handle *tables, uint8_t form, uint32_t room,
                               const uint8_t *image, size_t image_length);
 
-/* Keeps a string behind the others, beside its key. Each status but DONE leaves the node as it was. A string that is known
- * takes no memory. In this order: CLOSED, TOO_LONG, NOT_UTF8, UNASSIGNED, KNOWN, FULL, MEMORY, DONE. */
+/* Keeps a string behind the others, beside its key. Each status but DONE leaves the node as it was. A string that
+ * is known takes no memory. In this order: CLOSED, TOO_LONG, NOT_UTF8, UNASSIGNED, KNOWN, FULL, MEMORY, DONE. */
 npss_answer npss_node_accept(npss_node *node, const uint8_t *string, size_t string_length);
 
-/* Writes the message that tells a kept string to the front of the room; `length` tells how many bytes it has. Takes no memory.
- * DONE, NO_ROOM, NOT_KEPT, CLOSED. */
+/* Writes the message that tells a kept string to the front of the room; `length` tells how many bytes it has.
+ * Takes no memory. DONE, NO_ROOM, NOT_KEPT, CLOSED. */
 npss_answer npss_node_message(npss_node *node, const uint8_t *string, size_t string_length,
                               uint8_t *room, size_t room_length);
 
-/* Keeps the string of a message, where its key is right. Each status but DONE leaves the node as it was. Places of NOT_UTF8
- * and UNASSIGNED count in the string. MEMORY may stand in place of KEY_DIFFERS too, where the string isn't known.
- * In this order: CLOSED, MALFORMED, OTHER_FORM, TOO_LONG, NOT_UTF8, UNASSIGNED, KEY_DIFFERS, KNOWN, FULL, MEMORY, DONE. */
+/* Keeps the string of a message, where its key is right. Each status but DONE leaves the node as it was. Places of
+ * NOT_UTF8 and UNASSIGNED count in the string. MEMORY may stand in place of KEY_DIFFERS too, where the string
+ * isn't known. In this order: CLOSED, MALFORMED, OTHER_FORM, TOO_LONG, NOT_UTF8, UNASSIGNED, KEY_DIFFERS, KNOWN,
+ * FULL, MEMORY, DONE. */
 npss_answer npss_node_take(npss_node *node, const uint8_t *message, size_t message_length);
 
 /* Forgets a string; the others keep their order. DONE (it was kept), NOT_KEPT, CLOSED. */
@@ -266,22 +270,24 @@ npss_answer npss_node_same(npss_node *node, const uint8_t *left, size_t left_len
 
 /* Writes the key of a kept string to the front of the room; `length` tells how many bytes it has.
  * DONE, NO_ROOM, NOT_KEPT, CLOSED. */
-npss_answer npss_node_key(npss_node *node, const uint8_t *string, size_t string_length, uint8_t *room, size_t room_length);
+npss_answer npss_node_key(npss_node *node, const uint8_t *string, size_t string_length,
+                          uint8_t *room, size_t room_length);
 
-/* Writes the string of entry number `index`, from 0 in the order in which they were kept, to the front of the room, and right
- * behind it its key. `place` tells how many bytes the string has, `length` how many both have, also where they have no
- * room. DONE, NO_ROOM, NOT_KEPT (there are no more), CLOSED. */
+/* Writes the string of entry number `index`, from 0 in the order in which they were kept, to the front of the
+ * room, and right behind it its key. `place` tells how many bytes the string has, `length` how many both have,
+ * also where they have no room. DONE, NO_ROOM, NOT_KEPT (there are no more), CLOSED. */
 npss_answer npss_node_entry(npss_node *node, uint64_t index, uint8_t *room, size_t room_length);
 
 /* How many strings are kept: `length`. DONE, CLOSED. */
 npss_answer npss_node_count(npss_node *node);
 
-/* Writes the node's image to the front of the room, in the second layout; `length` tells how many bytes it has. Takes no memory.
- * DONE, NO_ROOM, CLOSED. */
+/* Writes the node's image to the front of the room, in the second layout; `length` tells how many bytes it has.
+ * Takes no memory. DONE, NO_ROOM, CLOSED. */
 npss_answer npss_node_image(npss_node *node, uint8_t *room, size_t room_length);
 
-/* Moves to the version of the tables, where it extends the node's: strings and keys stay as they are. Else `fault` is an
- * `npss_break`, and `code` the code point that has it. DONE, DIFFERENT, MEMORY, CLOSED (the node or the tables are). */
+/* Moves to the version of the tables, where it extends the node's: strings and keys stay as they are. Else `fault`
+ * is an `npss_break`, and `code` the code point that has it. DONE, DIFFERENT, MEMORY, CLOSED (the node or the
+ * tables are). */
 npss_answer npss_node_upgrade(npss_node *node, npss_handle *tables);
 
 /* How many code points the node's version assigns: `length`. DONE, CLOSED. */

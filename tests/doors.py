@@ -110,8 +110,8 @@ def check_names(tally, prefix):
 
 
 def check_c(tally, prefix, folder):
-    """Each call and each status, from C, and threads. What stands behind the files is how large the largest text is, and under valgrind."""
-    for name, words, large in (("calls", [*V1, *V2], LARGE), ("codes", V1, None), ("streams", V1, LARGE // 2)):
+    """Each call and each status, from C, and threads. Behind the files stands how large the largest text is."""
+    for name, words, large in (("calls", [*V1, *V2], LARGE), ("nodes", [*V1, *V2], LARGE), ("codes", V1, None), ("streams", V1, LARGE // 2)):
         for shared in (False, True):
             program = compiled(tally, prefix, folder, name, shared)
             if program:

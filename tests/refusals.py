@@ -49,7 +49,7 @@ CALLS = {
               "full_decomposition", "run"),
     "chain": ("audit",),
     "lines": ("answer_lines", "answer_bytes"),
-    "node": ("accept", "take", "image", "restore"),
+    "node": ("accept", "keep_string", "spell", "take", "image", "restore"),
     "world": ("read_schedule", "replay", "report_text"),
     "jobs": ("parse",),
     "lines_job": ("parse_lines",),

@@ -61,6 +61,8 @@ CALLS = [
     Call("answer_bytes", "np_lines", "whole.rt", "Err(Memory)", "a_refused_answer_bytes_"),
     Call("audit", "np_chain", "audits.rt", "Err(Memory)", "a_refused_audit_"),
     Call("accept", "np_node", "accepting.rt", "Err(NodeFault::Memory)", "a_refused_accept_"),
+    Call("keep_string", "np_node", "accepting.rt", "Err(NodeFault::Memory)", "a_refused_keep_string_"),
+    Call("spell", "np_node", "lent_messages.rt", "Err(Memory)", "a_refused_spell_"),
     Call("take", "np_node", "taking.rt", "Err(NodeFault::Memory)", "a_refused_take_"),
     Call("image", "np_node", "images.rt", "Err(Memory)", "a_refused_image_"),
     Call("restore", "np_node", "restoring.rt", "Err(whole(NodeFault::Memory))", "a_refused_restore_"),

@@ -32,6 +32,10 @@ pub record IsTooSmall (made before after : List ℕ) (a : Answer) : Type 0 where
 abbrev pub IsPut : List ℕ → List ℕ → List ℕ → Answer → Type 0
 IsPut made before after a = IsWritten made before after a ⊎ IsTooSmall made before after a
 
+-- a status and a length
+abbrev pub told_length : ℕ → ℕ → Answer
+told_length status length = record { status = status; fault = 0; code = 0; place = 0; length = length }
+
 -- the same, and beside it a place is told and nothing else
 pub record IsPutTelling (place : ℕ) (made before after : List ℕ) (a : Answer) : Type 0 where
   pub put : IsPut made before after a

@@ -1,8 +1,12 @@
 -- What a node tells of the strings and keys that it keeps. Nothing changes in it.
 use Rattle.std.specs.Prelude.{◌≡◌, ◌⊎◌, ◌≤◌, ◌++◌, ℕ, Bool, true, false, List, Some, Contains, length, slice_get}
 use Rattle.np_node.specs.Comparing.{AnswersSame}
+use Rattle.np_node.specs.Images.{image_bytes}
+use Rattle.np_node.specs.Laws.{image_of}
+use Rattle.np_node.specs.LentMessages.{TellsString}
 use Rattle.np_node.specs.Nodes.{State, IsKept}
 use Rattle.np_node.specs.Strings.{Entry, IsKey}
+use Rattle.np_versions.specs.Counts.{assigned_count}
 use Rattle.np_c.specs.Answers.{IsPutTelling}
 use Rattle.np_c.specs.Nodes.{alone}
 use Rattle.np_c.specs.declared.answers.Answer.{Answer}
@@ -50,3 +54,17 @@ pub record IsEntryPut (node : State) (index : ℕ) (before after : List ℕ) (a 
 -- `npss_node_entry`
 abbrev pub IsEntryAnswer : State → ℕ → List ℕ → List ℕ → Answer → Type 0
 IsEntryAnswer node index before after a = ((length node.entries ≤ index) × IsNotKept before after a) ⊎ IsEntryPut node index before after a
+
+-- the message that tells the string is put into the room, as the one that `accept` gave
+pub record IsMessagePut (node : State) (string before after : List ℕ) (a : Answer) : Type 0 where
+  pub message : List ℕ
+  pub tells : TellsString node string message
+  pub put : IsPutTelling 0 message before after a
+
+-- `npss_node_message`
+abbrev pub IsMessageAnswer : State → List ℕ → List ℕ → List ℕ → Answer → Type 0
+IsMessageAnswer node string before after a = ((¬ IsKept node.entries string) × IsNotKept before after a) ⊎ IsMessagePut node string before after a
+
+-- `npss_node_image`: the image of the second layout, with the count of the version's assigned code points, is put into the room
+abbrev pub IsImageAnswer : State → List ℕ → List ℕ → Answer → Type 0
+IsImageAnswer node before after a = IsPutTelling 0 (image_bytes (image_of (Some (assigned_count node.version)) node)) before after a

@@ -11,7 +11,7 @@ pub const NOT_UTF8: u32 = 2;
 pub const NO_ROOM: u32 = 3;
 /// Memory ran out.
 pub const MEMORY: u32 = 4;
-/// The handle holds no table.
+/// The handle holds nothing, or another thing than the call's.
 pub const CLOSED: u32 = 5;
 /// The form is none of the four letters.
 pub const NO_FORM: u32 = 6;
@@ -56,14 +56,15 @@ pub const NO_CODE: u32 = 23;
 pub struct Answer {
     /// One of the numbers above.
     pub status: u32,
-    /// The number of a fault or of a break, or which of two files or texts is meant, from 1; or 1 where a line was
-    /// refused.
+    /// The number of a fault or of a break, or which of two files or texts is meant, from 1; 1 where a line was
+    /// refused; or the status of an entry's refusal.
     pub fault: u32,
     /// A code point.
     pub code: u32,
-    /// A byte place from 0, or a line from 1.
+    /// A byte place from 0, or a line from 1; the length of an entry's string; or how many code points an image needs.
     pub place: u64,
-    /// How many bytes were written, or have room wanted; or how many code points are assigned.
+    /// How many bytes were written, or have room wanted; how many code points are assigned, or strings kept; or an
+    /// entry's number.
     pub length: u64,
 }
 

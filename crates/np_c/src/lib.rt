@@ -19,6 +19,7 @@ mod lines;
 mod node_exports;
 mod node_opening;
 mod node_reading;
+mod node_writing;
 mod opening;
 mod properties;
 mod room;

@@ -3,7 +3,7 @@ ghost use Rattle.std.specs.Prelude.{◌≡◌, false, Some, None, IfSome, length
 ghost use Rattle.np_versions.specs.Counts.{assigned_count};
 ghost use Rattle.np_c.specs.Contents.{HeldNode};
 ghost use Rattle.np_c.specs.NodeOpening.{IsNewAnswer, IsRestoreAnswer, IsUpgradeAnswer};
-ghost use Rattle.np_c.specs.NodeReading.{told_count, IsEntryAnswer, IsKeptKeyAnswer, IsSameAnswer};
+ghost use Rattle.np_c.specs.NodeReading.{told_count, IsEntryAnswer, IsImageAnswer, IsKeptKeyAnswer, IsMessageAnswer, IsSameAnswer};
 ghost use Rattle.np_c.specs.Nodes.{alone, node_of, state_in, IsAcceptAnswer, IsChanged, IsClosedNode, IsForgetAnswer, IsTakeAnswer};
 ghost use Rattle.np_c.specs.Versions.{content_of, version_of};
 
@@ -12,6 +12,7 @@ use crate::handles::Handle;
 use crate::keeping::{accept_in, forget_in, take_in};
 use crate::node_opening::{new_node, restored_node, upgrade_in};
 use crate::node_reading::{count_in, entry_in, key_in, same_in, version_in};
+use crate::node_writing::{image_in, message_in};
 use std::alloc::Global;
 
 /// Closes the node, and opens it on the version of the tables, with nothing kept and room for so many strings.
@@ -184,6 +185,45 @@ pub extern "C" fn npss_node_entry(
         None => Answer::of(CLOSED),
         Some((mut kept, content)) => {
             let answer = entry_in(alloc, &mut *kept, index, room);
+            node.put_node(content, kept);
+            answer
+        }
+    }
+}
+
+/// Writes the message that tells a kept string into the room.
+#[unsafe(no_mangle)]
+pub extern "C" fn npss_node_message(
+    alloc: Global,
+    node: &mut Handle,
+    string: &[u8],
+    room: &mut [u8],
+) -> Answer
+    ensures same { node_of node.new ≡ node_of node.old }
+    ensures message { IfSome (node_of node.old) (λ kept. IsMessageAnswer (state_in kept) string.now room.old room.new result) }
+    ensures closed { node_of node.old ≡ None → IsClosedNode node.old node.new result × (room.new ≡ room.old) }
+{
+    match node.take_node(alloc) {
+        None => Answer::of(CLOSED),
+        Some((mut kept, content)) => {
+            let answer = message_in(alloc, &mut *kept, string, room);
+            node.put_node(content, kept);
+            answer
+        }
+    }
+}
+
+/// Writes the node's image into the room.
+#[unsafe(no_mangle)]
+pub extern "C" fn npss_node_image(alloc: Global, node: &mut Handle, room: &mut [u8]) -> Answer
+    ensures same { node_of node.new ≡ node_of node.old }
+    ensures image { IfSome (node_of node.old) (λ kept. IsImageAnswer (state_in kept) room.old room.new result) }
+    ensures closed { node_of node.old ≡ None → IsClosedNode node.old node.new result × (room.new ≡ room.old) }
+{
+    match node.take_node(alloc) {
+        None => Answer::of(CLOSED),
+        Some((mut kept, content)) => {
+            let answer = image_in(alloc, &mut *kept, room);
             node.put_node(content, kept);
             answer
         }

@@ -1,5 +1,6 @@
 //! What each call answers on worked examples.
 mod answers;
+mod apart;
 mod forged;
 mod forged_answers;
 mod forgetting;
@@ -73,7 +74,8 @@ fn wants_taken<T: NormTable>(
 /// The node's image is this.
 fn wants_image<T: NormTable>(node: &Node<'_, T>, image: &[u8], what: &str) -> Result<(), Fail> {
     let found = node.image()?;
-    want(found.as_slice() == image, what)
+    want(found.as_slice() == image, what)?;
+    want(node.image_length() == image.len(), what)
 }
 
 /// What is seen of a node.

@@ -25,6 +25,8 @@ const IMAGE: &[u8] =
 #[derive(Clone, Copy)]
 enum NodeCall {
     Accept,
+    KeepString,
+    Spell,
     Take,
     Image,
 }
@@ -66,6 +68,43 @@ fn accepts<T: NormTable>(node: &mut Node<'_, T>) -> Result<(), Fail> {
         }
     }
     want(keeps_both(node), "the string is kept")
+}
+
+fn keeps<T: NormTable>(node: &mut Node<'_, T>) -> Result<(), Fail> {
+    keep_one(node)?;
+    if let Err(fault) = node.keep_string(STRING) {
+        want(fault == NodeFault::Memory, "no other refusal of a string")?;
+        want(keeps_one(node), "a refused string changes nothing")?;
+        want(
+            node.keep_string(STRING)? == Taken::Kept,
+            "the string after all",
+        )?;
+    }
+    want(
+        node.keep_string(STRING)? == Taken::Known,
+        "it is known then",
+    )?;
+    want(keeps_both(node), "the string is kept")
+}
+
+/// The message is told at any time, and none of what isn't kept.
+fn tells<T: NormTable>(alloc: Global, node: &Node<'_, T>) -> Result<(), Fail> {
+    let Some(message) = node.message_of("a\u{302}") else {
+        return Err(Fail::new("the string is kept"));
+    };
+    let spelled = match message.spell(alloc) {
+        Ok(spelled) => spelled,
+        Err(_) => message.spell(alloc)?,
+    };
+    want(spelled.as_slice() == MESSAGE, "the message after all")?;
+    want(message.length() == MESSAGE.len(), "its length")?;
+    want(node.message_of("a").is_none(), "a is not kept")
+}
+
+fn spells<T: NormTable>(alloc: Global, node: &mut Node<'_, T>) -> Result<(), Fail> {
+    keep_one(node)?;
+    wants_kept(node, STRING, MESSAGE, "the string")?;
+    tells(alloc, node)
 }
 
 fn takes<T: NormTable>(node: &mut Node<'_, T>) -> Result<(), Fail> {
@@ -213,9 +252,11 @@ fn refuses<T: NormTable>(alloc: Global, node: &mut Node<'_, T>, long: &[u8]) -> 
     wants_steps(node, FORGOTTEN)
 }
 
-fn asked<T: NormTable>(node: &mut Node<'_, T>, call: &NodeCall) -> Result<(), Fail> {
+fn asked<T: NormTable>(alloc: Global, node: &mut Node<'_, T>, call: &NodeCall) -> Result<(), Fail> {
     match call {
         NodeCall::Accept => accepts(node),
+        NodeCall::KeepString => keeps(node),
+        NodeCall::Spell => spells(alloc, node),
         NodeCall::Take => takes(node),
         NodeCall::Image => saves(node),
     }
@@ -223,7 +264,7 @@ fn asked<T: NormTable>(node: &mut Node<'_, T>, call: &NodeCall) -> Result<(), Fa
 
 fn asks<T: NormTable>(alloc: Global, table: &T, call: &NodeCall) -> Result<(), Fail> {
     let mut node = Node::new(alloc, table, Form::Nfc, 4);
-    asked(&mut node, call)
+    asked(alloc, &mut node, call)
 }
 
 fn refused<T: NormTable>(alloc: Global, table: &T) -> Result<(), Fail> {
@@ -245,6 +286,16 @@ impl Example for Call {
 #[test]
 fn a_refused_accept_succeeds_after_all(rt: HostRuntime) -> Result<(), Fail> {
     holds_over_each(rt.alloc(), V1, &Call::OfNode(NodeCall::Accept))
+}
+
+#[test]
+fn a_refused_keep_string_succeeds_after_all(rt: HostRuntime) -> Result<(), Fail> {
+    holds_over_each(rt.alloc(), V1, &Call::OfNode(NodeCall::KeepString))
+}
+
+#[test]
+fn a_refused_spell_succeeds_after_all(rt: HostRuntime) -> Result<(), Fail> {
+    holds_over_each(rt.alloc(), V1, &Call::OfNode(NodeCall::Spell))
 }
 
 #[test]

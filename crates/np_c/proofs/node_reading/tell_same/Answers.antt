@@ -1,4 +1,4 @@
-use Rattle.std.proofs.Common.{◌≡◌, ◌⊎◌, ℕ, List, Bool, true, false, Some, inl, inr, refl, subst, ⊎_elim, ◌∙◌}
+use Rattle.std.proofs.Common.{◌≡◌, ◌⊎◌, ℕ, List, Bool, true, false, Some, inl, inr, refl, subst, ◌∙◌}
 use Rattle.np_node.proofs.KeptLemmas.{kept-utf8}
 use Rattle.np_node.specs.Comparing.{AnswersSame}
 use Rattle.np_node.specs.Nodes.{State, state_of, IsKept}
