@@ -17,6 +17,7 @@ import sys
 import tempfile
 import time
 import unittest
+import urllib.parse
 from pathlib import Path
 
 from npss import NotUtf8, TooLong, Unassigned
@@ -437,6 +438,44 @@ class Serving(Case):
         self.assertEqual(self.ask(server, "/forget", {"name": "a\u0302"})[0], 404)
         status, told = self.ask(server, "/status", None, None)
         self.assertEqual((status, told["shards"][0]["registered"], told["shards"][0]["behind"]), (200, 0, 0))
+
+    def page(self, connection, path, form=None):
+        """A page, which is read by headless Chromium where that is here: its text as a person sees it, and its HTML."""
+        headers = {"Content-Type": "application/x-www-form-urlencoded"}
+        connection.request("GET" if form is None else "POST", path, form and urllib.parse.urlencode(form), headers if form else {})
+        answer = connection.getresponse()
+        html = answer.read().decode()
+        self.assertEqual((answer.status, answer.headers["Content-Type"]), (200, "text/html; charset=utf-8"))
+        self.assertIn("default-src 'none'", answer.headers["Content-Security-Policy"])
+        self.assertNotIn("<script", html)
+        return html
+
+    def test_pages(self):
+        token = self.folder / "token"
+        token.write_text(TOKEN + "\n")
+        server = self.serve("--token-file", str(token))
+        self.ask(server, "/claim", {"name": "a\u0302", "owner": "<x>"})
+        self.assertIn("<td>1</td>", self.page(server, "/"))
+        found = self.page(server, "/search", {"name": "\u00e2"})
+        self.assertIn("&lt;x&gt;", found)
+        self.assertIn("0061 0302", found)
+        self.assertIn("Nobody has it", self.page(server, "/search", {"name": "A"}))
+        self.assertIn("not assigned", self.page(server, "/search", {"name": YOUNG}))
+        self.assertIn("The same name", self.page(server, "/why", {"left": "a\u0302", "right": "\u00e2"}))
+        other = self.page(server, "/why", {"left": "a\u0302", "right": "a\u0302A"})
+        for words in ("Two names", "differ first at code point 2", "<mark>0041</mark>", "230", "only look alike"):
+            self.assertIn(words, other)
+        self.assertIn("can't be told", self.page(server, "/why", {"left": YOUNG, "right": "A"}).replace("&#x27;", "'"))
+
+    @unittest.skipUnless(shutil.which("chromium"), "chromium is not here")
+    def test_a_page_in_a_browser(self):
+        server = self.serve()
+        file = self.folder / "page.html"
+        file.write_text(self.page(server, "/why", {"left": "a\u0302", "right": "a\u0323"}), encoding="utf-8")
+        words = ["chromium", "--headless", "--no-sandbox", "--disable-gpu", f"--user-data-dir={self.folder}/chromium", "--dump-dom", file.as_uri()]
+        seen = subprocess.run(words, stdout=subprocess.PIPE, stderr=subprocess.DEVNULL, text=True, timeout=120, check=True).stdout
+        for words in ("Two names", "<mark>00E2</mark>", "<mark>1EA1</mark>", "<td>220</td>"):
+            self.assertIn(words, seen)
 
     def test_without_a_token_nothing_changes(self):
         server = self.serve()
