@@ -21,9 +21,10 @@ from starlette.routing import Route
 from npss_registry import pages
 from npss_registry.errors import LogAway, RegistryError, StoreError
 from npss_registry.explaining import Names, compared
+from npss_registry.records import shard_of
 from npss_registry.registry import Registry
 from npss_registry.shards import Outcome
-from npss_registry.store import Registration
+from npss_registry.store import Registration, Store
 from npss_registry.worker import Worker
 
 # A name has 65,536 bytes at most, of which JSON may spell each character in 6.
@@ -103,6 +104,8 @@ class Service:
     def __init__(self, worker: Worker, token: Optional[str]):
         self._worker = worker
         self._token = token
+        # Searches read what was committed last, and don't wait for claims.
+        self._reader = Store(worker.registry.store.path, read_only=True)
         self._known: Optional[tuple[int, Names]] = None
 
     def check_token(self, request: Request) -> None:
@@ -128,8 +131,18 @@ class Service:
 
     async def find(self, request: Request) -> Response:
         name = _text(await _body(request), "name")
-        found = await self._work(lambda registry: registry.find(name))
+        found = self._found(name)
         return JSONResponse([_told(one) for one in found], 200 if found else 404)
+
+    def _found(self, name: str) -> list[Registration]:
+        """Who has a name, or an equivalent one."""
+        setup = self._reader.setup
+        key = self._worker.registry.tables.key(name, setup.form)
+        return self._reader.with_key(shard_of(key, setup.shards), key)
+
+    def close(self) -> None:
+        """Lets the reader go."""
+        self._reader.close()
 
     async def same(self, request: Request) -> Response:
         told = await _body(request)
@@ -155,7 +168,7 @@ class Service:
     async def search(self, request: Request) -> Response:
         name = (await _fields(request, "name"))[0]
         try:
-            found = await self._work(lambda registry: registry.find(name))
+            found = self._found(name)
         except Refused as error:
             return _html(pages.search(name, [], str(error)))
         return _html(pages.search(name, found))
@@ -204,6 +217,7 @@ def application(worker: Worker, token: Optional[str]) -> Starlette:
     @contextlib.asynccontextmanager
     async def lifespan(_app: Starlette) -> AsyncIterator[None]:
         yield
+        service.close()
         worker.close()
 
     routes = [Route("/claim", service.claim, methods=["POST"]), Route("/forget", service.forget, methods=["POST"]),
