@@ -1,7 +1,9 @@
 //! The standard streams, whichever of them a program was started with.
-ghost use Rattle.std.specs.Prelude.{◌≡◌, false, None, IsErr};
+ghost use Rattle.std.specs.Prelude.{◌≡◌, false, IsErr};
 ghost use Rattle.std.specs.Io.{ReadsAtMost};
+ghost use Rattle.std.specs.Io.KnownBytes.{ReadConsumes};
 ghost use Rattle.np_code_points.specs.Watched.{has_failed};
+ghost use Rattle.np_jobs.specs.StandardInputs.{left_of};
 
 use np_code_points::watched::Watched;
 use std::alloc::Global;
@@ -14,18 +16,19 @@ const NOT_OPEN: i32 = 9;
 /// Standard input, whether or not the program was started with it. The system gives the descriptor of
 /// one that is closed to the file that is opened next, so a closed one is never read.
 #[derive(Drop)]
-pub enum StandardInput {
-    /// It was open.
-    Open(Stdin),
+pub enum StandardInput<S> {
+    /// It was open: reads answer what the stream answers.
+    Open(S),
     /// It was closed: each read fails.
     Closed,
 }
 
-impl Read for StandardInput {
-    ghost remaining = { λ _. None };
+impl<S: Read> Read for StandardInput<S> {
+    ghost remaining = { left_of S.remaining };
 
     fn read(&mut self, buf: &mut [u8]) -> Result<usize>
         ensures bound { ReadsAtMost result buf.new }
+        ensures bytes { ReadConsumes (left_of S.remaining self.old) (left_of S.remaining self.new) result buf.new }
         ensures closed { self.old ≡ StandardInput.Closed → IsErr result }
     {
         match self {
@@ -39,7 +42,7 @@ impl Read for StandardInput {
 /// it is opened for reading alone, so each write fails then as it does on a closed stream.
 #[derive(Drop)]
 pub struct Standard {
-    pub input: Watched<StandardInput>,
+    pub input: Watched<StandardInput<Stdin>>,
     pub output: Watched<Stdout>,
     pub error: Watched<Stderr>,
     behind: Option<Vec<u8>>,

@@ -27,9 +27,9 @@ abbrev pub AreReplayReaders : (List ℕ → Option (List ℕ) → Type 0) → Li
 AreReplayReaders Gives schedule_file version_files readers =
     WereOpened Gives (schedule_file ∷ flat_map names_of version_files) (readers.schedule_file ∷ flat_map both_files readers.versions)
 
--- how a job ends, over the files that its names opened
+-- how a job ends, over the files that its names opened; one that needs no input leaves it as it is
 abbrev pub EndsOverFiles : (List ℕ → Option (List ℕ) → Type 0) → Job → Stream → Stream → Stream → ℕ → Type 0
-EndsOverFiles Gives Help input output error status = WritesAnswer true usage_lines output error status
+EndsOverFiles Gives Help input output error status = WritesAnswer true usage_lines output error status × (input.after ≡ input.before)
 EndsOverFiles Gives (Normalize form files) input output error status =
     (readers : TextReaders) × AreTextReaders Gives files input readers × NormalizeEnds form readers output error status
 EndsOverFiles Gives (Key form files) input output error status =
@@ -39,22 +39,23 @@ EndsOverFiles Gives (KeyUnder form old new) input output error status =
 EndsOverFiles Gives (Compare form files) input output error status =
     (readers : TextReaders) × AreTextReaders Gives files input readers × CompareEnds form readers output error status
 EndsOverFiles Gives (Audit old new) input output error status =
-    (readers : List VersionReaders) × ArePair Gives old new readers × AuditEnds readers output error status
+    (readers : List VersionReaders) × ArePair Gives old new readers × AuditEnds readers output error status × (input.after ≡ input.before)
 EndsOverFiles Gives (Replay form schedule_file version_files) input output error status =
     (readers : ReplayReaders) × AreReplayReaders Gives (string_bytes schedule_file) version_files.items readers × ReplayEnds form readers output error status
+    × (input.after ≡ input.before)
 
 -- no job is asked for: the words ask for nothing that there is, or memory ran out
 abbrev pub IsNotAsked : List (List ℕ) → Stream → ℕ → Type 0
 IsNotAsked words error status = ((asked_by words ≡ None) × IsTold error usage_lines × (status ≡ 2)) ⊎ TellsRefusal Memory error status
 
--- the job is run over its files; or the first of them that doesn't open is told, and nothing is written
+-- the job is run over its files; or the first of them that doesn't open is told, and nothing of the input is read and nothing written
 abbrev pub IsRun : (List ℕ → Option (List ℕ) → Type 0) → (List ℕ → Type 0) → Job → Stream → Stream → Stream → ℕ → Type 0
 IsRun Gives Lacks job input output error status =
     EndsOverFiles Gives job input output error status
-    ⊎ (IsUnopened Gives Lacks (asked_of job).files error status × (output.after ≡ output.before))
+    ⊎ (IsUnopened Gives Lacks (asked_of job).files error status × (input.after ≡ input.before) × (output.after ≡ output.before))
 
--- the job is run that the words ask for; or none is asked for, and nothing is written
+-- the job is run that the words ask for; or none is asked for, and nothing of the input is read and nothing written
 abbrev pub ProgramEnds : (List ℕ → Option (List ℕ) → Type 0) → (List ℕ → Type 0) → List (List ℕ) → Stream → Stream → Stream → ℕ → Type 0
 ProgramEnds Gives Lacks words input output error status =
     ((job : Job) × (asked_by words ≡ Some (asked_of job)) × IsRun Gives Lacks job input output error status)
-    ⊎ (IsNotAsked words error status × (output.after ≡ output.before))
+    ⊎ (IsNotAsked words error status × (input.after ≡ input.before) × (output.after ≡ output.before))

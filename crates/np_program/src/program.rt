@@ -103,6 +103,7 @@ fn run_on_text<P: Opener, I: Read, O: Write, E: Write>(
         × AreTextReaders (P.gives opener.now) files.now (stream_of I.remaining input.old input.new) readers
         × TextCommandEnds command form readers (stream_of O.contents output.old output.new) (stream_of E.contents error.old error.new) status) }
     ensures unopened { IfErr result (IsUnopened (P.gives opener.now) (P.lacks opener.now) (names_of files.now) (stream_of E.contents error.old error.new)) }
+    ensures unread { IfErr result (λ status. input.new ≡ input.old) }
     ensures unwritten { IfErr result (λ status. output.new ≡ output.old) }
 {
     let (mut data, mut exclusions) = open_version(opener, alloc, error, files)?;
@@ -172,6 +173,7 @@ fn run_key_under<P: Opener, I: Read, O: Write, E: Write>(
         × KeyUnderEnds form readers (stream_of O.contents output.old output.new) (stream_of E.contents error.old error.new) status) }
     ensures unopened { IfErr result (IsUnopened (P.gives opener.now) (P.lacks opener.now) (names_of old.now ++ names_of new.now)
         (stream_of E.contents error.old error.new)) }
+    ensures unread { IfErr result (λ status. input.new ≡ input.old) }
     ensures unwritten { IfErr result (λ status. output.new ≡ output.old) }
 {
     let (mut old_data, mut old_exclusions) = open_version(opener, alloc, error, old)?;
@@ -241,6 +243,7 @@ fn run<P: Opener, I: Read, O: Write, E: Write>(
         (stream_of I.remaining input.old input.new) (stream_of O.contents output.old output.new) (stream_of E.contents error.old error.new)) }
     ensures unopened { IfErr result (IsUnopened (P.gives opener.now) (P.lacks opener.now) (asked_of job.now).files
         (stream_of E.contents error.old error.new)) }
+    ensures unread { IfErr result (λ status. input.new ≡ input.old) }
     ensures unwritten { IfErr result (λ status. output.new ≡ output.old) }
 {
     match job {
@@ -309,6 +312,7 @@ fn run_found<P: Opener, I: Read, O: Write, E: Write>(
         (stream_of I.remaining input.old input.new) (stream_of O.contents output.old output.new) (stream_of E.contents error.old error.new) result) }
     ensures usage { found.now ≡ Err WordsFault.Usage → IsTold (stream_of E.contents error.old error.new) usage_lines × (result ≡ 2) }
     ensures memory { found.now ≡ Err WordsFault.Memory → TellsRefusal JobFault.Memory (stream_of E.contents error.old error.new) result }
+    ensures unread { IfErr found.now (λ _. input.new ≡ input.old) }
     ensures unwritten { IfErr found.now (λ _. output.new ≡ output.old) }
 {
     match found {
