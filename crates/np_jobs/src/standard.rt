@@ -5,6 +5,7 @@ ghost use Rattle.std.specs.Io.KnownBytes.{ReadConsumes};
 ghost use Rattle.np_code_points.specs.Watched.{has_failed};
 ghost use Rattle.np_jobs.specs.StandardInputs.{left_of};
 
+use crate::streams::Streams;
 use np_code_points::watched::Watched;
 use std::alloc::Global;
 use std::io::{Error, Read, Result, Stderr, Stdin, Stdout};
@@ -40,11 +41,12 @@ impl<S: Read> Read for StandardInput<S> {
 
 /// The standard streams. A named file may have the descriptor of an output that was closed at the start;
 /// it is opened for reading alone, so each write fails then as it does on a closed stream.
+pub type StandardStreams = Streams<StandardInput<Stdin>, Stdout, Stderr>;
+
+/// The standard streams of a program, and memory that it keeps as long as them.
 #[derive(Drop)]
 pub struct Standard {
-    pub input: Watched<StandardInput<Stdin>>,
-    pub output: Watched<Stdout>,
-    pub error: Watched<Stderr>,
+    pub streams: StandardStreams,
     behind: Option<Vec<u8>>,
 }
 
@@ -79,9 +81,9 @@ fn leave_room(alloc: Global) -> Option<Vec<u8>> {
 /// The standard streams, to be taken before any file is opened. From then on the program keeps the memory that a data
 /// file gives back, as long as the streams are there.
 pub fn take_standard(rt: &HostRuntime) -> Standard
-    ensures input { has_failed result.input ≡ false }
-    ensures output { has_failed result.output ≡ false }
-    ensures error { has_failed result.error ≡ false }
+    ensures input { has_failed result.streams.input ≡ false }
+    ensures output { has_failed result.streams.output ≡ false }
+    ensures error { has_failed result.streams.error ≡ false }
 {
     let behind = leave_room(rt.alloc());
     let stream = rt.stdin();
@@ -90,10 +92,10 @@ pub fn take_standard(rt: &HostRuntime) -> Standard
     } else {
         StandardInput::Closed
     };
-    Standard {
+    let streams = Streams {
         input: Watched::new(input),
         output: Watched::new(rt.stdout()),
         error: Watched::new(rt.stderr()),
-        behind,
-    }
+    };
+    Standard { streams, behind }
 }
