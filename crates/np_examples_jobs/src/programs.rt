@@ -7,6 +7,7 @@ use np_code_points::watched::Watched;
 use np_examples_shared::devices::Trickle;
 use np_examples_shared::fixtures::{V1_DATA, V1_EXCLUSIONS, V2_DATA, V2_EXCLUSIONS};
 use np_examples_shared::want;
+use np_jobs::{Resources, Streams};
 use np_lines_job::{Progress, lines_usage_text, run_words as run_line_words};
 use np_program::usage_text;
 use np_world::fixtures::{RESTART_REPORT, RESTART_SCHEDULE};
@@ -30,27 +31,33 @@ enum Program {
     NpssLines,
 }
 
-/// The status of a program for these words over an input.
+/// The status of a program for these words.
 fn status_of(
     alloc: Global,
-    (program, input): (Program, &str),
+    program: Program,
     words: &[String],
-    output: &mut Watched<Vec<u8>>,
-    error: &mut Watched<Vec<u8>>,
+    streams: &mut Streams<Trickle<'_>, Vec<u8>, Vec<u8>>,
 ) -> u8 {
     let shelf = Shelf { files: FILES };
-    let mut input = Watched::new(Trickle::new(input.as_bytes(), 100));
+    let with = Resources {
+        alloc,
+        opener: &shelf,
+    };
     match program {
-        Program::Npss => run_over_shelf(&shelf, alloc, words, &mut input, output, error),
-        Program::NpssLines => run_line_words(&shelf, alloc, words, &mut input, output, error),
+        Program::Npss => run_over_shelf(alloc, &shelf, words, streams),
+        Program::NpssLines => run_line_words(&with, words, streams),
     }
 }
 
 /// The run of a program for these words over an input.
 fn run(alloc: Global, program: Program, words: &[String], input: &str) -> Ran {
-    let mut output = Watched::new(Vec::new(alloc));
-    let mut error = Watched::new(Vec::new(alloc));
-    let status = status_of(alloc, (program, input), words, &mut output, &mut error);
+    let mut streams = Streams {
+        input: Watched::new(Trickle::new(input.as_bytes(), 100)),
+        output: Watched::new(Vec::new(alloc)),
+        error: Watched::new(Vec::new(alloc)),
+    };
+    let status = status_of(alloc, program, words, &mut streams);
+    let Streams { output, error, .. } = streams;
     Ran {
         status,
         output: output.into_inner(),

@@ -14,7 +14,8 @@ abbrev pub IsNotAsked : (List (List ℕ) → Type 0) → List ℕ → List (List
 IsNotAsked AsksNothing usage words error status = (AsksNothing words × IsTold error usage × (status ≡ 2)) ⊎ TellsRefusal Memory error status
 
 -- the job is run over its files; or the first of them that doesn't open is told, and nothing of the input is read and nothing written
-abbrev pub IsRun : {J : Type 0} → (J → List (List ℕ)) → JobEnd J → (List ℕ → Option (List ℕ) → Type 0) → (List ℕ → Type 0) → J → Stream → Stream → Stream → ℕ → Type 0
+abbrev pub IsRun : {J : Type 0} → (J → List (List ℕ)) → JobEnd J → (List ℕ → Option (List ℕ) → Type 0) → (List ℕ → Type 0)
+    → J → Stream → Stream → Stream → ℕ → Type 0
 IsRun files_of Ends Gives Lacks job input output error status =
     Ends Gives job input output error status
     ⊎ (IsUnopened Gives Lacks (files_of job) error status × (input.after ≡ input.before) × (output.after ≡ output.before))

@@ -18,4 +18,6 @@ EndsOverFiles Gives (Answer asked shows_progress files) input output error statu
 
 -- the job is run that the words ask for; or none is asked for, and nothing of the input is read and nothing written
 abbrev pub ProgramEnds : (List ℕ → Option (List ℕ) → Type 0) → (List ℕ → Type 0) → List (List ℕ) → Stream → Stream → Stream → ℕ → Type 0
-ProgramEnds = IsProgramEnd (λ words job. asked_by words ≡ Some (asked_of job)) (λ words. asked_by words ≡ None) (λ job. (asked_of job).files) lines_usage EndsOverFiles
+ProgramEnds =
+    IsProgramEnd (λ words job. asked_by words ≡ Some (asked_of job)) (λ words. asked_by words ≡ None) (λ job. (asked_of job).files) lines_usage
+    EndsOverFiles

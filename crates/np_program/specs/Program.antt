@@ -46,4 +46,6 @@ EndsOverFiles Gives (Replay form schedule_file version_files) input output error
 
 -- the job is run that the words ask for; or none is asked for, and nothing of the input is read and nothing written
 abbrev pub ProgramEnds : (List ℕ → Option (List ℕ) → Type 0) → (List ℕ → Type 0) → List (List ℕ) → Stream → Stream → Stream → ℕ → Type 0
-ProgramEnds = IsProgramEnd (λ words job. asked_by words ≡ Some (asked_of job)) (λ words. asked_by words ≡ None) (λ job. (asked_of job).files) usage_lines EndsOverFiles
+ProgramEnds =
+    IsProgramEnd (λ words job. asked_by words ≡ Some (asked_of job)) (λ words. asked_by words ≡ None) (λ job. (asked_of job).files) usage_lines
+    EndsOverFiles
