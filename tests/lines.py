@@ -40,6 +40,8 @@ LIMIT = 65_536
 MEMORY = 8
 # A long line, in pieces of 1 MiB.
 LONG = 300
+# So many lines of four bytes that reads of one byte are more than 2 ** 20.
+MANY = 290_000
 # Of so many published strings one is asked for by itself, for each form: each such run reads the published files anew.
 ALONE = 100
 
@@ -266,6 +268,9 @@ def check_refusals(tally, program, folder):
             tally.check(f"no call behind it, {kind} {way}", not late, shown(late[:1]))
     for kind in WAYS:
         tally.same(f"{kind}s of one byte", refusals.run(program, asks(), given, REFUSE=f"{kind}:0:one"), ample)
+    # no count of reads is too large
+    got = refusals.run(program, asks(), b"abc\n" * MANY, REFUSE="read:0:one")
+    tally.check("more than a million reads", got == (0, b"=abc\n" * MANY, b""), f"{got[0]} {len(got[1])} {got[2]}")
 
 
 def told_on_terminal(program, words, pieces, folder):
