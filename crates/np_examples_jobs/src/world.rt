@@ -4,12 +4,12 @@ mod schedules;
 
 use np_chain::Chain;
 use np_code_points::Form;
-use np_examples_shared::{Files, V1, V2, tables_of, want};
-use np_tables::RowTable;
-use np_world::fixtures::{
+use np_examples_shared::scripts::{
     FORGED_REPORT, FORGED_SCHEDULE, FORGETTING_REPORT, FORGETTING_SCHEDULE, OLDER_REPORT,
     OLDER_SCHEDULE, RESTART_SCHEDULE,
 };
+use np_examples_shared::{Files, V1, V2, tables_of, want};
+use np_tables::RowTable;
 use np_world::{Report, Schedule, read_schedule, replay, report_text};
 use std::alloc::Global;
 use std::test::Fail;

@@ -39,4 +39,4 @@ pub use statuses::{DONE, FAILED};
 pub use streams::{Resources, Streams};
 pub use usage::{refuse_words, show_usage, tell_usage};
 pub use version_jobs::{VersionJob, run_over_version};
-pub use versions::{JobTable, MadeTable, read_table};
+pub use versions::{JobTable, MadeTable, read_table_of};

@@ -5,12 +5,12 @@ use np_code_points::Form;
 use np_code_points::watched::Watched;
 use np_examples_shared::devices::Ending;
 use np_examples_shared::fixtures::{V1_DATA, V1_EXCLUSIONS, V2_DATA, V2_EXCLUSIONS};
+use np_examples_shared::scripts::EXCHANGE_SCHEDULE;
 use np_examples_shared::want;
 use np_jobs::{audit_job, compare_job, key_job, key_under_job, normalize_job};
 use np_lines::{LineEnd, Wanted};
 use np_lines_job::{Asked, lines_job};
 use np_program::replay_job;
-use np_world::fixtures::EXCHANGE_SCHEDULE;
 use std::alloc::Global;
 use std::test::Fail;
 
