@@ -27,11 +27,12 @@ CREATE TABLE shard (number INTEGER PRIMARY KEY, place INTEGER NOT NULL, sum BLOB
 CREATE TABLE registration (shard INTEGER NOT NULL, place INTEGER NOT NULL, string BLOB NOT NULL, key BLOB NOT NULL,
     owner TEXT NOT NULL, refused TEXT, parked INTEGER NOT NULL, ended INTEGER, PRIMARY KEY (shard, place)) WITHOUT ROWID;
 CREATE UNIQUE INDEX registered_string ON registration (shard, string) WHERE ended IS NULL;
-CREATE INDEX registered_key ON registration (shard, key) WHERE ended IS NULL;
+CREATE INDEX registered_key ON registration (shard, key, place) WHERE ended IS NULL;
 CREATE INDEX parked_place ON registration (shard, place) WHERE parked;
 CREATE TABLE journal (number INTEGER PRIMARY KEY AUTOINCREMENT, shard INTEGER NOT NULL, event TEXT NOT NULL,
     place INTEGER NOT NULL, version INTEGER NOT NULL);
 """
+_BY_STRING, _BY_KEY, _PARKED = (f"INDEXED BY {name}" for name in ("registered_string", "registered_key", "parked_place"))
 _COLUMNS = "place, string, key, owner, refused, parked, ended"
 
 
@@ -277,31 +278,27 @@ class Store:
 
     def holder(self, number: int, string: str) -> Optional[Registration]:
         """The registration of a string, while it lasts."""
-        return self._one("string = ? AND ended IS NULL", number, string.encode())
+        return self._one(_BY_STRING, "string = ? AND ended IS NULL", number, string.encode())
 
     def with_key(self, number: int, key: str) -> list[Registration]:
         """The registrations of a key, while they last, in the order of their places."""
-        return list(self._some("key = ? AND ended IS NULL ORDER BY place", number, key.encode()))
+        return list(self._some(_BY_KEY, "key = ? AND ended IS NULL ORDER BY place", number, key.encode()))
 
     def at(self, number: int, place: int) -> Optional[Registration]:
         """The registration that the record at a place made."""
-        return self._one("place = ?", number, place)
-
-    def ended_at(self, number: int, string: str, place: int) -> Optional[Registration]:
-        """The registration of a string that the record at a place ended."""
-        return self._one("string = ? AND ended = ?", number, string.encode(), place)
+        return self._one("", "place = ?", number, place)
 
     def registrations(self, number: int) -> Iterator[Registration]:
         """All registrations while they last, in the order of their places."""
-        return self._some("ended IS NULL ORDER BY place", number)
+        return self._some("", "ended IS NULL ORDER BY place", number)
 
     def past(self, number: int) -> Iterator[Registration]:
         """All registrations that ever were, in the order of their places."""
-        return self._some("1 ORDER BY place", number)
+        return self._some("", "1 ORDER BY place", number)
 
     def parked(self, number: int) -> list[Registration]:
         """The registrations of which the node lacks a code point, in the order of their places."""
-        return list(self._some("parked AND ended IS NULL ORDER BY place", number))
+        return list(self._some(_PARKED, "parked AND ended IS NULL ORDER BY place", number))
 
     def count(self, number: int) -> int:
         """How many strings are registered."""
@@ -319,11 +316,13 @@ class Store:
     def unpark(self, number: int, place: int) -> None:
         self._base.execute("UPDATE registration SET parked = 0 WHERE shard = ? AND place = ?", (number, place))
 
-    def _some(self, where: str, *given: Any) -> Iterator[Registration]:
-        return map(_registration, self._base.execute(f"SELECT {_COLUMNS} FROM registration WHERE shard = ? AND {where}", given))
+    def _some(self, index: str, where: str, *given: Any) -> Iterator[Registration]:
+        """Rows by an index: left to itself SQLite walks the places of the whole shard."""
+        rows = self._base.execute(f"SELECT {_COLUMNS} FROM registration {index} WHERE shard = ? AND {where}", given)
+        return map(_registration, rows)
 
-    def _one(self, where: str, *given: Any) -> Optional[Registration]:
-        return next(self._some(where, *given), None)
+    def _one(self, index: str, where: str, *given: Any) -> Optional[Registration]:
+        return next(self._some(index, where, *given), None)
 
 
 def sqlite3_name(path: str) -> str:
