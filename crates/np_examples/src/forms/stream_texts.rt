@@ -1,5 +1,5 @@
 //! Streams that are fed texts, and taken apart between them; full decompositions.
-ghost use Rattle.std.specs.Prelude.{IfOk};
+ghost use Rattle.std.specs.Prelude.{◌≡◌, [], IfOk, OnErr, OnOk};
 ghost use Rattle.np_forms.specs.ApartStreams.{IsApartOf};
 
 use np_code_points::text::string_of;
@@ -97,10 +97,20 @@ fn step<T: NormTable>(
     stream: &mut Stream<'_, T>,
     text: Option<&str>,
     out: &mut Vec<u8>,
-) -> Result<(), Memory> {
+) -> Result<(), Memory>
+    requires { stream.old.ready ≡ [] }
+    ensures ok { OnOk result (stream.new.ready ≡ []) }
+    ensures err { OnErr result (stream.new.ready ≡ []) }
+{
     match text {
-        Some(text) => stream.feed_text(text, out),
-        None => stream.finish_text(out),
+        Some(text) => {
+            stream.feed_text(text, out)?;
+            Ok(())
+        }
+        None => {
+            stream.finish_text(out)?;
+            Ok(())
+        }
     }
 }
 
@@ -110,33 +120,38 @@ fn steps<T: NormTable>(
     text: Option<&str>,
     out: &mut Vec<u8>,
     again: bool,
-) -> Result<(), Fail> {
+) -> Result<(), Fail>
+    requires { stream.old.ready ≡ [] }
+    ensures { OnOk result (stream.new.ready ≡ []) }
+{
     let pending = stream.pending_len();
     let count = out.len();
-    if let Err(refused) = step(stream, text, out) {
-        let same = stream.pending_len() == pending && out.len() == count;
-        want(same, "a refused step changes nothing")?;
-        if !again {
-            return Err(refused.into());
+    match step(stream, text, out) {
+        Ok(()) => Ok(()),
+        Err(refused) => {
+            let same = stream.pending_len() == pending && out.len() == count;
+            want(same, "a refused step changes nothing")?;
+            if !again {
+                return Err(refused.into());
+            }
+            step(stream, text, out)?;
+            Ok(())
         }
-        step(stream, text, out)?;
     }
-    Ok(())
 }
 
 fn gives<T: NormTable>(
     stream: &mut Stream<'_, T>,
     out: &mut Vec<u8>,
     call: Call,
-) -> Result<(), Fail> {
-    for text in [
-        "\u{61}\u{302}",
-        "\u{323}",
-        "\u{344}",
-        "\u{41}\u{327}\u{30A}\u{FB01}",
-    ] {
-        steps(stream, Some(text), out, call == Call::FeedText)?;
-    }
+) -> Result<(), Fail>
+    requires { stream.old.ready ≡ [] }
+{
+    let again = call == Call::FeedText;
+    steps(stream, Some("\u{61}\u{302}"), out, again)?;
+    steps(stream, Some("\u{323}"), out, again)?;
+    steps(stream, Some("\u{344}"), out, again)?;
+    steps(stream, Some("\u{41}\u{327}\u{30A}\u{FB01}"), out, again)?;
     steps(stream, None, out, call == Call::FinishText)
 }
 
