@@ -1,4 +1,7 @@
 //! Streams that are fed texts, and taken apart between them; full decompositions.
+ghost use Rattle.std.specs.Prelude.{◌≡◌, [], IfOk, OnErr, OnOk};
+ghost use Rattle.np_forms.specs.ApartStreams.{IsApartOf};
+
 use np_code_points::text::string_of;
 use np_code_points::{Form, Memory};
 use np_examples_shared::{Example, Made, V1, holds_over_each, want};
@@ -54,32 +57,32 @@ fn feeds_apart<T: NormTable>(
     apart: ApartStream,
     text: &str,
     out: &mut Vec<u8>,
-) -> Result<ApartStream, Memory> {
+) -> Result<ApartStream, Memory>
+    requires { IsApartOf (T.model table.now) apart }
+    ensures { IfOk result (IsApartOf (T.model table.now)) }
+{
     let mut stream = Stream::of_apart(table, apart);
     stream.feed_text(text, out)?;
     Ok(stream.into_apart())
 }
 
-fn ends_apart<T: NormTable>(
-    table: &T,
-    apart: ApartStream,
-    out: &mut Vec<u8>,
-) -> Result<(), Memory> {
+fn ends_apart<T: NormTable>(table: &T, apart: ApartStream, out: &mut Vec<u8>) -> Result<(), Memory>
+    requires { IsApartOf (T.model table.now) apart }
+{
     let mut stream = Stream::of_apart(table, apart);
     stream.finish_text(out)
 }
 
-/// Fails unless the texts of a row give its form, whose bytes stand behind others.
+/// Fails unless the texts of a row give its form.
 fn wants_row<T: NormTable>(alloc: Global, table: &T, row: Row) -> Result<(), Fail> {
     let apart = ApartStream::new(alloc, row.form);
     want(apart.form() == row.form, "the form of a stream apart")?;
-    let mut out = Vec::from_slice(alloc, b"!")?;
+    let mut out = Vec::new(alloc);
     let apart = feeds_apart(table, apart, row.first, &mut out)?;
     let apart = feeds_apart(table, apart, row.second, &mut out)?;
-    want(&out[1..] == row.ready.as_bytes(), row.ready)?;
+    want(out.as_slice() == row.ready.as_bytes(), row.ready)?;
     ends_apart(table, apart, &mut out)?;
-    want(&out[..1] == b"!".as_slice(), "what stood before")?;
-    want(&out[1..] == row.made.as_bytes(), row.made)
+    want(out.as_slice() == row.made.as_bytes(), row.made)
 }
 
 fn wants_rows<T: NormTable>(alloc: Global, table: &T) -> Result<(), Fail> {
@@ -94,10 +97,20 @@ fn step<T: NormTable>(
     stream: &mut Stream<'_, T>,
     text: Option<&str>,
     out: &mut Vec<u8>,
-) -> Result<(), Memory> {
+) -> Result<(), Memory>
+    requires { stream.old.ready ≡ [] }
+    ensures ok { OnOk result (stream.new.ready ≡ []) }
+    ensures err { OnErr result (stream.new.ready ≡ []) }
+{
     match text {
-        Some(text) => stream.feed_text(text, out),
-        None => stream.finish_text(out),
+        Some(text) => {
+            stream.feed_text(text, out)?;
+            Ok(())
+        }
+        None => {
+            stream.finish_text(out)?;
+            Ok(())
+        }
     }
 }
 
@@ -107,33 +120,38 @@ fn steps<T: NormTable>(
     text: Option<&str>,
     out: &mut Vec<u8>,
     again: bool,
-) -> Result<(), Fail> {
+) -> Result<(), Fail>
+    requires { stream.old.ready ≡ [] }
+    ensures { OnOk result (stream.new.ready ≡ []) }
+{
     let pending = stream.pending_len();
     let count = out.len();
-    if let Err(refused) = step(stream, text, out) {
-        let same = stream.pending_len() == pending && out.len() == count;
-        want(same, "a refused step changes nothing")?;
-        if !again {
-            return Err(refused.into());
+    match step(stream, text, out) {
+        Ok(()) => Ok(()),
+        Err(refused) => {
+            let same = stream.pending_len() == pending && out.len() == count;
+            want(same, "a refused step changes nothing")?;
+            if !again {
+                return Err(refused.into());
+            }
+            step(stream, text, out)?;
+            Ok(())
         }
-        step(stream, text, out)?;
     }
-    Ok(())
 }
 
 fn gives<T: NormTable>(
     stream: &mut Stream<'_, T>,
     out: &mut Vec<u8>,
     call: Call,
-) -> Result<(), Fail> {
-    for text in [
-        "\u{61}\u{302}",
-        "\u{323}",
-        "\u{344}",
-        "\u{41}\u{327}\u{30A}\u{FB01}",
-    ] {
-        steps(stream, Some(text), out, call == Call::FeedText)?;
-    }
+) -> Result<(), Fail>
+    requires { stream.old.ready ≡ [] }
+{
+    let again = call == Call::FeedText;
+    steps(stream, Some("\u{61}\u{302}"), out, again)?;
+    steps(stream, Some("\u{323}"), out, again)?;
+    steps(stream, Some("\u{344}"), out, again)?;
+    steps(stream, Some("\u{41}\u{327}\u{30A}\u{FB01}"), out, again)?;
     steps(stream, None, out, call == Call::FinishText)
 }
 
