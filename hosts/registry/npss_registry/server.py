@@ -30,6 +30,8 @@ from npss_registry.worker import Worker
 # A name has 65,536 bytes at most, of which JSON may spell each character in 6.
 MOST_BODY = 524_288
 MOST_OWNER = 1_000
+# So many parked names of a shard are told.
+MOST_PARKED = 100
 
 
 class Fault(Exception):
@@ -153,8 +155,9 @@ class Service:
     async def status(self, request: Request) -> Response:
         rows = await self._work(lambda registry: registry.status())
         registry = self._worker.registry
-        shards = [{"shard": row.shard, "place": row.place, "last": row.last, "behind": row.last - row.place,
-                   "registered": row.registered, "parked": row.parked} for row in rows]
+        shards = [{"shard": row.shard, "place": row.place, "last": row.last,
+                   "behind": None if row.last is None else row.last - row.place, "registered": row.registered,
+                   "parked": len(row.parked), "names": [one.string for one in row.parked[:MOST_PARKED]]} for row in rows]
         return JSONResponse({"node": registry.store.node, "assigned": registry.tables.count, "form": registry.setup.form,
                              "room": registry.setup.room, "shards": shards})
 

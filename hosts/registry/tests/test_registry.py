@@ -22,7 +22,7 @@ from pathlib import Path
 
 from npss import NotUtf8, TooLong, Unassigned
 
-from npss_registry import Differs, InUse, LogBroken, NotOneChain, Registry, StoreError, Version, init
+from npss_registry import Differs, InUse, LogAway, LogBroken, NotOneChain, Registry, StoreError, Version, init
 from npss_registry.command import main as command
 from npss_registry.judge import Judge
 from npss_registry.logs import SqliteLog, open_log
@@ -140,7 +140,7 @@ class Versions(Case):
         self.assertRaises(Unassigned, old.claim, YOUNG, "y")
         self.assertRaises(Unassigned, old.find, YOUNG)
         old.catch_up()
-        self.assertEqual((old.status()[0].registered, old.status()[0].parked, len(old.shards[0].node)), (1, 1, 0))
+        self.assertEqual((old.status()[0].registered, [row.string for row in old.status()[0].parked], len(old.shards[0].node)), (1, [YOUNG], 0))
         self.assertEqual(old.upgrade(version(NEW)), [])
         self.assertEqual([entry.string for entry in old.shards[0].node], [YOUNG])
         self.assertEqual(old.find(YOUNG)[0].owner, "x")
@@ -225,6 +225,27 @@ class Restarts(Case):
         again.catch_up()
         self.assertEqual(again.find("A")[0].owner, "x")
         self.assertEqual(self.judged(node.store.path, copy), [])
+        again.close()
+        name = again.store.node
+        self.assertEqual(self.open(copy).store.node, name)
+
+    def test_a_backup_over_the_store_gets_another_name(self):
+        node = self.node("one")
+        node.claim("a", "x")
+        node.close()
+        path, name = node.store.path, node.store.node
+        kept = Path(path).read_bytes()
+        again = self.open(path)
+        self.assertEqual(again.store.node, name)
+        again.claim("A", "x")
+        again.close()
+        Path(path).write_bytes(kept)
+        back = self.open(path)
+        self.assertNotEqual(back.store.node, name)
+        back.catch_up()
+        self.assertEqual([entry.string for entry in back.shards[0].node], ["a", "A"])
+        back.close()
+        self.assertEqual(self.judged(path), [])
 
     def test_a_new_log_from_what_stores_read(self):
         one, other = self.node("one"), self.node("other")
@@ -349,7 +370,7 @@ class Redis(Case):
     def server(self, *words):
         with socket.create_server(("127.0.0.1", 0)) as free:
             port = free.getsockname()[1]
-        process = subprocess.Popen(["redis-server", "--port", str(port), "--bind", "127.0.0.1", "--dir", str(self.folder), "--save", "", *words],
+        self.process = process = subprocess.Popen(["redis-server", "--port", str(port), "--bind", "127.0.0.1", "--dir", str(self.folder), "--save", "", *words],
                                    stdout=subprocess.DEVNULL)
         self.addCleanup(process.wait)
         self.addCleanup(process.kill)
@@ -373,6 +394,19 @@ class Redis(Case):
         again.upgrade(version(NEW))
         self.assertEqual(again.find(YOUNG)[0].owner, "y")
         self.assertEqual(self.judged(one.store.path, other.store.path), [])
+
+    def test_a_server_that_is_away(self):
+        self.log = self.server("--appendonly", "yes", "--appendfsync", "always")
+        node = self.node("one")
+        node.claim("a", "x")
+        self.process.kill()
+        self.process.wait()
+        self.assertRaises(LogAway, node.claim, "A", "x")
+        self.assertIsNone(node.status()[0].last)
+        # What stands in the store is found all the same.
+        self.assertEqual(node.find("a")[0].owner, "x")
+        node.abandon()
+        self.assertRaises(LogAway, Registry, node.store.path)
 
     def test_a_server_that_loses_what_it_was_told_is_refused(self):
         self.assertRaisesRegex(StoreError, "appendfsync", open_log, self.server())
