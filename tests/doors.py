@@ -239,17 +239,15 @@ def check_rust(tally, prefix, folder):
 
 
 def check_java(tally, prefix, folder):
-    """The page's program for Java's foreign functions, where they are there."""
+    """The page's program by JNA, where that is there."""
     if not wanted("java", "javac"):
         return
-    told = done(tally, "java", ["java", "-version"]) or ""
-    number = re.search(r'version "(\d+)', told)
-    if not number or int(number[1]) < 22:
-        print(f"skipped: Java's foreign functions, which are there from 22 on; here is {number and number[1]}")
+    jar = Path("/usr/share/java/jna.jar")
+    if not jar.exists():
+        print("skipped: Java: JNA is not here (Debian: libjna-java)")
         return
     (folder / "Prog.java").write_text(page_program("docs/DOORS.md", "java"), encoding="utf-8")
-    command = ["java", "--enable-native-access=ALL-UNNAMED", "Prog.java", prefix / "lib" / "libnpss.so", *V1]
-    printed = done(tally, "the page's program in Java", command, cwd=folder)
+    printed = done(tally, "the page's program in Java", ["java", "-cp", jar, "Prog.java", prefix / "lib" / "libnpss.so", *V1], cwd=folder)
     tally.same("its key in Java", printed, "\u1ead\n")
 
 
