@@ -242,9 +242,14 @@ def token_in(path: Optional[str]) -> Optional[str]:
 
 
 def serve(store: str, host: str, port: int, token_file: Optional[str]) -> int:
-    """Serves a store until the process is told to end."""
+    """Serves a store until the process is told to end, or the log is not what nodes wrote: then the status is 4."""
     token = token_in(token_file)
     worker = Worker(store)
     print(f"npss-registry: {store} at http://{host}:{port}/" + ("" if token else ", to be read alone"), file=sys.stderr)
-    uvicorn.run(application(worker, token), host=host, port=port, log_level="warning")
-    return 0 if worker.failure is None else 4
+    server = uvicorn.Server(uvicorn.Config(application(worker, token), host=host, port=port, log_level="warning"))
+    worker.on_failure = lambda: setattr(server, "should_exit", True)
+    server.run()
+    if worker.failure is not None:
+        print(f"npss-registry: the node has stopped: {worker.failure}", file=sys.stderr)
+        return 4
+    return 0

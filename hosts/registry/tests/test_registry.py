@@ -427,7 +427,7 @@ class Serving(Case):
         store = self.store("store")
         with socket.create_server(("127.0.0.1", 0)) as free:
             port = free.getsockname()[1]
-        process = subprocess.Popen([sys.executable, "-m", "npss_registry", "serve", store, "--port", str(port), *words],
+        self.process = process = subprocess.Popen([sys.executable, "-m", "npss_registry", "serve", store, "--port", str(port), *words],
                                    stderr=subprocess.DEVNULL)
         self.addCleanup(process.wait)
         self.addCleanup(process.terminate)
@@ -510,6 +510,12 @@ class Serving(Case):
         seen = subprocess.run(words, stdout=subprocess.PIPE, stderr=subprocess.DEVNULL, text=True, timeout=120, check=True).stdout
         for words in ("Two names", "<mark>00E2</mark>", "<mark>1EA1</mark>", "<td>220</td>"):
             self.assertIn(words, seen)
+
+    def test_a_server_stops_where_the_log_is_broken(self):
+        server = self.serve()
+        self.assertEqual(self.ask(server, "/status", None, None)[0], 200)
+        SqliteLog(self.log).append([(0, b"no record")])
+        self.assertEqual(self.process.wait(timeout=30), 4)
 
     def test_without_a_token_nothing_changes(self):
         server = self.serve()
