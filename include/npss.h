@@ -1,7 +1,8 @@
 /* Keys and normal forms of Unicode text, from C: the proved library of this project.
  *
  * A key is a stabilized string (UAX #15, section 12): the normal form of a text, all of whose code points
- * the version of the Unicode Character Database at hand assigns. It stays the same under each later version.
+ * the version of the Unicode Character Database at hand assigns. It stays the same under each later version
+ * that extends this one.
  *
  *     npss_handle handle = {0};
  *     npss_answer a = npss_open(&handle, data, data_length, exclusions, exclusions_length);

@@ -1,8 +1,8 @@
 //! Unicode text under the tables of a version that you choose: keys, normal forms, equivalence.
 //!
 //! A key is a stabilized string (UAX #15, section 12): the normal form of a text, all of whose code points the
-//! version assigns. It stays the same under each later version. The work is done by a proved library behind its C
-//! calls; this crate, which hands the texts over, is tested.
+//! version assigns. It stays the same under each later version that extends this one. The work is done by a proved
+//! library behind its C calls; this crate, which hands the texts over, is tested.
 //!
 //! ```
 //! use npss::{Form, KeyError, Tables};

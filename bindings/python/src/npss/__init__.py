@@ -6,8 +6,8 @@
     'J\\xf6rg'
 
 A key is a stabilized string (UAX #15, section 12): the normal form of a text, all of whose code points
-the version assigns. It stays the same under each later version. The work is done by a proved library;
-this module, which hands the texts over, is tested.
+the version assigns. It stays the same under each later version that extends this one. The work is done by a
+proved library; this module, which hands the texts over, is tested.
 
 A Node keeps strings beside their keys, tells them to other nodes by messages, and survives upgrades and restarts.
 
