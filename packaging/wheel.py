@@ -25,7 +25,7 @@ class NotPortable(Exception):
 def stable_names():
     """The names that Python's headers declare of the stable interface of that Python."""
     limited = f"0x{PYTHON[0]:02X}{PYTHON[1]:02X}0000"
-    words = [os.environ.get("CC", "cc"), "-E", "-P", f"-DPy_LIMITED_API={limited}", "-I", sysconfig.get_path("include"), "-x", "c", "-"]
+    words = [os.environ.get("CC", "cc"), "-E", "-P", f"-DPy_LIMITED_API={limited}", "-DPY_SSIZE_T_CLEAN", "-I", sysconfig.get_path("include"), "-x", "c", "-"]
     headers = subprocess.run(words, input="#include <Python.h>\n", stdout=subprocess.PIPE, text=True, check=True).stdout
     return set(re.findall(r"\b(_?Py\w+)\b", headers))
 
@@ -50,7 +50,7 @@ def look_at(module):
 
 def built(prefix, folder):
     """The module's package in a folder, without what a linker leaves for debuggers."""
-    flags = f"{os.environ.get('CFLAGS', '')} -ffile-prefix-map={ROOT}=."
+    flags = f"-ffile-prefix-map={ROOT}=. -fstack-protector-strong -Wl,-z,relro,-z,now"
     subprocess.run([sys.executable, ROOT / "bindings" / "python" / "build.py", "--prefix", prefix, folder], check=True,
                    stdout=subprocess.DEVNULL, env={**os.environ, "CFLAGS": flags})
     module = folder / "npss" / "_npss.abi3.so"
