@@ -50,7 +50,7 @@ def look_at(module):
 
 def built(prefix, folder):
     """The module's package in a folder, without what a linker leaves for debuggers."""
-    flags = f"-ffile-prefix-map={ROOT}=. -fstack-protector-strong -Wl,-z,relro,-z,now"
+    flags = "-fstack-protector-strong -Wl,-z,relro,-z,now"
     subprocess.run([sys.executable, ROOT / "bindings" / "python" / "build.py", "--prefix", prefix, folder], check=True,
                    stdout=subprocess.DEVNULL, env={**os.environ, "CFLAGS": flags})
     module = folder / "npss" / "_npss.abi3.so"

@@ -1,0 +1,319 @@
+#!/usr/bin/env python3
+"""tests/packages.py [PREFIX|--after-gate]: makes the packages by ./package, and installs them where no toolchain is.
+
+PREFIX is where ./build-c installed programs and library; without it ./build-c is called first, with the flag where that is
+given. In turn: places that tell the version; the packages twice, in two folders, the same bytes; what they have, by lintian
+and by their sums; the tarball where it was unpacked; then, in a root that mmdebstrap makes without toolchain and compiler, each
+package installed, first keys by program, C, Python, PostgreSQL, SQLite and the registry, and all of it removed again with
+nothing left, also over what ./build-c /usr/local installs. What can't run here is skipped, with the reason. Run as root it
+installs Debian's packages that this wants, and says so first, unless NO_APT=1 is set. Ends in a line 'N passed, M failed'.
+"""
+
+import hashlib
+import os
+import re
+import shutil
+import subprocess
+import sys
+import tempfile
+import time
+import zipfile
+from pathlib import Path
+
+sys.dont_write_bytecode = True
+
+import roots
+from harness import ROOT, Tally
+
+sys.path.insert(0, str(ROOT / "packaging"))
+import release as releases
+
+WANTED = ("lintian", "mmdebstrap", "pkg-config")
+# In the order of what depends on what.
+DEBIAN = ("npss", "libnpss0", "libnpss-dev", "python3-npss", "postgresql-15-npss", "sqlite3-npss", "npss-registry")
+PROGRAMS = ("npss", "npss_lines")
+# A text, and its keys under NFC and NFKC.
+TEXT, KEY, COMPATIBLE = "a\u0302\u0323\ufb01", "\u1ead\ufb01", "\u1eadfi"
+UNICODE = "/usr/share/unicode"
+FILES = (f"{UNICODE}/UnicodeData.txt", f"{UNICODE}/CompositionExclusions.txt")
+KEY_BY_PYTHON = f"""
+import npss
+tables = npss.Tables.open({FILES[0]!r}, {FILES[1]!r})
+print(npss.__version__, ascii(tables.key({TEXT!r})))
+"""
+KEY_BY_SQL = ".load {extension}\nSELECT npss_raise('{folder}');\nSELECT hex(npss_nfkc('{text}'));\n"
+# A PostgreSQL without a server: one process reads its statements.
+SINGLE = "/usr/lib/postgresql/15/bin/postgres"
+VERSIONS = "/tmp/versions"
+
+
+def told(tally, name, words, **options):
+    """What a command writes, which has to end with status 0."""
+    done = subprocess.run(list(map(str, words)), stdin=subprocess.DEVNULL, stdout=subprocess.PIPE, stderr=subprocess.STDOUT, text=True,
+                          check=False, **options)
+    return done.stdout if tally.check(name, done.returncode == 0, f"status {done.returncode}: {done.stdout[-3000:]}") else ""
+
+
+def install_tools():
+    """Asks Debian for what is missing, where that may be."""
+    missing = [name for name in WANTED if not shutil.which(name)]
+    if not missing or os.environ.get("NO_APT") or os.geteuid() or not shutil.which("apt-get"):
+        return
+    print(f"installing {' '.join(missing)} by apt-get", flush=True)
+    for words in (["update", "-q"], ["install", "-q", "-y", "--no-install-recommends", *missing]):
+        subprocess.run(["apt-get", *words], env={**os.environ, "DEBIAN_FRONTEND": "noninteractive"}, stdin=subprocess.DEVNULL,
+                       stdout=subprocess.DEVNULL, stderr=subprocess.DEVNULL, check=False)
+
+
+def sums(folder):
+    return {path.name: hashlib.sha256(path.read_bytes()).hexdigest() for path in sorted(folder.iterdir())}
+
+
+def copied_tree(to):
+    """A copy of this tree with what git knows of it, or nothing where there is no git here."""
+    listed = releases.git("ls-files", "-z")
+    if not listed or releases.git("rev-parse", "--show-prefix"):
+        return None
+    subprocess.run(["git", "clone", "-q", "--no-checkout", "--shared", str(ROOT), str(to)], check=True)
+    subprocess.run(["git", "-C", str(to), "reset", "-q"], check=True)
+    for name in filter(None, listed.split("\0")):
+        if (ROOT / name).is_file():
+            (to / name).parent.mkdir(parents=True, exist_ok=True)
+            shutil.copy(ROOT / name, to / name)
+    return to
+
+
+def check_made(tally, prefix, room):
+    """The packages, made twice; the folder that has them, or nothing."""
+    made, again = room / "packages", room / "again"
+    words = ["--built", prefix, "--to"]
+    if not told(tally, "the packages are made", [ROOT / "package", *words, made]):
+        return None
+    other = copied_tree(room / "another folder")
+    if other is None:
+        print("skipped: the packages twice: there is no git, or no repository of this tree")
+    else:
+        # Nothing of who makes them gets into the packages.
+        environment = {**os.environ, "CFLAGS": "-O1", "TZ": "Asia/Tokyo", "LANG": "de_DE.UTF-8", "HOME": "/nonexistent"}
+        told(tally, "the packages are made once more", [other / "package", *words, again], env=environment, umask=0o077)
+        tally.same("the same bytes in two folders", sums(again) if again.exists() else None, sums(made))
+    return made
+
+
+def check_contents(tally, prefix, made, version, room):
+    """The names, the sums, and that what was proved stands in the packages as it was built."""
+    machine = os.uname().machine
+    debian = {path.name.partition("_")[0]: path for path in made.glob("*.deb")}
+    if shutil.which("dpkg-deb"):
+        tally.same("packages for Debian", sorted(debian), sorted(DEBIAN))
+        (room / "unpacked").mkdir()
+        for name, path in debian.items():
+            tally.same(f"{name}: its version", told(tally, f"{name}: dpkg-deb", ["dpkg-deb", "-f", path, "Version"]).strip(), version)
+            told(tally, f"{name} is unpacked", ["dpkg-deb", "-x", path, room / "unpacked" / name])
+    others = [path.name for path in made.iterdir() if path.suffix != ".deb"]
+    tally.same("the other files", sorted(others), sorted(["SHA256SUMS", f"npss-{version}-cp310-abi3-manylinux_2_17_{machine}.whl",
+                                                          f"npss-{version}-linux-{machine}.tar.gz"]))
+    told(tally, "the sums are right", ["sha256sum", "--strict", "-c", "SHA256SUMS"], cwd=made)
+    told(tally, "the tarball is unpacked", ["tar", "-xf", made / f"npss-{version}-linux-{machine}.tar.gz", "-C", room])
+    tarball = room / f"npss-{version}"
+    proved = (tarball / "PROVED").read_text(encoding="utf-8")
+    for name in debian:
+        tally.same(f"{name}: PROVED", (room / "unpacked" / name / "usr/share/doc" / name / "PROVED").read_text(encoding="utf-8"), proved)
+    for word in ("commit", "toolchain", "logic", "packed from commit"):
+        tally.check(f"PROVED tells {word}", re.search(rf"^{word} \S+", proved, re.MULTILINE), proved)
+    for name in PROGRAMS:
+        gate = ROOT / "crates" / name / "out" / name
+        places = [tarball / "bin" / name, *([room / "unpacked/npss/usr/bin" / name] if debian else []), *([gate] if gate.exists() else [])]
+        for place in places:
+            tally.same(f"{place.relative_to(place.parents[2])} is what was built", place.read_bytes(), (prefix / "bin" / name).read_bytes())
+    with zipfile.ZipFile(next(made.glob("*.whl"))) as wheel:
+        names = set(wheel.namelist())
+        tally.same("PROVED of the wheel", wheel.read(f"npss-{version}.dist-info/PROVED").decode(), proved)
+        tally.check("the wheel has its types", {"npss/py.typed", "npss/__init__.pyi", "npss/_npss.pyi"} <= names, names)
+    return tarball
+
+
+def check_lintian(tally, made):
+    """Lintian finds nothing that has no reason beside it."""
+    if not shutil.which("lintian"):
+        print("skipped: lintian not found")
+        return
+    words = ["lintian", "--display-info", "--pedantic", "--fail-on", "error,warning,info", "--allow-root", *sorted(made.glob("*.deb"))]
+    tally.same("lintian", told(tally, "lintian ends well", words, env={**os.environ, "LC_ALL": "C.UTF-8"}), "")
+    for path in (ROOT / "packaging" / "debian").glob("*.lintian-overrides"):
+        lines = path.read_text(encoding="utf-8").splitlines()
+        tally.check(f"{path.name}: each override has its reason", lines[0].startswith("# "), lines[0])
+
+
+def program_of_page():
+    """The program for C of docs/DOORS.md."""
+    return re.search(r"```c\n(.*?)```", (ROOT / "docs" / "DOORS.md").read_text(encoding="utf-8"), re.DOTALL)[1]
+
+
+def compiled(tally, name, flags, to, **environment):
+    """The program for C, built by what pkg-config tells."""
+    source = to.with_suffix(".c")
+    source.write_text(program_of_page(), encoding="utf-8")
+    told_flags = told(tally, f"{name}: pkg-config", ["pkg-config", *flags, "--cflags", "--libs", "npss"], env={**os.environ, **environment})
+    return told(tally, f"{name}: cc", ["cc", source, "-o", to, *told_flags.split()]) == "" and to.exists()
+
+
+def check_tarball(tally, tarball, room):
+    """The programs and the library run where the tarball was unpacked, which is no place that it knows."""
+    files = [path for path in FILES if Path(path).exists()] or [ROOT / "fixtures/v1" / Path(path).name for path in FILES]
+    done = subprocess.run([tarball / "bin/npss", "key", "--form", "nfkc", *files], input="\ufb01".encode(), stdout=subprocess.PIPE, check=False)
+    tally.same("the tarball's program", done.stdout, b"fi")
+    if shutil.which("cc") and shutil.which("pkg-config") and compiled(tally, "the tarball", [], room / "of-tarball",
+                                                                    PKG_CONFIG_PATH=str(tarball / "lib/pkgconfig")):
+        written = told(tally, "the tarball's library", [room / "of-tarball", *files], env={"LD_LIBRARY_PATH": str(tarball / "lib")})
+        tally.same("a key by the tarball's library", written, "\u1ead\n")
+
+
+def check_install(tally, root, made, names):
+    """Each package is installed by itself, over what it depends on."""
+    for name in names:
+        status, written = root.run("dpkg", "-i", f"/packages/{next(made.glob(name + '_*.deb')).name}")
+        tally.check(f"{name} is installed", status == 0, written)
+
+
+def check_removal(tally, root, names, before):
+    """All is removed, and nothing is left behind."""
+    status, written = root.run("dpkg", "--purge", *reversed(names))
+    tally.check("all is removed", status == 0, written)
+    tally.same("nothing is left behind", roots.differences(before, root.listed()), [])
+
+
+def check_programs(tally, root, program):
+    status, written = root.run(program, "key", "--form", "nfc", *FILES, given=TEXT)
+    tally.same(f"first key by {program}", (status, written), (0, KEY))
+    status, written = root.run(f"{program}_lines", "--form", "nfkc", *FILES, given=f"{TEXT}\n")
+    tally.same(f"first key by {program}_lines", (status, written), (0, f"={COMPATIBLE}\n"))
+
+
+def check_c(tally, root, room):
+    """A program that is compiled outside of the root, by what the root's pkg-config file tells, runs in it."""
+    if not (shutil.which("cc") and shutil.which("pkg-config")):
+        print("skipped: a first key by C: cc or pkg-config not found")
+        return
+    library = next(root.folder.glob("usr/lib/*/pkgconfig/npss.pc")).parent
+    where = {"PKG_CONFIG_LIBDIR": str(library), "PKG_CONFIG_SYSROOT_DIR": str(root.folder)}
+    # What the compiler has on its own paths pkg-config leaves out, but here they are those of the root.
+    system = {"PKG_CONFIG_ALLOW_SYSTEM_CFLAGS": "1", "PKG_CONFIG_ALLOW_SYSTEM_LIBS": "1"}
+    if compiled(tally, "C", [], room / "first", **where, **system):
+        root.put(room / "first", "tmp", "first")
+        tally.same("first key by C", root.run("/tmp/first", *FILES), (0, "\u1ead\n"))
+        wants = told(tally, "readelf", ["readelf", "-d", room / "first"])
+        tally.check("it wants the shared library", "libnpss.so.0" in wants, wants)
+
+
+def check_python(tally, root, wheel, version):
+    """The package for Debian's Python, and the wheel in an environment of its own, without a compiler."""
+    wanted = (0, f"{version} {ascii(KEY)}\n")
+    tally.same("first key by Python", root.run("python3", "-c", KEY_BY_PYTHON), wanted)
+    tally.check("there is no compiler", root.run("sh", "-c", "command -v cc gcc tcc rt")[0] != 0)
+    status, written = root.run("python3", "-m", "venv", "/tmp/venv")
+    if tally.check("an environment", status == 0, written):
+        status, written = root.run("/tmp/venv/bin/pip", "install", "--no-index", "--disable-pip-version-check", f"/packages/{wheel.name}")
+        tally.check("pip installs the wheel", status == 0, written)
+        script = f"{KEY_BY_PYTHON}\nassert npss.__file__.startswith('/tmp/venv/'), npss.__file__"
+        tally.same("first key by the wheel", root.run("/tmp/venv/bin/python", "-c", script), wanted)
+
+
+def check_registry(tally, root):
+    """A registry over the package for Python, with the program as its judge."""
+    for words, wanted in ((["init", "/tmp/store", *FILES, "--form", "nfkc"], "form nfkc, room 65536, shards 1, equivalents refused\n"),
+                          (["claim", "/tmp/store", TEXT, "--owner", "17"], None), (["find", "/tmp/store", COMPATIBLE], None),
+                          (["check", "/tmp/store"], None)):
+        status, written = root.run("npss-registry", *words)
+        tally.check(f"npss-registry {words[0]}", status == 0 and (wanted is None or written == wanted), f"status {status}: {written}")
+
+
+def check_databases(tally, root):
+    """The extensions are loaded, and make keys."""
+    wanted = COMPATIBLE.encode().hex()
+    script = KEY_BY_SQL.format(extension="/usr/lib/sqlite3/npss", folder=UNICODE, text=TEXT)
+    status, written = root.run("sqlite3", ":memory:", given=script)
+    tally.check("first key by SQLite", status == 0 and wanted in written.lower(), f"status {status}: {written}")
+    for path in FILES:
+        root.put(root.folder / path[1:], VERSIONS[1:], "15.0", Path(path).name)
+    status, written = root.run("/usr/lib/postgresql/15/bin/initdb", "-D", "/tmp/cluster", "--no-sync", "-E", "UTF8", "--locale=C.UTF-8",
+                               user="postgres")
+    if tally.check("a cluster of PostgreSQL", status == 0, written):
+        statements = f"CREATE EXTENSION npss\nSELECT encode(convert_to(npss_nfkc('{TEXT}'), 'UTF8'), 'hex') AS made\n"
+        status, written = root.run(SINGLE, "--single", "-D", "/tmp/cluster", "-c", f"npss.folder={VERSIONS}", "postgres", given=statements,
+                                   user="postgres")
+        tally.check("first key by PostgreSQL", status == 0 and f'made = "{wanted}"' in written, f"status {status}: {written}")
+
+
+def check_completion(tally, root):
+    """What bash completes."""
+    for name, typed, wanted in (("npss", "npss k", "key"), ("npss", "npss key --form nfkc --c", "--check-under"),
+                                ("npss_lines", "npss_lines --form nfk", "nfkc nfkd"), ("npss-registry", "npss-registry cl", "claim")):
+        words = " ".join(f"'{word}'" for word in typed.split())
+        script = (f"source /usr/share/bash-completion/completions/{name}; COMP_WORDS=({words}); COMP_CWORD=$((${{#COMP_WORDS[@]}} - 1)); "
+                  f'"_${{0//-/_}}"; echo "${{COMPREPLY[@]}}"')
+        status, written = root.run("bash", "-c", script, name)
+        tally.same(f"completion of {typed!r}", (status, sorted(written.split())), (0, sorted(wanted.split())))
+
+
+def check_root(tally, root, made, prefix, version, room):
+    """Installed where no toolchain is, used, and removed; then once more over what ./build-c /usr/local installs."""
+    (root.folder / "packages").mkdir()
+    for path in made.iterdir():
+        root.put(path, "packages", path.name)
+    before = root.listed()
+    check_install(tally, root, made, DEBIAN)
+    check_programs(tally, root, "/usr/bin/npss")
+    check_c(tally, root, room)
+    check_python(tally, root, next(made.glob("*.whl")), version)
+    check_registry(tally, root)
+    check_databases(tally, root)
+    check_completion(tally, root)
+    check_removal(tally, root, DEBIAN, before)
+    root.put(prefix, "usr", "local")
+    root.run("ldconfig")
+    before = root.listed()
+    some = DEBIAN[:4]
+    check_install(tally, root, made, some)
+    for program in ("/usr/bin/npss", "/usr/local/bin/npss", "npss"):
+        check_programs(tally, root, program)
+    check_removal(tally, root, some, before)
+    check_programs(tally, root, "npss")
+
+
+def main():
+    tally = Tally()
+    version, _ = releases.newest()
+    tally.same("places that tell another version than CHANGELOG.md", releases.differing(version), [])
+    install_tools()
+    began = time.monotonic()
+    with tempfile.TemporaryDirectory() as name:
+        room = Path(name)
+        room.chmod(0o755)
+        flags = [word for word in sys.argv[1:] if word.startswith("--")]
+        prefix = Path(next((word for word in sys.argv[1:] if not word.startswith("--")), room / "built")).resolve()
+        if prefix == room / "built" and not told(tally, "./build-c", [ROOT / "build-c", *flags, prefix]):
+            tally.finish()
+        made = check_made(tally, prefix, room)
+        if made is None:
+            tally.finish()
+        tarball = check_contents(tally, prefix, made, version, room)
+        check_tarball(tally, tarball, room)
+        why = roots.why_not() or ("" if any(made.glob("*.deb")) else "there are no packages for Debian")
+        if any(made.glob("*.deb")):
+            check_lintian(tally, made)
+        print(f"packages made and looked at: {time.monotonic() - began:.0f} seconds")
+        began = time.monotonic()
+        why = why or roots.make(room / "root")
+        if why:
+            print(f"skipped: packages installed where no toolchain is: {why}")
+            tally.finish()
+        print(f"a root made: {time.monotonic() - began:.0f} seconds")
+        began = time.monotonic()
+        check_root(tally, roots.Root(room / "root"), made, prefix, version, room)
+        print(f"packages installed, used and removed: {time.monotonic() - began:.0f} seconds")
+    tally.finish()
+
+
+if __name__ == "__main__":
+    main()
