@@ -9,6 +9,7 @@ nothing left, also over what ./build-c /usr/local installs. What can't run here 
 installs Debian's packages that this wants, and says so first, unless NO_APT=1 is set. Ends in a line 'N passed, M failed'.
 """
 
+import concurrent.futures
 import hashlib
 import os
 import re
@@ -93,9 +94,15 @@ def check_made(tally, prefix, room):
     if other is None:
         print("skipped: the packages twice: there is no git, or no repository of this tree")
     else:
-        # Nothing of who makes them gets into the packages.
-        environment = {**os.environ, "CFLAGS": "-O1", "TZ": "Asia/Tokyo", "LANG": "de_DE.UTF-8", "HOME": "/nonexistent"}
+        # Nothing of who makes them gets into the packages, and nobody asks for the toolchain.
+        (room / "bin").mkdir()
+        asked = room / "rt was asked"
+        (room / "bin" / "rt").write_text(f"#!/bin/sh\n: >'{asked}'\nexit 1\n", encoding="utf-8")
+        (room / "bin" / "rt").chmod(0o755)
+        environment = {**os.environ, "CFLAGS": "-O1", "TZ": "Asia/Tokyo", "LANG": "de_DE.UTF-8", "HOME": "/nonexistent",
+                       "PATH": f"{room}/bin:{os.environ['PATH']}"}
         told(tally, "the packages are made once more", [other / "package", *words, again], env=environment, umask=0o077)
+        tally.check("the toolchain isn't asked for", not asked.exists())
         tally.same("the same bytes in two folders", sums(again) if again.exists() else None, sums(made))
     return made
 
@@ -246,14 +253,14 @@ def check_databases(tally, root):
 
 
 def check_completion(tally, root):
-    """What bash completes."""
+    """What bash completes by what is installed."""
     for name, typed, wanted in (("npss", "npss k", "key"), ("npss", "npss key --form nfkc --c", "--check-under"),
                                 ("npss_lines", "npss_lines --form nfk", "nfkc nfkd"), ("npss-registry", "npss-registry cl", "claim")):
         words = " ".join(f"'{word}'" for word in typed.split())
-        script = (f"source /usr/share/bash-completion/completions/{name}; COMP_WORDS=({words}); COMP_CWORD=$((${{#COMP_WORDS[@]}} - 1)); "
-                  f'"_${{0//-/_}}"; echo "${{COMPREPLY[@]}}"')
-        status, written = root.run("bash", "-c", script, name)
-        tally.same(f"completion of {typed!r}", (status, sorted(written.split())), (0, sorted(wanted.split())))
+        script = (f'source "$0"; COMP_WORDS=({words}); COMP_CWORD=$((${{#COMP_WORDS[@]}} - 1)); _{name.replace("-", "_")}; '
+                  'echo "${COMPREPLY[@]}"')
+        written = told(tally, f"completion of {typed!r}", ["bash", "-c", script, root.folder / "usr/share/bash-completion/completions" / name])
+        tally.same(f"what completes {typed!r}", sorted(written.split()), sorted(wanted.split()))
 
 
 def check_root(tally, root, made, prefix, version, room):
@@ -281,37 +288,42 @@ def check_root(tally, root, made, prefix, version, room):
     check_programs(tally, root, "npss")
 
 
+def check_all(tally, prefix, version, room, making):
+    """The packages of what is built in a prefix. `making` tells why there is no root, or nothing, when it is there."""
+    began = time.monotonic()
+    made = check_made(tally, prefix, room)
+    if made is None:
+        return
+    check_tarball(tally, check_contents(tally, prefix, made, version, room), room)
+    has_debian = any(made.glob("*.deb"))
+    if has_debian:
+        check_lintian(tally, made)
+    print(f"packages made twice and looked at: {time.monotonic() - began:.0f} seconds", flush=True)
+    why = making.result() if has_debian else "there are no packages for Debian"
+    if why:
+        print(f"skipped: packages installed where no toolchain is: {why}")
+        return
+    print(f"a root made meanwhile: {time.monotonic() - began:.0f} seconds", flush=True)
+    began = time.monotonic()
+    check_root(tally, roots.Root(room / "root"), made, prefix, version, room)
+    print(f"packages installed, used and removed: {time.monotonic() - began:.0f} seconds")
+
+
 def main():
     tally = Tally()
     version, _ = releases.newest()
     tally.same("places that tell another version than CHANGELOG.md", releases.differing(version), [])
+    flags = [word for word in sys.argv[1:] if word.startswith("--")]
+    named = [Path(word).resolve() for word in sys.argv[1:] if not word.startswith("--")]
     install_tools()
-    began = time.monotonic()
-    with tempfile.TemporaryDirectory() as name:
+    # The folder goes when the root is no longer being made.
+    with tempfile.TemporaryDirectory(dir=roots.place()) as name, concurrent.futures.ThreadPoolExecutor() as pool:
         room = Path(name)
         room.chmod(0o755)
-        flags = [word for word in sys.argv[1:] if word.startswith("--")]
-        prefix = Path(next((word for word in sys.argv[1:] if not word.startswith("--")), room / "built")).resolve()
-        if prefix == room / "built" and not told(tally, "./build-c", [ROOT / "build-c", *flags, prefix]):
-            tally.finish()
-        made = check_made(tally, prefix, room)
-        if made is None:
-            tally.finish()
-        tarball = check_contents(tally, prefix, made, version, room)
-        check_tarball(tally, tarball, room)
-        why = roots.why_not() or ("" if any(made.glob("*.deb")) else "there are no packages for Debian")
-        if any(made.glob("*.deb")):
-            check_lintian(tally, made)
-        print(f"packages made and looked at: {time.monotonic() - began:.0f} seconds")
-        began = time.monotonic()
-        why = why or roots.make(room / "root")
-        if why:
-            print(f"skipped: packages installed where no toolchain is: {why}")
-            tally.finish()
-        print(f"a root made: {time.monotonic() - began:.0f} seconds")
-        began = time.monotonic()
-        check_root(tally, roots.Root(room / "root"), made, prefix, version, room)
-        print(f"packages installed, used and removed: {time.monotonic() - began:.0f} seconds")
+        making = pool.submit(roots.make, room / "root")
+        prefix = named[0] if named else room / "built"
+        if named or told(tally, "./build-c", [ROOT / "build-c", *flags, prefix]):
+            check_all(tally, prefix, version, room, making)
     tally.finish()
 
 

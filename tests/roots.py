@@ -1,6 +1,7 @@
 """A root of Debian without the toolchain, in which packages are installed and removed."""
 
 import os
+import re
 import shutil
 import stat
 import subprocess
@@ -14,36 +15,74 @@ PLAIN_SOURCES = Path("/etc/apt/sources.list")
 OPTIONS = ("--dpkgopt=force-unsafe-io", "--dpkgopt=path-exclude=/usr/share/locale/*", '--aptopt=Acquire::Languages "none"',
            '--aptopt=Acquire::Retries "2"')
 # What dpkg, apt and the loader write for themselves, and what is nobody's.
-OWN = ("dev", "proc", "run", "sys", "tmp", "packages", "var/cache", "var/log", "var/lib/dpkg/lock", "var/lib/dpkg/triggers")
+OWN = ("dev", "proc", "run", "sys", "tmp", "packages", "var/cache", "var/log", "var/lib/dpkg/lock", "var/lib/dpkg/lock-frontend",
+       "var/lib/dpkg/triggers")
 REWRITTEN = ("etc/ld.so.cache", "var/lib/dpkg/available", "var/lib/dpkg/status", "var/lib/dpkg/status-old", "var/lib/dpkg/diversions",
              "var/lib/dpkg/statoverride", "var/lib/dpkg/diversions-old", "var/lib/dpkg/statoverride-old")
 ENVIRONMENT = {"PATH": "/usr/local/sbin:/usr/local/bin:/usr/sbin:/usr/bin:/sbin:/bin", "LC_ALL": "C.UTF-8", "HOME": "/root",
                "DEBIAN_FRONTEND": "noninteractive"}
+# Memory as a folder, and how many bytes of it a root may take.
+SHARED, ROOM = Path("/dev/shm"), 1_500_000_000
 # Seconds for the root, and for a command in it.
 MAKING, PATIENCE = 600, 120
 
 
+def suite():
+    """The name of this machine's release of Debian, or nothing."""
+    try:
+        told = Path("/etc/os-release").read_text(encoding="utf-8")
+    except OSError:
+        return ""
+    found = re.search(r"^VERSION_CODENAME=(\w+)$", told, re.MULTILINE)
+    return found[1] if found and re.search(r"^ID=debian$", told, re.MULTILINE) else ""
+
+
 def why_not():
     """Why no root can be made here, or nothing."""
+    if os.environ.get("NO_APT"):
+        return "NO_APT is set"
     if os.geteuid():
         return "only root may make one"
     if not shutil.which("mmdebstrap"):
         return "mmdebstrap not found"
-    if not (SOURCES.exists() or PLAIN_SOURCES.exists()):
-        return "apt has no sources"
+    if not suite() or not (SOURCES.exists() or PLAIN_SOURCES.exists()):
+        return "this is no Debian, or apt has no sources"
     return ""
 
 
-def make(folder):
-    """Makes the root in a folder; why that failed, or nothing. Its packages come from where apt's own come."""
-    sources = SOURCES if SOURCES.exists() else PLAIN_SOURCES
-    words = ["mmdebstrap", "--mode=root", "--variant=minbase", f"--include={','.join(PACKAGES)}", *OPTIONS, "bookworm", folder, sources]
+def mounts_apart():
+    """What gives a command mounts of its own, which end with it, where that may be."""
+    words = ["unshare", "--mount"]
     try:
-        done = subprocess.run(list(map(str, words)), stdin=subprocess.DEVNULL, stdout=subprocess.PIPE, stderr=subprocess.STDOUT,
+        return words if subprocess.run([*words, "true"], stderr=subprocess.DEVNULL, check=False).returncode == 0 else []
+    except FileNotFoundError:
+        return []
+
+
+def place():
+    """Where the root is best made: in memory where there is much of it, since dpkg waits for each file on a disk; else nothing."""
+    try:
+        state, told = os.statvfs(SHARED), Path("/proc/meminfo").read_text(encoding="utf-8")
+    except OSError:
+        return None
+    free = int(re.search(r"^MemAvailable: *(\d+) kB$", told, re.MULTILINE)[1]) * 1024
+    fits = state.f_bavail * state.f_frsize >= ROOM and free >= 4 * ROOM and not state.f_flag & (os.ST_NOEXEC | os.ST_NODEV)
+    return str(SHARED) if fits and os.geteuid() == 0 else None
+
+
+def make(folder):
+    """Makes the root in a folder; why that can't be, or nothing. Its packages come from where apt's own come."""
+    why = why_not()
+    if why:
+        return why
+    sources = SOURCES if SOURCES.exists() else PLAIN_SOURCES
+    words = ["mmdebstrap", "--mode=root", "--variant=minbase", f"--include={','.join(PACKAGES)}", *OPTIONS, suite(), folder, sources]
+    try:
+        done = subprocess.run([*mounts_apart(), *map(str, words)], stdin=subprocess.DEVNULL, stdout=subprocess.PIPE, stderr=subprocess.STDOUT,
                               text=True, timeout=MAKING, check=False)
     except subprocess.TimeoutExpired:
         return f"no root within {MAKING} seconds"
-    return "" if done.returncode == 0 else f"mmdebstrap ended with status {done.returncode}: {done.stdout[-1500:]}"
+    return "" if done.returncode == 0 else f"mmdebstrap ended with status {done.returncode}: {' '.join(done.stdout.split())[-400:]}"
 
 
 class Root:
