@@ -135,9 +135,9 @@ typedef struct npss_answer {
     uint32_t fault;  /* the number of a fault, a break or a kind of mapping, which of two files or texts is meant, from 1, 1
                       * where a line was refused, or the status of an entry's refusal */
     uint32_t code;   /* a code point, or a combining class */
-    uint64_t place;  /* a byte place from 0, a line from 1, or as the calls of nodes, streams and code points tell */
-    uint64_t length; /* bytes that were written, have no room or are ready, code points that are assigned, strings that
-                      * are kept, or an entry's number */
+    uint64_t place;  /* a byte place from 0, a line from 1, or as NPSS_OLDER_TABLES and npss_node_entry tell */
+    uint64_t length; /* bytes that were written, have no room or are ready, code points that are assigned, strings that are
+                      * kept, or an entry's number */
 } npss_answer;
 
 /* A handle on the table of a version, in the caller's memory: two words. Zeros are a closed handle. */

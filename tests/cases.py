@@ -224,13 +224,13 @@ def word_cases():
 
 
 def name_cases():
-    """A file is opened by its name as it stands in the words, with blanks and line ends at its ends."""
+    """A file is opened by its name as it stands in the words, with blanks, line ends and slashes at its ends."""
     given, wanted = text("0061 0302 0323"), text("1EAD")
     for data, exclusions in ODD_NAMES:
         yield Case(["key", "--form", "nfc", "--", data, exclusions], given, wanted)
         yield Case(["audit", "--", data, exclusions, *V2], out=b"extends\n")
         yield Case(["audit", "--", *V2, data, exclusions], out=LOST.encode(), status=DIFFERENT)
-    for name in (" v1/UnicodeData.txt", "v1/UnicodeData.txt ", "v1/UnicodeData.txt\n"):
+    for name in (" v1/UnicodeData.txt", "v1/UnicodeData.txt ", "v1/UnicodeData.txt\n", "v1/UnicodeData.txt/"):
         yield refused(["key", "--form", "nfc", name, V1[1]], f"cannot open {name}", DEVICE)
         yield refused(["key", "--form", "nfc", V1[0], name], f"cannot open {name}", DEVICE)
     # of two that don't open the first is told

@@ -32,10 +32,8 @@ from harness import ROOT, Tally, run
 
 HERE = ROOT / "tests" / "doors"
 V1, V2 = ([str(ROOT / "fixtures" / name) for name in version] for version in (versions.V1, versions.V2))
-CALLS = ("answers", "close", "composite", "count", "decomposition", "equivalent", "extends", "first_unassigned", "is_form", "key",
-         "node_accept", "node_close", "node_count", "node_entry", "node_forget", "node_image", "node_key", "node_message",
-         "node_new", "node_restore", "node_same", "node_take", "node_upgrade", "node_version", "normalize", "open", "property",
-         "share", "stream_close", "stream_feed", "stream_finish", "stream_new", "stream_take")
+# The calls that the header names, without their prefix.
+CALLS = sorted(re.findall(r"^(?:npss_answer|void) npss_(\w+)\(", (ROOT / "include" / "npss.h").read_text(encoding="utf-8"), re.MULTILINE))
 # The form's letter for C, and its name for the program.
 LETTERS = {"D": "nfd", "C": "nfc", "d": "nfkd", "c": "nfkc"}
 # The keys of the lines of the input, by Python: words are the form and the two files.
@@ -123,21 +121,19 @@ def check_names(tally, prefix):
 
 
 def check_c(tally, prefix, folder):
-    """Each call and each status, from C, and threads."""
-    both = [*V1, *V2]
-    for name, words in (("calls", [*both, LARGE]), ("nodes", [*both, LARGE]), ("codes", V1), ("streams", [*V1, LARGE])):
+    """Each call and each status, from C, and threads. Behind the files stands how large the largest text is."""
+    for name, words, large in (("calls", [*V1, *V2], LARGE), ("nodes", [*V1, *V2], LARGE), ("codes", V1, None), ("streams", V1, LARGE // 2)):
         for shared in (False, True):
             program = compiled(tally, prefix, folder, name, shared)
             if program:
-                counted(tally, program.name, [program, *words])
+                counted(tally, program.name, [program, *words, *([large] if large else [])])
         program = folder / name
         if program.exists() and wanted("valgrind"):
-            fewer = [word // 100 if word == LARGE else word for word in words]
-            counted(tally, f"{name} under valgrind", ["valgrind", "-q", "--error-exitcode=9", "--leak-check=full",
-                                                      "--show-leak-kinds=all", program, *fewer])
+            counted(tally, f"{name} under valgrind", ["valgrind", "-q", "--error-exitcode=9", "--leak-check=full", "--show-leak-kinds=all",
+                                                      program, *words, *([large // 100] if large else [])])
     program = compiled(tally, prefix, folder, "fences")
     if program:
-        counted(tally, "fences", [program, *both])
+        counted(tally, "fences", [program, *V1, *V2])
     program = compiled(tally, prefix, folder, "threads")
     if program:
         counted(tally, "threads", [program, *V1, KEYS])
@@ -243,17 +239,15 @@ def check_rust(tally, prefix, folder):
 
 
 def check_java(tally, prefix, folder):
-    """The page's program for Java's foreign functions, where they are there."""
+    """The page's program by JNA, where that is there."""
     if not wanted("java", "javac"):
         return
-    told = done(tally, "java", ["java", "-version"]) or ""
-    number = re.search(r'version "(\d+)', told)
-    if not number or int(number[1]) < 22:
-        print(f"skipped: Java's foreign functions, which are there from 22 on; here is {number and number[1]}")
+    jar = Path("/usr/share/java/jna.jar")
+    if not jar.exists():
+        print("skipped: Java: JNA is not here (Debian: libjna-java)")
         return
     (folder / "Prog.java").write_text(page_program("docs/DOORS.md", "java"), encoding="utf-8")
-    command = ["java", "--enable-native-access=ALL-UNNAMED", "Prog.java", prefix / "lib" / "libnpss.so", *V1]
-    printed = done(tally, "the page's program in Java", command, cwd=folder)
+    printed = done(tally, "the page's program in Java", ["java", "-cp", jar, "Prog.java", prefix / "lib" / "libnpss.so", *V1], cwd=folder)
     tally.same("its key in Java", printed, "\u1ead\n")
 
 

@@ -24,7 +24,7 @@ from cases import DEVICE, USAGE, WRONG_WORDS, all_cases, text
 from harness import ROOT, Tally, built_program, run, shown
 from large import check_large
 from launching import check_after_gate, check_building, check_order
-from limits import check_memory, check_usage
+from limits import check_longest, check_memory, check_usage
 from replays import replay, replay_cases, schedules
 from streams import check_closed, check_closed_input, check_words
 from vanishing import check_vanishing
@@ -126,6 +126,7 @@ def main():
         check_words(tally, program, folder)
         check_vanishing(tally, program, folder)
         check_memory(tally, program, folder)
+        check_longest(tally, program, folder)
         check_large(tally, program, folder)
         if len(sys.argv) > 2:
             check_launcher(tally, Path(sys.argv[2]).resolve(), folder)

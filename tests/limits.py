@@ -8,7 +8,7 @@ import resource
 
 from cases import DEVICE, text
 from harness import ROOT, run, shown
-from versions import V1, V2
+from versions import LIMIT, V1, V2
 
 MEMORY = 6
 WANT = (MEMORY, b"", b"out of memory\n")
@@ -16,6 +16,9 @@ WANT = (MEMORY, b"", b"out of memory\n")
 # The bounds on the address space, in KiB: the least at which a program that needs the C library alone starts,
 # and the greatest, at which each of these runs has ample memory.
 BOUNDS = range(1536, 16384, 160)
+
+# The address space in which the longest input has its key, in KiB: its text and its key, each in a list that doubled.
+LONGEST = 96 * 1024
 
 # Words of this length are copied by the program before it knows what they ask for.
 LONG = 120_000
@@ -58,6 +61,17 @@ def check_memory(tally, program, folder):
         tally.check(f"{name} under a bound on memory", not wrong, f"got {shown(wrong[:1])}")
         tally.check(f"{name} wants memory", WANT in (got for _, got in ends), "no bound was too small")
         tally.check(f"{name} has memory", ample in (got for _, got in ends), "no bound was large enough")
+
+
+def check_longest(tally, program, folder):
+    """The longest input, one that is its own key and two whose keys are longer and shorter, in memory of a few times its
+    length."""
+    for form, given, wanted in (("nfc", "0061", "0061"), ("nfd", "00E2", "0061 0302"), ("nfc", "0061 0302", "00E2")):
+        given, wanted = text(given), text(wanted)
+        count = LIMIT // len(given)
+        status, out, err = run(program, ["key", "--form", form, *V1], given * count, folder, preexec_fn=under(LONGEST))
+        tally.check(f"the longest input of {shown(given)} under a bound on memory", (status, out == wanted * count, err) == (0, True, b""),
+                    f"{status} {len(out)} {err}")
 
 
 def check_usage(tally, program, folder):

@@ -16,6 +16,7 @@ import subprocess
 import sys
 import tempfile
 import threading
+import time
 from concurrent.futures import ThreadPoolExecutor
 from pathlib import Path
 
@@ -39,18 +40,29 @@ LIMIT = 65_536
 MEMORY = 8
 # A long line, in pieces of 1 MiB.
 LONG = 300
+# So many lines of four bytes that reads of one byte are more than 2 ** 20.
+MANY = 290_000
 # Of so many published strings one is asked for by itself, for each form: each such run reads the published files anew.
 ALONE = 100
 
 # The first version with all of ASCII.
 ASCII = ("ascii.data", V1[1])
 
-# Lines under that version, NFC, and their answers.
+# A line that has a key of its own under each form, in the order of FORMS: NFD, NFC, NFKD, NFKC.
+MADE = {
+    text("0061 0302 0323"): ("0061 0323 0302", "1EAD", "0061 0323 0302", "1EAD"),
+    text("1EAD"): ("0061 0323 0302", "1EAD", "0061 0323 0302", "1EAD"),
+    text("1111 1171 11B6"): ("1111 1171 11B6", "D4DB", "1111 1171 11B6", "D4DB"),
+    text("D4DB"): ("1111 1171 11B6", "D4DB", "1111 1171 11B6", "D4DB"),
+    text("0958"): ("0915 093C",) * 4,
+    text("FB01"): ("FB01", "FB01", "0066 0069", "0066 0069"),
+}
+
+# Lines under that version, and their answers under each form; of those of MADE the answer is told there.
 ROWS = [
     (b"", b"="),
     (b"abc", b"=abc"),
-    (text("0061 0302 0323"), b"=" + text("1EAD")),
-    (text("1111 1171 11B6"), b"=" + text("D4DB")),
+    *((line, None) for line in MADE),
     (b"a\r", b"=a\r"),
     (b"=a", b"==a"),
     (b"!a", b"=!a"),
@@ -64,6 +76,9 @@ ROWS = [
     (b"a" * (LIMIT + 1), b"!too long"),
     (b"\xff" * (LIMIT + 1), b"!too long"),
 ]
+
+# So many of them are short.
+SHORT = len(ROWS) - 4
 
 # Words that ask for nothing that there is.
 WRONG = [
@@ -86,20 +101,32 @@ def asks(*flags, form="nfc", files=ASCII):
     return [*flags, "--form", form, *files]
 
 
+def rows(form="nfc", most=None):
+    """Lines and their answers under a form: so many, where that is told."""
+    at = FORMS.index(form)
+    return [(line, answer or b"=" + text(MADE[line][at])) for line, answer in ROWS[:most]]
+
+
+def joined(lines):
+    """Lines, or answers, each with its end."""
+    return b"".join(line + b"\n" for line in lines)
+
+
 def check_rows(tally, program, folder):
-    """Each row by itself, with and without the byte that ends it, and all of them in one run."""
-    for line, answer in ROWS:
-        for flags, end in (((), b"\n"), (("--null",), b"\0")):
-            if end in line:
-                continue
-            tally.same(f"{shown(line, 40)} {flags}", run(program, asks(*flags), line + end, folder), (0, answer + end, b""))
-            # an empty input has no line
-            got = run(program, asks(*flags), line, folder)
-            tally.same(f"{shown(line, 40)} {flags} unended", got, (0, answer + end if line else b"", b""))
-    given = b"".join(line + b"\n" for line, _ in ROWS)
-    wanted = b"".join(answer + b"\n" for _, answer in ROWS)
-    tally.same("all rows in one run", run(program, asks(), given, folder), (0, wanted, b""))
-    tally.same("all rows, strictly", run(program, asks("--strict"), given, folder), (REFUSED, wanted, b""))
+    """Each row by itself under each form, with and without the byte that ends it, and all of them in one run."""
+    for form in FORMS:
+        for line, answer in rows(form):
+            for flags, end in (((), b"\n"), (("--null",), b"\0")):
+                if end in line:
+                    continue
+                name = f"{shown(line, 40)} {form} {flags}"
+                words = asks(*flags, form=form)
+                tally.same(name, run(program, words, line + end, folder), (0, answer + end, b""))
+                # an empty input has no line
+                tally.same(f"{name} unended", run(program, words, line, folder), (0, answer + end if line else b"", b""))
+        given, wanted = (joined(column) for column in zip(*rows(form)))
+        tally.same(f"all rows in one run, {form}", run(program, asks(form=form), given, folder), (0, wanted, b""))
+        tally.same(f"all rows, {form}, strictly", run(program, asks("--strict", form=form), given, folder), (REFUSED, wanted, b""))
     tally.same("lines that all have keys, strictly", run(program, asks("--strict"), b"a\nb\n", folder), (0, b"=a\n=b\n", b""))
     tally.same("lines end with NUL", run(program, asks("--null"), b"a\nb\0c", folder), (0, b"=a\nb\0=c\0", b""))
     tally.same("a NUL is part of a line", run(program, asks(), b"a\0b\nc", folder), (0, b"=a\0b\n=c\n", b""))
@@ -161,8 +188,7 @@ def fed(program, words, pieces, folder):
 
 def check_long(tally, program, folder):
     """Pieces of one and of seven bytes, a line of 300 MB between two others, and many lines: in constant memory."""
-    given = b"".join(line + b"\n" for line, _ in ROWS[:12])
-    wanted = b"".join(answer + b"\n" for _, answer in ROWS[:12])
+    given, wanted = (joined(column) for column in zip(*rows(most=SHORT)))
     for size in (1, 7):
         pieces = (given[at:at + size] for at in range(0, len(given), size))
         got, _ = fed(program, asks(), pieces, folder)
@@ -229,7 +255,7 @@ def check_refusals(tally, program, folder):
         print("skipped: lines with refused allocations, reads and writes: there is no C compiler")
         return
     refusals = Refusals(shim, folder)
-    given = b"".join(line + b"\n" for line, _ in ROWS)
+    given = joined(line for line, _ in ROWS)
     ample, counts = refusals.counted(program, asks(), given)
     tally.same("calls are counted", ample, run(program, asks(), given, folder))
     for kind, ways in (("memory", ("", "rest")), *WAYS.items()):
@@ -242,27 +268,47 @@ def check_refusals(tally, program, folder):
             tally.check(f"no call behind it, {kind} {way}", not late, shown(late[:1]))
     for kind in WAYS:
         tally.same(f"{kind}s of one byte", refusals.run(program, asks(), given, REFUSE=f"{kind}:0:one"), ample)
+    # no count of reads is too large
+    got = refusals.run(program, asks(), b"abc\n" * MANY, REFUSE="read:0:one")
+    tally.check("more than a million reads", got == (0, b"=abc\n" * MANY, b""), f"{got[0]} {len(got[1])} {got[2]}")
+
+
+def told_on_terminal(program, words, pieces, folder):
+    """The run with standard error on a terminal, over an input that comes in these pieces, a number among them being a pause
+    in seconds: status, output, and what the terminal was told."""
+    master, slave = pty.openpty()
+    with subprocess.Popen([program, *words], cwd=folder, stdin=subprocess.PIPE, stdout=subprocess.PIPE, stderr=slave) as running:
+        os.close(slave)
+        for piece in pieces:
+            if isinstance(piece, bytes):
+                running.stdin.write(piece)
+                running.stdin.flush()
+            else:
+                time.sleep(piece)
+        running.stdin.close()
+        out = running.stdout.read()
+        status = running.wait()
+    told = b""
+    try:
+        while piece := os.read(master, 4096):
+            told += piece
+    except OSError:
+        # nothing more was told before the terminal was closed
+        pass
+    os.close(master)
+    return status, out, told
 
 
 def check_progress(tally, program, folder):
-    """To a terminal the lines and bytes done are told on one line, which ends when the run does."""
-    master, slave = pty.openpty()
-    got = run(program, asks("--progress"), b"a\nb\nc", folder, stderr=slave)
-    os.close(slave)
-    told = os.read(master, 4096)
-    os.close(master)
-    tally.same("answers beside progress", got, (0, b"=a\n=b\n=c\n", b""))
-    tally.check("progress is told", told.endswith(b"3 lines, 5 bytes\r\n"), shown(told))
-    master, slave = pty.openpty()
-    got = run(program, asks(), b"a\n", folder, stderr=slave)
-    os.set_blocking(master, False)
-    try:
-        told = os.read(master, 4096)
-    except BlockingIOError:
-        told = b""
-    os.close(slave)
-    os.close(master)
-    tally.same("nothing is told unasked", (got, told), ((0, b"=a\n", b""), b""))
+    """To a terminal the lines and bytes done are told on one line, once a second, and once more at the end of the input."""
+    for name, words, pieces, out, told in (
+            ("a short input", asks("--progress"), [b"a\nb\nc"], b"=a\n=b\n=c\n", b"3 lines, 5 bytes\r\n"),
+            ("an empty input", asks("--progress"), [], b"", b"0 lines, 0 bytes\r\n"),
+            ("lines that end with NUL", asks("--progress", "--null"), [b"a\nb\0c"], b"=a\nb\0=c\0", b"2 lines, 5 bytes\r\n"),
+            ("a slow input", asks("--progress"), [1.5, b"a\nb", 1.5, b"\nc\n"], b"=a\n=b\n=c\n",
+             b"2 lines, 3 bytes\r3 lines, 6 bytes\r3 lines, 6 bytes\r\n"),
+            ("unasked", asks(), [b"a\n"], b"=a\n", b"")):
+        tally.same(f"progress: {name}", told_on_terminal(program, words, pieces, folder), (0, out, told))
 
 
 def check_published(tally, program, keys, folder):
@@ -297,7 +343,7 @@ def check_parallel(tally, program, folder):
         print("skipped: GNU parallel is not there")
         return
     path = folder.parent / "names"
-    path.write_bytes(b"".join(line + b"\n" for line, _ in ROWS[:12]) * 20_000)
+    path.write_bytes(joined(line for line, _ in ROWS[:SHORT]) * 20_000)
     command = " ".join([str(program), *asks()])
     _, wanted, _ = run(program, asks(), path.read_bytes(), folder)
     for name, words, stdin in (("--pipepart", ["--pipepart", "-k", "-a", str(path), "--block", "300k", command], b""),

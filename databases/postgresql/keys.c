@@ -138,19 +138,13 @@ begin_stream(Version *version, uint8 form, Bytes input)
 static void
 append_ready(npss_stream *stream, uint64 ready, StringInfo made)
 {
-	npss_answer answer;
-
 	if (ready > MaxAllocSize - VARHDRSZ - made->len - 1)
-	{
-		answer.length = ready + made->len;
 		ereport(ERROR,
 				(errcode(ERRCODE_PROGRAM_LIMIT_EXCEEDED),
 				 errmsg("the text is too long"),
-				 errdetail("What is made of it has %llu bytes or more.", (unsigned long long) answer.length)));
-	}
+				 errdetail("What is made of it has %llu bytes or more.", (unsigned long long) (ready + made->len))));
 	enlargeStringInfo(made, (int) ready);
-	answer = npss_stream_take(stream, (uint8 *) made->data + made->len, (size_t) ready);
-	made->len += (int) answer.length;
+	made->len += (int) npss_stream_take(stream, (uint8 *) made->data + made->len, (size_t) ready).length;
 }
 
 /* The normal form of a long text behind a varlena's head, piece by piece; what the stream's end told is the answer. */

@@ -291,8 +291,10 @@ npss_pg_audit(PG_FUNCTION_ARGS)
 {
 	Version    *now = version_in_force(fcinfo),
 			   *then = opened(text_to_cstring(PG_GETARG_TEXT_PP(0)));
-	npss_answer answer = npss_extends(&now->handle, &then->handle);
+	npss_answer answer = {0};
 
+	if (now != NULL)
+		answer = npss_extends(&now->handle, &then->handle);
 	shut_version(then);
 	if (answer.status == NPSS_DONE)
 		PG_RETURN_TEXT_P(cstring_to_text("extends"));

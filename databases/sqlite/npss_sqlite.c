@@ -154,10 +154,16 @@ static int renew(sqlite3_context *call, connection *self) {
 
 /* Sees to it that tables are in use; 0 where an error is set. */
 static int ready(sqlite3_context *call, connection *self) {
+    int found;
     if (self->tables.is_open && self->has_raised && recorded_count(self) == 0) npss_close(&self->tables); /* it was undone */
-    if (self->tables.is_open) return (!self->has_raised && self->is_recorded) || renew(call, self) >= 0;
-    int found = use_record(call, self);
-    if (found >= 0) return found;
+    if (self->tables.is_open) {
+        if (!self->has_raised && self->is_recorded) return 1;
+        found = renew(call, self);
+        /* Outside of a transaction nothing can undo the raise any more. */
+        if (found >= 0 && sqlite3_get_autocommit(self->db)) self->has_raised = 0;
+        return found >= 0;
+    }
+    if ((found = use_record(call, self)) >= 0) return found;
     return fail(call, sqlite3_mprintf("npss: this database records no version of Unicode: SELECT npss_raise(FOLDER) records one; "
                                       "where a dump comes back, SELECT npss_open(FOLDER) first"));
 }

@@ -77,6 +77,12 @@ pub record IsBroken (w : VersionData) (old new : HeldNode) (a : Answer) : Type 0
   pub told : a ≡ told_break first
   pub now : new ≡ old
 
+-- memory ran out, though the version extends that of the node, and nothing changed
+pub record IsUpgradeRefused (w : VersionData) (old new : HeldNode) (a : Answer) : Type 0 where
+  pub told : a ≡ alone 4
+  pub extends : Extends old.table w
+  pub now : new ≡ old
+
 -- `npss_node_upgrade`
 abbrev pub IsUpgradeAnswer : VersionData → HeldNode → HeldNode → Answer → Type 0
-IsUpgradeAnswer w old new a = IsUpgraded w old new a ⊎ (IsBroken w old new a ⊎ ((a ≡ alone 4) × (new ≡ old)))
+IsUpgradeAnswer w old new a = IsUpgraded w old new a ⊎ (IsBroken w old new a ⊎ IsUpgradeRefused w old new a)

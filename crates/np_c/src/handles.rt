@@ -133,8 +133,8 @@ impl Handle {
                 self.put_node(content, kept);
                 None
             }
-            Content::Table(shared) => {
-                self.put_table(content, shared);
+            Content::Table(table) => {
+                self.put_table(content, table);
                 None
             }
             Content::Nothing => {

@@ -1,5 +1,5 @@
 //! Keys and normal forms of bytes, into room that the caller lends.
-ghost use Rattle.std.specs.Prelude.{string_bytes, IfOk, IfErr};
+ghost use Rattle.std.specs.Prelude.{IfOk, IfErr};
 ghost use Rattle.std.specs.Cow.{cow_str_bytes};
 ghost use Rattle.np_c.specs.Answers.{IsFormAnswer, IsKeyAnswer};
 ghost use Rattle.np_c.specs.Texts.{IsFormOf, IsKeyOf, IsNoForm, IsNoKey};
@@ -8,7 +8,7 @@ use crate::answers::{Answer, MEMORY, NO_FORM, UNASSIGNED};
 use crate::room::put;
 use crate::texts::{form_in, text_in};
 use np_code_points::Form;
-use np_forms::{NpssFault, form as form_of, lend_npss};
+use np_forms::{NpssFault, lend_form, lend_npss};
 use np_versions::NormTable;
 use std::alloc::Global;
 use std::borrow::CowStr;
@@ -46,26 +46,30 @@ fn key_of<'a, T: NormTable>(
     }
 }
 
-/// The normal form of bytes.
+/// The normal form of bytes: they themselves where they are known to be their form, which takes no memory.
 ///
 /// # Errors
 ///
 /// The answer that tells why there is none.
-fn normal_form_of<T: NormTable>(
+fn normal_form_of<'a, T: NormTable>(
     alloc: Global,
     table: &T,
     form: Form,
-    bytes: &[u8],
-) -> Result<String, Answer>
-    ensures made { IfOk result (λ made. IsFormOf (T.model table.now) form bytes.now (string_bytes made)) }
+    bytes: &'a [u8],
+) -> Result<CowStr<'a>, Answer>
+    ensures made { IfOk result (λ made. IsFormOf (T.model table.now) form bytes.now (cow_str_bytes made)) }
     ensures refused { IfErr result (IsNoForm bytes.now) }
 {
     let text = match text_in(0, bytes) {
         Ok(text) => text,
         Err(answer) => return Err(answer),
     };
-    match form_of(alloc, table, form, text) {
-        Ok(made) => Ok(made),
+    match lend_form(alloc, table, form, text) {
+        Ok(made) => {
+            // that its bytes are a text, which the prover sees where they are lent
+            let _text = made.as_str();
+            Ok(made)
+        }
         Err(_) => Err(Answer::of(MEMORY)),
     }
 }
@@ -103,7 +107,7 @@ pub fn write_form<T: NormTable>(
         return Answer::of(NO_FORM);
     };
     match normal_form_of(alloc, table, form, bytes) {
-        Ok(made) => put(made.as_bytes(), room),
+        Ok(made) => put(made.as_str().as_bytes(), room),
         Err(answer) => answer,
     }
 }

@@ -8,6 +8,7 @@ mod refused;
 mod runs;
 mod safety;
 mod spans;
+mod stream_texts;
 mod streams;
 
 use np_code_points::Form;

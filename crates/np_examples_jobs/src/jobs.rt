@@ -1,6 +1,7 @@
 //! The jobs over the fixtures and over devices that fail.
 mod commands;
 mod devices;
+mod ends;
 pub(crate) mod opening;
 mod outputs;
 mod refusals;

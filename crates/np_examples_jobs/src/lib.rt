@@ -11,6 +11,10 @@ mod lines_job;
 #[cfg(test)]
 mod node;
 #[cfg(test)]
+mod over_files;
+#[cfg(test)]
 mod programs;
+#[cfg(test)]
+mod shelf;
 #[cfg(test)]
 mod world;

@@ -1,18 +1,28 @@
 //! What both programs do for their words, over files in memory.
-use crate::jobs::opening::Shelf;
 use crate::jobs::words::words_of;
 use crate::jobs::{Answer, Ran, is_answer};
+use crate::over_files::run_over_shelf;
+use crate::shelf::Shelf;
 use np_code_points::watched::Watched;
 use np_examples_shared::devices::Trickle;
-use np_examples_shared::fixtures::{V1_DATA, V1_EXCLUSIONS};
+use np_examples_shared::fixtures::{V1_DATA, V1_EXCLUSIONS, V2_DATA, V2_EXCLUSIONS};
+use np_examples_shared::scripts::{RESTART_REPORT, RESTART_SCHEDULE};
 use np_examples_shared::want;
+use np_jobs::{Resources, Streams};
 use np_lines_job::{Progress, lines_usage_text, run_words as run_line_words};
-use np_program::{run_words, usage_text};
+use np_program::usage_text;
 use std::alloc::Global;
 use std::io::Read;
 use std::test::Fail;
 
-const FILES: &[(&str, &str)] = &[("data", V1_DATA), ("exclusions", V1_EXCLUSIONS)];
+/// The files of two versions, and a schedule over them.
+const FILES: &[(&str, &str)] = &[
+    ("data", V1_DATA),
+    ("exclusions", V1_EXCLUSIONS),
+    ("data2", V2_DATA),
+    ("exclusions2", V2_EXCLUSIONS),
+    ("schedule", RESTART_SCHEDULE),
+];
 
 /// The programs.
 #[derive(Clone, Copy)]
@@ -21,27 +31,33 @@ enum Program {
     NpssLines,
 }
 
-/// The status of a program for these words over an input.
+/// The status of a program for these words.
 fn status_of(
     alloc: Global,
-    (program, input): (Program, &str),
+    program: Program,
     words: &[String],
-    output: &mut Watched<Vec<u8>>,
-    error: &mut Watched<Vec<u8>>,
+    streams: &mut Streams<Trickle<'_>, Vec<u8>, Vec<u8>>,
 ) -> u8 {
     let shelf = Shelf { files: FILES };
-    let mut input = Watched::new(Trickle::new(input.as_bytes(), 100));
+    let with = Resources {
+        alloc,
+        opener: &shelf,
+    };
     match program {
-        Program::Npss => run_words(&shelf, alloc, words, &mut input, output, error),
-        Program::NpssLines => run_line_words(&shelf, alloc, words, &mut input, output, error),
+        Program::Npss => run_over_shelf(alloc, &shelf, words, streams),
+        Program::NpssLines => run_line_words(&with, words, streams),
     }
 }
 
 /// The run of a program for these words over an input.
 fn run(alloc: Global, program: Program, words: &[String], input: &str) -> Ran {
-    let mut output = Watched::new(Vec::new(alloc));
-    let mut error = Watched::new(Vec::new(alloc));
-    let status = status_of(alloc, (program, input), words, &mut output, &mut error);
+    let mut streams = Streams {
+        input: Watched::new(Trickle::new(input.as_bytes(), 100)),
+        output: Watched::new(Vec::new(alloc)),
+        error: Watched::new(Vec::new(alloc)),
+    };
+    let status = status_of(alloc, program, words, &mut streams);
+    let Streams { output, error, .. } = streams;
     Ran {
         status,
         output: output.into_inner(),
@@ -62,23 +78,69 @@ fn wants_end(
     want(is_answer(&ran, answer), text)
 }
 
-#[test]
-fn a_command_runs_over_the_files_that_its_words_name(rt: HostRuntime) -> Result<(), Fail> {
-    let (alloc, npss) = (rt.alloc(), Program::Npss);
-    wants_end(
-        alloc,
-        npss,
-        "key --form nfkc data exclusions",
-        "\u{FB01}",
-        &(0, "fi", ""),
-    )?;
-    wants_end(
-        alloc,
-        npss,
+/// Words, an input, and what the program answers over the files.
+type Row = (&'static str, &'static str, Answer<'static>);
+
+fn want_ends(alloc: Global, program: Program, rows: &[Row]) -> Result<(), Fail> {
+    for (words, input, answer) in rows {
+        wants_end(alloc, program, words, input, answer)?;
+    }
+    Ok(())
+}
+
+/// Each command over exact files, and what it writes of them.
+const COMMANDS: &[Row] = &[
+    (
+        "normalize --form nfkd data exclusions",
+        "\u{FB01}\u{16D67}",
+        (0, "fi\u{16D67}", ""),
+    ),
+    ("key --form nfkc data exclusions", "\u{FB01}", (0, "fi", "")),
+    (
+        "key --form nfc data exclusions",
+        "A\u{16D67}",
+        (3, "", "unassigned 16D67 at byte 1\n"),
+    ),
+    (
+        "key --form nfc data2 exclusions2",
+        "A\u{16D67}",
+        (0, "A\u{16D67}", ""),
+    ),
+    (
+        "key --form nfc --check-under data exclusions data2 exclusions2",
+        "A\u{16D67}",
+        (0, "own form, unassigned 16D67 at byte 1\n", ""),
+    ),
+    (
+        "compare --form nfkc data exclusions",
+        "\u{FB01}\nfi\n",
+        (0, "equal\n", ""),
+    ),
+    (
+        "audit data exclusions data2 exclusions2",
+        "left as it is",
+        (0, "extends\n", ""),
+    ),
+    (
+        "replay --form nfc schedule data exclusions data2 exclusions2",
+        "left as it is",
+        (0, RESTART_REPORT, ""),
+    ),
+    (
         "key --form nfkc data others",
         "a",
-        &(5, "", "cannot open others\n"),
-    )?;
+        (5, "", "cannot open others\n"),
+    ),
+];
+
+#[test]
+fn a_command_runs_over_the_files_that_its_words_name(rt: HostRuntime) -> Result<(), Fail> {
+    want_ends(rt.alloc(), Program::Npss, COMMANDS)
+}
+
+#[test]
+fn no_words_are_help_and_others_are_refused(rt: HostRuntime) -> Result<(), Fail> {
+    let (alloc, npss) = (rt.alloc(), Program::Npss);
     wants_end(alloc, npss, "", "", &(0, usage_text(), ""))?;
     wants_end(alloc, npss, "keys", "", &(2, "", usage_text()))
 }

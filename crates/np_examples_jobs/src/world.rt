@@ -4,12 +4,12 @@ mod schedules;
 
 use np_chain::Chain;
 use np_code_points::Form;
+use np_examples_shared::scripts::{
+    FORGED_REPORT, FORGED_SCHEDULE, FORGETTING_REPORT, FORGETTING_SCHEDULE, OLDER_REPORT,
+    OLDER_SCHEDULE, RESTART_SCHEDULE,
+};
 use np_examples_shared::{Files, V1, V2, tables_of, want};
 use np_tables::RowTable;
-use np_world::fixtures::{
-    EXCHANGE_SCHEDULE, FORGED_REPORT, FORGED_SCHEDULE, FORGETTING_REPORT, FORGETTING_SCHEDULE,
-    OLDER_REPORT, OLDER_SCHEDULE, RESTART_SCHEDULE,
-};
 use np_world::{Report, Schedule, read_schedule, replay, report_text};
 use std::alloc::Global;
 use std::test::Fail;
@@ -178,14 +178,25 @@ fn show_counts(
     let text = format!(in alloc; "{schedule:?}, {report:?}")?;
     want(
         text.as_str()
-            == "Schedule { versions: 2, room: 4, nodes: 2, events: 12, .. }, Report { replies: 12, sent: 2, nodes: 2, .. }",
+            == "Schedule { versions: 2, room: 4, nodes: 3, events: 5, .. }, Report { replies: 5, sent: 1, nodes: 3, .. }",
         "what a schedule and a report show",
     )
 }
 
+/// Three nodes, five events and one message.
+const COUNTED: &str = "\
+room 4
+nodes 0 1 1
+accept 0 0061
+deliver 1 0
+deliver 2 0
+save 0
+save 1
+";
+
 fn shows_counts(alloc: Global, tables: &[RowTable]) -> Result<(), Fail> {
-    let schedule = read_schedule(alloc, EXCHANGE_SCHEDULE.as_bytes(), tables.len())?;
-    let report = replayed(alloc, tables, EXCHANGE_SCHEDULE)?;
+    let schedule = read_schedule(alloc, COUNTED.as_bytes(), tables.len())?;
+    let report = replayed(alloc, tables, COUNTED)?;
     show_counts(alloc, &schedule, &report)
 }
 

@@ -3,7 +3,8 @@ ghost use Rattle.std.specs.Prelude.{◌≡◌, ◌≢◌, Some, None, ℕ, ◌-�
 ghost use Rattle.std.specs.Io.{ReadsAtMost, WritesAtMost};
 ghost use Rattle.std.specs.IoError.{error_kind};
 ghost use Rattle.std.specs.Io.KnownBytes.{Keeps, ReadConsumes, WriteAppends};
-ghost use Rattle.np_examples_shared.specs.inside.Devices.{IsNextCall, bytes_left, bytes_taken, endless_call, endless_plan, failure_at, piece_of, piece_taken};
+ghost use Rattle.np_examples_shared.specs.inside.Devices.{IsNextCall, bytes_left, bytes_taken, endless_call, endless_plan, ends_found, failure_at, left_before_end};
+ghost use Rattle.np_examples_shared.specs.inside.Devices.{piece_of, piece_taken};
 ghost use Rattle.np_examples_shared.specs.inside.Devices.{reader_call, reader_plan, room_of, writer_call, writer_plan};
 ghost use Rattle.np_code_points.specs.Watched.{call_fails, write_fails};
 
@@ -208,6 +209,48 @@ impl Read for Endless {
         }
         buf.fill(b'a');
         Ok(buf.len())
+    }
+}
+
+/// A reader of `bytes` that counts how many reads found its end: one finds it, and each more came behind it.
+#[derive(Debug, Drop)]
+pub struct Ending<'a> {
+    bytes: &'a [u8],
+    found: u64,
+}
+
+impl<'a> Ending<'a> {
+    /// A reader of which nothing is read yet.
+    pub fn new(bytes: &'a [u8]) -> Self
+        ensures bytes { left_before_end result ≡ bytes.now }
+        ensures none { ends_found result ≡ 0 }
+    {
+        Ending { bytes, found: 0 }
+    }
+
+    /// How many reads gave nothing.
+    pub fn ends(&self) -> u64
+        ensures { result ≡ ends_found self.now }
+    {
+        let Ending { found, .. } = self;
+        *found
+    }
+}
+
+impl Read for Ending<'_> {
+    ghost remaining = { λ e. Some (left_before_end e) };
+
+    fn read(&mut self, buf: &mut [u8]) -> IoResult<usize>
+        ensures bound { ReadsAtMost result buf.new }
+        ensures bytes { ReadConsumes (Some (left_before_end self.old)) (Some (left_before_end self.new)) result buf.new }
+        ensures counts { result ≡ Ok 0 → IsNextCall (ends_found self.old) (ends_found self.new) }
+        ensures passes { result ≢ Ok 0 → ends_found self.new ≡ ends_found self.old }
+    {
+        let outcome = self.bytes.read(buf);
+        if let Ok(0) = outcome {
+            self.found = self.found.saturating_add(1);
+        }
+        outcome
     }
 }
 

@@ -8,6 +8,7 @@ pub mod devices;
 pub mod fixtures;
 mod guest_table;
 mod refused;
+pub mod scripts;
 pub mod told;
 
 pub use common::{

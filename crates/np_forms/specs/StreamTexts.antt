@@ -10,7 +10,8 @@ pub record Writes (old new : StreamState) (before after text : List ℕ) : Type 
   pub version : new.version ≡ old.version
   pub form : new.form ≡ old.form
   pub moved : new.ready ≡ []
-  pub carries : (fed out : List ℕ) → IsStreaming old.version old.form fed out old.pending → IsStreaming old.version old.form (fed ++ text) (out ++ more) new.pending
+  pub carries : (fed out : List ℕ) → IsStreaming old.version old.form fed out old.pending
+      → IsStreaming old.version old.form (fed ++ text) (out ++ more) new.pending
 
 -- the text ended, and the rest of its normal form was written
 pub record WritesEnd (old : StreamState) (before after : List ℕ) : Type 0 where

@@ -2,24 +2,48 @@
 ghost use Rattle.std.specs.Prelude.{◌≡◌, ℕ, chars, length, encode_utf8_all, IfSome, IfNone};
 ghost use Rattle.np_forms.specs.Assigned.{IsAssigned, IsFirstUnassigned};
 
+use crate::precomputed_texts::behind_ascii;
+use np_code_points::Form;
 use np_versions::{NormTable, Version};
 
-/// The first code point that is not assigned, with its byte place, from 0; none where each is
+/// The first code point of a short text that is not assigned, with its byte place, from 0; none where each is
 /// assigned. It is called, so that the loop that writes forms, which seldom asks, stays small.
 #[inline(never)]
-pub fn first_unassigned_char<T: NormTable>(table: &T, text: &str) -> Option<(usize, char)>
+pub(crate) fn first_unassigned_of_few<T: NormTable>(table: &T, text: &str) -> Option<(usize, char)>
     ensures none { IfNone result (IsAssigned (T.model table.now) (chars text.now)) }
     ensures some { IfSome result (λ found. IsFirstUnassigned (T.model table.now) (chars text.now) found.0 found.1) }
 {
     let mut iter = text.chars();
     'scan: loop {
         let here = iter.as_str();
+        let Some(code) = iter.next() else {
+            return None;
+        };
+        if !table.assigned(code) {
+            return Some((text.len() - here.len(), code));
+        }
+    }
+}
+
+/// The first code point that is not assigned, with its byte place, from 0; none where each is
+/// assigned. ASCII that a table knows to be assigned is passed sixteen bytes at a time.
+#[inline(never)]
+pub fn first_unassigned_char<T: NormTable>(table: &T, text: &str) -> Option<(usize, char)>
+    ensures none { IfNone result (IsAssigned (T.model table.now) (chars text.now)) }
+    ensures some { IfSome result (λ found. IsFirstUnassigned (T.model table.now) (chars text.now) found.0 found.1) }
+{
+    let ascii = table.ascii_passes(Form::Nfc);
+    let mut rest = text;
+    'scan: loop {
+        let here = behind_ascii(ascii, rest);
+        let mut iter = here.chars();
         let Some(c) = iter.next() else {
             return None;
         };
         if !table.assigned(c) {
             return Some((text.len() - here.len(), c));
         }
+        rest = iter.as_str();
     }
 }
 

@@ -18,7 +18,7 @@ ghost use Rattle.np_versions.specs.Boundaries.{BeginsAtBoundary};
 ghost use Rattle.np_forms.specs.inside.NormalForms.{normal_form};
 ghost use Rattle.np_forms.specs.inside.Readings.{IsReadAssigned};
 
-use crate::assigned::first_unassigned_char;
+use crate::assigned::first_unassigned_of_few;
 use crate::classes::Classed;
 use crate::decomposing::decompose_first;
 use crate::fronts::write_front;
@@ -156,7 +156,7 @@ fn may_go_on<T: NormTable>(table: &T, assigned: bool, unread: &str, rest: &str) 
     if !assigned || unread.len() == rest.len() {
         return true;
     }
-    match first_unassigned_char(table, &unread[..unread.len() - rest.len()]) {
+    match first_unassigned_of_few(table, &unread[..unread.len() - rest.len()]) {
         Some(_lacking) => false,
         None => true,
     }

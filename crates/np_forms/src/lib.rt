@@ -48,7 +48,7 @@ pub use apart_streams::ApartStream;
 pub use assigned::{first_unassigned, first_unassigned_char, first_unassigned_in_version};
 pub use decompositions::full_decomposition;
 pub use equivalence::equivalent;
-pub use forms::{form, is_form};
+pub use forms::{form, is_form, lend_form};
 pub use quick_check::quick_check_span;
 pub use runs::{RUN_LIMIT, RunFault, run};
 pub use stabilized::{NpssFault, into_npss, lend_npss, npss};

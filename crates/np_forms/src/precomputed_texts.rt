@@ -24,7 +24,7 @@ fn begins_with_ascii(text: &str) -> bool
 /// What follows the ASCII at the front of a text, where that is asked for. Where it begins with none, no byte more is
 /// looked at, for which what follows would have to wait.
 #[inline(always)]
-fn behind_ascii(ascii: bool, text: &str) -> &str
+pub(crate) fn behind_ascii(ascii: bool, text: &str) -> &str
     ensures { IsPast (λ c. (ascii ≡ true) × (c < 128)) text.now result.now }
 {
     if !ascii || !begins_with_ascii(text) {

@@ -7,6 +7,8 @@ pub mod Keys
 pub mod KeysUnder
 pub mod NormalForms
 pub mod Opening
+pub mod Programs
+pub mod StandardInputs
 pub mod Statuses
 pub mod Streams
 pub mod Tellings

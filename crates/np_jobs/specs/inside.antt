@@ -2,6 +2,5 @@ pub mod AuditSteps
 pub mod ChainSteps
 pub mod Groups
 pub mod OpeningSteps
-pub mod TextJobs
 pub mod UnderSteps
 pub mod VersionSteps

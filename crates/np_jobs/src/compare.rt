@@ -6,7 +6,9 @@ ghost use Rattle.np_jobs.specs.Streams.{stream_of};
 
 use crate::ending::{Made, finish};
 use crate::faults::TextFault;
-use crate::texts::{TextJob, made_of_text};
+use crate::streams::Streams;
+use crate::texts::{TextMaker, made_of_text};
+use crate::version_jobs::VersionJob;
 use crate::versions::JobTable;
 use np_code_points::Form;
 use np_code_points::watched::Watched;
@@ -61,7 +63,7 @@ fn answer_line(alloc: Global, is_yes: bool) -> Result<String, AllocError>
 }
 
 /// Whether the two lines of a text are equivalent.
-pub(super) fn make_comparison<T: NormTable>(
+fn make_comparison<T: NormTable>(
     alloc: Global,
     form: Form,
     table: &T,
@@ -77,6 +79,55 @@ pub(super) fn make_comparison<T: NormTable>(
     match answer_line(alloc, is_yes) {
         Ok(text) => Ok(Made { text, is_yes }),
         Err(_) => Err(TextFault::Memory),
+    }
+}
+
+/// The job `compare`, as a value.
+#[derive(Clone, Copy)]
+pub struct CompareJob {
+    /// The form by which strings are compared.
+    pub form: Form,
+}
+
+impl TextMaker for CompareJob {
+    ghost makes = { λ job. IsCompareOutput job.form };
+
+    ghost refuses = { λ job. LacksCompareOutput };
+
+    fn make<T: NormTable>(
+        &self,
+        alloc: Global,
+        table: &T,
+        text: String,
+    ) -> Result<Made, TextFault> {
+        make_comparison(alloc, self.form, table, text.as_str())
+    }
+}
+
+impl VersionJob for CompareJob {
+    ghost Ends = { λ job. CompareEnds job.form };
+
+    fn run<F: Read, I: Read, O: Write, E: Write>(
+        &self,
+        alloc: Global,
+        data_file: &mut Watched<F>,
+        exclusions_file: &mut Watched<F>,
+        streams: &mut Streams<I, O, E>,
+    ) -> u8 {
+        let Streams {
+            input,
+            output,
+            error,
+        } = streams;
+        compare_job(
+            alloc,
+            self.form,
+            data_file,
+            exclusions_file,
+            input,
+            output,
+            error,
+        )
     }
 }
 
@@ -99,10 +150,9 @@ pub fn compare_job<F: Read, I: Read, O: Write, E: Write>(
       input = stream_of I.remaining input.old input.new;
     }) (stream_of O.contents output.old output.new) (stream_of E.contents error.old error.new) result }
 {
-    let made = made_of_text::<JobTable, F, I>(
+    let made = made_of_text::<CompareJob, JobTable, F, I>(
         alloc,
-        TextJob::Compare,
-        form,
+        &CompareJob { form },
         data_file,
         exclusions_file,
         input,

@@ -6,7 +6,9 @@ ghost use Rattle.np_jobs.specs.Streams.{stream_of};
 
 use crate::ending::{Made, finish};
 use crate::faults::TextFault;
-use crate::texts::{TextJob, made_of_text};
+use crate::streams::Streams;
+use crate::texts::{TextMaker, made_of_text};
+use crate::version_jobs::VersionJob;
 use crate::versions::JobTable;
 use np_code_points::Form;
 use np_code_points::watched::Watched;
@@ -33,18 +35,54 @@ pub(super) fn key_of<T: NormTable>(
     }
 }
 
-/// The key of the text, as the job writes it.
-pub(super) fn make_key<T: NormTable>(
-    alloc: Global,
-    form: Form,
-    table: &T,
-    text: String,
-) -> Result<Made, TextFault>
-    ensures key { IfOk result (λ m. IsKeyOutput form (T.model table.now) (string_bytes text) m.is_yes (string_bytes m.text)) }
-    ensures refused { IfErr result (LacksKeyOutput (T.model table.now) (string_bytes text)) }
-{
-    let text = key_of(alloc, form, table, text)?;
-    Ok(Made { text, is_yes: true })
+/// The job `key`, as a value.
+#[derive(Clone, Copy)]
+pub struct KeyJob {
+    /// The form of the key.
+    pub form: Form,
+}
+
+impl TextMaker for KeyJob {
+    ghost makes = { λ job. IsKeyOutput job.form };
+
+    ghost refuses = { λ job. LacksKeyOutput };
+
+    fn make<T: NormTable>(
+        &self,
+        alloc: Global,
+        table: &T,
+        text: String,
+    ) -> Result<Made, TextFault> {
+        let text = key_of(alloc, self.form, table, text)?;
+        Ok(Made { text, is_yes: true })
+    }
+}
+
+impl VersionJob for KeyJob {
+    ghost Ends = { λ job. KeyEnds job.form };
+
+    fn run<F: Read, I: Read, O: Write, E: Write>(
+        &self,
+        alloc: Global,
+        data_file: &mut Watched<F>,
+        exclusions_file: &mut Watched<F>,
+        streams: &mut Streams<I, O, E>,
+    ) -> u8 {
+        let Streams {
+            input,
+            output,
+            error,
+        } = streams;
+        key_job(
+            alloc,
+            self.form,
+            data_file,
+            exclusions_file,
+            input,
+            output,
+            error,
+        )
+    }
 }
 
 /// Writes the stabilized string of the input, a text, to the output: its normal form under the
@@ -65,10 +103,9 @@ pub fn key_job<F: Read, I: Read, O: Write, E: Write>(
       input = stream_of I.remaining input.old input.new;
     }) (stream_of O.contents output.old output.new) (stream_of E.contents error.old error.new) result }
 {
-    let made = made_of_text::<JobTable, F, I>(
+    let made = made_of_text::<KeyJob, JobTable, F, I>(
         alloc,
-        TextJob::Key,
-        form,
+        &KeyJob { form },
         data_file,
         exclusions_file,
         input,

@@ -6,6 +6,8 @@ ghost use Rattle.np_jobs.specs.Streams.{stream_of};
 use crate::ending::refuse;
 use crate::faults::{JobFault, TextFault};
 use crate::statuses::DONE;
+use crate::streams::Streams;
+use crate::version_jobs::VersionJob;
 use crate::versions::{JobTable, MadeTable, read_table_of};
 use np_code_points::Form;
 use np_code_points::input::InputFault;
@@ -84,5 +86,39 @@ pub fn normalize_job<F: Read, I: Read, O: Write, E: Write>(
     match normalized::<JobTable, F, I, O>(alloc, form, data_file, exclusions_file, input, output) {
         Ok(()) => DONE,
         Err(fault) => refuse(alloc, error, &fault),
+    }
+}
+
+/// The job `normalize`, as a value.
+#[derive(Clone, Copy)]
+pub struct NormalizeJob {
+    /// The form that is written.
+    pub form: Form,
+}
+
+impl VersionJob for NormalizeJob {
+    ghost Ends = { λ job. NormalizeEnds job.form };
+
+    fn run<F: Read, I: Read, O: Write, E: Write>(
+        &self,
+        alloc: Global,
+        data_file: &mut Watched<F>,
+        exclusions_file: &mut Watched<F>,
+        streams: &mut Streams<I, O, E>,
+    ) -> u8 {
+        let Streams {
+            input,
+            output,
+            error,
+        } = streams;
+        normalize_job(
+            alloc,
+            self.form,
+            data_file,
+            exclusions_file,
+            input,
+            output,
+            error,
+        )
     }
 }

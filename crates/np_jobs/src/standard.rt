@@ -1,8 +1,11 @@
 //! The standard streams, whichever of them a program was started with.
-ghost use Rattle.std.specs.Prelude.{◌≡◌, false, None, IsErr};
+ghost use Rattle.std.specs.Prelude.{◌≡◌, false, IsErr};
 ghost use Rattle.std.specs.Io.{ReadsAtMost};
+ghost use Rattle.std.specs.Io.KnownBytes.{ReadConsumes};
 ghost use Rattle.np_code_points.specs.Watched.{has_failed};
+ghost use Rattle.np_jobs.specs.StandardInputs.{left_of};
 
+use crate::streams::Streams;
 use np_code_points::watched::Watched;
 use std::alloc::Global;
 use std::io::{Error, Read, Result, Stderr, Stdin, Stdout};
@@ -14,18 +17,19 @@ const NOT_OPEN: i32 = 9;
 /// Standard input, whether or not the program was started with it. The system gives the descriptor of
 /// one that is closed to the file that is opened next, so a closed one is never read.
 #[derive(Drop)]
-pub enum StandardInput {
-    /// It was open.
-    Open(Stdin),
+pub enum StandardInput<S> {
+    /// It was open: reads answer what the stream answers.
+    Open(S),
     /// It was closed: each read fails.
     Closed,
 }
 
-impl Read for StandardInput {
-    ghost remaining = { λ _. None };
+impl<S: Read> Read for StandardInput<S> {
+    ghost remaining = { left_of S.remaining };
 
     fn read(&mut self, buf: &mut [u8]) -> Result<usize>
         ensures bound { ReadsAtMost result buf.new }
+        ensures bytes { ReadConsumes (left_of S.remaining self.old) (left_of S.remaining self.new) result buf.new }
         ensures closed { self.old ≡ StandardInput.Closed → IsErr result }
     {
         match self {
@@ -37,11 +41,12 @@ impl Read for StandardInput {
 
 /// The standard streams. A named file may have the descriptor of an output that was closed at the start;
 /// it is opened for reading alone, so each write fails then as it does on a closed stream.
+pub type StandardStreams = Streams<StandardInput<Stdin>, Stdout, Stderr>;
+
+/// The standard streams of a program, and memory that it keeps as long as them.
 #[derive(Drop)]
 pub struct Standard {
-    pub input: Watched<StandardInput>,
-    pub output: Watched<Stdout>,
-    pub error: Watched<Stderr>,
+    pub streams: StandardStreams,
     behind: Option<Vec<u8>>,
 }
 
@@ -76,9 +81,9 @@ fn leave_room(alloc: Global) -> Option<Vec<u8>> {
 /// The standard streams, to be taken before any file is opened. From then on the program keeps the memory that a data
 /// file gives back, as long as the streams are there.
 pub fn take_standard(rt: &HostRuntime) -> Standard
-    ensures input { has_failed result.input ≡ false }
-    ensures output { has_failed result.output ≡ false }
-    ensures error { has_failed result.error ≡ false }
+    ensures input { has_failed result.streams.input ≡ false }
+    ensures output { has_failed result.streams.output ≡ false }
+    ensures error { has_failed result.streams.error ≡ false }
 {
     let behind = leave_room(rt.alloc());
     let stream = rt.stdin();
@@ -87,10 +92,10 @@ pub fn take_standard(rt: &HostRuntime) -> Standard
     } else {
         StandardInput::Closed
     };
-    Standard {
+    let streams = Streams {
         input: Watched::new(input),
         output: Watched::new(rt.stdout()),
         error: Watched::new(rt.stderr()),
-        behind,
-    }
+    };
+    Standard { streams, behind }
 }

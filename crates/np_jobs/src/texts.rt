@@ -1,17 +1,15 @@
 //! A job on one text: the two files of a version are read, then the input, then the text is
 //! answered.
-ghost use Rattle.std.specs.Prelude.{◌≡◌, IfOk, IfErr, IsUtf8, string_bytes};
+ghost use Rattle.std.specs.Prelude.{◌≡◌, ℕ, Bool, List, IfOk, IfErr, IsUtf8, string_bytes};
 ghost use Rattle.np_jobs.specs.Streams.{WasNotRead, WasRead, stream_of};
 ghost use Rattle.np_jobs.specs.Texts.{IsMadeOfText, IsNotUtf8, IsTextFault, MakesOfText, RefusesText};
 ghost use Rattle.np_jobs.specs.Wraps.{Wraps};
-ghost use Rattle.np_jobs.specs.inside.TextJobs.{JobMakes, JobRefuses};
+ghost use Rattle.np_jobs.specs.declared.faults.TextFault.{TextFault};
+ghost use Rattle.np_versions.specs.Versions.{VersionData};
 
-use crate::compare::make_comparison;
 use crate::ending::Made;
 use crate::faults::{JobFault, TextFault};
-use crate::key::make_key;
 use crate::versions::{MadeTable, read_table_of};
-use np_code_points::Form;
 use np_code_points::input::read_whole;
 use np_code_points::text::text_of;
 use np_code_points::watched::Watched;
@@ -19,28 +17,16 @@ use np_versions::NormTable;
 use std::alloc::Global;
 use std::io::Read;
 
-/// The jobs on one text.
-#[derive(Clone, Copy)]
-pub enum TextJob {
-    Key,
-    Compare,
-}
+/// What a job makes of one text under a table: what is asked of it, as a value.
+pub(crate) trait TextMaker {
+    ghost makes: { Self → VersionData → List ℕ → Bool → List ℕ → Type 0 };
 
-/// What a job makes of a text, which is given up, under a table.
-fn make<T: NormTable>(
-    alloc: Global,
-    job: TextJob,
-    form: Form,
-    table: &T,
-    text: String,
-) -> Result<Made, TextFault>
-    ensures made { IfOk result (λ m. JobMakes job form (T.model table.now) (string_bytes text) m.is_yes (string_bytes m.text)) }
-    ensures refused { IfErr result (JobRefuses job (T.model table.now) (string_bytes text)) }
-{
-    match job {
-        TextJob::Key => make_key(alloc, form, table, text),
-        TextJob::Compare => make_comparison(alloc, form, table, text.as_str()),
-    }
+    ghost refuses: { Self → VersionData → List ℕ → TextFault → Type 0 };
+
+    /// What is made of a text, which is given up.
+    fn make<T: NormTable>(&self, alloc: Global, table: &T, text: String) -> Result<Made, TextFault>
+        ensures made { IfOk result (λ m. makes self.now (T.model table.now) (string_bytes text) m.is_yes (string_bytes m.text)) }
+        ensures refused { IfErr result (refuses self.now (T.model table.now) (string_bytes text)) };
 }
 
 /// Reads the input whole.
@@ -70,20 +56,19 @@ pub(super) fn text_in(bytes: Vec<u8>) -> Result<String, TextFault>
 }
 
 /// Reads the input, and makes of it what the job makes under the table.
-fn made_under<T: NormTable, I: Read>(
+fn made_under<M: TextMaker, T: NormTable, I: Read>(
     alloc: Global,
-    job: TextJob,
-    form: Form,
+    maker: &M,
     table: &T,
     input: &mut Watched<I>,
 ) -> Result<Made, TextFault>
-    ensures made { IfOk result (λ m. IsMadeOfText (JobMakes job form (T.model table.now))
+    ensures made { IfOk result (λ m. IsMadeOfText (M.makes maker.now (T.model table.now))
         (stream_of I.remaining input.old input.new) m.is_yes (string_bytes m.text)) }
-    ensures refused { IfErr result (IsTextFault (JobRefuses job (T.model table.now)) (stream_of I.remaining input.old input.new)) }
+    ensures refused { IfErr result (IsTextFault (M.refuses maker.now (T.model table.now)) (stream_of I.remaining input.old input.new)) }
 {
     let bytes = read_input(alloc, input)?;
     let text = text_in(bytes)?;
-    make(alloc, job, form, table, text)
+    maker.make(alloc, table, text)
 }
 
 /// Reads the two files of a version and the input, and makes of it what the job makes.
@@ -92,20 +77,19 @@ fn made_under<T: NormTable, I: Read>(
 ///
 /// `Version` where there is no version, and then the input is not looked at; else `Text` where the
 /// input was not read whole, is no UTF-8, or is not answered by the job.
-pub(crate) fn made_of_text<T: MadeTable, F: Read, I: Read>(
+pub(crate) fn made_of_text<M: TextMaker, T: MadeTable, F: Read, I: Read>(
     alloc: Global,
-    job: TextJob,
-    form: Form,
+    maker: &M,
     data_file: &mut Watched<F>,
     exclusions_file: &mut Watched<F>,
     input: &mut Watched<I>,
 ) -> Result<Made, JobFault>
-    ensures made { IfOk result (λ m. MakesOfText (JobMakes job form) (record {
+    ensures made { IfOk result (λ m. MakesOfText (M.makes maker.now) (record {
       data_file = stream_of F.remaining data_file.old data_file.new;
       exclusions_file = stream_of F.remaining exclusions_file.old exclusions_file.new;
       input = stream_of I.remaining input.old input.new;
     }) m.is_yes (string_bytes m.text)) }
-    ensures refused { IfErr result (RefusesText (JobRefuses job) (record {
+    ensures refused { IfErr result (RefusesText (M.refuses maker.now) (record {
       data_file = stream_of F.remaining data_file.old data_file.new;
       exclusions_file = stream_of F.remaining exclusions_file.old exclusions_file.new;
       input = stream_of I.remaining input.old input.new;
@@ -113,5 +97,5 @@ pub(crate) fn made_of_text<T: MadeTable, F: Read, I: Read>(
 {
     input.clear();
     let table: T = read_table_of(alloc, 0, data_file, exclusions_file)?;
-    Ok(made_under(alloc, job, form, &table, input)?)
+    Ok(made_under(alloc, maker, &table, input)?)
 }

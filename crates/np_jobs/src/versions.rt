@@ -96,7 +96,11 @@ impl MadeTable for PageTable {
 }
 
 /// Reads the two files of a version, builds it, and makes a table over it.
-pub(crate) fn read_table_of<T: MadeTable, R: Read>(
+///
+/// # Errors
+///
+/// As `read_version`; want of memory for the table is a fault of the tables.
+pub fn read_table_of<T: MadeTable, R: Read>(
     alloc: Global,
     version: usize,
     data_file: &mut Watched<R>,
@@ -115,23 +119,4 @@ pub(crate) fn read_table_of<T: MadeTable, R: Read>(
             fault: TableFault::Memory,
         }),
     }
-}
-
-/// Reads the two files of a version, builds it, and makes the table over it.
-///
-/// # Errors
-///
-/// As `read_version`; want of memory for the table is a fault of the tables.
-pub fn read_table<R: Read>(
-    alloc: Global,
-    version: usize,
-    data_file: &mut Watched<R>,
-    exclusions_file: &mut Watched<R>,
-) -> Result<PageTable, VersionFault>
-    ensures built { IfOk result (WasBuilt (stream_of R.remaining data_file.old data_file.new)
-        (stream_of R.remaining exclusions_file.old exclusions_file.new)) }
-    ensures refused { IfErr result (IsVersionFault version (stream_of R.remaining data_file.old data_file.new)
-        (stream_of R.remaining exclusions_file.old exclusions_file.new)) }
-{
-    read_table_of::<PageTable, R>(alloc, version, data_file, exclusions_file)
 }

@@ -1,4 +1,14 @@
 //! What of an input was not read to the end of a line, and what of the answers is not written.
+//!
+//! A piece of an input is answered in this order, each way taking what it can of the lines that end in it:
+//!
+//! | Way | Lines | Cost |
+//! |---|---|---|
+//! | `take_begun`, `end_line` | the one that an earlier piece began | copied together, then by itself: slow |
+//! | `take_keyed` | all of a text, under a form that does not compose | one form of all, cut at its line ends: quick |
+//! | `take_stable` | those at the front of a text that pass the quick check | each is its key, written as it stands: quick |
+//! | `end_text_line` | the next one of a text, which does not pass | by itself, then `take_stable` again: slow |
+//! | `take_bytes`, `end_line` | those behind the first bytes that are no UTF-8 | each by itself, checked by itself: slow |
 ghost use Rattle.std.specs.Prelude.{◌≡◌, ◌≢◌, ◌⊎◌, ◌+◌, ◌<◌, ◌++◌, ◌∷◌, ◌||◌, [], true, false, ℕ, List, chars, length, take, IfOk, IsTrue, IsUtf8, OnOk};
 ghost use Rattle.np_forms.specs.Parts.{IsEachPartStable};
 ghost use Rattle.np_lines.specs.Lines.{byte_of};

@@ -1,15 +1,12 @@
 //! The two files of a version are read, and then the lines of an input are answered as they are read.
 ghost use Rattle.std.specs.Prelude.{◌≡◌, Bool, Ok, IfErr, IfOk};
 ghost use Rattle.np_jobs.specs.Streams.{stream_of};
-ghost use Rattle.np_jobs.specs.Versions.{IsVersionFault, WasBuilt};
 ghost use Rattle.np_lines_job.specs.LineKeys.{IsStopped, LinesEnd, WasAnswered, lines_status, told_as};
 
 use np_code_points::input::InputFault;
 use np_code_points::watched::Watched;
-use np_jobs::{DONE, JobFault, TextFault, VersionFault, read_table, refuse};
+use np_jobs::{DONE, JobFault, JobTable, MadeTable, TextFault, read_table_of, refuse};
 use np_lines::{LinesFault, Wanted, answer_lines};
-use np_tables::PageTable;
-use np_versions::NormTable;
 use std::alloc::Global;
 use std::io::{Read, Write};
 
@@ -50,35 +47,8 @@ fn status_of_run(is_strict: bool, any_refused: bool) -> u8
     }
 }
 
-/// A table that is read. The job owns its table by this bound alone: a proof of what owns a table of pages looks at
-/// each of its parts, and takes many times as long.
-trait JobTable: NormTable + Drop {
-    /// Reads the two files of the version of this number, and makes the table over it.
-    fn read<R: Read>(
-        alloc: Global,
-        version: usize,
-        data_file: &mut Watched<R>,
-        exclusions_file: &mut Watched<R>,
-    ) -> Result<Self, VersionFault>
-        ensures built { IfOk result (λ table. WasBuilt
-            (stream_of R.remaining data_file.old data_file.new) (stream_of R.remaining exclusions_file.old exclusions_file.new) (Self.model table)) }
-        ensures refused { IfErr result (IsVersionFault version (stream_of R.remaining data_file.old data_file.new)
-            (stream_of R.remaining exclusions_file.old exclusions_file.new)) };
-}
-
-impl JobTable for PageTable {
-    fn read<R: Read>(
-        alloc: Global,
-        version: usize,
-        data_file: &mut Watched<R>,
-        exclusions_file: &mut Watched<R>,
-    ) -> Result<PageTable, VersionFault> {
-        read_table(alloc, version, data_file, exclusions_file)
-    }
-}
-
 /// Reads the two files of a version, and answers the lines of the input. Answers whether one was refused.
-fn answered<T: JobTable, F: Read, I: Read, O: Write>(
+fn answered<T: MadeTable, F: Read, I: Read, O: Write>(
     alloc: Global,
     wanted: Wanted,
     data_file: &mut Watched<F>,
@@ -99,7 +69,7 @@ fn answered<T: JobTable, F: Read, I: Read, O: Write>(
 {
     input.clear();
     output.clear();
-    let table = T::read(alloc, 0, data_file, exclusions_file)?;
+    let table: T = read_table_of(alloc, 0, data_file, exclusions_file)?;
     match answer_lines(alloc, &table, wanted, input, output) {
         Ok(any_refused) => Ok(any_refused),
         Err(fault) => Err(told(fault)),
@@ -129,7 +99,7 @@ pub fn lines_job<F: Read, I: Read, O: Write, E: Write>(
     }) (stream_of O.contents output.old output.new) (stream_of E.contents error.old error.new) result }
 {
     error.clear();
-    match answered::<PageTable, F, I, O>(
+    match answered::<JobTable, F, I, O>(
         alloc,
         asked.wanted,
         data_file,

@@ -9,6 +9,6 @@ mod progress;
 mod words;
 
 pub use job::{Asked, REFUSED, lines_job};
-pub use program::run_words;
+pub use program::{NpssLines, run_words};
 pub use progress::Progress;
 pub use words::{LinesJob, lines_usage_text, parse_lines};

@@ -1,17 +1,17 @@
 -- What the program does for its words, over any opener of files: by which contents a file of a name may have, and which names may not open.
-use Rattle.std.specs.Prelude.{◌≡◌, ◌⊎◌, ◌++◌, ◌∷◌, ℕ, true, None, Some, List, Option, flat_map, string_bytes}
+use Rattle.std.specs.Prelude.{◌≡◌, ◌++◌, ◌∷◌, ℕ, true, None, Some, List, Option, flat_map, string_bytes}
 use Rattle.np_jobs.specs.Audits.{AuditEnds}
 use Rattle.np_jobs.specs.Chains.{VersionReaders}
 use Rattle.np_jobs.specs.Comparisons.{CompareEnds}
-use Rattle.np_jobs.specs.Ends.{IsTold, TellsRefusal, WritesAnswer}
+use Rattle.np_jobs.specs.Ends.{WritesAnswer}
 use Rattle.np_jobs.specs.Keys.{KeyEnds}
 use Rattle.np_jobs.specs.KeysUnder.{KeyUnderEnds, UnderReaders}
 use Rattle.np_jobs.specs.NormalForms.{NormalizeEnds}
-use Rattle.np_jobs.specs.Opening.{AreTextReaders, IsUnopened, WereOpened, both_files}
+use Rattle.np_jobs.specs.Opening.{AreTextReaders, WereOpened, both_files}
+use Rattle.np_jobs.specs.Programs.{IsProgramEnd}
 use Rattle.np_jobs.specs.Streams.{Stream}
 use Rattle.np_jobs.specs.Texts.{TextReaders}
 use Rattle.np_words.specs.Words.{asked_by, asked_of, names_of}
-use Rattle.np_jobs.specs.declared.faults.JobFault.TheVariants.{Memory}
 use Rattle.np_program.specs.Replays.{ReplayEnds, ReplayReaders}
 use Rattle.np_words.specs.declared.parsing.Job.{Job}
 use Rattle.np_words.specs.declared.parsing.Job.TheVariants.{Help, Normalize, Key, KeyUnder, Compare, Audit, Replay}
@@ -27,9 +27,9 @@ abbrev pub AreReplayReaders : (List ℕ → Option (List ℕ) → Type 0) → Li
 AreReplayReaders Gives schedule_file version_files readers =
     WereOpened Gives (schedule_file ∷ flat_map names_of version_files) (readers.schedule_file ∷ flat_map both_files readers.versions)
 
--- how a job ends, over the files that its names opened
+-- how a job ends, over the files that its names opened; one that needs no input leaves it as it is
 abbrev pub EndsOverFiles : (List ℕ → Option (List ℕ) → Type 0) → Job → Stream → Stream → Stream → ℕ → Type 0
-EndsOverFiles Gives Help input output error status = WritesAnswer true usage_lines output error status
+EndsOverFiles Gives Help input output error status = WritesAnswer true usage_lines output error status × (input.after ≡ input.before)
 EndsOverFiles Gives (Normalize form files) input output error status =
     (readers : TextReaders) × AreTextReaders Gives files input readers × NormalizeEnds form readers output error status
 EndsOverFiles Gives (Key form files) input output error status =
@@ -39,22 +39,13 @@ EndsOverFiles Gives (KeyUnder form old new) input output error status =
 EndsOverFiles Gives (Compare form files) input output error status =
     (readers : TextReaders) × AreTextReaders Gives files input readers × CompareEnds form readers output error status
 EndsOverFiles Gives (Audit old new) input output error status =
-    (readers : List VersionReaders) × ArePair Gives old new readers × AuditEnds readers output error status
+    (readers : List VersionReaders) × ArePair Gives old new readers × AuditEnds readers output error status × (input.after ≡ input.before)
 EndsOverFiles Gives (Replay form schedule_file version_files) input output error status =
     (readers : ReplayReaders) × AreReplayReaders Gives (string_bytes schedule_file) version_files.items readers × ReplayEnds form readers output error status
+    × (input.after ≡ input.before)
 
--- no job is asked for: the words ask for nothing that there is, or memory ran out
-abbrev pub IsNotAsked : List (List ℕ) → Stream → ℕ → Type 0
-IsNotAsked words error status = ((asked_by words ≡ None) × IsTold error usage_lines × (status ≡ 2)) ⊎ TellsRefusal Memory error status
-
--- the job is run over its files; or the first of them that doesn't open is told, and nothing is written
-abbrev pub IsRun : (List ℕ → Option (List ℕ) → Type 0) → (List ℕ → Type 0) → Job → Stream → Stream → Stream → ℕ → Type 0
-IsRun Gives Lacks job input output error status =
-    EndsOverFiles Gives job input output error status
-    ⊎ (IsUnopened Gives Lacks (asked_of job).files error status × (output.after ≡ output.before))
-
--- the job is run that the words ask for; or none is asked for, and nothing is written
+-- the job is run that the words ask for; or none is asked for, and nothing of the input is read and nothing written
 abbrev pub ProgramEnds : (List ℕ → Option (List ℕ) → Type 0) → (List ℕ → Type 0) → List (List ℕ) → Stream → Stream → Stream → ℕ → Type 0
-ProgramEnds Gives Lacks words input output error status =
-    ((job : Job) × (asked_by words ≡ Some (asked_of job)) × IsRun Gives Lacks job input output error status)
-    ⊎ (IsNotAsked words error status × (output.after ≡ output.before))
+ProgramEnds =
+    IsProgramEnd (λ words job. asked_by words ≡ Some (asked_of job)) (λ words. asked_by words ≡ None) (λ job. (asked_of job).files) usage_lines
+    EndsOverFiles

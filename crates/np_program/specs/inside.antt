@@ -1,2 +1,1 @@
 pub mod ReplaySteps
-pub mod TextCommands

@@ -5,5 +5,5 @@
 mod program;
 mod replay;
 
-pub use program::{run_words, usage_text};
+pub use program::{Npss, run_words, usage_text};
 pub use replay::replay_job;

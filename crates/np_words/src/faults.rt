@@ -19,7 +19,8 @@ pub enum WordsFault {
 
 /// The fault of words that `clap` refuses with this error: `Memory` where it tells that memory ran out, else `Usage`.
 pub fn fault_from(error: &ClapError) -> WordsFault
-    ensures { result ≡ WordsFault.Usage → kind_of error.now ≢ ErrorKind.OutOfMemory }
+    ensures usage { result ≡ WordsFault.Usage → kind_of error.now ≢ ErrorKind.OutOfMemory }
+    ensures memory { result ≡ WordsFault.Memory → kind_of error.now ≡ ErrorKind.OutOfMemory }
 {
     if error.kind() == ErrorKind::OutOfMemory {
         WordsFault::Memory

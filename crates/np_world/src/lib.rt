@@ -1,7 +1,6 @@
 //! What nodes make of schedules of events, beside a machine that keeps strings alone.
 #![tactic(auto)]
 
-pub mod fixtures;
 pub mod laws;
 mod members;
 mod replays;

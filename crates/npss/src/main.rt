@@ -1,13 +1,14 @@
 //! Stabilized Unicode strings over tables that are read from files: the program.
 #![tactic(auto)]
 
-use np_jobs::{JobFault, SystemFiles, refuse, refuse_words, take_standard};
+use np_jobs::{JobFault, Resources, SystemFiles, refuse, refuse_words, take_standard};
 use np_program::{run_words, usage_text};
 use std::process::ExitCode;
 
 fn main(rt: HostRuntime) -> ExitCode {
     let alloc = rt.alloc();
-    let mut streams = take_standard(&rt);
+    let mut standard = take_standard(&rt);
+    let streams = &mut standard.streams;
     let words = match std::env::args(&rt) {
         Ok(words) => words,
         Err(why) => {
@@ -15,15 +16,12 @@ fn main(rt: HostRuntime) -> ExitCode {
             return ExitCode::from(status);
         }
     };
-    match words.skip(1).collect::<Vec<String>>(alloc) {
-        Ok(words) => ExitCode::from(run_words(
-            &SystemFiles::new(&rt),
-            alloc,
-            words.as_slice(),
-            &mut streams.input,
-            &mut streams.output,
-            &mut streams.error,
-        )),
-        Err(_) => ExitCode::from(refuse(alloc, &mut streams.error, &JobFault::Memory)),
-    }
+    let Ok(words) = words.skip(1).collect::<Vec<String>>(alloc) else {
+        return ExitCode::from(refuse(alloc, &mut streams.error, &JobFault::Memory));
+    };
+    let with = Resources {
+        alloc,
+        opener: &SystemFiles::new(&rt),
+    };
+    ExitCode::from(run_words(&with, words.as_slice(), streams))
 }

@@ -2,20 +2,21 @@
 #![tactic(auto)]
 
 use np_code_points::watched::Watched;
-use np_jobs::{JobFault, SystemFiles, refuse, refuse_words, take_standard};
+use np_jobs::{
+    JobFault, Resources, Streams, SystemFiles, refuse, refuse_words, run_found, take_standard,
+};
 use np_lines::LineEnd;
-use np_lines_job::{LinesJob, Progress, lines_usage_text, parse_lines, run_words};
+use np_lines_job::{LinesJob, NpssLines, Progress, lines_usage_text, parse_lines};
 use np_words::WordsFault;
-use std::alloc::Global;
 use std::io::IsTerminal;
 use std::process::ExitCode;
 
-/// What ends lines, where the words ask for progress and standard error is a terminal.
-fn end_where_shown(rt: &HostRuntime, alloc: Global, words: &[String]) -> Option<LineEnd> {
+/// What ends lines, where progress is asked for and standard error is a terminal.
+fn end_where_shown(rt: &HostRuntime, found: &Result<LinesJob, WordsFault>) -> Option<LineEnd> {
     if !rt.stderr().is_terminal() {
         return None;
     }
-    match parse_lines(alloc, words) {
+    match found {
         Ok(
             LinesJob::Answer {
                 asked,
@@ -29,25 +30,34 @@ fn end_where_shown(rt: &HostRuntime, alloc: Global, words: &[String]) -> Option<
 
 fn main(rt: HostRuntime) -> ExitCode {
     let alloc = rt.alloc();
-    let mut streams = take_standard(&rt);
+    let mut standard = take_standard(&rt);
     let words = match std::env::args(&rt) {
         Ok(words) => words,
         Err(why) => {
-            let status = refuse_words(alloc, &mut streams.error, lines_usage_text(), &why);
+            let error = &mut standard.streams.error;
+            let status = refuse_words(alloc, error, lines_usage_text(), &why);
             return ExitCode::from(status);
         }
     };
     let Ok(words) = words.skip(1).collect::<Vec<String>>(alloc) else {
-        return ExitCode::from(refuse(alloc, &mut streams.error, &JobFault::Memory));
+        let error = &mut standard.streams.error;
+        return ExitCode::from(refuse(alloc, error, &JobFault::Memory));
     };
-    let shown = end_where_shown(&rt, alloc, words.as_slice());
-    let mut input = Watched::new(Progress::new(&rt, streams.input.into_inner(), shown));
-    ExitCode::from(run_words(
-        &SystemFiles::new(&rt),
+    let found = parse_lines(alloc, words.as_slice());
+    let shown = end_where_shown(&rt, &found);
+    let Streams {
+        input,
+        output,
+        error,
+    } = standard.streams;
+    let mut streams = Streams {
+        input: Watched::new(Progress::new(&rt, input.into_inner(), shown)),
+        output,
+        error,
+    };
+    let with = Resources {
         alloc,
-        words.as_slice(),
-        &mut input,
-        &mut streams.output,
-        &mut streams.error,
-    ))
+        opener: &SystemFiles::new(&rt),
+    };
+    ExitCode::from(run_found::<NpssLines, _, _, _, _>(&with, &found, &mut streams))
 }

@@ -93,7 +93,10 @@ def _list(words: argparse.Namespace, registry: Registry) -> int:
 
 def _status(words: argparse.Namespace, registry: Registry) -> int:
     for status in registry.status():
-        print(f"shard {status.shard}: place {status.place} of {status.last}, {status.registered} registered, {status.parked} parked")
+        last = "unknown, the log is away" if status.last is None else status.last
+        print(f"shard {status.shard}: place {status.place} of {last}, {status.registered} registered, {len(status.parked)} parked")
+        for row in status.parked:
+            print(f"parked: {row_of(row)}")
     print(f"node {registry.store.node}: the tables assign {registry.tables.count} code points")
     return DONE
 

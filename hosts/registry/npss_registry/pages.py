@@ -13,6 +13,7 @@ table { border-collapse: collapse; margin: .5rem 0 1.5rem; } td, th { border: 1p
 th { background: #f3f3f3; } input[type=text] { font: inherit; padding: .2rem .4rem; width: 18rem; } button { font: inherit; }
 .yes { color: #060; } .no { color: #a00; } .code { font-family: monospace; } mark { background: #fd6; } label { margin-right: 1rem; }
 """
+MOST_SHOWN = 10
 NOTE = ("Names that only look alike are not judged here: letters of two scripts, capitals and small letters, a digit for a "
         "letter are different names.")
 
@@ -37,7 +38,8 @@ def _field(name: str, label: str, value: str = "") -> str:
 def home(node: str, assigned: int, form: str, rows: Sequence[ShardStatus]) -> str:
     """The search, the question why, and how far this node has read."""
     status = table(("shard", "read to place", "last place", "behind", "registered", "parked"),
-                   [(str(row.shard), str(row.place), str(row.last), _lag(row), str(row.registered), str(row.parked)) for row in rows])
+                   [(str(row.shard), str(row.place), "unknown" if row.last is None else str(row.last), _lag(row), str(row.registered),
+                     _parked(row)) for row in rows])
     return page(
         "Registry of names",
         f'<h2>Who has a name?</h2><form method="post" action="/search">{_field("name", "Name")}<button>Search</button></form>',
@@ -49,7 +51,15 @@ def home(node: str, assigned: int, form: str, rows: Sequence[ShardStatus]) -> st
 
 
 def _lag(row: ShardStatus) -> str:
+    if row.last is None:
+        return '<span class="no">the log is away</span>'
     return '<span class="yes">no</span>' if row.last <= row.place else '<span class="no">yes</span>'
+
+
+def _parked(row: ShardStatus) -> str:
+    """How many names are parked, and the first of them."""
+    names = ", ".join(escape(one.string) for one in row.parked[:MOST_SHOWN])
+    return f"{len(row.parked)}" + (f": {names}" if names else "")
 
 
 def search(name: str, found: Sequence[Registration], refusal: str = "") -> str:

@@ -9,7 +9,7 @@ from typing import Optional, Union
 from npss import Node, Refused, Tables
 
 from npss_registry import records
-from npss_registry.errors import Differs, LogBroken, NotOneChain, StoreError
+from npss_registry.errors import Differs, LogAway, LogBroken, NotOneChain, StoreError
 from npss_registry.logs import Log, open_log
 from npss_registry.records import Claim, Forget, Setup
 from npss_registry.shards import PIECE, Outcome, Shard
@@ -20,13 +20,16 @@ MOST_SHARDS = 1024
 
 @dataclass(frozen=True)
 class ShardStatus:
-    """How far a shard was read, how many records stand behind that place at least, what is registered, what is parked."""
+    """How far a shard was read, the place of the log's last record, how many names are registered, which are parked.
+
+    `last` is None where the log is away.
+    """
 
     shard: int
     place: int
-    last: int
+    last: Optional[int]
     registered: int
-    parked: int
+    parked: list[Registration]
 
 
 def init(path: str, version: Version, setup: Optional[Setup], log_name: str) -> Setup:
@@ -99,13 +102,15 @@ class Registry:
         version = len(self.store.versions()) - 1
         self.shards = [Shard(number, self.store, self.log, self.tables, version) for number in range(self.setup.shards)]
         with self.store.transaction():
-            if self.store.is_copy:
+            if self.store.was_brought_back:
                 self.store.rename_node()
                 for shard in self.shards:
                     shard.begin_journal()
             else:
                 for shard in self.shards:
                     shard.note_restart()
+            self.store.count_opening()
+        self.store.note_opening()
 
     def close(self) -> None:
         """Saves what each shard keeps, and lets store and log go."""
@@ -238,8 +243,14 @@ class Registry:
 
     def status(self) -> list[ShardStatus]:
         with self._lock:
-            return [ShardStatus(shard.number, shard.place, self.log.last(shard.number), self.store.count(shard.number),
-                                len(self.store.parked(shard.number))) for shard in self.shards]
+            return [ShardStatus(shard.number, shard.place, self._last(shard.number), self.store.count(shard.number),
+                                self.store.parked(shard.number)) for shard in self.shards]
+
+    def _last(self, number: int) -> Optional[int]:
+        try:
+            return self.log.last(number)
+        except LogAway:
+            return None
 
     # ---- a new version
 

@@ -62,6 +62,7 @@ def _relogged(stores: Sequence[Store], log_name: str) -> tuple[int, list[Lost]]:
         empty = Node(store.versions()[-1].tables(), setup.form, setup.room).image()
         with store.transaction():
             store.forget_log(log_name, empty)
+        store.note_opening()
     return len(claims), lost
 
 

@@ -21,14 +21,17 @@ from starlette.routing import Route
 from npss_registry import pages
 from npss_registry.errors import LogAway, RegistryError, StoreError
 from npss_registry.explaining import Names, compared
+from npss_registry.records import shard_of
 from npss_registry.registry import Registry
 from npss_registry.shards import Outcome
-from npss_registry.store import Registration
+from npss_registry.store import Registration, Store
 from npss_registry.worker import Worker
 
 # A name has 65,536 bytes at most, of which JSON may spell each character in 6.
 MOST_BODY = 524_288
 MOST_OWNER = 1_000
+# So many parked names of a shard are told.
+MOST_PARKED = 100
 
 
 class Fault(Exception):
@@ -103,6 +106,8 @@ class Service:
     def __init__(self, worker: Worker, token: Optional[str]):
         self._worker = worker
         self._token = token
+        # Searches read what was committed last, and don't wait for claims.
+        self._reader = Store(worker.registry.store.path, read_only=True)
         self._known: Optional[tuple[int, Names]] = None
 
     def check_token(self, request: Request) -> None:
@@ -128,8 +133,18 @@ class Service:
 
     async def find(self, request: Request) -> Response:
         name = _text(await _body(request), "name")
-        found = await self._work(lambda registry: registry.find(name))
+        found = self._found(name)
         return JSONResponse([_told(one) for one in found], 200 if found else 404)
+
+    def _found(self, name: str) -> list[Registration]:
+        """Who has a name, or an equivalent one."""
+        setup = self._reader.setup
+        key = self._worker.registry.tables.key(name, setup.form)
+        return self._reader.with_key(shard_of(key, setup.shards), key)
+
+    def close(self) -> None:
+        """Lets the reader go."""
+        self._reader.close()
 
     async def same(self, request: Request) -> Response:
         told = await _body(request)
@@ -140,8 +155,9 @@ class Service:
     async def status(self, request: Request) -> Response:
         rows = await self._work(lambda registry: registry.status())
         registry = self._worker.registry
-        shards = [{"shard": row.shard, "place": row.place, "last": row.last, "behind": row.last - row.place,
-                   "registered": row.registered, "parked": row.parked} for row in rows]
+        shards = [{"shard": row.shard, "place": row.place, "last": row.last,
+                   "behind": None if row.last is None else row.last - row.place, "registered": row.registered,
+                   "parked": len(row.parked), "names": [one.string for one in row.parked[:MOST_PARKED]]} for row in rows]
         return JSONResponse({"node": registry.store.node, "assigned": registry.tables.count, "form": registry.setup.form,
                              "room": registry.setup.room, "shards": shards})
 
@@ -155,7 +171,7 @@ class Service:
     async def search(self, request: Request) -> Response:
         name = (await _fields(request, "name"))[0]
         try:
-            found = await self._work(lambda registry: registry.find(name))
+            found = self._found(name)
         except Refused as error:
             return _html(pages.search(name, [], str(error)))
         return _html(pages.search(name, found))
@@ -204,6 +220,7 @@ def application(worker: Worker, token: Optional[str]) -> Starlette:
     @contextlib.asynccontextmanager
     async def lifespan(_app: Starlette) -> AsyncIterator[None]:
         yield
+        service.close()
         worker.close()
 
     routes = [Route("/claim", service.claim, methods=["POST"]), Route("/forget", service.forget, methods=["POST"]),
@@ -225,9 +242,14 @@ def token_in(path: Optional[str]) -> Optional[str]:
 
 
 def serve(store: str, host: str, port: int, token_file: Optional[str]) -> int:
-    """Serves a store until the process is told to end."""
+    """Serves a store until the process is told to end, or the log is not what nodes wrote: then the status is 4."""
     token = token_in(token_file)
     worker = Worker(store)
     print(f"npss-registry: {store} at http://{host}:{port}/" + ("" if token else ", to be read alone"), file=sys.stderr)
-    uvicorn.run(application(worker, token), host=host, port=port, log_level="warning")
-    return 0 if worker.failure is None else 4
+    server = uvicorn.Server(uvicorn.Config(application(worker, token), host=host, port=port, log_level="warning"))
+    worker.on_failure = lambda: setattr(server, "should_exit", True)
+    server.run()
+    if worker.failure is not None:
+        print(f"npss-registry: the node has stopped: {worker.failure}", file=sys.stderr)
+        return 4
+    return 0

@@ -74,8 +74,10 @@ class Shard:
         if isinstance(record, Claim):
             if self._store.at(self.number, place):
                 self._take(place, record)
-        elif isinstance(record, Forget) and self._store.ended_at(self.number, record.string, place):
-            self.node.forget(record.string)
+        elif isinstance(record, Forget):
+            named = self._store.at(self.number, record.place)
+            if named and named.ended == place:
+                self.node.forget(record.string)
 
     # ---- records
 

@@ -19,7 +19,7 @@ from npss_registry.records import Setup, form_of
 _LAYOUT = 1
 _TABLES = """
 CREATE TABLE setup (layout INTEGER NOT NULL, form TEXT NOT NULL, room INTEGER NOT NULL, shards INTEGER NOT NULL,
-    equivalents INTEGER NOT NULL, log TEXT NOT NULL, node TEXT NOT NULL, file TEXT NOT NULL);
+    equivalents INTEGER NOT NULL, log TEXT NOT NULL, node TEXT NOT NULL, openings INTEGER NOT NULL);
 CREATE TABLE version (number INTEGER PRIMARY KEY, data BLOB NOT NULL, exclusions BLOB NOT NULL,
     data_sum BLOB NOT NULL, exclusions_sum BLOB NOT NULL, assigned INTEGER NOT NULL);
 CREATE TABLE shard (number INTEGER PRIMARY KEY, place INTEGER NOT NULL, sum BLOB, image BLOB NOT NULL,
@@ -27,11 +27,12 @@ CREATE TABLE shard (number INTEGER PRIMARY KEY, place INTEGER NOT NULL, sum BLOB
 CREATE TABLE registration (shard INTEGER NOT NULL, place INTEGER NOT NULL, string BLOB NOT NULL, key BLOB NOT NULL,
     owner TEXT NOT NULL, refused TEXT, parked INTEGER NOT NULL, ended INTEGER, PRIMARY KEY (shard, place)) WITHOUT ROWID;
 CREATE UNIQUE INDEX registered_string ON registration (shard, string) WHERE ended IS NULL;
-CREATE INDEX registered_key ON registration (shard, key) WHERE ended IS NULL;
+CREATE INDEX registered_key ON registration (shard, key, place) WHERE ended IS NULL;
 CREATE INDEX parked_place ON registration (shard, place) WHERE parked;
 CREATE TABLE journal (number INTEGER PRIMARY KEY AUTOINCREMENT, shard INTEGER NOT NULL, event TEXT NOT NULL,
     place INTEGER NOT NULL, version INTEGER NOT NULL);
 """
+_BY_STRING, _BY_KEY, _PARKED = (f"INDEXED BY {name}" for name in ("registered_string", "registered_key", "parked_place"))
 _COLUMNS = "place, string, key, owner, refused, parked, ended"
 
 
@@ -98,12 +99,6 @@ def _registration(row: tuple[Any, ...]) -> Registration:
     return Registration(place, string.decode(), key.decode(), owner, refused, bool(parked), ended)
 
 
-def _identity(path: str) -> str:
-    """What tells a file from a copy of it."""
-    told = os.stat(path)
-    return f"{told.st_dev}:{told.st_ino}"
-
-
 class Store:
     """The store of a path, to be read alone, or to be worked on by this process and no other."""
 
@@ -122,7 +117,7 @@ class Store:
             self.close()
             raise StoreError(f"{path}: its layout is not one that this version reads")
         self.setup = Setup(form_of(row[1]), row[2], row[3], bool(row[4]))
-        self.log, self.node, self._file = row[5], row[6], row[7]
+        self.log, self.node, self._openings = row[5], row[6], row[7]
 
     @staticmethod
     def _locked(path: str) -> int:
@@ -156,7 +151,7 @@ class Store:
             for statement in _TABLES.split(";\n"):
                 base.execute(statement)
             base.execute("INSERT INTO setup VALUES (?, ?, ?, ?, ?, ?, ?, ?)",
-                         (_LAYOUT, setup.form, setup.room, setup.shards, setup.equivalents, log, secrets.token_hex(8), _identity(made)))
+                         (_LAYOUT, setup.form, setup.room, setup.shards, setup.equivalents, log, secrets.token_hex(8), 0))
             _add_version(base, 0, version)
             base.executemany("INSERT INTO shard VALUES (?, 0, NULL, ?, 0, ?, 0, 0)",
                              ((number, empty, empty) for number in range(setup.shards)))
@@ -213,14 +208,32 @@ class Store:
     # ---- where it stands
 
     @property
-    def is_copy(self) -> bool:
-        """Whether this file isn't the one that the node's name was given to: a backup that was brought back."""
-        return bool(self._file != _identity(self.path))
+    def was_brought_back(self) -> bool:
+        """Whether this isn't the file that was opened last under its name, but a backup of an earlier time or another place."""
+        assert self._lock is not None
+        told = os.pread(self._lock, 100, 0).decode()
+        return told != self._mark() if self._openings else bool(told)
+
+    def _mark(self) -> str:
+        """What the lock's file tells of the last opening."""
+        return f"{self.node} {self._openings}\n"
 
     def rename_node(self) -> None:
-        """Gives the node another name, and its file is this one."""
-        self.node, self._file = secrets.token_hex(8), _identity(self.path)
-        self._base.execute("UPDATE setup SET node = ?, file = ?", (self.node, self._file))
+        """Gives the node another name, since its old one goes on elsewhere."""
+        self.node = secrets.token_hex(8)
+        self._base.execute("UPDATE setup SET node = ?", (self.node,))
+
+    def count_opening(self) -> None:
+        """Writes that the store was opened once more, into it; `note_opening` tells it beside it."""
+        self._openings += 1
+        self._base.execute("UPDATE setup SET openings = ?", (self._openings,))
+
+    def note_opening(self) -> None:
+        """Tells beside the store which opening was the last. Where that fails, the next one takes it for a backup."""
+        assert self._lock is not None
+        os.ftruncate(self._lock, 0)
+        os.pwrite(self._lock, self._mark().encode(), 0)
+        os.fsync(self._lock)
 
     def versions(self) -> list[Version]:
         """The chain of versions, the earliest first. The last is in use."""
@@ -277,31 +290,27 @@ class Store:
 
     def holder(self, number: int, string: str) -> Optional[Registration]:
         """The registration of a string, while it lasts."""
-        return self._one("string = ? AND ended IS NULL", number, string.encode())
+        return self._one(_BY_STRING, "string = ? AND ended IS NULL", number, string.encode())
 
     def with_key(self, number: int, key: str) -> list[Registration]:
         """The registrations of a key, while they last, in the order of their places."""
-        return list(self._some("key = ? AND ended IS NULL ORDER BY place", number, key.encode()))
+        return list(self._some(_BY_KEY, "key = ? AND ended IS NULL ORDER BY place", number, key.encode()))
 
     def at(self, number: int, place: int) -> Optional[Registration]:
         """The registration that the record at a place made."""
-        return self._one("place = ?", number, place)
-
-    def ended_at(self, number: int, string: str, place: int) -> Optional[Registration]:
-        """The registration of a string that the record at a place ended."""
-        return self._one("string = ? AND ended = ?", number, string.encode(), place)
+        return self._one("", "place = ?", number, place)
 
     def registrations(self, number: int) -> Iterator[Registration]:
         """All registrations while they last, in the order of their places."""
-        return self._some("ended IS NULL ORDER BY place", number)
+        return self._some("", "ended IS NULL ORDER BY place", number)
 
     def past(self, number: int) -> Iterator[Registration]:
         """All registrations that ever were, in the order of their places."""
-        return self._some("1 ORDER BY place", number)
+        return self._some("", "1 ORDER BY place", number)
 
     def parked(self, number: int) -> list[Registration]:
         """The registrations of which the node lacks a code point, in the order of their places."""
-        return list(self._some("parked AND ended IS NULL ORDER BY place", number))
+        return list(self._some(_PARKED, "parked AND ended IS NULL ORDER BY place", number))
 
     def count(self, number: int) -> int:
         """How many strings are registered."""
@@ -319,11 +328,13 @@ class Store:
     def unpark(self, number: int, place: int) -> None:
         self._base.execute("UPDATE registration SET parked = 0 WHERE shard = ? AND place = ?", (number, place))
 
-    def _some(self, where: str, *given: Any) -> Iterator[Registration]:
-        return map(_registration, self._base.execute(f"SELECT {_COLUMNS} FROM registration WHERE shard = ? AND {where}", given))
+    def _some(self, index: str, where: str, *given: Any) -> Iterator[Registration]:
+        """Rows by an index: left to itself SQLite walks the places of the whole shard."""
+        rows = self._base.execute(f"SELECT {_COLUMNS} FROM registration {index} WHERE shard = ? AND {where}", given)
+        return map(_registration, rows)
 
-    def _one(self, where: str, *given: Any) -> Optional[Registration]:
-        return next(self._some(where, *given), None)
+    def _one(self, index: str, where: str, *given: Any) -> Optional[Registration]:
+        return next(self._some(index, where, *given), None)
 
 
 def sqlite3_name(path: str) -> str:

@@ -34,6 +34,8 @@ class Worker:
     def __init__(self, path: str):
         self.registry = Registry(path)
         self.failure: Union[BaseException, None] = None
+        # What is called once where the registry stops.
+        self.on_failure: Callable[[], None] = lambda: None
         self._asked: "queue.SimpleQueue[Union[_Asked, None]]" = queue.SimpleQueue()
         self._thread = threading.Thread(target=self._run, name="registry")
         self._thread.start()
@@ -74,6 +76,7 @@ class Worker:
                 for asked in batch:
                     if not asked.answer.done():
                         asked.answer.set_exception(error)
+                self.on_failure()
         while not self._asked.empty():
             left = self._asked.get()
             if left is not None:

@@ -17,11 +17,12 @@ import sys
 import tempfile
 import time
 import unittest
+import urllib.parse
 from pathlib import Path
 
 from npss import NotUtf8, TooLong, Unassigned
 
-from npss_registry import Differs, InUse, LogBroken, NotOneChain, Registry, StoreError, Version, init
+from npss_registry import Differs, InUse, LogAway, LogBroken, NotOneChain, Registry, StoreError, Version, init
 from npss_registry.command import main as command
 from npss_registry.judge import Judge
 from npss_registry.logs import SqliteLog, open_log
@@ -139,7 +140,7 @@ class Versions(Case):
         self.assertRaises(Unassigned, old.claim, YOUNG, "y")
         self.assertRaises(Unassigned, old.find, YOUNG)
         old.catch_up()
-        self.assertEqual((old.status()[0].registered, old.status()[0].parked, len(old.shards[0].node)), (1, 1, 0))
+        self.assertEqual((old.status()[0].registered, [row.string for row in old.status()[0].parked], len(old.shards[0].node)), (1, [YOUNG], 0))
         self.assertEqual(old.upgrade(version(NEW)), [])
         self.assertEqual([entry.string for entry in old.shards[0].node], [YOUNG])
         self.assertEqual(old.find(YOUNG)[0].owner, "x")
@@ -224,6 +225,27 @@ class Restarts(Case):
         again.catch_up()
         self.assertEqual(again.find("A")[0].owner, "x")
         self.assertEqual(self.judged(node.store.path, copy), [])
+        again.close()
+        name = again.store.node
+        self.assertEqual(self.open(copy).store.node, name)
+
+    def test_a_backup_over_the_store_gets_another_name(self):
+        node = self.node("one")
+        node.claim("a", "x")
+        node.close()
+        path, name = node.store.path, node.store.node
+        kept = Path(path).read_bytes()
+        again = self.open(path)
+        self.assertEqual(again.store.node, name)
+        again.claim("A", "x")
+        again.close()
+        Path(path).write_bytes(kept)
+        back = self.open(path)
+        self.assertNotEqual(back.store.node, name)
+        back.catch_up()
+        self.assertEqual([entry.string for entry in back.shards[0].node], ["a", "A"])
+        back.close()
+        self.assertEqual(self.judged(path), [])
 
     def test_a_new_log_from_what_stores_read(self):
         one, other = self.node("one"), self.node("other")
@@ -348,7 +370,7 @@ class Redis(Case):
     def server(self, *words):
         with socket.create_server(("127.0.0.1", 0)) as free:
             port = free.getsockname()[1]
-        process = subprocess.Popen(["redis-server", "--port", str(port), "--bind", "127.0.0.1", "--dir", str(self.folder), "--save", "", *words],
+        self.process = process = subprocess.Popen(["redis-server", "--port", str(port), "--bind", "127.0.0.1", "--dir", str(self.folder), "--save", "", *words],
                                    stdout=subprocess.DEVNULL)
         self.addCleanup(process.wait)
         self.addCleanup(process.kill)
@@ -373,6 +395,19 @@ class Redis(Case):
         self.assertEqual(again.find(YOUNG)[0].owner, "y")
         self.assertEqual(self.judged(one.store.path, other.store.path), [])
 
+    def test_a_server_that_is_away(self):
+        self.log = self.server("--appendonly", "yes", "--appendfsync", "always")
+        node = self.node("one")
+        node.claim("a", "x")
+        self.process.kill()
+        self.process.wait()
+        self.assertRaises(LogAway, node.claim, "A", "x")
+        self.assertIsNone(node.status()[0].last)
+        # What stands in the store is found all the same.
+        self.assertEqual(node.find("a")[0].owner, "x")
+        node.abandon()
+        self.assertRaises(LogAway, Registry, node.store.path)
+
     def test_a_server_that_loses_what_it_was_told_is_refused(self):
         self.assertRaisesRegex(StoreError, "appendfsync", open_log, self.server())
 
@@ -392,7 +427,7 @@ class Serving(Case):
         store = self.store("store")
         with socket.create_server(("127.0.0.1", 0)) as free:
             port = free.getsockname()[1]
-        process = subprocess.Popen([sys.executable, "-m", "npss_registry", "serve", store, "--port", str(port), *words],
+        self.process = process = subprocess.Popen([sys.executable, "-m", "npss_registry", "serve", store, "--port", str(port), *words],
                                    stderr=subprocess.DEVNULL)
         self.addCleanup(process.wait)
         self.addCleanup(process.terminate)
@@ -437,6 +472,50 @@ class Serving(Case):
         self.assertEqual(self.ask(server, "/forget", {"name": "a\u0302"})[0], 404)
         status, told = self.ask(server, "/status", None, None)
         self.assertEqual((status, told["shards"][0]["registered"], told["shards"][0]["behind"]), (200, 0, 0))
+
+    def page(self, connection, path, form=None):
+        """A page, which is read by headless Chromium where that is here: its text as a person sees it, and its HTML."""
+        headers = {"Content-Type": "application/x-www-form-urlencoded"}
+        connection.request("GET" if form is None else "POST", path, form and urllib.parse.urlencode(form), headers if form else {})
+        answer = connection.getresponse()
+        html = answer.read().decode()
+        self.assertEqual((answer.status, answer.headers["Content-Type"]), (200, "text/html; charset=utf-8"))
+        self.assertIn("default-src 'none'", answer.headers["Content-Security-Policy"])
+        self.assertNotIn("<script", html)
+        return html
+
+    def test_pages(self):
+        token = self.folder / "token"
+        token.write_text(TOKEN + "\n")
+        server = self.serve("--token-file", str(token))
+        self.ask(server, "/claim", {"name": "a\u0302", "owner": "<x>"})
+        self.assertIn("<td>1</td>", self.page(server, "/"))
+        found = self.page(server, "/search", {"name": "\u00e2"})
+        self.assertIn("&lt;x&gt;", found)
+        self.assertIn("0061 0302", found)
+        self.assertIn("Nobody has it", self.page(server, "/search", {"name": "A"}))
+        self.assertIn("not assigned", self.page(server, "/search", {"name": YOUNG}))
+        self.assertIn("The same name", self.page(server, "/why", {"left": "a\u0302", "right": "\u00e2"}))
+        other = self.page(server, "/why", {"left": "a\u0302", "right": "a\u0302A"})
+        for words in ("Two names", "differ first at code point 2", "<mark>0041</mark>", "230", "only look alike"):
+            self.assertIn(words, other)
+        self.assertIn("can't be told", self.page(server, "/why", {"left": YOUNG, "right": "A"}).replace("&#x27;", "'"))
+
+    @unittest.skipUnless(shutil.which("chromium"), "chromium is not here")
+    def test_a_page_in_a_browser(self):
+        server = self.serve()
+        file = self.folder / "page.html"
+        file.write_text(self.page(server, "/why", {"left": "a\u0302", "right": "a\u0323"}), encoding="utf-8")
+        words = ["chromium", "--headless", "--no-sandbox", "--disable-gpu", f"--user-data-dir={self.folder}/chromium", "--dump-dom", file.as_uri()]
+        seen = subprocess.run(words, stdout=subprocess.PIPE, stderr=subprocess.DEVNULL, text=True, timeout=120, check=True).stdout
+        for words in ("Two names", "<mark>00E2</mark>", "<mark>1EA1</mark>", "<td>220</td>"):
+            self.assertIn(words, seen)
+
+    def test_a_server_stops_where_the_log_is_broken(self):
+        server = self.serve()
+        self.assertEqual(self.ask(server, "/status", None, None)[0], 200)
+        SqliteLog(self.log).append([(0, b"no record")])
+        self.assertEqual(self.process.wait(timeout=30), 4)
 
     def test_without_a_token_nothing_changes(self):
         server = self.serve()

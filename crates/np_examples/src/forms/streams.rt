@@ -112,11 +112,11 @@ fn ends_and_begins<T: NormTable>(alloc: Global, stream: &mut Stream<'_, T>) -> R
 /// A stream shows how much it holds, and none of it.
 fn shows_counts<T: NormTable>(alloc: Global, table: &T) -> Result<(), Fail> {
     let mut stream = Stream::new(alloc, table, Form::Nfc);
-    feeds(&mut stream, "\u{61}\u{41}")?;
+    feeds(&mut stream, "\u{61}\u{61}\u{41}")?;
     shows(
         alloc,
         &stream,
-        "Stream { form: Nfc, ready: 1, pending: 1, .. }",
+        "Stream { form: Nfc, ready: 2, pending: 1, .. }",
     )
 }
 

@@ -221,7 +221,10 @@ fn faults_are_told(rt: HostRuntime) -> Result<(), Fail> {
         wants_fault_of_edit(rt.alloc(), row.0, row.1, row.2)?;
     }
     let lone = TableFault::HangulWrong { code: 0x1101 };
-    wants_fault(rt.alloc(), "1100;X;Lo;0;L;;;;;N;;;;;", "", lone)
+    wants_fault(rt.alloc(), "1100;X;Lo;0;L;;;;;N;;;;;", "", lone)?;
+    // the last code point of all
+    let last = TableFault::MapsToUnassigned { code: 0x10FFFF };
+    wants_fault(rt.alloc(), "10FFFF;X;Co;0;L;0061;;;;N;;;;;", "", last)
 }
 
 // 0062 maps to 32 times 0061.

@@ -1,36 +1,13 @@
 //! Files that are opened by their names as they stand, and the first that doesn't open.
+use crate::shelf::Shelf;
 use np_code_points::input::read_whole;
 use np_code_points::watched::Watched;
 use np_examples_shared::devices::Trickle;
 use np_examples_shared::want;
-use np_jobs::{Opener, open_version, open_versions};
+use np_jobs::{open_version, open_versions};
 use np_words::VersionFiles;
 use std::alloc::{AllocError, Global};
-use std::io::{Error, ErrorKind, Result as IoResult};
 use std::test::Fail;
-
-/// Files in memory: their names, and what each holds.
-#[derive(Drop)]
-pub(crate) struct Shelf<'a> {
-    pub files: &'a [(&'a str, &'a str)],
-}
-
-impl<'a> Opener for Shelf<'a> {
-    type File = Trickle<'a>;
-
-    ghost gives = { λ _ _ _. Unit {0} };
-
-    ghost lacks = { λ _ _. Unit {0} };
-
-    fn open(&self, name: &str) -> IoResult<Trickle<'a>> {
-        for (here, text) in self.files {
-            if *here == name {
-                return Ok(Trickle::new(text.as_bytes(), 100));
-            }
-        }
-        Err(Error::from(ErrorKind::NotFound))
-    }
-}
 
 /// Names that differ in a blank or a line end alone.
 const FILES: &[(&str, &str)] = &[(" d ", "1"), ("d", "2"), ("e", "3"), ("e\n", "4")];

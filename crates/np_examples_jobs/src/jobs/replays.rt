@@ -1,11 +1,11 @@
 //! Worked examples of `replay` over the fixtures, and what comes first of several faults.
 use super::{Job, JobRow, are_answered, wants_answer};
 use np_examples_shared::fixtures::{V1_EXCLUSIONS, V2_EXCLUSIONS};
-use np_examples_shared::{Files, V1, V2};
-use np_world::fixtures::{
+use np_examples_shared::scripts::{
     EXCHANGE_REPORT, EXCHANGE_SCHEDULE, FORGED_REPORT, FORGED_SCHEDULE, FORGETTING_REPORT,
     FORGETTING_SCHEDULE, OLDER_REPORT, OLDER_SCHEDULE, RESTART_REPORT, RESTART_SCHEDULE,
 };
+use np_examples_shared::{Files, V1, V2};
 use std::alloc::Global;
 use std::test::Fail;
 

@@ -4,9 +4,11 @@ ghost use Rattle.std.specs.Prelude.{◌≡◌, IfOk, length};
 
 use np_chain::Chain;
 use np_code_points::{Form, Memory};
+use np_examples_shared::scripts::{
+    EXCHANGE_REPORT, EXCHANGE_SCHEDULE, RESTART_REPORT, RESTART_SCHEDULE,
+};
 use np_examples_shared::{Files, V1, V2, again_where, tables_of, want};
 use np_tables::RowTable;
-use np_world::fixtures::{EXCHANGE_REPORT, EXCHANGE_SCHEDULE, RESTART_REPORT, RESTART_SCHEDULE};
 use np_world::{Report, Schedule, ScheduleFault, read_schedule, replay, report_text};
 use std::alloc::Global;
 use std::test::Fail;

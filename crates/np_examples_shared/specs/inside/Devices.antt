@@ -1,6 +1,7 @@
 -- What a clause reads of the devices for tests.
 use Rattle.std.specs.Prelude.{◌≡◌, ℕ, ◌+◌, ◌<◌, ◌==◌, List, Option, Some, None, if◌then◌else◌}
 use Rattle.np_examples_shared.specs.declared.devices.Endless.{Endless}
+use Rattle.np_examples_shared.specs.declared.devices.Ending.{Ending}
 use Rattle.np_examples_shared.specs.declared.devices.Failure.{Failure}
 use Rattle.np_examples_shared.specs.declared.devices.Trickle.{Trickle}
 use Rattle.np_examples_shared.specs.declared.devices.Room.{Room}
@@ -12,6 +13,13 @@ bytes_left t = t.bytes.now
 -- how many bytes it gives a call at most
 abbrev pub piece_of : Trickle → ℕ
 piece_of t = t.piece
+
+-- the same of a reader that counts the reads that found its end, and how many did
+abbrev pub left_before_end : Ending → List ℕ
+left_before_end e = e.bytes.now
+
+abbrev pub ends_found : Ending → ℕ
+ends_found e = e.found
 
 -- the bytes that a writer took
 abbrev pub bytes_taken : Room → List ℕ

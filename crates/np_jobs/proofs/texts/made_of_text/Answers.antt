@@ -2,7 +2,6 @@ use Rattle.std.proofs.Common.{inl, inr, refl, string_bytes, subst}
 use Rattle.std.proofs.lemmas.Result.{err_from_is_err_and}
 use Rattle.np_jobs.specs.Streams.{Stream}
 use Rattle.np_jobs.specs.Texts.{IsMadeOfText, IsTextFault}
-use Rattle.np_jobs.specs.inside.TextJobs.{JobMakes, JobRefuses}
 use Rattle.np_jobs.proofs.EndLemmas.{same_stream, untouched}
 use Rattle.np_jobs.proofs.texts.made_of_text.Goals as goal
 
@@ -11,7 +10,7 @@ returns-in_err-made_under-clause-refused g c =
     let fault = c.in_err-made_under.field-0.0 in
     let table = g.T.NormTable.model c.in_ok-table.table in
     let input = same_stream g.I.Read.remaining c.clear.new.self c.args.input.now c.made_under.new.input c.clear.ensures.device in
-    let refused = subst (λ (s : Stream). IsTextFault (JobRefuses c.args.job table) s fault) input c.in_err-made_under.ensures.refused in
+    let refused = subst (λ (s : Stream). IsTextFault (g.M.TextMaker.refuses c.args.maker.now table) s fault) input c.in_err-made_under.ensures.refused in
     let p = err_from_is_err_and c.from_residual-in_err-made_under.result c.from_residual-in_err-made_under.ensures.1 in
     rw (p.1, p.2) (inr (table, c.in_ok-table.ensures.built, (fault, refl, refused)))
 
@@ -29,5 +28,5 @@ returns-clause-made g c =
     record {
       v = table;
       built = c.in_ok-table.ensures.built;
-      made = subst (λ (s : Stream). IsMadeOfText (JobMakes c.args.job c.args.form table) s made.is_yes (string_bytes made.text)) input c.in_ok-made_under.ensures.made;
+      made = subst (λ (s : Stream). IsMadeOfText (g.M.TextMaker.makes c.args.maker.now table) s made.is_yes (string_bytes made.text)) input c.in_ok-made_under.ensures.made;
     }

@@ -12,27 +12,27 @@ use Rattle.np_program.proofs.program.run_replay.Goals as goal
 pub returns-in_err-schedule-clause-unopened : goal.returns-in_err-schedule-clause-unopened
 returns-in_err-schedule-clause-unopened g c =
     let p = err_from_is_err_and c.from_residual.result c.from_residual.ensures.1 in
-    let opener = c.args.opener.now in
+    let opener = c.args.with.now.opener.now in
     let schedule = c.args.schedule_file.now in
     let files = flat_map names_of c.args.version_files.now in
     rw (p.1, p.2)
-    (unopened_among (g.P.Opener.gives opener) (g.P.Opener.lacks opener) g.E.Write.contents (schedule ∷ files) [] (schedule ∷ []) files [] c.args.error.now c.args.error.now c.open_file.new.error _
+    (unopened_among (g.P.Opener.gives opener) (g.P.Opener.lacks opener) g.E.Write.contents (schedule ∷ files) [] (schedule ∷ []) files [] c.args.streams.now.error c.args.streams.now.error c.open_file.new.error _
     refl refl tt c.in_err-schedule.ensures.told)
 
 pub returns-in_err-files-clause-unopened : goal.returns-in_err-files-clause-unopened
 returns-in_err-files-clause-unopened g c =
     let p = err_from_is_err_and c.from_residual-in_err-files.result c.from_residual-in_err-files.ensures.1 in
-    let opener = c.args.opener.now in
+    let opener = c.args.with.now.opener.now in
     let schedule = c.args.schedule_file.now in
     let files = flat_map names_of c.args.version_files.now in
     rw (p.1, p.2)
-    (unopened_among (g.P.Opener.gives opener) (g.P.Opener.lacks opener) g.E.Write.contents (schedule ∷ files) (schedule ∷ []) files [] (_ ∷ []) c.args.error.now c.open_file.new.error c.open_versions.new.error _
+    (unopened_among (g.P.Opener.gives opener) (g.P.Opener.lacks opener) g.E.Write.contents (schedule ∷ files) (schedule ∷ []) files [] (_ ∷ []) c.args.streams.now.error c.open_file.new.error c.open_versions.new.error _
     c.in_ok-schedule.ensures.silent (ap (λ l. schedule ∷ l) (sym (append-nil files))) (c.in_ok-schedule.ensures.file, tt) c.in_err-files.ensures.told)
 
 pub returns-clause-done : goal.returns-clause-done
 returns-clause-done g c =
     let tells = g.P.File.Read.remaining in
-    let gives = g.P.Opener.gives c.args.opener.now in
+    let gives = g.P.Opener.gives c.args.with.now.opener.now in
     let names = flat_map names_of c.args.version_files.now in
     let count = length c.args.version_files.now in
     let old = c.as_mut_slice.result.now in
@@ -41,9 +41,9 @@ returns-clause-done g c =
     let size : length old ≡ 2 * count = omega (arith, c.as_mut_slice.ensures.len, c.in_ok-files.ensures.count) in
     let kept : length new ≡ 2 * count = omega (arith, size, c.replay_job.auto.files) in
     let same = befores tells count old new size kept ∙ ap (map (λ file. tells (device_of file))) c.as_mut_slice.ensures.value in
-    let output = stream_of g.O.Write.contents c.args.output.now c.replay_job.new.output in (
+    let output = stream_of g.O.Write.contents c.args.streams.now.output c.replay_job.new.output in (
       readers,
       (c.in_ok-schedule.ensures.file, subst (AllZip gives names) (sym same) c.in_ok-files.ensures.files),
       ends_before g.E.Write.contents (λ error. ReplayEnds c.args.form readers output error c.replay_job.result)
-          c.args.error.now c.open_versions.new.error c.replay_job.new.error (c.in_ok-files.ensures.silent ∙ c.in_ok-schedule.ensures.silent) c.replay_job.ensures,
+          c.args.streams.now.error c.open_versions.new.error c.replay_job.new.error (c.in_ok-files.ensures.silent ∙ c.in_ok-schedule.ensures.silent) c.replay_job.ensures,
     )

@@ -1,0 +1,2 @@
+pub mod ProgramLemmas
+pub mod ShelfLemmas

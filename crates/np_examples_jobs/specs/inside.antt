@@ -1,0 +1,2 @@
+pub mod OverFiles
+pub mod Shelves

@@ -1,4 +1,0 @@
-use Rattle.np_lines_job.proofs.program.run.Goals as goal
-
-pub returns-in-Answer-clause-done : goal.returns-in-Answer-clause-done
-returns-in-Answer-clause-done g c = rw c.in-Answer.is c.run_on_lines.ensures.done
