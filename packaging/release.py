@@ -3,6 +3,7 @@
 
     packaging/release.py            prints the version, and each place that tells another one
     packaging/release.py --write    puts these places right
+    packaging/release.py --told     prints how PROVED begins: the version and the commit
 
 The status is 1 where a place tells another version and isn't put right.
 """
@@ -90,6 +91,9 @@ def differing(version, write=False):
 def main():
     write = sys.argv[1:] == ["--write"]
     version, _ = newest()
+    if sys.argv[1:] == ["--told"]:
+        print(f"npss {version}\ncommit {this_release().commit}")
+        return 0
     print(version)
     told = differing(version, write)
     for name in told:

@@ -4,6 +4,7 @@ import base64
 import hashlib
 import os
 import re
+import shutil
 import subprocess
 import sys
 import sysconfig
@@ -20,6 +21,14 @@ SUMMARY = "Stabilized Unicode strings: keys that stay the same under each later 
 
 class NotPortable(Exception):
     """The module wants what its tag doesn't promise."""
+
+
+def why_not():
+    """Why no module can be built here, or nothing."""
+    missing = [name for name in (os.environ.get("CC", "cc"), "nm", "readelf", "strip") if not shutil.which(name)]
+    if missing:
+        return f"{' and '.join(missing)} not found"
+    return "" if Path(sysconfig.get_path("include"), "Python.h").exists() else "Python's headers not found"
 
 
 def stable_names():
