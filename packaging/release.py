@@ -69,7 +69,7 @@ def this_release():
     commit = git("rev-parse", "HEAD") if git("rev-parse", "--show-prefix") == "" else ""
     at_midnight = int(datetime.strptime(day, "%Y-%m-%d").replace(tzinfo=timezone.utc).timestamp())
     time = int(os.environ.get("SOURCE_DATE_EPOCH") or git("log", "-1", "--format=%ct") or at_midnight)
-    if commit and is_changed_since(commit):
+    if commit and git("status", "--porcelain"):
         commit += ", with changes"
     return Release(version, day, commit or "unknown", time)
 

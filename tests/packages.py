@@ -72,7 +72,7 @@ def sums(folder):
 
 def copied_tree(to):
     """A copy of this tree with what git knows of it, or nothing where there is no git here."""
-    listed = releases.git("ls-files", "-z")
+    listed = releases.git("ls-files", "-z", "--cached", "--others", "--exclude-standard")
     if not listed or releases.git("rev-parse", "--show-prefix"):
         return None
     subprocess.run(["git", "clone", "-q", "--no-checkout", "--shared", str(ROOT), str(to)], check=True)
