@@ -2,7 +2,7 @@
 """tests/packages.py [PREFIX|--after-gate]: makes the packages by ./package, and installs them where no toolchain is.
 
 PREFIX is where ./build-c installed programs and library; without it ./build-c is called first, with the flag where that is
-given. In turn: places that tell the version; the packages twice, in two folders, the same bytes; what they have, by lintian
+given. In turn: places that tell the version, and scripts that ask for the toolchain; the packages twice, in two folders, the same bytes; what they have, by lintian
 and by their sums; the tarball where it was unpacked; then, in a root that mmdebstrap makes without toolchain and compiler, each
 package installed, first keys by program, C, Python, PostgreSQL, SQLite and the registry, and all of it removed again with
 nothing left, also over what ./build-c /usr/local installs. What can't run here is skipped, with the reason. Run as root it
@@ -33,6 +33,9 @@ WANTED = ("lintian", "mmdebstrap", "pkg-config")
 # In the order of what depends on what.
 DEBIAN = ("npss", "libnpss0", "libnpss-dev", "python3-npss", "postgresql-15-npss", "sqlite3-npss", "npss-registry")
 PROGRAMS = ("npss", "npss_lines")
+# What asks for the toolchain, and how a script does that.
+ASKING = {"build-c", "npss", "prove", "test", "bench/gate", "tests/wrong_bodies.py"}
+ASKS = re.compile(r"which\([\"']rt[\"']|\[[\"']rt[\"']|command -v rt\b|for command in rt\b|^\s*(?:\w+=\S* )*rt [a-z]", re.MULTILINE)
 # A text, and its keys under NFC and NFKC.
 TEXT, KEY, COMPATIBLE = "a\u0302\u0323\ufb01", "\u1ead\ufb01", "\u1eadfi"
 UNICODE = "/usr/share/unicode"
@@ -46,6 +49,15 @@ KEY_BY_SQL = ".load {extension}\nSELECT npss_raise('{folder}');\nSELECT hex(npss
 # A PostgreSQL without a server: one process reads its statements.
 SINGLE = "/usr/lib/postgresql/15/bin/postgres"
 VERSIONS = "/tmp/versions"
+
+
+def check_toolchain(tally):
+    """Nothing asks for the toolchain but what builds, and what is about the gate."""
+    scripts = [path for path in ROOT.iterdir() if path.is_file() and not path.suffix]
+    for folder in ("bench", "bindings", "databases", "examples", "hosts", "packaging", "tests"):
+        scripts += [path for path in (ROOT / folder).rglob("*") if path.is_file() and path.suffix in ("", ".py", ".sh") and path != Path(__file__)]
+    asking = {str(path.relative_to(ROOT)) for path in scripts if ASKS.search(path.read_text(encoding="utf-8", errors="replace"))}
+    tally.same("what asks for the toolchain", sorted(asking - ASKING), [])
 
 
 def told(tally, name, words, **options):
@@ -208,6 +220,13 @@ def check_programs(tally, root, program):
     tally.same(f"first key by {program}_lines", (status, written), (0, f"={COMPATIBLE}\n"))
 
 
+def check_page(tally, root, begin, wanted):
+    """The line of docs/INSTALL.md that begins so does what the page tells."""
+    page = (ROOT / "docs" / "INSTALL.md").read_text(encoding="utf-8")
+    line = next((line for line in page.splitlines() if line.startswith(begin)), "false")
+    tally.same(f"{begin}.. of docs/INSTALL.md", root.run("sh", "-c", f"cd /tmp; {line}"), (0, wanted))
+
+
 def check_c(tally, root, room):
     """A program that is compiled outside of the root, by what the root's pkg-config file tells, runs in it."""
     if not (shutil.which("cc") and shutil.which("pkg-config")):
@@ -237,6 +256,7 @@ def check_python(tally, root, wheel, version):
         tally.check("pip installs the wheel", status == 0, written)
         script = f"{KEY_BY_PYTHON}\nassert npss.__file__.startswith('/tmp/venv/'), npss.__file__"
         tally.same("first key by the wheel", root.run("/tmp/venv/bin/python", "-c", script), wanted)
+        check_page(tally, root, "venv/bin/python", "J\xf6rg\n")
 
 
 def check_registry(tally, root):
@@ -284,6 +304,7 @@ def check_root(tally, root, made, prefix, version, room):
     before = root.listed()
     check_install(tally, root, made, DEBIAN)
     check_programs(tally, root, "/usr/bin/npss")
+    check_page(tally, root, "printf", "fi\n")
     check_c(tally, root, room)
     check_python(tally, root, next(made.glob("*.whl"), None), version)
     check_registry(tally, root)
@@ -326,6 +347,7 @@ def main():
     tally = Tally()
     version, _ = releases.newest()
     tally.same("places that tell another version than CHANGELOG.md", releases.differing(version), [])
+    check_toolchain(tally)
     flags = [word for word in sys.argv[1:] if word.startswith("--")]
     named = [Path(word).resolve() for word in sys.argv[1:] if not word.startswith("--")]
     install_tools()
