@@ -2,11 +2,12 @@
 """tests/packages.py [PREFIX|--after-gate]: makes the packages by ./package, and installs them where no toolchain is.
 
 PREFIX is where ./build-c installed programs and library; without it ./build-c is called first, with the flag where that is
-given. In turn: places that tell the version, and scripts that ask for the toolchain; the packages twice, in two folders, the same bytes; what they have, by lintian
-and by their sums; the tarball where it was unpacked; then, in a root that mmdebstrap makes without toolchain and compiler, each
-package installed, first keys by program, C, Python, PostgreSQL, SQLite and the registry, and all of it removed again with
-nothing left, also over what ./build-c /usr/local installs. What can't run here is skipped, with the reason. Run as root it
-installs Debian's packages that this wants, and says so first, unless NO_APT=1 is set. Ends in a line 'N passed, M failed'.
+given. In turn: places that tell the version, and scripts that ask for the toolchain; the packages twice, in two folders, the
+same bytes; what they have, by lintian and by their sums; the tarball where it was unpacked; then, in a root that mmdebstrap
+makes without toolchain and compiler, each package installed, first keys by program, C, Python, PostgreSQL, SQLite and the
+registry, and all of it removed again with nothing left, also over what ./build-c /usr/local installs. What can't run here is
+skipped, with the reason. Run as root it installs Debian's packages that this wants, and says so first, unless NO_APT=1 is set.
+Ends in a line 'N passed, M failed'.
 """
 
 import concurrent.futures
@@ -188,11 +189,21 @@ def compiled(tally, name, flags, to, **environment):
     return told(tally, f"{name}: cc", ["cc", source, "-o", to, *told_flags.split()]) == "" and to.exists()
 
 
+def newest_glibc(path):
+    """The newest version of glibc that a program or a library wants."""
+    listed = subprocess.run(["nm", "-D", "--undefined-only", path], stdout=subprocess.PIPE, text=True, check=True).stdout
+    return max((tuple(map(int, version.split("."))) for version in re.findall(r"@GLIBC_([0-9.]+)", listed)), default=(0,))
+
+
 def check_tarball(tally, tarball, room):
     """The programs and the library run where the tarball was unpacked, which is no place that it knows."""
     files = [path for path in FILES if Path(path).exists()] or [ROOT / "fixtures/v1" / Path(path).name for path in FILES]
     done = subprocess.run([tarball / "bin/npss", "key", "--form", "nfkc", *files], input="\ufb01".encode(), stdout=subprocess.PIPE, check=False)
     tally.same("the tarball's program", done.stdout, b"fi")
+    if shutil.which("nm"):
+        promised = re.search(r"tar\.gz` .* glibc (\d+)\.(\d+) \|$", (ROOT / "docs" / "INSTALL.md").read_text(encoding="utf-8"), re.MULTILINE)
+        wanted = max(newest_glibc(path) for path in (*(tarball / "bin" / name for name in PROGRAMS), tarball / "lib/libnpss.so.0"))
+        tally.check("the tarball wants no newer glibc than docs/INSTALL.md tells", wanted <= tuple(map(int, promised.groups())), wanted)
     if shutil.which("cc") and shutil.which("pkg-config") and compiled(tally, "the tarball", [], room / "of-tarball",
                                                                     PKG_CONFIG_PATH=str(tarball / "lib/pkgconfig")):
         written = told(tally, "the tarball's library", [room / "of-tarball", *files], env={"LD_LIBRARY_PATH": str(tarball / "lib")})
@@ -238,9 +249,15 @@ def check_c(tally, root, room):
     system = {"PKG_CONFIG_ALLOW_SYSTEM_CFLAGS": "1", "PKG_CONFIG_ALLOW_SYSTEM_LIBS": "1"}
     if compiled(tally, "C", [], room / "first", **where, **system):
         root.put(room / "first", "tmp", "first")
-        tally.same("first key by C", root.run("/tmp/first", *FILES), (0, "\u1ead\n"))
+        check_c_again(tally, root, "C")
         wants = told(tally, "readelf", ["readelf", "-d", room / "first"])
         tally.check("it wants the shared library", "libnpss.so.0" in wants, wants)
+
+
+def check_c_again(tally, root, name):
+    """The program that was compiled, over the shared library that the loader finds by now."""
+    if (root.folder / "tmp" / "first").exists():
+        tally.same(f"first key by {name}", root.run("/tmp/first", *FILES), (0, "\u1ead\n"))
 
 
 def check_python(tally, root, wheel, version):
@@ -318,8 +335,10 @@ def check_root(tally, root, made, prefix, version, room):
     check_install(tally, root, made, some)
     for program in ("/usr/bin/npss", "/usr/local/bin/npss", "npss"):
         check_programs(tally, root, program)
+    check_c_again(tally, root, "C over both")
     check_removal(tally, root, some, before)
     check_programs(tally, root, "npss")
+    check_c_again(tally, root, "C over /usr/local")
 
 
 def check_all(tally, prefix, version, room, making):
