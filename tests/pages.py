@@ -20,6 +20,7 @@ PAGES = {
     "docs/NODES.md": (None, None),
     "docs/BULK.md": (None, None),
     "docs/DOORS.md": (None, None),
+    "docs/INSTALL.md": (None, None),
     "docs/ACCOUNTS.md": (None, None),
     "docs/UPGRADING.md": (None, None),
     "docs/DATABASES.md": (None, None),

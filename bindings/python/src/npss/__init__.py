@@ -32,4 +32,4 @@ from npss._values import Break, Entry, Form, Property
 
 __all__ = ["Accepted", "BadEntry", "BadTables", "Break", "Entry", "Form", "Full", "KeyDiffers", "Malformed", "Node", "NotUtf8",
            "OlderTables", "OtherForm", "Property", "Refused", "Stream", "Tables", "TooLong", "Unassigned"]
-__version__ = "0.1.0"
+__version__ = "0.2.0"

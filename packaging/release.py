@@ -1,0 +1,105 @@
+#!/usr/bin/env python3
+"""The release that this tree is, by CHANGELOG.md and git: its version, its commit, its time.
+
+    packaging/release.py            prints the version, and each place that tells another one
+    packaging/release.py --write    puts these places right
+    packaging/release.py --told     prints how PROVED begins: the version and the commit
+
+The status is 1 where a place tells another version and isn't put right.
+"""
+
+import os
+import re
+import subprocess
+import sys
+from datetime import datetime, timezone
+from pathlib import Path
+from typing import NamedTuple
+
+ROOT = Path(__file__).resolve().parent.parent
+# Where the version stands a second time, since other tools read it there: what stands before it, and how many of its numbers.
+PLACES = {
+    "bindings/python/src/npss/__init__.py": (r'^__version__ = "', 3),
+    "bindings/rust/Cargo.toml": (r'\A\[package\]\nname = "npss"\nversion = "', 3),
+    "bindings/rust/Cargo.lock": (r'^name = "npss"\nversion = "', 3),
+    "databases/postgresql/npss.control": (r"^default_version = '", 2),
+}
+# What the program and the library are made of.
+PROVED_SOURCES = ("crates", "crates.txt", "include", "build-c")
+
+
+class Release(NamedTuple):
+    """A version and the day of its release, the commit, and when it was made, in seconds from 1970."""
+
+    version: str
+    day: str
+    commit: str
+    time: int
+
+
+def newest():
+    """The newest version that CHANGELOG.md tells as released, and its day."""
+    found = re.search(r"^## (\d+\.\d+\.\d+) - (\d{4}-\d\d-\d\d)$", (ROOT / "CHANGELOG.md").read_text(encoding="utf-8"), re.MULTILINE)
+    if not found:
+        raise ValueError("CHANGELOG.md tells no version as '## MAJOR.MINOR.PATCH - YYYY-MM-DD'")
+    return found[1], found[2]
+
+
+def git(*words):
+    """What git answers about this tree, or nothing where there is no git or no repository of this tree."""
+    try:
+        done = subprocess.run(["git", "-C", str(ROOT), *words], stdout=subprocess.PIPE, stderr=subprocess.DEVNULL, text=True, check=False)
+    except FileNotFoundError:
+        return ""
+    return done.stdout.strip() if done.returncode == 0 else ""
+
+
+def is_changed_since(commit, *paths):
+    """Whether these files of the tree are others than in a commit, or whether that can't be told."""
+    try:
+        return subprocess.run(["git", "-C", str(ROOT), "diff", "--quiet", commit, "--", *paths], stderr=subprocess.DEVNULL,
+                              check=False).returncode != 0
+    except FileNotFoundError:
+        return True
+
+
+def this_release():
+    """The release that this tree is. SOURCE_DATE_EPOCH comes before the time of the commit, and that before the day of the version."""
+    version, day = newest()
+    commit = git("rev-parse", "HEAD") if git("rev-parse", "--show-prefix") == "" else ""
+    at_midnight = int(datetime.strptime(day, "%Y-%m-%d").replace(tzinfo=timezone.utc).timestamp())
+    time = int(os.environ.get("SOURCE_DATE_EPOCH") or git("log", "-1", "--format=%ct") or at_midnight)
+    if commit and git("status", "--porcelain"):
+        commit += ", with changes"
+    return Release(version, day, commit or "unknown", time)
+
+
+def differing(version, write=False):
+    """The places that tell another version; `write` puts them right."""
+    told = []
+    for name, (before, numbers) in PLACES.items():
+        path, wanted = ROOT / name, ".".join(version.split(".")[:numbers])
+        text = path.read_text(encoding="utf-8")
+        changed, count = re.subn(rf"({before})[0-9.]+", rf"\g<1>{wanted}", text, count=1, flags=re.MULTILINE)
+        if count == 0 or changed != text:
+            told.append(name)
+            if write and count:
+                path.write_text(changed, encoding="utf-8")
+    return told
+
+
+def main():
+    write = sys.argv[1:] == ["--write"]
+    version, _ = newest()
+    if sys.argv[1:] == ["--told"]:
+        print(f"npss {version}\ncommit {this_release().commit}")
+        return 0
+    print(version)
+    told = differing(version, write)
+    for name in told:
+        print(f"{'written' if write else 'tells another version'}: {name}")
+    return 1 if told and not write else 0
+
+
+if __name__ == "__main__":
+    sys.exit(main())
