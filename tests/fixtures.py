@@ -6,7 +6,7 @@ is paired with a file by its name: V1_DATA with v1/UnicodeData.txt, V1_EXCLUSION
 v1/CompositionExclusions.txt, EXCHANGE_SCHEDULE and EXCHANGE_REPORT with scripts/exchange.schedule
 and scripts/exchange.report. Each has to have the other. The reports of the scripts are compared with those
 of history_model.py, the usage text of docs/FORMATS.md with that of the stored run, the forged images of a unit
-test and their answers with those of forged_images.py, and the Rust example of the README and of two crates with the
+test and their answers with those of forged_images.py, and the Rust example of docs/RATTLE.md and of two crates with the
 unit test that runs it. The manual page is compared with docs/FORMATS.md, and the README's table of speed with the last
 run of bench/run. Each text of a fault is looked for in the unit tests (error_texts.py). Ends in a line 'N passed, M failed'.
 """
@@ -88,9 +88,9 @@ def check_model(tally):
 
 
 def check_example(tally):
-    """The Rust example of the README and of the crates' heads is the one that a unit test runs."""
+    """The Rust example of docs/RATTLE.md and of the crates' heads is the one that a unit test runs."""
     tested = (CRATES / "np_examples" / "src" / "forms" / "example.rt").read_text(encoding="utf-8")
-    for page, fence, sign in ((ROOT / "README.md", "```rust\n", ""), (CRATES / "np_forms/src/lib.rt", "//! ```\n", "//! "),
+    for page, fence, sign in ((ROOT / "docs" / "RATTLE.md", "```rust\n", ""), (CRATES / "np_forms/src/lib.rt", "//! ```\n", "//! "),
                               (CRATES / "np_tables/src/lib.rt", "//! ```\n", "//! ")):
         block = page.read_text(encoding="utf-8").split(fence)[1].split("```")[0]
         lines = [line.removeprefix(sign).strip() for line in block.splitlines() if line.strip("/! ")]
