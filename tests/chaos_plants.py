@@ -2,8 +2,8 @@
 """tests/chaos_plants.py [--seconds N] [NAME..] PROGRAM: plants bugs into the registry, and sees that chaos finds each.
 
 Each bug is one edit of a copy of hosts/registry. Chaos runs over the copy, over a SQLite file and over a Redis server in
-turn, half a minute each, until it fails or N seconds are over, 180 where nobody says otherwise. On demand: not called by
-./test. Ends in a line 'N passed, M failed'.
+turn, half a minute each, until it fails or N seconds are over, 180 where nobody says otherwise. First it runs over the registry
+as it is, and has to pass. On demand: not called by ./test. Ends in a line 'N passed, M failed'.
 """
 
 import argparse
@@ -59,11 +59,15 @@ PLANTS = {
 }
 
 
+def copied(folder):
+    """A copy of the registry."""
+    return shutil.copytree(ROOT / "hosts" / "registry", Path(folder, "registry"))
+
+
 def planted(folder, name):
     """A copy of the registry with a bug in it."""
     file, old, new = PLANTS[name]
-    copy = Path(folder, "registry")
-    shutil.copytree(ROOT / "hosts" / "registry", copy)
+    copy = copied(folder)
     path = copy / "npss_registry" / file
     text = path.read_text(encoding="utf-8")
     if text.count(old) != 1:
@@ -93,6 +97,9 @@ def main():
     parser.add_argument("program", type=Path)
     words = parser.parse_args()
     tally = Tally()
+    with tempfile.TemporaryDirectory() as folder:
+        if not tally.check("no bug, no failure", found_after(copied(folder), words.program, 1) is None, "chaos fails over the registry as it is"):
+            tally.finish()
     for name in words.only or PLANTS:
         with tempfile.TemporaryDirectory() as folder:
             seconds = found_after(planted(folder, name), words.program, words.seconds)
