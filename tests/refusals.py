@@ -272,7 +272,7 @@ def check_calls(tally, module, survived):
     """Each call that the module tests has one test in which it was refused memory, and made again."""
     for call in CALLS[module]:
         found = [count for name, count in survived.items()
-                 if name.startswith(f"{module}::") and name.rpartition("::")[2].startswith(f"a_refused_{call}_")]
+                 if name.startswith(f"{module}::") and name.rpartition("::")[2] == f"a_refused_{call}_succeeds_after_all"]
         tally.check(f"{module}: {call} has a test that makes it again", len(found) == 1, f"{found}")
         print(f"{module}: {call}: {sum(found)} refused{'' if sum(found) else ', none is wanted there'}")
 
