@@ -3,17 +3,19 @@
 
 It opens the store, and does what each line of its standard input asks, which is JSON; it answers in a line of JSON. At
 its write number ENDS to store or log, from 1, it ends itself at once: behind the write where AFTER is 1, else before it.
-0 never ends it.
+0 never ends it. Some writes to the log bring an earlier forget once more, as a client does that waited in vain for its answer.
 """
 
 import json
 import os
+import random
 import sys
-from contextlib import contextmanager
+from contextlib import contextmanager, suppress
 
 from npss import Refused
 from npss_registry import LogAway, LogBroken, NotOneChain, Version
 from npss_registry.logs import RedisLog, SqliteLog
+from npss_registry.records import Forget, read
 from npss_registry.registry import Registry
 from npss_registry.store import Store
 
@@ -35,7 +37,11 @@ class Ends:
             os._exit(9)
 
 
-def hooked(ends):
+# How many of the writes to the log bring a forget once more.
+REPEATED = 0.2
+
+
+def hooked(ends, source):
     """Store and logs whose writes are counted."""
     commit, appends = Store.transaction, {log: log.append for log in (SqliteLog, RedisLog)}
 
@@ -45,9 +51,16 @@ def hooked(ends):
             yield
 
     def append_of(log):
+        forgets = []
+
         def append(self, records):
             with ends.write():
-                return appends[log](self, records)
+                places = appends[log](self, records)
+            forgets.extend(one for one in records if isinstance(read(0, one[1]), Forget))
+            if forgets and source.random() < REPEATED:
+                with ends.write(), suppress(LogAway):
+                    appends[log](self, [source.choice(forgets)])
+            return places
         return append
 
     Store.transaction = transaction
@@ -90,7 +103,7 @@ def answer(registry, asked):
 
 def main():
     store, number, behind = sys.argv[1], int(sys.argv[2]), sys.argv[3] == "1"
-    hooked(Ends(number, behind))
+    hooked(Ends(number, behind), random.Random(number))
     try:
         registry = Registry(store)
     except LogAway:
