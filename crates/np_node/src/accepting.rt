@@ -105,10 +105,10 @@ impl<'t, T: NormTable> Node<'t, T> {
         ensures size { IfOk result (λ key. length (string_bytes key) < 2 ^ 32) }
         ensures fault { IfErr result (λ fault. AnswersAccept (state_of T.model self.now) text.now (Err fault)) }
     {
-        check_assigned(self.table, text)?;
         if self.is_full() {
+            check_assigned(self.table, text)?;
             return Err(NodeFault::Full);
         }
-        Ok(key_for(self.kept.allocator(), self.table, self.form, text)?)
+        key_for(self.kept.allocator(), self.table, self.form, text)
     }
 }

@@ -1,12 +1,13 @@
 //! Strings that may be kept, and their keys.
 ghost use Rattle.std.specs.Prelude.{◌≡◌, ◌≤◌, ◌<◌, ◌^◌, length, string_bytes, IfOk, IfErr, OnOk};
 ghost use Rattle.np_node.specs.Strings.{most_bytes, IsKeepable, IsKey, IsStringFault};
+ghost use Rattle.np_node.specs.inside.KeyFaults.{IsKeyFault};
 ghost use Rattle.np_versions.specs.Versions.{VersionData};
 
 use crate::faults::NodeFault;
 use np_code_points::text::text_of;
-use np_code_points::{Form, Memory};
-use np_forms::{first_unassigned_char, form as form_of};
+use np_code_points::Form;
+use np_forms::{NpssFault, first_unassigned_char, npss};
 use np_versions::NormTable;
 use std::alloc::Global;
 
@@ -40,17 +41,27 @@ pub(crate) fn check_assigned<T: NormTable>(table: &T, text: &str) -> Result<(), 
     }
 }
 
-/// The key of a text.
+/// The key of a text whose code points are assigned, in one pass over it.
+///
+/// # Errors
+///
+/// `Unassigned` where one isn't; else `Memory` where memory ran out.
 pub(crate) fn key_for<T: NormTable>(
     alloc: Global,
     table: &T,
     form: Form,
     text: &str,
-) -> Result<String, Memory>
+) -> Result<String, NodeFault>
     requires { length text.now ≤ most_bytes }
+    ensures keepable { OnOk result (IsKeepable (T.model table.now) text.now) }
     ensures key { IfOk result (λ key. IsKey (T.model table.now) form text.now (string_bytes key)) }
     ensures size { IfOk result (λ key. length (string_bytes key) < 2 ^ 32) }
+    ensures fault { IfErr result (IsKeyFault (T.model table.now) text.now) }
 {
     table.meets_conditions();
-    form_of(alloc, table, form, text)
+    match npss(alloc, table, form, text) {
+        Ok(key) => Ok(key),
+        Err(NpssFault::Unassigned { at, code }) => Err(NodeFault::Unassigned { at, code }),
+        Err(NpssFault::Memory) => Err(NodeFault::Memory),
+    }
 }

@@ -4,7 +4,7 @@ use crate::faults::NodeFault;
 use crate::fields::{Told, same_bytes};
 use crate::messages::read_message;
 use crate::nodes::Node;
-use crate::strings::{check_assigned, key_for, short_text};
+use crate::strings::{key_for, short_text};
 use np_versions::NormTable;
 
 /// What `Node::take` answers.
@@ -70,7 +70,6 @@ impl<'t, T: NormTable> Node<'t, T> {
         ensures answer { AnswersEntry (state_of T.model self.old) (record { string = text.now; key = told.now }) result }
         ensures node { LeavesEntry self.old self.new (record { string = text.now; key = told.now }) result }
     {
-        check_assigned(self.table, text)?;
         let key = key_for(self.kept.allocator(), self.table, self.form, text)?;
         if !same_bytes(key.as_bytes(), told) {
             return Err(NodeFault::KeyDiffers);
