@@ -1,5 +1,7 @@
 """What the test scripts share: runs of the program, and the count."""
 
+import os
+import shutil
 import subprocess
 import sys
 from pathlib import Path
@@ -7,6 +9,16 @@ from pathlib import Path
 ROOT = Path(__file__).resolve().parent.parent
 
 FORMS = ("nfd", "nfc", "nfkd", "nfkc")
+
+
+def install(packages):
+    """Asks Debian for packages, where that may be, and says so first."""
+    if os.environ.get("NO_APT") or os.geteuid() or not shutil.which("apt-get"):
+        return
+    print(f"installing {' '.join(packages)} by apt-get", flush=True)
+    environment = {**os.environ, "DEBIAN_FRONTEND": "noninteractive"}
+    for words in (["update", "-q"], ["install", "-q", "-y", "--no-install-recommends", *packages]):
+        subprocess.run(["apt-get", *words], env=environment, stdin=subprocess.DEVNULL, stdout=subprocess.DEVNULL, stderr=subprocess.DEVNULL, check=False)
 
 
 def built_program(name="npss"):
