@@ -119,7 +119,7 @@ int main(int count, char **words) {
 
     auto row = [&](const char *name, double ours, double icu) { std::printf("%s %.0f %.0f\n", name, ours, icu); };
     row("accepted", timed(runs, [&] { fresh(&home); }, [&] { for (auto &name : all) done(npss_node_accept(&home, bytes(name), name.size())); }),
-        timed(runs, [&] { map.clear(); }, [&] {
+        timed(runs, [&] { map = Map(); }, [&] {
             std::string key;
             for (auto &name : all) if (!map.count(name) && key_of(name, key)) map.emplace(name, key);
         }));
@@ -133,11 +133,11 @@ int main(int count, char **words) {
         if (messages[i].substr(1) != told[i]) die("another message");
     }
     row("taken", timed(runs, [&] { fresh(&away); }, [&] { for (auto &one : messages) done(npss_node_take(&away, bytes(one), one.size())); }),
-        timed(runs, [&] { other.clear(); }, [&] { for (auto &one : told) { size_t at = 0; take(other, one, at); } }));
+        timed(runs, [&] { other = Map(); }, [&] { for (auto &one : told) { size_t at = 0; take(other, one, at); } }));
     row("saved", timed(runs, nothing, [&] { done(a = npss_node_image(&home, image.data(), image.size())); }),
         timed(runs, [&] { saved.clear(); }, [&] { for (auto &one : map) { put(saved, one.first); put(saved, one.second); } }));
-    row("restored", timed(runs, nothing, [&] { done(npss_node_restore(&away, &tables, NPSS_NFC, COUNT, image.data(), a.length)); }),
-        timed(runs, [&] { other.clear(); }, [&] { for (size_t at = 0; at < saved.size();) take(other, saved, at); }));
+    row("restored", timed(runs, [&] { npss_node_close(&away); }, [&] { done(npss_node_restore(&away, &tables, NPSS_NFC, COUNT, image.data(), a.length)); }),
+        timed(runs, [&] { other = Map(); }, [&] { for (size_t at = 0; at < saved.size();) take(other, saved, at); }));
     size_t found = 0;
     row("looked-up", timed(runs, nothing, [&] { for (auto &name : all) done(npss_node_key(&home, bytes(name), name.size(), room, sizeof room)); }),
         timed(runs, nothing, [&] { for (auto &name : all) found += map.find(name)->second.size(); }));
