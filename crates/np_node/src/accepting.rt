@@ -6,6 +6,7 @@ use crate::nodes::Node;
 use crate::strings::{check_assigned, key_for, short_text};
 use crate::taking::Taken;
 use np_versions::NormTable;
+use std::borrow::CowStr;
 use std::fmt;
 
 /// What `Node::accept` answers.
@@ -28,7 +29,8 @@ impl fmt::Debug for Accepted {
 }
 
 impl<'t, T: NormTable> Node<'t, T> {
-    ghost use Rattle.std.specs.Prelude.{◌≤◌, ◌<◌, ◌^◌, length, string_bytes, IfOk, IfErr, Err};
+    ghost use Rattle.std.specs.Cow.{cow_str_bytes};
+    ghost use Rattle.std.specs.Prelude.{◌≤◌, ◌<◌, ◌^◌, length, IfOk, IfErr, Err};
     ghost use Rattle.np_node.specs.Accepting.{AnswersAccept, AnswersKeep, LeavesAccepted, LeavesKept};
     ghost use Rattle.np_node.specs.Nodes.{state_of, HasPlace, IsKept};
     ghost use Rattle.np_node.specs.Strings.{most_bytes, IsKey};
@@ -97,12 +99,12 @@ impl<'t, T: NormTable> Node<'t, T> {
     }
 
     /// The key of a string that is not kept yet, where it may be and there is room for it.
-    fn new_key(&self, text: &str) -> Result<String, NodeFault>
+    fn new_key<'a>(&self, text: &'a str) -> Result<CowStr<'a>, NodeFault>
         requires short { length text.now ≤ most_bytes }
         requires absent { ¬ IsKept self.now.entries text.now }
         ensures place { IfOk result (λ _. HasPlace (state_of T.model self.now) text.now) }
-        ensures key { IfOk result (λ key. IsKey (T.model self.now.table) self.now.form text.now (string_bytes key)) }
-        ensures size { IfOk result (λ key. length (string_bytes key) < 2 ^ 32) }
+        ensures key { IfOk result (λ key. IsKey (T.model self.now.table) self.now.form text.now (cow_str_bytes key)) }
+        ensures size { IfOk result (λ key. length (cow_str_bytes key) < 2 ^ 32) }
         ensures fault { IfErr result (λ fault. AnswersAccept (state_of T.model self.now) text.now (Err fault)) }
     {
         if self.is_full() {

@@ -1,18 +1,23 @@
 //! Strings beside their keys, in the order in which they came.
-ghost use Rattle.std.specs.Prelude.{◌≡◌, ◌++◌, ◌∷◌, [], length, slice_get, string_bytes, Contains, IfSome, IfNone, OnOk, OnErr};
+ghost use Rattle.std.specs.Cow.{cow_str_bytes};
+ghost use Rattle.std.specs.Prelude.{◌≡◌, ◌++◌, ◌∷◌, [], length, slice_get, string_bytes, Contains, IfOk, IfSome, IfNone, OnOk, OnErr};
 ghost use Rattle.std.specs.Option.{option_map};
 ghost use Rattle.np_node.specs.Nodes.{IsKept};
 ghost use Rattle.np_node.specs.inside.Removed.{IsRemoved};
+ghost use Rattle.np_node.specs.inside.Shown.{key_beside};
 
+use crate::fields::same_bytes;
 use indexmap::IndexMap;
 use np_code_points::Memory;
 use std::alloc::Global;
+use std::borrow::CowStr;
 use std::marker::Model;
 
-/// Strings beside their keys, found by place and by string. Contracts see the list of entries.
+/// Strings beside their keys, found by place and by string. A key that is its string, as most are, has no memory of its own.
+/// Contracts see the list of entries.
 #[derive(Drop)]
 pub struct Entries {
-    map: IndexMap<String, String>,
+    map: IndexMap<String, Option<String>>,
 }
 
 impl Model for Entries {
@@ -23,6 +28,29 @@ impl Model for Entries {
     ghost Value = { List Entry };
 
     ghost view = { λ a. shown a.map.entries };
+}
+
+/// A key, where it is another text than its string.
+fn other_key(alloc: Global, string: &str, key: CowStr<'_>) -> Result<Option<String>, Memory>
+    ensures { IfOk result (λ other. key_beside string.now other ≡ cow_str_bytes key.entry) }
+{
+    if same_bytes(key.as_str().as_bytes(), string.as_bytes()) {
+        return Ok(None);
+    }
+    match key {
+        CowStr::Owned(other) => Ok(Some(other)),
+        CowStr::Borrowed(other) => Ok(Some(String::from_str(alloc, other)?)),
+    }
+}
+
+/// The key beside a string.
+fn key_of<'a>(string: &'a String, other: &'a Option<String>) -> &'a str
+    ensures { result.now ≡ key_beside (string_bytes string.now) other.now }
+{
+    match other {
+        Some(key) => key.as_str(),
+        None => string.as_str(),
+    }
 }
 
 impl Entries {
@@ -51,8 +79,8 @@ impl Entries {
     pub(crate) fn get(&self, index: usize) -> Option<(&str, &str)>
         ensures { option_map (λ p. record { string = p.0.now; key = p.1.now }) result ≡ slice_get self.now index }
     {
-        let (string, key) = self.map.get_index(index)?;
-        Some((string.as_str(), key.as_str()))
+        let (string, other) = self.map.get_index(index)?;
+        Some((string.as_str(), key_of(string, other)))
     }
 
     /// The key of a string.
@@ -60,20 +88,21 @@ impl Entries {
         ensures some { IfSome result (λ key. Contains self.now (record { string = string.now; key = key.now })) }
         ensures none { IfNone result (¬ IsKept self.now string.now) }
     {
-        match self.map.get(string) {
-            Some(key) => Some(key.as_str()),
+        match self.map.get_key_value(string) {
+            Some((kept, other)) => Some(key_of(kept, other)),
             None => None,
         }
     }
 
     /// Puts a new string and its key behind the others.
-    pub(crate) fn push(&mut self, string: &str, key: String) -> Result<(), Memory>
+    pub(crate) fn push(&mut self, string: &str, key: CowStr<'_>) -> Result<(), Memory>
         requires { ¬ IsKept self.old string.now }
-        ensures ok { OnOk result (self.new ≡ self.old ++ (record { string = string.now; key = string_bytes key }) ∷ []) }
+        ensures ok { OnOk result (self.new ≡ self.old ++ (record { string = string.now; key = cow_str_bytes key.entry }) ∷ []) }
         ensures err { OnErr result (self.new ≡ self.old) }
     {
-        let string = String::from_str(self.allocator(), string)?;
-        self.map.insert(string, key)?;
+        let other = other_key(self.allocator(), string, key)?;
+        let kept = String::from_str(self.allocator(), string)?;
+        self.map.insert(kept, other)?;
         Ok(())
     }
 

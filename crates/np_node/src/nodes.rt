@@ -7,7 +7,7 @@ ghost use Rattle.np_node.specs.Comparing.{AnswersSame};
 ghost use Rattle.np_node.specs.Forgetting.{Forgets};
 ghost use Rattle.np_node.specs.Nodes.{state_of, with_entry, HasPlace, IsKept, IsNode};
 ghost use Rattle.np_node.specs.Strings.{IsKey};
-ghost use Rattle.std.specs.Prelude.{string_bytes};
+ghost use Rattle.std.specs.Cow.{cow_str_bytes};
 
 use crate::entries::Entries;
 use crate::fields::same_bytes;
@@ -15,6 +15,7 @@ use np_chain::Break;
 use np_code_points::{Form, Memory};
 use np_versions::NormTable;
 use std::alloc::Global;
+use std::borrow::CowStr;
 use std::fmt;
 use std::marker::Model;
 
@@ -174,10 +175,10 @@ impl<'t, T: NormTable> Node<'t, T> {
     }
 
     /// Keeps a new string beside its key, behind the others.
-    pub(crate) fn keep(&mut self, string: &str, key: String) -> Result<(), Memory>
+    pub(crate) fn keep(&mut self, string: &str, key: CowStr<'_>) -> Result<(), Memory>
         requires place { HasPlace (state_of T.model self.old) string.now }
-        requires key { IsKey (T.model self.old.table) self.old.form string.now (string_bytes key) }
-        ensures ok { OnOk result (self.new ≡ with_entry self.old (record { string = string.now; key = string_bytes key })) }
+        requires key { IsKey (T.model self.old.table) self.old.form string.now (cow_str_bytes key) }
+        ensures ok { OnOk result (self.new ≡ with_entry self.old (record { string = string.now; key = cow_str_bytes key.entry })) }
         ensures err { OnErr result (self.new ≡ self.old) }
     {
         self.kept.push(string, key)

@@ -1,5 +1,6 @@
 //! Strings that may be kept, and their keys.
-ghost use Rattle.std.specs.Prelude.{◌≡◌, ◌≤◌, ◌<◌, ◌^◌, length, string_bytes, IfOk, IfErr, OnOk};
+ghost use Rattle.std.specs.Cow.{cow_str_bytes};
+ghost use Rattle.std.specs.Prelude.{◌≡◌, ◌≤◌, ◌<◌, ◌^◌, length, IfOk, IfErr, OnOk};
 ghost use Rattle.np_node.specs.Strings.{most_bytes, IsKeepable, IsKey, IsStringFault};
 ghost use Rattle.np_node.specs.inside.KeyFaults.{IsKeyFault};
 ghost use Rattle.np_versions.specs.Versions.{VersionData};
@@ -7,9 +8,10 @@ ghost use Rattle.np_versions.specs.Versions.{VersionData};
 use crate::faults::NodeFault;
 use np_code_points::text::text_of;
 use np_code_points::Form;
-use np_forms::{NpssFault, first_unassigned_char, npss};
+use np_forms::{NpssFault, first_unassigned_char, lend_npss};
 use np_versions::NormTable;
 use std::alloc::Global;
+use std::borrow::CowStr;
 
 /// The most bytes of a string.
 pub(crate) const LIMIT: usize = 65_536;
@@ -41,26 +43,30 @@ pub(crate) fn check_assigned<T: NormTable>(table: &T, text: &str) -> Result<(), 
     }
 }
 
-/// The key of a text whose code points are assigned, in one pass over it.
+/// The key of a text in one pass over it: the text itself where that is known to be its key, which takes no memory.
 ///
 /// # Errors
 ///
 /// `Unassigned` where one isn't; else `Memory` where memory ran out.
-pub(crate) fn key_for<T: NormTable>(
+pub(crate) fn key_for<'a, T: NormTable>(
     alloc: Global,
     table: &T,
     form: Form,
-    text: &str,
-) -> Result<String, NodeFault>
+    text: &'a str,
+) -> Result<CowStr<'a>, NodeFault>
     requires { length text.now ≤ most_bytes }
     ensures keepable { OnOk result (IsKeepable (T.model table.now) text.now) }
-    ensures key { IfOk result (λ key. IsKey (T.model table.now) form text.now (string_bytes key)) }
-    ensures size { IfOk result (λ key. length (string_bytes key) < 2 ^ 32) }
+    ensures key { IfOk result (λ key. IsKey (T.model table.now) form text.now (cow_str_bytes key)) }
+    ensures size { IfOk result (λ key. length (cow_str_bytes key) < 2 ^ 32) }
     ensures fault { IfErr result (IsKeyFault (T.model table.now) text.now) }
 {
     table.meets_conditions();
-    match npss(alloc, table, form, text) {
-        Ok(key) => Ok(key),
+    match lend_npss(alloc, table, form, text) {
+        Ok(key) => {
+            // that its bytes are a text, which the prover sees where they are lent
+            let _text = key.as_str();
+            Ok(key)
+        }
         Err(NpssFault::Unassigned { at, code }) => Err(NodeFault::Unassigned { at, code }),
         Err(NpssFault::Memory) => Err(NodeFault::Memory),
     }

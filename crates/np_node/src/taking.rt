@@ -71,7 +71,7 @@ impl<'t, T: NormTable> Node<'t, T> {
         ensures node { LeavesEntry self.old self.new (record { string = text.now; key = told.now }) result }
     {
         let key = key_for(self.kept.allocator(), self.table, self.form, text)?;
-        if !same_bytes(key.as_bytes(), told) {
+        if !same_bytes(key.as_str().as_bytes(), told) {
             return Err(NodeFault::KeyDiffers);
         }
         if self.is_full() {
