@@ -45,7 +45,7 @@ CALLS = {
     "code_points": ("chars_of", "string_of", "write_code"),
     "ucd": ("read_rows", "read_row_list", "of_rows", "read_exclusions"),
     "tables": ("build", "row_table", "page_table"),
-    "forms": ("form", "npss", "lend_form", "lend_npss", "into_npss", "is_form", "equivalent", "feed", "finish", "feed_text", "finish_text",
+    "forms": ("form", "npss", "lend_form", "lend_npss", "into_npss", "make_form", "make_npss", "is_form", "equivalent", "feed", "finish", "feed_text", "finish_text",
               "full_decomposition", "run"),
     "chain": ("audit",),
     "lines": ("answer_lines", "answer_bytes"),

@@ -1,4 +1,5 @@
 //! Worked examples over the fixtures.
+mod buffers;
 mod canonical_rows;
 mod example;
 mod examples;

@@ -189,6 +189,29 @@ pub(crate) fn write_fronts<T: NormTable>(
     Ok(true)
 }
 
+/// Writes the form of a text that was cut behind a front which passes the quick check, into an empty text. Where `assigned` is
+/// asked for, it tells whether each code point behind the front is, and where one is not, the form may be cut short.
+pub(crate) fn write_cut<T: NormTable>(
+    normalizer: &Normalizer<'_, T>,
+    assigned: bool,
+    text: &str,
+    cut: QuickCut<'_>,
+    out: &mut OutText,
+) -> Result<bool, Memory>
+    requires copied { IsCopied (T.model normalizer.now.table.now) normalizer.now.form text.now cut.front.now cut.rest.now }
+    requires front { IsTrue assigned → IsAssigned (T.model normalizer.now.table.now) (chars cut.front.now) }
+    requires empty { out.old ≡ [] }
+    ensures form { IfOk result (λ all. IsTrue all → out.new ≡
+        encode_utf8_all (normal_form (T.model normalizer.now.table.now) normalizer.now.form (chars text.now))) }
+    ensures assigned { IfOk result (λ all. IsTrue assigned → IsTrue all → IsAssigned (T.model normalizer.now.table.now) (chars text.now)) }
+    ensures lacking { IfOk result (λ all. all ≡ false → ¬ IsAssigned (T.model normalizer.now.table.now) (chars text.now)) }
+    ensures always { IfOk result (λ all. assigned ≡ false → IsTrue all) }
+{
+    out.append_front(text, cut.front)?;
+    let all = write_fronts(normalizer, assigned, cut.rest, out)?;
+    Ok(all)
+}
+
 /// Appends the form of a text.
 pub(crate) fn write_form<T: NormTable>(
     normalizer: &Normalizer<'_, T>,

@@ -1,16 +1,15 @@
 //! The four normalization forms (The Unicode Standard, D118 to D121).
-ghost use Rattle.std.specs.Prelude.{◌≡◌, ◌↔◌, IsTrue, chars, encode_utf8_all, string_bytes, IfOk};
+ghost use Rattle.std.specs.Prelude.{◌≡◌, ◌↔◌, IsTrue, chars, encode_utf8_all, string_bytes, IfOk, if◌then◌else◌};
 ghost use Rattle.std.specs.Cow.{cow_str_bytes};
 ghost use Rattle.np_forms.specs.Forms.{IsNormalForm};
 ghost use Rattle.np_forms.specs.inside.Copies.{IsCopied};
 ghost use Rattle.np_forms.specs.inside.NormalForms.{normal_form};
 
-use crate::copying::{QuickCut, split_quick_span};
+use crate::copying::{QuickCut, split_quick_span, write_cut};
+use crate::form_buffers::FormBuffer;
 use crate::normalizers::Normalizer;
 use crate::out_texts::OutText;
 use crate::pieces::has_form;
-use crate::streams::Stream;
-use crate::written::close_text;
 use np_code_points::{Form, Memory};
 use np_versions::NormTable;
 use std::alloc::Global;
@@ -25,11 +24,9 @@ fn form_behind<T: NormTable>(
     requires { IsCopied (T.model normalizer.now.table.now) normalizer.now.form text.now cut.front.now cut.rest.now }
     ensures { IfOk result (λ t. string_bytes t ≡ encode_utf8_all (normal_form (T.model normalizer.now.table.now) normalizer.now.form (chars text.now))) }
 {
-    normalizer.table.meets_conditions();
     let mut out = OutText::with_capacity(normalizer.alloc, text.len())?;
-    out.append_front(text, cut.front)?;
-    let mut stream = Stream::new(normalizer.alloc, normalizer.table, normalizer.form);
-    close_text(&mut stream, &mut out, cut.rest)?;
+    // where nothing is asked of the code points, none ends it
+    let _all = write_cut(normalizer, false, text, cut, &mut out)?;
     Ok(out.into_text())
 }
 
@@ -76,6 +73,37 @@ pub fn lend_form<'a, T: NormTable>(
         return Ok(CowStr::Owned(made));
     }
     Ok(CowStr::Borrowed(text))
+}
+
+/// Makes the normal form of a text in a buffer, and answers whether it stands there. Where the text is known to be its own
+/// form, nothing is made. A text that is no longer than those before it takes no memory, but for long runs of non-starters.
+///
+/// # Errors
+///
+/// `Memory` where memory ran out.
+pub fn make_form<T: NormTable>(
+    buffer: &mut FormBuffer,
+    table: &T,
+    wanted: Form,
+    text: &str,
+) -> Result<bool, Memory>
+    ensures { IfOk result (λ made. IsNormalForm (T.model table.now) wanted (chars text.now) (chars (if made then buffer.new else text.now))) }
+{
+    table.meets_conditions();
+    let cut = split_quick_span(table, wanted, false, text);
+    if cut.rest.is_empty() {
+        return Ok(false);
+    }
+    let normalizer = Normalizer {
+        alloc: buffer.alloc,
+        table,
+        form: wanted,
+    };
+    buffer.out.begin(text.len())?;
+    let _all = write_cut(&normalizer, false, text, cut, &mut buffer.out)?;
+    // that its bytes are a text, which the prover sees where they are lent
+    let _made = buffer.out.as_text();
+    Ok(true)
 }
 
 /// Whether a text is its own normal form. The form is made segment by segment, and no further than

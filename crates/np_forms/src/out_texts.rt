@@ -9,6 +9,7 @@ use np_code_points::Memory;
 use std::alloc::Global;
 use std::marker::Model;
 use std::simd::prelude::*;
+use std::str::from_utf8_unchecked;
 
 /// How many bytes are copied at once, each in a lane of its own.
 const LANES: usize = 32;
@@ -200,11 +201,36 @@ impl OutText {
         Ok(OutText { buffer, len: 0 })
     }
 
+    /// Takes the text away, and sees that the buffer has a place for so many bytes and `LANES` more.
+    pub(crate) fn begin(&mut self, count: usize) -> Result<(), Memory>
+        ensures { OnOk result (self.new ≡ []) }
+    {
+        self.len = 0;
+        let filled = count.min(FILLED) + LANES;
+        if self.buffer.len() < filled {
+            self.buffer.reserve(count.saturating_add(LANES))?;
+            self.buffer.resize(filled, 0)?;
+        }
+        Ok(())
+    }
+
+    /// How many bytes the buffer has.
+    pub(crate) fn space(&self) -> usize {
+        self.buffer.len()
+    }
+
     /// Its bytes.
     pub(crate) fn as_bytes(&self) -> &[u8]
         ensures { result.now ≡ self.now }
     {
         &self.buffer[..self.len]
+    }
+
+    /// The text.
+    pub(crate) fn as_text(&self) -> &str
+        ensures { result.now ≡ self.now }
+    {
+        unsafe { from_utf8_unchecked(&self.buffer[..self.len]) }
     }
 
     /// Takes the text away, and leaves the buffer.

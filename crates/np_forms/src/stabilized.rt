@@ -1,5 +1,5 @@
 //! Stabilized strings (UAX #15, section 12).
-ghost use Rattle.std.specs.Prelude.{◌≡◌, ◌++◌, chars, string_bytes, encode_utf8_all, IfOk, IfErr, IfNone, IfSome, IsTrue, OnOk};
+ghost use Rattle.std.specs.Prelude.{◌≡◌, [], chars, string_bytes, encode_utf8_all, IfOk, IfErr, IsUtf8, OnOk, if◌then◌else◌};
 ghost use Rattle.std.specs.Cow.{cow_str_bytes};
 ghost use Rattle.np_forms.specs.Assigned.{IsAssigned};
 ghost use Rattle.np_forms.specs.Faults.{IsNpssFault};
@@ -8,12 +8,11 @@ ghost use Rattle.np_forms.specs.inside.Copies.{IsCopied};
 ghost use Rattle.np_forms.specs.inside.NormalForms.{normal_form};
 
 use crate::assigned::first_unassigned_char;
-use crate::copying::{QuickCut, split_quick_span};
+use crate::copying::{QuickCut, split_quick_span, write_cut};
+use crate::form_buffers::FormBuffer;
 use crate::normalizers::Normalizer;
 use crate::out_texts::OutText;
-use crate::streams::Stream;
-use crate::written::close_assigned;
-use np_code_points::{Form, Memory};
+use np_code_points::Form;
 use np_versions::NormTable;
 use std::alloc::Global;
 use std::borrow::CowStr;
@@ -35,30 +34,36 @@ pub enum NpssFault {
     Memory,
 }
 
-/// The form of a text that was cut behind some assigned code points that pass the quick check; none where one of
-/// the others is not assigned.
-fn assigned_form<T: NormTable>(
+/// Why no stabilized form of a text was made: a code point is not assigned, which takes no memory to tell, or else memory
+/// ran out.
+fn fault_of<T: NormTable>(table: &T, text: &str) -> NpssFault
+    ensures { IsNpssFault (T.model table.now) (chars text.now) result }
+{
+    match first_unassigned_char(table, text) {
+        Some((at, code)) => NpssFault::Unassigned { at, code },
+        None => NpssFault::Memory,
+    }
+}
+
+/// Writes the stabilized form of a text that was cut behind some assigned code points that pass the quick check, into an
+/// empty text.
+fn write_stabilized<T: NormTable>(
     normalizer: &Normalizer<'_, T>,
     text: &str,
     cut: QuickCut<'_>,
-) -> Result<Option<String>, Memory>
+    out: &mut OutText,
+) -> Result<(), NpssFault>
     requires copied { IsCopied (T.model normalizer.now.table.now) normalizer.now.form text.now cut.front.now cut.rest.now }
     requires assigned { IsAssigned (T.model normalizer.now.table.now) (chars cut.front.now) }
-    ensures form { IfOk result (λ made. IfSome made (λ t. string_bytes t ≡
-        encode_utf8_all (normal_form (T.model normalizer.now.table.now) normalizer.now.form (chars text.now)))) }
-    ensures assigned { IfOk result (λ made. IfSome made (λ _. IsAssigned (T.model normalizer.now.table.now) (chars text.now))) }
-    ensures lacking { IfOk result (λ made. IfNone made (¬ IsAssigned (T.model normalizer.now.table.now) (chars text.now))) }
+    requires empty { out.old ≡ [] }
+    ensures bytes { OnOk result (out.new ≡ encode_utf8_all (normal_form (T.model normalizer.now.table.now) normalizer.now.form (chars text.now))) }
+    ensures assigned { OnOk result (IsAssigned (T.model normalizer.now.table.now) (chars text.now)) }
+    ensures fault { IfErr result (IsNpssFault (T.model normalizer.now.table.now) (chars text.now)) }
 {
-    let alloc = normalizer.alloc;
-    normalizer.table.meets_conditions();
-    let mut out = OutText::with_capacity(alloc, text.len())?;
-    out.append_front(text, cut.front)?;
-    let mut stream = Stream::new(alloc, normalizer.table, normalizer.form);
-    if close_assigned(&mut stream, &mut out, cut.rest)? {
-        Ok(Some(out.into_text()))
-    } else {
-        Ok(None)
+    if let Ok(true) = write_cut(normalizer, true, text, cut, out) {
+        return Ok(());
     }
+    Err(fault_of(normalizer.table, text))
 }
 
 /// The stabilized form of a text that was cut behind some assigned code points that pass the quick check.
@@ -73,14 +78,11 @@ fn stabilize<T: NormTable>(
     ensures assigned { OnOk result (IsAssigned (T.model normalizer.now.table.now) (chars text.now)) }
     ensures fault { IfErr result (IsNpssFault (T.model normalizer.now.table.now) (chars text.now)) }
 {
-    if let Ok(Some(key)) = assigned_form(normalizer, text, cut) {
-        return Ok(key);
-    }
-    // either memory ran out, or a code point is not assigned, which takes no memory to tell
-    match first_unassigned_char(normalizer.table, text) {
-        Some((at, code)) => Err(NpssFault::Unassigned { at, code }),
-        None => Err(NpssFault::Memory),
-    }
+    let Ok(mut out) = OutText::with_capacity(normalizer.alloc, text.len()) else {
+        return Err(fault_of(normalizer.table, text));
+    };
+    write_stabilized(normalizer, text, cut, &mut out)?;
+    Ok(out.into_text())
 }
 
 /// The stabilized form of a text: its normal form, refused where a code point is not assigned.
@@ -160,4 +162,40 @@ pub fn lend_npss<'a, T: NormTable>(
         return Ok(CowStr::Owned(key));
     }
     Ok(CowStr::Borrowed(text))
+}
+
+/// Makes the stabilized form of a text in a buffer (UAX #15, section 12), and answers whether it stands there. Where the text
+/// is known to be its own stabilized form, nothing is made. A text that is no longer than those before it takes no memory, but
+/// for long runs of non-starters.
+///
+/// # Errors
+///
+/// As `npss`.
+pub fn make_npss<T: NormTable>(
+    buffer: &mut FormBuffer,
+    table: &T,
+    wanted: Form,
+    text: &str,
+) -> Result<bool, NpssFault>
+    ensures normal { IfOk result (λ made. IsNormalForm (T.model table.now) wanted (chars text.now) (chars (if made then buffer.new else text.now))) }
+    ensures assigned { OnOk result (IsAssigned (T.model table.now) (chars text.now)) }
+    ensures fault { IfErr result (IsNpssFault (T.model table.now) (chars text.now)) }
+{
+    table.meets_conditions();
+    let cut = split_quick_span(table, wanted, true, text);
+    if cut.rest.is_empty() {
+        return Ok(false);
+    }
+    let normalizer = Normalizer {
+        alloc: buffer.alloc,
+        table,
+        form: wanted,
+    };
+    if buffer.out.begin(text.len()).is_err() {
+        return Err(fault_of(table, text));
+    }
+    write_stabilized(&normalizer, text, cut, &mut buffer.out)?;
+    // that its bytes are a text, which the prover sees where they are lent
+    let _made = buffer.out.as_text();
+    Ok(true)
 }
