@@ -184,6 +184,10 @@ npss_answer npss_answers(npss_handle *handle, const npss_asked *asked, const uin
 /* Whether a text is its own normal form. DONE (it is), DIFFERENT, NOT_UTF8, MEMORY, CLOSED, NO_FORM. */
 npss_answer npss_is_form(npss_handle *handle, uint8_t form, const uint8_t *text, size_t text_length);
 
+/* Whether each text of ASCII alone is its own key under a form, as under all published versions. A host that knows of a text
+ * that it is ASCII need not ask for its key then. DONE (it is), DIFFERENT (that isn't known), CLOSED, NO_FORM. */
+npss_answer npss_keeps_ascii(npss_handle *handle, uint8_t form);
+
 /* Whether two texts are equivalent: compatible where `compat`, else canonical equivalents. Where one is not UTF-8,
  * `fault` is 1 or 2. DONE (they are), DIFFERENT, NOT_UTF8, MEMORY, CLOSED. */
 npss_answer npss_equivalent(npss_handle *handle, bool compat, const uint8_t *left, size_t left_length,

@@ -101,6 +101,27 @@ static void check_texts(npss_handle *h) {
     free(text);
 }
 
+/* Opens a version of the ASCII characters alone, of which the last has a mapping. */
+static void open_ascii(npss_handle *h, const char *mapping) {
+    static char data[128 * 32];
+    size_t length = 0;
+    for (int code = 0; code < 128; code++)
+        length += (size_t)sprintf(data + length, "%04X;X;Lo;0;L;%s;;;;N;;;;;\n", code, code == 127 ? mapping : "");
+    CHECK("ASCII opens", npss_open(h, (const uint8_t *)data, length, TEXT("")).status == NPSS_DONE);
+}
+
+static void check_ascii(void) {
+    static const uint8_t forms[] = {NPSS_NFD, NPSS_NFC, NPSS_NFKD, NPSS_NFKC};
+    npss_handle h = {0};
+    CHECK("a closed handle", is(npss_keeps_ascii(&h, NPSS_NFC), NPSS_CLOSED, 0, 0, 0, 0));
+    open_ascii(&h, "");
+    for (size_t i = 0; i < sizeof forms; i++) CHECK("ASCII is kept", is(npss_keeps_ascii(&h, forms[i]), NPSS_DONE, 0, 0, 0, 0));
+    CHECK("no form", is(npss_keeps_ascii(&h, 'x'), NPSS_NO_FORM, 0, 0, 0, 0));
+    open_ascii(&h, "0041");
+    for (size_t i = 0; i < sizeof forms; i++) CHECK("ASCII that maps", is(npss_keeps_ascii(&h, forms[i]), NPSS_DIFFERENT, 0, 0, 0, 0));
+    npss_close(&h);
+}
+
 int main(int argc, char **argv) {
     if (argc != 3) return 2;
     npss_handle handle = {0};
@@ -110,6 +131,8 @@ int main(int argc, char **argv) {
     check_decompositions(&handle);
     check_composites(&handle);
     check_texts(&handle);
+    CHECK("ASCII that isn't all assigned", is(npss_keeps_ascii(&handle, NPSS_NFC), NPSS_DIFFERENT, 0, 0, 0, 0));
     npss_close(&handle);
+    check_ascii();
     return finish();
 }

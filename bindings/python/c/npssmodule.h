@@ -54,6 +54,7 @@ typedef struct tables {
     PyObject_HEAD
     const module_state *state;
     npss_handle handle;
+    uint64_t keeps_ascii; /* under which forms each text of ASCII is its own key: `bit_of` each */
 } tables;
 
 /* Bytes that are lent, and what has to be let go afterwards; NULL where that is nothing. */

@@ -56,6 +56,16 @@ static uint8_t *make_long(tables *self, const maker *maker, bytes b, size_t size
     return NULL;
 }
 
+/* A bit of a form's own: the letters of the four differ in their last six bits. */
+static inline uint64_t bit_of(uint8_t form) {
+    return UINT64_C(1) << (form & 63);
+}
+
+/* Whether a text is known to be its own key, and so its own form: it is ASCII, since it has as many bytes as code points. */
+static inline int stays(const tables *self, uint8_t form, PyObject *text, bytes b) {
+    return (self->keeps_ascii & bit_of(form)) && PyUnicode_GetLength(text) == b.length;
+}
+
 /* What a call makes of a text. */
 static PyObject *make(tables *self, const maker *maker, PyObject *text) {
     uint8_t small[SMALL_ROOM], *room;
@@ -63,6 +73,10 @@ static PyObject *make(tables *self, const maker *maker, PyObject *text) {
     npss_answer a;
     bytes b;
     if (text_of(text, &b)) return NULL;
+    if (stays(self, maker->asked.form, text, b)) {
+        Py_INCREF(text);
+        return text;
+    }
     if (b.length <= LONG_TEXT) {
         a = call(maker, &self->handle, b, small, sizeof small);
         if (a.status == NPSS_DONE) return str_of(text, b, small, a.length);
@@ -300,6 +314,13 @@ static PyObject *tables_count(PyObject *self, void *unused) {
     return PyLong_FromUnsignedLongLong(npss_count(&((tables *)self)->handle).length);
 }
 
+/* Asks once what is asked of each name. */
+static void ask_of_ascii(tables *self) {
+    static const uint8_t forms[] = {NPSS_NFD, NPSS_NFC, NPSS_NFKD, NPSS_NFKC};
+    for (size_t i = 0; i < sizeof forms; i++)
+        if (npss_keeps_ascii(&self->handle, forms[i]).status == NPSS_DONE) self->keeps_ascii |= bit_of(forms[i]);
+}
+
 static PyObject *tables_open(PyObject *class, PyObject *const *given, Py_ssize_t count, PyObject *words) {
     static const char *const names[] = {"data", "exclusions", NULL};
     const module_state *state = PyType_GetModuleState((PyTypeObject *)class);
@@ -320,6 +341,8 @@ static PyObject *tables_open(PyObject *class, PyObject *const *given, Py_ssize_t
         if (a.status != NPSS_DONE) {
             refuse(state, a, NULL);
             Py_CLEAR(made);
+        } else {
+            ask_of_ascii(made);
         }
     }
     let_go(&d);

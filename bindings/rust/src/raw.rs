@@ -90,6 +90,7 @@ extern "C" {
         text: *const u8,
         text_length: usize,
     ) -> Answer;
+    pub fn npss_keeps_ascii(handle: *mut Handle, form: u8) -> Answer;
     pub fn npss_equivalent(
         handle: *mut Handle,
         compat: bool,

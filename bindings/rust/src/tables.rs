@@ -230,6 +230,21 @@ impl Tables {
         }))
     }
 
+    /// Whether each text of ASCII is known to be its own key, as under all published versions. Who knows of a text that
+    /// it is ASCII need not ask for its key then.
+    ///
+    /// ```
+    /// # use npss::{Form, Tables};
+    /// let tables = Tables::open(b"0041;X;Lu;0;L;;;;;N;;;;;\n", b"")?;
+    /// assert!(!tables.keeps_ascii(Form::Nfc)); // no other character is assigned
+    /// # Ok::<(), Box<dyn std::error::Error>>(())
+    /// ```
+    pub fn keeps_ascii(&self, form: Form) -> bool {
+        // SAFETY: the handle is one of the pool's.
+        let a = self.pool.call(|handle| unsafe { raw::npss_keeps_ascii(handle, form.letter()) });
+        a.status == raw::DONE
+    }
+
     /// Whether two texts are canonical equivalents, or compatible ones where `compatible`.
     ///
     /// # Errors

@@ -1,3 +1,5 @@
 mod AnswerLemmas
+mod AsciiLemmas
+mod KeyLemmas
 mod Rows
 mod StreamLemmas

@@ -1,4 +1,5 @@
 pub mod Answers
+pub mod Ascii
 pub mod Codes
 pub mod Contents
 pub mod Files

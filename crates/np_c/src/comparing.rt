@@ -1,6 +1,7 @@
 //! Questions on texts and versions.
 ghost use Rattle.std.specs.Prelude.{◌≡◌};
 ghost use Rattle.np_c.specs.Answers.{told_break, IsEquivalentAnswer, IsExtensionAnswer, IsOwnFormAnswer};
+ghost use Rattle.np_c.specs.Ascii.{IsAsciiAnswer};
 ghost use Rattle.np_chain.specs.Breaks.{number_of};
 ghost use Rattle.np_c.specs.inside.FaultAnswers.{told_answer};
 
@@ -37,6 +38,18 @@ pub fn tell_form<T: NormTable>(alloc: Global, table: &T, letter: u8, bytes: &[u8
         Ok(yes) => told(yes),
         Err(_) => Answer::of(MEMORY),
     }
+}
+
+/// Whether each text of ASCII is known to be its own key.
+pub fn tell_ascii<T: NormTable>(table: &T, letter: u8) -> Answer
+    ensures { IsAsciiAnswer (T.model table.now) letter result }
+{
+    let Some(form) = form_in(letter) else {
+        return Answer::of(NO_FORM);
+    };
+    table.meets_conditions();
+    np_forms::laws::told();
+    told(table.ascii_passes(form))
 }
 
 /// Whether two texts are equivalent: compatible where `compat`, else canonical equivalents.

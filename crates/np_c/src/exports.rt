@@ -2,11 +2,13 @@
 ghost use Rattle.std.specs.Prelude.{◌≡◌, false, None, IfSome};
 ghost use Rattle.np_versions.specs.Counts.{assigned_count};
 ghost use Rattle.np_c.specs.Answers.{IsEquivalentAnswer, IsExtensionAnswer, IsFormAnswer, IsKeyAnswer, IsOpenAnswer, IsOwnFormAnswer, IsShareAnswer};
+ghost use Rattle.np_c.specs.Ascii.{IsAsciiAnswer};
 ghost use Rattle.np_c.specs.Lines.{IsAnswersAnswer};
+ghost use Rattle.np_c.specs.Statuses.{alone};
 ghost use Rattle.np_c.specs.Versions.{content_of, version_of};
 
 use crate::answers::{Answer, CLOSED, DONE, MEMORY};
-use crate::comparing::{tell_equivalent, tell_extension, tell_form};
+use crate::comparing::{tell_ascii, tell_equivalent, tell_extension, tell_form};
 use crate::handles::Handle;
 use crate::keys::{write_form, write_key};
 use crate::lines::{Asked, write_answers};
@@ -74,8 +76,9 @@ pub extern "C" fn npss_key(
 {
     match handle.take_table(alloc) {
         None => Answer::of(CLOSED),
-        Some((shared, content)) => {
-            let answer = write_key(alloc, &*shared.table, form, text, room);
+        Some((mut shared, content)) => {
+            let answer = write_key(&mut shared.workroom, &*shared.table, form, text, room);
+            shared.workroom.tidy();
             handle.put_table(content, shared);
             answer
         }
@@ -97,8 +100,9 @@ pub extern "C" fn npss_normalize(
 {
     match handle.take_table(alloc) {
         None => Answer::of(CLOSED),
-        Some((shared, content)) => {
-            let answer = write_form(alloc, &*shared.table, form, text, room);
+        Some((mut shared, content)) => {
+            let answer = write_form(&mut shared.workroom, &*shared.table, form, text, room);
+            shared.workroom.tidy();
             handle.put_table(content, shared);
             answer
         }
@@ -139,6 +143,24 @@ pub extern "C" fn npss_is_form(alloc: Global, handle: &mut Handle, form: u8, tex
         None => Answer::of(CLOSED),
         Some((shared, content)) => {
             let answer = tell_form(alloc, &*shared.table, form, text);
+            handle.put_table(content, shared);
+            answer
+        }
+    }
+}
+
+/// Whether each text of ASCII is known to be its own key under a form, so that a host which knows that a text is ASCII
+/// need not ask for its key.
+#[unsafe(no_mangle)]
+pub extern "C" fn npss_keeps_ascii(alloc: Global, handle: &mut Handle, form: u8) -> Answer
+    ensures same { content_of handle.new ≡ content_of handle.old }
+    ensures told { IfSome (version_of handle.old) (λ v. IsAsciiAnswer v form result) }
+    ensures closed { version_of handle.old ≡ None → result ≡ alone 5 }
+{
+    match handle.take_table(alloc) {
+        None => Answer::of(CLOSED),
+        Some((shared, content)) => {
+            let answer = tell_ascii(&*shared.table, form);
             handle.put_table(content, shared);
             answer
         }

@@ -1,41 +1,60 @@
 //! Keys and normal forms of bytes, into room that the caller lends.
-ghost use Rattle.std.specs.Prelude.{IfOk, IfErr};
-ghost use Rattle.std.specs.Cow.{cow_str_bytes};
-ghost use Rattle.np_c.specs.Answers.{IsFormAnswer, IsKeyAnswer};
+ghost use Rattle.std.specs.Prelude.{IfOk, IfErr, IsTrue, if◌then◌else◌};
+ghost use Rattle.np_c.specs.Answers.{IsFormAnswer, IsKeyAnswer, IsPut};
 ghost use Rattle.np_c.specs.Texts.{IsFormOf, IsKeyOf, IsNoForm, IsNoKey};
 
 use crate::answers::{Answer, MEMORY, NO_FORM, UNASSIGNED};
 use crate::room::put;
 use crate::texts::{form_in, text_in};
+use crate::workroom::Workroom;
 use np_code_points::Form;
-use np_forms::{NpssFault, lend_form, lend_npss};
+use np_forms::{FormBuffer, NpssFault, make_form, make_npss};
 use np_versions::NormTable;
-use std::alloc::Global;
-use std::borrow::CowStr;
 
-/// The key of bytes: they themselves where they are known to be their key, which takes no memory.
+/// The most bytes of a text that is looked at byte by byte.
+const SHORT: usize = 64;
+
+/// Whether bytes are known to be their own key, and so their own form: they are few and ASCII, as many names are.
+fn stays<T: NormTable>(table: &T, form: Form, bytes: &[u8]) -> bool
+    ensures { IsTrue result → IsKeyOf (T.model table.now) form bytes.now bytes.now }
+{
+    table.meets_conditions();
+    np_forms::laws::told();
+    if bytes.len() > SHORT {
+        return false;
+    }
+    if !bytes.is_ascii() {
+        return false;
+    }
+    table.ascii_passes(form)
+}
+
+/// Makes the key of bytes in a buffer, and answers whether it stands there: it doesn't where they are known to be their key.
 ///
 /// # Errors
 ///
 /// The answer that tells why there is none.
-fn key_of<'a, T: NormTable>(
-    alloc: Global,
+fn make_key<T: NormTable>(
+    buffer: &mut FormBuffer,
     table: &T,
     form: Form,
-    bytes: &'a [u8],
-) -> Result<CowStr<'a>, Answer>
-    ensures key { IfOk result (λ key. IsKeyOf (T.model table.now) form bytes.now (cow_str_bytes key)) }
+    bytes: &[u8],
+) -> Result<bool, Answer>
+    ensures key { IfOk result (λ made. IsKeyOf (T.model table.now) form bytes.now (if made then buffer.new else bytes.now)) }
     ensures refused { IfErr result (IsNoKey (T.model table.now) bytes.now) }
 {
+    if stays(table, form, bytes) {
+        return Ok(false);
+    }
     let text = match text_in(0, bytes) {
         Ok(text) => text,
         Err(answer) => return Err(answer),
     };
-    match lend_npss(alloc, table, form, text) {
-        Ok(key) => {
+    match make_npss(buffer, table, form, text) {
+        Ok(made) => {
             // that its bytes are a text, which the prover sees where they are lent
-            let _text = key.as_str();
-            Ok(key)
+            let _text = buffer.as_str();
+            Ok(made)
         }
         Err(NpssFault::Unassigned { at, code }) => Err(Answer {
             code: u32::from(code),
@@ -46,37 +65,52 @@ fn key_of<'a, T: NormTable>(
     }
 }
 
-/// The normal form of bytes: they themselves where they are known to be their form, which takes no memory.
+/// Makes the normal form of bytes in a buffer, and answers whether it stands there: it doesn't where they are known to be
+/// their form.
 ///
 /// # Errors
 ///
 /// The answer that tells why there is none.
-fn normal_form_of<'a, T: NormTable>(
-    alloc: Global,
+fn make_form_of<T: NormTable>(
+    buffer: &mut FormBuffer,
     table: &T,
     form: Form,
-    bytes: &'a [u8],
-) -> Result<CowStr<'a>, Answer>
-    ensures made { IfOk result (λ made. IsFormOf (T.model table.now) form bytes.now (cow_str_bytes made)) }
+    bytes: &[u8],
+) -> Result<bool, Answer>
+    ensures made { IfOk result (λ made. IsFormOf (T.model table.now) form bytes.now (if made then buffer.new else bytes.now)) }
     ensures refused { IfErr result (IsNoForm bytes.now) }
 {
+    if stays(table, form, bytes) {
+        return Ok(false);
+    }
     let text = match text_in(0, bytes) {
         Ok(text) => text,
         Err(answer) => return Err(answer),
     };
-    match lend_form(alloc, table, form, text) {
+    match make_form(buffer, table, form, text) {
         Ok(made) => {
             // that its bytes are a text, which the prover sees where they are lent
-            let _text = made.as_str();
+            let _text = buffer.as_str();
             Ok(made)
         }
         Err(_) => Err(Answer::of(MEMORY)),
     }
 }
 
+/// Puts what was made of bytes into the room: what stands in the buffer, or they themselves.
+fn put_made(buffer: &FormBuffer, made: bool, bytes: &[u8], room: &mut [u8]) -> Answer
+    ensures { IsPut (if made then buffer.now else bytes.now) room.old room.new result }
+{
+    if made {
+        put(buffer.as_str().as_bytes(), room)
+    } else {
+        put(bytes, room)
+    }
+}
+
 /// Writes the key of bytes into the room.
 pub fn write_key<T: NormTable>(
-    alloc: Global,
+    workroom: &mut Workroom,
     table: &T,
     letter: u8,
     bytes: &[u8],
@@ -87,15 +121,16 @@ pub fn write_key<T: NormTable>(
     let Some(form) = form_in(letter) else {
         return Answer::of(NO_FORM);
     };
-    match key_of(alloc, table, form, bytes) {
-        Ok(key) => put(key.as_str().as_bytes(), room),
-        Err(answer) => answer,
-    }
+    let made = match make_key(&mut workroom.buffer, table, form, bytes) {
+        Ok(made) => made,
+        Err(answer) => return answer,
+    };
+    put_made(&workroom.buffer, made, bytes, room)
 }
 
 /// Writes the normal form of bytes into the room.
 pub fn write_form<T: NormTable>(
-    alloc: Global,
+    workroom: &mut Workroom,
     table: &T,
     letter: u8,
     bytes: &[u8],
@@ -106,8 +141,9 @@ pub fn write_form<T: NormTable>(
     let Some(form) = form_in(letter) else {
         return Answer::of(NO_FORM);
     };
-    match normal_form_of(alloc, table, form, bytes) {
-        Ok(made) => put(made.as_str().as_bytes(), room),
-        Err(answer) => answer,
-    }
+    let made = match make_form_of(&mut workroom.buffer, table, form, bytes) {
+        Ok(made) => made,
+        Err(answer) => return answer,
+    };
+    put_made(&workroom.buffer, made, bytes, room)
 }

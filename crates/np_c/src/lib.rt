@@ -27,3 +27,4 @@ mod shared;
 mod stream_exports;
 mod stream_opening;
 mod texts;
+mod workroom;

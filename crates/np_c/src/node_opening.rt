@@ -69,7 +69,7 @@ fn boxed_node(
     requires { IsNode (record { version = arc_value tables.now.table; form = form; room = room; entries = entries }) }
     ensures { IfOk result (λ b. node_in (Some b.value) ≡ Some (record { table = arc_value tables.now.table; form = form; room = room; entries = entries })) }
 {
-    let shared = tables.another()?;
+    let shared = tables.another(alloc)?;
     Content::of_node(
         alloc,
         KeptNode {
@@ -154,7 +154,7 @@ pub fn upgrade_in(alloc: Global, kept: &mut KeptNode, tables: &Shared) -> Answer
     let (entries, outcome) = moved(node, &*tables.table);
     kept.entries = entries;
     match outcome {
-        Ok(()) => match tables.another() {
+        Ok(()) => match tables.another(alloc) {
             Ok(shared) => {
                 kept.shared = shared;
                 Answer::of(DONE)

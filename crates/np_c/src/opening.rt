@@ -143,7 +143,7 @@ fn boxed(alloc: Global, version: Version) -> Result<Box<Content>, Memory>
 pub fn another_of(alloc: Global, shared: &Shared) -> Result<Box<Content>, Memory>
     ensures { IfOk result (λ b. version_in (Some b.value) ≡ Some (arc_value shared.now.table)) }
 {
-    Content::of_table(alloc, shared.another()?)
+    Content::of_table(alloc, shared.another(alloc)?)
 }
 
 /// The shared table of two files, in a box.

@@ -19,7 +19,7 @@ use std::alloc::Global;
 fn boxed(alloc: Global, shared: &Shared, form: Form) -> Result<Box<Content>, Memory>
     ensures { IfOk result (λ b. IsOpenOn (arc_value shared.now.table) form (Some b.value)) }
 {
-    let another = shared.another()?;
+    let another = shared.another(alloc)?;
     Content::of_stream(alloc, KeptStream::new(alloc, another, form))
 }
 
