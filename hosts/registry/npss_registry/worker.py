@@ -37,6 +37,8 @@ class Worker:
         # What is called once where the registry stops.
         self.on_failure: Callable[[], None] = lambda: None
         self._asked: "queue.SimpleQueue[Union[_Asked, None]]" = queue.SimpleQueue()
+        # Nothing is asked any more once the failure is told.
+        self._asking = threading.Lock()
         self._thread = threading.Thread(target=self._run, name="registry")
         self._thread.start()
 
@@ -49,10 +51,11 @@ class Worker:
         return self._ask(_Asked(Future(), work=work))
 
     def _ask(self, asked: _Asked) -> "Future[Any]":
-        if self.failure is not None:
-            asked.answer.set_exception(self.failure)
-        else:
-            self._asked.put(asked)
+        with self._asking:
+            if self.failure is not None:
+                asked.answer.set_exception(self.failure)
+            else:
+                self._asked.put(asked)
         return asked.answer
 
     def close(self) -> None:
@@ -71,7 +74,8 @@ class Worker:
             try:
                 self._serve(batch)
             except BaseException as error:  # a broken log or store: nothing more is served
-                self.failure = error
+                with self._asking:
+                    self.failure = error
                 going = False
                 for asked in batch:
                     if not asked.answer.done():
@@ -88,7 +92,8 @@ class Worker:
         try:
             asked = self._asked.get(timeout=PAUSE)
             while asked is not None:
-                batch.append(asked)
+                if asked.answer.set_running_or_notify_cancel():  # nobody gives it up from now on
+                    batch.append(asked)
                 if len(batch) == BATCH:
                     return batch, True
                 asked = self._asked.get_nowait()
