@@ -1,6 +1,6 @@
 """A new log from what stores have read, where the old one lost its tail or is gone."""
 
-from collections.abc import Sequence
+from collections.abc import Iterator, Sequence
 from dataclasses import dataclass
 
 from npss import Node
@@ -43,10 +43,8 @@ def relog(paths: Sequence[str], log_name: str) -> tuple[int, list[Lost]]:
 
 def _relogged(stores: Sequence[Store], log_name: str) -> tuple[int, list[Lost]]:
     setup = stores[0].setup
-    kept = {shard: _farthest(stores, shard) for shard in range(setup.shards)}
-    names = {shard: {(row.string, row.owner) for row in rows} for shard, rows in kept.items()}
-    lost = [Lost(store.path, row) for store in stores for shard in kept for row in store.registrations(shard)
-            if (row.string, row.owner) not in names[shard]]
+    kept = {shard: list(_farthest(stores, shard).registrations(shard)) for shard in range(setup.shards)}
+    lost = [Lost(store.path, row) for shard in kept for store, row in _lost(stores, shard)]
     log = open_log(log_name)
     try:
         if log.last(0):
@@ -66,6 +64,17 @@ def _relogged(stores: Sequence[Store], log_name: str) -> tuple[int, list[Lost]]:
     return len(claims), lost
 
 
-def _farthest(stores: Sequence[Store], shard: int) -> list[Registration]:
-    """What the store registers that has read a shard farthest."""
-    return list(max(stores, key=lambda store: store.shard(shard).place).registrations(shard))
+def _farthest(stores: Sequence[Store], shard: int) -> Store:
+    """The store that has read a shard farthest."""
+    return max(stores, key=lambda store: store.shard(shard).place)
+
+
+def _lost(stores: Sequence[Store], shard: int) -> Iterator[tuple[Store, Registration]]:
+    """What stores register that the farthest one doesn't, nor read that it was given up."""
+    past = list(_farthest(stores, shard).past(shard))
+    known = {(row.place, row.string, row.owner) for row in past}
+    kept = {(row.string, row.owner) for row in past if row.ended is None}
+    for store in stores:
+        for row in store.registrations(shard):
+            if (row.place, row.string, row.owner) not in known and (row.string, row.owner) not in kept:
+                yield store, row
