@@ -34,6 +34,15 @@ def name_of(word: str) -> Union[str, bytes]:
     return word
 
 
+def owner_of(word: str) -> str:
+    """An owner as it was typed, which has to be text."""
+    try:
+        word.encode()
+    except UnicodeEncodeError as error:
+        raise argparse.ArgumentTypeError("an owner is UTF-8") from error
+    return word
+
+
 def told(outcome: Outcome) -> str:
     """What became of a claim or a forget, as a line."""
     holder = outcome.holder
@@ -153,9 +162,9 @@ def parser() -> argparse.ArgumentParser:
     one.add_argument("--shards", type=int, help="how many shards, up to 1024; never to be changed")
     one.add_argument("--equivalents", action="store_true", help="register equivalent strings side by side, as file names")
     one = command("claim", "registers a name for an owner", "store", "name")
-    one.add_argument("--owner", required=True)
+    one.add_argument("--owner", type=owner_of, required=True)
     one = command("forget", "gives a name up", "store", "name")
-    one.add_argument("--owner", help="only where this owner has it")
+    one.add_argument("--owner", type=owner_of, help="only where this owner has it")
     command("find", "tells who has a name, or an equivalent one", "store", "name")
     command("same", "tells whether two registered names are equivalent", "store", "left", "right")
     command("list", "lists the registered names, with their places and owners", "store")
