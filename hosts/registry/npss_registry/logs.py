@@ -8,7 +8,7 @@ from collections.abc import Iterator, Sequence
 from contextlib import contextmanager
 from typing import Any, Optional, Protocol
 
-from npss_registry.errors import LogAway, StoreError
+from npss_registry.errors import LogAway, LogBroken, StoreError
 
 
 class Log(Protocol):
@@ -39,6 +39,8 @@ def _reached() -> Iterator[None]:
         yield
     except sqlite3.OperationalError as error:
         raise LogAway(f"the log: {error}") from error
+    except sqlite3.DatabaseError as error:
+        raise StoreError(f"the log: {error}") from error
 
 
 class SqliteLog:
@@ -109,7 +111,8 @@ class RedisLog:
         import redis
 
         self._refused = redis.ResponseError
-        self._away = (redis.ConnectionError, redis.TimeoutError, redis.BusyLoadingError)
+        # A server that refuses, as one that is full or a replica, is away as well.
+        self._away = redis.RedisError
         address, _, prefix = url.partition("#")
         self._prefix = prefix or "npss"
         self._server: Any = redis.Redis.from_url(address, socket_timeout=patience, socket_connect_timeout=patience)
@@ -136,7 +139,10 @@ class RedisLog:
 
     @staticmethod
     def _place(identifier: bytes) -> int:
-        return int(identifier.partition(b"-")[2])
+        before, _, place = identifier.partition(b"-")
+        if before != b"0":
+            raise LogBroken(int(place), f"the identifier {identifier.decode()} is not one that a node wrote")
+        return int(place)
 
     def append(self, records: Sequence[tuple[int, bytes]]) -> list[int]:
         with self._asked():
@@ -156,12 +162,12 @@ class RedisLog:
     def read(self, shard: int, behind: int, most: int) -> list[tuple[int, bytes]]:
         with self._asked():
             found = self._server.xrange(self._stream(shard), min=f"(0-{behind}" if behind else "-", count=most)
-        return [(self._place(identifier), fields[b"record"]) for identifier, fields in found]
+        return [(self._place(identifier), fields.get(b"record", b"")) for identifier, fields in found]
 
     def record(self, shard: int, place: int) -> Optional[bytes]:
         with self._asked():
             found = self._server.xrange(self._stream(shard), min=f"0-{place}", max=f"0-{place}", count=1)
-        return found[0][1][b"record"] if found else None
+        return found[0][1].get(b"record", b"") if found else None
 
     def last(self, shard: int) -> int:
         with self._asked():

@@ -4,6 +4,7 @@ import base64
 import hashlib
 import json
 from dataclasses import dataclass
+from functools import cached_property
 from typing import Union
 
 from npss import Form
@@ -14,6 +15,7 @@ from npss_registry.errors import LogBroken
 _LENGTH = 4
 _FORM_BYTES = {"nfd": b"D", "nfc": b"C", "nfkd": b"d", "nfkc": b"c"}
 FORMS: tuple[Form, ...] = ("nfc", "nfd", "nfkc", "nfkd")
+_JSON = json.JSONEncoder(ensure_ascii=False, separators=(",", ":"))
 
 
 @dataclass(frozen=True)
@@ -33,15 +35,21 @@ class Claim:
     message: bytes
     owner: str
 
+    @cached_property
+    def parts(self) -> tuple[str, str]:
+        """The string and the key of the message. ValueError where it ends within one of them."""
+        string = _field(self.message, 1)
+        return string.decode(), _field(self.message, 1 + _LENGTH + len(string)).decode()
+
     @property
     def string(self) -> str:
         """The string of the message."""
-        return _field(self.message, 1).decode()
+        return self.parts[0]
 
     @property
     def key(self) -> str:
         """The key of the message."""
-        return _field(self.message, 1 + _LENGTH + len(_field(self.message, 1))).decode()
+        return self.parts[1]
 
 
 @dataclass(frozen=True)
@@ -87,20 +95,37 @@ def spelled(record: Record) -> bytes:
         told = {"claim": base64.b64encode(record.message).decode(), "owner": record.owner}
     else:
         told = {"forget": record.string, "place": record.place}
-    return json.dumps(told, ensure_ascii=False, separators=(",", ":")).encode()
+    return _JSON.encode(told).encode()
 
 
 def read(place: int, body: bytes) -> Record:
     """The record of bytes at a place of a log. LogBroken where they are none."""
     try:
-        told = json.loads(body)
-        if told.get("setup") == 1:
-            return Setup(form_of(told["form"]), int(told["room"]), int(told["shards"]), bool(told["equivalents"]))
+        told = json.loads(body.decode())
         if "claim" in told:
-            return Claim(base64.b64decode(told["claim"], validate=True), str(told["owner"]))
-        return Forget(str(told["forget"]), int(told["place"]))
-    except (AttributeError, KeyError, TypeError, ValueError) as error:
+            return Claim(base64.b64decode(told["claim"], validate=True), _text(told["owner"]))
+        if "forget" in told:
+            return Forget(_text(told["forget"]), _number(told["place"]))
+        if told["setup"] != 1:
+            raise ValueError("the setup is of another layout")
+        return Setup(form_of(told["form"]), _number(told["room"]), _number(told["shards"]), told["equivalents"] is True)
+    except (KeyError, RecursionError, TypeError, ValueError) as error:
         raise LogBroken(place, f"what stands there is no record: {error!r}") from error
+
+
+def _text(told: object) -> str:
+    """A text of a record, which a store can hold."""
+    if not isinstance(told, str):
+        raise TypeError(f"{told!r} is no text")
+    told.encode()
+    return told
+
+
+def _number(told: object) -> int:
+    """A number of a record, which a store can hold."""
+    if not isinstance(told, int) or not 0 <= told < 1 << 63:
+        raise ValueError(f"{told!r} is no number")
+    return told
 
 
 def sum_of(body: bytes) -> bytes:
