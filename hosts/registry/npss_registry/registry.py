@@ -41,7 +41,8 @@ def init(path: str, version: Version, setup: Optional[Setup], log_name: str) -> 
         if found is None:
             _set_up(log, setup or Setup("nfc", 65536, 1, False))
             found = _setup_of(log)
-            assert found is not None
+            if found is None:
+                raise LogAway("the log: its setup could not be written")
         if setup is not None and setup != found:
             raise Differs(f"the log was set up otherwise: {found}")
     finally:
@@ -124,14 +125,17 @@ class Registry:
     @contextmanager
     def _writing(self) -> Iterator[None]:
         """A transaction of the store. Where it fails, nodes are ahead of the store: it has to be opened anew."""
-        if self._ended:
-            raise StoreError(f"{self.store.path}: this node has stopped; open the store anew")
+        self._check_going()
         try:
             with self.store.transaction():
                 yield
         except BaseException:
             self._ended = True
             raise
+
+    def _check_going(self) -> None:
+        if self._ended:
+            raise StoreError(f"{self.store.path}: this node has stopped; open the store anew")
 
     def abandon(self) -> None:
         """Lets store and log go as they are."""
@@ -144,9 +148,10 @@ class Registry:
         """Reads shards of the log to their ends, and tells what became of each record, by its shard and place."""
         outcomes: dict[tuple[int, int], Outcome] = {}
         with self._lock:
+            self._check_going()
             left = set(range(self.setup.shards) if shards is None else shards)
             while left:
-                pieces = {number: self.log.read(number, self.shards[number].place, PIECE) for number in left}
+                pieces = {number: self.shards[number].read() for number in left}
                 with self._writing():
                     for number, piece in pieces.items():
                         for place, outcome in self.shards[number].apply(piece).items():
@@ -172,14 +177,15 @@ class Registry:
             outcomes: dict[int, Union[Outcome, Refused]] = {
                 index: claim for index, claim in enumerate(made) if not isinstance(claim, Claim)}
             publish = []
-            for index, number in places.items():
-                claim = made[index]
-                assert isinstance(claim, Claim)
-                decided = self.shards[number].decided(claim.string, claim.key, claim.owner)
-                if decided:
-                    outcomes[index] = decided
-                else:
-                    publish.append((index, number, records.spelled(claim)))
+            with self.store.snapshot():
+                for index, number in places.items():
+                    claim = made[index]
+                    assert isinstance(claim, Claim)
+                    decided = self.shards[number].decided(claim.string, claim.key, claim.owner)
+                    if decided:
+                        outcomes[index] = decided
+                    else:
+                        publish.append((index, number, records.spelled(claim)))
             outcomes.update(self._published(publish))
         return [outcomes[index] for index in range(len(claims))]
 
@@ -208,9 +214,10 @@ class Registry:
     def forget(self, string: Union[str, bytes], owner: Optional[str] = None) -> Outcome:
         """Gives a string up; where an owner is named, only that owner's. Raises Refused of what can't be registered."""
         with self._lock:
-            number, name = self._place_of(string)
+            name, key = self._parts_of(string)
+            number = self._shard_of(key)
             self.catch_up([number])
-            holder = self.store.holder(number, name)
+            holder = self.store.holder(number, name, key)
             if holder is None:
                 return Outcome("not registered")
             if owner is not None and holder.owner != owner:
@@ -227,19 +234,19 @@ class Registry:
     def same(self, left: Union[str, bytes], right: Union[str, bytes]) -> Optional[bool]:
         """Whether two registered strings are equivalent; None where one of them isn't registered."""
         with self._lock:
-            (first, one), (second, other) = self._place_of(left), self._place_of(right)
-            holders = self.store.holder(first, one), self.store.holder(second, other)
-            if holders[0] is None or holders[1] is None:
+            (one, key), (other, other_key) = self._parts_of(left), self._parts_of(right)
+            first, second = self._shard_of(key), self._shard_of(other_key)
+            if not self.store.holder(first, one, key) or not self.store.holder(second, other, other_key):
                 return None
             if first != second:
                 return False
             told = self.shards[first].node.same(one, other)
-            return holders[0].key == holders[1].key if told is None else told
+            return key == other_key if told is None else told
 
-    def _place_of(self, string: Union[str, bytes]) -> tuple[int, str]:
-        """The shard of a string, and the string as text."""
+    def _parts_of(self, string: Union[str, bytes]) -> tuple[str, str]:
+        """A string as text, and its key."""
         name = _text(string)
-        return self._shard_of(self.tables.key(name, self.setup.form)), name
+        return name, self.tables.key(name, self.setup.form)
 
     def status(self) -> list[ShardStatus]:
         with self._lock:

@@ -47,16 +47,14 @@ class Shard:
         self.place = row.place
         self._behind = 0
         self._count = store.count(number)
+        self._sum = row.sum
         self.node = Node.restore(tables, row.image, store.setup.form, store.setup.room)
-        self._check_last(row.sum)
+        self._check_last(log.record(number, self.place))
         self._redo(row.image_place)
 
-    def _check_last(self, known: Optional[bytes]) -> None:
+    def _check_last(self, found: Optional[bytes]) -> None:
         """A log that lost its tail, or another log, is never read on."""
-        if self.place == 0:
-            return
-        found = self._log.record(self.number, self.place)
-        if found is None or records.sum_of(found) != known:
+        if self.place and (found is None or records.sum_of(found) != self._sum):
             raise LogBroken(self.place, "the record that this node read last is "
                             + ("missing" if found is None else "another one") + "; see `npss-registry relog`")
 
@@ -81,6 +79,14 @@ class Shard:
 
     # ---- records
 
+    def read(self) -> list[tuple[int, bytes]]:
+        """The next records of the log, at most a piece of them, behind the one that was read last."""
+        if not self.place:
+            return self._log.read(self.number, 0, PIECE)
+        found = self._log.read(self.number, self.place - 1, PIECE + 1)
+        self._check_last(found[0][1] if found and found[0][0] == self.place else None)
+        return found[1:]
+
     def apply(self, piece: Sequence[tuple[int, bytes]]) -> dict[int, Outcome]:
         """Applies the next records, within a transaction of the store, and tells what became of each."""
         outcomes = {}
@@ -88,7 +94,8 @@ class Shard:
             outcomes[place] = self._apply_one(place, records.read(place, body))
             self.place = place
         if piece:
-            self._store.applied(self.number, self.place, records.sum_of(piece[-1][1]))
+            self._sum = records.sum_of(piece[-1][1])
+            self._store.applied(self.number, self.place, self._sum)
         self._behind += len(piece)
         if self._behind >= SAVE_AFTER:
             self.save()
@@ -96,8 +103,8 @@ class Shard:
 
     def _apply_one(self, place: int, record: Record) -> Outcome:
         if isinstance(record, Setup):
-            if self.place:
-                raise LogBroken(place, "a second setup")
+            if self.place or record != self._store.setup:
+                raise LogBroken(place, "a second setup" if self.place else "another setup than the store's")
             return Outcome("set up")
         if not self.place:
             raise LogBroken(place, "no setup stands before it")
@@ -105,13 +112,16 @@ class Shard:
 
     def decided(self, string: str, key: str, owner: str) -> Optional[Outcome]:
         """What a claim comes to without being registered; None where it would be."""
-        holder = self._store.holder(self.number, string)
+        holder = self._holder(string, key)
         if holder:
-            return Outcome("registered" if holder.owner == owner else "taken", holder)
-        alike = [] if self._store.setup.equivalents else self._store.with_key(self.number, key)
-        if alike:
-            return Outcome("taken", alike[0])
+            return Outcome("registered" if (holder.string, holder.owner) == (string, owner) else "taken", holder)
         return Outcome("full") if self._count >= self._store.setup.room else None
+
+    def _holder(self, string: str, key: str) -> Optional[Registration]:
+        """The registration that has a string, or one whose key is equal where that is refused."""
+        if self._store.setup.equivalents:
+            return self._store.holder(self.number, string, key)
+        return next(iter(self._store.with_key(self.number, key)), None)
 
     def _claim(self, place: int, claim: Claim) -> Outcome:
         string, key = _parts(place, claim)
@@ -137,14 +147,14 @@ class Shard:
         return None
 
     def _forget(self, place: int, forget: Forget) -> Outcome:
-        holder = self._store.holder(self.number, forget.string)
-        if holder is None or holder.place != forget.place:
-            return Outcome("not registered", holder)
-        self._store.end(self.number, holder.place, place)
+        ending = self._store.at(self.number, forget.place)
+        if ending is None or ending.ended is not None or ending.string != forget.string:
+            return Outcome("not registered")
+        self._store.end(self.number, ending.place, place)
         self._count -= 1
-        if not holder.parked:
+        if not ending.parked:
             self.node.forget(forget.string)
-        return Outcome("forgotten", holder)
+        return Outcome("forgotten", ending)
 
     # ---- what a machine does
 

@@ -16,24 +16,41 @@ from npss import Tables
 from npss_registry.errors import InUse, StoreError
 from npss_registry.records import Setup, form_of
 
-_LAYOUT = 1
-_TABLES = """
+_LAYOUT = 2
+# Images stand apart from places: a batch writes places, and would read what stands beside them.
+_PLACES = "CREATE TABLE shard (number INTEGER PRIMARY KEY, place INTEGER NOT NULL, sum BLOB)"
+_REGISTERED = "CREATE UNIQUE INDEX registered ON registration (shard, key, string) WHERE ended IS NULL"
+_TABLES = f"""
 CREATE TABLE setup (layout INTEGER NOT NULL, form TEXT NOT NULL, room INTEGER NOT NULL, shards INTEGER NOT NULL,
     equivalents INTEGER NOT NULL, log TEXT NOT NULL, node TEXT NOT NULL, openings INTEGER NOT NULL);
 CREATE TABLE version (number INTEGER PRIMARY KEY, data BLOB NOT NULL, exclusions BLOB NOT NULL,
     data_sum BLOB NOT NULL, exclusions_sum BLOB NOT NULL, assigned INTEGER NOT NULL);
-CREATE TABLE shard (number INTEGER PRIMARY KEY, place INTEGER NOT NULL, sum BLOB, image BLOB NOT NULL,
-    image_place INTEGER NOT NULL, base BLOB NOT NULL, base_place INTEGER NOT NULL, base_version INTEGER NOT NULL);
+{_PLACES};
+CREATE TABLE image (number INTEGER PRIMARY KEY, image BLOB NOT NULL, image_place INTEGER NOT NULL, base BLOB NOT NULL,
+    base_place INTEGER NOT NULL, base_version INTEGER NOT NULL);
 CREATE TABLE registration (shard INTEGER NOT NULL, place INTEGER NOT NULL, string BLOB NOT NULL, key BLOB NOT NULL,
     owner TEXT NOT NULL, refused TEXT, parked INTEGER NOT NULL, ended INTEGER, PRIMARY KEY (shard, place)) WITHOUT ROWID;
-CREATE UNIQUE INDEX registered_string ON registration (shard, string) WHERE ended IS NULL;
-CREATE INDEX registered_key ON registration (shard, key, place) WHERE ended IS NULL;
+{_REGISTERED};
 CREATE INDEX parked_place ON registration (shard, place) WHERE parked;
 CREATE TABLE journal (number INTEGER PRIMARY KEY AUTOINCREMENT, shard INTEGER NOT NULL, event TEXT NOT NULL,
     place INTEGER NOT NULL, version INTEGER NOT NULL);
 """
-_BY_STRING, _BY_KEY, _PARKED = (f"INDEXED BY {name}" for name in ("registered_string", "registered_key", "parked_place"))
+# What makes this layout of the first one.
+_RAISING = f"""
+ALTER TABLE shard RENAME TO image;
+{_PLACES};
+INSERT INTO shard SELECT number, place, sum FROM image;
+ALTER TABLE image DROP COLUMN place;
+ALTER TABLE image DROP COLUMN sum;
+DROP INDEX registered_string;
+DROP INDEX registered_key;
+{_REGISTERED};
+UPDATE setup SET layout = {_LAYOUT};
+"""
+_BY_KEY, _PARKED = (f"INDEXED BY {name}" for name in ("registered", "parked_place"))
 _COLUMNS = "place, string, key, owner, refused, parked, ended"
+# SQLite keeps so many KiB of the file, and copies what it wrote back into it after so many pages.
+_CACHE, _PAGES = 65_536, 4_096
 
 
 @dataclass(frozen=True)
@@ -113,9 +130,11 @@ class Store:
         except sqlite3.DatabaseError as error:
             self._unlock()
             raise StoreError(f"{path}: it is no store: {error}") from error
-        if row is None or row[0] != _LAYOUT:
+        if row is None or row[0] not in (1, _LAYOUT):
             self.close()
             raise StoreError(f"{path}: its layout is not one that this version reads")
+        if row[0] != _LAYOUT:
+            self._raise_layout(read_only)
         self.setup = Setup(form_of(row[1]), row[2], row[3], bool(row[4]))
         self.log, self.node, self._openings = row[5], row[6], row[7]
 
@@ -135,7 +154,17 @@ class Store:
         base = sqlite3.connect(f"file:{sqlite3_name(path)}?mode={mode}", uri=True, isolation_level=None,
                                check_same_thread=False, cached_statements=256)
         base.execute("PRAGMA synchronous = FULL")
+        base.execute(f"PRAGMA cache_size = -{_CACHE}")
+        base.execute(f"PRAGMA wal_autocheckpoint = {_PAGES}")
         return base
+
+    def _raise_layout(self, read_only: bool) -> None:
+        """Brings a store of the first layout to the present one."""
+        if read_only:
+            self.close()
+            raise StoreError(f"{self.path}: its layout is an earlier one; `npss-registry status` brings it to the present one")
+        with self.transaction():
+            _execute(self._base, _RAISING)
 
     @classmethod
     def create(cls, path: str, setup: Setup, log: str, version: Version, empty: bytes) -> None:
@@ -148,13 +177,12 @@ class Store:
             base.execute("PRAGMA journal_mode = WAL")
             base.execute("PRAGMA synchronous = FULL")
             base.execute("BEGIN")
-            for statement in _TABLES.split(";\n"):
-                base.execute(statement)
+            _execute(base, _TABLES)
             base.execute("INSERT INTO setup VALUES (?, ?, ?, ?, ?, ?, ?, ?)",
                          (_LAYOUT, setup.form, setup.room, setup.shards, setup.equivalents, log, secrets.token_hex(8), 0))
             _add_version(base, 0, version)
-            base.executemany("INSERT INTO shard VALUES (?, 0, NULL, ?, 0, ?, 0, 0)",
-                             ((number, empty, empty) for number in range(setup.shards)))
+            base.executemany("INSERT INTO shard VALUES (?, 0, NULL)", ((number,) for number in range(setup.shards)))
+            base.executemany("INSERT INTO image VALUES (?1, ?2, 0, ?2, 0, 0)", ((number, empty) for number in range(setup.shards)))
             base.execute("COMMIT")
             base.close()
             os.link(made, path)  # which fails where somebody else made one meanwhile
@@ -247,8 +275,8 @@ class Store:
         return int(number)
 
     def shard(self, number: int) -> ShardRow:
-        row = self._base.execute("SELECT place, sum, image, image_place, base, base_place, base_version FROM shard "
-                                 "WHERE number = ?", (number,)).fetchone()
+        row = self._base.execute("SELECT place, sum, image, image_place, base, base_place, base_version "
+                                 "FROM shard JOIN image USING (number) WHERE number = ?", (number,)).fetchone()
         return ShardRow(*row)
 
     def applied(self, number: int, place: int, total: bytes) -> None:
@@ -257,13 +285,13 @@ class Store:
 
     def save(self, number: int, image: bytes, place: int, version: int) -> None:
         """Writes the image of a shard's node behind the record at a place."""
-        self._base.execute("UPDATE shard SET image = ?, image_place = ? WHERE number = ?", (image, place, number))
+        self._base.execute("UPDATE image SET image = ?, image_place = ? WHERE number = ?", (image, place, number))
         self.note(number, Event("save", place, version))
 
     def begin_journal(self, number: int, image: bytes, place: int, version: int) -> None:
         """Begins a shard's journal anew with what its node keeps now."""
         self._base.execute("DELETE FROM journal WHERE shard = ?", (number,))
-        self._base.execute("UPDATE shard SET image = ?1, image_place = ?2, base = ?1, base_place = ?2, base_version = ?3 "
+        self._base.execute("UPDATE image SET image = ?1, image_place = ?2, base = ?1, base_place = ?2, base_version = ?3 "
                            "WHERE number = ?4", (image, place, version, number))
 
     def note(self, number: int, event: Event) -> None:
@@ -280,17 +308,17 @@ class Store:
         version = self._base.execute("SELECT max(number) FROM version").fetchone()[0]
         self._base.execute("DELETE FROM registration")
         self._base.execute("DELETE FROM journal")
-        self._base.execute("UPDATE shard SET place = 0, sum = NULL, image = ?1, image_place = 0, base = ?1, base_place = 0, "
-                           "base_version = ?2", (empty, version))
+        self._base.execute("UPDATE shard SET place = 0, sum = NULL")
+        self._base.execute("UPDATE image SET image = ?1, image_place = 0, base = ?1, base_place = 0, base_version = ?2", (empty, version))
         self._base.execute("UPDATE setup SET log = ?", (log,))
         self.log = log
         self.rename_node()
 
     # ---- registrations
 
-    def holder(self, number: int, string: str) -> Optional[Registration]:
-        """The registration of a string, while it lasts."""
-        return self._one(_BY_STRING, "string = ? AND ended IS NULL", number, string.encode())
+    def holder(self, number: int, string: str, key: str) -> Optional[Registration]:
+        """The registration of a string with its key, while it lasts."""
+        return self._one(_BY_KEY, "key = ? AND string = ? AND ended IS NULL", number, key.encode(), string.encode())
 
     def with_key(self, number: int, key: str) -> list[Registration]:
         """The registrations of a key, while they last, in the order of their places."""
@@ -335,6 +363,12 @@ class Store:
 
     def _one(self, index: str, where: str, *given: Any) -> Optional[Registration]:
         return next(self._some(index, where, *given), None)
+
+
+def _execute(base: sqlite3.Connection, statements: str) -> None:
+    """Executes statements, within the transaction of who asks."""
+    for statement in statements.split(";\n"):
+        base.execute(statement)
 
 
 def sqlite3_name(path: str) -> str:

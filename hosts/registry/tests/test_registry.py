@@ -34,6 +34,18 @@ OLD, NEW = ([str(FIXTURES / version / name) for name in ("UnicodeData.txt", "Com
 # Assigned in v2 alone.
 YOUNG = "\u1dfa"
 TOKEN = "a token of the tests"
+# Makes a store of the first layout of the present one.
+FIRST_LAYOUT = """
+ALTER TABLE image ADD COLUMN place INTEGER;
+ALTER TABLE image ADD COLUMN sum BLOB;
+UPDATE image SET (place, sum) = (SELECT place, sum FROM shard WHERE shard.number = image.number);
+DROP TABLE shard;
+ALTER TABLE image RENAME TO shard;
+DROP INDEX registered;
+CREATE UNIQUE INDEX registered_string ON registration (shard, string) WHERE ended IS NULL;
+CREATE INDEX registered_key ON registration (shard, key, place) WHERE ended IS NULL;
+UPDATE setup SET layout = 1;
+"""
 
 
 def version(files):
@@ -127,7 +139,7 @@ class Rules(Case):
         outcomes = node.claim_many([("a", "x"), ("a\u0302", "x"), ("\u00e2", "y"), ("a", "y"), (YOUNG, "x"), ("A" * 9, "x")])
         self.assertEqual([getattr(one, "what", type(one)) for one in outcomes],
                          ["registered", "registered", "taken", "taken", Unassigned, "registered"])
-        self.assertEqual(node.store.holder(shard_of("a", 7), "a").owner, "x")
+        self.assertEqual(node.store.holder(shard_of("a", 7), "a", "a").owner, "x")
         self.assertEqual(sum(len(shard.node) for shard in node.shards), 3)
 
 
@@ -200,9 +212,34 @@ class Restarts(Case):
         self.assertRaisesRegex(LogBroken, "another one", Registry, node.store.path)
         base.close()
 
+    def test_a_log_that_loses_its_tail_under_a_node_is_not_read_on(self):
+        node = self.node("one")
+        place = node.claim("A", "x").holder.place
+        with contextlib.closing(sqlite3.connect(self.log)) as base, base:
+            base.execute("UPDATE record SET body = ? WHERE place = ?", (spelled(Claim(message("nfc", "a", "a"), "y")), place))
+        with self.assertRaisesRegex(LogBroken, "another one") as caught:
+            node.claim("i", "x")
+        self.assertEqual(caught.exception.place, place)
+
+    def test_a_store_of_the_first_layout_is_brought_to_the_present_one(self):
+        node = self.node("one")
+        for name in ("a", "A", "i"):
+            node.claim(name, "x")
+        node.forget("A")
+        node.close()
+        with contextlib.closing(sqlite3.connect(node.store.path)) as base:
+            base.executescript(FIRST_LAYOUT)
+        self.assertRaisesRegex(StoreError, "an earlier one", Judge, [node.store.path], PROGRAM)
+        again = self.open(node.store.path)
+        self.assertEqual([entry.string for entry in again.shards[0].node], ["a", "i"])
+        self.assertEqual([again.claim(name, "y").what for name in ("a", "A")], ["taken", "registered"])
+        again.close()
+        self.assertEqual(self.judged(again.store.path), [])
+
     def test_a_log_that_no_node_wrote_stops_the_node_at_its_place(self):
         for body in (b"[]", b"\xff", spelled(Claim(message("nfc", "a\u0302", "a"), "x")), spelled(Claim(b"C", "x")),
-                     spelled(Claim(message("nfd", "a", "a"), "x")), spelled(self.setup)):
+                     spelled(Claim(message("nfd", "a", "a"), "x")), spelled(self.setup), spelled(Setup("nfc", 5, 1, False)), b"[" * 100_000, b'{"setup":2}',
+                     b'{"claim":"QwAAAAFhAAAAAWE=","owner":"\\ud800"}', b'{"forget":"a","place":1e999}', b'{"forget":"a","place":%d}' % (1 << 63)):
             with self.subTest(body), tempfile.TemporaryDirectory() as folder:
                 path, log = os.path.join(folder, "store"), os.path.join(folder, "log")
                 init(path, version(OLD), self.setup, log)
@@ -246,6 +283,21 @@ class Restarts(Case):
         self.assertEqual([entry.string for entry in back.shards[0].node], ["a", "A"])
         back.close()
         self.assertEqual(self.judged(path), [])
+
+    def test_a_new_log_tells_what_is_lost(self):
+        one, other = self.node("one"), self.node("other")
+        for name in ("a", "A"):
+            one.claim(name, "x")
+        other.catch_up()
+        one.forget("A")
+        one.claim("i", "x")
+        paths = [one.store.path, other.store.path]
+        one.abandon()
+        other.abandon()
+        with contextlib.closing(sqlite3.connect(paths[1])) as base, base:
+            base.execute("UPDATE registration SET owner = 'y' WHERE string = CAST('a' AS BLOB)")
+        count, lost = relog(paths, str(self.folder / "new"))
+        self.assertEqual((count, [(one.store, one.registration.string, one.registration.owner) for one in lost]), (2, [(paths[1], "a", "y")]))
 
     def test_a_new_log_from_what_stores_read(self):
         one, other = self.node("one"), self.node("other")
