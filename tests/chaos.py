@@ -1,11 +1,13 @@
 #!/usr/bin/env python3
-"""tests/chaos.py [--seconds N] [--seed S] [--log sqlite|redis] PROGRAM: five nodes of a registry that are killed, cut off and upgraded.
+"""tests/chaos.py [--seconds N] [--seed S] [--log sqlite|redis] [--form nfc|nfkc] PROGRAM: five nodes of a registry that are
+killed, cut off and upgraded.
 
 PROGRAM is npss, with which the judge replays. The nodes are processes of their own (chaos_node.py), whose versions are
 13.0, 14.0 and 15.0 of the published files, the earlier two cut from the last. Each ends itself at a write to store or
 log that the seed draws; a Redis server is killed and started again, and nodes are cut off from it by a proxy that drops;
-nodes are upgraded in any order; names are claimed at all nodes at once, given up, and claimed again. At the end the
-judge has to be silent; nodes that read to the end register the same; each key has one holder; no name that was answered
+nodes are upgraded in any order; names are claimed at all nodes at once, given up, and claimed again. Names with young
+code points are claimed at nodes that have them, and old ones of the same keys at nodes that don't. At the end the judge
+has to be silent; nodes that read to the end register the same; each key has one holder; no name that was answered
 `registered`, with no forget behind it, is missing; each key is what PROGRAM makes under the last version; and a log that
 lost its tail is refused.
 Prints its seed. Ends in a line 'N passed, M failed'. The modules npss and npss_registry are on PYTHONPATH.
@@ -43,6 +45,12 @@ WRITES = 40
 NAMES = ["Jörg", "Jo\u0308rg", "ﬁn", "fin", "Å", "\u212b", "A\u030a", "\U0001E030", "\u0430", "x\U0001E030", "x\u0430", "\u0870a",
          "\U00010570z", "\U0001E08F\u0301", "한", "\u1112\u1161\u11ab", "", "\u1ead", "a\u0323\u0302", "a\u0302\u0323", "\u0958",
          "\u0915\u093c", "\U0001D15E", "s\u0323\u0307", "s\u0307\u0323", "\u1e69", "\u0378", "\U0001FAE8", "\u0CF3\u0CF3"]
+# By its place in AGES a version's code points, and what has the same keys in each version, under NFKC alone: no code point
+# of these versions is canonically equivalent to older ones.
+PAIRS = [(1, "\uA7F2", "C"), (1, "\U00010783", "\u00e6"), (1, "x\U000107A5\u0301", "xq\u0301"), (2, "\U0001E030", "\u0430"),
+         (2, "x\U0001E041", "x\u0443"), (2, "\U0001E042\u0308", "\u0444\u0308")]
+# So many of the old names are claimed that were told last.
+LAST = 10
 
 
 class Proxy:
@@ -183,13 +191,25 @@ class Node(threading.Thread):
         if self.upgrades and time.time() > self.upgrades[0]:
             return {"do": "upgrade", "files": self.chaos.files[self.version + 1]}
         name = source.choice(self.chaos.pool) + source.choice(("", "1", "\u0301", str(source.randint(1, 30))))
+        if chance < 0.14:
+            name = self.paired()
         if chance < 0.62:
             return {"do": "claim", "name": name, "owner": source.choice("abc")}
         if chance < 0.76:
-            return {"do": "forget", "name": name}
+            registered = self.chaos.told.registered[-LAST:]
+            return {"do": "forget", "name": source.choice(registered)[0] if registered and chance < 0.67 else name}
         if chance < 0.92:
             return {"do": "read"}
         return {"do": "same", "left": name, "right": source.choice(self.chaos.pool)}
+
+    def paired(self):
+        """A name with a young code point, where this version has it; else an old name whose key such a one has, which is parked here."""
+        since, young, old = self.source.choice(PAIRS)
+        if self.version >= since:
+            tail = str(self.source.randint(1, 9999))
+            self.chaos.old.append((since, old + tail))
+            return young + tail
+        return self.source.choice([name for least, name in self.chaos.old[-LAST:] if least > self.version] or [old])
 
     def run(self):
         open_now = False
@@ -220,11 +240,13 @@ class Chaos:
         self.source = random.Random(words.seed)
         self.told = Told()
         self.pool = NAMES
+        # Names of old code points, each with the version that has a young one of its key, which was claimed somewhere.
+        self.old = []
         self.files = self._versions()
         self.server = Server(folder) if words.log == "redis" else None
         self.proxies = [Proxy(self.server.port) for _ in range(NODES)] if self.server else []
-        setup = Setup(self.source.choice(("nfc", "nfkc")), self.source.choice((40, 65536)), self.source.choice((1, 3)),
-                      self.source.random() < 0.2)
+        drawn = self.source.choice(("nfc", "nfkc"))
+        setup = Setup(words.form or drawn, self.source.choice((40, 65536)), self.source.choice((1, 3)), self.source.random() < 0.2)
         self.setup = setup
         for number in range(NODES):
             data, exclusions = (Path(name).read_bytes() for name in self.files[number % len(AGES)])
@@ -336,6 +358,7 @@ def main():
     parser.add_argument("--seconds", type=float, default=180)
     parser.add_argument("--seed", type=int, default=random.SystemRandom().randrange(1_000_000))
     parser.add_argument("--log", choices=("sqlite", "redis"), default="redis" if shutil.which("redis-server") else "sqlite")
+    parser.add_argument("--form", choices=("nfc", "nfkc"), help="else the seed draws it")
     parser.add_argument("program")
     words = parser.parse_args()
     print(f"seed {words.seed}, {words.seconds} seconds over {words.log}", flush=True)

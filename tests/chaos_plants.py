@@ -1,8 +1,8 @@
 #!/usr/bin/env python3
 """tests/chaos_plants.py [--seconds N] [NAME..] PROGRAM: plants bugs into the registry, and sees that chaos finds each.
 
-Each bug is one edit of a copy of hosts/registry. Chaos runs over the copy, over a SQLite file and over a Redis server in
-turn, half a minute each, until it fails or N seconds are over, 180 where nobody says otherwise. First it runs over the registry
+Each bug is one edit of a copy of hosts/registry. Chaos runs over the copy, over a SQLite file and over a Redis server,
+under NFC and NFKC in turn, half a minute each, until it fails or N seconds are over, 180 where nobody says otherwise. First it runs over the registry
 as it is, and has to pass. On demand: not called by ./test. Ends in a line 'N passed, M failed'.
 """
 
@@ -17,6 +17,8 @@ from pathlib import Path
 
 from harness import ROOT, Tally
 
+# What chaos runs over, in turn.
+RUNS = (("sqlite", "nfc"), ("redis", "nfkc"), ("sqlite", "nfkc"), ("redis", "nfc"))
 # For each bug its file, a text that stands there once, and what stands there in its place.
 PLANTS = {
     "a transaction is split in two": ("registry.py", """                with self._writing():
@@ -46,12 +48,14 @@ PLANTS = {
         if refused:
             return Outcome("full")
         new ="""),
-    "a parked key is not counted": ("shards.py", """else self._store.with_key(self.number, key)""",
-                                    """else [one for one in self._store.with_key(self.number, key) if not one.parked]"""),
-    "a forget without its place": ("shards.py", """if holder is None or holder.place != forget.place:""", """if holder is None:"""),
+    "a parked key is not counted": ("shards.py", """next(iter(self._store.with_key(self.number, key)), None)""",
+                                    """next((one for one in self._store.with_key(self.number, key) if one.string == string or not one.parked), None)"""),
+    "a forget without its place": ("shards.py", """self._store.at(self.number, forget.place)
+        if""", """next((one for one in self._store.registrations(self.number) if one.string == forget.string), None)
+        if"""),
     "an image with the wrong place": ("shards.py", """self._store.save(self.number, self.node.image(), self.place, self._version)""",
                                       """self._store.save(self.number, self.node.image(), max(self.place - 1, 0), self._version)"""),
-    "the last record is not compared": ("shards.py", """if found is None or records.sum_of(found) != known:""", """if found is None:"""),
+    "the last record is not compared": ("shards.py", """(found is None or records.sum_of(found) != self._sum)""", """found is None"""),
     "an answer before the record is read back": ("registry.py", """        told = self.catch_up({number for _, number, _ in publish})
         return {index: told[number, place] for (index, number, _), place in zip(publish, places)}
 """, """        return {index: Outcome("registered") for index, _, _ in publish}
@@ -81,9 +85,9 @@ def found_after(copy, program, seconds):
     environment = {**os.environ, "PYTHONPATH": f"{copy}:{os.environ.get('PYTHONPATH', '')}"}
     begun, seed = time.time(), 0
     while time.time() - begun < seconds:
-        for log in ("sqlite", "redis"):
+        for log, form in RUNS:
             seed += 1
-            words = [sys.executable, ROOT / "tests" / "chaos.py", "--seconds", "30", "--seed", str(seed), "--log", log, program]
+            words = [sys.executable, ROOT / "tests" / "chaos.py", "--seconds", "30", "--seed", str(seed), "--log", log, "--form", form, program]
             ran = subprocess.run(list(map(str, words)), env=environment, stdout=subprocess.PIPE, stderr=subprocess.STDOUT, text=True, check=False)
             if ran.returncode:
                 return time.time() - begun
