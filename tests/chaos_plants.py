@@ -48,8 +48,8 @@ PLANTS = {
         if refused:
             return Outcome("full")
         new ="""),
-    "a parked key is not counted": ("shards.py", """next(iter(self._store.with_key(self.number, key)), None)""",
-                                    """next((one for one in self._store.with_key(self.number, key) if one.string == string or not one.parked), None)"""),
+    "a parked key is not counted": ("shards.py", """self._store.holder_of_key(self.number, claim.key)""",
+                                    """next((one for one in self._store.with_key(self.number, claim.key) if one.string == claim.string or not one.parked), None)"""),
     "a forget without its place": ("shards.py", """self._store.at(self.number, forget.place)
         if""", """next((one for one in self._store.registrations(self.number) if one.string == forget.string), None)
         if"""),

@@ -70,18 +70,18 @@ class SqliteLog:
 
     def append(self, records: Sequence[tuple[int, bytes]]) -> list[int]:
         with self._writing():
-            return [self._insert(shard, body) for shard, body in records]
+            return self._insert(records)
 
     def begin(self, records: Sequence[tuple[int, bytes]]) -> None:
         with self._writing():
             if not self._base.execute("SELECT EXISTS (SELECT 1 FROM record)").fetchone()[0]:
-                for shard, body in records:
-                    self._insert(shard, body)
+                self._insert(records)
 
-    def _insert(self, shard: int, body: bytes) -> int:
-        place = self._base.execute("INSERT INTO record (shard, body) VALUES (?, ?)", (shard, body)).lastrowid
-        assert place is not None
-        return place
+    def _insert(self, records: Sequence[tuple[int, bytes]]) -> list[int]:
+        """Inserts records, whose places follow one another within a transaction."""
+        self._base.executemany("INSERT INTO record (shard, body) VALUES (?, ?)", records)
+        last: int = self._base.execute("SELECT last_insert_rowid()").fetchone()[0]
+        return list(range(last - len(records) + 1, last + 1))
 
     def read(self, shard: int, behind: int, most: int) -> list[tuple[int, bytes]]:
         with _reached():

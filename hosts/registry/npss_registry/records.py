@@ -4,8 +4,7 @@ import base64
 import hashlib
 import json
 from dataclasses import dataclass
-from functools import cached_property
-from typing import Union
+from typing import NamedTuple, Union
 
 from npss import Form
 
@@ -15,7 +14,7 @@ from npss_registry.errors import LogBroken
 _LENGTH = 4
 _FORM_BYTES = {"nfd": b"D", "nfc": b"C", "nfkd": b"d", "nfkc": b"c"}
 FORMS: tuple[Form, ...] = ("nfc", "nfd", "nfkc", "nfkd")
-_JSON = json.JSONEncoder(ensure_ascii=False, separators=(",", ":"))
+_ENCODER, _DECODER = json.JSONEncoder(ensure_ascii=False, separators=(",", ":")), json.JSONDecoder()
 
 
 @dataclass(frozen=True)
@@ -28,32 +27,16 @@ class Setup:
     equivalents: bool
 
 
-@dataclass(frozen=True)
-class Claim:
+class Claim(NamedTuple):
     """Somebody claims a string. The message of a node holds the string and its key."""
 
     message: bytes
     owner: str
-
-    @cached_property
-    def parts(self) -> tuple[str, str]:
-        """The string and the key of the message. ValueError where it ends within one of them."""
-        string = _field(self.message, 1)
-        return string.decode(), _field(self.message, 1 + _LENGTH + len(string)).decode()
-
-    @property
-    def string(self) -> str:
-        """The string of the message."""
-        return self.parts[0]
-
-    @property
-    def key(self) -> str:
-        """The key of the message."""
-        return self.parts[1]
+    string: str
+    key: str
 
 
-@dataclass(frozen=True)
-class Forget:
+class Forget(NamedTuple):
     """A string is given up. `place` is that of the registration that it ends, so that a repeated one harms nothing."""
 
     string: str
@@ -69,6 +52,16 @@ def message(form: Form, string: str, key: str) -> bytes:
     return _FORM_BYTES[form] + b"".join(len(part).to_bytes(_LENGTH, "big") + part for part in parts)
 
 
+def claim_of(message: bytes, owner: str) -> Claim:
+    """The claim of a message. ValueError where it doesn't end with its key."""
+    at = 1 + _LENGTH
+    end = at + int.from_bytes(message[1:at], "big")
+    behind = end + _LENGTH
+    if len(message) != behind + int.from_bytes(message[end:behind], "big"):
+        raise ValueError("the message doesn't end with its key")
+    return Claim(message, owner, message[at:end].decode(), message[behind:].decode())
+
+
 def form_of(name: object) -> Form:
     """The form of a name; ValueError where it is none."""
     for form in FORMS:
@@ -77,33 +70,26 @@ def form_of(name: object) -> Form:
     raise ValueError(f"{name!r} is no form")
 
 
-def _field(message: bytes, at: int) -> bytes:
-    """The bytes behind a length at a place of a message."""
-    length = int.from_bytes(message[at:at + _LENGTH], "big")
-    found = message[at + _LENGTH:at + _LENGTH + length]
-    if len(found) != length:
-        raise ValueError("the message ends within a field")
-    return found
-
-
 def spelled(record: Record) -> bytes:
     """The bytes of a record, JSON that a person can read."""
-    if isinstance(record, Setup):
-        told: dict[str, object] = {"setup": 1, "form": record.form, "room": record.room, "shards": record.shards,
-                                   "equivalents": record.equivalents}
-    elif isinstance(record, Claim):
-        told = {"claim": base64.b64encode(record.message).decode(), "owner": record.owner}
-    else:
+    if isinstance(record, Claim):
+        told: dict[str, object] = {"claim": base64.b64encode(record.message).decode(), "owner": record.owner}
+    elif isinstance(record, Forget):
         told = {"forget": record.string, "place": record.place}
-    return _JSON.encode(told).encode()
+    else:
+        told = {"setup": 1, "form": record.form, "room": record.room, "shards": record.shards, "equivalents": record.equivalents}
+    return _ENCODER.encode(told).encode()
 
 
 def read(place: int, body: bytes) -> Record:
     """The record of bytes at a place of a log. LogBroken where they are none."""
     try:
-        told = json.loads(body.decode())
+        text = body.decode()
+        told, end = _DECODER.raw_decode(text)
+        if end != len(text):
+            raise ValueError("more stands behind it")
         if "claim" in told:
-            return Claim(base64.b64decode(told["claim"], validate=True), _text(told["owner"]))
+            return claim_of(base64.b64decode(told["claim"], validate=True), _text(told["owner"]))
         if "forget" in told:
             return Forget(_text(told["forget"]), _number(told["place"]))
         if told["setup"] != 1:

@@ -171,17 +171,19 @@ class Registry:
     def claim_many(self, claims: Sequence[tuple[Union[str, bytes], str]]) -> list[Union[Outcome, Refused]]:
         """Claims strings, each for its owner. What is refused at once stands in its place."""
         with self._lock:
-            made = [self._message_of(string, owner) for string, owner in claims]
-            places = {index: self._shard_of(claim.key) for index, claim in enumerate(made) if isinstance(claim, Claim)}
-            self.catch_up(set(places.values()))
-            outcomes: dict[int, Union[Outcome, Refused]] = {
-                index: claim for index, claim in enumerate(made) if not isinstance(claim, Claim)}
+            outcomes: dict[int, Union[Outcome, Refused]] = {}
+            made = []
+            for index, (string, owner) in enumerate(claims):
+                try:
+                    claim = self._claim_of(string, owner)
+                    made.append((index, self._shard_of(claim.key), claim))
+                except Refused as error:
+                    outcomes[index] = error
+            self.catch_up({number for _, number, _ in made})
             publish = []
             with self.store.snapshot():
-                for index, number in places.items():
-                    claim = made[index]
-                    assert isinstance(claim, Claim)
-                    decided = self.shards[number].decided(claim.string, claim.key, claim.owner)
+                for index, number, claim in made:
+                    decided = self.shards[number].decided(claim)
                     if decided:
                         outcomes[index] = decided
                     else:
@@ -189,16 +191,13 @@ class Registry:
             outcomes.update(self._published(publish))
         return [outcomes[index] for index in range(len(claims))]
 
-    def _message_of(self, string: Union[str, bytes], owner: str) -> Union[Claim, Refused]:
-        """The claim of a string, by a node that keeps nothing else; or why there is none."""
-        try:
-            self._speller.accept(string)
-        except Refused as error:
-            return error
+    def _claim_of(self, string: Union[str, bytes], owner: str) -> Claim:
+        """The claim of a string, by a node that keeps nothing else."""
+        self._speller.accept(string)
         message = self._speller.message(string)
         assert message is not None
         self._speller.forget(string)
-        return Claim(message, owner)
+        return records.claim_of(message, owner)
 
     def _shard_of(self, key: str) -> int:
         return records.shard_of(key, self.setup.shards)

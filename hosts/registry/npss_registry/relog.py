@@ -8,7 +8,6 @@ from npss import Node
 from npss_registry import records
 from npss_registry.errors import StoreError
 from npss_registry.logs import open_log
-from npss_registry.records import Claim
 from npss_registry.store import Registration, Store
 
 # So many records are written together.
@@ -50,7 +49,7 @@ def _relogged(stores: Sequence[Store], log_name: str) -> tuple[int, list[Lost]]:
         if log.last(0):
             raise StoreError(f"{log_name}: there is a log already; a new one is wanted")
         log.begin([(shard, records.spelled(setup)) for shard in kept])
-        claims = [(shard, records.spelled(Claim(records.message(setup.form, row.string, row.key), row.owner)))
+        claims = [(shard, records.spelled(records.claim_of(records.message(setup.form, row.string, row.key), row.owner)))
                   for shard, rows in kept.items() for row in rows]
         for at in range(0, len(claims), BATCH):
             log.append(claims[at:at + BATCH])

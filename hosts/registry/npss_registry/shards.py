@@ -1,8 +1,7 @@
 """A shard: the registered strings of its log, and the proved node that holds those that its version assigns."""
 
 from collections.abc import Sequence
-from dataclasses import dataclass
-from typing import Optional
+from typing import NamedTuple, Optional
 
 from npss import Accepted, Node, Refused, Tables, Unassigned
 
@@ -18,8 +17,7 @@ SAVE_AFTER = 4096
 PIECE = 1000
 
 
-@dataclass(frozen=True)
-class Outcome:
+class Outcome(NamedTuple):
     """What became of a record: `registered`, `taken`, `full`, `forgotten` or `not registered`.
 
     `holder` is the registration that has the string, or one whose key is equal; it is `new` where this record made it.
@@ -102,34 +100,35 @@ class Shard:
         return outcomes
 
     def _apply_one(self, place: int, record: Record) -> Outcome:
-        if isinstance(record, Setup):
-            if self.place or record != self._store.setup:
-                raise LogBroken(place, "a second setup" if self.place else "another setup than the store's")
-            return Outcome("set up")
-        if not self.place:
+        if not self.place and not isinstance(record, Setup):
             raise LogBroken(place, "no setup stands before it")
-        return self._claim(place, record) if isinstance(record, Claim) else self._forget(place, record)
+        if isinstance(record, Claim):
+            return self._claim(place, record)
+        if isinstance(record, Forget):
+            return self._forget(place, record)
+        if self.place or record != self._store.setup:
+            raise LogBroken(place, "a second setup" if self.place else "another setup than the store's")
+        return Outcome("set up")
 
-    def decided(self, string: str, key: str, owner: str) -> Optional[Outcome]:
+    def decided(self, claim: Claim) -> Optional[Outcome]:
         """What a claim comes to without being registered; None where it would be."""
-        holder = self._holder(string, key)
+        holder = self._holder(claim)
         if holder:
-            return Outcome("registered" if (holder.string, holder.owner) == (string, owner) else "taken", holder)
+            return Outcome("registered" if (holder.string, holder.owner) == (claim.string, claim.owner) else "taken", holder)
         return Outcome("full") if self._count >= self._store.setup.room else None
 
-    def _holder(self, string: str, key: str) -> Optional[Registration]:
-        """The registration that has a string, or one whose key is equal where that is refused."""
+    def _holder(self, claim: Claim) -> Optional[Registration]:
+        """The registration that has a claim's string, or one whose key is equal where that is refused."""
         if self._store.setup.equivalents:
-            return self._store.holder(self.number, string, key)
-        return next(iter(self._store.with_key(self.number, key)), None)
+            return self._store.holder(self.number, claim.string, claim.key)
+        return self._store.holder_of_key(self.number, claim.key)
 
     def _claim(self, place: int, claim: Claim) -> Outcome:
-        string, key = _parts(place, claim)
-        decided = self.decided(string, key, claim.owner)
+        decided = self.decided(claim)
         if decided:
             return decided
         refused = self._take(place, claim)
-        new = Registration(place, string, key, claim.owner, refused, refused is not None, None)
+        new = Registration(place, claim.string, claim.key, claim.owner, refused, refused is not None, None)
         self._store.register(self.number, new)
         self._count += 1
         return Outcome("registered", new, new=True)
@@ -196,11 +195,3 @@ class Shard:
                 self._store.note(self.number, Event("taken", place, version))
         self.save()
         return self._store.parked(self.number)
-
-
-def _parts(place: int, claim: Claim) -> tuple[str, str]:
-    """The string and the key of a claim's message."""
-    try:
-        return claim.string, claim.key
-    except ValueError as error:
-        raise LogBroken(place, f"the claim has no message: {error}") from error

@@ -9,7 +9,7 @@ import zlib
 from collections.abc import Iterator
 from contextlib import contextmanager
 from dataclasses import dataclass
-from typing import Any, Optional
+from typing import Any, NamedTuple, Optional
 
 from npss import Tables
 
@@ -47,14 +47,16 @@ DROP INDEX registered_key;
 {_REGISTERED};
 UPDATE setup SET layout = {_LAYOUT};
 """
-_BY_KEY, _PARKED = (f"INDEXED BY {name}" for name in ("registered", "parked_place"))
-_COLUMNS = "place, string, key, owner, refused, parked, ended"
+# Registrations by an index: left to itself SQLite walks the places of the whole shard.
+_FOUND = "SELECT place, string, key, owner, refused, parked, ended FROM registration"
+_BY_KEY = f"{_FOUND} INDEXED BY registered WHERE shard = ? AND key = ? AND ended IS NULL"
+_PARKED = f"{_FOUND} INDEXED BY parked_place WHERE shard = ? AND parked AND ended IS NULL ORDER BY place"
+_BY_PLACE = f"{_FOUND} WHERE shard = ?"
 # SQLite keeps so many KiB of the file, and copies what it wrote back into it after so many pages.
 _CACHE, _PAGES = 65_536, 4_096
 
 
-@dataclass(frozen=True)
-class Registration:
+class Registration(NamedTuple):
     """A string that somebody has, or had until the place `ended`.
 
     `refused` is what the node answered where it lacked a code point of the string when it came; `parked` whether it
@@ -318,27 +320,31 @@ class Store:
 
     def holder(self, number: int, string: str, key: str) -> Optional[Registration]:
         """The registration of a string with its key, while it lasts."""
-        return self._one(_BY_KEY, "key = ? AND string = ? AND ended IS NULL", number, key.encode(), string.encode())
+        return self._one(f"{_BY_KEY} AND string = ?", number, key.encode(), string.encode())
+
+    def holder_of_key(self, number: int, key: str) -> Optional[Registration]:
+        """A registration of a key, while it lasts."""
+        return self._one(_BY_KEY, number, key.encode())
 
     def with_key(self, number: int, key: str) -> list[Registration]:
         """The registrations of a key, while they last, in the order of their places."""
-        return list(self._some(_BY_KEY, "key = ? AND ended IS NULL ORDER BY place", number, key.encode()))
+        return list(self._some(f"{_BY_KEY} ORDER BY place", number, key.encode()))
 
     def at(self, number: int, place: int) -> Optional[Registration]:
         """The registration that the record at a place made."""
-        return self._one("", "place = ?", number, place)
+        return self._one(f"{_BY_PLACE} AND place = ?", number, place)
 
     def registrations(self, number: int) -> Iterator[Registration]:
         """All registrations while they last, in the order of their places."""
-        return self._some("", "ended IS NULL ORDER BY place", number)
+        return self._some(f"{_BY_PLACE} AND ended IS NULL ORDER BY place", number)
 
     def past(self, number: int) -> Iterator[Registration]:
         """All registrations that ever were, in the order of their places."""
-        return self._some("", "1 ORDER BY place", number)
+        return self._some(f"{_BY_PLACE} ORDER BY place", number)
 
     def parked(self, number: int) -> list[Registration]:
         """The registrations of which the node lacks a code point, in the order of their places."""
-        return list(self._some(_PARKED, "parked AND ended IS NULL ORDER BY place", number))
+        return list(self._some(_PARKED, number))
 
     def count(self, number: int) -> int:
         """How many strings are registered."""
@@ -347,7 +353,7 @@ class Store:
 
     def register(self, number: int, new: Registration) -> None:
         self._base.execute("INSERT INTO registration VALUES (?, ?, ?, ?, ?, ?, ?, ?)",
-                           (number, new.place, new.string.encode(), new.key.encode(), new.owner, new.refused, new.parked, new.ended))
+                           (number, new.place, new.string.encode(), new.key.encode(), new.owner, new.refused, int(new.parked), new.ended))
 
     def end(self, number: int, place: int, ended: int) -> None:
         """The registration of a place ends at another."""
@@ -356,13 +362,11 @@ class Store:
     def unpark(self, number: int, place: int) -> None:
         self._base.execute("UPDATE registration SET parked = 0 WHERE shard = ? AND place = ?", (number, place))
 
-    def _some(self, index: str, where: str, *given: Any) -> Iterator[Registration]:
-        """Rows by an index: left to itself SQLite walks the places of the whole shard."""
-        rows = self._base.execute(f"SELECT {_COLUMNS} FROM registration {index} WHERE shard = ? AND {where}", given)
-        return map(_registration, rows)
+    def _some(self, query: str, *given: Any) -> Iterator[Registration]:
+        return map(_registration, self._base.execute(query, given))
 
-    def _one(self, index: str, where: str, *given: Any) -> Optional[Registration]:
-        return next(self._some(index, where, *given), None)
+    def _one(self, query: str, *given: Any) -> Optional[Registration]:
+        return next(self._some(query, *given), None)
 
 
 def _execute(base: sqlite3.Connection, statements: str) -> None:

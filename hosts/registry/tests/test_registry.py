@@ -26,7 +26,7 @@ from npss_registry import Differs, InUse, LogAway, LogBroken, NotOneChain, Regis
 from npss_registry.command import main as command
 from npss_registry.judge import Judge
 from npss_registry.logs import SqliteLog, open_log
-from npss_registry.records import Claim, Forget, Setup, message, read, shard_of, spelled
+from npss_registry.records import Forget, Setup, claim_of, message, read, shard_of, spelled
 from npss_registry.relog import relog
 
 PROGRAM, FIXTURES = sys.argv[1], Path(sys.argv[2])
@@ -208,7 +208,7 @@ class Restarts(Case):
             base.execute("DELETE FROM record WHERE place = ?", (place,))
         self.assertRaisesRegex(LogBroken, "missing", Registry, node.store.path)
         with base:
-            base.execute("INSERT INTO record VALUES (?, 0, ?)", (place, spelled(Claim(message("nfc", "a", "a"), "y"))))
+            base.execute("INSERT INTO record VALUES (?, 0, ?)", (place, spelled(claim_of(message("nfc", "a", "a"), "y"))))
         self.assertRaisesRegex(LogBroken, "another one", Registry, node.store.path)
         base.close()
 
@@ -216,7 +216,7 @@ class Restarts(Case):
         node = self.node("one")
         place = node.claim("A", "x").holder.place
         with contextlib.closing(sqlite3.connect(self.log)) as base, base:
-            base.execute("UPDATE record SET body = ? WHERE place = ?", (spelled(Claim(message("nfc", "a", "a"), "y")), place))
+            base.execute("UPDATE record SET body = ? WHERE place = ?", (spelled(claim_of(message("nfc", "a", "a"), "y")), place))
         with self.assertRaisesRegex(LogBroken, "another one") as caught:
             node.claim("i", "x")
         self.assertEqual(caught.exception.place, place)
@@ -237,8 +237,8 @@ class Restarts(Case):
         self.assertEqual(self.judged(again.store.path), [])
 
     def test_a_log_that_no_node_wrote_stops_the_node_at_its_place(self):
-        for body in (b"[]", b"\xff", spelled(Claim(message("nfc", "a\u0302", "a"), "x")), spelled(Claim(b"C", "x")),
-                     spelled(Claim(message("nfd", "a", "a"), "x")), spelled(self.setup), spelled(Setup("nfc", 5, 1, False)), b"[" * 100_000, b'{"setup":2}',
+        for body in (b"[]", b"\xff", spelled(claim_of(message("nfc", "a\u0302", "a"), "x")), b'{"claim":"Qw==","owner":"x"}',
+                     spelled(claim_of(message("nfd", "a", "a"), "x")), spelled(self.setup), spelled(Setup("nfc", 5, 1, False)), b"[" * 100_000, b'{"setup":2}',
                      b'{"claim":"QwAAAAFhAAAAAWE=","owner":"\\ud800"}', b'{"forget":"a","place":1e999}', b'{"forget":"a","place":%d}' % (1 << 63)):
             with self.subTest(body), tempfile.TemporaryDirectory() as folder:
                 path, log = os.path.join(folder, "store"), os.path.join(folder, "log")
@@ -341,7 +341,7 @@ class Setups(Case):
         self.assertRaises(StoreError, Registry, str(self.folder / "text"))
 
     def test_records_are_read_as_they_were_spelled(self):
-        for record in (self.setup, Claim(message("nfkd", "\u00e2", "a\u0302"), "x"), Forget("\0", 7)):
+        for record in (self.setup, claim_of(message("nfkd", "\u00e2", "a\u0302"), "x"), Forget("\0", 7)):
             self.assertEqual(read(1, spelled(record)), record)
         self.assertEqual(message("nfc", "a\u0302", "\u00e2").hex(), "430000000361cc8200000002c3a2")
 
