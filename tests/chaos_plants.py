@@ -57,7 +57,6 @@ PLANTS = {
                                       """self._store.save(self.number, self.node.image(), max(self.place - 1, 0), self._version)"""),
     "the last record is not compared": ("shards.py", """(found is None or records.sum_of(found) != self._sum)""", """found is None"""),
     "an answer before the record is read back": ("registry.py", """        told = self.catch_up({number for _, number, _ in publish})
-        return {index: told[number, place] for (index, number, _), place in zip(publish, places)}
 """, """        return {index: Outcome("registered") for index, _, _ in publish}
 """),
 }

@@ -208,6 +208,9 @@ class Registry:
             return {}
         places = self.log.append([(number, body) for _, number, body in publish])
         told = self.catch_up({number for _, number, _ in publish})
+        lost = [place for (_, number, _), place in zip(publish, places) if (number, place) not in told]
+        if lost:
+            raise LogBroken(lost[0], "the record that this node wrote is missing; see `npss-registry relog`")
         return {index: told[number, place] for (index, number, _), place in zip(publish, places)}
 
     def forget(self, string: Union[str, bytes], owner: Optional[str] = None) -> Outcome:
