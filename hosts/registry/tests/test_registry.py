@@ -460,6 +460,23 @@ class Redis(Case):
         node.abandon()
         self.assertRaises(LogAway, Registry, node.store.path)
 
+    def test_a_server_that_refuses_is_away(self):
+        self.log = self.server("--appendonly", "yes", "--appendfsync", "always")
+        node = self.node("one")
+        self.assertEqual(node.claim("a", "x").what, "registered")
+        for most, check in (("1", lambda: self.assertRaises(LogAway, node.claim, "A", "x")),
+                            ("0", lambda: self.assertEqual(node.claim("A", "x").what, "registered"))):
+            node.log._server.config_set("maxmemory", most)
+            check()
+
+    def test_an_entry_that_no_node_wrote_stops_the_node(self):
+        self.log = self.server("--appendonly", "yes", "--appendfsync", "always")
+        node, other = self.node("one"), self.node("other")
+        node.log._server.xadd("tests:0", {"another": "x"}, id="0-*")
+        self.assertRaisesRegex(LogBroken, "at place 2", node.catch_up)
+        node.log._server.xadd("tests:0", {"record": spelled(Forget("a", 1))}, id="7-3")
+        self.assertRaisesRegex(LogBroken, "7-3", other.catch_up)
+
     def test_a_server_that_loses_what_it_was_told_is_refused(self):
         self.assertRaisesRegex(StoreError, "appendfsync", open_log, self.server())
 
