@@ -69,17 +69,24 @@ def counted(tally, name, words):
     tally.check(name, last and ran.returncode == (1 if int(last[2]) else 0), f"status {ran.returncode}")
 
 
+def loading_python():
+    """A Python whose sqlite3 loads extensions; None where there is none."""
+    for python in (sys.executable, SYSTEM_PYTHON):
+        if Path(python).exists() and subprocess.run([python, "-c", LOADS], stderr=subprocess.DEVNULL, check=False).returncode == 0:
+            return python
+    return None
+
+
 def check_sqlite(tally, prefix, versions, room):
     """The extension for SQLite, built with all warnings."""
-    pythons = [python for python in (sys.executable, SYSTEM_PYTHON) if Path(python).exists()
-               and subprocess.run([python, "-c", LOADS], stderr=subprocess.DEVNULL, check=False).returncode == 0]
-    if not has_sqlite() or not pythons:
+    python = loading_python()
+    if not has_sqlite() or not python:
         print("skipped: keys in SQLite: its headers, its shell, or a Python that loads extensions")
         return
     make = ["make", "-s", "-C", SQLITE, f"NPSS={prefix}", f"OUT={room}", "CFLAGS=-O2 -g -Wall -Wextra -Werror"]
     built = subprocess.run(list(map(str, make)), stdout=subprocess.PIPE, stderr=subprocess.STDOUT, text=True, check=False)
     if tally.check("the extension for SQLite is built", built.returncode == 0, built.stdout):
-        counted(tally, "keys in SQLite", [pythons[0], SQLITE / "test_sqlite.py", room / "npss.so", versions])
+        counted(tally, "keys in SQLite", [python, SQLITE / "test_sqlite.py", room / "npss.so", versions])
 
 
 def main():

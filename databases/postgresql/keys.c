@@ -87,12 +87,6 @@ refuse(npss_answer answer, Bytes input, Version *version)
 					 errmsg("the text is not UTF-8"),
 					 errdetail("It is up to byte %llu.", (unsigned long long) answer.place)));
 			break;
-		case NPSS_NO_ROOM:
-			ereport(ERROR,
-					(errcode(ERRCODE_PROGRAM_LIMIT_EXCEEDED),
-					 errmsg("the text is too long"),
-					 errdetail("What is made of it has %llu bytes.", (unsigned long long) answer.length)));
-			break;
 		case NPSS_MEMORY:
 			ereport(ERROR,
 					(errcode(ERRCODE_OUT_OF_MEMORY),
@@ -178,25 +172,6 @@ text_of(StringInfo made)
 	return (text *) made->data;
 }
 
-/* The first code point of a long text that is not assigned. */
-static npss_answer
-first_unassigned_in_long(Version *version, Bytes input)
-{
-	npss_answer answer = {0};
-	size_t		at = 0;
-
-	while (at < input.length && answer.status == NPSS_DONE)
-	{
-		size_t		length = pg_mbcliplen((const char *) input.at + at, (int) (input.length - at), PIECE);
-
-		CHECK_FOR_INTERRUPTS();
-		answer = npss_first_unassigned(&version->handle, input.at + at, length);
-		answer.place += at;
-		at += length;
-	}
-	return answer;
-}
-
 /* ---------- making */
 
 typedef npss_answer (*Maker) (npss_handle *, uint8_t, const uint8_t *, size_t, uint8_t *, size_t);
@@ -219,7 +194,7 @@ make_short(Version *version, const Wanted *wanted, Bytes input, npss_answer *ans
 	*answer = wanted->make(&version->handle, wanted->form, input.at, input.length, room, ROOM);
 	if (answer->status == NPSS_DONE)
 		return cstring_to_text_with_len((const char *) room, (int) answer->length);
-	if (answer->status != NPSS_NO_ROOM || answer->length > MaxAllocSize - VARHDRSZ)
+	if (answer->status != NPSS_NO_ROOM)
 		return NULL;
 	made = palloc(VARHDRSZ + answer->length);
 	*answer = wanted->make(&version->handle, wanted->form, input.at, input.length, (uint8 *) VARDATA(made), answer->length);
@@ -234,14 +209,8 @@ make_once(Version *version, const Wanted *wanted, Bytes input, npss_answer *answ
 
 	if (input.length <= LONG_TEXT)
 		return make_short(version, wanted, input, answer);
-	if (wanted->make == npss_key)
-	{
-		*answer = first_unassigned_in_long(version, input);
-		if (answer->status != NPSS_DONE)
-			return NULL;
-	}
 	*answer = make_long(version, wanted->form, input, &made);
-	if (answer->status == NPSS_UNASSIGNED)
+	if (answer->status == NPSS_UNASSIGNED && wanted->make == npss_normalize)
 		answer->status = NPSS_DONE;	/* it is the normal form, which was asked for */
 	return answer->status == NPSS_DONE ? text_of(&made) : NULL;
 }
@@ -336,6 +305,18 @@ npss_pg_normalize(PG_FUNCTION_ARGS)
 
 /* ---------- questions */
 
+/* The normal form of a text, or an error. */
+static text *
+normal_form(Version *version, uint8 form, Bytes input)
+{
+	npss_answer answer;
+	text	   *made = make_once(version, &(Wanted) {npss_normalize, form, false}, input, &answer);
+
+	if (made == NULL)
+		refuse(answer, input, version);
+	return made;
+}
+
 static bool
 is_same(text *one, text *other)
 {
@@ -358,7 +339,7 @@ npss_pg_is_normalized(PG_FUNCTION_ARGS)
 	if (version == NULL)
 		PG_RETURN_NULL();
 	if (input.length > LONG_TEXT)
-		PG_RETURN_BOOL(is_same(given, make_once(version, &(Wanted) {npss_normalize, form, false}, input, &answer)));
+		PG_RETURN_BOOL(is_same(given, normal_form(version, form, input)));
 	answer = npss_is_form(&version->handle, form, input.at, input.length);
 	if (answer.status != NPSS_DONE && answer.status != NPSS_DIFFERENT)
 		refuse(answer, input, version);
@@ -378,22 +359,41 @@ npss_pg_equivalent(PG_FUNCTION_ARGS)
 	if (version == NULL)
 		PG_RETURN_NULL();
 	if (left.length + right.length > LONG_TEXT)
-	{
-		Wanted		wanted = {npss_normalize, form, false};
-		text	   *one = make_once(version, &wanted, left, &answer),
-				   *other;
-
-		if (one == NULL)
-			refuse(answer, left, version);
-		other = make_once(version, &wanted, right, &answer);
-		if (other == NULL)
-			refuse(answer, right, version);
-		PG_RETURN_BOOL(is_same(one, other));
-	}
+		PG_RETURN_BOOL(is_same(normal_form(version, form, left), normal_form(version, form, right)));
 	answer = npss_equivalent(&version->handle, form == NPSS_NFKC || form == NPSS_NFKD, left.at, left.length, right.at, right.length);
 	if (answer.status != NPSS_DONE && answer.status != NPSS_DIFFERENT)
-		refuse(answer, answer.fault == 2 ? right : left, version);
+		refuse(answer, left, version);
 	PG_RETURN_BOOL(answer.status == NPSS_DONE);
+}
+
+/* How many bytes the front of a text has that is a piece, and ends where a character ends. */
+static size_t
+piece_of(Bytes input)
+{
+	size_t		length = Min(PIECE, input.length);
+
+	while (length < input.length && length > PIECE - MAX_MULTIBYTE_CHAR_LEN && (input.at[length] & 0xC0) == 0x80)
+		length--;
+	return length;
+}
+
+/* The first code point of a text that is not assigned. */
+static npss_answer
+first_unassigned(Version *version, Bytes input)
+{
+	npss_answer answer = {0};
+	size_t		at = 0;
+
+	while (at < input.length && answer.status == NPSS_DONE)
+	{
+		size_t		length = piece_of((Bytes) {input.at + at, input.length - at});
+
+		CHECK_FOR_INTERRUPTS();
+		answer = npss_first_unassigned(&version->handle, input.at + at, length);
+		answer.place += at;
+		at += length;
+	}
+	return answer;
 }
 
 /* The first code point that is not assigned, its place in characters from 1 and in bytes from 0; NULL if each is. */
@@ -410,7 +410,7 @@ npss_pg_first_unassigned(PG_FUNCTION_ARGS)
 
 	if (version == NULL)
 		PG_RETURN_NULL();
-	answer = first_unassigned_in_long(version, input);
+	answer = first_unassigned(version, input);
 	if (answer.status == NPSS_DONE)
 		PG_RETURN_NULL();
 	if (answer.status != NPSS_UNASSIGNED)

@@ -13,6 +13,7 @@
 #include "funcapi.h"
 #include "mb/pg_wchar.h"
 #include "miscadmin.h"
+#include "postmaster/autovacuum.h"
 #include "storage/lmgr.h"
 #include "utils/backend_status.h"
 #include "utils/builtins.h"
@@ -98,7 +99,6 @@ rows_beside(Oid function)
 	Relation	relation;
 	List	   *rows;
 
-	want_utf8();
 	if (!OidIsValid(found))
 		ereport(ERROR,
 				(errcode(ERRCODE_UNDEFINED_TABLE),
@@ -145,11 +145,15 @@ open_recorded(const Row *row, Failure *failure)
 	return NULL;
 }
 
-/* Whether the present command is ANALYZE, which asks for keys of rows that are stored already. */
+/*
+ * Whether the present command is ANALYZE, which asks for keys of rows that are stored already.  A session that tracks no
+ * activities doesn't tell; autovacuum evaluates expressions for nothing else.
+ */
 static bool
 is_analyzing(void)
 {
-	return MyBEEntry != NULL && MyBEEntry->st_progress_command == PROGRESS_COMMAND_ANALYZE;
+	return IsAutoVacuumWorkerProcess() ||
+		(MyBEEntry != NULL && MyBEEntry->st_progress_command == PROGRESS_COMMAND_ANALYZE);
 }
 
 /*
@@ -310,12 +314,14 @@ npss_pg_ready(PG_FUNCTION_ARGS)
 	List	   *rows = rows_beside(fcinfo->flinfo->fn_oid);
 	Failure		failure;
 	Version    *version = open_version(label, &failure);
-	const char *why = version == NULL ? failure.message : NULL;
+	const char *why = NULL;
 	TupleDesc	shape;
 	Datum		values[2];
 	bool		nulls[2] = {false, false};
 	ListCell   *at;
 
+	if (version == NULL)
+		why = failure.detail != NULL ? psprintf("%s: %s", failure.message, failure.detail) : failure.message;
 	foreach(at, rows)
 	{
 		Row		   *row = lfirst(at);
@@ -325,7 +331,6 @@ npss_pg_ready(PG_FUNCTION_ARGS)
 	}
 	if (version != NULL)
 		shut_version(version);
-	known.table = InvalidOid;
 	if (get_call_result_type(fcinfo, NULL, &shape) != TYPEFUNC_COMPOSITE)
 		elog(ERROR, "return type must be a row type");
 	values[0] = BoolGetDatum(why == NULL);
@@ -366,7 +371,8 @@ npss_pg_newest(PG_FUNCTION_ARGS)
 	}
 	if (assigned < 0)
 		report(ERROR, &failure);
-	ereport(NOTICE, (errmsg("npss: this database uses Unicode version \"%s\", the newest in npss.folder", newest)));
+	/* Not NOTICE, which CREATE EXTENSION holds back. */
+	ereport(INFO, (errmsg("npss: this database uses Unicode version \"%s\", the newest in npss.folder", newest)));
 	PG_RETURN_TEXT_P(cstring_to_text(newest));
 }
 
@@ -430,6 +436,17 @@ version_of_row(HeapTuple row, TupleDesc shape, bool *is_restored)
 	return fresh;
 }
 
+static bool
+is_recorded(const List *rows, const char *digest)
+{
+	ListCell   *at;
+
+	foreach(at, rows)
+		if (strcmp(((Row *) lfirst(at))->digest, digest) == 0)
+			return true;
+	return false;
+}
+
 /* Before a row gets into the record: fills in digest and count, and audits it against the row in force. */
 PG_FUNCTION_INFO_V1(npss_pg_record_check);
 Datum
@@ -454,17 +471,19 @@ npss_pg_record_check(PG_FUNCTION_ARGS)
 				 errdetail("Stored keys may need each version that was recorded.")));
 	want_utf8();
 	relation = call->tg_relation;
-	LockRelationOid(RelationGetRelid(relation), ShareRowExclusiveLock);
+	/* It keeps other raises away, but not their INSERT, which has its lock already: no two wait for one another. */
+	LockRelationOid(RelationGetRelid(relation), ShareUpdateExclusiveLock);
 	fresh = version_of_row(call->tg_trigtuple, RelationGetDescr(relation), &is_restored);
 	rows = read_rows(relation, SnapshotSelf);	/* with the rows that this very statement has put in */
 	if (rows != NIL)
 	{
-		if (strcmp(((Row *) linitial(rows))->digest, fresh->digest) == 0)
+		if (strcmp(((Row *) linitial(rows))->digest, fresh->digest) != 0)
+			check_row(fresh, linitial(rows), is_restored);
+		if (is_recorded(rows, fresh->digest))
 		{
 			shut_version(fresh);
-			PG_RETURN_POINTER(NULL);	/* it is in force already */
+			PG_RETURN_POINTER(NULL);
 		}
-		check_row(fresh, linitial(rows), is_restored);
 	}
 	values[0] = CStringGetTextDatum(fresh->digest);
 	values[1] = Int64GetDatum(fresh->assigned);

@@ -69,10 +69,14 @@ read_file(const char *label, const char *name, Bytes *bytes, Failure *failure)
 	ssize_t		got = 1;
 
 	if (file < 0)
-		return fail(failure, errno == EACCES || errno == EPERM ? ERRCODE_INSUFFICIENT_PRIVILEGE : ERRCODE_UNDEFINED_FILE,
-					psprintf("npss: could not open file \"%s\": %m", path), NULL,
+	{
+		int			sqlstate = errno == EACCES || errno == EPERM ? ERRCODE_INSUFFICIENT_PRIVILEGE : ERRCODE_UNDEFINED_FILE;
+		char	   *message = psprintf("npss: could not open file \"%s\": %m", path);
+
+		return fail(failure, sqlstate, message, NULL,
 					psprintf("Put UnicodeData.txt and CompositionExclusions.txt into a folder of \"%s\" that is named \"%s\".",
 							 npss_folder(), label));
+	}
 	if (fstat(file, &about) != 0 || !S_ISREG(about.st_mode) || about.st_size > MOST_OF_A_FILE)
 	{
 		CloseTransientFile(file);

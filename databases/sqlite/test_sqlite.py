@@ -13,6 +13,7 @@ import subprocess
 import sys
 import tempfile
 import threading
+import time
 import unicodedata
 import unittest
 from pathlib import Path
@@ -96,6 +97,16 @@ class Functions(Case):
         base.execute("SELECT npss_raise(?)", (OLD,))
         self.refused("has its version", base, "SELECT npss_open(?)", OLD)
 
+    def test_a_database_of_utf16(self):
+        base = self.connect()
+        base.execute("PRAGMA encoding = 'UTF-16le'")
+        base.execute("SELECT npss_raise(?)", (NEW,))
+        base.execute("CREATE TABLE account (name TEXT UNIQUE, key TEXT AS (npss_nfc(name)) STORED UNIQUE)")
+        base.execute("INSERT INTO account (name) VALUES (?)", (MARKED,))
+        self.assertEqual(base.execute("SELECT key, npss_nfd(name) FROM account").fetchall(), [("\u1ead", "a\u0323\u0302")])
+        self.refused("UNIQUE", base, "INSERT INTO account (name) VALUES ('\u1ead')")
+        self.whole(base)
+
     def test_each_name_is_that_of_python(self):
         base = self.with_names(NEW)
         known = [chr(code) for code in range(0x110000) if unicodedata.category(chr(code)) not in ("Cn", "Cs")]
@@ -158,7 +169,83 @@ class Raises(Case):
             self.whole(base)
         self.assertEqual(self.asked(base, "npss_audit(?)", OLD), "Lost 061D")
         self.refused("do not extend", base, "SELECT npss_raise(?)", OLD)
+        self.assertFalse(base.in_transaction)
         self.assertEqual(self.asked(base, "npss_version()"), 288767)
+
+    def test_each_question_follows_another_connection(self):
+        base = self.with_names()
+        # U+1E030 is new in 15.0, and has a mapping there.
+        for ask, told in (("npss_normalize(?, 'nfkc')", "\u0430"), ("npss_try_key(?, 'nfkc')", "\u0430"), ("npss_is_normalized(?, 'nfkc')", 0),
+                          ("npss_equivalent(?, '\u0430', 'nfkc')", 1), ("npss_equivalent('\u0430', ?, 'nfkc')", 1)):
+            path = self.path + str(abs(hash(ask)))
+            base, beside = self.connect(path), self.connect(path)
+            base.execute("SELECT npss_raise(?)", (OLD,))
+            before = self.asked(beside, ask, "\U0001e030")
+            base.execute("SELECT npss_raise(?)", (NEW,))
+            self.assertEqual((before == told, self.asked(beside, ask, "\U0001e030")), (False, told), ask)
+
+    def test_audits_and_versions_are_of_the_record(self):
+        base, beside = self.with_names(), self.connect()
+        self.assertEqual(self.asked(beside, "npss_audit(?)", MIDDLE), "extends")
+        base.execute("SELECT npss_raise(?)", (NEW,))
+        self.assertEqual(self.asked(beside, "npss_audit(?)", MIDDLE), "Lost 0CF3")
+        base, beside = self.connect(self.path + "2"), self.connect(self.path + "2")
+        base.execute("SELECT npss_raise(?)", (OLD,))
+        before = self.asked(beside, "npss_version()")
+        base.execute("SELECT npss_raise(?)", (NEW,))
+        self.assertLess(before, self.asked(beside, "npss_version()"))
+
+    def test_a_record_that_another_changed_past_its_triggers(self):
+        base, beside = self.with_names(), self.connect(loads=False)
+        self.assertEqual(self.asked(base, "npss_key('a')"), "a")
+        for name in ("insert", "update", "delete"):
+            beside.execute(f"DROP TRIGGER npss_record_{name}")
+        beside.execute("UPDATE npss_record SET assigned = 1, data = CAST('x' AS BLOB)")
+        # What can be answered without it is; before a refusal the record is read, and its fault is told.
+        self.assertEqual(self.asked(base, "npss_key(?)", MARKED), "\u1ead")
+        for call in ("npss_key(?)", "npss_try_key(?)", "npss_normalize(?)", "npss_is_normalized(?)", "npss_equivalent(?, 'a')", "npss_equivalent('a', ?)"):
+            self.refused("UnicodeData.txt, line 1: FieldCount", base, f"SELECT {call}", YOUNG)
+        self.refused("UnicodeData.txt, line 1: FieldCount", self.connect(), "SELECT npss_key('a')")
+        beside.execute("DELETE FROM npss_record")
+        self.refused("records no version", self.connect(), "SELECT npss_key('a')")
+
+    def test_a_first_raise_that_fails_leaves_nothing_behind(self):
+        base = self.connect()
+        base.setlimit(sqlite3.SQLITE_LIMIT_LENGTH, 1_000_000)
+        self.refused("too big", base, "SELECT npss_raise(?)", NEW)
+        self.assertEqual(base.execute("SELECT name FROM sqlite_master").fetchall(), [])
+        # Within somebody's transaction it takes back what it did itself, and tables of npss_open stay.
+        base.execute("SELECT npss_open(?)", (NEW,))
+        base.execute("BEGIN")
+        base.execute("CREATE TABLE kept (name TEXT)")
+        self.refused("too big", base, "SELECT npss_raise(?)", NEW)
+        self.assertEqual(self.asked(base, "npss_key(?)", MARKED), "\u1ead")
+        base.execute("COMMIT")
+        self.assertEqual(base.execute("SELECT name FROM sqlite_master").fetchall(), [("kept",)])
+        self.whole(base)
+
+    def test_a_raise_that_fails_leaves_the_record(self):
+        base = self.with_names()
+        version, record = self.asked(base, "npss_version()"), base.execute("SELECT * FROM npss_record").fetchall()
+        base.execute("DROP TRIGGER npss_record_delete")
+        base.execute("BEGIN")
+        base.setlimit(sqlite3.SQLITE_LIMIT_LENGTH, len(record[0][2]) + 1000)
+        self.refused("too big", base, "SELECT npss_raise(?)", NEW)
+        # The trigger that the raise would have made anew is gone again.
+        self.assertEqual(self.asked(base, "count(*) FROM sqlite_master WHERE type = 'trigger'"), 2)
+        base.execute("COMMIT")
+        self.assertEqual(base.execute("SELECT * FROM npss_record").fetchall(), record)
+        self.assertEqual(self.asked(base, "npss_version()"), version)
+        self.whole(base)
+
+    def test_a_database_that_is_locked(self):
+        base, beside = self.with_names(), self.connect()
+        beside.execute("PRAGMA busy_timeout = 0")
+        base.execute("BEGIN EXCLUSIVE")
+        self.refused("locked", beside, "SELECT npss_key('a')")
+        self.refused("locked", beside, "SELECT npss_raise(?)", NEW)
+        base.execute("COMMIT")
+        self.assertEqual(self.asked(beside, "npss_key('a')"), "a")
 
     def test_a_raise_that_was_rolled_back(self):
         base = self.with_names()
@@ -202,6 +289,31 @@ class Raises(Case):
             self.refused("can't be read", base, "SELECT npss_raise(?)", folder)
         self.refused("a folder is wanted", base, "SELECT npss_raise(NULL)")
         self.refused("records no version", base, "SELECT npss_key('a')")
+
+    def test_a_raise_waits_for_another(self):
+        for first, second, told in ((MIDDLE, NEW, 288767), (NEW, MIDDLE, "do not extend")):
+            path = self.path + first[-4:]
+            base, answers = self.connect(path), []
+            base.execute("SELECT npss_raise(?)", (OLD,))
+            base.execute("BEGIN IMMEDIATE")
+            base.execute("SELECT npss_raise(?)", (first,))
+
+            def other(path=path, second=second, answers=answers):
+                with contextlib.closing(sqlite3.connect(path, isolation_level=None, timeout=30)) as beside:
+                    beside.enable_load_extension(True)
+                    beside.load_extension(EXTENSION)
+                    try:
+                        answers.append(beside.execute("SELECT npss_raise(?)", (second,)).fetchone()[0])
+                    except sqlite3.Error as error:
+                        answers.append(str(error))
+
+            thread = threading.Thread(target=other)
+            thread.start()
+            time.sleep(0.5)
+            base.execute("COMMIT")
+            thread.join()
+            self.assertIn(str(told), str(answers[0]))
+            self.assertEqual(self.asked(base, "npss_version()"), 288767)
 
     def test_two_raises_at_once(self):
         self.with_names()
@@ -252,6 +364,18 @@ class Dumps(Case):
         self.refused("npss_raise alone", again, "DELETE FROM npss_record")
         self.whole(again)
 
+    def test_the_record_is_used_in_place_of_what_was_opened(self):
+        # Other files with as many code points, where a dot below comes behind a circumflex.
+        with tempfile.TemporaryDirectory() as folder:
+            for name in FILES:
+                text = Path(NEW, name).read_text(encoding="utf-8")
+                Path(folder, name).write_text(text.replace("0323;COMBINING DOT BELOW;Mn;220", "0323;COMBINING DOT BELOW;Mn;240"), encoding="utf-8")
+            base = self.connect()
+            self.assertEqual(self.asked(base, "npss_open(?)", folder), 288767)
+        self.assertEqual(self.asked(base, "npss_nfd(?)", MARKED), MARKED)
+        self.connect().execute("SELECT npss_raise(?)", (NEW,))
+        self.assertEqual(self.asked(base, "npss_nfd(?)", MARKED), "a\u0323\u0302")
+
     def test_a_dump_with_the_record_behind_says_what_to_do(self):
         base = self.connect()
         base.execute("SELECT npss_open(?)", (OLD,))
@@ -271,6 +395,21 @@ class Dumps(Case):
 
 
 class Memory(Case):
+    def test_nothing_is_left_of_what_failed(self):
+        base = self.with_names(NEW)
+        before = 0
+        for _ in range(2):
+            for _ in range(8):
+                self.refused("do not extend", base, "SELECT npss_raise(?)", OLD)
+                self.assertEqual(self.asked(base, "npss_audit(?)", MIDDLE), "Lost 0CF3")
+                self.assertIsNone(self.asked(base, "npss_try_key(?)", "\ufdfa" * 20_000 + "\U000e0080"))
+                self.assertEqual(self.asked(base, "length(npss_nfkd(?))", "\ufdfa" * 20_000), 360_000)
+                self.connect().close()
+            now = int(Path("/proc/self/statm").read_text().split()[1]) * 4096
+            before, grown = now, now - before
+        # The tables of a version have some 3 MB, and its files 2 MB.
+        self.assertLess(grown, 3_000_000)
+
     def test_memory_that_runs_out_is_told(self):
         # In a process of its own, whose memory is bounded behind its start.
         code = f"""

@@ -1,6 +1,14 @@
 -- Keys and questions, over the fixtures v1 and v2 as the versions 1 and 2 (tests/databases.py makes their folder).
 SET npss.version = '1';
 CREATE EXTENSION npss;
+-- what is promised of each function, and whether anybody may call it
+SELECT objid::regprocedure AS function, provolatile AS volatile, proisstrict AS strict, proparallel AS parallel, proacl IS NULL AS anybody
+FROM pg_depend JOIN pg_proc ON classid = 'pg_proc'::regclass AND objid = pg_proc.oid JOIN pg_extension ON refobjid = pg_extension.oid
+WHERE extname = 'npss' ORDER BY objid::regprocedure::text COLLATE "C";
+SELECT typcollation::regcollation AS collation FROM pg_type WHERE typname = 'npss_name';
+-- a text of ASCII is refused where the version lacks it, also by the first statement of a session
+\c -
+SELECT npss_nfc('AZ');
 SELECT label, assigned, preloaded FROM npss_version();
 -- a, circumflex, dot below; a ligature; the sign of an angstrom
 SELECT npss_nfc(t) = U&'\1EAD' AS nfc, npss_nfd(t) = U&'a\0323\0302' AS nfd, npss_nfkc(t) = U&'\1EAD' AS nfkc, npss_nfkd(t) = U&'a\0323\0302' AS nfkd

@@ -42,7 +42,11 @@ INSERT INTO npss_record (label, digest, assigned, ascii) VALUES ('2', repeat('0'
 INSERT INTO npss_record (label) VALUES (NULL);
 SET session_replication_role = replica;
 DELETE FROM npss_record;
+TRUNCATE npss_record;
 RESET session_replication_role;
+-- a row of a dump that is recorded already, and one that comes late
+INSERT INTO npss_record SELECT * FROM npss_record;
+SELECT label, assigned FROM npss_record ORDER BY assigned;
 -- others may look, and may not raise
 CREATE ROLE npss_regress_reader;
 SET ROLE npss_regress_reader;
@@ -50,8 +54,31 @@ SELECT count(*) FROM npss_record;
 SELECT npss_nfc('A');
 SELECT npss_raise('2');
 SELECT npss_audit('2');
+SELECT ready FROM npss_ready('2');
+SELECT npss_newest();
+INSERT INTO npss_record (label) VALUES ('2');
 SET npss.folder = '/';
 RESET ROLE;
+-- whom the owner lets
+GRANT EXECUTE ON FUNCTION npss_raise(text) TO npss_regress_reader;
+GRANT INSERT ON npss_record TO npss_regress_reader;
+SET ROLE npss_regress_reader;
+SELECT npss_raise('2');
+RESET ROLE;
+DROP OWNED BY npss_regress_reader;
 DROP ROLE npss_regress_reader;
+-- functions whose record is away
+CREATE SCHEMA elsewhere;
+ALTER FUNCTION npss_nfd(text) SET SCHEMA elsewhere;
+\c -
+SELECT elsewhere.npss_nfd('A');
+ALTER FUNCTION elsewhere.npss_nfd(text) SET SCHEMA public;
+DROP SCHEMA elsewhere;
+ALTER TABLE npss_record DISABLE TRIGGER kept;
+TRUNCATE npss_record;
+SELECT npss_nfc('A');
+ALTER TABLE npss_record ENABLE ALWAYS TRIGGER kept;
+SELECT npss_raise('1');
+SELECT npss_nfc('A');
 DROP TABLE account;
 DROP EXTENSION npss;

@@ -1,0 +1,137 @@
+"""Time and memory that run out, and what valgrind sees."""
+
+import re
+import shutil
+import subprocess
+import time
+import unittest
+from pathlib import Path
+
+from cases import MARKED, YOUNG, Case
+from server import own, run, words_as_user
+
+
+class Bounds(Case):
+    """Time and memory that run out."""
+
+    def test_a_long_text_ends_with_its_statement(self):
+        base = self.base("bounds", "15.0")
+        self.server.sql("CREATE TABLE long (body text); ALTER TABLE long ALTER body SET STORAGE EXTERNAL;"
+                        f"INSERT INTO long VALUES (repeat('{MARKED}', 36000000))", base)
+        session = self.session(base)
+        whole = self.timed(session, "SELECT length(npss_nfc(body)) FROM long;")[0]
+        for call in ("npss_nfc(body)", "npss_normalize(body)", "npss_is_normalized(body)", "npss_equivalent(body, body)"):
+            session.ask("SET statement_timeout = 200;")
+            took, told = self.timed(session, f"SELECT {call} IS NULL FROM long;")
+            self.assertIn("57014", told)
+            self.assertLess(took, whole / 2, call)
+
+    def timed(self, session, text):
+        """How long a statement takes, in seconds, and what it answers."""
+        begun = time.time()
+        told = session.ask(text)
+        return time.time() - begun, told
+
+    def test_questions_of_a_long_text_end_with_their_statement(self):
+        base = self.base("questions", "15.0")
+        self.server.sql(f"CREATE TABLE long AS SELECT repeat('{MARKED}', 1000000) AS body", base)
+        session = self.session(base)
+        for call, times in (("count(*) FROM long, npss_why(body)", 1), ("count(npss_first_unassigned(body)) FROM long, generate_series(1, 60)", 60)):
+            session.ask("SET statement_timeout = 0")
+            whole, told = self.timed(session, f"SELECT {call}")
+            self.assertNotIn("57014", told)
+            session.ask("SET statement_timeout = 100")
+            took, told = self.timed(session, f"SELECT {call}")
+            self.assertIn("57014", told)
+            self.assertLess(took, whole / 2, call)
+
+    def test_what_is_made_is_too_long(self):
+        # Each sign is made eleven times as long.
+        base = self.base("longest", "15.0")
+        told = self.refused("54000", "SELECT npss_nfkd(repeat('\ufdfa', 33000000))", base)
+        self.assertIn("the text is too long", told)
+
+    def used(self, session):
+        """The bytes that a session's process has mapped, and those of them that are in memory."""
+        return [int(number) * 4096 for number in Path(f"/proc/{session.pid}/statm").read_text().split()[:2]]
+
+    def test_nothing_is_left_of_what_failed(self):
+        base = self.base("leaks", "15.0")
+        session = self.session(base)
+        before = 0
+        for _ in range(2):
+            for _ in range(8):
+                self.assertIn("55000", session.ask("SELECT npss_raise('13.0')"))
+                self.assertEqual(session.ask("SELECT npss_audit('14.0')"), "Lost 0CF3")
+                self.assertEqual(session.ask("SELECT ready FROM npss_ready('14.0')"), "t")
+            now = self.used(session)[1]
+            before, grown = now, now - before
+        # The tables of a version have some 3 MB.
+        self.assertLess(grown, 3_000_000)
+
+    def test_memory_that_runs_out_where_tables_are_opened(self):
+        base = self.base("opening", "15.0")
+        ends = set()
+        for room in range(500_000, 20_000_000, 1_500_000):
+            session = self.session(base)
+            session.ask("SELECT npss_nfc('a')")
+            run(["prlimit", "--pid", session.pid, f"--as={self.used(session)[0] + room}:"])
+            told = session.ask(f"SELECT npss_nfc('{MARKED}') = '\u1ead'")
+            ends.add(told if told == "t" else re.search(r"\d{5}", told)[0])
+            run(["prlimit", "--pid", session.pid, "--as=unlimited:"])
+            self.assertEqual(session.ask(f"SELECT npss_nfc('{MARKED}') = '\u1ead'"), "t")
+        self.assertEqual(ends, {"t", "53200"})
+
+    def test_memory_that_runs_out(self):
+        base = self.base("memory", "15.0")
+        session = self.session(base)
+        session.ask(f"SELECT npss_nfc('{MARKED}');")
+        used = self.used(session)[0]
+        ends = set()
+        for room in range(1_000_000, 40_000_000, 3_000_000):
+            run(["prlimit", "--pid", session.pid, f"--as={used + room}:"])
+            told = session.ask("SELECT length(npss_nfd(repeat('\u1ead', 900000)));")
+            ends.add("made" if told == "2700000" else re.search(r"\d{5}", told)[0])
+            self.assertEqual(session.ask(f"SELECT npss_nfc('{MARKED}') = '\u1ead';"), "t")
+        self.assertLessEqual(ends, {"made", "53200"})
+        self.assertIn("53200", ends)
+
+    def test_keys_that_no_index_holds(self):
+        base = self.base("wide", "15.0")
+        self.server.sql("CREATE EXTENSION pgcrypto; CREATE TABLE account (name text); CREATE INDEX ON account (npss_nfc(name));"
+                        "CREATE TABLE hashed (name text, EXCLUDE USING hash (npss_nfc(name) WITH =))", base)
+        wide = "(SELECT string_agg(encode(gen_random_bytes(900), 'hex'), '') FROM generate_series(1, 3))"
+        self.refused("54000", f"INSERT INTO account SELECT {wide}", base)
+        self.server.sql(f"INSERT INTO hashed SELECT {wide}", base)
+        self.refused("23P01", "INSERT INTO hashed SELECT name FROM hashed", base)
+
+
+class Memory(Case):
+    """One session of everything under valgrind: nothing that this extension touches is out of bounds."""
+
+    @unittest.skipUnless(shutil.which("valgrind"), "valgrind is not here")
+    def test_under_valgrind(self):
+        base = self.base("checked", "13.0")
+        self.server.stop()
+        statements = [f"SELECT npss_nfc('{MARKED}'), npss_key('\ufb01', 'nfkd'), npss_try_key('{YOUNG}'), npss_is_normalized('{MARKED}')",
+                      f"SELECT npss_equivalent('{MARKED}', '\u1ead'), npss_first_unassigned('a{YOUNG}'), npss_normalize('{YOUNG}')",
+                      f"SELECT count(*) FROM npss_why('{MARKED}\uac01\ufb01')", f"SELECT npss_nfc('{YOUNG}')", "SELECT npss_audit('15.0')",
+                      "SELECT npss_raise('15.0')", "SELECT npss_raise('13.0')", "SELECT npss_raise('none')", f"SELECT npss_nfc('{YOUNG}')",
+                      "SELECT length(npss_nfd(repeat('\u1ead', 400000)))", "SELECT npss_ready('14.0'), npss_ready('none')",
+                      "CREATE CAST (bytea AS text) WITHOUT FUNCTION"]
+        # Streams that end at an error, and versions that end with a call.
+        statements += ["SELECT npss_normalize(decode(repeat('61', 1500000) || 'ff', 'hex')::text)", "SELECT npss_audit('14.0')"] * 4
+        told = self.folder / "valgrind"
+        told.mkdir()
+        own(told)
+        words = ["valgrind", "-q", "--leak-check=full", "--show-leak-kinds=definite", f"--log-file={told}/log", "--num-callers=20",
+                 self.programs / "postgres", "--single", "-D", self.server.data, base]
+        try:
+            ran = subprocess.run(words_as_user(words), input="\n".join(statements) + "\n", stdout=subprocess.PIPE, stderr=subprocess.STDOUT, text=True, cwd="/",
+                                 check=False)
+        finally:
+            self.server.start()
+        self.assertEqual(ran.returncode, 0, ran.stdout[-2000:])
+        self.assertIn("\u1ead", ran.stdout)
+        errors = re.split(r"\n==\d+== \n", (told / "log").read_text())
+        self.assertEqual([error for error in errors if "npss" in error], [])

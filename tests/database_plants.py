@@ -1,0 +1,199 @@
+#!/usr/bin/env python3
+"""tests/database_plants.py [--only NAME]... [PREFIX]: plants bugs into the extensions for databases, and sees that their tests find each.
+
+Each bug is one edit of a copy of databases/. Over it the tests of its extension run: for PostgreSQL first those in SQL, and
+where they pass all others, until the first fails. First all run over the extensions as they are, and have to pass. PREFIX is
+where ./build-c installed the library, that of this tree where none is named. On demand: not called by ./test; an hour.
+Ends in a line 'N passed, M failed'.
+"""
+
+import argparse
+import os
+import shutil
+import signal
+import subprocess
+import sys
+import tempfile
+import time
+from pathlib import Path
+
+import databases
+import ucd
+from harness import ROOT, Tally
+
+KEYS, RECORD, VERSIONS, SETTINGS, SQL = (f"postgresql/{name}" for name in ("keys.c", "record.c", "versions.c", "npss_pg.c", "npss--0.2.sql"))
+LITE, LITE_RECORD = "sqlite/npss_sqlite.c", "sqlite/record.c"
+
+# For each bug its file, a text that stands there once, and what stands there in its place.
+PLANTS = {
+    # PostgreSQL: keys
+    "a refusal has another SQLSTATE": (KEYS, "ERRCODE_CHARACTER_NOT_IN_REPERTOIRE),\n\t\t\t\t\t errmsg(\"code point", "ERRCODE_DATA_EXCEPTION),\n\t\t\t\t\t errmsg(\"code point"),
+    "a text that is not UTF-8 has another SQLSTATE": (KEYS, "ERRCODE_CHARACTER_NOT_IN_REPERTOIRE),\n\t\t\t\t\t errmsg(\"the text", "ERRCODE_DATA_EXCEPTION),\n\t\t\t\t\t errmsg(\"the text"),
+    "a refusal tells bytes for characters": (KEYS, "characters_before(input, answer.place) + 1, (unsigned", "(int) answer.place + 1, (unsigned"),
+    "the place in a long text is that in its piece": (KEYS, "answer.place += at;", ""),
+    "a piece ends within a character": (KEYS, "&& (input.at[length] & 0xC0) == 0x80", "&& false"),
+    "a stream is not closed at an error": (KEYS, "\tMemoryContextRegisterResetCallback(CurrentMemoryContext, &made->end);\n", ""),
+    "a long key is not interrupted": (KEYS, "\t\tCHECK_FOR_INTERRUPTS();\n\t\tanswer = npss_stream_feed", "\t\tanswer = npss_stream_feed"),
+    "the search of a long text is not interrupted": (KEYS, "\t\tCHECK_FOR_INTERRUPTS();\n\t\tanswer = npss_first", "\t\tanswer = npss_first"),
+    "npss_why is not interrupted": (KEYS, "\t\tCHECK_FOR_INTERRUPTS();\n\t\tvalues[0]", "\t\tvalues[0]"),
+    "a long normal form that fails is not told": (KEYS, "\tif (made == NULL)\n\t\trefuse(answer, input, version);\n\treturn made;\n}\n\nstatic bool", "\treturn made;\n}\n\nstatic bool"),
+    "too long a text has another SQLSTATE": (KEYS, "ERRCODE_PROGRAM_LIMIT_EXCEEDED", "ERRCODE_OUT_OF_MEMORY"),
+    # PostgreSQL: the record
+    "the digest of opened files is not compared": (RECORD, "strcmp(version->digest, row->digest) == 0)", "true)"),
+    "the digest of a row is not compared": (RECORD, "*is_restored && strcmp(", "false && strcmp("),
+    "npss_ready compares no digest": (RECORD, "strcmp(row->digest, version->digest) != 0)", "false)"),
+    "the audit is left out": (RECORD, "\tif (answer.status != NPSS_DONE)\n\t\tereport(ERROR,", "\tif (false)\n\t\tereport(ERROR,"),
+    "the audit looks the other way": (RECORD, "is_newer = fresh->assigned >=", "is_newer = fresh->assigned <="),
+    "an older version is let in": (RECORD, "if (!is_restored)", "if (false)"),
+    "a raise takes no lock": (RECORD, "\tLockRelationOid(RelationGetRelid(relation), ShareUpdateExclusiveLock);\n", ""),
+    "two raises wait for one another": (RECORD, "ShareUpdateExclusiveLock", "ShareRowExclusiveLock"),
+    "rows of the same statement are not seen": (RECORD, "read_rows(relation, SnapshotSelf)", "read_rows(relation, NULL)"),
+    "sessions are not told of a raise": (RECORD, "\tCacheInvalidateRelcache(relation);\n", ""),
+    "a session that missed messages stays behind": (RECORD, "relation == watched || relation == InvalidOid", "relation == watched"),
+    "a row that is recorded comes again": (RECORD, "if (is_recorded(rows, fresh->digest))", "if (false)"),
+    "the least count is in force": (RECORD, "a > b ? -1 : a < b", "a < b ? -1 : a > b"),
+    "a version that lags is kept": (RECORD, "known.lags = version->assigned <", "known.lags = version->assigned >"),
+    "earlier versions stay open": (RECORD, "\tshut_versions_but(version);\n", ""),
+    "ANALYZE wants the files": (RECORD, "st_progress_command == PROGRESS_COMMAND_ANALYZE", "st_progress_command == PROGRESS_COMMAND_VACUUM"),
+    "autovacuum wants the files": (RECORD, "IsAutoVacuumWorkerProcess() ||", "false ||"),
+    "ASCII needs no tables in any version": (RECORD, "return known.ascii;", "return true;"),
+    "the front of a text is not looked at": (RECORD, "seen |= chunk;", "(void) chunk;"),
+    "the end of a text is not looked at": (RECORD, "seen |= (unsigned char) text[at];", ";"),
+    "any encoding will do": (RECORD, "GetDatabaseEncoding() != PG_UTF8", "false"),
+    # PostgreSQL: files and settings
+    "a version is not closed with its context": (VERSIONS, "\tMemoryContextRegisterResetCallback(context, end);\n", ""),
+    "a version that is not kept is not closed": (VERSIONS, "\tif (find_version(version->digest) != version)\n\t\tMemory", "\tif (false)\n\t\tMemory"),
+    "a pipe is waited for": (VERSIONS, "O_RDONLY | O_NONBLOCK", "O_RDONLY"),
+    "a device is read": (VERSIONS, "!S_ISREG(about.st_mode) ||", ""),
+    "a file of any size is read": (VERSIONS, "|| about.st_size > MOST_OF_A_FILE", ""),
+    "a file that ends early is used": (VERSIONS, "if (bytes->length != (size_t) about.st_size)", "if (false)"),
+    "a label names any folder": (VERSIONS, "&& label[0] != '.'", ""),
+    "a missing file has another SQLSTATE": (VERSIONS, "ERRCODE_INSUFFICIENT_PRIVILEGE : ERRCODE_UNDEFINED_FILE", "ERRCODE_INSUFFICIENT_PRIVILEGE : ERRCODE_IO_ERROR"),
+    "the postmaster has no resource owner": (VERSIONS, "CurrentResourceOwner = ResourceOwnerCreate(NULL, \"npss\");", ";"),
+    "each version passes ASCII": (VERSIONS, "told.status != NPSS_DONE || told.code != 0 ||", "told.code != 0 ||"),
+    "the digest leaves the exclusions out": (VERSIONS, "\t\tpg_cryptohash_update(hash, exclusions->at, exclusions->length) < 0 ||\n", ""),
+    "what is preloaded is not marked": (VERSIONS, "version->preloaded = true;", ""),
+    "settings are defined within a parallel operation": (SETTINGS, "are_defined || IsInParallelMode()", "are_defined"),
+    "anybody sets the folder": (SETTINGS, "&folder, \"\", PGC_SUSET", "&folder, \"\", PGC_USERSET"),
+    # PostgreSQL: SQL
+    "npss_equivalent may stand in an index": (SQL, "'npss_pg_equivalent' LANGUAGE C STABLE", "'npss_pg_equivalent' LANGUAGE C IMMUTABLE"),
+    "a key of NULL is asked for": (SQL, "'npss_pg_key' LANGUAGE C IMMUTABLE STRICT", "'npss_pg_key' LANGUAGE C IMMUTABLE"),
+    "a key is not parallel": (SQL, "'npss_pg_nfkd' LANGUAGE C IMMUTABLE STRICT PARALLEL SAFE", "'npss_pg_nfkd' LANGUAGE C IMMUTABLE STRICT"),
+    "a replica truncates the record": (SQL, "ALTER TABLE npss_record ENABLE ALWAYS TRIGGER kept;\n", ""),
+    "a replica empties the record": (SQL, "ALTER TABLE npss_record ENABLE ALWAYS TRIGGER audit;\n", ""),
+    "rows leave the record": (SQL, "BEFORE INSERT OR UPDATE OR DELETE", "BEFORE INSERT OR UPDATE"),
+    "anybody asks which files are here": (SQL, "npss_audit(text), npss_ready(text), ", "npss_audit(text), "),
+    "nobody reads the record": (SQL, "GRANT SELECT ON npss_record TO PUBLIC;\n", ""),
+    "a name has its column's collation": (SQL, "npss_name AS text COLLATE \"C\"", "npss_name AS text"),
+    "a name may be any text": (SQL, "CHECK (VALUE = npss_nfc(VALUE))", "CHECK (npss_nfc(VALUE) IS NOT NULL)"),
+    "a dump lacks the record": (SQL, "SELECT pg_catalog.pg_extension_config_dump(", "SELECT concat("),
+    "a dump has the whole record": (SQL, "'WHERE assigned = (SELECT max(assigned) FROM @extschema@.npss_record)'", "''"),
+    # SQLite
+    "SQLite: a failed raise is not rolled back": (LITE_RECORD, "        if (!done) sqlite3_exec(self->db, \"ROLLBACK TO npss_raise\", NULL, NULL, NULL);\n", ""),
+    "SQLite: a failed raise leaves its transaction open": (LITE_RECORD, "if (!done) sqlite3_exec(self->db, \"RELEASE npss_raise\", NULL, NULL, NULL);", "if (!done) ;"),
+    "SQLite: the audit is left out": (LITE_RECORD, "(recorded > 0 && !extends(call, self, fresh))", "0"),
+    "SQLite: a raise doesn't wait": (LITE_RECORD, "\"UPDATE main.npss_record SET assigned = assigned\"", "\"SELECT 1\""),
+    "SQLite: a raise that is rolled back stays in use": (LITE_RECORD, "self->is_raising = self->has_raised = 1;", "self->is_raising = 1;"),
+    "SQLite: a first raise that is rolled back stays in use": (LITE_RECORD, "npss_close(&self->tables); /* it was undone */", ";"),
+    "SQLite: a failed raise closes what was opened": (LITE_RECORD, "self->is_recorded && self->has_raised && recorded_count", "self->tables.is_open && self->has_raised && recorded_count"),
+    "SQLite: what was opened hides the record": (LITE_RECORD, "now == self->assigned && self->is_recorded", "now == self->assigned"),
+    "SQLite: a lock is taken for no record": (LITE_RECORD, "if (code == SQLITE_ERROR) return -1;", "if (code != SQLITE_OK) return -1;"),
+    "SQLite: a file that is too big is cut": (LITE_RECORD, "sqlite3_step(put) == SQLITE_DONE", "(sqlite3_step(put), 1)"),
+    "SQLite: the record is open to all": (LITE_RECORD, "BEFORE UPDATE ON npss_record WHEN NOT", "BEFORE UPDATE ON npss_record WHEN"),
+    "SQLite: an audit looks at what is in use": (LITE_RECORD, "opened(call, &fresh, &held) && follows(call)", "opened(call, &fresh, &held) && ready(call, self)"),
+    "SQLite: audited tables stay open": (LITE_RECORD, "            else fail_memory(call);\n        }\n    }\n    npss_close(&fresh);", "            else fail_memory(call);\n        }\n    }"),
+    "SQLite: a connection doesn't follow": (LITE, "if (renewed) a = how->make", "if (0) a = how->make"),
+    "SQLite: a record's fault is not told": (LITE, "if (renewed < 0) return;", ""),
+    "SQLite: questions don't follow": (LITE, "status != NPSS_UNASSIGNED || renew(call, self) >= 0", "status != NPSS_MEMORY"),
+    "SQLite: an index stands on npss_normalize": (LITE, "{\"npss_normalize\", 2, ASK,", "{\"npss_normalize\", 2, KEY,"),
+    "SQLite: a key is not innocuous": (LITE, "KEY = SQLITE_UTF8 | SQLITE_DETERMINISTIC | SQLITE_INNOCUOUS", "KEY = SQLITE_UTF8 | SQLITE_DETERMINISTIC"),
+    "SQLite: a schema raises": (LITE, "DIRECT = SQLITE_UTF8 | SQLITE_DIRECTONLY", "DIRECT = SQLITE_UTF8"),
+    "SQLite: a key ends at U+0000": (LITE, "(char *)small, a.length, SQLITE_TRANSIENT", "(char *)small, strnlen((char *)small, a.length), SQLITE_TRANSIENT"),
+    "SQLite: a long key is not freed": (LITE, "room, a.length, sqlite3_free, SQLITE_UTF8", "room, a.length, SQLITE_TRANSIENT, SQLITE_UTF8"),
+    "SQLite: a connection's tables are not closed": (LITE, "    npss_close(&self->tables);\n    sqlite3_free(self);", "    sqlite3_free(self);"),
+}
+
+
+def planted(folder, name):
+    """A copy of databases/, with a bug in it where one is named."""
+    copy = shutil.copytree(ROOT / "databases", Path(folder, "databases"), ignore=shutil.ignore_patterns("__pycache__", "out", "*.o", "*.so"))
+    if name:
+        file, old, new = PLANTS[name]
+        text = (copy / file).read_text(encoding="utf-8")
+        if text.count(old) != 1:
+            raise SystemExit(f"{name}: the text to be edited stands {text.count(old)} times in {file}")
+        (copy / file).write_text(text.replace(old, new), encoding="utf-8")
+    return copy
+
+
+def end_servers(folder):
+    """Ends the servers that a test left behind."""
+    for file in Path(folder).glob("**/postmaster.pid"):
+        try:
+            os.kill(int(file.read_text().split()[0]), signal.SIGQUIT)
+        except (ProcessLookupError, ValueError):
+            pass
+
+
+def fails(folder, words):
+    """Whether a test fails, or comes to no end."""
+    ran = subprocess.Popen(list(map(str, words)), env={**os.environ, "TMPDIR": str(folder)}, stdin=subprocess.DEVNULL, stdout=subprocess.PIPE,
+                           stderr=subprocess.STDOUT, start_new_session=True)
+    try:
+        ran.communicate(timeout=900)
+    except subprocess.TimeoutExpired:
+        os.killpg(ran.pid, signal.SIGKILL)
+        ran.communicate()
+    finally:
+        end_servers(folder)
+    return ran.returncode != 0
+
+
+def is_found(folder, copy, kind, prefix, versions):
+    """Whether the tests of an extension fail over a copy of it, which has to be built without a warning."""
+    words = ["make", "-s", "-C", copy / kind, f"NPSS={prefix}", "with_llvm=no"]
+    built = subprocess.run(list(map(str, words)), stdout=subprocess.PIPE, stderr=subprocess.STDOUT, text=True, check=False)
+    if built.returncode or "warning" in built.stdout:
+        raise SystemExit(f"the extension isn't built cleanly: {built.stdout}")
+    if kind == "sqlite":
+        return fails(folder, [databases.loading_python(), copy / "sqlite" / "test_sqlite.py", copy / "sqlite" / "out" / "npss.so", versions])
+    words = [sys.executable, copy / "postgresql" / "test_postgresql.py", prefix, versions, ROOT / "fixtures", "-f"]
+    return fails(folder, [*words, "Regress"]) or fails(folder, words)
+
+
+def tried(name, kind, prefix, versions):
+    """Whether a bug is found, and after how many seconds."""
+    begun = time.time()
+    with tempfile.TemporaryDirectory() as folder:
+        Path(folder).chmod(0o755)
+        found = is_found(folder, planted(folder, name), kind, prefix, versions)
+    return found, round(time.time() - begun)
+
+
+def main():
+    parser = argparse.ArgumentParser()
+    parser.add_argument("--only", choices=list(PLANTS), action="append")
+    parser.add_argument("prefix", type=Path, nargs="?", default=ROOT / "out" / "c")
+    words = parser.parse_args()
+    names, prefix, tally = words.only or list(PLANTS), words.prefix.resolve(), Tally()
+    files, why = ucd.package_files()
+    if files is None:
+        sys.exit(f"tests/database_plants.py: {why}")
+    with tempfile.TemporaryDirectory() as folder:
+        Path(folder).chmod(0o755)
+        versions = Path(folder, "versions")
+        versions.mkdir()
+        databases.versions_below(files, versions)
+        for kind in sorted({PLANTS[name][0].partition("/")[0] for name in names}):
+            found, seconds = tried(None, kind, prefix, versions)
+            if not tally.check(f"no bug, no failure: {kind}", not found, f"its tests fail as it is, after {seconds} seconds"):
+                tally.finish()
+        for name in names:
+            found, seconds = tried(name, PLANTS[name][0].partition("/")[0], prefix, versions)
+            tally.check(name, found, "not found")
+            print(f"{name}: {'found' if found else 'survived'} after {seconds} seconds", flush=True)
+    tally.finish()
+
+
+if __name__ == "__main__":
+    main()
