@@ -1,10 +1,10 @@
 #!/usr/bin/env python3
-"""tests/database_plants.py [--only NAME]... [PREFIX]: plants bugs into the extensions for databases, and sees that their tests find each.
+"""tests/database_plants.py [--only WORDS..] [--unchecked] [--prefix PREFIX]: plants bugs into the extensions for databases.
 
-Each bug is one edit of a copy of databases/. Over it the tests of its extension run: for PostgreSQL first those in SQL, and
-where they pass all others, until the first fails. First all run over the extensions as they are, and have to pass. PREFIX is
-where ./build-c installed the library, that of this tree where none is named. On demand: not called by ./test; an hour.
-Ends in a line 'N passed, M failed'.
+Each bug is one edit of a copy of databases/, which the tests of its extension have to find: first those run that are meant
+to, and where they pass all. Before, all run over the extensions as they are, and have to pass. WORDS choose the bugs whose
+names have them. PREFIX is where ./build-c installed the library, that of this tree where none is named. On demand: not called
+by ./test; an hour. Ends in a line 'N passed, M failed'.
 """
 
 import argparse
@@ -24,56 +24,59 @@ from harness import ROOT, Tally
 KEYS, RECORD, VERSIONS, SETTINGS, SQL = (f"postgresql/{name}" for name in ("keys.c", "record.c", "versions.c", "npss_pg.c", "npss--0.2.sql"))
 LITE, LITE_RECORD = "sqlite/npss_sqlite.c", "sqlite/record.c"
 
-# For each bug its file, a text that stands there once, and what stands there in its place.
+# The tests that are meant to find a bug, where it names no others.
+FIRST = {"postgresql": ["Regress"], "sqlite": ["Raises"]}
+
+# For each bug its file, a text that stands there once, what stands there in its place, and which tests are meant to find it.
 PLANTS = {
     # PostgreSQL: keys
     "a refusal has another SQLSTATE": (KEYS, "ERRCODE_CHARACTER_NOT_IN_REPERTOIRE),\n\t\t\t\t\t errmsg(\"code point", "ERRCODE_DATA_EXCEPTION),\n\t\t\t\t\t errmsg(\"code point"),
-    "a text that is not UTF-8 has another SQLSTATE": (KEYS, "ERRCODE_CHARACTER_NOT_IN_REPERTOIRE),\n\t\t\t\t\t errmsg(\"the text", "ERRCODE_DATA_EXCEPTION),\n\t\t\t\t\t errmsg(\"the text"),
+    "a text that is not UTF-8 has another SQLSTATE": (KEYS, "ERRCODE_CHARACTER_NOT_IN_REPERTOIRE),\n\t\t\t\t\t errmsg(\"the text", "ERRCODE_DATA_EXCEPTION),\n\t\t\t\t\t errmsg(\"the text", "Attacks"),
     "a refusal tells bytes for characters": (KEYS, "characters_before(input, answer.place) + 1, (unsigned", "(int) answer.place + 1, (unsigned"),
     "the place in a long text is that in its piece": (KEYS, "answer.place += at;", ""),
     "a piece ends within a character": (KEYS, "&& (input.at[length] & 0xC0) == 0x80", "&& false"),
-    "a stream is not closed at an error": (KEYS, "\tMemoryContextRegisterResetCallback(CurrentMemoryContext, &made->end);\n", ""),
-    "a long key is not interrupted": (KEYS, "\t\tCHECK_FOR_INTERRUPTS();\n\t\tanswer = npss_stream_feed", "\t\tanswer = npss_stream_feed"),
-    "the search of a long text is not interrupted": (KEYS, "\t\tCHECK_FOR_INTERRUPTS();\n\t\tanswer = npss_first", "\t\tanswer = npss_first"),
-    "npss_why is not interrupted": (KEYS, "\t\tCHECK_FOR_INTERRUPTS();\n\t\tvalues[0]", "\t\tvalues[0]"),
-    "a long normal form that fails is not told": (KEYS, "\tif (made == NULL)\n\t\trefuse(answer, input, version);\n\treturn made;\n}\n\nstatic bool", "\treturn made;\n}\n\nstatic bool"),
-    "too long a text has another SQLSTATE": (KEYS, "ERRCODE_PROGRAM_LIMIT_EXCEEDED", "ERRCODE_OUT_OF_MEMORY"),
+    "a stream is not closed at an error": (KEYS, "\tMemoryContextRegisterResetCallback(CurrentMemoryContext, &made->end);\n", "", "Memory"),
+    "a long key is not interrupted": (KEYS, "\t\tCHECK_FOR_INTERRUPTS();\n\t\tanswer = npss_stream_feed", "\t\tanswer = npss_stream_feed", "Bounds"),
+    "the search of a long text is not interrupted": (KEYS, "\t\tCHECK_FOR_INTERRUPTS();\n\t\tanswer = npss_first", "\t\tanswer = npss_first", "Bounds"),
+    "npss_why is not interrupted": (KEYS, "\t\tCHECK_FOR_INTERRUPTS();\n\t\tvalues[0]", "\t\tvalues[0]", "Bounds"),
+    "a long normal form that fails is not told": (KEYS, "\tif (made == NULL)\n\t\trefuse(answer, input, version);\n\treturn made;\n}\n\nstatic bool", "\treturn made;\n}\n\nstatic bool", "Attacks"),
+    "too long a text has another SQLSTATE": (KEYS, "ERRCODE_PROGRAM_LIMIT_EXCEEDED", "ERRCODE_OUT_OF_MEMORY", "Bounds"),
     # PostgreSQL: the record
-    "the digest of opened files is not compared": (RECORD, "strcmp(version->digest, row->digest) == 0)", "true)"),
+    "the digest of opened files is not compared": (RECORD, "strcmp(version->digest, row->digest) == 0)", "true)", "Attacks"),
     "the digest of a row is not compared": (RECORD, "*is_restored && strcmp(", "false && strcmp("),
-    "npss_ready compares no digest": (RECORD, "strcmp(row->digest, version->digest) != 0)", "false)"),
+    "npss_ready compares no digest": (RECORD, "strcmp(row->digest, version->digest) != 0)", "false)", "Attacks"),
     "the audit is left out": (RECORD, "\tif (answer.status != NPSS_DONE)\n\t\tereport(ERROR,", "\tif (false)\n\t\tereport(ERROR,"),
     "the audit looks the other way": (RECORD, "is_newer = fresh->assigned >=", "is_newer = fresh->assigned <="),
     "an older version is let in": (RECORD, "if (!is_restored)", "if (false)"),
-    "a raise takes no lock": (RECORD, "\tLockRelationOid(RelationGetRelid(relation), ShareUpdateExclusiveLock);\n", ""),
-    "two raises wait for one another": (RECORD, "ShareUpdateExclusiveLock", "ShareRowExclusiveLock"),
-    "rows of the same statement are not seen": (RECORD, "read_rows(relation, SnapshotSelf)", "read_rows(relation, NULL)"),
-    "sessions are not told of a raise": (RECORD, "\tCacheInvalidateRelcache(relation);\n", ""),
-    "a session that missed messages stays behind": (RECORD, "relation == watched || relation == InvalidOid", "relation == watched"),
+    "a raise takes no lock": (RECORD, "\tLockRelationOid(RelationGetRelid(relation), ShareUpdateExclusiveLock);\n", "", "Upgrades"),
+    "two raises wait for one another": (RECORD, "ShareUpdateExclusiveLock", "ShareRowExclusiveLock", "Upgrades"),
+    "rows of the same statement are not seen": (RECORD, "read_rows(relation, SnapshotSelf)", "read_rows(relation, NULL)", "Upgrades"),
+    "sessions are not told of a raise": (RECORD, "\tCacheInvalidateRelcache(relation);\n", "", "Upgrades"),
+    "a session that missed messages stays behind": (RECORD, "relation == watched || relation == InvalidOid", "relation == watched", "Upgrades"),
     "a row that is recorded comes again": (RECORD, "if (is_recorded(rows, fresh->digest))", "if (false)"),
     "the least count is in force": (RECORD, "a > b ? -1 : a < b", "a < b ? -1 : a > b"),
-    "a version that lags is kept": (RECORD, "known.lags = version->assigned <", "known.lags = version->assigned >"),
-    "earlier versions stay open": (RECORD, "\tshut_versions_but(version);\n", ""),
-    "ANALYZE wants the files": (RECORD, "st_progress_command == PROGRESS_COMMAND_ANALYZE", "st_progress_command == PROGRESS_COMMAND_VACUUM"),
-    "autovacuum wants the files": (RECORD, "IsAutoVacuumWorkerProcess() ||", "false ||"),
+    "a version that lags is kept": (RECORD, "known.lags = version->assigned <", "known.lags = version->assigned >", "Standby"),
+    "earlier versions stay open": (RECORD, "\tshut_versions_but(version);\n", "", "Upgrades"),
+    "ANALYZE wants the files": (RECORD, "st_progress_command == PROGRESS_COMMAND_ANALYZE", "st_progress_command == PROGRESS_COMMAND_VACUUM", "Missing"),
+    "autovacuum wants the files": (RECORD, "IsAutoVacuumWorkerProcess() ||", "false ||", "Missing"),
     "ASCII needs no tables in any version": (RECORD, "return known.ascii;", "return true;"),
-    "the front of a text is not looked at": (RECORD, "seen |= chunk;", "(void) chunk;"),
-    "the end of a text is not looked at": (RECORD, "seen |= (unsigned char) text[at];", ";"),
-    "any encoding will do": (RECORD, "GetDatabaseEncoding() != PG_UTF8", "false"),
+    "the front of a text is not looked at": (RECORD, "seen |= chunk;", "(void) chunk;", "Missing"),
+    "the end of a text is not looked at": (RECORD, "seen |= (unsigned char) text[at];", ";", "Missing"),
+    "any encoding will do": (RECORD, "GetDatabaseEncoding() != PG_UTF8", "false", "Attacks"),
     # PostgreSQL: files and settings
-    "a version is not closed with its context": (VERSIONS, "\tMemoryContextRegisterResetCallback(context, end);\n", ""),
-    "a version that is not kept is not closed": (VERSIONS, "\tif (find_version(version->digest) != version)\n\t\tMemory", "\tif (false)\n\t\tMemory"),
-    "a pipe is waited for": (VERSIONS, "O_RDONLY | O_NONBLOCK", "O_RDONLY"),
-    "a device is read": (VERSIONS, "!S_ISREG(about.st_mode) ||", ""),
-    "a file of any size is read": (VERSIONS, "|| about.st_size > MOST_OF_A_FILE", ""),
-    "a file that ends early is used": (VERSIONS, "if (bytes->length != (size_t) about.st_size)", "if (false)"),
+    "a version is not closed with its context": (VERSIONS, "\tMemoryContextRegisterResetCallback(context, end);\n", "", "Bounds"),
+    "a version that is not kept is not closed": (VERSIONS, "\tif (find_version(version->digest) != version)\n\t\tMemory", "\tif (false)\n\t\tMemory", "Bounds"),
+    "a pipe is waited for": (VERSIONS, "O_RDONLY | O_NONBLOCK", "O_RDONLY", "Attacks"),
+    "a device is read": (VERSIONS, "!S_ISREG(about.st_mode) ||", "", "Attacks"),
+    "a file of any size is read": (VERSIONS, "|| about.st_size > MOST_OF_A_FILE", "", "Attacks"),
+    "a file that ends early is used": (VERSIONS, "if (bytes->length != (size_t) about.st_size)", "if (false)", "Attacks"),
     "a label names any folder": (VERSIONS, "&& label[0] != '.'", ""),
     "a missing file has another SQLSTATE": (VERSIONS, "ERRCODE_INSUFFICIENT_PRIVILEGE : ERRCODE_UNDEFINED_FILE", "ERRCODE_INSUFFICIENT_PRIVILEGE : ERRCODE_IO_ERROR"),
-    "the postmaster has no resource owner": (VERSIONS, "CurrentResourceOwner = ResourceOwnerCreate(NULL, \"npss\");", ";"),
+    "the postmaster has no resource owner": (VERSIONS, "CurrentResourceOwner = ResourceOwnerCreate(NULL, \"npss\");", ";", "Preloaded"),
     "each version passes ASCII": (VERSIONS, "told.status != NPSS_DONE || told.code != 0 ||", "told.code != 0 ||"),
     "the digest leaves the exclusions out": (VERSIONS, "\t\tpg_cryptohash_update(hash, exclusions->at, exclusions->length) < 0 ||\n", ""),
-    "what is preloaded is not marked": (VERSIONS, "version->preloaded = true;", ""),
-    "settings are defined within a parallel operation": (SETTINGS, "are_defined || IsInParallelMode()", "are_defined"),
+    "what is preloaded is not marked": (VERSIONS, "version->preloaded = true;", "", "Preloaded"),
+    "settings are defined within a parallel operation": (SETTINGS, "are_defined || IsInParallelMode()", "are_defined", "Upgrades"),
     "anybody sets the folder": (SETTINGS, "&folder, \"\", PGC_SUSET", "&folder, \"\", PGC_USERSET"),
     # PostgreSQL: SQL
     "npss_equivalent may stand in an index": (SQL, "'npss_pg_equivalent' LANGUAGE C STABLE", "'npss_pg_equivalent' LANGUAGE C IMMUTABLE"),
@@ -86,42 +89,43 @@ PLANTS = {
     "nobody reads the record": (SQL, "GRANT SELECT ON npss_record TO PUBLIC;\n", ""),
     "a name has its column's collation": (SQL, "npss_name AS text COLLATE \"C\"", "npss_name AS text"),
     "a name may be any text": (SQL, "CHECK (VALUE = npss_nfc(VALUE))", "CHECK (npss_nfc(VALUE) IS NOT NULL)"),
-    "a dump lacks the record": (SQL, "SELECT pg_catalog.pg_extension_config_dump(", "SELECT concat("),
-    "a dump has the whole record": (SQL, "'WHERE assigned = (SELECT max(assigned) FROM @extschema@.npss_record)'", "''"),
+    "a dump lacks the record": (SQL, "SELECT pg_catalog.pg_extension_config_dump(", "SELECT concat(", "Dumps"),
+    "a dump has the whole record": (SQL, "'WHERE assigned = (SELECT max(assigned) FROM @extschema@.npss_record)'", "''", "Dumps"),
     # SQLite
     "SQLite: a failed raise is not rolled back": (LITE_RECORD, "        if (!done) sqlite3_exec(self->db, \"ROLLBACK TO npss_raise\", NULL, NULL, NULL);\n", ""),
     "SQLite: a failed raise leaves its transaction open": (LITE_RECORD, "if (!done) sqlite3_exec(self->db, \"RELEASE npss_raise\", NULL, NULL, NULL);", "if (!done) ;"),
-    "SQLite: the audit is left out": (LITE_RECORD, "(recorded > 0 && !extends(call, self, fresh))", "0"),
+    "SQLite: the audit is left out": (LITE_RECORD, "recorded > 0 && !extends(call, self, fresh)", "recorded > 0 && !extends(call, self, fresh) && 0"),
     "SQLite: a raise doesn't wait": (LITE_RECORD, "\"UPDATE main.npss_record SET assigned = assigned\"", "\"SELECT 1\""),
     "SQLite: a raise that is rolled back stays in use": (LITE_RECORD, "self->is_raising = self->has_raised = 1;", "self->is_raising = 1;"),
-    "SQLite: a first raise that is rolled back stays in use": (LITE_RECORD, "npss_close(&self->tables); /* it was undone */", ";"),
+    "SQLite: a first raise that is rolled back stays in use": (LITE_RECORD, "npss_close(&self->tables); /* it was undone */", "self->assigned = 0;"),
     "SQLite: a failed raise closes what was opened": (LITE_RECORD, "self->is_recorded && self->has_raised && recorded_count", "self->tables.is_open && self->has_raised && recorded_count"),
-    "SQLite: what was opened hides the record": (LITE_RECORD, "now == self->assigned && self->is_recorded", "now == self->assigned"),
+    "SQLite: what was opened hides the record": (LITE_RECORD, "now == self->assigned && self->is_recorded", "now == self->assigned", "Dumps"),
     "SQLite: a lock is taken for no record": (LITE_RECORD, "if (code == SQLITE_ERROR) return -1;", "if (code != SQLITE_OK) return -1;"),
-    "SQLite: a file that is too big is cut": (LITE_RECORD, "sqlite3_step(put) == SQLITE_DONE", "(sqlite3_step(put), 1)"),
+    "SQLite: a file that is too big is left out": (LITE_RECORD, "held->data_length, SQLITE_STATIC) == SQLITE_OK", "held->data_length, SQLITE_STATIC) >= 0"),
+    "SQLite: a full disk is not told": (LITE_RECORD, "sqlite3_step(put) == SQLITE_DONE", "sqlite3_step(put) > 0"),
     "SQLite: the record is open to all": (LITE_RECORD, "BEFORE UPDATE ON npss_record WHEN NOT", "BEFORE UPDATE ON npss_record WHEN"),
     "SQLite: an audit looks at what is in use": (LITE_RECORD, "opened(call, &fresh, &held) && follows(call)", "opened(call, &fresh, &held) && ready(call, self)"),
-    "SQLite: audited tables stay open": (LITE_RECORD, "            else fail_memory(call);\n        }\n    }\n    npss_close(&fresh);", "            else fail_memory(call);\n        }\n    }"),
+    "SQLite: audited tables stay open": (LITE_RECORD, "            else fail_memory(call);\n        }\n    }\n    npss_close(&fresh);", "            else fail_memory(call);\n        }\n    }", "Memory"),
     "SQLite: a connection doesn't follow": (LITE, "if (renewed) a = how->make", "if (0) a = how->make"),
     "SQLite: a record's fault is not told": (LITE, "if (renewed < 0) return;", ""),
     "SQLite: questions don't follow": (LITE, "status != NPSS_UNASSIGNED || renew(call, self) >= 0", "status != NPSS_MEMORY"),
-    "SQLite: an index stands on npss_normalize": (LITE, "{\"npss_normalize\", 2, ASK,", "{\"npss_normalize\", 2, KEY,"),
-    "SQLite: a key is not innocuous": (LITE, "KEY = SQLITE_UTF8 | SQLITE_DETERMINISTIC | SQLITE_INNOCUOUS", "KEY = SQLITE_UTF8 | SQLITE_DETERMINISTIC"),
-    "SQLite: a schema raises": (LITE, "DIRECT = SQLITE_UTF8 | SQLITE_DIRECTONLY", "DIRECT = SQLITE_UTF8"),
-    "SQLite: a key ends at U+0000": (LITE, "(char *)small, a.length, SQLITE_TRANSIENT", "(char *)small, strnlen((char *)small, a.length), SQLITE_TRANSIENT"),
-    "SQLite: a long key is not freed": (LITE, "room, a.length, sqlite3_free, SQLITE_UTF8", "room, a.length, SQLITE_TRANSIENT, SQLITE_UTF8"),
-    "SQLite: a connection's tables are not closed": (LITE, "    npss_close(&self->tables);\n    sqlite3_free(self);", "    sqlite3_free(self);"),
+    "SQLite: an index stands on npss_normalize": (LITE, "{\"npss_normalize\", 2, ASK,", "{\"npss_normalize\", 2, KEY,", "Indexes"),
+    "SQLite: a key is not innocuous": (LITE, "KEY = SQLITE_UTF8 | SQLITE_DETERMINISTIC | SQLITE_INNOCUOUS", "KEY = SQLITE_UTF8 | SQLITE_DETERMINISTIC", "Indexes"),
+    "SQLite: a schema raises": (LITE, "DIRECT = SQLITE_UTF8 | SQLITE_DIRECTONLY", "DIRECT = SQLITE_UTF8", "Indexes"),
+    "SQLite: a key ends at U+0000": (LITE, "(char *)small, a.length, SQLITE_TRANSIENT", "(char *)small, strnlen((char *)small, a.length), SQLITE_TRANSIENT", "Functions"),
+    "SQLite: a long key is not freed": (LITE, "room, a.length, sqlite3_free, SQLITE_UTF8", "room, a.length, SQLITE_TRANSIENT, SQLITE_UTF8", "Memory"),
+    "SQLite: a connection's tables are not closed": (LITE, "    npss_close(&self->tables);\n    sqlite3_free(self);", "    sqlite3_free(self);", "Memory"),
 }
 
 
 def planted(folder, name):
-    """A copy of databases/, with a bug in it where one is named."""
+    """A copy of databases/ with a bug in it; without one where none is named."""
     copy = shutil.copytree(ROOT / "databases", Path(folder, "databases"), ignore=shutil.ignore_patterns("__pycache__", "out", "*.o", "*.so"))
     if name:
-        file, old, new = PLANTS[name]
+        file, old, new = PLANTS[name][:3]
         text = (copy / file).read_text(encoding="utf-8")
         if text.count(old) != 1:
-            raise SystemExit(f"{name}: the text to be edited stands {text.count(old)} times in {file}")
+            raise RuntimeError(f"the text to be edited stands {text.count(old)} times in {file}")
         (copy / file).write_text(text.replace(old, new), encoding="utf-8")
     return copy
 
@@ -140,7 +144,7 @@ def fails(folder, words):
     ran = subprocess.Popen(list(map(str, words)), env={**os.environ, "TMPDIR": str(folder)}, stdin=subprocess.DEVNULL, stdout=subprocess.PIPE,
                            stderr=subprocess.STDOUT, start_new_session=True)
     try:
-        ran.communicate(timeout=900)
+        ran.communicate(timeout=1800)
     except subprocess.TimeoutExpired:
         os.killpg(ran.pid, signal.SIGKILL)
         ran.communicate()
@@ -149,33 +153,47 @@ def fails(folder, words):
     return ran.returncode != 0
 
 
-def is_found(folder, copy, kind, prefix, versions):
-    """Whether the tests of an extension fail over a copy of it, which has to be built without a warning."""
+def built(copy, kind, prefix):
+    """Builds the extension, without a warning; the words that test it."""
     words = ["make", "-s", "-C", copy / kind, f"NPSS={prefix}", "with_llvm=no"]
-    built = subprocess.run(list(map(str, words)), stdout=subprocess.PIPE, stderr=subprocess.STDOUT, text=True, check=False)
-    if built.returncode or "warning" in built.stdout:
-        raise SystemExit(f"the extension isn't built cleanly: {built.stdout}")
+    made = subprocess.run(list(map(str, words)), stdout=subprocess.PIPE, stderr=subprocess.STDOUT, text=True, check=False)
+    if made.returncode or "warning" in made.stdout:
+        raise RuntimeError(f"the extension isn't built cleanly: {made.stdout}")
     if kind == "sqlite":
-        return fails(folder, [databases.loading_python(), copy / "sqlite" / "test_sqlite.py", copy / "sqlite" / "out" / "npss.so", versions])
-    words = [sys.executable, copy / "postgresql" / "test_postgresql.py", prefix, versions, ROOT / "fixtures", "-f"]
-    return fails(folder, [*words, "Regress"]) or fails(folder, words)
+        return [databases.loading_python(), copy / kind / "test_sqlite.py", copy / kind / "out" / "npss.so"]
+    return [sys.executable, copy / kind / "test_postgresql.py", prefix]
 
 
-def tried(name, kind, prefix, versions):
-    """Whether a bug is found, and after how many seconds."""
-    begun = time.time()
+def is_found(kind, name, prefix, versions):
+    """Whether the tests of an extension fail over a bug, or over none."""
     with tempfile.TemporaryDirectory() as folder:
         Path(folder).chmod(0o755)
-        found = is_found(folder, planted(folder, name), kind, prefix, versions)
-    return found, round(time.time() - begun)
+        words = [*built(planted(folder, name), kind, prefix), versions, *([ROOT / "fixtures"] if kind == "postgresql" else []), "-f"]
+        if name and fails(folder, [*words, *(PLANTS[name][3:] or FIRST[kind])]):
+            return True
+        return fails(folder, words)
+
+
+def checked(tally, name, kind, planted_name, prefix, versions):
+    """Counts whether a bug is found; that none is, where none is planted."""
+    begun = time.time()
+    try:
+        found, why = is_found(kind, planted_name, prefix, versions), ""
+    except RuntimeError as error:
+        found, why = None, str(error)
+    told = why or ("found" if found else "survived")
+    print(f"{name}: {told} after {time.time() - begun:.0f} seconds", flush=True)
+    return tally.check(name, found is bool(planted_name), told)
 
 
 def main():
     parser = argparse.ArgumentParser()
-    parser.add_argument("--only", choices=list(PLANTS), action="append")
-    parser.add_argument("prefix", type=Path, nargs="?", default=ROOT / "out" / "c")
+    parser.add_argument("--only", default=[""], nargs="+", metavar="WORDS", help="the bugs alone whose names have one of these in them")
+    parser.add_argument("--unchecked", action="store_true", help="don't run the tests over the extensions as they are")
+    parser.add_argument("--prefix", type=Path, default=ROOT / "out" / "c")
     words = parser.parse_args()
-    names, prefix, tally = words.only or list(PLANTS), words.prefix.resolve(), Tally()
+    prefix, tally = words.prefix.resolve(), Tally()
+    kinds = {name: PLANTS[name][0].partition("/")[0] for name in PLANTS if any(some in name for some in words.only)}
     files, why = ucd.package_files()
     if files is None:
         sys.exit(f"tests/database_plants.py: {why}")
@@ -184,14 +202,11 @@ def main():
         versions = Path(folder, "versions")
         versions.mkdir()
         databases.versions_below(files, versions)
-        for kind in sorted({PLANTS[name][0].partition("/")[0] for name in names}):
-            found, seconds = tried(None, kind, prefix, versions)
-            if not tally.check(f"no bug, no failure: {kind}", not found, f"its tests fail as it is, after {seconds} seconds"):
+        for kind in () if words.unchecked else sorted(set(kinds.values())):
+            if not checked(tally, f"{kind} as it is", kind, None, prefix, versions):
                 tally.finish()
-        for name in names:
-            found, seconds = tried(name, PLANTS[name][0].partition("/")[0], prefix, versions)
-            tally.check(name, found, "not found")
-            print(f"{name}: {'found' if found else 'survived'} after {seconds} seconds", flush=True)
+        for name, kind in kinds.items():
+            checked(tally, name, kind, name, prefix, versions)
     tally.finish()
 
 

@@ -1,8 +1,8 @@
 #!/usr/bin/env python3
-"""test_sqlite.py EXTENSION FOLDER: tests the extension npss.so for SQLite.
+"""test_sqlite.py EXTENSION FOLDER [WORD..]: tests the extension npss.so for SQLite.
 
 FOLDER has the folders 13.0, 14.0 and 15.0, each with UnicodeData.txt and CompositionExclusions.txt. This Python's sqlite3
-loads extensions. Ends in a line 'N passed, M failed'.
+loads extensions. The words are those of Python's unittest. Ends in a line 'N passed, M failed'.
 """
 
 import contextlib
@@ -238,6 +238,15 @@ class Raises(Case):
         self.assertEqual(self.asked(base, "npss_version()"), version)
         self.whole(base)
 
+    def test_a_raise_that_has_no_room(self):
+        base = self.with_names()
+        record = base.execute("SELECT * FROM npss_record").fetchall()
+        base.execute(f"PRAGMA max_page_count = {self.asked(base, 'page_count FROM pragma_page_count')}")
+        self.refused("full", base, "SELECT npss_raise(?)", NEW)
+        self.assertEqual(base.execute("SELECT * FROM npss_record").fetchall(), record)
+        self.refused("not assigned", base, "SELECT npss_key(?)", YOUNGEST)
+        self.whole(base)
+
     def test_a_database_that_is_locked(self):
         base, beside = self.with_names(), self.connect()
         beside.execute("PRAGMA busy_timeout = 0")
@@ -433,7 +442,7 @@ print(base.execute("SELECT npss_nfc('a')").fetchone()[0])
 
 
 if __name__ == "__main__":
-    result = unittest.main(argv=sys.argv[:1], exit=False, verbosity=0).result
+    result = unittest.main(argv=sys.argv[:1] + sys.argv[3:], exit=False, verbosity=0).result
     bad = len(result.failures) + len(result.errors)
     print(f"{result.testsRun - bad} passed, {bad} failed", flush=True)
     sys.exit(1 if bad else 0)
