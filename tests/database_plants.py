@@ -92,8 +92,10 @@ PLANTS = {
     "a dump lacks the record": (SQL, "SELECT pg_catalog.pg_extension_config_dump(", "SELECT concat(", "Dumps"),
     "a dump has the whole record": (SQL, "'WHERE assigned = (SELECT max(assigned) FROM @extschema@.npss_record)'", "''", "Dumps"),
     # SQLite
-    "SQLite: a failed raise is not rolled back": (LITE_RECORD, "        if (!done) sqlite3_exec(self->db, \"ROLLBACK TO npss_raise\", NULL, NULL, NULL);\n", ""),
-    "SQLite: a failed raise leaves its transaction open": (LITE_RECORD, "if (!done) sqlite3_exec(self->db, \"RELEASE npss_raise\", NULL, NULL, NULL);", "if (!done) ;"),
+    "SQLite: a failed raise is not rolled back": (LITE_RECORD, "is_whole ? \"ROLLBACK\"", "is_whole ? \"RELEASE npss_raise\""),
+    "SQLite: a failed raise within a transaction is not rolled back": (LITE_RECORD, "\"ROLLBACK TO npss_raise; RELEASE npss_raise\"", "\"RELEASE npss_raise\""),
+    "SQLite: a failed raise ends somebody's transaction": (LITE_RECORD, "is_whole ? \"ROLLBACK\" : \"ROLLBACK TO npss_raise; RELEASE npss_raise\"", "is_whole ? \"ROLLBACK\" : \"ROLLBACK\""),
+    "SQLite: a failed raise leaves its transaction open": (LITE_RECORD, "sqlite3_exec(self->db, is_whole ?", "if (!is_whole) sqlite3_exec(self->db, is_whole ?"),
     "SQLite: the audit is left out": (LITE_RECORD, "recorded > 0 && !extends(call, self, fresh)", "recorded > 0 && !extends(call, self, fresh) && 0"),
     "SQLite: a raise doesn't wait": (LITE_RECORD, "\"UPDATE main.npss_record SET assigned = assigned\"", "\"SELECT 1\""),
     "SQLite: a raise that is rolled back stays in use": (LITE_RECORD, "self->is_raising = self->has_raised = 1;", "self->is_raising = 1;"),

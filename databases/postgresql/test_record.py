@@ -215,6 +215,18 @@ class Dumps(Case):
         self.assertEqual(self.server.sql("SELECT label FROM npss_version()", "back"), "14.0")
         self.refused("22021", f"INSERT INTO account VALUES ('{YOUNGEST}')", "back")
 
+    def test_a_dump_comes_into_an_empty_cluster(self):
+        self.filled()
+        dump = run([self.programs / "pg_dump", "--create", "-h", self.server.folder, "-U", "postgres", "dumped"])
+        # The files of 13.0, which the database has left, needn't be there.
+        versions = copied(self.folder / "fewer", {label: VERSIONS / label for label in ("14.0", "15.0")})
+        empty = Server(self.programs, self.folder / "empty", versions).create().start()
+        self.addCleanup(empty.stop, "immediate")
+        empty.sql(dump)
+        self.assertIn("WARNING", empty.told)
+        self.assertEqual(empty.sql("SELECT count(*) FROM account WHERE key = npss_nfkc(name)", "dumped"), "3")
+        self.assertEqual(empty.sql("SELECT label FROM npss_record ORDER BY assigned", "dumped"), "14.0\n15.0")
+
     def test_an_upgrade_of_the_server(self):
         self.filled()
         newer = Server(self.programs, self.folder / "newer", self.versions).create()

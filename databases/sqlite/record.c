@@ -239,7 +239,7 @@ void do_is_raising(sqlite3_context *call, int count, sqlite3_value **given) {
 
 /* Writes the record: behind an audit, and while nobody else writes. */
 static int write_record(sqlite3_context *call, connection *self, sqlite3_int64 assigned, const files *held) {
-    static const char text[] = "INSERT INTO main.npss_record VALUES (1, ?1, ?2, ?3) ON CONFLICT DO UPDATE SET "
+    static const char text[] = "INSERT INTO main.npss_record VALUES (1, ?1, ?2, ?3) ON CONFLICT (one) DO UPDATE SET "
                                "assigned = ?1, data = ?2, exclusions = ?3";
     sqlite3_stmt *put = NULL;
     int done = sqlite3_prepare_v2(self->db, text, -1, &put, NULL) == SQLITE_OK &&
@@ -272,16 +272,16 @@ static int raise_within(sqlite3_context *call, connection *self, npss_handle *fr
 void do_raise(sqlite3_context *call, int count, sqlite3_value **given) {
     connection *self = connection_of(call);
     npss_handle fresh = {0, NULL};
+    int is_whole = sqlite3_get_autocommit(self->db); /* the savepoint is a transaction of its own, whose release commits */
     files held;
     if (files_of(call, count, given, &held) && opened(call, &fresh, &held) && run(call, self, "SAVEPOINT npss_raise")) {
-        int done;
         self->is_raising = self->has_raised = 1;
-        done = raise_within(call, self, &fresh, &held);
+        if (raise_within(call, self, &fresh, &held) && run(call, self, "RELEASE npss_raise")) {
+            if (use(call, self, &fresh, 1)) sqlite3_result_int64(call, self->assigned);
+        } else {
+            sqlite3_exec(self->db, is_whole ? "ROLLBACK" : "ROLLBACK TO npss_raise; RELEASE npss_raise", NULL, NULL, NULL);
+        }
         self->is_raising = 0;
-        if (!done) sqlite3_exec(self->db, "ROLLBACK TO npss_raise", NULL, NULL, NULL);
-        /* Where the release fails there was somebody else's transaction, and its error is told. */
-        if (!done) sqlite3_exec(self->db, "RELEASE npss_raise", NULL, NULL, NULL);
-        else if (run(call, self, "RELEASE npss_raise") && use(call, self, &fresh, 1)) sqlite3_result_int64(call, self->assigned);
     }
     npss_close(&fresh);
     free_files(&held);

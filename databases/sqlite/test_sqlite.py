@@ -255,6 +255,15 @@ class Raises(Case):
         self.refused("locked", beside, "SELECT npss_raise(?)", NEW)
         base.execute("COMMIT")
         self.assertEqual(self.asked(beside, "npss_key('a')"), "a")
+        # A reader is in the way where the raise is committed.
+        base.execute("BEGIN")
+        version = self.asked(base, "assigned FROM npss_record")
+        self.refused("locked", beside, "SELECT npss_raise(?)", NEW)
+        self.assertFalse(beside.in_transaction)
+        self.assertEqual((self.asked(base, "assigned FROM npss_record"), self.asked(beside, "npss_version()")), (version, version))
+        base.execute("COMMIT")
+        self.assertEqual(self.asked(beside, "npss_raise(?)", NEW), 288767)
+        self.whole(base)
 
     def test_a_raise_that_was_rolled_back(self):
         base = self.with_names()
