@@ -37,6 +37,18 @@ def size_of(table):
     return max((float(match["size"]) for match in ROW.finditer(table) if match["corpus"] in SHOWN), default=None)
 
 
+def day_of(table):
+    """The day of a run, or nothing."""
+    found = re.match(r"# (\d{4}-\d\d-\d\d) ", table)
+    return found[1] if found else ""
+
+
+def machine_of(table):
+    """What a run tells of its machine: the processor, and how many there are."""
+    found = re.search(r"^Commit \w+, Unicode [\d.]+\. (.*?, \d+ processors), load ", table, re.MULTILINE)
+    return found[1] if found else "a machine that isn't told"
+
+
 def readme_rows(table):
     """The rows of the README's table of speed: milliseconds of npss, and how many times that its fastest peer takes."""
     took = times(table)
