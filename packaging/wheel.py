@@ -16,7 +16,7 @@ ROOT = Path(__file__).resolve().parent.parent
 # The oldest Python whose stable interface the module keeps to, and the oldest glibc of the tag that installers know.
 PYTHON = (3, 10)
 GLIBC = (2, 17)
-SUMMARY = "Stabilized Unicode strings: keys that stay the same under each later version of Unicode"
+SUMMARY = "Stabilized Unicode strings: keys that stay the same under each version of Unicode that extends theirs"
 
 
 class NotPortable(Exception):
@@ -67,14 +67,24 @@ def built(prefix, folder):
     return module
 
 
-def described(release, tag):
-    """The files that tell what the wheel is."""
+def facts_folder(release):
+    """The folder beside the module that tells what it is."""
+    return f"npss-{release.version}.dist-info"
+
+
+def facts(release):
+    """The files that tell what the module is, however it is packed."""
     metadata = (f"Metadata-Version: 2.1\nName: npss\nVersion: {release.version}\nSummary: {SUMMARY}\n"
                 f"Requires-Python: >={PYTHON[0]}.{PYTHON[1]}\nClassifier: Operating System :: POSIX :: Linux\n"
                 "Classifier: Typing :: Typed\nDescription-Content-Type: text/markdown\n\n")
-    wheel = "".join(["Wheel-Version: 1.0\nGenerator: npss\nRoot-Is-Purelib: false\n", f"Tag: {tag}\n"])
     page = (ROOT / "docs" / "INSTALL.md").read_text(encoding="utf-8")
-    return {"METADATA": metadata + page, "WHEEL": wheel, "top_level.txt": "npss\n"}
+    return {"METADATA": metadata + page, "top_level.txt": "npss\n"}
+
+
+def described(release, tag):
+    """The files that tell what the wheel is."""
+    wheel = "".join(["Wheel-Version: 1.0\nGenerator: npss\nRoot-Is-Purelib: false\n", f"Tag: {tag}\n"])
+    return {**facts(release), "WHEEL": wheel}
 
 
 def make_wheel(release, prefix, proved, to, room):
@@ -83,11 +93,11 @@ def make_wheel(release, prefix, proved, to, room):
     look_at(module)
     platform = f"manylinux_{GLIBC[0]}_{GLIBC[1]}_{os.uname().machine}"
     tag = f"cp{PYTHON[0]}{PYTHON[1]}-abi3-{platform}"
-    facts = f"npss-{release.version}.dist-info"
+    folder = facts_folder(release)
     files = {str(path.relative_to(room)): path.read_bytes() for path in sorted((room / "npss").rglob("*")) if path.is_file()}
-    files.update({f"{facts}/{name}": text.encode() for name, text in {**described(release, tag), "PROVED": proved}.items()})
+    files.update({f"{folder}/{name}": text.encode() for name, text in {**described(release, tag), "PROVED": proved}.items()})
     record = "".join(f"{name},sha256={digest(data)},{len(data)}\n" for name, data in files.items())
-    files[f"{facts}/RECORD"] = f"{record}{facts}/RECORD,,\n".encode()
+    files[f"{folder}/RECORD"] = f"{record}{folder}/RECORD,,\n".encode()
     path = to / f"npss-{release.version}-{tag}.whl"
     when = time.gmtime(release.time)[:6]
     with zipfile.ZipFile(path, "w", zipfile.ZIP_DEFLATED) as packed:

@@ -147,11 +147,24 @@ def page_program(page, language):
     return found and found[1]
 
 
+def refuses_without(folder, name):
+    """Whether the program of a page ends with a status of its own where this file is away."""
+    (folder / name).rename(folder / "away")
+    ended = subprocess.run([folder / "prog", *(Path(one).name for one in V1)], cwd=folder, stdout=subprocess.DEVNULL, stderr=subprocess.DEVNULL,
+                           check=False)
+    (folder / "away").rename(folder / name)
+    return ended.returncode > 0
+
+
 def check_flags(tally, prefix, folder):
-    """The pages' programs are built by pkg-config's flags, and print a key: README's, of ten lines, and that of docs/DOORS.md."""
+    """README's program, of ten lines, and that of docs/DOORS.md print a key, built and started by the lines of that page."""
     if not wanted("pkg-config"):
         return
-    environment = {**os.environ, "PKG_CONFIG_PATH": str(prefix / "lib" / "pkgconfig"), "LD_LIBRARY_PATH": str(prefix / "lib")}
+    page = (ROOT / "docs" / "DOORS.md").read_text(encoding="utf-8").replace("PREFIX", str(prefix))
+    script = re.search(r"^export PKG_CONFIG_PATH=.*\n(?:.*\n)*?\./prog .*$", page, re.MULTILINE)
+    if not tally.check("docs/DOORS.md tells how a program in C is built", script, "it doesn't"):
+        return
+    environment = {name: value for name, value in os.environ.items() if name != "LD_LIBRARY_PATH"}
     for name in V1:
         shutil.copy(name, folder)
     for page, key in (("README.md", "\u00c5\n"), ("docs/DOORS.md", "\u1ead\n")):
@@ -159,9 +172,9 @@ def check_flags(tally, prefix, folder):
         if not tally.check(f"{page} has a program in C", program, "it has none"):
             continue
         (folder / "prog.c").write_text(program, encoding="utf-8")
-        if done(tally, f"the program in C of {page}", ["sh", "-c", "cc prog.c -o prog $(pkg-config --cflags --libs npss)"],
-                cwd=folder, env=environment) is not None:
-            tally.same("its key", done(tally, "its run", [folder / "prog", *V1], cwd=folder, env=environment), key)
+        tally.same(f"{page}: its key", done(tally, f"{page}: its program in C", ["sh", "-ec", script[0]], cwd=folder, env=environment), key)
+        for name in (Path(one).name for one in V1):
+            tally.check(f"{page}: its program without {name}", refuses_without(folder, name), "it doesn't say so")
     lines = len((page_program("README.md", "c") or "").splitlines())
     tally.check("README's program has ten lines", lines <= 10, f"{lines} lines")
 
@@ -228,14 +241,26 @@ def check_histories(tally, program, folder, files, environment):
 
 
 def check_rust(tally, prefix, folder):
-    """The crate for Rust: its tests and the examples of its pages."""
+    """The crate for Rust: what it says where there is no library, its tests, and the program of docs/DOORS.md."""
     if not wanted("cargo"):
         return
+    nowhere = {**os.environ, "NPSS_PREFIX": str(folder / "nowhere"), "CARGO_TARGET_DIR": str(folder / "target")}
+    told = subprocess.run(["cargo", "build", "--offline", "--locked"], cwd=ROOT / "bindings" / "rust", env=nowhere, stdout=subprocess.PIPE,
+                          stderr=subprocess.STDOUT, text=True, check=False)
+    tally.check("the crate without the library tells how to get it", told.returncode != 0 and "./build-c" in told.stdout, told.stdout[-2000:])
     environment = {**os.environ, "NPSS_PREFIX": str(prefix), "CARGO_TARGET_DIR": str(folder / "target")}
     written = done(tally, "the crate for Rust", ["cargo", "test", "--offline", "--locked"], cwd=ROOT / "bindings" / "rust", env=environment)
     for passed, failed in re.findall(r"test result: \w+\. (\d+) passed; (\d+) failed", written or ""):
         tally.passed += int(passed)
         tally.failed += int(failed)
+    page = folder / "of the page"
+    (page / "src").mkdir(parents=True)
+    dependency = page_program("docs/DOORS.md", "toml").replace("../npss/bindings/rust", str(ROOT / "bindings" / "rust"))
+    (page / "Cargo.toml").write_text(f'[package]\nname = "page"\nedition = "2021"\nversion = "0.1.0"\n\n{dependency}', encoding="utf-8")
+    (page / "src" / "main.rs").write_text(page_program("docs/DOORS.md", "rust"), encoding="utf-8")
+    for name in V1:
+        shutil.copy(name, page)
+    tally.same("the page's program in Rust", done(tally, "its run in Rust", ["cargo", "run", "-q", "--offline"], cwd=page, env=environment), "\u1ead\n")
 
 
 def check_java(tally, prefix, folder):

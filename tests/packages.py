@@ -15,6 +15,7 @@ import hashlib
 import os
 import re
 import shutil
+import socket
 import subprocess
 import sys
 import tempfile
@@ -42,14 +43,40 @@ TEXT, KEY, COMPATIBLE = "a\u0302\u0323\ufb01", "\u1ead\ufb01", "\u1eadfi"
 UNICODE = "/usr/share/unicode"
 FILES = (f"{UNICODE}/UnicodeData.txt", f"{UNICODE}/CompositionExclusions.txt")
 KEY_BY_PYTHON = f"""
+import importlib.metadata
 import npss
 tables = npss.Tables.open({FILES[0]!r}, {FILES[1]!r})
-print(npss.__version__, ascii(tables.key({TEXT!r})))
+print(npss.__version__, importlib.metadata.version("npss"), ascii(tables.key({TEXT!r})))
 """
 KEY_BY_SQL = ".load {extension}\nSELECT npss_raise('{folder}');\nSELECT hex(npss_nfkc('{text}'));\n"
 # A PostgreSQL without a server: one process reads its statements.
 SINGLE = "/usr/lib/postgresql/15/bin/postgres"
 VERSIONS = "/tmp/versions"
+# The service of the registry, what it works with where systemd doesn't start it, and the most exposure by systemd's own measure.
+UNIT, STATE, SECRETS, TOKEN, EXPOSURE = "lib/systemd/system/npss-registry.service", "tmp/state", "tmp/secrets", "0123456789abcdef", 20
+SERVED = f"""
+import json, subprocess, sys, time, urllib.error, urllib.request
+line, port = sys.argv[1:]
+
+def asked(path, body=None):
+    data = None if body is None else json.dumps(body).encode()
+    request = urllib.request.Request(f"http://127.0.0.1:{{port}}{{path}}", data, {{"Authorization": "Bearer {TOKEN}"}})
+    try:
+        return urllib.request.urlopen(request, timeout=10).status
+    except urllib.error.HTTPError as error:
+        return error.code
+
+server = subprocess.Popen(["sh", "-c", f"exec {{line}}"], stderr=subprocess.PIPE, text=True)
+print(server.stderr.readline().strip())
+for _ in range(200):
+    try:
+        print(asked("/status"), asked("/claim", {{"name": {TEXT!r}, "owner": "17"}}), asked("/find", {{"name": {KEY!r}}}))
+        break
+    except urllib.error.URLError:
+        time.sleep(0.1)
+server.terminate()
+print(server.wait())
+"""
 
 
 def check_toolchain(tally):
@@ -262,7 +289,7 @@ def check_c_again(tally, root, name):
 
 def check_python(tally, root, wheel, version):
     """The package for Debian's Python, and the wheel in an environment of its own, without a compiler."""
-    wanted = (0, f"{version} {ascii(KEY)}\n")
+    wanted = (0, f"{version} {version} {ascii(KEY)}\n")
     tally.same("first key by Python", root.run("python3", "-c", KEY_BY_PYTHON), wanted)
     tally.check("there is no compiler", root.run("sh", "-c", "command -v cc gcc tcc rt")[0] != 0)
     if wheel is None:
@@ -283,6 +310,33 @@ def check_registry(tally, root):
                           (["check", "/tmp/store"], None)):
         status, written = root.run("npss-registry", *words)
         tally.check(f"npss-registry {words[0]}", status == 0 and (wanted is None or written == wanted), f"status {status}: {written}")
+
+
+def check_service(tally, root):
+    """The registry's service is off until somebody starts it, and its line serves a store, to this machine alone."""
+    text = (root.folder / UNIT).read_text(encoding="utf-8")
+    name = Path(UNIT).name
+    tally.same("the service is off", [place for place in root.listed() if place.endswith(name) and place != UNIT], [])
+    with socket.socket() as free:
+        free.bind(("127.0.0.1", 0))
+        port = free.getsockname()[1]
+    # As systemd does it: the store is the service's own, and the token is lent to it.
+    for folder in (STATE, SECRETS):
+        (root.folder / folder).mkdir()
+    status, written = root.run("npss-registry", "init", f"/{STATE}/store", *FILES)
+    tally.check("a store for the service", status == 0, written)
+    (root.folder / SECRETS / "token").write_text(f"{TOKEN}\n", encoding="ascii")
+    root.run("chown", "-R", "nobody", f"/{STATE}", f"/{SECRETS}")
+    line = re.search(r"^ExecStart=(.*)$", text, re.MULTILINE)[1]
+    status, written = root.run("python3", "-c", SERVED, line, port, user="nobody", STATE_DIRECTORY=f"/{STATE}",
+                               CREDENTIALS_DIRECTORY=f"/{SECRETS}", OPTIONS=f"--port {port}")
+    tally.same("the line of the service", (status, written),
+               (0, f"npss-registry: /{STATE}/store at http://127.0.0.1:{port}/\n200 201 200\n0\n"))
+    if not shutil.which("systemd-analyze"):
+        print("skipped: what systemd says of the service: systemd-analyze not found")
+        return
+    told(tally, "systemd reads the service", ["systemd-analyze", "verify", "--man=no", f"--root={root.folder}", f"/{UNIT}"])
+    told(tally, "the service may do little", ["systemd-analyze", "security", "--offline=yes", f"--threshold={EXPOSURE}", root.folder / UNIT])
 
 
 def check_databases(tally, root):
@@ -325,6 +379,7 @@ def check_root(tally, root, made, prefix, version, room):
     check_c(tally, root, room)
     check_python(tally, root, next(made.glob("*.whl"), None), version)
     check_registry(tally, root)
+    check_service(tally, root)
     check_databases(tally, root)
     check_completion(tally, root)
     check_removal(tally, root, DEBIAN, before)
