@@ -23,7 +23,7 @@ import zlib
 from contextlib import closing
 from pathlib import Path
 
-from npss import Tables, Unassigned
+from npss import BadTables, Tables, Unassigned
 
 FORM = "nfkc"
 STORE = ("CREATE TABLE IF NOT EXISTS version (number INTEGER PRIMARY KEY, sum TEXT NOT NULL UNIQUE, "
@@ -77,6 +77,8 @@ class Accounts:
             return self.tables.key(name, FORM)
         except Unassigned as error:
             raise Refused(f"{name!r}: {error}") from error
+        except UnicodeEncodeError as error:
+            raise Refused(f"{name!r}: the name is no UTF-8") from error
 
     def add(self, *names):
         """Adds accounts, all of them or none."""
@@ -184,21 +186,30 @@ def answer(machine, command, names):
         print("one account" if machine.are_one(*names) else "two accounts")
 
 
-def main(words):
+def run(words):
+    """Does what the words ask for; the status."""
     if words[:1] == ["--test"]:
         files = [Path(word).read_bytes() for word in words[1:]]
         return 0 if test(*(files[at:at + 2] for at in range(0, len(files), 2))) else 1
-    if len(words) < 4 or words[3] not in ("add", "find", "compare") or (words[3] == "compare" and len(words) != 6):
+    if len(words) < 5 or words[3] not in ("add", "find", "compare") or (words[3] == "compare" and len(words) != 6):
         print(__doc__, file=sys.stderr)
         return 2
     store, data, exclusions, command, *names = words
+    with closing(Accounts(store, Path(data).read_bytes(), Path(exclusions).read_bytes())) as machine:
+        answer(machine, command, names)
+    return 0
+
+
+def main(words):
+    """The status: 1 where something is refused, 2 for bad words, 5 where a file or the store can't be used."""
     try:
-        with closing(Accounts(store, Path(data).read_bytes(), Path(exclusions).read_bytes())) as machine:
-            answer(machine, command, names)
-    except Refused as error:
+        return run(words)
+    except (Refused, BadTables) as error:
         print(f"refused: {error}", file=sys.stderr)
         return 1
-    return 0
+    except (OSError, sqlite3.Error) as error:
+        print(f"accounts.py: {error}", file=sys.stderr)
+        return 5
 
 
 if __name__ == "__main__":

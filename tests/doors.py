@@ -193,6 +193,14 @@ def check_python(tally, prefix, folder):
     counted(tally, "the module for Python", [sys.executable, ROOT / "bindings" / "python" / "test.py", *V1, *V2], env=environment)
     check_python_strictly(tally, prefix, folder, environment)
     counted(tally, "accounts in a database", [sys.executable, ROOT / "examples" / "accounts.py", "--test", *V1, *V2], env=environment)
+    store, other = folder / "accounts", folder / "no store"
+    other.write_bytes(b"x" * 4096)
+    for name, status, words in (("a missing file", 5, [store, V1[0], folder / "missing", "find", "A"]), ("faulty files", 1, [store, *V1[::-1], "find", "A"]),
+                                ("a name that isn't UTF-8", 1, [store, *V1, "find", b"\xff"]), ("no name", 2, [store, *V1, "find"]),
+                                ("a store that is none", 5, [other, *V1, "find", "A"])):
+        ended = subprocess.run([sys.executable, ROOT / "examples" / "accounts.py", *words], env=environment, stdout=subprocess.DEVNULL,
+                               stderr=subprocess.PIPE, check=False)
+        tally.check(f"accounts: {name}", ended.returncode == status and b"Traceback" not in ended.stderr, (ended.returncode, ended.stderr[-500:]))
     return environment
 
 
