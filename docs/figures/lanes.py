@@ -105,23 +105,25 @@ def histories():
 def registry():
     """The log, three nodes of two versions, a parked record, an upgrade."""
     figure = Figure("One log under NFKC, read by three nodes of two versions: one parks a record, and takes it after its upgrade")
-    claims = ("claim Zo\u00eb, owner 17\nat node 1", "claim U+1E030, owner 23\nat node 2", "claim U+0430, owner 5\nat node 3")
-    records = ("record 1: Zo\u00eb, 17\nkey Zo\u00eb", "record 2: U+1E030, 23\nkey U+0430", "record 3: U+0430, 5\nkey U+0430")
-    newer = ("Zo\u00eb is 17's", "U+1E030 is 23's", "U+0430 is taken")
+    asked = ("init, form NFKC\nat node 1", "claim Zo\u00eb, owner 17\nat node 1", "claim U+1E030, owner 23\nat node 2")
+    records = ("record 1\nform NFKC", "record 2: Zo\u00eb, 17\nkey Zo\u00eb", "record 3: U+1E030, 23\nkey U+0430")
+    kept = ("no names", "Zo\u00eb is 17's", "U+1E030 is 23's")
     for at in range(3):
-        figure.box(f"claim{at}", at + 0.15, 0, claims[at], "note")
+        figure.box(f"asked{at}", at + 0.15, 0, asked[at], "note")
         figure.box(f"record{at}", at + 0.15, 0.95, records[at])
-        for node in (1, 2):
-            figure.box(f"{node}.{at}", at + 0.15, 1.25 + 0.65 * node, f"node {node}, 15.0\n{newer[at]}")
-    for at, (text, kind) in enumerate((("Zo\u00eb is 17's", "state"), ("U+1E030 is parked", "parked"), ("U+0430 is taken", "state"))):
-        figure.box(f"3.{at}", at + 0.15, 3.2, f"node 3, 14.0\n{text}", kind)
-    figure.box("3.3", 3.15, 3.2, "node 3, 15.0\nU+1E030 is 23's")
+        for node, version in ((1, "15.0"), (2, "15.0"), (3, "14.0")):
+            parks = (node, at) == (3, 2)
+            figure.box(f"{node}.{at}", at + 0.15, 1.25 + 0.65 * node, f"node {node}, {version}\n{'U+1E030 is parked' if parks else kept[at]}",
+                       "parked" if parks else "state")
+    figure.box("3.3", 3.15, 3.2, "node 3, 14.0\nU+0430 is taken", "parked")
+    figure.box("3.4", 4.15, 3.2, "node 3, 15.0\nU+1E030 is 23's")
     for at in range(3):
-        figure.down(f"claim{at}", f"record{at}", "append", False)
+        figure.down(f"asked{at}", f"record{at}", "append", False)
         figure.read(f"record{at}", [f"{node}.{at}" for node in (1, 2, 3)])
     figure.across("record0", "record1", "the log")
     figure.across("record1", "record2", "the log")
-    figure.across("3.2", "3.3", "upgrade")
+    figure.across("3.2", "3.3", "claim\nU+0430")
+    figure.across("3.3", "3.4", "upgrade")
     return figure
 
 
