@@ -154,7 +154,7 @@ typedef struct npss_asked {
 } npss_asked;
 
 /* Closes the handle, and opens it on the version that the bytes of UnicodeData.txt and CompositionExclusions.txt
- * make. Where they make none it stays closed. Takes some 10 ms and 6 MB for the published files.
+ * make. Where they make none it stays closed. Takes 5 to 10 ms for the published files, and holds 3 MB.
  * DONE, DATA, EXCLUSIONS, TABLES, TOO_LARGE, MEMORY. */
 npss_answer npss_open(npss_handle *handle, const uint8_t *data, size_t data_length,
                       const uint8_t *exclusions, size_t exclusions_length);

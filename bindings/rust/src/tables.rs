@@ -95,8 +95,8 @@ pub(crate) fn filled(
 }
 
 impl Tables {
-    /// The version that the bytes of UnicodeData.txt and CompositionExclusions.txt make. Takes some 10 ms and 6 MB
-    /// for the published files.
+    /// The version that the bytes of UnicodeData.txt and CompositionExclusions.txt make. Takes 5 to 10 ms
+    /// for the published files, and holds 3 MB.
     ///
     /// # Errors
     ///
