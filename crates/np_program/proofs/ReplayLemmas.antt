@@ -7,6 +7,7 @@ use Rattle.std.specs.Prelude.{IfSome}
 use Rattle.np_code_points.specs.declared.forms.Form.{Form}
 use Rattle.np_versions.specs.Versions.{VersionData}
 use Rattle.np_schedules.specs.Events.{ScheduleData}
+use Rattle.np_schedules.specs.ScheduleFiles.{SaysSchedule, TakesMemory}
 use Rattle.np_world.specs.ReportTexts.{report_lines, text_of_report}
 use Rattle.np_world.specs.Reports.{NodeAtEnd, ReportData, index_at, node_at, node_report, nodes_of, replies_of}
 use Rattle.np_world.specs.Runs.{AreKeysUnder, HasOneRun, InTheRun, IsLast, setting_over, texts_in}
@@ -38,6 +39,11 @@ module _ {T : Type 0} (last : VersionData) (form : Form) where
       let index = indices 0 in
       let texts = strings 0 in
       (record { index = cc; strings = cc; keys = keys 0 }, nodes_told ms ns (λ i. indices (suc i)) (λ i. strings (suc i)) (λ i. keys (suc i)))
+
+-- what says a schedule has a line of the room and one of nodes
+pub schedule_takes_memory : (script : List ℕ) (schedule : ScheduleData) → SaysSchedule script schedule → TakesMemory script
+schedule_takes_memory script schedule says =
+    record { room = says.room; next = says.nodes; behind = says.events; lines = says.lines; size = schedule.room; says = says.room_says }
 
 -- the report of a replay over tables is the machine's run
 pub told_whole : {T : Type 0} (model : T → VersionData) (tables : List T) (form : Form) (schedule : ScheduleData) (report : ReportData T) (text : List ℕ)

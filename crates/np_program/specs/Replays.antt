@@ -9,7 +9,7 @@ use Rattle.np_schedules.specs.Events.{ScheduleData}
 use Rattle.np_world.specs.ReportTexts.{report_lines}
 use Rattle.np_world.specs.Reports.{NodeReport}
 use Rattle.np_world.specs.Runs.{AreKeysUnder, IsLast, texts_in}
-use Rattle.np_schedules.specs.ScheduleFiles.{IsFaultyLine, SaysSchedule}
+use Rattle.np_schedules.specs.ScheduleFiles.{IsFaultyLine, SaysSchedule, TakesMemory}
 use Rattle.np_world.specs.World.{IsRun, MachineNode, Setting, World, start}
 use Rattle.np_world.specs.declared.replies.Reply.{Reply}
 use Rattle.np_jobs.specs.Chains.{LacksOne, VersionReaders, WereBuilt}
@@ -65,9 +65,9 @@ pub record MakesReplay (form : Form) (readers : ReplayReaders) (is_yes : Bool) (
 
 -- ---- what is refused, in this order
 
--- a first line that can't stand; or memory ran out
+-- a first line that can't stand; or memory ran out, but only where a line takes some
 abbrev pub LacksLine : List ℕ → ℕ → ReplayFault → Type 0
-LacksLine script count fault = Wraps Line (IsFaultyLine script count) fault ⊎ (fault ≡ Memory)
+LacksLine script count fault = Wraps Line (IsFaultyLine script count) fault ⊎ ((fault ≡ Memory) × TakesMemory script)
 
 -- the schedule's file was not read whole; or it was, and is refused
 abbrev pub LacksSchedule : Stream → ℕ → ReplayFault → Type 0

@@ -14,7 +14,7 @@ use Rattle.np_schedules.specs.Schedules.{IsStandable, NamesVersion}
 use Rattle.np_schedules.specs.declared.reading.ScheduleFault.{ScheduleFault}
 use Rattle.np_schedules.specs.declared.reading.ScheduleFault.TheVariants.{Line, Memory}
 use Rattle.np_schedules.specs.inside.LineReading.{IsNoneOf}
-use Rattle.np_schedules.specs.inside.ScheduleReading.{AddsEvent, AddsNone, NextSays, NextRefuses, HasTaken, NamesUnfit}
+use Rattle.np_schedules.specs.inside.ScheduleReading.{AddsEvent, AddsNone, NamesNext, NextSays, NextRefuses, HasTaken, NamesUnfit}
 use Rattle.np_schedules.proofs.LineLemmas.{one_value, starts_are}
 
 abbrev pub EventHere : ℕ → ℕ → Numbered → Event → Type 0
@@ -122,7 +122,7 @@ ends_early bytes versions start walk taken number h all stand early same here = 
 }
 
 -- The line of the room.
-pub room_refused : (bytes : List ℕ) (versions : ℕ) (start : Walk) (fault : ScheduleFault) → Begins bytes start → NextRefuses IsRoomLine start fault → NamesLine bytes versions fault
+pub room_refused : (bytes : List ℕ) (versions : ℕ) (start : Walk) (fault : ScheduleFault) → Begins bytes start → NamesNext IsRoomLine start fault → NamesLine bytes versions fault
 room_refused bytes versions start (Line number) h refused =
     ⊎_elim
     (λ falls. inl (record {
@@ -136,7 +136,7 @@ room_refused bytes versions start (Line number) h refused =
     }))
     (λ ends. inr (ends_early bytes versions start start [] number h ends.none tt (omega arith) refl ends.here))
     refused
-room_refused bytes versions start Memory h refused = tt
+room_refused bytes versions start Memory h refused = absurd refused
 
 -- The line of the nodes.
 pub starts_refused : (bytes : List ℕ) (versions : ℕ) (start walk : Walk) (room : ℕ) (fault : ScheduleFault) → Begins bytes start → NextSays IsRoomLine start room walk → NextRefuses (IsNodesLine versions) walk fault → NamesLine bytes versions fault
@@ -153,7 +153,14 @@ starts_refused bytes versions start walk room (Line number) h said refused =
     }))
     (λ ends. inr (ends_early bytes versions start walk (said.line ∷ []) number h (said.left ∙ ap (λ ls. said.line ∷ ls) ends.none) (room, said.is) (omega arith) said.total ends.here))
     refused
-starts_refused bytes versions start walk room Memory h said refused = tt
+starts_refused bytes versions start walk room Memory h said refused = record {
+  room = said.line;
+  next = refused.line;
+  behind = refused.behind;
+  lines = subst (AreDataLines bytes) (said.left ∙ ap (λ ls. said.line ∷ ls) refused.left) h.data_lines;
+  size = room;
+  says = said.is;
+}
 
 -- The lines of the events.
 pub events_refused : (bytes : List ℕ) (versions : ℕ) (start walk rest : Walk) (room : ℕ) (starts : List ℕ) (fault : ScheduleFault) → Begins bytes start → NextSays IsRoomLine start room walk → NextSays (IsNodesLine versions) walk starts rest → NamesUnfit versions (length starts) rest.left fault → NamesLine bytes versions fault
@@ -169,7 +176,14 @@ events_refused bytes versions start walk rest room starts (Line number) h first 
           u.falls k.2 (subst (λ ss. AreEventLines versions (length ss) (u.before ++ u.unfit ∷ []) k.2) same k.5);
       here = u.here;
     })
-events_refused bytes versions start walk rest room starts Memory h first second u = tt
+events_refused bytes versions start walk rest room starts Memory h first second u = record {
+  room = first.line;
+  next = second.line;
+  behind = rest.left;
+  lines = subst (AreDataLines bytes) (first.left ∙ ap (λ ls. first.line ∷ ls) second.left) h.data_lines;
+  size = room;
+  says = first.is;
+}
 
 -- A schedule was read.
 pub says_schedule : (bytes : List ℕ) (start walk rest : Walk) (schedule : ScheduleData) → Begins bytes start → NextSays IsRoomLine start schedule.room walk → NextSays (IsNodesLine schedule.versions) walk schedule.starts rest → AreEventLines schedule.versions (length schedule.starts) rest.left schedule.events → SaysSchedule bytes schedule

@@ -53,7 +53,16 @@ pub record EndsEarly (bytes : List ℕ) (versions line : ℕ) : Type 0 where
 abbrev pub IsFaultyLine : List ℕ → ℕ → ℕ → Type 0
 IsFaultyLine bytes versions line = IsUnfit bytes versions line ⊎ EndsEarly bytes versions line
 
--- a fault names the first line that can't stand; want of memory may come in place of any answer
+-- a line of the room comes first, which takes no memory, and a line behind it, which may
+pub record TakesMemory (bytes : List ℕ) : Type 0 where
+  pub room : Numbered
+  pub next : Numbered
+  pub behind : List Numbered
+  pub lines : AreDataLines bytes (room ∷ next ∷ behind)
+  pub size : ℕ
+  pub says : IsRoomLine room.text size
+
+-- a fault names the first line that can't stand; want of memory comes in place of any answer, but only where a line takes some
 abbrev pub NamesLine : List ℕ → ℕ → ScheduleFault → Type 0
 NamesLine bytes versions (Line line) = IsFaultyLine bytes versions line
-NamesLine bytes versions Memory = Unit {0}
+NamesLine bytes versions Memory = TakesMemory bytes

@@ -4,9 +4,9 @@ ghost use Rattle.np_code_points.specs.Lines.{numbered};
 ghost use Rattle.np_schedules.specs.ScheduleFiles.{AreEventLines, NamesLine, SaysSchedule};
 ghost use Rattle.np_schedules.specs.ScheduleLines.{IsEventLine, IsNodesLine, IsRoomLine};
 ghost use Rattle.np_schedules.specs.EventLines.{event_of};
-ghost use Rattle.np_schedules.specs.inside.ScheduleReading.{fault_of, AddsEvent, AddsNone, Misses, NamesUnfit, NextRefuses, NextSays};
+ghost use Rattle.np_schedules.specs.inside.ScheduleReading.{fault_of, AddsEvent, AddsNone, Misses, NamesNext, NamesUnfit, NextRefuses, NextSays};
 
-mod arms;
+mod arguments;
 mod faults;
 mod lines;
 mod numbers;
@@ -85,7 +85,7 @@ fn next_line<'a>(lines: &mut DataLines<'a>) -> Result<DataLine<'a>, ScheduleFaul
 fn read_room(lines: &mut DataLines<'_>) -> Result<u32, ScheduleFault>
     requires { lines.old.total + 1 < 2 ^ 64 }
     ensures room { IfOk result (λ room. NextSays IsRoomLine lines.old room lines.new) }
-    ensures refused { IfErr result (NextRefuses IsRoomLine lines.old) }
+    ensures refused { IfErr result (NamesNext IsRoomLine lines.old) }
 {
     let line = next_line(lines)?;
     match room_in(line.text) {
@@ -167,7 +167,8 @@ fn read_events(
 ///
 /// # Errors
 ///
-/// `Line` at the first line that can't stand, `Memory` where memory ran out.
+/// `Line` at the first line that can't stand, `Memory` where memory ran out, which is never before the line
+/// behind that of the room.
 pub fn read_schedule(
     alloc: Global,
     bytes: &[u8],

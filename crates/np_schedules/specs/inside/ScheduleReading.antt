@@ -40,9 +40,21 @@ pub record WalkEnds (walk : Walk) (number : ℕ) : Type 0 where
   pub none : walk.left ≡ []
   pub here : number ≡ walk.total + 1
 
+-- a line that takes no memory is named
+abbrev pub NamesNext : {A : Type 0} → (List ℕ → A → Type 0) → Walk → ScheduleFault → Type 0
+NamesNext says walk (Line line) = NextFalls says walk line ⊎ WalkEnds walk line
+NamesNext says walk Memory = ⊥
+
+-- there is a next line
+pub record HasNext (walk : Walk) : Type 0 where
+  pub line : Numbered
+  pub behind : List Numbered
+  pub left : walk.left ≡ line ∷ behind
+
+-- one that takes memory is named, or memory ran out for it
 abbrev pub NextRefuses : {A : Type 0} → (List ℕ → A → Type 0) → Walk → ScheduleFault → Type 0
 NextRefuses says walk (Line line) = NextFalls says walk line ⊎ WalkEnds walk line
-NextRefuses says walk Memory = Unit {0}
+NextRefuses says walk Memory = HasNext walk
 
 -- a line says one more event, and there may be so many
 pub record AddsEvent (versions nodes : ℕ) (old : List Event) (text : List ℕ) (new : List Event) : Type 0 where

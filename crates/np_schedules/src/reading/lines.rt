@@ -8,7 +8,7 @@ ghost use Rattle.np_schedules.specs.inside.LineValues.{below_value, event_value,
 ghost use Rattle.np_schedules.specs.EventLines.{event_of};
 
 use crate::events::EventLine;
-use crate::reading::arms::{Limits, event_at};
+use crate::reading::arguments::{Limits, event_at};
 pub(crate) use crate::reading::faults::LineFault;
 use crate::reading::numbers::{number_below, number_in};
 use crate::reading::verbs::Verb;

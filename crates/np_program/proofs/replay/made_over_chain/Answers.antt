@@ -3,6 +3,7 @@ use Rattle.std.proofs.lemmas.List.{length-map}
 use Rattle.std.proofs.lemmas.Result.{err_from_is_err_and}
 use Rattle.np_jobs.specs.Streams.{stream_of}
 use Rattle.np_program.specs.Replays.{LacksSchedule, WasScheduled}
+use Rattle.np_program.proofs.ReplayLemmas.{schedule_takes_memory}
 use Rattle.np_program.proofs.replay.made_over_chain.Goals as goal
 
 pub returns-in_err-schedule-clause-refused : goal.returns-in_err-schedule-clause-refused
@@ -15,7 +16,7 @@ returns-in_err-schedule-clause-refused g c =
 pub returns-clause-refused : goal.returns-clause-refused
 returns-clause-refused g c =
     let scheduled = c.in_ok-schedule.ensures.scheduled in
-    inr (scheduled.script, scheduled.read, inr refl)
+    inr (scheduled.script, scheduled.read, inr (refl, schedule_takes_memory scheduled.script c.in_ok-schedule.schedule scheduled.says))
 
 pub report_of-requires-clause-versions : goal.report_of-requires-clause-versions
 report_of-requires-clause-versions g c = c.in_ok-schedule.ensures.scheduled.over ∙ c.len.ensures.count

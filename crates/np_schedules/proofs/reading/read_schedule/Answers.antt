@@ -4,7 +4,7 @@ use Rattle.np_schedules.specs.ScheduleFiles.{AreEventLines, NamesLine, SaysSched
 use Rattle.np_schedules.specs.ScheduleLines.{IsNodesLine, IsRoomLine}
 use Rattle.np_schedules.specs.EventLines.{event_of}
 use Rattle.np_schedules.specs.inside.Rust.{schedule_data}
-use Rattle.np_schedules.specs.inside.ScheduleReading.{NextRefuses, NamesUnfit}
+use Rattle.np_schedules.specs.inside.ScheduleReading.{NamesNext, NextRefuses, NamesUnfit}
 use Rattle.np_schedules.proofs.ScheduleLemmas.{begins, few_in_total, room_refused, starts_refused, events_refused, says_schedule, is_standable}
 use Rattle.np_schedules.proofs.reading.read_schedule.Goals as goal
 
@@ -16,8 +16,8 @@ read_room-requires c =
 pub returns-in_err-room-clause-refused : goal.returns-in_err-room-clause-refused
 returns-in_err-room-clause-refused c =
     let start = begins c.args.bytes.now c.new-lines.result c.lines.ensures c.new-lines.ensures.lines c.new-lines.ensures.total in
-    let here : IfErr c.from_residual.result (NextRefuses IsRoomLine c.new-lines.result) = search rules in
-    IfErr-weaker c.from_residual.result (NextRefuses IsRoomLine c.new-lines.result) (NamesLine c.args.bytes.now c.args.versions)
+    let here : IfErr c.from_residual.result (NamesNext IsRoomLine c.new-lines.result) = search rules in
+    IfErr-weaker c.from_residual.result (NamesNext IsRoomLine c.new-lines.result) (NamesLine c.args.bytes.now c.args.versions)
     (λ e. room_refused c.args.bytes.now c.args.versions c.new-lines.result e start)
     here
 
