@@ -6,9 +6,8 @@ use Rattle.np_code_points.specs.declared.forms.Form.{Form}
 use Rattle.np_forms.specs.Assigned.{IsAssigned, IsFirstUnassigned}
 use Rattle.np_forms.specs.Forms.{IsEquivalent}
 use Rattle.np_versions.specs.Versions.{VersionData}
-use Rattle.np_jobs.specs.Ends.{JobEnds}
 use Rattle.np_jobs.specs.Streams.{Stream}
-use Rattle.np_jobs.specs.Texts.{TextReaders, MakesOfText, RefusesText}
+use Rattle.np_jobs.specs.Texts.{TextEnds, TextReaders}
 use Rattle.np_jobs.specs.declared.faults.TextFault.{TextFault}
 use Rattle.np_jobs.specs.declared.faults.TextFault.TheVariants.{TwoLinesWanted, FirstUnassigned, SecondUnassigned, Memory}
 
@@ -55,5 +54,4 @@ LacksCompareOutput v text fault =
 
 -- `compare`: whether the two lines of the input are equivalent
 abbrev pub CompareEnds : Form → TextReaders → Stream → Stream → ℕ → Type 0
-CompareEnds form readers output error status =
-    JobEnds (MakesOfText (IsCompareOutput form) readers) (RefusesText LacksCompareOutput readers) output error status
+CompareEnds form readers output error status = TextEnds (IsCompareOutput form) LacksCompareOutput readers output error status

@@ -4,9 +4,8 @@ use Rattle.np_code_points.specs.declared.forms.Form.{Form}
 use Rattle.np_forms.specs.Assigned.{IsAssigned, IsFirstUnassigned}
 use Rattle.np_forms.specs.Forms.{IsNormalForm}
 use Rattle.np_versions.specs.Versions.{VersionData}
-use Rattle.np_jobs.specs.Ends.{JobEnds}
 use Rattle.np_jobs.specs.Streams.{Stream}
-use Rattle.np_jobs.specs.Texts.{TextReaders, MakesOfText, RefusesText}
+use Rattle.np_jobs.specs.Texts.{TextEnds, TextReaders}
 use Rattle.np_jobs.specs.declared.faults.TextFault.{TextFault}
 use Rattle.np_jobs.specs.declared.faults.TextFault.TheVariants.{Unassigned, Memory}
 
@@ -26,4 +25,4 @@ LacksKeyOutput v text fault =
 
 -- `key`: the stabilized string of the input, or why there is none
 abbrev pub KeyEnds : Form → TextReaders → Stream → Stream → ℕ → Type 0
-KeyEnds form readers output error status = JobEnds (MakesOfText (IsKeyOutput form) readers) (RefusesText LacksKeyOutput readers) output error status
+KeyEnds form readers output error status = TextEnds (IsKeyOutput form) LacksKeyOutput readers output error status

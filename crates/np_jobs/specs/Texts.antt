@@ -2,6 +2,7 @@
 use Rattle.std.specs.Prelude.{◌≡◌, ◌⊎◌, ℕ, Bool, List, IsUtf8}
 use Rattle.np_code_points.specs.Text.{IsLongestValidPrefix}
 use Rattle.np_versions.specs.Versions.{VersionData}
+use Rattle.np_jobs.specs.Ends.{JobEnds}
 use Rattle.np_jobs.specs.Streams.{Stream, IsUntouched, WasRead, WasNotRead}
 use Rattle.np_jobs.specs.Versions.{WasBuilt, IsVersionFault}
 use Rattle.np_jobs.specs.Wraps.{Wraps}
@@ -48,3 +49,8 @@ abbrev pub RefusesText : (VersionData → List ℕ → TextFault → Type 0) →
 RefusesText Refuses readers fault =
     LacksVersion readers fault
     ⊎ ((v : VersionData) × WasBuilt readers.data_file readers.exclusions_file v × Wraps Text (IsTextFault (Refuses v) readers.input) fault)
+
+-- a job on one text: what it makes is written, or why it is refused is told
+abbrev pub TextEnds : (VersionData → List ℕ → Bool → List ℕ → Type 0) → (VersionData → List ℕ → TextFault → Type 0)
+    → TextReaders → Stream → Stream → ℕ → Type 0
+TextEnds Makes Refuses readers output error status = JobEnds (MakesOfText Makes readers) (RefusesText Refuses readers) output error status

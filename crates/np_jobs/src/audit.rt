@@ -1,11 +1,11 @@
 //! The command `audit`: what a later version breaks of an earlier one.
 ghost use Rattle.std.specs.Prelude.{◌≡◌, ◌∷◌, [], IfOk, IfErr, string_bytes};
-ghost use Rattle.np_jobs.specs.Audits.{AuditEnds, IsAudit, MakesAudit, RefusesAudit, audit_text};
+ghost use Rattle.np_jobs.specs.Audits.{IsAudit, MakesAudit, RefusesAudit, audit_text};
 ghost use Rattle.np_jobs.specs.Chains.{readers_of};
 ghost use Rattle.np_jobs.specs.Streams.{stream_of};
 ghost use Rattle.np_jobs.specs.inside.AuditSteps.{LacksAgainst, MakesAgainst};
 
-use crate::ending::{Made, finish};
+use crate::ending::Made;
 use crate::faults::JobFault;
 use crate::lines::write_break;
 use crate::versions::read_version;
@@ -14,7 +14,7 @@ use np_code_points::Memory;
 use np_code_points::watched::Watched;
 use np_versions::Version;
 use std::alloc::Global;
-use std::io::{Read, Write};
+use std::io::Read;
 
 /// The lines of the breaks.
 fn lines_of(alloc: Global, breaks: &[Break]) -> Result<String, Memory>
@@ -72,7 +72,7 @@ fn made_against<F: Read>(
 }
 
 /// Reads both versions, and audits the new one against the old one.
-fn made_of_versions<F: Read>(
+pub(super) fn made_of_versions<F: Read>(
     alloc: Global,
     old_data_file: &mut Watched<F>,
     old_exclusions_file: &mut Watched<F>,
@@ -92,31 +92,4 @@ fn made_of_versions<F: Read>(
         Ok(old) => made_against(alloc, &old, new_data_file, new_exclusions_file),
         Err(fault) => Err(JobFault::Version { fault }),
     }
-}
-
-/// Writes what the new version breaks of the old one, a line for each code point that has a break,
-/// or `extends`. Answers the status, 0 where the new version extends the old one and 1 where it
-/// does not; a refusal is told in a line on `error`, and leaves the output as it was.
-pub fn audit_job<F: Read, O: Write, E: Write>(
-    alloc: Global,
-    old_data_file: &mut Watched<F>,
-    old_exclusions_file: &mut Watched<F>,
-    new_data_file: &mut Watched<F>,
-    new_exclusions_file: &mut Watched<F>,
-    output: &mut Watched<O>,
-    error: &mut Watched<E>,
-) -> u8
-    ensures { AuditEnds (readers_of F.remaining
-        (old_data_file.old ∷ old_exclusions_file.old ∷ new_data_file.old ∷ new_exclusions_file.old ∷ [])
-        (old_data_file.new ∷ old_exclusions_file.new ∷ new_data_file.new ∷ new_exclusions_file.new ∷ [])) (stream_of O.contents output.old output.new)
-        (stream_of E.contents error.old error.new) result }
-{
-    let made = made_of_versions(
-        alloc,
-        old_data_file,
-        old_exclusions_file,
-        new_data_file,
-        new_exclusions_file,
-    );
-    finish(alloc, output, error, made)
 }

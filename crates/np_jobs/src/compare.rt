@@ -1,21 +1,15 @@
 //! The command `compare`: whether two strings are equivalent.
 ghost use Rattle.std.specs.Prelude.{◌≡◌, IfNone, IfOk, IfErr, IfSome, string_bytes};
 ghost use Rattle.np_code_points.specs.Lines.{HasNo};
-ghost use Rattle.np_jobs.specs.Comparisons.{AreTwoLines, CompareEnds, IsCompareOutput, IsComparison, LacksCompareOutput, LacksComparison, answer_text};
-ghost use Rattle.np_jobs.specs.Streams.{stream_of};
+ghost use Rattle.np_jobs.specs.Comparisons.{AreTwoLines, IsCompareOutput, IsComparison, LacksCompareOutput, LacksComparison, answer_text};
 
-use crate::ending::{Made, finish};
+use crate::ending::Made;
 use crate::faults::TextFault;
-use crate::streams::Streams;
-use crate::texts::{TextMaker, made_of_text};
-use crate::version_jobs::VersionJob;
-use crate::versions::JobTable;
+use crate::texts::TextMaker;
 use np_code_points::Form;
-use np_code_points::watched::Watched;
 use np_forms::{equivalent, first_unassigned_char};
 use np_versions::NormTable;
 use std::alloc::{AllocError, Global};
-use std::io::{Read, Write};
 
 /// The string before the first line end, and what stands behind it, without a line end at its very
 /// end; none where there is no line end.
@@ -94,7 +88,7 @@ impl TextMaker for CompareJob {
 
     ghost refuses = { λ job. LacksCompareOutput };
 
-    fn make<T: NormTable>(
+    fn make_output<T: NormTable>(
         &self,
         alloc: Global,
         table: &T,
@@ -102,60 +96,4 @@ impl TextMaker for CompareJob {
     ) -> Result<Made, TextFault> {
         make_comparison(alloc, self.form, table, text.as_str())
     }
-}
-
-impl VersionJob for CompareJob {
-    ghost Ends = { λ job. CompareEnds job.form };
-
-    fn run<F: Read, I: Read, O: Write, E: Write>(
-        &self,
-        alloc: Global,
-        data_file: &mut Watched<F>,
-        exclusions_file: &mut Watched<F>,
-        streams: &mut Streams<I, O, E>,
-    ) -> u8 {
-        let Streams {
-            input,
-            output,
-            error,
-        } = streams;
-        compare_job(
-            alloc,
-            self.form,
-            data_file,
-            exclusions_file,
-            input,
-            output,
-            error,
-        )
-    }
-}
-
-/// Writes whether the two strings of the input are equivalent, compatibly for NFKD and NFKC: the
-/// first ends before the first line end, the second is the rest without one line end at its very
-/// end. Answers the status, 0 for `equal` and 1 for `different`; a refusal is told in a line on
-/// `error`, and leaves the output as it was.
-pub fn compare_job<F: Read, I: Read, O: Write, E: Write>(
-    alloc: Global,
-    form: Form,
-    data_file: &mut Watched<F>,
-    exclusions_file: &mut Watched<F>,
-    input: &mut Watched<I>,
-    output: &mut Watched<O>,
-    error: &mut Watched<E>,
-) -> u8
-    ensures { CompareEnds form (record {
-      data_file = stream_of F.remaining data_file.old data_file.new;
-      exclusions_file = stream_of F.remaining exclusions_file.old exclusions_file.new;
-      input = stream_of I.remaining input.old input.new;
-    }) (stream_of O.contents output.old output.new) (stream_of E.contents error.old error.new) result }
-{
-    let made = made_of_text::<CompareJob, JobTable, F, I>(
-        alloc,
-        &CompareJob { form },
-        data_file,
-        exclusions_file,
-        input,
-    );
-    finish(alloc, output, error, made)
 }

@@ -4,24 +4,24 @@ ghost use Rattle.np_chain.specs.Extension.{Extends};
 ghost use Rattle.np_code_points.specs.Watched.{has_failed};
 ghost use Rattle.np_jobs.specs.Chains.{LacksOne, WereBuilt, readers_of};
 ghost use Rattle.np_jobs.specs.Keys.{LacksKeyOutput};
-ghost use Rattle.np_jobs.specs.KeysUnder.{IsKeyUnder, KeyUnderEnds, MakesUnder, RefusesPair, RefusesUnder, SaysOwn};
+ghost use Rattle.np_jobs.specs.KeysUnder.{IsKeyUnder, MakesUnder, RefusesPair, RefusesUnder, SaysOwn};
 ghost use Rattle.np_jobs.specs.Streams.{stream_of};
 ghost use Rattle.np_jobs.specs.Texts.{IsMadeOfText, IsTextFault};
 ghost use Rattle.np_jobs.specs.inside.UnderSteps.{MakesOfPair};
 
-use crate::ending::{Made, finish};
+use crate::ending::Made;
 use crate::faults::{JobFault, TextFault, VersionFault};
 use crate::key::key_of;
 use crate::lines::unassigned_text;
 use crate::texts::{read_input, text_in};
-use crate::versions::{JobTable, MadeTable, read_table_of, read_version};
+use crate::versions::{MadeTable, read_table_of, read_version};
 use np_chain::extends;
 use np_code_points::watched::Watched;
 use np_code_points::{Form, Memory};
 use np_forms::first_unassigned_in_version;
 use np_versions::{NormTable, Version};
 use std::alloc::Global;
-use std::io::{Read, Write};
+use std::io::Read;
 
 /// What is said of a key that is its own form under a version: which code point of it that version
 /// lacks, if it lacks one.
@@ -116,7 +116,7 @@ fn read_both<T: MadeTable, F: Read>(
 }
 
 /// Reads both versions, and answers the input.
-fn made_of_versions<T: MadeTable, F: Read, I: Read>(
+pub(super) fn made_of_versions<T: MadeTable, F: Read, I: Read>(
     alloc: Global,
     form: Form,
     old_data_file: &mut Watched<F>,
@@ -147,40 +147,4 @@ fn made_of_versions<T: MadeTable, F: Read, I: Read>(
         exclusions_file,
     )?;
     made_of_pair(alloc, form, &old, &table, input)
-}
-
-/// Makes the stabilized string of the input, a text, under the version of the last two files, and
-/// writes a line on it under the earlier version of the first two. The line is `own form`, since
-/// there it is its own normal form. Where that version does not assign each code point of it, the
-/// line also tells the first that it lacks, with its byte place in the stabilized string, from 0.
-/// Answers the status: 1 where the later version does not extend the earlier one, and then the input
-/// is not read. A refusal is told in a line on `error`, and leaves the output as it was.
-pub fn key_under_job<F: Read, I: Read, O: Write, E: Write>(
-    alloc: Global,
-    form: Form,
-    old_data_file: &mut Watched<F>,
-    old_exclusions_file: &mut Watched<F>,
-    data_file: &mut Watched<F>,
-    exclusions_file: &mut Watched<F>,
-    input: &mut Watched<I>,
-    output: &mut Watched<O>,
-    error: &mut Watched<E>,
-) -> u8
-    ensures { KeyUnderEnds form (record {
-      versions = readers_of F.remaining
-          (old_data_file.old ∷ old_exclusions_file.old ∷ data_file.old ∷ exclusions_file.old ∷ [])
-          (old_data_file.new ∷ old_exclusions_file.new ∷ data_file.new ∷ exclusions_file.new ∷ []);
-      input = stream_of I.remaining input.old input.new;
-    }) (stream_of O.contents output.old output.new) (stream_of E.contents error.old error.new) result }
-{
-    let made = made_of_versions::<JobTable, F, I>(
-        alloc,
-        form,
-        old_data_file,
-        old_exclusions_file,
-        data_file,
-        exclusions_file,
-        input,
-    );
-    finish(alloc, output, error, made)
 }

@@ -3,12 +3,11 @@ ghost use Rattle.std.specs.Prelude.{◌≡◌, ℕ, Ok, OnOk, IfErr};
 ghost use Rattle.np_jobs.specs.NormalForms.{IsStopped, NormalizeEnds, WasRun, told_as};
 ghost use Rattle.np_jobs.specs.Streams.{stream_of};
 
-use crate::ending::refuse;
 use crate::faults::{JobFault, TextFault};
-use crate::statuses::DONE;
+use crate::jobs::normalize_job;
 use crate::streams::Streams;
 use crate::version_jobs::VersionJob;
-use crate::versions::{JobTable, MadeTable, read_table_of};
+use crate::versions::{MadeTable, read_table_of};
 use np_code_points::Form;
 use np_code_points::input::InputFault;
 use np_code_points::watched::Watched;
@@ -35,7 +34,7 @@ fn told(fault: RunFault) -> JobFault
 }
 
 /// Reads the two files of a version, and writes the normal form of the input.
-fn normalized<T: MadeTable, F: Read, I: Read, O: Write>(
+pub(super) fn normalized<T: MadeTable, F: Read, I: Read, O: Write>(
     alloc: Global,
     form: Form,
     data_file: &mut Watched<F>,
@@ -60,32 +59,6 @@ fn normalized<T: MadeTable, F: Read, I: Read, O: Write>(
     match run(alloc, &table, form, input, output) {
         Ok(_) => Ok(()),
         Err(fault) => Err(told(fault)),
-    }
-}
-
-/// Writes the normal form of the input, a text of at most 4,294,967,295 bytes, to the output as it
-/// is read. Unassigned code points pass as starters without a mapping. Answers the status; a
-/// refusal is told in a line on `error`. After a fault of a file the output is as it was; after one
-/// of the input or the output some first bytes of the form of what was read are written.
-pub fn normalize_job<F: Read, I: Read, O: Write, E: Write>(
-    alloc: Global,
-    form: Form,
-    data_file: &mut Watched<F>,
-    exclusions_file: &mut Watched<F>,
-    input: &mut Watched<I>,
-    output: &mut Watched<O>,
-    error: &mut Watched<E>,
-) -> u8
-    ensures { NormalizeEnds form (record {
-      data_file = stream_of F.remaining data_file.old data_file.new;
-      exclusions_file = stream_of F.remaining exclusions_file.old exclusions_file.new;
-      input = stream_of I.remaining input.old input.new;
-    }) (stream_of O.contents output.old output.new) (stream_of E.contents error.old error.new) result }
-{
-    error.clear();
-    match normalized::<JobTable, F, I, O>(alloc, form, data_file, exclusions_file, input, output) {
-        Ok(()) => DONE,
-        Err(fault) => refuse(alloc, error, &fault),
     }
 }
 

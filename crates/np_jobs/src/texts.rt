@@ -2,29 +2,36 @@
 //! answered.
 ghost use Rattle.std.specs.Prelude.{◌≡◌, ℕ, Bool, List, IfOk, IfErr, IsUtf8, string_bytes};
 ghost use Rattle.np_jobs.specs.Streams.{WasNotRead, WasRead, stream_of};
-ghost use Rattle.np_jobs.specs.Texts.{IsMadeOfText, IsNotUtf8, IsTextFault, MakesOfText, RefusesText};
+ghost use Rattle.np_jobs.specs.Texts.{IsMadeOfText, IsNotUtf8, IsTextFault, MakesOfText, RefusesText, TextEnds};
 ghost use Rattle.np_jobs.specs.Wraps.{Wraps};
 ghost use Rattle.np_jobs.specs.declared.faults.TextFault.{TextFault};
 ghost use Rattle.np_versions.specs.Versions.{VersionData};
 
-use crate::ending::Made;
+use crate::ending::{Made, finish};
 use crate::faults::{JobFault, TextFault};
-use crate::versions::{MadeTable, read_table_of};
+use crate::streams::Streams;
+use crate::version_jobs::VersionJob;
+use crate::versions::{JobTable, MadeTable, read_table_of};
 use np_code_points::input::read_whole;
 use np_code_points::text::text_of;
 use np_code_points::watched::Watched;
 use np_versions::NormTable;
 use std::alloc::Global;
-use std::io::Read;
+use std::io::{Read, Write};
 
 /// What a job makes of one text under a table: what is asked of it, as a value.
-pub(crate) trait TextMaker {
+pub trait TextMaker {
     ghost makes: { Self → VersionData → List ℕ → Bool → List ℕ → Type 0 };
 
     ghost refuses: { Self → VersionData → List ℕ → TextFault → Type 0 };
 
     /// What is made of a text, which is given up.
-    fn make<T: NormTable>(&self, alloc: Global, table: &T, text: String) -> Result<Made, TextFault>
+    fn make_output<T: NormTable>(
+        &self,
+        alloc: Global,
+        table: &T,
+        text: String,
+    ) -> Result<Made, TextFault>
         ensures made { IfOk result (λ m. makes self.now (T.model table.now) (string_bytes text) m.is_yes (string_bytes m.text)) }
         ensures refused { IfErr result (refuses self.now (T.model table.now) (string_bytes text)) };
 }
@@ -56,7 +63,7 @@ pub(super) fn text_in(bytes: Vec<u8>) -> Result<String, TextFault>
 }
 
 /// Reads the input, and makes of it what the job makes under the table.
-fn made_under<M: TextMaker, T: NormTable, I: Read>(
+fn made_of_input<M: TextMaker, T: NormTable, I: Read>(
     alloc: Global,
     maker: &M,
     table: &T,
@@ -68,7 +75,7 @@ fn made_under<M: TextMaker, T: NormTable, I: Read>(
 {
     let bytes = read_input(alloc, input)?;
     let text = text_in(bytes)?;
-    maker.make(alloc, table, text)
+    maker.make_output(alloc, table, text)
 }
 
 /// Reads the two files of a version and the input, and makes of it what the job makes.
@@ -77,7 +84,7 @@ fn made_under<M: TextMaker, T: NormTable, I: Read>(
 ///
 /// `Version` where there is no version, and then the input is not looked at; else `Text` where the
 /// input was not read whole, is no UTF-8, or is not answered by the job.
-pub(crate) fn made_of_text<M: TextMaker, T: MadeTable, F: Read, I: Read>(
+pub(crate) fn made_of_files<M: TextMaker, T: MadeTable, F: Read, I: Read>(
     alloc: Global,
     maker: &M,
     data_file: &mut Watched<F>,
@@ -97,5 +104,28 @@ pub(crate) fn made_of_text<M: TextMaker, T: MadeTable, F: Read, I: Read>(
 {
     input.clear();
     let table: T = read_table_of(alloc, 0, data_file, exclusions_file)?;
-    Ok(made_under(alloc, maker, &table, input)?)
+    Ok(made_of_input(alloc, maker, &table, input)?)
+}
+
+/// A job on one text is one over the two files of a version and an input.
+impl<M: TextMaker> VersionJob for M {
+    ghost Ends = { λ job. TextEnds (M.makes job) (M.refuses job) };
+
+    fn run<F: Read, I: Read, O: Write, E: Write>(
+        &self,
+        alloc: Global,
+        data_file: &mut Watched<F>,
+        exclusions_file: &mut Watched<F>,
+        streams: &mut Streams<I, O, E>,
+    ) -> u8 {
+        let input = &mut streams.input;
+        let made = made_of_files::<M, JobTable, F, I>(
+            alloc,
+            self,
+            data_file,
+            exclusions_file,
+            input,
+        );
+        finish(alloc, &mut streams.output, &mut streams.error, made)
+    }
 }

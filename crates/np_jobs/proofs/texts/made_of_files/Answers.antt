@@ -3,15 +3,15 @@ use Rattle.std.proofs.lemmas.Result.{err_from_is_err_and}
 use Rattle.np_jobs.specs.Streams.{Stream}
 use Rattle.np_jobs.specs.Texts.{IsMadeOfText, IsTextFault}
 use Rattle.np_jobs.proofs.EndLemmas.{same_stream, untouched}
-use Rattle.np_jobs.proofs.texts.made_of_text.Goals as goal
+use Rattle.np_jobs.proofs.texts.made_of_files.Goals as goal
 
-pub returns-in_err-made_under-clause-refused : goal.returns-in_err-made_under-clause-refused
-returns-in_err-made_under-clause-refused g c =
-    let fault = c.in_err-made_under.field-0.0 in
+pub returns-in_err-made_of_input-clause-refused : goal.returns-in_err-made_of_input-clause-refused
+returns-in_err-made_of_input-clause-refused g c =
+    let fault = c.in_err-made_of_input.field-0.0 in
     let table = g.T.NormTable.model c.in_ok-table.table in
-    let input = same_stream g.I.Read.remaining c.clear.new.self c.args.input.now c.made_under.new.input c.clear.ensures.device in
-    let refused = subst (λ (s : Stream). IsTextFault (g.M.TextMaker.refuses c.args.maker.now table) s fault) input c.in_err-made_under.ensures.refused in
-    let p = err_from_is_err_and c.from_residual-in_err-made_under.result c.from_residual-in_err-made_under.ensures.1 in
+    let input = same_stream g.I.Read.remaining c.clear.new.self c.args.input.now c.made_of_input.new.input c.clear.ensures.device in
+    let refused = subst (λ (s : Stream). IsTextFault (g.M.TextMaker.refuses c.args.maker.now table) s fault) input c.in_err-made_of_input.ensures.refused in
+    let p = err_from_is_err_and c.from_residual-in_err-made_of_input.result c.from_residual-in_err-made_of_input.ensures.1 in
     rw (p.1, p.2) (inr (table, c.in_ok-table.ensures.built, (fault, refl, refused)))
 
 pub returns-in_err-table-clause-refused : goal.returns-in_err-table-clause-refused
@@ -22,11 +22,11 @@ returns-in_err-table-clause-refused g c =
 
 pub returns-clause-made : goal.returns-clause-made
 returns-clause-made g c =
-    let made = c.in_ok-made_under.field-0 in
+    let made = c.in_ok-made_of_input.field-0 in
     let table = g.T.NormTable.model c.in_ok-table.table in
-    let input = same_stream g.I.Read.remaining c.clear.new.self c.args.input.now c.made_under.new.input c.clear.ensures.device in
+    let input = same_stream g.I.Read.remaining c.clear.new.self c.args.input.now c.made_of_input.new.input c.clear.ensures.device in
     record {
       v = table;
       built = c.in_ok-table.ensures.built;
-      made = subst (λ (s : Stream). IsMadeOfText (g.M.TextMaker.makes c.args.maker.now table) s made.is_yes (string_bytes made.text)) input c.in_ok-made_under.ensures.made;
+      made = subst (λ (s : Stream). IsMadeOfText (g.M.TextMaker.makes c.args.maker.now table) s made.is_yes (string_bytes made.text)) input c.in_ok-made_of_input.ensures.made;
     }

@@ -1,6 +1,6 @@
 use Rattle.np_jobs.specs.KeysUnder.{MakesUnder, RefusesUnder}
 use Rattle.np_jobs.proofs.EndLemmas.{ends}
-use Rattle.np_jobs.proofs.key_under.key_under_job.Goals as goal
+use Rattle.np_jobs.proofs.jobs.key_under_job.Goals as goal
 
 pub returns : goal.returns
 returns g c =

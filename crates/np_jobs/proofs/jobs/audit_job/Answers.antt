@@ -1,6 +1,6 @@
 use Rattle.np_jobs.specs.Audits.{MakesAudit, RefusesAudit}
 use Rattle.np_jobs.proofs.EndLemmas.{ends}
-use Rattle.np_jobs.proofs.audit.audit_job.Goals as goal
+use Rattle.np_jobs.proofs.jobs.audit_job.Goals as goal
 
 pub returns : goal.returns
 returns g c =

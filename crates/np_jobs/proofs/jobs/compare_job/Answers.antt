@@ -1,0 +1,8 @@
+use Rattle.np_jobs.specs.Comparisons.{IsCompareOutput, LacksCompareOutput}
+use Rattle.np_jobs.specs.Texts.{MakesOfText, RefusesText}
+use Rattle.np_jobs.proofs.EndLemmas.{ends}
+use Rattle.np_jobs.proofs.jobs.compare_job.Goals as goal
+
+pub returns : goal.returns
+returns g c =
+    ends (MakesOfText (IsCompareOutput c.args.form) _) (RefusesText LacksCompareOutput _) c.made_of_files-made.result _ _ c.finish.result c.made_of_files-made.ensures.made c.made_of_files-made.ensures.refused c.finish.ensures
