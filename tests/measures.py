@@ -20,11 +20,11 @@ CRATES = ROOT / "crates"
 SECTION = "### What a byte of a name touches"
 # The most functions of the walk, and the most parameters of a function.
 MOST, WIDEST = 45, 5
-JOBS = {"key_job", "key_under_job", "normalize_job", "compare_job", "audit_job", "replay_job", "lines_job"}
+JOBS = {"key_job", "key_under_job", "normalize_job", "compare_job", "audit_job", "replay_job", "lines_job", "streaming_job"}
 # The call of C whose parameters are the header's, and an allocator.
 CALLS = {"npss_node_restore"}
 # Inner halves of jobs that own a table by its bound, and take what the job takes.
-INNER = {"normalized", "answered", "made_of_versions"}
+INNER = {"streamed", "made_of_versions"}
 ASIDE = {
     # refusals and usage
     "refuse", "refuse_words", "tell_usage", "show_usage", "usage", "usage_text", "status", "failed", "fault_from", "from", "tell",

@@ -10,6 +10,7 @@ pub mod Opening
 pub mod Programs
 pub mod StandardInputs
 pub mod Statuses
+pub mod Streaming
 pub mod Streams
 pub mod Tellings
 pub mod Texts

@@ -1,15 +1,14 @@
 -- How `normalize` ends.
-use Rattle.std.specs.Prelude.{◌≡◌, ◌⊎◌, ◌↔◌, ℕ, true, Result, Ok, Err}
+use Rattle.std.specs.Prelude.{◌≡◌, ◌↔◌, ℕ, true, Result, Ok, Err}
 use Rattle.np_code_points.specs.declared.forms.Form.{Form}
 use Rattle.np_code_points.specs.declared.channels.input.InputFault.TheVariants as Inputs
 use Rattle.np_forms.specs.RunEnds.{Ends as RunDevices, RunEnds}
 use Rattle.np_forms.specs.declared.runs.RunFault.{RunFault}
 use Rattle.np_forms.specs.declared.runs.RunFault.TheVariants as Runs
 use Rattle.np_versions.specs.Versions.{VersionData}
-use Rattle.np_jobs.specs.Ends.{TellsRefusal}
-use Rattle.np_jobs.specs.Streams.{Stream, IsUntouched}
-use Rattle.np_jobs.specs.Texts.{TextReaders, LacksVersion}
-use Rattle.np_jobs.specs.Versions.{WasBuilt}
+use Rattle.np_jobs.specs.Streaming.{StreamingEnds}
+use Rattle.np_jobs.specs.Streams.{Stream}
+use Rattle.np_jobs.specs.Texts.{TextReaders}
 use Rattle.np_jobs.specs.Wraps.{Wraps}
 use Rattle.np_jobs.specs.declared.faults.JobFault.{JobFault}
 use Rattle.np_jobs.specs.declared.faults.JobFault.TheVariants.{Text, WriteFailed}
@@ -27,21 +26,20 @@ told_as Runs.WriteFailed = WriteFailed
 told_as Runs.TooLarge = Text (Texts.Input Inputs.TooLarge)
 told_as Runs.Memory = Text Texts.Memory
 
--- the version was built, and the run over the input answered this; the input failed exactly where that is the answer, and so did the output
-pub record WasRun (form : Form) (readers : TextReaders) (output : Stream) (answer : Result ℕ RunFault) : Type 0 where
-  pub v : VersionData
-  pub built : WasBuilt readers.data_file readers.exclusions_file v
-  pub ends : RunEnds v form (run_devices readers.input output) answer
-  pub read : (answer ≡ Err Runs.ReadFailed) ↔ (readers.input.failed ≡ true)
+-- the run over the input answered this; the input failed exactly where that is the answer, and so did the output
+pub record WasRun (form : Form) (answer : Result ℕ RunFault) (v : VersionData) (input output : Stream) : Type 0 where
+  pub ends : RunEnds v form (run_devices input output) answer
+  pub read : (answer ≡ Err Runs.ReadFailed) ↔ (input.failed ≡ true)
   pub written : (answer ≡ Err Runs.WriteFailed) ↔ (output.failed ≡ true)
 
--- the run ended early; or the version was refused, and nothing was read of the input or written
-abbrev pub IsStopped : Form → TextReaders → Stream → JobFault → Type 0
-IsStopped form readers output fault =
-    Wraps told_as (λ stopped. WasRun form readers output (Err stopped)) fault ⊎ (LacksVersion readers fault × IsUntouched output)
+-- the whole form was written, of so many bytes
+abbrev pub IsNormalized : Form → ℕ → VersionData → Stream → Stream → Type 0
+IsNormalized form status v input output = ((count : ℕ) × WasRun form (Ok count) v input output) × (status ≡ 0)
+
+-- the run ended early
+abbrev pub IsNotNormalized : Form → JobFault → VersionData → Stream → Stream → Type 0
+IsNotNormalized form fault v input output = Wraps told_as (λ stopped. WasRun form (Err stopped) v input output) fault
 
 -- `normalize`: the normal form of the input, written as it is read, and nothing is told; or the job stopped, and why is told
 abbrev pub NormalizeEnds : Form → TextReaders → Stream → Stream → ℕ → Type 0
-NormalizeEnds form readers output error status =
-    (((count : ℕ) × WasRun form readers output (Ok count)) × IsUntouched error × (status ≡ 0))
-    ⊎ ((fault : JobFault) × IsStopped form readers output fault × TellsRefusal fault error status)
+NormalizeEnds form readers output error status = StreamingEnds (IsNormalized form) (IsNotNormalized form) readers output error status

@@ -10,10 +10,10 @@ ghost use Rattle.np_jobs.specs.NormalForms.{NormalizeEnds};
 ghost use Rattle.np_jobs.specs.Streams.{stream_of};
 
 use crate::compare::CompareJob;
-use crate::ending::{finish, refuse};
+use crate::ending::finish;
 use crate::key::KeyJob;
-use crate::normalize::normalized;
-use crate::statuses::DONE;
+use crate::normalize::NormalizeJob;
+use crate::streaming::streaming_job;
 use crate::texts::made_of_files;
 use crate::versions::JobTable;
 use crate::{audit, key_under};
@@ -41,11 +41,16 @@ pub fn normalize_job<F: Read, I: Read, O: Write, E: Write>(
       input = stream_of I.remaining input.old input.new;
     }) (stream_of O.contents output.old output.new) (stream_of E.contents error.old error.new) result }
 {
-    error.clear();
-    match normalized::<JobTable, F, I, O>(alloc, form, data_file, exclusions_file, input, output) {
-        Ok(()) => DONE,
-        Err(fault) => refuse(alloc, error, &fault),
-    }
+    let job = NormalizeJob { form };
+    streaming_job(
+        alloc,
+        &job,
+        data_file,
+        exclusions_file,
+        input,
+        output,
+        error,
+    )
 }
 
 /// Writes the stabilized string of the input, a text, to the output: its normal form under the

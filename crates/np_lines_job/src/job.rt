@@ -1,12 +1,13 @@
 //! The two files of a version are read, and then the lines of an input are answered as they are read.
-ghost use Rattle.std.specs.Prelude.{◌≡◌, Bool, Ok, IfErr, IfOk};
+ghost use Rattle.std.specs.Prelude.{◌≡◌};
 ghost use Rattle.np_jobs.specs.Streams.{stream_of};
-ghost use Rattle.np_lines_job.specs.LineKeys.{IsStopped, LinesEnd, WasAnswered, lines_status, told_as};
+ghost use Rattle.np_lines_job.specs.LineKeys.{AreAnswered, AreNotAnswered, LinesEnd, lines_status, told_as};
 
 use np_code_points::input::InputFault;
 use np_code_points::watched::Watched;
-use np_jobs::{DONE, JobFault, JobTable, MadeTable, TextFault, read_table_of, refuse};
+use np_jobs::{DONE, JobFault, StreamingJob, TextFault, streaming_job};
 use np_lines::{LinesFault, Wanted, answer_lines};
+use np_versions::NormTable;
 use std::alloc::Global;
 use std::io::{Read, Write};
 
@@ -47,32 +48,22 @@ fn status_of_run(is_strict: bool, any_refused: bool) -> u8
     }
 }
 
-/// Reads the two files of a version, and answers the lines of the input. Answers whether one was refused.
-fn answered<T: MadeTable, F: Read, I: Read, O: Write>(
-    alloc: Global,
-    wanted: Wanted,
-    data_file: &mut Watched<F>,
-    exclusions_file: &mut Watched<F>,
-    input: &mut Watched<I>,
-    output: &mut Watched<O>,
-) -> Result<bool, JobFault>
-    ensures done { IfOk result (λ any_refused. WasAnswered wanted (record {
-      data_file = stream_of F.remaining data_file.old data_file.new;
-      exclusions_file = stream_of F.remaining exclusions_file.old exclusions_file.new;
-      input = stream_of I.remaining input.old input.new;
-    }) (stream_of O.contents output.old output.new) (Ok any_refused)) }
-    ensures stopped { IfErr result (IsStopped wanted (record {
-      data_file = stream_of F.remaining data_file.old data_file.new;
-      exclusions_file = stream_of F.remaining exclusions_file.old exclusions_file.new;
-      input = stream_of I.remaining input.old input.new;
-    }) (stream_of O.contents output.old output.new)) }
-{
-    input.clear();
-    output.clear();
-    let table: T = read_table_of(alloc, 0, data_file, exclusions_file)?;
-    match answer_lines(alloc, &table, wanted, input, output) {
-        Ok(any_refused) => Ok(any_refused),
-        Err(fault) => Err(told(fault)),
+impl StreamingJob for Asked {
+    ghost Runs = { AreAnswered };
+
+    ghost Stops = { AreNotAnswered };
+
+    fn stream<T: NormTable, I: Read, O: Write>(
+        &self,
+        alloc: Global,
+        table: &T,
+        input: &mut Watched<I>,
+        output: &mut Watched<O>,
+    ) -> Result<u8, JobFault> {
+        match answer_lines(alloc, table, self.wanted, input, output) {
+            Ok(any_refused) => Ok(status_of_run(self.is_strict, any_refused)),
+            Err(fault) => Err(told(fault)),
+        }
     }
 }
 
@@ -98,16 +89,13 @@ pub fn lines_job<F: Read, I: Read, O: Write, E: Write>(
       input = stream_of I.remaining input.old input.new;
     }) (stream_of O.contents output.old output.new) (stream_of E.contents error.old error.new) result }
 {
-    error.clear();
-    match answered::<JobTable, F, I, O>(
+    streaming_job(
         alloc,
-        asked.wanted,
+        &asked,
         data_file,
         exclusions_file,
         input,
         output,
-    ) {
-        Ok(any_refused) => status_of_run(asked.is_strict, any_refused),
-        Err(fault) => refuse(alloc, error, &fault),
-    }
+        error,
+    )
 }

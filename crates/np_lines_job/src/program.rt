@@ -1,46 +1,16 @@
 //! The program `npss_lines`: what it does for its words, over any opener of files and any streams.
 ghost use Rattle.std.specs.Prelude.{◌≡◌, map, string_bytes, Some, None};
 ghost use Rattle.np_jobs.specs.Streams.{stream_of};
-ghost use Rattle.np_lines_job.specs.LineKeys.{LinesEnd};
 ghost use Rattle.np_lines_job.specs.LineWords.{asked_by, asked_of, lines_usage};
 ghost use Rattle.np_lines_job.specs.LinesProgram.{EndsOverFiles, ProgramEnds};
 
-use crate::job::{Asked, lines_job};
 use crate::words::{LinesJob, lines_usage_text, parse_lines};
-use np_code_points::watched::Watched;
 use np_jobs::{
-    Opener, Program, Resources, Streams, VersionJob, run_over_version, run_program, show_usage,
+    Opener, Program, Resources, Streaming, Streams, run_over_version, run_program, show_usage,
 };
 use np_words::WordsFault;
 use std::alloc::Global;
 use std::io::{Read, Write};
-
-impl VersionJob for Asked {
-    ghost Ends = { LinesEnd };
-
-    fn run<F: Read, I: Read, O: Write, E: Write>(
-        &self,
-        alloc: Global,
-        data_file: &mut Watched<F>,
-        exclusions_file: &mut Watched<F>,
-        streams: &mut Streams<I, O, E>,
-    ) -> u8 {
-        let Streams {
-            input,
-            output,
-            error,
-        } = streams;
-        lines_job(
-            alloc,
-            *self,
-            data_file,
-            exclusions_file,
-            input,
-            output,
-            error,
-        )
-    }
-}
 
 /// The program `npss_lines`.
 pub struct NpssLines;
@@ -84,7 +54,7 @@ impl Program for NpssLines {
                 asked,
                 shows_progress: _,
                 files,
-            } => run_over_version(with, asked, files, streams),
+            } => run_over_version(with, &Streaming { job: *asked }, files, streams),
         }
     }
 }

@@ -16,7 +16,7 @@ mod usage;
 use crate::replay::replay_job;
 use np_code_points::Form;
 use np_jobs::{
-    CompareJob, KeyJob, NormalizeJob, Opener, Program, Resources, Streams, audit_job,
+    CompareJob, KeyJob, NormalizeJob, Opener, Program, Resources, Streaming, Streams, audit_job,
     key_under_job, open_file, open_version, open_versions, run_over_version, run_program,
     show_usage,
 };
@@ -182,7 +182,8 @@ impl Program for Npss {
                 usage_text(),
             )),
             Job::Normalize { form, files } => {
-                run_over_version(with, &NormalizeJob { form: *form }, files, streams)
+                let job = NormalizeJob { form: *form };
+                run_over_version(with, &Streaming { job }, files, streams)
             }
             Job::Key { form, files } => {
                 run_over_version(with, &KeyJob { form: *form }, files, streams)

@@ -2,7 +2,7 @@ use Rattle.std.proofs.Common.{inr, subst}
 use Rattle.np_jobs.specs.Ends.{TellsRefusal}
 use Rattle.np_jobs.specs.Streams.{Stream}
 use Rattle.np_jobs.proofs.EndLemmas.{same_stream}
-use Rattle.np_jobs.proofs.jobs.normalize_job.Goals as goal
+use Rattle.np_jobs.proofs.streaming.streaming_job.Goals as goal
 
 pub returns-in-Err : goal.returns-in-Err
 returns-in-Err g c =
