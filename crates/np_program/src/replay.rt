@@ -4,8 +4,7 @@ ghost use Rattle.np_code_points.specs.Watched.{has_failed};
 ghost use Rattle.np_chain.specs.Chain.{IsChain};
 ghost use Rattle.np_schedules.specs.ScheduleFiles.{SaysSchedule};
 ghost use Rattle.np_jobs.specs.Chains.{readers_of};
-ghost use Rattle.np_jobs.specs.Streams.{WasNotRead, WasRead, stream_of};
-ghost use Rattle.np_jobs.specs.Wraps.{Wraps};
+ghost use Rattle.np_jobs.specs.Streams.{stream_of};
 ghost use Rattle.np_program.specs.Replays.{IsReplay, LacksLine, LacksReport, LacksSchedule, MakesReplay, RefusesReplay, ReplayEnds, WasScheduled};
 ghost use Rattle.np_program.specs.inside.ReplaySteps.{MakesOverChain};
 
@@ -34,20 +33,6 @@ fn report_of<T: NormTable>(
     report_text(alloc, &report)
 }
 
-/// Reads the schedule's file whole.
-fn read_script<F: Read>(
-    alloc: Global,
-    schedule_file: &mut Watched<F>,
-) -> Result<Vec<u8>, ReplayFault>
-    ensures read { IfOk result (λ script. WasRead (stream_of F.remaining schedule_file.old schedule_file.new) script.items) }
-    ensures refused { IfErr result (Wraps ReplayFault.Schedule (WasNotRead (stream_of F.remaining schedule_file.old schedule_file.new))) }
-{
-    match read_whole(alloc, schedule_file) {
-        Ok(script) => Ok(script),
-        Err(fault) => Err(ReplayFault::Schedule { fault }),
-    }
-}
-
 /// The schedule over so many versions that the bytes say.
 fn said_by(alloc: Global, versions: usize, script: &[u8]) -> Result<Schedule, ReplayFault>
     ensures says { IfOk result (SaysSchedule script.now) }
@@ -70,7 +55,10 @@ fn schedule_in<F: Read>(
     ensures scheduled { IfOk result (WasScheduled (stream_of F.remaining schedule_file.old schedule_file.new) versions) }
     ensures refused { IfErr result (LacksSchedule (stream_of F.remaining schedule_file.old schedule_file.new) versions) }
 {
-    let script = read_script(alloc, schedule_file)?;
+    let script = match read_whole(alloc, schedule_file) {
+        Ok(script) => script,
+        Err(fault) => return Err(ReplayFault::Schedule { fault }),
+    };
     said_by(alloc, versions, script.as_slice())
 }
 
