@@ -1,5 +1,5 @@
 -- The two files of a version as bytes, and why they make none. The numbers of faults are those of docs/FORMATS.md.
-use Rattle.std.specs.Prelude.{◌≡◌, ◌↔◌, ◌⊎◌, ◌<◌, ℕ, true, List, Some, length}
+use Rattle.std.specs.Prelude.{◌≡◌, ◌↔◌, ◌⊎◌, ◌<◌, ◌≤◌, ℕ, true, List, Some, length}
 use Rattle.np_versions.specs.TableFaults.{IsFaultless, IsLeastFault, code_of, number_of}
 use Rattle.np_versions.specs.Versions.{VersionData}
 use Rattle.np_versions.specs.declared.faults.TableFault.{TableFault}
@@ -11,8 +11,14 @@ use Rattle.np_ucd.specs.Listed.{is_listed}
 use Rattle.np_ucd.specs.declared.faults.UcdFault.{UcdFault}
 use Rattle.np_c.specs.declared.answers.Answer.{Answer}
 
--- neither file has a fault, and the version has the rows of the one and the exclusions of the other
+-- a file has at most 16,777,216 bytes
+abbrev pub Fits : List ℕ → Type 0
+Fits bytes = length bytes ≤ 16777216
+
+-- neither file is too large or has a fault, and the version has the rows of the one and the exclusions of the other
 pub record AreFilesOf (data_file exclusions_file : List ℕ) (v : VersionData) : Type 0 where
+  pub data_fits : Fits data_file
+  pub exclusions_fit : Fits exclusions_file
   pub faultless : HasNoFault data_file
   pub rows : AreAllRows data_file v.entries
   pub readable : AreReadable exclusions_file
@@ -53,5 +59,5 @@ IsFileRefused status number IsFault bytes a = IsFileFault status IsFault bytes a
 abbrev pub IsNoVersion : List ℕ → List ℕ → Answer → Type 0
 IsNoVersion data_file exclusions_file a =
     IsFileRefused 7 1 IsFirstFault data_file a
-    ⊎ ((HasNoFault data_file × IsFileRefused 8 2 IsFirstBadLine exclusions_file a)
+    ⊎ ((Fits data_file × HasNoFault data_file × IsFileRefused 8 2 IsFirstBadLine exclusions_file a)
     ⊎ ((v : VersionData) × AreFilesOf data_file exclusions_file v × (IsTablesAnswer v a ⊎ (a.status ≡ 4))))

@@ -5,7 +5,7 @@ ghost use Rattle.np_ucd.specs.AllRows.{AreAllRows};
 ghost use Rattle.np_ucd.specs.Exclusions.{AreReadable, IsFirstBadLine, IsListedIn};
 ghost use Rattle.np_ucd.specs.FirstFaults.{HasNoFault, IsFirstFault};
 ghost use Rattle.np_ucd.specs.Listed.{is_listed};
-ghost use Rattle.np_c.specs.Files.{IsFileRefused, IsNoVersion, IsVersionOf};
+ghost use Rattle.np_c.specs.Files.{Fits, IsFileRefused, IsNoVersion, IsVersionOf};
 ghost use Rattle.np_versions.specs.Versions.{VersionData};
 ghost use Rattle.np_c.specs.Versions.{version_in};
 ghost use Rattle.np_c.specs.inside.FaultAnswers.{at_line, at_code, file_answer, tables_answer};
@@ -84,6 +84,7 @@ fn of_tables(fault: TableFault) -> Answer
 
 /// The rows of a data file.
 fn rows_in(alloc: Global, bytes: &[u8]) -> Result<RowList, Answer>
+    ensures fits { IfOk result (λ _. Fits bytes.now) }
     ensures rows { IfOk result (λ rows. HasNoFault bytes.now × AreAllRows bytes.now rows) }
     ensures refused { IfErr result (IsFileRefused 7 1 IsFirstFault bytes.now) }
 {
@@ -95,6 +96,7 @@ fn rows_in(alloc: Global, bytes: &[u8]) -> Result<RowList, Answer>
 
 /// What an exclusions file lists.
 fn listed_in(alloc: Global, bytes: &[u8]) -> Result<Exclusions, Answer>
+    ensures fits { IfOk result (λ _. Fits bytes.now) }
     ensures listed { IfOk result (λ e. AreReadable bytes.now × ((c : ℕ) → (is_listed e c ≡ true) ↔ IsListedIn bytes.now c)) }
     ensures refused { IfErr result (IsFileRefused 8 2 IsFirstBadLine bytes.now) }
 {

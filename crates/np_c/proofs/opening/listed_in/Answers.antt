@@ -2,11 +2,16 @@ use Rattle.std.proofs.Common.{◌≡◌, ◌↔◌, ◌∙◌, List, ℕ, true, 
 use Rattle.np_code_points.specs.Watched.{device_of}
 use Rattle.np_ucd.specs.Exclusions.{AreReadable, IsFirstBadLine, IsListedIn}
 use Rattle.np_ucd.specs.Listed.{is_listed}
-use Rattle.np_c.specs.Files.{IsFileRefused}
+use Rattle.np_c.specs.Files.{Fits, IsFileRefused}
 use Rattle.np_c.specs.declared.answers.Answer.{Answer}
 use Rattle.np_c.specs.inside.FaultAnswers.{file_answer}
 use Rattle.np_c.proofs.AnswerLemmas.{refused_file}
 use Rattle.np_c.proofs.opening.listed_in.Goals as goal
+
+pub returns-in-Ok-clause-fits : goal.returns-in-Ok-clause-fits
+returns-in-Ok-clause-fits c =
+    let h = c.in-Ok.ensures.listed in
+    subst Fits (h.1.whole ∙ ap (λ b. b.now) c.new.ensures.device) h.1.size
 
 pub returns-in-Ok-clause-listed : goal.returns-in-Ok-clause-listed
 returns-in-Ok-clause-listed c =
