@@ -4,12 +4,13 @@
 No command takes an image from outside, so a unit test hands them to `restore`: an image of four entries in each
 layout is cut at every byte, each byte and each length and count is replaced by others, fields and entries are
 exchanged, repeated and left out, and keys are told in another way. What each has to answer is judged here, from
-docs/FORMATS.md and over the first fixture, apart from the crate. It stands as a text in the test's file; without
---write the file is compared with it. Ends in a line 'N passed, M failed'.
+docs/FORMATS.md and over the first fixture, apart from the crate. It stands as a text in a file of the test
+for each layout; without --write the files are compared with it. Ends in a line 'N passed, M failed'.
 """
 
 import sys
 from itertools import groupby
+from textwrap import wrap
 
 # Nothing is written into the tree but with --write.
 sys.dont_write_bytecode = True
@@ -17,10 +18,13 @@ sys.dont_write_bytecode = True
 from forged import BYTES, LENGTHS, Version, field
 from harness import ROOT, Tally
 
-FILE = ROOT / "crates" / "np_examples_jobs" / "src" / "node" / "forged_answers.rt"
+FOLDER = ROOT / "crates" / "np_examples_jobs" / "src" / "node"
+FILES = {FOLDER / "first_forged.rt": "first", FOLDER / "second_forged.rt": "second"}
 # Strings of the fixture, each with its normal form under NFC by hand.
 ENTRIES = [("", ""), ("a\u0302", "\u00e2"), ("\u212b", "\u00c5"), ("A", "A")]
 ROOM = 5
+# How wide a line of the test's files is.
+WIDTH = 115
 FORMS = tuple(b"DCdc")
 FORM = ord("C")
 LONGEST = 65536
@@ -187,10 +191,18 @@ def whole(needs):
     return image_of([entry(string.encode(), key.encode(), needs) for string, key in ENTRIES], needs)
 
 
+def change_to(image, other):
+    """The change of the image that makes another of it: what both have at their fronts and at their ends stays."""
+    front = next((at for at, (one, two) in enumerate(zip(image, other)) if one != two), min(len(image), len(other)))
+    most = min(len(image), len(other)) - front
+    end = next((at for at in range(most) if image[-1 - at] != other[-1 - at]), most)
+    return front, len(image) - front - end, other[front:len(other) - end]
+
+
 def changes(image, needs):
     """All of them, each once: the place, how many bytes go, those that come, and what comes of it."""
     seen = set()
-    others = [(0, len(image), other) for other in changed_entries(needs)]
+    others = [change_to(image, other) for other in changed_entries(needs)]
     for at, gone, put in [*changed_bytes(image), *changed_numbers(image), *changed_keys(image), *exchanged_fields(image), *others]:
         made = image[:at] + put + image[at + gone:]
         if made not in seen:
@@ -199,51 +211,49 @@ def changes(image, needs):
 
 
 def answers(needs, version):
-    """A line for each place and answer: the place, how many bytes go, those that come in hex (`-` for none, several
+    """A row for each place and answer: the place, how many bytes go, those that come in hex (`-` for none, several
     ways divided by commas), and the answer."""
     rows = [((at, gone, answer(made, version)), put.hex()) for at, gone, put, made in changes(whole(needs), needs)]
     for (at, gone, told), puts in groupby(rows, lambda row: row[0]):
         yield f"{at} {gone} {','.join(put or '-' for _, put in puts)} {told}"
 
 
-def text():
-    """The test's file."""
+def wrapped(rows):
+    """The rows with `; ` between them, as a literal of several lines, each of which ends in the space before a word."""
+    return " \\\n".join(wrap("; ".join(rows), WIDTH, break_long_words=False, break_on_hyphens=False))
+
+
+def texts():
+    """The test's files, each with its text: an image and its answers, for each layout."""
     version = Version()
     count = len(version.assigned)
-    first, second = ("\n".join(answers(needs, version)) for needs in (None, count))
-    return f'''//! An image of four entries in each layout that is cut and forged, and what restoring answers.
-//! `tests/forged_images.py` writes this file from the format alone.
+    for (path, layout), needs in zip(FILES.items(), (None, count)):
+        rows = wrapped(answers(needs, version))
+        yield path, f'''//! An image of four entries in the {layout} layout that is cut and forged, and what restoring answers, both under the
+//! first fixture's version. `tests/forged_images.py` writes this file from the format alone.
 
-/// The image of the first layout, in hex digits.
-pub const FIRST: &str =
-    "{whole(None).hex()}";
+/// The image, in hex digits.
+pub const IMAGE: &str =
+    "{whole(needs).hex()}";
 
-/// Those entries in the second layout, under the first fixture's version.
-pub const SECOND: &str =
-    "{whole(count).hex()}";
-
-/// A line for each change of the first image: the place, how many bytes go, those that come instead in hex digits
-/// (`-` for none, several ways divided by commas), and what restoring with a room of {ROOM} answers; behind `restored`
-/// the image of the node.
-pub const FIRST_ANSWERS: &str = "\\
-{first}
-";
-
-/// A line for each change of the second image.
-pub const SECOND_ANSWERS: &str = "\\
-{second}
-";
+/// A row for each change of the image, with `; ` between rows: the place, how many bytes go, those that come instead in
+/// hex digits (`-` for none, several ways divided by commas), and what restoring with a room of {ROOM} answers; behind
+/// `restored` the image of the node.
+pub const ANSWERS: &str = "\\
+{rows}";
 '''
 
 
 def check(tally):
-    """The test's file is the one that is made here."""
-    tally.same(f"{FILE.relative_to(ROOT)}", FILE.read_text(encoding="utf-8"), text())
+    """The test's files are those that are made here."""
+    for path, text in texts():
+        tally.same(f"{path.relative_to(ROOT)}", path.read_text(encoding="utf-8"), text)
 
 
 def main():
     if sys.argv[1:] == ["--write"]:
-        FILE.write_text(text(), encoding="utf-8")
+        for path, text in texts():
+            path.write_text(text, encoding="utf-8")
         return
     tally = Tally()
     check(tally)

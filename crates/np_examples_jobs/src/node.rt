@@ -1,13 +1,14 @@
 //! What each call answers on worked examples.
 mod answers;
 mod apart;
+mod first_forged;
 mod forged;
-mod forged_answers;
 mod forgetting;
 mod hosts;
 mod images;
 mod messages;
 mod refused;
+mod second_forged;
 
 ghost use Rattle.std.specs.Prelude.{◌≤◌};
 

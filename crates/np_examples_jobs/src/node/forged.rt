@@ -1,5 +1,5 @@
 //! Cut and forged images: each is refused by name at its place, or restored as a node with the image that is told.
-use super::forged_answers::{FIRST, FIRST_ANSWERS, SECOND, SECOND_ANSWERS};
+use super::{first_forged, second_forged};
 use np_code_points::Form;
 use np_code_points::codes::hex_value;
 use np_examples_shared::{Example, Made, V1, holds_over_each, want};
@@ -40,17 +40,17 @@ struct Change<'a> {
     told: &'a str,
 }
 
-/// The first word of a line, and the rest.
-fn parted(line: &str) -> Result<(&str, &str), Fail> {
-    match line.split_once(" ") {
+/// The first word of a row, and the rest.
+fn parted(row: &str) -> Result<(&str, &str), Fail> {
+    match row.split_once(" ") {
         Some(parts) => Ok(parts),
-        None => Err(Fail::new(line)),
+        None => Err(Fail::new(row)),
     }
 }
 
-/// The change that a line has.
-fn change_of(line: &str) -> Result<Change<'_>, Fail> {
-    let (at, rest) = parted(line)?;
+/// The change that a row has.
+fn change_of(row: &str) -> Result<Change<'_>, Fail> {
+    let (at, rest) = parted(row)?;
     let (gone, rest) = parted(rest)?;
     let (puts, told) = parted(rest)?;
     Ok(Change {
@@ -126,43 +126,33 @@ fn wants_change<T: NormTable>(
     wants_answer(alloc, table, &made, change.told)
 }
 
-/// The image changed as a line has it, in each of its ways, is answered as the line tells.
-fn wants_line<T: NormTable>(
-    alloc: Global,
-    table: &T,
-    image: &[u8],
-    line: &str,
-) -> Result<(), Fail> {
-    let change = change_of(line)?;
+/// The image changed as a row has it, in each of its ways, is answered as the row tells.
+fn wants_row<T: NormTable>(alloc: Global, table: &T, image: &[u8], row: &str) -> Result<(), Fail> {
+    let change = change_of(row)?;
     for put in change.puts.split(',') {
         wants_change(alloc, table, image, &change, put)?;
     }
     Ok(())
 }
 
-/// The image is answered, changed as each line has it, as the line tells.
-fn want_lines<T: NormTable>(
-    alloc: Global,
-    table: &T,
-    image: &[u8],
-    lines: &str,
-) -> Result<(), Fail> {
-    for line in lines.lines() {
-        wants_line(alloc, table, image, line)?;
+/// The image is answered, changed as each row has it, as the row tells.
+fn want_rows<T: NormTable>(alloc: Global, table: &T, image: &[u8], rows: &str) -> Result<(), Fail> {
+    for row in rows.split("; ") {
+        wants_row(alloc, table, image, row)?;
     }
     Ok(())
 }
 
 /// So is the image in these hex digits.
-fn wants_lines<T: NormTable>(
+fn wants_rows<T: NormTable>(
     alloc: Global,
     table: &T,
     digits: &str,
-    lines: &str,
+    rows: &str,
 ) -> Result<(), Fail> {
     let mut image = Vec::new(alloc);
     push_bytes(&mut image, digits)?;
-    want_lines(alloc, table, &image, lines)
+    want_rows(alloc, table, &image, rows)
 }
 
 /// What restoring answers to each changed image.
@@ -170,8 +160,8 @@ struct Answers;
 
 impl Example for Answers {
     fn holds<T: Made>(&self, alloc: Global, table: &T) -> Result<(), Fail> {
-        wants_lines(alloc, table, FIRST, FIRST_ANSWERS)?;
-        wants_lines(alloc, table, SECOND, SECOND_ANSWERS)
+        wants_rows(alloc, table, first_forged::IMAGE, first_forged::ANSWERS)?;
+        wants_rows(alloc, table, second_forged::IMAGE, second_forged::ANSWERS)
     }
 }
 
