@@ -5,7 +5,9 @@ use np_code_points::Memory;
 use np_code_points::watched::Watched;
 use np_examples_shared::devices::{Failure, Room, Trickle};
 use np_examples_shared::told::want_told;
-use np_examples_shared::{Example, FAILURES, LETTERS, Made, V1, holds_over_each, want};
+use np_examples_shared::{
+    Example, FAILURES, LETTERS, Made, V1, holds_over_each, want, wants_front,
+};
 use np_lines::{Answers, LinesFault, Wanted, answer_bytes, answer_lines};
 use np_versions::NormTable;
 use rows::{ASCII_LF_ROWS, ASCII_MAPS_TO_LF, BY_LF, LETTER_ROWS, LF_ROWS, MAPS_TO_LF, ROWS, Row};
@@ -142,14 +144,6 @@ fn failed_reads<T: NormTable>(alloc: Global, table: &T, failure: Failure) -> Res
     Ok(())
 }
 
-/// Fails unless a front of the answers was written, as far as it was taken, and nothing was tried behind it.
-fn has_front(room: &Room, call: u64) -> Result<(), Fail> {
-    let front = b"=a\n=A\n".starts_with(room.bytes());
-    want(front, "a front of the answers")?;
-    want(room.bytes().len() as u64 == call, "as far as it was taken")?;
-    want(room.calls() == call.saturating_add(1), "no second try")
-}
-
 /// A write of one byte, or the flush, that fails at a call that is counted from 0: what comes before it is
 /// written, and nothing is tried behind it.
 fn wants_failed_write<T: NormTable>(
@@ -163,7 +157,7 @@ fn wants_failed_write<T: NormTable>(
     let made = answer_lines(alloc, table, BY_LF, &mut source, &mut target);
     let told = target.failed() && made == Err(LinesFault::WriteFailed);
     want(told, "the target has failed, and the answer says so")?;
-    has_front(&target.into_inner(), call)
+    wants_front(&target.into_inner(), b"=a\n=A\n", call)
 }
 
 fn failed_writes<T: NormTable>(alloc: Global, table: &T, failure: Failure) -> Result<(), Fail> {

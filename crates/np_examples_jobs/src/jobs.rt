@@ -4,6 +4,7 @@ mod devices;
 mod ends;
 pub(crate) mod opening;
 mod outputs;
+mod readers;
 mod refusals;
 mod replays;
 pub(crate) mod words;

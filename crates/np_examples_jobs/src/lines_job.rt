@@ -1,5 +1,5 @@
 //! The answers to lines as a job, and the words of `npss_lines`, on worked examples.
-use crate::jobs::words::words_of;
+use crate::jobs::words::{ReadsWords, are_read, is_read};
 use np_code_points::Form;
 use np_code_points::watched::Watched;
 use np_examples_shared::devices::{Failure, Room, Trickle};
@@ -163,25 +163,14 @@ fn shown(alloc: Global, read: &Result<LinesJob, WordsFault>) -> Result<String, F
     }
 }
 
-/// What the words are read as; they are read a second time where memory was refused.
-fn read(alloc: Global, words: &[String]) -> Result<String, Fail> {
-    let read = again(&WordsFault::Memory, &|| parse_lines(alloc, words));
-    shown(alloc, &read)
-}
+/// The program `npss_lines`.
+struct NpssLines;
 
-/// Fails unless the words, divided by spaces, are read so.
-fn is_read(alloc: Global, text: &str, wanted: &str) -> Result<(), Fail> {
-    let words = words_of(alloc, text)?;
-    let found = read(alloc, words.as_slice())?;
-    want(found.as_str() == wanted, text)
-}
-
-/// Fails unless each row's words, divided by spaces, are read as it says.
-fn are_read(alloc: Global, rows: &[(&str, &str)]) -> Result<(), Fail> {
-    for (text, wanted) in rows {
-        is_read(alloc, text, wanted)?;
+impl ReadsWords for NpssLines {
+    fn read(alloc: Global, words: &[String]) -> Result<String, Fail> {
+        let read = again(&WordsFault::Memory, &|| parse_lines(alloc, words));
+        shown(alloc, &read)
     }
-    Ok(())
 }
 
 /// Words, and what they ask for: the form, what ends lines, whether strictly, whether with progress, the files.
@@ -209,7 +198,7 @@ const WORDS: &[(&str, &str)] = &[
 
 #[test]
 fn words_name_a_run(rt: HostRuntime) -> Result<(), Fail> {
-    are_read(rt.alloc(), WORDS)?;
+    are_read::<NpssLines>(rt.alloc(), WORDS)?;
     want(
         lines_usage_text().starts_with("usage: npss_lines "),
         "usage",
@@ -218,7 +207,7 @@ fn words_name_a_run(rt: HostRuntime) -> Result<(), Fail> {
 
 #[test]
 fn a_refused_parse_lines_succeeds_after_all(rt: HostRuntime) -> Result<(), Fail> {
-    is_read(
+    is_read::<NpssLines>(
         rt.alloc(),
         "--form nfc --null D E",
         "Nfc Nul false false D E",

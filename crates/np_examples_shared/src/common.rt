@@ -1,7 +1,7 @@
 //! Versions, tables and examples over them, of which tests of several libraries make use.
 ghost use Rattle.std.specs.Prelude.{IsTrue, OnOk};
 
-use crate::devices::{Failure, Trickle};
+use crate::devices::{Failure, Room, Trickle};
 use crate::fixtures::{S_DATA, S_EXCLUSIONS, V1_DATA, V1_EXCLUSIONS, V2_DATA, V2_EXCLUSIONS};
 use crate::guest_table::GuestTable;
 use np_code_points::Memory;
@@ -22,6 +22,15 @@ pub fn want(holds: bool, what: &str) -> Result<(), Fail>
 
 /// How a call of a device fails.
 pub const FAILURES: [Failure; 3] = [Failure::Error, Failure::Interrupted, Failure::TakesNothing];
+
+/// Fails unless a front of what was to be written stands in the room, a byte for each call before the one of this
+/// number, and nothing was tried behind that one.
+pub fn wants_front(room: &Room, written: &[u8], call: u64) -> Result<(), Fail> {
+    let bytes = room.bytes();
+    want(written.starts_with(bytes), "a front of what is written")?;
+    want(bytes.len() as u64 == call, "as far as it was taken")?;
+    want(room.calls() == call.saturating_add(1), "no second try")
+}
 
 /// A reader of the bytes that has failed once, and whose mark says so.
 pub fn mended(bytes: &[u8]) -> Result<Watched<Trickle<'_>>, Fail> {

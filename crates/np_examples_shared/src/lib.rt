@@ -13,7 +13,7 @@ pub mod told;
 
 pub use common::{
     Example, FAILURES, Files, LETTERS, Made, S, V1, V2, amid, holds_over, holds_over_each, made_of,
-    mended, table_of, tables_of, version_of, want,
+    mended, table_of, tables_of, version_of, want, wants_front,
 };
 pub use guest_table::GuestTable;
 pub use refused::{again, again_where};

@@ -3,7 +3,7 @@ use np_code_points::Form;
 use np_code_points::watched::Watched;
 use np_examples_shared::devices::{Failure, Room, Trickle};
 use np_examples_shared::told::want_told;
-use np_examples_shared::{Example, FAILURES, Made, V1, holds_over_each, want};
+use np_examples_shared::{Example, FAILURES, Made, V1, holds_over_each, want, wants_front};
 use np_forms::{RunFault, run};
 use np_versions::NormTable;
 use std::alloc::Global;
@@ -113,14 +113,6 @@ fn failed_reads<T: NormTable>(alloc: Global, table: &T, failure: Failure) -> Res
     wants_failed_read(alloc, table, 4, failure, b"\xc3\xa2")
 }
 
-/// Fails unless a front of the form was written, as far as it was taken, and nothing was tried behind it.
-fn has_front(room: &Room, call: u64) -> Result<(), Fail> {
-    let front = b"\xc3\xa2A".starts_with(room.bytes());
-    want(front, "a front of the form")?;
-    want(room.bytes().len() as u64 == call, "as far as it was taken")?;
-    want(room.calls() == call.saturating_add(1), "no second try")
-}
-
 /// A write of one byte, or the flush, that fails at a call that is counted from 0: what comes before it is
 /// written, and nothing is tried behind it.
 fn wants_failed_write<T: NormTable>(
@@ -134,7 +126,7 @@ fn wants_failed_write<T: NormTable>(
     let made = run(alloc, table, Form::Nfc, &mut source, &mut target);
     let told = target.failed() && made == Err(RunFault::WriteFailed);
     want(told, "the target has failed, and the answer says so")?;
-    has_front(&target.into_inner(), call)
+    wants_front(&target.into_inner(), b"\xc3\xa2A", call)
 }
 
 fn failed_writes<T: NormTable>(alloc: Global, table: &T, failure: Failure) -> Result<(), Fail> {

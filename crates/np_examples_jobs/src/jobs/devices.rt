@@ -1,87 +1,14 @@
 //! Devices that fail in mid-stream, and marks from before.
-ghost use Rattle.std.specs.Prelude.{◌≡◌, ◌≤◌, ◌%◌, length};
-
-use super::{Command, Job, Ran, is_answer, job_into};
+use super::readers::{Readers, Reading, count_of, counts_of, replay_over, run_over};
+use super::{Command, Job, is_answer, job_into};
 use np_code_points::watched::Watched;
 use np_code_points::{Form, Memory};
 use np_examples_shared::devices::{Failure, Room, Trickle};
 use np_examples_shared::fixtures::{V1_DATA, V1_EXCLUSIONS};
 use np_examples_shared::{mended, want};
-use np_jobs::{audit_job, key_job, key_under_job};
-use np_program::replay_job;
 use std::alloc::Global;
 use std::io::Write;
 use std::test::Fail;
-
-/// A job over the files of two versions, or of the first of them, and a text.
-#[derive(Clone, Copy)]
-enum Reading {
-    Key,
-    KeyUnder,
-    Audit,
-}
-
-/// The readers of a job: the files of two versions, and a text.
-#[derive(Drop)]
-struct Readers {
-    data: Watched<Trickle<'static>>,
-    exclusions: Watched<Trickle<'static>>,
-    later_data: Watched<Trickle<'static>>,
-    later_exclusions: Watched<Trickle<'static>>,
-    text: Watched<Trickle<'static>>,
-}
-
-/// The status of a job over these readers.
-fn status_over(
-    alloc: Global,
-    reading: Reading,
-    readers: &mut Readers,
-    output: &mut Watched<Vec<u8>>,
-    error: &mut Watched<Vec<u8>>,
-) -> u8 {
-    let Readers {
-        data,
-        exclusions,
-        later_data,
-        later_exclusions,
-        text,
-    } = readers;
-    match reading {
-        Reading::Key => key_job(alloc, Form::Nfc, data, exclusions, text, output, error),
-        Reading::KeyUnder => key_under_job(
-            alloc,
-            Form::Nfc,
-            data,
-            exclusions,
-            later_data,
-            later_exclusions,
-            text,
-            output,
-            error,
-        ),
-        Reading::Audit => audit_job(
-            alloc,
-            data,
-            exclusions,
-            later_data,
-            later_exclusions,
-            output,
-            error,
-        ),
-    }
-}
-
-/// The run of a job over these readers.
-fn run_over(alloc: Global, reading: Reading, readers: &mut Readers) -> Ran {
-    let mut output = Watched::new(Vec::new(alloc));
-    let mut error = Watched::new(Vec::new(alloc));
-    let status = status_over(alloc, reading, readers, &mut output, &mut error);
-    Ran {
-        status,
-        output: output.into_inner(),
-        error: error.into_inner(),
-    }
-}
 
 /// A call that no reader comes to.
 const NEVER: u64 = u64::MAX;
@@ -105,7 +32,7 @@ fn reader(
 }
 
 /// The readers of a job over the first fixture twice, and a text of `Aa`.
-fn readers_of(cut: &Cut, failure: Failure) -> Readers {
+fn readers_of(cut: &Cut, failure: Failure) -> Readers<Trickle<'static>> {
     Readers {
         data: reader(0, V1_DATA.as_bytes(), cut, failure),
         exclusions: reader(1, V1_EXCLUSIONS.as_bytes(), cut, failure),
@@ -113,24 +40,6 @@ fn readers_of(cut: &Cut, failure: Failure) -> Readers {
         later_exclusions: reader(3, V1_EXCLUSIONS.as_bytes(), cut, failure),
         text: reader(4, b"Aa", cut, failure),
     }
-}
-
-/// How often each of the readers was read.
-fn reads_of(readers: Readers) -> [u64; 5] {
-    let Readers {
-        data,
-        exclusions,
-        later_data,
-        later_exclusions,
-        text,
-    } = readers;
-    [
-        data.into_inner().calls(),
-        exclusions.into_inner().calls(),
-        later_data.into_inner().calls(),
-        later_exclusions.into_inner().calls(),
-        text.into_inner().calls(),
-    ]
 }
 
 /// So many reads of a text.
@@ -157,7 +66,7 @@ fn wanted_reads([data, exclusions, later_data, later_exclusions, text]: [u64; 5]
 fn wants_cut(alloc: Global, cut: &Cut, failure: Failure) -> Result<(), Fail> {
     let mut readers = readers_of(cut, failure);
     let ran = run_over(alloc, cut.0, &mut readers);
-    let is_read_so = reads_of(readers) == wanted_reads(cut.4);
+    let is_read_so = counts_of(readers) == wanted_reads(cut.4);
     want(is_read_so && is_answer(&ran, &(5, "", cut.3)), cut.3)
 }
 
@@ -240,25 +149,6 @@ fn a_failed_read_in_mid_stream_ends_the_job(rt: HostRuntime) -> Result<(), Fail>
     want_cuts(rt.alloc(), CUTS)
 }
 
-/// The run of a replay over these readers.
-fn replay_over(
-    alloc: Global,
-    schedule: &mut Watched<Trickle<'static>>,
-    files: &mut [Watched<Trickle<'static>>],
-) -> Ran
-    requires even { length files.old % 2 ≡ 0 }
-    requires some { 2 ≤ length files.old }
-{
-    let mut output = Watched::new(Vec::new(alloc));
-    let mut error = Watched::new(Vec::new(alloc));
-    let status = replay_job(alloc, Form::Nfc, schedule, files, &mut output, &mut error);
-    Ran {
-        status,
-        output: output.into_inner(),
-        error: error.into_inner(),
-    }
-}
-
 /// A reader, which fails at its first call where that is asked for.
 fn failing(bytes: &'static [u8], fails: bool) -> Watched<Trickle<'static>> {
     let call = if fails { 0 } else { NEVER };
@@ -277,7 +167,7 @@ fn replay_fails(alloc: Global, number: u8, line: &str) -> Result<bool, Fail> {
     let mut schedule = failing(b"room 1\nnodes 0\n", number == 4);
     let ran = replay_over(alloc, &mut schedule, &mut files);
     want(is_answer(&ran, &(5, "", line)), line)?;
-    Ok(schedule.into_inner().calls() > 0)
+    Ok(count_of(schedule) > 0)
 }
 
 #[test]
@@ -300,7 +190,7 @@ fn versions_are_read_in_order_and_then_the_schedule(rt: HostRuntime) -> Result<(
 }
 
 /// Readers of `key` whose marks are from before.
-fn mended_readers() -> Result<Readers, Fail> {
+fn mended_readers() -> Result<Readers<Trickle<'static>>, Fail> {
     Ok(Readers {
         data: mended(V1_DATA.as_bytes())?,
         exclusions: mended(V1_EXCLUSIONS.as_bytes())?,
@@ -310,12 +200,12 @@ fn mended_readers() -> Result<Readers, Fail> {
     })
 }
 
-fn wants_key(alloc: Global, readers: &mut Readers) -> Result<(), Fail> {
+fn wants_key(alloc: Global, readers: &mut Readers<Trickle<'static>>) -> Result<(), Fail> {
     let ran = run_over(alloc, Reading::Key, readers);
     want(is_answer(&ran, &(0, "Aa", "")), "the key")
 }
 
-fn wants_no_mark(readers: &Readers) -> Result<(), Fail> {
+fn wants_no_mark(readers: &Readers<Trickle<'static>>) -> Result<(), Fail> {
     want(!readers.data.failed() && !readers.text.failed(), "no mark")
 }
 

@@ -22,24 +22,34 @@ fn shown(alloc: Global, read: &Result<Job, WordsFault>) -> Result<String, Fail> 
     }
 }
 
-/// What the words are read as; they are read a second time where memory was refused, as `tests/refusals.py` has it in
-/// turn.
-fn read(alloc: Global, words: &[String]) -> Result<String, Fail> {
-    let read = again(&WordsFault::Memory, &|| parse(alloc, words));
-    shown(alloc, &read)
+/// A program, by how it reads its words.
+pub(crate) trait ReadsWords {
+    /// What the words are read as; they are read a second time where memory was refused, as `tests/refusals.py` has it
+    /// in turn.
+    fn read(alloc: Global, words: &[String]) -> Result<String, Fail>;
+}
+
+/// The program `npss`.
+struct Npss;
+
+impl ReadsWords for Npss {
+    fn read(alloc: Global, words: &[String]) -> Result<String, Fail> {
+        let read = again(&WordsFault::Memory, &|| parse(alloc, words));
+        shown(alloc, &read)
+    }
 }
 
 /// Fails unless the words, divided by spaces, are read so.
-fn is_read(alloc: Global, text: &str, wanted: &str) -> Result<(), Fail> {
+pub(crate) fn is_read<P: ReadsWords>(alloc: Global, text: &str, wanted: &str) -> Result<(), Fail> {
     let words = words_of(alloc, text)?;
-    let found = read(alloc, words.as_slice())?;
+    let found = P::read(alloc, words.as_slice())?;
     want(found.as_str() == wanted, text)
 }
 
 /// Fails unless each row's words, divided by spaces, are read as it says.
-fn are_read(alloc: Global, rows: &[(&str, &str)]) -> Result<(), Fail> {
+pub(crate) fn are_read<P: ReadsWords>(alloc: Global, rows: &[(&str, &str)]) -> Result<(), Fail> {
     for (text, wanted) in rows {
-        is_read(alloc, text, wanted)?;
+        is_read::<P>(alloc, text, wanted)?;
     }
     Ok(())
 }
@@ -47,7 +57,7 @@ fn are_read(alloc: Global, rows: &[(&str, &str)]) -> Result<(), Fail> {
 /// Fails unless all of these words, divided by spaces, are read so.
 fn all_are_read(alloc: Global, texts: &[&str], wanted: &str) -> Result<(), Fail> {
     for text in texts {
-        is_read(alloc, text, wanted)?;
+        is_read::<Npss>(alloc, text, wanted)?;
     }
     Ok(())
 }
@@ -134,7 +144,7 @@ const JOBS: &[(&str, &str)] = &[
 
 #[test]
 fn reads_words_that_name_a_job(rt: HostRuntime) -> Result<(), Fail> {
-    are_read(rt.alloc(), JOBS)
+    are_read::<Npss>(rt.alloc(), JOBS)
 }
 
 /// Words that name no job.
@@ -204,5 +214,5 @@ const FEW: &[(&str, &str)] = &[
 
 #[test]
 fn a_refused_parse_succeeds_after_all(rt: HostRuntime) -> Result<(), Fail> {
-    are_read(rt.alloc(), FEW)
+    are_read::<Npss>(rt.alloc(), FEW)
 }
