@@ -72,19 +72,19 @@ def facts_folder(release):
     return f"npss-{release.version}.dist-info"
 
 
-def facts(release):
-    """The files that tell what the module is, however it is packed."""
-    metadata = (f"Metadata-Version: 2.1\nName: npss\nVersion: {release.version}\nSummary: {SUMMARY}\n"
-                f"Requires-Python: >={PYTHON[0]}.{PYTHON[1]}\nClassifier: Operating System :: POSIX :: Linux\n"
-                "Classifier: Typing :: Typed\nDescription-Content-Type: text/markdown\n\n")
+def metadata(release):
+    """What tells Python of the module, however it is packed."""
+    told = (f"Metadata-Version: 2.1\nName: npss\nVersion: {release.version}\nSummary: {SUMMARY}\n"
+            f"Requires-Python: >={PYTHON[0]}.{PYTHON[1]}\nClassifier: Operating System :: POSIX :: Linux\n"
+            "Classifier: Typing :: Typed\nDescription-Content-Type: text/markdown\n\n")
     page = (ROOT / "docs" / "INSTALL.md").read_text(encoding="utf-8")
-    return {"METADATA": metadata + page, "top_level.txt": "npss\n"}
+    return told + page
 
 
 def described(release, tag):
     """The files that tell what the wheel is."""
     wheel = "".join(["Wheel-Version: 1.0\nGenerator: npss\nRoot-Is-Purelib: false\n", f"Tag: {tag}\n"])
-    return {**facts(release), "WHEEL": wheel}
+    return {"METADATA": metadata(release), "WHEEL": wheel, "top_level.txt": "npss\n"}
 
 
 def make_wheel(release, prefix, proved, to, room):
