@@ -1,5 +1,5 @@
 //! Keys and normal forms of bytes, into room that the caller lends.
-ghost use Rattle.std.specs.Prelude.{IfOk, IfErr, IsTrue, if◌then◌else◌};
+ghost use Rattle.std.specs.Prelude.{IfOk, IfErr, IsAscii, IsTrue, if◌then◌else◌};
 ghost use Rattle.np_c.specs.Answers.{IsFormAnswer, IsKeyAnswer, IsPut};
 ghost use Rattle.np_c.specs.Texts.{IsFormOf, IsKeyOf, IsNoForm, IsNoKey};
 
@@ -14,6 +14,18 @@ use np_versions::NormTable;
 /// The most bytes of a text that is looked at byte by byte.
 const SHORT: usize = 64;
 
+/// Whether bytes are ASCII. It ends at the first that isn't: std's call looks at words first, which few bytes don't repay.
+fn are_ascii(bytes: &[u8]) -> bool
+    ensures { IsTrue result → IsAscii bytes.now }
+{
+    for byte in bytes {
+        if *byte >= 0x80 {
+            return false;
+        }
+    }
+    true
+}
+
 /// Whether bytes are known to be their own key, and so their own form: they are few and ASCII, as many names are.
 fn stays<T: NormTable>(table: &T, form: Form, bytes: &[u8]) -> bool
     ensures { IsTrue result → IsKeyOf (T.model table.now) form bytes.now bytes.now }
@@ -23,7 +35,7 @@ fn stays<T: NormTable>(table: &T, form: Form, bytes: &[u8]) -> bool
     if bytes.len() > SHORT {
         return false;
     }
-    if !bytes.is_ascii() {
+    if !are_ascii(bytes) {
         return false;
     }
     table.ascii_passes(form)
