@@ -31,7 +31,7 @@ from pathlib import Path
 import ucd
 from harness import Tally
 
-from npss_registry import LogBroken, Registry, Version, init
+from npss_registry import LogAway, LogBroken, Registry, Version, init
 from npss_registry.judge import Judge
 from npss_registry.logs import open_log
 from npss_registry.records import Forget, Setup, spelled
@@ -249,11 +249,21 @@ class Chaos:
         setup = Setup(words.form or drawn, self.source.choice((40, 65536)), self.source.choice((1, 3)), self.source.random() < 0.2)
         self.setup = setup
         for number in range(NODES):
-            data, exclusions = (Path(name).read_bytes() for name in self.files[number % len(AGES)])
-            init(str(self.store(number)), Version(data, exclusions), setup, self.log(number))
+            self._init(number)
         self.seconds, self.begin = words.seconds, time.time()
         self.end = self.begin + words.seconds
         self.nodes = [Node(number, self, words.seed * 100 + number) for number in range(NODES)]
+
+    def _init(self, number):
+        """Makes a node's store; where a busy machine's server doesn't answer in time, once more."""
+        data, exclusions = (Path(name).read_bytes() for name in self.files[number % len(AGES)])
+        for left in reversed(range(10)):
+            try:
+                init(str(self.store(number)), Version(data, exclusions), self.setup, self.log(number))
+                return
+            except LogAway:
+                if not left:
+                    raise
 
     def store(self, number):
         return self.folder / f"store{number}"

@@ -80,7 +80,7 @@ def planted(folder, name):
 
 
 def found_after(copy, program, seconds):
-    """After how many seconds chaos failed; None where it didn't."""
+    """After how many seconds chaos failed, and the first line that tells why; None where it didn't."""
     environment = {**os.environ, "PYTHONPATH": f"{copy}:{os.environ.get('PYTHONPATH', '')}"}
     begun, seed = time.time(), 0
     while time.time() - begun < seconds:
@@ -89,7 +89,8 @@ def found_after(copy, program, seconds):
             words = [sys.executable, ROOT / "tests" / "chaos.py", "--seconds", "30", "--seed", str(seed), "--log", log, "--form", form, program]
             ran = subprocess.run(list(map(str, words)), env=environment, stdout=subprocess.PIPE, stderr=subprocess.STDOUT, text=True, check=False)
             if ran.returncode:
-                return time.time() - begun
+                lines = ran.stdout.splitlines()
+                return round(time.time() - begun), next((line for line in lines if line.startswith("FAILED")), "".join(lines[-1:]))
     return None
 
 
@@ -101,13 +102,14 @@ def main():
     words = parser.parse_args()
     tally = Tally()
     with tempfile.TemporaryDirectory() as folder:
-        if not tally.check("no bug, no failure", found_after(copied(folder), words.program, 1) is None, "chaos fails over the registry as it is"):
+        found = found_after(copied(folder), words.program, 1)
+        if not tally.check("no bug, no failure", found is None, found):
             tally.finish()
     for name in words.only or PLANTS:
         with tempfile.TemporaryDirectory() as folder:
-            seconds = found_after(planted(folder, name), words.program, words.seconds)
-        tally.check(name, seconds is not None, f"not found within {words.seconds} seconds")
-        print(f"{name}: found after {seconds and round(seconds)} seconds", flush=True)
+            found = found_after(planted(folder, name), words.program, words.seconds)
+        tally.check(name, found is not None, f"not found within {words.seconds} seconds")
+        print(f"{name}: " + (f"found after {found[0]} seconds: {found[1][:200]}" if found else "not found"), flush=True)
     tally.finish()
 
 
