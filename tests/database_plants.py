@@ -53,7 +53,7 @@ PLANTS = {
     "rows of the same statement are not seen": (RECORD, "read_rows(relation, SnapshotSelf)", "read_rows(relation, NULL)", "Upgrades"),
     "sessions are not told of a raise": (RECORD, "\tCacheInvalidateRelcache(relation);\n", "", "Upgrades"),
     "a session that missed messages stays behind": (RECORD, "relation == watched || relation == InvalidOid", "relation == watched", "Upgrades"),
-    "a row that is recorded comes again": (RECORD, "if (is_recorded(rows, fresh->digest))", "if (false)"),
+    "a row that is recorded comes again": (RECORD, "if (is_recorded(rows, fresh->digest))", "if (is_recorded(rows, \"\"))"),
     "the least count is in force": (RECORD, "a > b ? -1 : a < b", "a < b ? -1 : a > b"),
     "a version that lags is kept": (RECORD, "known.lags = version->assigned <", "known.lags = version->assigned >", "Standby"),
     "earlier versions stay open": (RECORD, "\tshut_versions_but(version);\n", "", "Upgrades"),
@@ -114,7 +114,7 @@ PLANTS = {
     "SQLite: an index stands on npss_normalize": (LITE, "{\"npss_normalize\", 2, ASK,", "{\"npss_normalize\", 2, KEY,", "Indexes"),
     "SQLite: a key is not innocuous": (LITE, "KEY = SQLITE_UTF8 | SQLITE_DETERMINISTIC | SQLITE_INNOCUOUS", "KEY = SQLITE_UTF8 | SQLITE_DETERMINISTIC", "Indexes"),
     "SQLite: a schema raises": (LITE, "DIRECT = SQLITE_UTF8 | SQLITE_DIRECTONLY", "DIRECT = SQLITE_UTF8", "Indexes"),
-    "SQLite: a key ends at U+0000": (LITE, "(char *)small, a.length, SQLITE_TRANSIENT", "(char *)small, strnlen((char *)small, a.length), SQLITE_TRANSIENT", "Functions"),
+    "SQLite: a key ends at U+0000": (LITE, "(char *)small, a.length, SQLITE_TRANSIENT", "(char *)small, memchr(small, 0, a.length) ? 1 : a.length, SQLITE_TRANSIENT", "Functions"),
     "SQLite: a long key is not freed": (LITE, "room, a.length, sqlite3_free, SQLITE_UTF8", "room, a.length, SQLITE_TRANSIENT, SQLITE_UTF8", "Memory"),
     "SQLite: a connection's tables are not closed": (LITE, "    npss_close(&self->tables);\n    sqlite3_free(self);", "    sqlite3_free(self);", "Memory"),
 }

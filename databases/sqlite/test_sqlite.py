@@ -143,6 +143,11 @@ class Indexes(Case):
         base = self.with_names()
         for call in ("npss_try_key(name)", "npss_normalize(name)", "npss_is_normalized(name)", "npss_equivalent(name, 'a')", "npss_version()"):
             self.refused("non-deterministic", base, f"CREATE INDEX other ON account ({call})")
+        rows = base.execute("SELECT name || narg, flags & 0x800 > 0, flags & 0x200000 > 0, flags & 0x80000 > 0 FROM pragma_function_list WHERE name LIKE 'npss%'")
+        keys = {"npss_key1", "npss_key2", "npss_nfc1", "npss_nfd1", "npss_nfkc1", "npss_nfkd1"}
+        direct = {"npss_open1", "npss_open2", "npss_audit1", "npss_audit2", "npss_raise1", "npss_raise2"}
+        for name, *flags in rows:
+            self.assertEqual(flags, [int(name in keys), int(name not in direct), int(name in direct)], name)
 
     def test_where_schemas_are_not_trusted(self):
         base = self.with_names()
@@ -316,10 +321,13 @@ class Raises(Case):
             base.execute("BEGIN IMMEDIATE")
             base.execute("SELECT npss_raise(?)", (first,))
 
-            def other(path=path, second=second, answers=answers):
+            comes = threading.Event()
+
+            def other(path=path, second=second, answers=answers, comes=comes):
                 with contextlib.closing(sqlite3.connect(path, isolation_level=None, timeout=30)) as beside:
                     beside.enable_load_extension(True)
                     beside.load_extension(EXTENSION)
+                    comes.set()
                     try:
                         answers.append(beside.execute("SELECT npss_raise(?)", (second,)).fetchone()[0])
                     except sqlite3.Error as error:
@@ -327,7 +335,8 @@ class Raises(Case):
 
             thread = threading.Thread(target=other)
             thread.start()
-            time.sleep(0.5)
+            comes.wait()
+            time.sleep(1)
             base.execute("COMMIT")
             thread.join()
             self.assertIn(str(told), str(answers[0]))
@@ -422,7 +431,9 @@ class Memory(Case):
                 self.assertEqual(self.asked(base, "npss_audit(?)", MIDDLE), "Lost 0CF3")
                 self.assertIsNone(self.asked(base, "npss_try_key(?)", "\ufdfa" * 20_000 + "\U000e0080"))
                 self.assertEqual(self.asked(base, "length(npss_nfkd(?))", "\ufdfa" * 20_000), 360_000)
-                self.connect().close()
+                beside = self.connect()
+                self.assertEqual(self.asked(beside, "npss_key('a')"), "a")
+                beside.close()
             now = int(Path("/proc/self/statm").read_text().split()[1]) * 4096
             before, grown = now, now - before
         # The tables of a version have some 3 MB, and its files 2 MB.
