@@ -1,5 +1,6 @@
 -- A run between two reads.
-use Rattle.std.specs.Prelude.{◌≡◌, ℕ, ◌+◌, ◌<◌, ◌≤◌, ◌⊎◌, ◌++◌, Bool, false, List, [], length, take, drop, chars, encode_utf8_all, IsUtf8, Option, Result}
+use Rattle.std.specs.Prelude.{◌≡◌, ℕ, ◌+◌, ◌<◌, ◌≤◌, ◌⊎◌, ◌++◌, Bool, false, List, [], length, take, drop}
+use Rattle.std.specs.Prelude.{chars, encode_utf8_all, IsUtf8, Option, Result}
 use Rattle.std.specs.Io.KnownBytes.{Appends, Consumes}
 use Rattle.np_code_points.specs.Text.{IsLongestValidPrefix}
 use Rattle.np_code_points.specs.declared.forms.Form.{Form}
@@ -13,7 +14,8 @@ use Rattle.np_versions.specs.Conditions.{IsSound}
 use Rattle.np_versions.specs.Versions.{VersionData}
 
 -- of what was read, from i₀ to i₁, all but the begin of a character was fed, and all that is ready is written, from o₀ to o₁
-pub record IsRunning (v : VersionData) (form : Form) (i₀ i₁ o₀ o₁ : Option (List ℕ)) (kept : List ℕ) (total count : ℕ) (s : StreamState) : Type 0 where
+pub record IsRunning (v : VersionData) (form : Form) (i₀ i₁ o₀ o₁ : Option (List ℕ)) (kept : List ℕ) (total count : ℕ) (s : StreamState)
+    : Type 0 where
   pub done : List ℕ
   pub taken : Consumes i₀ i₁ (done ++ kept)
   pub utf8 : IsUtf8 done
@@ -46,7 +48,9 @@ pub record IsBeforeLast (Begins : List ℕ → ℕ → Type 0) (chunk : List ℕ
 
 -- n bytes of the chunk are a text, and `total` bytes were read with it
 abbrev pub IsChunkCause : List ℕ → ℕ → ℕ → RunFault → Type 0
-IsChunkCause chunk total n (NotUtf8 place) = (place + length chunk ≡ total + n) × ((total ≤ 4294967295 × MayNotBegin chunk n) ⊎ (total ≡ 4294967296 × IsBeforeLast MayNotBegin chunk))
+IsChunkCause chunk total n (NotUtf8 place) =
+    (place + length chunk ≡ total + n)
+    × ((total ≤ 4294967295 × MayNotBegin chunk n) ⊎ (total ≡ 4294967296 × IsBeforeLast MayNotBegin chunk))
 IsChunkCause chunk total n ReadFailed = ⊥
 IsChunkCause chunk total n WriteFailed = ⊥
 IsChunkCause chunk total n TooLarge = total ≡ 4294967296 × IsBeforeLast MayBegin chunk
@@ -91,13 +95,16 @@ pub record IsPieceWritten (old new : StreamState) (o₁ o₂ : Option (List ℕ)
   pub version : new.version ≡ old.version
   pub form : new.form ≡ old.form
   pub moved : new.ready ≡ []
-  pub carries : (fed out : List ℕ) → IsStreaming old.version old.form fed out old.pending → IsStreaming old.version old.form (fed ++ text) (out ++ more) new.pending
+  pub carries : (fed out : List ℕ) → IsStreaming old.version old.form fed out old.pending
+      → IsStreaming old.version old.form (fed ++ text) (out ++ more) new.pending
 
 -- a text was fed in part, and nothing was written, or it was fed, and of what became ready some first bytes were written
 pub record IsPieceCut (old : StreamState) (o₁ o₂ : Option (List ℕ)) (text : List ℕ) : Type 0 where
   pub out : List ℕ
   pub written : Appends o₁ o₂ out
-  pub front : (out ≡ []) ⊎ ((more : List ℕ) × ((rest : List ℕ) × (encode_utf8_all more ≡ out ++ rest) × ((fed done : List ℕ) → IsStreaming old.version old.form fed done old.pending → (pending : List ℕ) × IsStreaming old.version old.form (fed ++ text) (done ++ more) pending)))
+  pub front : (out ≡ []) ⊎ ((more : List ℕ) × ((rest : List ℕ) × (encode_utf8_all more ≡ out ++ rest)
+      × ((fed done : List ℕ) → IsStreaming old.version old.form fed done old.pending
+      → (pending : List ℕ) × IsStreaming old.version old.form (fed ++ text) (done ++ more) pending)))
 
 -- the text ended, and the rest of its form was written
 pub record IsRestWritten (old : StreamState) (o₁ o₂ : Option (List ℕ)) (before after : ℕ) : Type 0 where
@@ -110,14 +117,20 @@ pub record IsRestWritten (old : StreamState) (o₁ o₂ : Option (List ℕ)) (be
 pub record IsRestCut (old : StreamState) (o₁ o₂ : Option (List ℕ)) : Type 0 where
   pub out : List ℕ
   pub written : Appends o₁ o₂ out
-  pub front : (out ≡ []) ⊎ ((more : List ℕ) × ((rest : List ℕ) × (encode_utf8_all more ≡ out ++ rest) × ((fed done : List ℕ) → IsStreaming old.version old.form fed done old.pending → IsNormalForm old.version old.form fed (done ++ more))))
+  pub front : (out ≡ []) ⊎ ((more : List ℕ) × ((rest : List ℕ) × (encode_utf8_all more ≡ out ++ rest)
+      × ((fed done : List ℕ) → IsStreaming old.version old.form fed done old.pending
+      → IsNormalForm old.version old.form fed (done ++ more))))
 
 -- a run goes on, whatever its version, its form and its begin
-abbrev pub Goes : StreamState → StreamState → Option (List ℕ) → Option (List ℕ) → Option (List ℕ) → Option (List ℕ) → List ℕ → List ℕ → ℕ → ℕ → ℕ → ℕ → Type 0
+abbrev pub Goes : StreamState → StreamState → Option (List ℕ) → Option (List ℕ) → Option (List ℕ) → Option (List ℕ)
+    → List ℕ → List ℕ → ℕ → ℕ → ℕ → ℕ → Type 0
 Goes s t i₁ i₂ o₁ o₂ kept left old new before after =
-    (form : Form) (i₀ o₀ : Option (List ℕ)) → IsRunning s.version form i₀ i₁ o₀ o₁ kept old before s → IsRunning s.version form i₀ i₂ o₀ o₂ left new after t
+    (form : Form) (i₀ o₀ : Option (List ℕ))
+    → IsRunning s.version form i₀ i₁ o₀ o₁ kept old before s → IsRunning s.version form i₀ i₂ o₀ o₂ left new after t
 
 -- a run ends
-abbrev pub Stops : StreamState → Option (List ℕ) → Option (List ℕ) → Option (List ℕ) → Option (List ℕ) → List ℕ → ℕ → ℕ → Result ℕ RunFault → Type 0
+abbrev pub Stops : StreamState → Option (List ℕ) → Option (List ℕ) → Option (List ℕ) → Option (List ℕ)
+    → List ℕ → ℕ → ℕ → Result ℕ RunFault → Type 0
 Stops s i₁ i₂ o₁ o₂ kept old before result =
-    (form : Form) (i₀ o₀ : Option (List ℕ)) → IsRunning s.version form i₀ i₁ o₀ o₁ kept old before s → RunEnds s.version form (record { in_before = i₀; in_after = i₂; out_before = o₀; out_after = o₂ }) result
+    (form : Form) (i₀ o₀ : Option (List ℕ)) → IsRunning s.version form i₀ i₁ o₀ o₁ kept old before s
+    → RunEnds s.version form (record { in_before = i₀; in_after = i₂; out_before = o₀; out_after = o₂ }) result
