@@ -1,10 +1,11 @@
 #!/usr/bin/env python3
-"""Fuzzes the library for C: tests/fuzz.py [--seconds N] [--seed S] [PREFIX].
+"""Fuzzes the library for C: tests/fuzz.py [--seconds N] [--seed S] [--instrumented] [PREFIX].
 
 PREFIX is where ./build-c installed the library, that of this tree where none is named. In turn, each for N seconds (default
 20): libFuzzer over the calls, whose answers are held against ICU's; texts that are made to be hard, the same way; and
 libFuzzer over npss_open, with small files and with edits of the published ones. ICU and Debian's package unicode-data
-have to be of one version. What is found is written to out/fuzz, and its name is told. The seed is told, too.
+have to be of one version. What is found is written to out/fuzz, and its name is told. The seed is told, too. With
+--instrumented the library is first built once more, with its branches counted, which leads libFuzzer (tests/fuzz/instrumented.py).
 
 Run as root it installs Debian's clang and libicu-dev where they are missing, unless NO_APT=1 is set. What can't run here is
 skipped, with the reason. Ends in a line 'N passed, M failed'.
@@ -24,9 +25,15 @@ import versions
 from harness import ROOT, Tally, install
 
 HERE = ROOT / "tests" / "fuzz"
+# Nothing is written into the tree but out/fuzz.
+sys.dont_write_bytecode = True
+sys.path.append(str(HERE))
+
+import instrumented
+
 FOUND = ROOT / "out" / "fuzz"
 # A fuzzer that ran fewer inputs in a second did nothing. An opening of the published files takes some 10 ms.
-LEAST = {"calls": 1000, "texts": 1000, "opening": 10}
+LEAST = {"calls": 200, "texts": 200, "opening": 2}
 # How much longer than its time a run may take: a single input, and the end.
 PATIENCE = 120
 # The bytes of the longest input of libFuzzer.
@@ -92,6 +99,7 @@ def main():
     parser = argparse.ArgumentParser(description="fuzzes the library for C beside ICU")
     parser.add_argument("--seconds", type=int, default=20, help="how long each runs (default 20)")
     parser.add_argument("--seed", type=int, default=random.randrange(1, 1 << 31))
+    parser.add_argument("--instrumented", action="store_true", help="over a library whose branches are counted, built for it")
     parser.add_argument("prefix", type=Path, nargs="?", default=ROOT / "out" / "c", help="where ./build-c installed the library")
     chosen = parser.parse_args()
     tally, why = Tally(), reason()
@@ -102,8 +110,9 @@ def main():
     FOUND.mkdir(parents=True, exist_ok=True)
     with tempfile.TemporaryDirectory() as room:
         folder = Path(room)
+        prefix = instrumented.library_below(folder) if chosen.instrumented else chosen.prefix.resolve()
         for name in LEAST:
-            program = built(tally, chosen.prefix.resolve(), folder, name)
+            program = built(tally, prefix, folder, name)
             words = [program, chosen.seconds, chosen.seed]
             if name != "texts":
                 words = [program, f"-max_total_time={chosen.seconds}", f"-seed={chosen.seed}", f"-max_len={LONGEST[name]}", "-print_final_stats=1",
