@@ -248,11 +248,15 @@ class Chaos:
         drawn = self.source.choice(("nfc", "nfkc"))
         setup = Setup(words.form or drawn, self.source.choice((40, 65536)), self.source.choice((1, 3)), self.source.random() < 0.2)
         self.setup = setup
+        self.seconds, self.seed = words.seconds, words.seed
+
+    def begin_nodes(self):
+        """Makes the stores, and the nodes over them, whose time begins now."""
         for number in range(NODES):
             self._init(number)
-        self.seconds, self.begin = words.seconds, time.time()
-        self.end = self.begin + words.seconds
-        self.nodes = [Node(number, self, words.seed * 100 + number) for number in range(NODES)]
+        self.begin = time.time()
+        self.end = self.begin + self.seconds
+        self.nodes = [Node(number, self, self.seed * 100 + number) for number in range(NODES)]
 
     def _init(self, number):
         """Makes a node's store; where a busy machine's server doesn't answer in time, once more."""
@@ -377,6 +381,7 @@ def main():
     with tempfile.TemporaryDirectory() as name:
         chaos = Chaos(Path(name), words)
         try:
+            chaos.begin_nodes()
             chaos.run()
             check(tally, chaos, words.program)
         finally:

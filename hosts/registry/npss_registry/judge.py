@@ -8,84 +8,22 @@ import os
 import subprocess
 import tempfile
 from bisect import bisect_right
-from collections.abc import Iterator, Sequence
+from collections.abc import Sequence
 from dataclasses import dataclass, field
 from typing import Optional
 
 from npss import Node, Tables
 
-from npss_registry import records
 from npss_registry.errors import LogBroken, NotOneChain, StoreError
-from npss_registry.logs import Log, open_log
-from npss_registry.records import Claim, Forget, Setup
-from npss_registry.shards import PIECE, Shard
+from npss_registry.ledger import Ledger, Registered
+from npss_registry.logs import open_log
+from npss_registry.shards import Shard
 from npss_registry.store import Event, Registration, Store, Version
 
 # What a schedule may have (docs/FORMATS.md, "Schedule").
 MOST_EVENTS = 1_000_000
 MOST_BYTES = 16_777_216
 MOST_NODES = 64
-
-
-@dataclass
-class Registered:
-    """A registration as the log alone has it: its number among all, and the place that ended it."""
-
-    number: int
-    place: int
-    string: str
-    key: str
-    owner: str
-    ended: Optional[int] = None
-
-
-class Ledger:
-    """What is registered by a log alone, by plain dictionaries: registrations and their ends, in the log's order."""
-
-    def __init__(self, setup: Setup, log: Log, shard: int):
-        self._setup = setup
-        self._by_string: dict[str, Registered] = {}
-        self._keys: dict[str, int] = {}
-        self.all: list[Registered] = []
-        # What happened at a place: a registration that began, or one that ended.
-        self.steps: list[tuple[int, str, Registered]] = []
-        for place, body in _whole(log, shard):
-            self._add(place, records.read(place, body))
-
-    def _add(self, place: int, record: records.Record) -> None:
-        if isinstance(record, Claim):
-            self._claim(place, record)
-        elif isinstance(record, Forget):
-            found = self._by_string.get(record.string)
-            if found and found.place == record.place:
-                del self._by_string[record.string]
-                self._keys[found.key] -= 1
-                found.ended = place
-                self.steps.append((place, "end", found))
-
-    def _claim(self, place: int, claim: Claim) -> None:
-        string, key = claim.string, claim.key
-        full = len(self._by_string) >= self._setup.room
-        alike = not self._setup.equivalents and self._keys.get(key, 0) > 0
-        if string in self._by_string or alike or full:
-            return
-        new = Registered(len(self.all), place, string, key, claim.owner)
-        self.all.append(new)
-        self._by_string[string] = new
-        self._keys[key] = self._keys.get(key, 0) + 1
-        self.steps.append((place, "begin", new))
-
-    def active(self, place: int) -> list[Registered]:
-        """What is registered behind the record at a place."""
-        return [one for one in self.all if one.place <= place and (one.ended is None or one.ended > place)]
-
-
-def _whole(log: Log, shard: int) -> Iterator[tuple[int, bytes]]:
-    """All records of a shard."""
-    at = 0
-    while piece := log.read(shard, at, PIECE):
-        yield from piece
-        at = piece[-1][0]
 
 
 @dataclass
@@ -279,6 +217,7 @@ class Judge:
         ledger = Ledger(self._setup, self._log, shard)
         for store in stores:
             self._compare_rows(shard, store, ledger)
+        stores = [store for store in stores if self._is_of(shard, store, ledger)]
         for at in range(0, len(stores), MOST_NODES - 1):
             group = [StoreNode(store, ledger) for store in stores[at:at + MOST_NODES - 1]]
             schedule = self._together(ledger, group)
@@ -316,6 +255,16 @@ class Judge:
         for place in sorted(wanted.keys() | found.keys()):
             if wanted.get(place) != found.get(place):
                 self._find(shard, store.name, f"at place {place} the log has {wanted.get(place)}, the store {found.get(place)}")
+
+    def _is_of(self, shard: int, store: Judged, ledger: Ledger) -> bool:
+        """Whether a schedule can tell the store's journal: all that it began with and took stands in the log."""
+        active = {one.string for one in ledger.active(store.base_place)}
+        places = {one.place for one in ledger.all}
+        others = [repr(string) for string in store.base if string not in active]
+        others += [f"place {event.place}" for event in store.journal if event.event == "taken" and event.place not in places]
+        if others:
+            self._find(shard, store.name, f"its node kept what the log doesn't register: {', '.join(others[:5])}")
+        return not others
 
     def _fits(self, schedule: Schedule) -> bool:
         return len(schedule.lines) <= self._most_events and schedule.size + 1024 <= self._most_bytes

@@ -26,7 +26,7 @@ from npss_registry import Differs, InUse, LogAway, LogBroken, NotOneChain, Regis
 from npss_registry.command import main as command
 from npss_registry.judge import Judge
 from npss_registry.logs import SqliteLog, open_log
-from npss_registry.records import Forget, Setup, claim_of, message, read, shard_of, spelled
+from npss_registry.records import Forget, Setup, claim_of, message, read, shard_of, spelled, sum_of
 from npss_registry.relog import relog
 
 PROGRAM, FIXTURES = sys.argv[1], Path(sys.argv[2])
@@ -364,6 +364,18 @@ class Judging(Case):
             self.assertTrue(self.judged(copy), change)
             os.unlink(copy)
         self.assertEqual(self.judged(path), [])
+
+    def test_a_journal_of_what_the_log_does_not_register(self):
+        node = self.node("one")
+        node.claim("A", "x")
+        copy = str(self.folder / "copy")
+        node.store.backup(copy)
+        self.open(copy).close()
+        with contextlib.closing(sqlite3.connect(self.log)) as base, base:
+            base.execute("UPDATE record SET body = ? WHERE place = 2", (spelled(claim_of(message("nfc", "a", "a"), "x")),))
+        with contextlib.closing(sqlite3.connect(copy)) as base, base:
+            base.execute("UPDATE shard SET sum = ?", (sum_of(spelled(claim_of(message("nfc", "a", "a"), "x"))),))
+        self.assertRegex("\n".join(self.judged(copy)), "its node kept what the log doesn't register: 'A'")
 
     def test_a_long_run_is_judged_in_segments(self):
         node = self.node("one")
