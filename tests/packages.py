@@ -315,8 +315,8 @@ def check_registry(tally, root):
 def check_service(tally, root):
     """The registry's service is off until somebody starts it, and its line serves a store, to this machine alone."""
     text = (root.folder / UNIT).read_text(encoding="utf-8")
-    name = Path(UNIT).name
-    tally.same("the service is off", [place for place in root.listed() if place.endswith(name) and place != UNIT], [])
+    started = [place for place in root.listed() if place.startswith("etc/") and place.endswith(Path(UNIT).name)]
+    tally.same("the service is off", started, [])
     with socket.socket() as free:
         free.bind(("127.0.0.1", 0))
         port = free.getsockname()[1]
