@@ -72,6 +72,7 @@ class Proxy:
                     near.close()
                     continue
                 far = socket.create_connection(("127.0.0.1", self.to), timeout=2)
+                far.settimeout(None)  # a slow answer isn't a cut
             except OSError:
                 continue
             for one, other in ((near, far), (far, near)):
