@@ -182,7 +182,8 @@ class Node(threading.Thread):
 
     def stop(self):
         if self.process:
-            self.process.stdin.close()
+            with contextlib.suppress(BrokenPipeError):  # what it died of is told by its answer, which is missing
+                self.process.stdin.close()
             self.process.wait()
             self.process.stdout.close()
 

@@ -17,8 +17,8 @@ from pathlib import Path
 
 from harness import ROOT, Tally
 
-# What chaos runs over, in turn.
-RUNS = (("sqlite", "nfc"), ("redis", "nfkc"), ("sqlite", "nfkc"), ("redis", "nfc"))
+# What chaos runs over, in turn, and its first seed, one of a registry that refuses equivalents.
+RUNS, SEED = (("sqlite", "nfkc"), ("redis", "nfc"), ("sqlite", "nfc"), ("redis", "nfkc")), 3
 # For each bug its file, a text that stands there once, and what stands there in its place.
 PLANTS = {
     "a transaction is split in two": ("registry.py", """                with self._writing():
@@ -82,12 +82,12 @@ def planted(folder, name):
 def found_after(copy, program, seconds):
     """After how many seconds chaos failed, and the first line that tells why; None where it didn't."""
     environment = {**os.environ, "PYTHONPATH": f"{copy}:{os.environ.get('PYTHONPATH', '')}"}
-    begun, seed = time.time(), 0
+    begun, seed = time.time(), SEED
     while time.time() - begun < seconds:
         for log, form in RUNS:
-            seed += 1
             words = [sys.executable, ROOT / "tests" / "chaos.py", "--seconds", "30", "--seed", str(seed), "--log", log, "--form", form, program]
             ran = subprocess.run(list(map(str, words)), env=environment, stdout=subprocess.PIPE, stderr=subprocess.STDOUT, text=True, check=False)
+            seed += 1
             if ran.returncode:
                 lines = ran.stdout.splitlines()
                 return round(time.time() - begun), next((line for line in lines if line.startswith("FAILED")), "".join(lines[-1:]))
