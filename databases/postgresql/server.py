@@ -98,10 +98,10 @@ class Server:
         return [self.programs / "psql", "-X", "-q", "-A", "-t", "-h", self.folder, "-U", USER, "-d", base, *words]
 
     def sql(self, text, base="postgres", settings=""):
-        """What a text of SQL answers; an error with its SQLSTATE where it fails."""
+        """What a text of SQL answers; an error with its SQLSTATE where it fails, or where it comes to no end."""
         environment = {**os.environ, "PGOPTIONS": settings}
         ran = subprocess.run(words_as_user(self.psql(base, "-v", "ON_ERROR_STOP=1", "-v", "VERBOSITY=verbose")), input=text, stdout=subprocess.PIPE,
-                             stderr=subprocess.PIPE, text=True, env=environment, cwd="/", check=False)
+                             stderr=subprocess.PIPE, text=True, env=environment, cwd="/", check=False, timeout=300)
         if ran.returncode:
             raise SqlError(ran.stderr)
         self.told = ran.stderr
