@@ -312,7 +312,7 @@ def check_registry(tally, root):
         tally.check(f"npss-registry {words[0]}", status == 0 and (wanted is None or written == wanted), f"status {status}: {written}")
 
 
-def check_service(tally, root):
+def check_service(tally, root, room):
     """The registry's service is off until somebody starts it, and its line serves a store, to this machine alone."""
     text = (root.folder / UNIT).read_text(encoding="utf-8")
     started = [place for place in root.listed() if place.startswith("etc/") and place.endswith(Path(UNIT).name)]
@@ -335,7 +335,9 @@ def check_service(tally, root):
     if not shutil.which("systemd-analyze"):
         print("skipped: what systemd says of the service: systemd-analyze not found")
         return
-    told(tally, "systemd reads the service", ["systemd-analyze", "verify", "--man=no", f"--root={root.folder}", f"/{UNIT}"])
+    # The program isn't on this machine, nor are systemd's own units in the root.
+    (room / Path(UNIT).name).write_text(text.replace("/usr/bin/npss-registry", "/bin/true"), encoding="utf-8")
+    told(tally, "systemd reads the service", ["systemd-analyze", "verify", "--man=no", room / Path(UNIT).name])
     told(tally, "the service may do little", ["systemd-analyze", "security", "--offline=yes", f"--threshold={EXPOSURE}", root.folder / UNIT])
 
 
@@ -379,7 +381,7 @@ def check_root(tally, root, made, prefix, version, room):
     check_c(tally, root, room)
     check_python(tally, root, next(made.glob("*.whl"), None), version)
     check_registry(tally, root)
-    check_service(tally, root)
+    check_service(tally, root, room)
     check_databases(tally, root)
     check_completion(tally, root)
     check_removal(tally, root, DEBIAN, before)
