@@ -6,8 +6,8 @@ ghost use Rattle.np_node.specs.inside.KeyFaults.{IsKeyFault};
 ghost use Rattle.np_versions.specs.Versions.{VersionData};
 
 use crate::faults::NodeFault;
-use np_code_points::text::text_of;
 use np_code_points::Form;
+use np_code_points::text::text_of;
 use np_forms::{NpssFault, first_unassigned_char, lend_npss};
 use np_versions::NormTable;
 use std::alloc::Global;

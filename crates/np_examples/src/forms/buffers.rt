@@ -9,7 +9,11 @@ use std::test::Fail;
 /// Texts of the first version, and their keys under NFC and NFD: longer ones and shorter ones in turn, and some that stay.
 const ROWS: &[(&str, &str, &str)] = &[
     ("a\u{302}\u{323}", "\u{1EAD}", "a\u{323}\u{302}"),
-    ("\u{1EAD}\u{1EAD}\u{1EAD}A", "\u{1EAD}\u{1EAD}\u{1EAD}A", "a\u{323}\u{302}a\u{323}\u{302}a\u{323}\u{302}A"),
+    (
+        "\u{1EAD}\u{1EAD}\u{1EAD}A",
+        "\u{1EAD}\u{1EAD}\u{1EAD}A",
+        "a\u{323}\u{302}a\u{323}\u{302}a\u{323}\u{302}A",
+    ),
     ("A\u{30A}", "\u{C5}", "A\u{30A}"),
     ("", "", ""),
     ("\u{1EAD}", "\u{1EAD}", "a\u{323}\u{302}"),
@@ -45,7 +49,10 @@ fn wants_rows<T: NormTable>(buffer: &mut FormBuffer, table: &T) -> Result<(), Fa
 fn wants_release<T: NormTable>(buffer: &mut FormBuffer, table: &T) -> Result<(), Fail> {
     let made = make_npss(buffer, table, Form::Nfd, "\u{1EAD}")?;
     buffer.release_beyond(1_000_000);
-    want(made && buffer.as_str() == "a\u{323}\u{302}", "what may be kept")?;
+    want(
+        made && buffer.as_str() == "a\u{323}\u{302}",
+        "what may be kept",
+    )?;
     buffer.release_beyond(0);
     want(buffer.as_str() == "", "what is given back")?;
     wants_rows(buffer, table)

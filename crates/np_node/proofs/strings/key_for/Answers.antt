@@ -10,4 +10,4 @@ pub returns-in-Ok-clause-size : goal.returns-in-Ok-clause-size
 returns-in-Ok-clause-size g c =
     let v = g.T.NormTable.model c.args.table.now in
     small_key v c.meets_conditions.ensures c.args.form c.args.text.now (cow_str_bytes c.in-Ok.key) c.requires c.utf8.text
-        (record { utf8 = subst IsUtf8 c.as_str-text.ensures.value c.as_str-text.utf8; normal = c.in-Ok.ensures.normal })
+    (record { utf8 = subst IsUtf8 c.as_str-text.ensures.value c.as_str-text.utf8; normal = c.in-Ok.ensures.normal })
