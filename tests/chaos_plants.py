@@ -108,7 +108,7 @@ def main():
     for name in words.only or PLANTS:
         with tempfile.TemporaryDirectory() as folder:
             found = found_after(planted(folder, name), words.program, words.seconds)
-        tally.check(name, found is not None, f"not found within {words.seconds} seconds")
+        tally.check(name, found is not None and found[0] <= words.seconds, f"not found within {words.seconds} seconds")
         print(f"{name}: " + (f"found after {found[0]} seconds: {found[1][:200]}" if found else "not found"), flush=True)
     tally.finish()
 
