@@ -134,6 +134,12 @@ class Told:
         self.broken = []
         self.ends = 0
 
+    def end(self, status):
+        """How a node ended: as it was asked, at a write, or since the log was away."""
+        with self._lock:
+            if status not in (0, 9, 5):
+                self.broken.append(f"a node ended with status {status}")
+
     def add(self, asked, answer):
         with self._lock:
             if asked["do"] == "forget" and (answer is None or answer["what"] != "not registered"):
@@ -184,7 +190,7 @@ class Node(threading.Thread):
         if self.process:
             with contextlib.suppress(BrokenPipeError):  # what it died of is told by its answer, which is missing
                 self.process.stdin.close()
-            self.process.wait()
+            self.chaos.told.end(self.process.wait())
             self.process.stdout.close()
 
     def drawn(self):
@@ -195,6 +201,10 @@ class Node(threading.Thread):
         name = source.choice(self.chaos.pool) + source.choice(("", "1", "\u0301", str(source.randint(1, 30))))
         if chance < 0.14:
             name = self.paired()
+        elif chance < 0.22:
+            name = source.choice(self.chaos.told.forgets[-LAST:] or [name])
+        elif chance < 0.36:
+            name = f"now {int(time.time() * 4)}"  # what other nodes claim as well
         if chance < 0.62:
             return {"do": "claim", "name": name, "owner": source.choice("abc")}
         if chance < 0.76:
