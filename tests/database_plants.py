@@ -65,7 +65,6 @@ PLANTS = {
     "any encoding will do": (RECORD, "GetDatabaseEncoding() != PG_UTF8", "false", "Attacks"),
     # PostgreSQL: files and settings
     "a version is not closed with its context": (VERSIONS, "\tMemoryContextRegisterResetCallback(context, end);\n", "", "Bounds"),
-    "a version that is not kept is not closed": (VERSIONS, "\tif (find_version(version->digest) != version)\n\t\tMemory", "\tif (false)\n\t\tMemory", "Bounds"),
     "a pipe is waited for": (VERSIONS, "O_RDONLY | O_NONBLOCK", "O_RDONLY", "Attacks"),
     "a device is read": (VERSIONS, "!S_ISREG(about.st_mode) ||", "", "Attacks"),
     "a file of any size is read": (VERSIONS, "|| about.st_size > MOST_OF_A_FILE", "", "Attacks"),
@@ -73,8 +72,8 @@ PLANTS = {
     "a label names any folder": (VERSIONS, "&& label[0] != '.'", ""),
     "a missing file has another SQLSTATE": (VERSIONS, "ERRCODE_INSUFFICIENT_PRIVILEGE : ERRCODE_UNDEFINED_FILE", "ERRCODE_INSUFFICIENT_PRIVILEGE : ERRCODE_IO_ERROR"),
     "the postmaster has no resource owner": (VERSIONS, "CurrentResourceOwner = ResourceOwnerCreate(NULL, \"npss\");", ";", "Preloaded"),
-    "each version passes ASCII": (VERSIONS, "told.status != NPSS_DONE || told.code != 0 ||", "told.code != 0 ||"),
-    "the digest leaves the exclusions out": (VERSIONS, "\t\tpg_cryptohash_update(hash, exclusions->at, exclusions->length) < 0 ||\n", ""),
+    "each version passes ASCII": (VERSIONS, "version->ascii = passes_ascii(&version->handle);", "version->ascii = passes_ascii(&version->handle) || true;"),
+    "the digest leaves the exclusions out": (VERSIONS, "\t\tpg_cryptohash_update(hash, exclusions->at, exclusions->length) < 0 ||\n", "", "Attacks"),
     "what is preloaded is not marked": (VERSIONS, "version->preloaded = true;", "", "Preloaded"),
     "settings are defined within a parallel operation": (SETTINGS, "are_defined || IsInParallelMode()", "are_defined", "Upgrades"),
     "anybody sets the folder": (SETTINGS, "&folder, \"\", PGC_SUSET", "&folder, \"\", PGC_USERSET"),
@@ -169,7 +168,7 @@ def built(copy, kind, prefix):
 def is_found(kind, name, prefix, versions):
     """Whether the tests of an extension fail over a bug, or over none."""
     with tempfile.TemporaryDirectory() as folder:
-        Path(folder).chmod(0o755)
+        Path(folder).chmod(0o1777)  # valgrind writes there as the user of the servers
         words = [*built(planted(folder, name), kind, prefix), versions, *([ROOT / "fixtures"] if kind == "postgresql" else []), "-f"]
         if name and fails(folder, [*words, *(PLANTS[name][3:] or FIRST[kind])]):
             return True

@@ -20,9 +20,9 @@ class Attacks(Case):
         self.server.sql("CREATE TABLE account (name text)", base)
         return base
 
-    def swapped(self, content):
-        """Puts other bytes into the place of the data file of 14.0, for one test."""
-        path = self.versions / "14.0" / FILES[0]
+    def swapped(self, content, file=FILES[0]):
+        """Puts other bytes into the place of a file of 14.0, for one test."""
+        path = self.versions / "14.0" / file
         kept = path.read_bytes()
         self.addCleanup(path.write_bytes, kept)
         path.unlink()
@@ -34,6 +34,11 @@ class Attacks(Case):
         self.assertIn("The recorded digest is ", self.refused("55000", f"SELECT npss_nfc('{MARKED}')", base))
         self.assertEqual(self.server.sql("SELECT * FROM npss_ready('14.0')", base), 'f|the files are not those that this database recorded as "14.0"')
         self.assertEqual(self.server.sql("SELECT ready FROM npss_ready('15.0')", base), "t")
+
+    def test_other_exclusions(self):
+        base = self.with_account("excluded")
+        self.swapped((VERSIONS / "14.0" / FILES[1]).read_bytes() + b"# the same\n", FILES[1])
+        self.refused("55000", f"SELECT npss_nfc('{MARKED}')", base)
 
     def test_a_file_that_was_cut(self):
         base = self.with_account("cut")
@@ -57,7 +62,8 @@ class Attacks(Case):
         data.unlink()
         for make, state in ways:
             make(data)
-            self.refused(state, "SELECT npss_raise('odd')", base)
+            told = self.refused(state, "SELECT npss_raise('odd')", base)
+            self.assertIn("is not a file of at most 16777216 bytes" if state == "F0000" else "could not read file", told)
             (data.rmdir if make is os.mkdir else data.unlink)()
 
     def test_texts_that_are_not_utf8(self):
