@@ -243,13 +243,15 @@ const NO_IMAGES: &[NoImage] = &[
     (IMAGE, None, NodeFault::Full, "too little room"),
 ];
 
-/// What a full node refuses for itself, and what it knows: it has none of it refused for want of memory.
+/// What a full node refuses for itself, and what it knows: it has none of it refused for want of memory. Then it keeps a
+/// string again, which takes some.
 fn refuses<T: NormTable>(alloc: Global, node: &mut Node<'_, T>, long: &[u8]) -> Result<(), Fail> {
     keep_one(node)?;
     wants_refused(node, long, NodeFault::TooLong, "a long string")?;
     wants_steps(node, REFUSED)?;
     wants_no_nodes(alloc, node.table(), 1, NO_IMAGES)?;
-    wants_steps(node, FORGOTTEN)
+    wants_steps(node, FORGOTTEN)?;
+    keep_one(node)
 }
 
 fn asked<T: NormTable>(alloc: Global, node: &mut Node<'_, T>, call: &NodeCall) -> Result<(), Fail> {
