@@ -5,14 +5,23 @@ the flags of SanitizerCoverage on, makes the same archive with counters in it. T
 copy of the tree: some six minutes.
 """
 
+import importlib.machinery
+import importlib.util
 import os
 import shutil
 import subprocess
-from pathlib import Path
 
 from harness import ROOT
 
 COUNTERS = "-fsanitize-coverage=inline-8bit-counters,pc-table,trace-cmp"
+
+
+def kit_folder():
+    """Where ./prove finds the toolchain."""
+    loader = importlib.machinery.SourceFileLoader("prove", str(ROOT / "prove"))
+    prove = importlib.util.module_from_spec(importlib.util.spec_from_loader("prove", loader))
+    loader.exec_module(prove)
+    return prove.Kit().folder
 
 
 def toolchain_below(folder, kit):
@@ -47,7 +56,7 @@ def tree_below(folder):
 
 def library_below(folder):
     """A prefix that has the header and the archive."""
-    kit = Path(shutil.which("rt")).resolve().parent.parent
+    kit = kit_folder()
     tree = tree_below(folder)
     environment = {**os.environ, "NPSS_TOOLCHAIN": str(toolchain_below(folder, kit))}
     subprocess.run([tree / "prove", "np_c"], env=environment, check=True)
