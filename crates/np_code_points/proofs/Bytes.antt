@@ -1,5 +1,5 @@
 -- Bytes that are written piece by piece.
-use Rattle.std.proofs.Common.{◌≡◌, refl, ◌+◌, ◌-◌, ◌≤◌, ◌++◌, ℕ, List, Option, Result, Ok, Err, OnErr, MatchResult, IsOk, length, length-append, take, drop, ap, sym, subst}
+use Rattle.std.proofs.Common.{◌≡◌, refl, ◌+◌, ◌-◌, ◌≤◌, ◌++◌, ℕ, List, Option, Result, Ok, Err, OnErr, MatchResult, IsOk, length, length-append, take, drop, ap, sym, subst, ◌∙◌, append_assoc}
 use Rattle.std.specs.Io.KnownBytes.{Appends, Consumes}
 use Rattle.std.proofs.KnownBytes.{Appends-trans, Consumes-trans}
 use Rattle.std.proofs.Math.Seq.{take-add}
@@ -28,3 +28,7 @@ on_err (Err _) P p = p
 pub ok_at_utf8 : {T E U : Type 0} (r : Result T E) (P : T → Type 0) (Q : E → Type 0) → MatchResult r P (λ e. ¬ U × Q e) → U → IsOk r
 ok_at_utf8 (Ok _) P Q h u = refl
 ok_at_utf8 (Err _) P Q h u = absurd (h.0 u)
+
+-- one piece behind another
+pub behind : {y z : List ℕ} (x a b : List ℕ) → y ≡ x ++ a → z ≡ y ++ b → z ≡ x ++ (a ++ b)
+behind x a b first second = second ∙ ap (λ l. l ++ b) first ∙ append_assoc x a b

@@ -1,6 +1,7 @@
 -- Code points in hex digits, as UnicodeData.txt has them (UAX #44).
-use Rattle.std.specs.Prelude.{◌≡◌, ℕ, ◌+◌, ◌-◌, Bool, true, ◌&&◌, nat_le, nat_lt, List, ◌++◌, map, length, replicate, Option, Some, None, if◌then◌else◌}
+use Rattle.std.specs.Prelude.{◌≡◌, ℕ, ◌+◌, ◌-◌, Bool, true, ◌&&◌, nat_le, nat_lt, List, ◌++◌, map, length, replicate, codes, Option, Some, None, if◌then◌else◌}
 use Rattle.std.specs.Char.{digit_value}
+use Rattle.std.specs.Fmt.{decimal}
 use Rattle.std.specs.Int.Digits.{digits_of}
 use Rattle.std.specs.List.{list_all}
 use Rattle.std.specs.Str.Parse.{digits_value}
@@ -35,3 +36,7 @@ padded digits = replicate (4 - length digits) 48 ++ digits
 -- the number in upper-case hex digits: at least four, with no zero in front where there are more
 unfoldable pub code_digits : ℕ → List ℕ
 code_digits c = padded (map hex_digit (digits_of 16 c))
+
+-- that a code point of a text is not assigned, and its byte place there
+abbrev pub unassigned : ℕ → ℕ → List ℕ
+unassigned at code = codes "unassigned " ++ (code_digits code ++ (codes " at byte " ++ decimal at))

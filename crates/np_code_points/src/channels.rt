@@ -2,4 +2,5 @@
 //! them.
 pub mod input;
 pub mod output;
+pub mod pieces;
 pub mod watched;

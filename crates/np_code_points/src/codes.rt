@@ -1,8 +1,8 @@
 //! Code points in hex digits, as UnicodeData.txt has them (UAX #44).
 ghost use Rattle.std.specs.Char.{digit_value};
-ghost use Rattle.std.specs.Prelude.{◌≡◌, ◌<◌, ◌++◌, ◌↔◌, ℕ, true, false, IsNone, IfSome, MatchOption, SomeIff, is_ok, string_bytes, if◌then◌else◌};
+ghost use Rattle.std.specs.Prelude.{◌≡◌, ◌<◌, ◌++◌, ◌↔◌, ℕ, true, false, IsNone, IfSome, MatchOption, SomeIff, IfOk, is_ok, string_bytes, if◌then◌else◌};
 ghost use Rattle.std.specs.Str.{IsAscii};
-ghost use Rattle.np_code_points.specs.Codes.{IsScalarOf, code_digits, code_value, hex_digit as upper_hex_digit, is_code, is_hex_digit};
+ghost use Rattle.np_code_points.specs.Codes.{IsScalarOf, unassigned, code_digits, code_value, hex_digit as upper_hex_digit, is_code, is_hex_digit};
 ghost use Rattle.np_code_points.specs.inside.WordValues.{scalar_value};
 
 use crate::Memory;
@@ -105,4 +105,18 @@ pub fn write_code(out: &mut String, code: u32) -> Result<(), Memory>
         left /= 16;
     }
     push_ascii(out, &digits[at.min(4)..])
+}
+
+/// Appends that a text has an unassigned code point at a byte place, from 0: `unassigned 16D67 at byte 1`.
+///
+/// # Errors
+///
+/// `Memory` where memory ran out; some first bytes of the words may be appended then.
+pub fn write_unassigned(out: &mut String, at: usize, code: char) -> Result<(), Memory>
+    ensures { IfOk result (λ _. string_bytes out.new ≡ string_bytes out.old ++ unassigned at code) }
+{
+    out.push_str("unassigned ")?;
+    write_code(out, u32::from(code))?;
+    write!(out, " at byte {at}")?;
+    Ok(())
 }

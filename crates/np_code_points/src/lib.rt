@@ -13,7 +13,7 @@ pub mod lines;
 pub mod text;
 pub mod words;
 
-pub use channels::{input, output, watched};
+pub use channels::{input, output, pieces, watched};
 pub use forms::Form;
 use std::alloc::{AllocError, AllocFailed};
 use thiserror::Error;

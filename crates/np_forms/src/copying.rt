@@ -22,7 +22,7 @@ use crate::assigned::first_unassigned_of_few;
 use crate::classes::Classed;
 use crate::decomposing::decompose_first;
 use crate::fronts::write_front;
-use crate::held::settle;
+use crate::held::order_and_compose;
 use crate::normalizers::Normalizer;
 use crate::out_texts::OutText;
 use np_code_points::{Form, Memory};
@@ -139,7 +139,7 @@ pub(crate) fn write_next<'a, T: NormTable>(
     let form = normalizer.form;
     table.meets_conditions();
     let later = decompose_first(table, form, text, list)?;
-    settle(normalizer.alloc, table, form.composes(), list)?;
+    order_and_compose(normalizer.alloc, table, form.composes(), list)?;
     out.append_codes(list)?;
     Ok(later)
 }

@@ -53,7 +53,7 @@ pub(crate) fn hold_front<'a, T: NormTable>(
 }
 
 /// Puts a list in canonical order, and composes it where `composes`. After that its classes are of no account.
-pub(crate) fn settle<T: NormTable>(
+pub(crate) fn order_and_compose<T: NormTable>(
     alloc: Global,
     table: &T,
     composes: bool,
@@ -70,16 +70,16 @@ pub(crate) fn settle<T: NormTable>(
     Ok(())
 }
 
-/// The composite of the one code point of a settled list and a starter behind it.
-fn joined<T: NormTable>(table: &T, composes: bool, settled: &[Classed], d: char) -> Option<char>
-    ensures some { IfSome result (λ p. (composes ≡ true) × ((head : ℕ) × (codes_of settled.now ≡ head ∷ [])
+/// The composite of the one code point of a list and a starter behind it.
+fn joined<T: NormTable>(table: &T, composes: bool, list: &[Classed], d: char) -> Option<char>
+    ensures some { IfSome result (λ p. (composes ≡ true) × ((head : ℕ) × (codes_of list.now ≡ head ∷ [])
         × (composite (T.model table.now) head d ≡ Some p))) }
-    ensures none { IfNone result ((head : ℕ) → composes ≡ true → codes_of settled.now ≡ head ∷ [] → composite (T.model table.now) head d ≡ None) }
+    ensures none { IfNone result ((head : ℕ) → composes ≡ true → codes_of list.now ≡ head ∷ [] → composite (T.model table.now) head d ≡ None) }
 {
     if !composes {
         return None;
     }
-    match settled {
+    match list {
         [head] => composite_of(table, head.code(), d),
         [..] => None,
     }
@@ -106,7 +106,7 @@ fn push<T: NormTable>(
         held.pending.push(d)?;
         return Ok(());
     }
-    settle(alloc, table, composes, &mut held.pending)?;
+    order_and_compose(alloc, table, composes, &mut held.pending)?;
     if let Some(p) = joined(table, composes, &held.pending, d.code()) {
         held.pending.clear();
         held.pending.push(with_class(table, p))?;
@@ -153,7 +153,7 @@ pub(crate) fn finish<T: NormTable>(
     ensures nothing { OnOk result (held.new.pending.items ≡ []) }
     ensures ready { (more : List ℕ) × (held.new.ready.items ≡ held.old.ready.items ++ more) }
 {
-    settle(alloc, table, composes, &mut held.pending)?;
+    order_and_compose(alloc, table, composes, &mut held.pending)?;
     let rest = held.pending.as_slice();
     push_codes(rest, &mut held.ready)?;
     held.pending.clear();

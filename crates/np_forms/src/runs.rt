@@ -11,6 +11,7 @@ use crate::streams::Stream;
 use crate::utf8_prefixes::utf8_prefix_of;
 use crate::written::{close_text, feed_text};
 use np_code_points::output::{flush_once, write_whole};
+use np_code_points::pieces::{PIECE, new_piece, read_piece};
 use np_code_points::watched::Watched;
 use np_code_points::{Form, Memory};
 use np_versions::NormTable;
@@ -21,9 +22,6 @@ use thiserror::Error;
 
 /// The most bytes that the input of a run may have.
 pub const RUN_LIMIT: u64 = 4_294_967_295;
-
-/// The most bytes that are asked for at once.
-const PIECE: usize = 65_536;
 
 /// Why a run ended before the end of its input.
 #[derive(Clone, Copy, Debug, PartialEq, Eq, Drop, Error)]
@@ -46,29 +44,6 @@ pub enum RunFault {
     /// Memory ran out.
     #[error("out of memory")]
     Memory,
-}
-
-/// Reads once, at most up to the first byte past `RUN_LIMIT`, where `total` bytes were read before.
-fn read_piece<R: Read>(
-    source: &mut Watched<R>,
-    piece: &mut [u8],
-    total: u64,
-) -> Result<usize, RunFault>
-    requires clear { has_failed source.old ≡ false }
-    requires space { length piece.old ≡ PIECE }
-    requires fits { total ≤ RUN_LIMIT }
-    ensures ok { IfOk result (λ n. Consumes (R.remaining (device_of source.old)) (R.remaining (device_of source.new)) (take n piece.new)) }
-    ensures bound { IfOk result (λ n. (n ≤ length piece.new) × (total + n ≤ RUN_LIMIT + 1)) }
-    ensures end { IfOk result (λ n. n ≡ 0 → IsAtEnd (R.remaining (device_of source.new))) }
-    ensures err { OnErr result (Consumes (R.remaining (device_of source.old)) (R.remaining (device_of source.new)) []) }
-    ensures fault { IfErr result (λ fault. fault ≡ RunFault.ReadFailed) }
-    ensures failed { IsErr result ↔ (has_failed source.new ≡ true) }
-{
-    let want = PIECE.min((RUN_LIMIT + 1 - total) as usize);
-    match source.read(&mut piece[..want]) {
-        Ok(n) => Ok(n),
-        Err(_) => Err(RunFault::ReadFailed),
-    }
 }
 
 /// Makes a list one list and another behind it.
@@ -121,7 +96,7 @@ struct Input {
     chunk: Vec<u8>,
     /// How many bytes were read.
     total: u64,
-    ghost space: { vec_len piece ≡ 65536 },
+    ghost space: { vec_len piece ≡ PIECE },
 }
 
 /// Reads once, and answers how many bytes of the chunk are a text; the rest is kept. None at the end of the input.
@@ -141,7 +116,10 @@ fn next_chunk<R: Read>(
     ensures err { IfErr result (IsInputFault (R.remaining (device_of source.old)) (R.remaining (device_of source.new)) input.old.kept.items input.old.total) }
     ensures failed { result ≡ Err RunFault.ReadFailed ↔ (has_failed source.new ≡ true) }
 {
-    let n = read_piece(source, &mut input.piece, input.total)?;
+    let most = (RUN_LIMIT + 1 - input.total) as usize;
+    let Ok(n) = read_piece(source, &mut input.piece, most) else {
+        return Err(RunFault::ReadFailed);
+    };
     if n == 0 {
         return Ok(None);
     }
@@ -295,9 +273,8 @@ fn run_on<R: Read, W: Write, T: NormTable>(
 fn new_input(alloc: Global) -> Result<Input, Memory>
     ensures { IfOk result (λ input. (input.kept.items ≡ []) × (input.total ≡ 0)) }
 {
-    let piece = vec![in alloc; 0u8; PIECE]?;
     Ok(Input {
-        piece,
+        piece: new_piece(alloc)?,
         kept: Vec::new(alloc),
         chunk: Vec::new(alloc),
         total: 0,

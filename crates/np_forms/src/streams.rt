@@ -10,7 +10,7 @@ ghost use Rattle.np_versions.specs.Versions.{class_of};
 use crate::apart_streams::ApartStream;
 use crate::classes::Classed;
 use crate::decomposing::{append, is_own};
-use crate::held::{Held, finish, hold_front, push_all, settle};
+use crate::held::{Held, finish, hold_front, order_and_compose, push_all};
 use crate::normalizers::Normalizer;
 use crate::ordering::are_non_starters;
 use crate::out_texts::OutText;
@@ -270,13 +270,13 @@ impl<'t, T: NormTable> Stream<'t, T> {
         ensures { OnOk result (Breaks self.old self.new out.old out.new) }
     {
         self.table.meets_conditions();
-        let settled = settle(
+        let ordered = order_and_compose(
             self.alloc,
             self.table,
             self.form.composes(),
             &mut self.held.pending,
         );
-        let written = match settled {
+        let written = match ordered {
             Ok(()) => out.append_codes(&self.held.pending),
             Err(fault) => Err(fault),
         };

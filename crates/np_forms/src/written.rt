@@ -1,10 +1,8 @@
 //! Texts written as a stream gives them.
-ghost use Rattle.std.specs.Prelude.{◌≡◌, ◌++◌, ◌∷◌, [], false, chars as chars_in, encode_utf8_all, IfOk, IsTrue, OnOk};
-ghost use Rattle.np_forms.specs.Assigned.{IsAssigned};
+ghost use Rattle.std.specs.Prelude.{◌≡◌, ◌++◌, ◌∷◌, [], chars as chars_in, encode_utf8_all, OnOk};
 ghost use Rattle.np_forms.specs.inside.Written.{Closes, Writes};
 
-use crate::assigned::first_unassigned_char;
-use crate::copying::{split_head, split_tail, write_form, write_fronts};
+use crate::copying::{split_head, split_tail, write_form};
 use crate::out_texts::OutText;
 use crate::streams::Stream;
 use np_code_points::Memory;
@@ -98,29 +96,4 @@ pub(crate) fn close_text<T: NormTable>(
     write_chars(stream, out, head)?;
     stream.finish_into(out)?;
     write_form(&normalizer, body, out)
-}
-
-/// Takes the last piece of a text in, and writes the rest of its form, as `close_text` does, and tells whether each
-/// code point of the piece is assigned. Where one is not, the form may be cut short.
-pub(crate) fn close_assigned<T: NormTable>(
-    stream: &mut Stream<'_, T>,
-    out: &mut OutText,
-    text: &str,
-) -> Result<bool, Memory>
-    requires { stream.old.ready ≡ [] }
-    ensures form { IfOk result (λ all. IsTrue all → Closes stream.old out.old out.new (chars_in text.now)) }
-    ensures assigned { IfOk result (λ all. IsTrue all → IsAssigned stream.old.version (chars_in text.now)) }
-    ensures lacking { IfOk result (λ all. all ≡ false → ¬ IsAssigned stream.old.version (chars_in text.now)) }
-{
-    let normalizer = stream.normalizer();
-    normalizer.table.meets_conditions();
-    if stream.pending_len() == 0 {
-        let all = write_fronts(&normalizer, true, text, out)?;
-        return Ok(all);
-    }
-    if first_unassigned_char(normalizer.table, text).is_some() {
-        return Ok(false);
-    }
-    close_text(stream, out, text)?;
-    Ok(true)
 }

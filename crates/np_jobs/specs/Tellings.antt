@@ -3,7 +3,7 @@ use Rattle.std.specs.Prelude.{ℕ, Bool, true, false, ◌==◌, List, [], ◌++�
 use Rattle.std.specs.Fmt.{decimal}
 use Rattle.np_chain.specs.Breaks.{name_of}
 use Rattle.np_chain.specs.declared.breaks.Break.{Break}
-use Rattle.np_code_points.specs.Codes.{code_digits}
+use Rattle.np_code_points.specs.Codes.{code_digits, unassigned}
 use Rattle.np_code_points.specs.declared.channels.input.InputFault.{InputFault}
 use Rattle.np_code_points.specs.declared.channels.input.InputFault.TheVariants as Inputs
 use Rattle.np_versions.specs.TableFaults as tables
@@ -74,7 +74,7 @@ input_line what Inputs.Memory = memory_line
 
 -- unassigned XXXX at byte N, behind what says of which text
 abbrev pub unassigned_line : List ℕ → ℕ → ℕ → List ℕ
-unassigned_line head at code = head ++ (codes "unassigned " ++ (code_digits code ++ (codes " at byte " ++ (decimal at ++ codes "\n"))))
+unassigned_line head at code = head ++ (unassigned at code ++ codes "\n")
 
 abbrev pub text_telling : TextFault → Telling
 text_telling (Texts.Input fault) = fixed (input_status fault) (input_line (codes "input") fault)

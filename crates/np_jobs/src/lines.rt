@@ -9,7 +9,7 @@ use crate::faults::{JobFault, ReplayFault, TextFault, VersionFault};
 use crate::statuses::MEMORY;
 use np_chain::Break;
 use np_code_points::Memory;
-use np_code_points::codes::write_code;
+use np_code_points::codes::{write_code, write_unassigned};
 use np_code_points::input::InputFault;
 use np_ucd::UcdFault;
 use np_versions::TableFault;
@@ -107,8 +107,10 @@ pub(super) fn unassigned_text(
 ) -> Result<String, Memory>
     ensures { IfOk result (λ text. string_bytes text ≡ tellings.unassigned_line head.now at code) }
 {
-    let code = code_text(alloc, u32::from(code))?;
-    Ok(format!(in alloc; "{head}unassigned {code} at byte {at}\n")?)
+    let mut text = String::from_str(alloc, head)?;
+    write_unassigned(&mut text, at, code)?;
+    text.push_str("\n")?;
+    Ok(text)
 }
 
 /// The line on an unassigned code point, where `head` says of which text.

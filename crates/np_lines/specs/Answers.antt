@@ -2,7 +2,7 @@
 use Rattle.std.specs.Prelude.{◌≡◌, ◌⊎◌, ℕ, ◌<◌, ◌≤◌, Bool, false, ◌==◌, List, [], ◌∷◌, ◌++◌, length, chars, codes, encode_utf8_all, IsUtf8}
 use Rattle.std.specs.Fmt.{decimal}
 use Rattle.std.specs.List.{AllZip}
-use Rattle.np_code_points.specs.Codes.{code_digits}
+use Rattle.np_code_points.specs.Codes.{unassigned}
 use Rattle.np_code_points.specs.Lines.{HasNo}
 use Rattle.np_code_points.specs.Text.{IsLongestValidPrefix}
 use Rattle.np_code_points.specs.declared.forms.Form.{Form}
@@ -44,9 +44,6 @@ told_refusal why = 33 ∷ why
 
 abbrev pub not_utf8 : ℕ → List ℕ
 not_utf8 at = codes "not UTF-8 at byte " ++ decimal at
-
-abbrev pub unassigned : ℕ → ℕ → List ℕ
-unassigned at code = codes "unassigned " ++ (code_digits code ++ (codes " at byte " ++ decimal at))
 
 -- the key is told, unless it has the byte that ends lines: a version may map to it
 abbrev pub IsToldKey : LineEnd → List ℕ → List ℕ → Type 0

@@ -1,14 +1,14 @@
 //! The answer to a line: `=` and its key, or `!` and why it has none.
 ghost use Rattle.std.specs.Prelude.{◌≡◌, ◌++◌, ◌∷◌, ◌≤◌, false, length, string_bytes, IfOk, IsTrue, OnOk};
-ghost use Rattle.np_code_points.specs.Codes.{code_digits};
+ghost use Rattle.np_code_points.specs.Codes.{unassigned};
 ghost use Rattle.np_code_points.specs.Lines.{HasNo};
-ghost use Rattle.np_lines.specs.Answers.{IsAnswer, IsAnswerWithin, IsToldKey, not_utf8, told_key, told_refusal, unassigned};
+ghost use Rattle.np_lines.specs.Answers.{IsAnswer, IsAnswerWithin, IsToldKey, not_utf8, told_key, told_refusal};
 ghost use Rattle.np_lines.specs.Lines.{byte_of};
 ghost use Rattle.np_lines.specs.inside.Steps.{IsTold};
 
 use crate::lines::{LineEnd, Wanted};
 use np_code_points::Memory;
-use np_code_points::codes::write_code;
+use np_code_points::codes::write_unassigned;
 use np_code_points::lines::cut;
 use np_code_points::text::text_of;
 use np_forms::{NpssFault, lend_npss};
@@ -68,9 +68,9 @@ fn not_utf8_text(alloc: Global, at: usize) -> Result<String, Memory>
 fn unassigned_text(alloc: Global, at: usize, code: char) -> Result<String, Memory>
     ensures { IfOk result (λ text. string_bytes text ≡ unassigned at code) }
 {
-    let mut digits = String::new(alloc);
-    write_code(&mut digits, u32::from(code))?;
-    Ok(format!(in alloc; "unassigned {digits} at byte {at}")?)
+    let mut text = String::new(alloc);
+    write_unassigned(&mut text, at, code)?;
+    Ok(text)
 }
 
 /// Appends the answer to a line that is a text within the limit. Answers whether it is refused.

@@ -9,14 +9,12 @@ use crate::lines::Wanted;
 use crate::pending::Pending;
 use np_code_points::Memory;
 use np_code_points::output::{flush_once, write_whole};
+use np_code_points::pieces::{PIECE, new_piece, read_piece};
 use np_code_points::watched::Watched;
 use np_versions::NormTable;
 use std::alloc::Global;
 use std::io::{Read, Write};
 use thiserror::Error;
-
-/// The most bytes that are asked for at once.
-const PIECE: usize = 65_536;
 
 /// Why a run ended before all lines were answered.
 #[derive(Clone, Copy, Debug, PartialEq, Eq, Error)]
@@ -30,31 +28,6 @@ pub enum LinesFault {
     /// Memory ran out.
     #[error("out of memory")]
     Memory,
-}
-
-/// Room for what one read gives.
-fn new_piece(alloc: Global) -> Result<Vec<u8>, Memory>
-    ensures { IfOk result (λ piece. vec_len piece ≡ PIECE) }
-{
-    Ok(vec![in alloc; 0u8; PIECE]?)
-}
-
-/// Reads once, and answers how many bytes came: none at the end of the input alone.
-fn read_piece<R: Read>(source: &mut Watched<R>, piece: &mut [u8]) -> Result<usize, LinesFault>
-    requires clear { has_failed source.old ≡ false }
-    requires space { length piece.old ≡ PIECE }
-    ensures ok { IfOk result (λ n. Consumes (R.remaining (device_of source.old)) (R.remaining (device_of source.new)) (take n piece.new)) }
-    ensures bound { IfOk result (λ n. n ≤ length piece.new) }
-    ensures end { IfOk result (λ n. n ≡ 0 → IsAtEnd (R.remaining (device_of source.new))) }
-    ensures same { length piece.new ≡ length piece.old }
-    ensures err { OnErr result (Consumes (R.remaining (device_of source.old)) (R.remaining (device_of source.new)) []) }
-    ensures fault { IfErr result (λ fault. fault ≡ LinesFault.ReadFailed) }
-    ensures failed { IsErr result ↔ (has_failed source.new ≡ true) }
-{
-    match source.read(piece) {
-        Ok(n) => Ok(n),
-        Err(_) => Err(LinesFault::ReadFailed),
-    }
 }
 
 /// Writes the answers that are not written yet.
@@ -153,7 +126,9 @@ fn answer_pieces<R: Read, W: Write, T: NormTable>(
         return Err(LinesFault::Memory);
     };
     'pieces: for _ in 0..u64::MAX {
-        let n = read_piece(source, &mut piece)?;
+        let Ok(n) = read_piece(source, &mut piece, PIECE) else {
+            return Err(LinesFault::ReadFailed);
+        };
         if n == 0 {
             return Ok(());
         }

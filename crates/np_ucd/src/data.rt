@@ -8,7 +8,7 @@ ghost use Rattle.np_ucd.specs.inside.RecordValues.{neighbour_value, IsMemoryOr};
 use crate::faults::UcdFault;
 use crate::kept_rows::KeptRows;
 use crate::records::{Neighbour, Record, read_record};
-use crate::row_list::{RowList, lent, owned};
+use crate::row_list::{RowList, owned};
 use crate::rows::{Row, Rows};
 use np_code_points::Memory;
 use np_code_points::lines::{DataLine, DataLines};
@@ -33,7 +33,7 @@ fn take_record(
 {
     let Record { neighbour, row } = read_record(alloc, before, line.number, line.text)?;
     if !neighbour.opens {
-        rows.push(lent(&row))?;
+        rows.push(&row)?;
     }
     Ok(neighbour)
 }

@@ -1,10 +1,10 @@
 //! Rows of sixteen bytes, and their mappings in one flat list.
 ghost use Rattle.std.specs.Prelude.{◌≡◌, ◌++◌, ◌+◌, ◌≤◌, ◌<◌, ◌↔◌, [], ◌∷◌, length, option_map, slice_get, IfOk, OnErr, IsTrue};
-ghost use Rattle.np_ucd.specs.RowValues.{lent_entry};
+ghost use Rattle.np_ucd.specs.RowValues.{entry_of, lent_entry};
 ghost use Rattle.np_ucd.specs.inside.KeptRows.{kept_entry};
 
 use crate::row_list::RowRef;
-use crate::rows::MapKind;
+use crate::rows::{MapKind, Row};
 use np_code_points::Memory;
 use std::alloc::Global;
 use std::marker::Model;
@@ -49,20 +49,21 @@ impl Model for KeptRows {
 
 /// Appends the mapping of a row, and answers the row as it is kept; `Memory` too where the mapping or
 /// its place is too large for a kept row.
-fn keep(codes: &mut Vec<char>, row: RowRef<'_>) -> Result<KeptRow, Memory>
-    ensures grown { IfOk result (λ _. codes.new.items ≡ codes.old.items ++ row.entry.mapping.now) }
-    ensures row { IfOk result (λ kept. kept_entry codes.new.items kept ≡ lent_entry row.entry) }
+fn keep(codes: &mut Vec<char>, row: &Row) -> Result<KeptRow, Memory>
+    ensures grown { IfOk result (λ _. codes.new.items ≡ codes.old.items ++ row.now.mapping.items) }
+    ensures row { IfOk result (λ kept. kept_entry codes.new.items kept ≡ entry_of row.now) }
     ensures within { IfOk result (λ kept. kept.start + kept.count ≤ length codes.new.items) }
     ensures same { OnErr result (codes.new.items ≡ codes.old.items) }
 {
+    let mapping = row.mapping.as_slice();
     // neither ever fails for a file: it has at most 16 MiB, and a mapping at most 32 code points
     let Ok(start) = u32::try_from(codes.len()) else {
         return Err(Memory);
     };
-    let Ok(count) = u8::try_from(row.mapping.len()) else {
+    let Ok(count) = u8::try_from(mapping.len()) else {
         return Err(Memory);
     };
-    codes.extend_from_slice(row.mapping)?;
+    codes.extend_from_slice(mapping)?;
     Ok(KeptRow {
         first: row.first,
         last: row.last,
@@ -102,8 +103,8 @@ impl KeptRows {
     }
 
     /// Adds a row behind the others.
-    pub(crate) fn push(&mut self, row: RowRef<'_>) -> Result<(), Memory>
-        ensures { IfOk result (λ _. self.new ≡ self.old ++ lent_entry row.entry ∷ []) }
+    pub(crate) fn push(&mut self, row: &Row) -> Result<(), Memory>
+        ensures { IfOk result (λ _. self.new ≡ self.old ++ entry_of row.now ∷ []) }
     {
         let kept = keep(&mut self.codes, row)?;
         self.rows.push(kept)?;

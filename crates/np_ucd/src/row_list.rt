@@ -54,19 +54,6 @@ impl fmt::Debug for RowList {
     }
 }
 
-/// A row as it is lent.
-pub(crate) fn lent(row: &Row) -> RowRef<'_>
-    ensures { lent_entry result ≡ entry_of row.now }
-{
-    RowRef {
-        first: row.first,
-        last: row.last,
-        class: row.class,
-        kind: row.kind,
-        mapping: row.mapping.as_slice(),
-    }
-}
-
 /// A row that has its mapping itself.
 pub(crate) fn owned(alloc: Global, row: RowRef<'_>) -> Result<Row, Memory>
     ensures { IfOk result (λ owned. entry_of owned ≡ lent_entry row.entry) }
@@ -102,7 +89,7 @@ impl RowList {
         let mut kept = KeptRows::with_capacity(alloc, rows.len())?;
         for at in 0..rows.len() {
             if let Some(row) = rows.get(at) {
-                kept.push(lent(row))?;
+                kept.push(row)?;
             }
         }
         Ok(RowList { rows: kept })

@@ -13,16 +13,16 @@ use Rattle.np_node.specs.declared.faults.NodeFault.{NodeFault}
 use Rattle.np_node.specs.declared.faults.NodeFault.TheVariants as fault
 use Rattle.np_versions.specs.Versions.{VersionData}
 use Rattle.np_world.specs.World.{Scene, sending, Finds, Accepts}
-use Rattle.np_world.specs.declared.members.Member.{Member}
+use Rattle.np_world.specs.declared.replay_nodes.ReplayNode.{ReplayNode}
 use Rattle.np_world.specs.declared.replies.Reply.{Reply}
 use Rattle.np_world.specs.declared.replies.Reply.TheVariants.{Sent, Known, Full, TooLong, Unassigned}
-use Rattle.np_world.specs.inside.Mirrors.{Rules, setting_of, Mirrors, IsMessageOf, AreMessages, Turns}
+use Rattle.np_world.specs.inside.Mirrors.{Rules, setting_of, Mirrors, IsMessageOf, AreMessages, NodeSteps}
 use Rattle.np_world.specs.inside.Told.{refusal_of}
 use Rattle.np_world.proofs.SentLemmas.{length-messages, messages-push}
 use Rattle.np_world.proofs.StringLemmas.{byte_length-chars, not_assigned, not_utf8}
-use Rattle.np_world.proofs.TurnLemmas.{Deed, scene, table_here, finds-known, finds-full, finds-place, keeps_more, turned, says}
+use Rattle.np_world.proofs.NodeStepLemmas.{Deed, scene, table_here, finds-known, finds-full, finds-place, keeps_more, node_stepped, says}
 
-module _ {T : Type 0} (model : T → VersionData) (rules : Rules T) (old new : Member T) (bytes : List ℕ) where
+module _ {T : Type 0} (model : T → VersionData) (rules : Rules T) (old new : ReplayNode T) (bytes : List ℕ) where
   abbrev pub deed_accept : Deed
   deed_accept version last = Accepts (setting_of model rules) version (chars bytes)
 
@@ -35,13 +35,13 @@ module _ {T : Type 0} (model : T → VersionData) (rules : Rules T) (old new : M
       → Accepts (setting_of model rules) (model old.node.table) (chars bytes) before reply after
   finds before after reply keepable does = inr (short_text keepable.utf8 keepable.short, inr (λ not. not keepable.assigned, does))
 
-  pub accepts-known : (told : List (Vec ℕ Global)) → IsKeepable (model old.node.table) bytes → IsKept old.node.entries bytes → new ≡ old → Turns model rules deed_accept old told Known new told
+  pub accepts-known : (told : List (Vec ℕ Global)) → IsKeepable (model old.node.table) bytes → IsKept old.node.entries bytes → new ≡ old → NodeSteps model rules deed_accept old told Known new told
   accepts-known told keepable kept same =
       says model rules deed_accept old new told Known same
       (λ node strings last are m sent end. finds (scene node strings) (scene node strings) Known keepable (finds-known model rules old node m strings bytes _ _ kept))
 
   -- the refusals, in the order of the faults
-  pub accepts-refused : (told : List (Vec ℕ Global)) (f : NodeFault) → IsUtf8 bytes → AnswersAccept (state_of model old.node) bytes (Err f) → new ≡ old → IfOk (refusal_of f) (λ reply. Turns model rules deed_accept old told reply new told)
+  pub accepts-refused : (told : List (Vec ℕ Global)) (f : NodeFault) → IsUtf8 bytes → AnswersAccept (state_of model old.node) bytes (Err f) → new ≡ old → IfOk (refusal_of f) (λ reply. NodeSteps model rules deed_accept old told reply new told)
   accepts-refused told (fault.Malformed at) utf8 answers same = absurd answers
   accepts-refused told fault.OtherForm utf8 answers same = absurd answers
   accepts-refused told fault.TooLong utf8 answers same =
@@ -58,7 +58,7 @@ module _ {T : Type 0} (model : T → VersionData) (rules : Rules T) (old new : M
   accepts-refused told fault.Memory utf8 answers same = tt
   accepts-refused told (fault.OlderTables need have) utf8 answers same = absurd answers
 
-  -- the message is that of the string, made under the member's version
+  -- the message is that of the string, made under the node's version
   is_of : (message : List ℕ) (twin : _) → Mirrors model rules old twin → IsKeepable (model old.node.table) bytes → KeepsAndTells model old.node new.node bytes message → IsMessageOf (setting_of model rules) message (chars bytes)
   is_of message twin m keepable tells =
       let e : Entry = record { string = bytes; key = tells.key } in
@@ -74,9 +74,9 @@ module _ {T : Type 0} (model : T → VersionData) (rules : Rules T) (old new : M
       }
 
   pub accepts-kept : (number : ℕ) (message : Vec ℕ Global) (sent told : List (Vec ℕ Global)) → HasPlace (state_of model old.node) bytes → KeepsAndTells model old.node new.node bytes message.items
-      → new.index ≡ old.index → new.image ≡ old.image → number ≡ length sent → told ≡ sent ++ message ∷ [] → Turns model rules deed_accept old sent (Sent number) new told
+      → new.index ≡ old.index → new.image ≡ old.image → number ≡ length sent → told ≡ sent ++ message ∷ [] → NodeSteps model rules deed_accept old sent (Sent number) new told
   accepts-kept number message sent told place tells index image count more =
-      turned model rules deed_accept old new sent told (Sent number)
+      node_stepped model rules deed_accept old new sent told (Sent number)
       (λ node strings last are m messages end.
       let here : number ≡ length strings = count ∙ length-messages (setting_of model rules) sent strings messages in
       let after : Scene = sending (chars bytes) (scene node strings) in

@@ -17,11 +17,11 @@ use Rattle.np_node.specs.Strings.{Entry, IsEntry}
 use Rattle.np_versions.specs.Conditions.{IsSound}
 use Rattle.np_versions.specs.Versions.{VersionData}
 use Rattle.np_world.specs.World.{MachineNode, Scene, Asks, If, OnlyReplies}
-use Rattle.np_world.specs.declared.members.Member.{Member}
+use Rattle.np_world.specs.declared.replay_nodes.ReplayNode.{ReplayNode}
 use Rattle.np_world.specs.declared.replies.Reply.{Reply}
 use Rattle.np_world.specs.declared.replies.Reply.TheVariants.{NotKept, Equal, Different}
-use Rattle.np_world.specs.inside.Mirrors.{Rules, setting_of, Mirrors, AreRules, Turns}
-use Rattle.np_world.proofs.TurnLemmas.{Deed, scene, bytes_of, has_text, table_here, says}
+use Rattle.np_world.specs.inside.Mirrors.{Rules, setting_of, Mirrors, AreRules, NodeSteps}
+use Rattle.np_world.proofs.NodeStepLemmas.{Deed, scene, bytes_of, has_text, table_here, says}
 
 -- ---- equivalence under two versions
 
@@ -40,7 +40,7 @@ same_under stability forms v w form sound_v sound_w extends a b is_a is_b =
     let late = forms w form (chars a.string) (chars b.string) (chars a.key) (chars b.key) sound_w late_a late_b in
     (λ h. late.0 (early.1 h), λ h. early.0 (late.1 h))
 
-module _ {T : Type 0} (model : T → VersionData) (rules : Rules T) (old : Member T) (twin : MachineNode) (last : VersionData) (m : Mirrors model rules old twin) where
+module _ {T : Type 0} (model : T → VersionData) (rules : Rules T) (old : ReplayNode T) (twin : MachineNode) (last : VersionData) (m : Mirrors model rules old twin) where
   -- an entry of a kept string
   entry_of : (bytes : List ℕ) → IsKept old.node.entries bytes → HasEntry (model old.node.table) old.node.form bytes
   entry_of bytes kept =
@@ -78,17 +78,17 @@ if_only : (P : Type 0) (first second reply : Reply) (before : Scene) → If P (r
 if_only P first second reply before (inl (is, same)) = inl (is, (same, refl))
 if_only P first second reply before (inr (not, same)) = inr (not, (same, refl))
 
-module _ {T : Type 0} (model : T → VersionData) (rules : Rules T) (old new : Member T) (left right : List ℕ) (told : List (Vec ℕ Global)) (same : new ≡ old) where
+module _ {T : Type 0} (model : T → VersionData) (rules : Rules T) (old new : ReplayNode T) (left right : List ℕ) (told : List (Vec ℕ Global)) (same : new ≡ old) where
   abbrev pub deed_ask : Deed
   deed_ask version last = Asks (setting_of model rules) last (chars left) (chars right)
 
-  pub asks-none : IsUtf8 left → IsUtf8 right → ¬ (IsKept old.node.entries left × IsKept old.node.entries right) → Turns model rules deed_ask old told NotKept new told
+  pub asks-none : IsUtf8 left → IsUtf8 right → ¬ (IsKept old.node.entries left × IsKept old.node.entries right) → NodeSteps model rules deed_ask old told NotKept new told
   asks-none one other lacks =
       says model rules deed_ask old new told NotKept same
       (λ node strings last are m sent end. inr (λ has. lacks (bytes_of model rules old node m left one has.0, bytes_of model rules old node m right other has.1), (refl, refl)))
 
   pub asks-kept : Stability → SameForms → IsKept old.node.entries left → IsKept old.node.entries right → (reply : Reply)
-      → If (IsEquivalent (model old.node.table) (is_compat old.node.form) (chars left) (chars right)) (reply ≡ Equal) (reply ≡ Different) → Turns model rules deed_ask old told reply new told
+      → If (IsEquivalent (model old.node.table) (is_compat old.node.form) (chars left) (chars right)) (reply ≡ Equal) (reply ≡ Different) → NodeSteps model rules deed_ask old told reply new told
   asks-kept stability forms one other reply is =
       says model rules deed_ask old new told reply same
       (λ node strings last are m sent end. inl (

@@ -16,14 +16,14 @@ use Rattle.np_node.specs.declared.taking.Taken.{Taken}
 use Rattle.np_node.specs.declared.taking.Taken.TheVariants as taken
 use Rattle.np_versions.specs.Versions.{VersionData}
 use Rattle.np_world.specs.World.{Setting, MachineNode, Scene, If, NamesNotUtf8, keeping, Finds, Receives, Forges}
-use Rattle.np_world.specs.declared.members.Member.{Member}
+use Rattle.np_world.specs.declared.replay_nodes.ReplayNode.{ReplayNode}
 use Rattle.np_world.specs.declared.replies.Reply.{Reply}
 use Rattle.np_world.specs.declared.replies.Reply.TheVariants.{Kept, Known, Full, TooLong, Unassigned, Malformed, OtherForm, NotUtf8, KeyDiffers}
-use Rattle.np_world.specs.inside.Mirrors.{Rules, setting_of, Mirrors, Turns}
+use Rattle.np_world.specs.inside.Mirrors.{Rules, setting_of, Mirrors, NodeSteps}
 use Rattle.np_world.specs.inside.Told.{refusal_of}
 use Rattle.np_world.proofs.CaseLemmas.{Same, both, one_finding, one_if, one_name, same_as}
 use Rattle.np_world.proofs.StringLemmas.{not_assigned, not_utf8}
-use Rattle.np_world.proofs.TurnLemmas.{Deed, scene, finds-known, finds-full, finds-place, keeps_more, same_member, turned, says}
+use Rattle.np_world.proofs.NodeStepLemmas.{Deed, scene, finds-known, finds-full, finds-place, keeps_more, same_replay_node, node_stepped, says}
 
 -- bytes tell one string and key at most
 pub one_entry : SpellsOne IsMessage → (bytes : List ℕ) (m n : Message) → IsMessage bytes m → IsMessage bytes n → m ≡ n
@@ -38,11 +38,11 @@ reply_to (Ok taken.Known) = Ok Known
 reply_to (Ok taken.Kept) = Ok Kept
 reply_to (Err f) = refusal_of f
 
-module _ {T : Type 0} (model : T → VersionData) (rules : Rules T) (old new : Member T) (bytes : List ℕ) where
+module _ {T : Type 0} (model : T → VersionData) (rules : Rules T) (old new : ReplayNode T) (bytes : List ℕ) where
   abbrev pub deed_forge : Deed
   deed_forge version last = Forges (setting_of model rules) version bytes
 
-  -- a message of the members' form
+  -- a message of the nodes' form
   receives : (twin : MachineNode) → Mirrors model rules old twin → (e : Entry) → IsMessage bytes (record { form = old.node.form; entry = e }) → (before after : Scene) (reply : Reply)
       → Receives (setting_of model rules) (model old.node.table) e.string e.key before reply after → Forges (setting_of model rules) (model old.node.table) bytes before reply after
   receives twin m e is before after reply does = inr (record { form = old.node.form; entry = e }, is, inr (λ other. other m.form, does))
@@ -61,7 +61,7 @@ module _ {T : Type 0} (model : T → VersionData) (rules : Rules T) (old new : M
       ))
 
   -- the refusals, in the order of the faults
-  forges-refused : (told : List (Vec ℕ Global)) (f : NodeFault) → AnswersTake (state_of model old.node) bytes (Err f) → new ≡ old → IfOk (refusal_of f) (λ reply. Turns model rules deed_forge old told reply new told)
+  forges-refused : (told : List (Vec ℕ Global)) (f : NodeFault) → AnswersTake (state_of model old.node) bytes (Err f) → new ≡ old → IfOk (refusal_of f) (λ reply. NodeSteps model rules deed_forge old told reply new told)
   forges-refused told (fault.Malformed at) answers same =
       says model rules deed_forge old new told (Malformed at) same (λ node strings last are m sent end. inl (at, answers, (refl, refl)))
   forges-refused told fault.OtherForm answers same =
@@ -102,19 +102,19 @@ module _ {T : Type 0} (model : T → VersionData) (rules : Rules T) (old new : M
   forges-refused told fault.Memory answers same = tt
   forges-refused told (fault.OlderTables need have) answers same = absurd answers
 
-  forges-known : (told : List (Vec ℕ Global)) → AnswersTake (state_of model old.node) bytes (Ok taken.Known) → new ≡ old → Turns model rules deed_forge old told Known new told
+  forges-known : (told : List (Vec ℕ Global)) → AnswersTake (state_of model old.node) bytes (Ok taken.Known) → new ≡ old → NodeSteps model rules deed_forge old told Known new told
   forges-known told answers same =
       let e = answers.entry in
       says model rules deed_forge old new told Known same
       (λ node strings last are m sent end. finds node m e answers.spelled (scene node strings) (scene node strings) Known answers.has.0 (finds-known model rules old node m strings e.string _ _ answers.has.1))
 
   forges-kept : (told : List (Vec ℕ Global)) → SpellsOne IsMessage → AnswersTake (state_of model old.node) bytes (Ok taken.Kept) → LeavesTaken old.node new.node bytes (Ok taken.Kept)
-      → new.index ≡ old.index → new.image ≡ old.image → Turns model rules deed_forge old told Kept new told
+      → new.index ≡ old.index → new.image ≡ old.image → NodeSteps model rules deed_forge old told Kept new told
   forges-kept told one answers leaves index image =
       let e = answers.entry in
       let same : leaves.0 ≡ e = ap (λ (x : Message). x.entry) (one_entry one bytes (record { form = old.node.form; entry = leaves.0 }) (record { form = old.node.form; entry = e }) leaves.1 answers.spelled) in
       let kept : new.node ≡ with_entry old.node e = leaves.2 ∙ ap (with_entry old.node) same in
-      turned model rules deed_forge old new told told Kept
+      node_stepped model rules deed_forge old new told told Kept
       (λ node strings last are m sent end.
       let after : Scene = keeping (chars e.string) (scene node strings) in
       record {
@@ -126,16 +126,16 @@ module _ {T : Type 0} (model : T → VersionData) (rules : Rules T) (old new : M
       })
 
   forges-by : (told : List (Vec ℕ Global)) → SpellsOne IsMessage → new.index ≡ old.index → new.image ≡ old.image → (r : Result Taken NodeFault)
-      → AnswersTake (state_of model old.node) bytes r → LeavesTaken old.node new.node bytes r → IfOk (reply_to r) (λ reply. Turns model rules deed_forge old told reply new told)
-  forges-by told one index image (Ok taken.Known) answers leaves = forges-known told answers (same_member new old index leaves image)
+      → AnswersTake (state_of model old.node) bytes r → LeavesTaken old.node new.node bytes r → IfOk (reply_to r) (λ reply. NodeSteps model rules deed_forge old told reply new told)
+  forges-by told one index image (Ok taken.Known) answers leaves = forges-known told answers (same_replay_node new old index leaves image)
   forges-by told one index image (Ok taken.Kept) answers leaves = forges-kept told one answers leaves index image
-  forges-by told one index image (Err f) answers leaves = forges-refused told f answers (same_member new old index leaves image)
+  forges-by told one index image (Err f) answers leaves = forges-refused told f answers (same_replay_node new old index leaves image)
 
   -- whatever the node answers
   pub forges : (told : List (Vec ℕ Global)) → SpellsOne IsMessage → new.index ≡ old.index → new.image ≡ old.image → {r x : Result Taken NodeFault} {back : Result Reply Memory} → r ≡ x → back ≡ reply_to x
-      → AnswersTake (state_of model old.node) bytes r → LeavesTaken old.node new.node bytes r → IfOk back (λ reply. Turns model rules deed_forge old told reply new told)
+      → AnswersTake (state_of model old.node) bytes r → LeavesTaken old.node new.node bytes r → IfOk back (λ reply. NodeSteps model rules deed_forge old told reply new told)
   forges told one index image {r} {x} {back} same replies answers leaves =
-      subst (λ b. IfOk b (λ reply. Turns model rules deed_forge old told reply new told)) (sym (replies ∙ ap reply_to (sym same))) (forges-by told one index image r answers leaves)
+      subst (λ b. IfOk b (λ reply. NodeSteps model rules deed_forge old told reply new told)) (sym (replies ∙ ap reply_to (sym same))) (forges-by told one index image r answers leaves)
 
 -- ---- one answer
 

@@ -8,7 +8,7 @@ use Rattle.std.specs.Prelude.{IfOk}
 use Rattle.std.specs.declared.vec.Vec.{Vec}
 use Rattle.std.specs.declared.alloc.Global.{Global}
 use Rattle.np_schedules.specs.Events.{Event, Save}
-use Rattle.np_world.specs.declared.members.Member.{Member}
+use Rattle.np_world.specs.declared.replay_nodes.ReplayNode.{ReplayNode}
 use Rattle.np_world.specs.inside.Worlds.{image_of, HaveImages, LeavesImages}
 
 pub ok_any : {A E : Type 0} (r : Result A E) (Q : A → Type 0) → ((x : A) → Q x) → IfOk r Q
@@ -30,7 +30,7 @@ pub images_none : (T : Type 0) → HaveImages {T = T} [] []
 images_none T k = (λ some. absurd (both_ways _ refl some), λ has. absurd (omega (arith, has.1)))
 
 module _ {T : Type 0} where
-  same_images : (members : List (Member T)) (n k : ℕ) (d new : Member T) → new.image ≡ (get_or members n d).image → image_of (set members n new) k ≡ image_of members k
+  same_images : (replay_nodes : List (ReplayNode T)) (n k : ℕ) (d new : ReplayNode T) → new.image ≡ (get_or replay_nodes n d).image → image_of (set replay_nodes n new) k ≡ image_of replay_nodes k
   same_images [] n k d new same = refl
   same_images (m ∷ ms) zero zero d new same = ap (option_map (λ (v : Vec ℕ Global). v.items)) same
   same_images (m ∷ ms) zero (suc k) d new same = refl
@@ -38,7 +38,7 @@ module _ {T : Type 0} where
   same_images (m ∷ ms) (suc n) (suc k) d new same = same_images ms n k d new same
 
   -- an event that saves no node leaves all images
-  leaves_all : (event : Event) (old new : List (Member T)) → saves event ≡ false → ((k : ℕ) → image_of new k ≡ image_of old k) → LeavesImages event old new
+  leaves_all : (event : Event) (old new : List (ReplayNode T)) → saves event ≡ false → ((k : ℕ) → image_of new k ≡ image_of old k) → LeavesImages event old new
   leaves_all event old new kept same k = (
     λ some. inl (subst (λ o. IsSome o) (same k) some),
     λ h.
@@ -48,14 +48,14 @@ module _ {T : Type 0} where
         ],
   )
 
-  pub images_kept : (event : Event) (members : List (Member T)) (n : ℕ) (d new : Member T) → saves event ≡ false → new.image ≡ (get_or members n d).image → LeavesImages event members (set members n new)
-  images_kept event members n d new kept same = leaves_all event members (set members n new) kept (λ k. same_images members n k d new same)
+  pub images_kept : (event : Event) (replay_nodes : List (ReplayNode T)) (n : ℕ) (d new : ReplayNode T) → saves event ≡ false → new.image ≡ (get_or replay_nodes n d).image → LeavesImages event replay_nodes (set replay_nodes n new)
+  images_kept event replay_nodes n d new kept same = leaves_all event replay_nodes (set replay_nodes n new) kept (λ k. same_images replay_nodes n k d new same)
 
-  pub images_stay : (event : Event) (members : List (Member T)) → saves event ≡ false → LeavesImages event members members
-  images_stay event members kept = leaves_all event members members kept (λ k. refl)
+  pub images_stay : (event : Event) (replay_nodes : List (ReplayNode T)) → saves event ≡ false → LeavesImages event replay_nodes replay_nodes
+  images_stay event replay_nodes kept = leaves_all event replay_nodes replay_nodes kept (λ k. refl)
 
   -- an event that saves a node
-  set_image : (members : List (Member T)) (n k : ℕ) (new : Member T) → n < length members → IsSome new.image → IsSome (image_of (set members n new) k) ↔ (IsSome (image_of members k) ⊎ (n ≡ k))
+  set_image : (replay_nodes : List (ReplayNode T)) (n k : ℕ) (new : ReplayNode T) → n < length replay_nodes → IsSome new.image → IsSome (image_of (set replay_nodes n new) k) ↔ (IsSome (image_of replay_nodes k) ⊎ (n ≡ k))
   set_image [] n k new lt some = absurd (omega arith)
   set_image (m ∷ ms) zero zero new lt some = (λ is. inr refl, λ h. is_some-image new.image some)
   set_image (m ∷ ms) zero (suc k) new lt some = (λ is. inl is, λ h. elim h [ inl is ↦ is | inr same ↦ absurd (omega arith) ])
@@ -66,9 +66,9 @@ module _ {T : Type 0} where
         λ h. elim h [ inl old ↦ rest.1 (inl old) | inr same ↦ rest.1 (inr (omega arith)) ],
       )
 
-  pub images_saved : (event : Event) (members : List (Member T)) (n : ℕ) (new : Member T) → event ≡ Save n → n < length members → IsSome new.image → LeavesImages event members (set members n new)
-  images_saved event members n new is lt some k =
-      let at = set_image members n k new lt some in (
+  pub images_saved : (event : Event) (replay_nodes : List (ReplayNode T)) (n : ℕ) (new : ReplayNode T) → event ≡ Save n → n < length replay_nodes → IsSome new.image → LeavesImages event replay_nodes (set replay_nodes n new)
+  images_saved event replay_nodes n new is lt some k =
+      let at = set_image replay_nodes n k new lt some in (
         λ h. elim (at.0 h) [ inl old ↦ inl old | inr same ↦ inr (subst (λ i. event ≡ Save i) same is) ],
         λ h.
             elim h [
@@ -79,16 +79,16 @@ module _ {T : Type 0} where
 
   -- ---- what all events did
 
-  lacks_more : (members : List (Member T)) (m : Member T) (k : ℕ) → m.image ≡ None → IsSome (image_of (members ++ m ∷ []) k) → IsSome (image_of members k)
+  lacks_more : (replay_nodes : List (ReplayNode T)) (m : ReplayNode T) (k : ℕ) → m.image ≡ None → IsSome (image_of (replay_nodes ++ m ∷ []) k) → IsSome (image_of replay_nodes k)
   lacks_more [] m zero none some = absurd (both_ways _ (ap (λ o. is_some (option_map (λ (v : Vec ℕ Global). v.items) o)) none) some)
   lacks_more [] m (suc k) none some = some
   lacks_more (x ∷ xs) m zero none some = some
   lacks_more (x ∷ xs) m (suc k) none some = lacks_more xs m k none some
 
-  pub images_lack : (members : List (Member T)) (m : Member T) → m.image ≡ None → HaveImages members [] → HaveImages (members ++ m ∷ []) []
-  images_lack members m none have k = (λ some. (have k).0 (lacks_more members m k none some), λ has. absurd (omega (arith, has.1)))
+  pub images_lack : (replay_nodes : List (ReplayNode T)) (m : ReplayNode T) → m.image ≡ None → HaveImages replay_nodes [] → HaveImages (replay_nodes ++ m ∷ []) []
+  images_lack replay_nodes m none have k = (λ some. (have k).0 (lacks_more replay_nodes m k none some), λ has. absurd (omega (arith, has.1)))
 
-  pub images_more : (old new : List (Member T)) (events : List Event) (event : Event) → HaveImages old events → LeavesImages event old new → HaveImages new (events ++ event ∷ [])
+  pub images_more : (old new : List (ReplayNode T)) (events : List Event) (event : Event) → HaveImages old events → LeavesImages event old new → HaveImages new (events ++ event ∷ [])
   images_more old new events event have leaves k = (
     λ some.
         elim ((leaves k).0 some) [

@@ -14,4 +14,4 @@ pub mod SaveLemmas
 pub mod SentLemmas
 pub mod StepLemmas
 pub mod StringLemmas
-pub mod TurnLemmas
+pub mod NodeStepLemmas

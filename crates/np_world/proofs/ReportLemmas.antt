@@ -23,34 +23,34 @@ use Rattle.np_world.specs.Laws.{OneRun}
 use Rattle.np_world.specs.Reports.{NodeAtEnd, ReportData, image_at, index_at, node_at, replies_of}
 use Rattle.np_world.specs.Runs.{setting_over, AgreeOn, AnswerAlike, AreKeysUnder, HasOneRun, InTheRun, IsLast, IsMessageUnder, IsNodeOf, IsSavedBy, LendsImages, LendsMessages, NeverSaved, texts_in}
 use Rattle.np_world.specs.World.{MachineNode, World, IsRun, start}
-use Rattle.np_world.specs.declared.members.Member.{Member}
+use Rattle.np_world.specs.declared.replay_nodes.ReplayNode.{ReplayNode}
 use Rattle.np_world.specs.declared.replies.Reply.{Reply}
 use Rattle.np_world.specs.inside.Mirrors.{Rules, setting_of, Mirrors, IsMessageOf, AreMessages, HasSaved}
 use Rattle.np_world.specs.inside.Played.{IsPlayed, IsPlayedBy, rules_over}
 use Rattle.np_world.specs.inside.ReportViews.{bytes_in, end_of, report_of}
 use Rattle.np_world.specs.inside.Worlds.{AreMirrored, image_of}
 use Rattle.np_world.proofs.AskLemmas.{equivalent_last}
-use Rattle.np_world.proofs.TurnLemmas.{table_here}
+use Rattle.np_world.proofs.NodeStepLemmas.{table_here}
 
 -- ---- what stands at a place of mirrored lists
 
-record AreBoth {T : Type 0} (model : T → VersionData) (rules : Rules T) (members : List (Member T)) (nodes : List MachineNode) (k : ℕ) : Type 0 where
-  member : Member T
+record AreBoth {T : Type 0} (model : T → VersionData) (rules : Rules T) (replay_nodes : List (ReplayNode T)) (nodes : List MachineNode) (k : ℕ) : Type 0 where
+  replay_node : ReplayNode T
   node : MachineNode
-  first : slice_get (map end_of members) k ≡ Some (end_of member)
+  first : slice_get (map end_of replay_nodes) k ≡ Some (end_of replay_node)
   second : slice_get nodes k ≡ Some node
-  mirrors : Mirrors model rules member node
+  mirrors : Mirrors model rules replay_node node
 
-both_at : {T : Type 0} (model : T → VersionData) (rules : Rules T) (members : List (Member T)) (nodes : List MachineNode) (k : ℕ) → AreMirrored model rules members nodes
-    → ((slice_get (map end_of members) k ≡ None) × (slice_get nodes k ≡ None)) ⊎ AreBoth model rules members nodes k
+both_at : {T : Type 0} (model : T → VersionData) (rules : Rules T) (replay_nodes : List (ReplayNode T)) (nodes : List MachineNode) (k : ℕ) → AreMirrored model rules replay_nodes nodes
+    → ((slice_get (map end_of replay_nodes) k ≡ None) × (slice_get nodes k ≡ None)) ⊎ AreBoth model rules replay_nodes nodes k
 both_at model rules [] [] k are = inl (refl, refl)
 both_at model rules [] (n ∷ ns) k are = absurd are
 both_at model rules (m ∷ ms) [] k are = absurd are
-both_at model rules (m ∷ ms) (n ∷ ns) zero are = inr (record { member = m; node = n; first = refl; second = refl; mirrors = are.0 })
+both_at model rules (m ∷ ms) (n ∷ ns) zero are = inr (record { replay_node = m; node = n; first = refl; second = refl; mirrors = are.0 })
 both_at model rules (m ∷ ms) (n ∷ ns) (suc k) are =
     elim (both_at model rules ms ns k are.1) [
       | inl none ↦ inl none
-      | inr both ↦ inr (record { member = both.member; node = both.node; first = both.first; second = both.second; mirrors = both.mirrors })
+      | inr both ↦ inr (record { replay_node = both.replay_node; node = both.node; first = both.first; second = both.second; mirrors = both.mirrors })
     ]
 
 record IsSentAt (model_setting : List VersionData) (told : List (Vec ℕ Global)) (strings : List (List ℕ)) (k : ℕ) (P : List ℕ → List ℕ → Type 0) : Type 0 where
@@ -88,23 +88,23 @@ same_truth false false there back = refl
 -- what holds of each report that mirrors a run holds where one is answered
 pub of_played : {T : Type 0} {model : T → VersionData} {tables : List T} {form : Form} {schedule : ScheduleData} {E : Type 0} (r : Result (ReportData T) E) (P : ReportData T → Type 0)
     → IfOk r (IsPlayed model tables form schedule)
-    → ((replies : List Reply) (told : List (Vec ℕ Global)) (members : List (Member T)) → IsPlayedBy model tables form schedule replies told members → P (report_of replies told members)) → IfOk r P
+    → ((replies : List Reply) (told : List (Vec ℕ Global)) (replay_nodes : List (ReplayNode T)) → IsPlayedBy model tables form schedule replies told replay_nodes → P (report_of replies told replay_nodes)) → IfOk r P
 of_played {model = model} {tables} {form} {schedule} r P played holds =
-    IfOk-weaker r (IsPlayed model tables form schedule) P (λ report is. subst P (sym is.report_is) (holds is.replies is.told is.members is.by)) played
+    IfOk-weaker r (IsPlayed model tables form schedule) P (λ report is. subst P (sym is.report_is) (holds is.replies is.told is.replay_nodes is.by)) played
 
 -- the last image of a node
-image_in_report : {T : Type 0} (replies : List Reply) (told : List (Vec ℕ Global)) (members : List (Member T)) (k : ℕ) → image_at (report_of replies told members) k ≡ image_of members k
+image_in_report : {T : Type 0} (replies : List Reply) (told : List (Vec ℕ Global)) (replay_nodes : List (ReplayNode T)) (k : ℕ) → image_at (report_of replies told replay_nodes) k ≡ image_of replay_nodes k
 image_in_report replies told [] k = refl
 image_in_report replies told (m ∷ ms) zero = refl
 image_in_report replies told (m ∷ ms) (suc k) = image_in_report replies told ms k
 
-module _ {T : Type 0} {model : T → VersionData} {tables : List T} {form : Form} {schedule : ScheduleData} {replies : List Reply} {told : List (Vec ℕ Global)} {members : List (Member T)}
-    (is : IsPlayedBy model tables form schedule replies told members) where
+module _ {T : Type 0} {model : T → VersionData} {tables : List T} {form : Form} {schedule : ScheduleData} {replies : List Reply} {told : List (Vec ℕ Global)} {replay_nodes : List (ReplayNode T)}
+    (is : IsPlayedBy model tables form schedule replies told replay_nodes) where
   abbrev report : ReportData T
-  report = report_of replies told members
+  report = report_of replies told replay_nodes
 
-  abbrev at : (i : ℕ) → ((slice_get (map end_of members) i ≡ None) × (slice_get is.ends.world.nodes i ≡ None)) ⊎ AreBoth model (rules_over tables form schedule) members is.ends.world.nodes i
-  at i = both_at model (rules_over tables form schedule) members is.ends.world.nodes i is.ends.shows.nodes
+  abbrev at : (i : ℕ) → ((slice_get (map end_of replay_nodes) i ≡ None) × (slice_get is.ends.world.nodes i ≡ None)) ⊎ AreBoth model (rules_over tables form schedule) replay_nodes is.ends.world.nodes i
+  at i = both_at model (rules_over tables form schedule) replay_nodes is.ends.world.nodes i is.ends.shows.nodes
 
   -- the run that the nodes mirror is the only one
   only_run : OneRun → (others : List Reply) (other : World) → IsRun (setting_over model tables form schedule) (start schedule.starts) schedule.events others other → (others ≡ replies) × (other ≡ is.ends.world)
@@ -125,45 +125,45 @@ module _ {T : Type 0} {model : T → VersionData} {tables : List T} {form : Form
       let same = only_run once others other run in
       subst (λ rs. P rs other) (sym same.0) (subst (P replies) (sym same.1) holds)
 
-  pub replies_are : OneRun → InTheRun model tables form schedule (λ others world. replies_of (report_of replies told members) ≡ others)
+  pub replies_are : OneRun → InTheRun model tables form schedule (λ others world. replies_of (report_of replies told replay_nodes) ≡ others)
   replies_are once = in_the_run once (λ others world. replies ≡ others) refl
 
-  pub indices_are : OneRun → InTheRun model tables form schedule (λ others world. (i : ℕ) → index_at (report_of replies told members) i ≡ option_map (λ node. node.index) (slice_get world.nodes i))
-  indices_are once = in_the_run once (λ others world. (i : ℕ) → index_at (report_of replies told members) i ≡ option_map (λ node. node.index) (slice_get world.nodes i)) (λ i.
+  pub indices_are : OneRun → InTheRun model tables form schedule (λ others world. (i : ℕ) → index_at (report_of replies told replay_nodes) i ≡ option_map (λ node. node.index) (slice_get world.nodes i))
+  indices_are once = in_the_run once (λ others world. (i : ℕ) → index_at (report_of replies told replay_nodes) i ≡ option_map (λ node. node.index) (slice_get world.nodes i)) (λ i.
       elim (at i) [
         | inl none ↦ ap (option_map (λ (n : NodeAtEnd T). n.index)) none.0 ∙ sym (ap (option_map (λ (n : MachineNode). n.index)) none.1)
         | inr both ↦ ap (option_map (λ (n : NodeAtEnd T). n.index)) both.first ∙ ap Some both.mirrors.index ∙ sym (ap (option_map (λ (n : MachineNode). n.index)) both.second)
       ])
 
   pub strings_are : OneRun → InTheRun model tables form schedule
-      (λ others world. (i : ℕ) → option_map (λ node. texts_in node.entries) (node_at (report_of replies told members) i) ≡ option_map (λ node. node.strings) (slice_get world.nodes i))
-  strings_are once = in_the_run once (λ others world. (i : ℕ) → option_map (λ node. texts_in node.entries) (node_at (report_of replies told members) i) ≡ option_map (λ node. node.strings) (slice_get world.nodes i)) (λ i.
+      (λ others world. (i : ℕ) → option_map (λ node. texts_in node.entries) (node_at (report_of replies told replay_nodes) i) ≡ option_map (λ node. node.strings) (slice_get world.nodes i))
+  strings_are once = in_the_run once (λ others world. (i : ℕ) → option_map (λ node. texts_in node.entries) (node_at (report_of replies told replay_nodes) i) ≡ option_map (λ node. node.strings) (slice_get world.nodes i)) (λ i.
       elim (at i) [
         | inl none ↦ ap (λ o. option_map (λ (n : NodeState T). texts_in n.entries) (option_map (λ (n : NodeAtEnd T). n.node) o)) none.0 ∙ sym (ap (option_map (λ (n : MachineNode). n.strings)) none.1)
         | inr both ↦ ap (λ o. option_map (λ (n : NodeState T). texts_in n.entries) (option_map (λ (n : NodeAtEnd T). n.node) o)) both.first ∙ ap Some (sym both.mirrors.strings)
             ∙ sym (ap (option_map (λ (n : MachineNode). n.strings)) both.second)
       ])
 
-  pub nodes_are : (i : ℕ) → MatchOption (node_at (report_of replies told members) i) (index_at (report_of replies told members) i ≡ None)
-      (λ node. IsNodeOf tables form schedule.room (index_at (report_of replies told members) i) node)
+  pub nodes_are : (i : ℕ) → MatchOption (node_at (report_of replies told replay_nodes) i) (index_at (report_of replies told replay_nodes) i ≡ None)
+      (λ node. IsNodeOf tables form schedule.room (index_at (report_of replies told replay_nodes) i) node)
   nodes_are i =
       let IsOf : Option (NodeAtEnd T) → Type 0 = λ o. MatchOption (option_map (λ (n : NodeAtEnd T). n.node) o) (option_map (λ (n : NodeAtEnd T). n.index) o ≡ None)
       (λ node. IsNodeOf tables form schedule.room (option_map (λ (n : NodeAtEnd T). n.index) o) node) in
       elim (at i) [
         | inl none ↦ subst IsOf (sym none.0) refl
         | inr both ↦ subst IsOf (sym both.first)
-            (record { place = both.member.index; index_is = refl; table_is = both.mirrors.table; form_is = both.mirrors.form; room_is = both.mirrors.room })
+            (record { place = both.replay_node.index; index_is = refl; table_is = both.mirrors.table; form_is = both.mirrors.form; room_is = both.mirrors.room })
       ]
 
-  pub images_are : (i : ℕ) → IsSome (image_at (report_of replies told members) i) ↔ Contains schedule.events (Save i)
-  images_are i = subst (λ o. IsSome o ↔ Contains schedule.events (Save i)) (sym (image_in_report replies told members i)) (is.ends.images i)
+  pub images_are : (i : ℕ) → IsSome (image_at (report_of replies told replay_nodes) i) ↔ Contains schedule.events (Save i)
+  images_are i = subst (λ o. IsSome o ↔ Contains schedule.events (Save i)) (sym (image_in_report replies told replay_nodes i)) (is.ends.images i)
 
   -- a fact of each node
-  if_node : (P : NodeState T → Type 0) → ((member : Member T) (node : MachineNode) → Mirrors model (rules_over tables form schedule) member node → P member.node) → (i : ℕ) → IfSome (node_at (report_of replies told members) i) P
+  if_node : (P : NodeState T → Type 0) → ((replay_node : ReplayNode T) (node : MachineNode) → Mirrors model (rules_over tables form schedule) replay_node node → P replay_node.node) → (i : ℕ) → IfSome (node_at (report_of replies told replay_nodes) i) P
   if_node P each i =
       elim (at i) [
         | inl none ↦ subst (λ o. IfSome (option_map (λ (n : NodeAtEnd T). n.node) o) P) (sym none.0) tt
-        | inr both ↦ subst (λ o. IfSome (option_map (λ (n : NodeAtEnd T). n.node) o) P) (sym both.first) (each both.member both.node both.mirrors)
+        | inr both ↦ subst (λ o. IfSome (option_map (λ (n : NodeAtEnd T). n.node) o) P) (sym both.first) (each both.replay_node both.node both.mirrors)
       ]
 
   module _ (once : OneRun) (stability : Stability) (forms : SameForms) (last : VersionData) (end : IsLast (map model tables) last) where
@@ -179,36 +179,36 @@ module _ {T : Type 0} {model : T → VersionData} {tables : List T} {form : Form
         let before : place ≤ length tables - 1 = omega (arith, slice_get_within vs place v here, length-map tables model) in
         later_entry stability v last stands.sound ends.sound (stands.later (length tables - 1) last before ends_at) form entry is_entry
 
-    pub keys_are : (i : ℕ) → IfSome (node_at (report_of replies told members) i) (λ node. AreKeysUnder last form node.entries)
-    keys_are = if_node (λ node. AreKeysUnder last form node.entries) (λ member node m k d lt.
-        let here = table_here model (rules_over tables form schedule) member node m in
-        let e = get_or member.node.entries k d in
-        (last_entry member.index (model member.node.table) here e (subst (λ f. IsEntry (model member.node.table) f e) m.form (m.node.entries k d lt))).key)
+    pub keys_are : (i : ℕ) → IfSome (node_at (report_of replies told replay_nodes) i) (λ node. AreKeysUnder last form node.entries)
+    keys_are = if_node (λ node. AreKeysUnder last form node.entries) (λ replay_node node m k d lt.
+        let here = table_here model (rules_over tables form schedule) replay_node node m in
+        let e = get_or replay_node.node.entries k d in
+        (last_entry replay_node.index (model replay_node.node.table) here e (subst (λ f. IsEntry (model replay_node.node.table) f e) m.form (m.node.entries k d lt))).key)
 
-    pub agree_on : (i : ℕ) → IfSome (node_at (report_of replies told members) i) (λ node. AgreeOn (model node.table) last form node.entries)
-    agree_on = if_node (λ node. AgreeOn (model node.table) last form node.entries) (λ member node m left right one other.
-        subst (λ f. IsEquivalent (model member.node.table) (is_compat f) (chars left) (chars right) ↔ IsEquivalent last (is_compat form) (chars left) (chars right)) m.form
-        (equivalent_last model (rules_over tables form schedule) member node last m is.rules_hold stability forms ends_at left right one other))
+    pub agree_on : (i : ℕ) → IfSome (node_at (report_of replies told replay_nodes) i) (λ node. AgreeOn (model node.table) last form node.entries)
+    agree_on = if_node (λ node. AgreeOn (model node.table) last form node.entries) (λ replay_node node m left right one other.
+        subst (λ f. IsEquivalent (model replay_node.node.table) (is_compat f) (chars left) (chars right) ↔ IsEquivalent last (is_compat form) (chars left) (chars right)) m.form
+        (equivalent_last model (rules_over tables form schedule) replay_node node last m is.rules_hold stability forms ends_at left right one other))
 
     -- what a node answers of two strings that it keeps is whether they are equivalent under the last version
-    answer_is : (member : Member T) (node : MachineNode) → Mirrors model (rules_over tables form schedule) member node → (left right : List ℕ) → IsKept member.node.entries left → IsKept member.node.entries right
-        → (answer : Option Bool) → AnswersSame (state_of model member.node) left right answer → TellsIn last form left right answer
-    answer_is member node m left right one other None answers = absurd (answers (one, other))
-    answer_is member node m left right one other (Some equal) answers =
-        let same = equivalent_last model (rules_over tables form schedule) member node last m is.rules_hold stability forms ends_at left right one other in
+    answer_is : (replay_node : ReplayNode T) (node : MachineNode) → Mirrors model (rules_over tables form schedule) replay_node node → (left right : List ℕ) → IsKept replay_node.node.entries left → IsKept replay_node.node.entries right
+        → (answer : Option Bool) → AnswersSame (state_of model replay_node.node) left right answer → TellsIn last form left right answer
+    answer_is replay_node node m left right one other None answers = absurd (answers (one, other))
+    answer_is replay_node node m left right one other (Some equal) answers =
+        let same = equivalent_last model (rules_over tables form schedule) replay_node node last m is.rules_hold stability forms ends_at left right one other in
         record { equal = equal; is = refl; tells = (λ t. same.0 (answers.2.0 t), λ e. answers.2.1 (same.1 e)) }
 
-    pub tells_alike : (i j : ℕ) → IfSome (node_at (report_of replies told members) i) (λ node. IfSome (node_at (report_of replies told members) j) (λ other. AnswerAlike last form (state_of model node) (state_of model other)))
+    pub tells_alike : (i j : ℕ) → IfSome (node_at (report_of replies told replay_nodes) i) (λ node. IfSome (node_at (report_of replies told replay_nodes) j) (λ other. AnswerAlike last form (state_of model node) (state_of model other)))
     tells_alike i j =
-        if_node (λ node. IfSome (node_at (report_of replies told members) j) (λ other. AnswerAlike last form (state_of model node) (state_of model other))) (λ member node m.
-        if_node (λ other. AnswerAlike last form (state_of model member.node) (state_of model other)) (λ next twin n left right one other here there first second answers says.
-        let a = answer_is member node m left right one other first answers in
+        if_node (λ node. IfSome (node_at (report_of replies told replay_nodes) j) (λ other. AnswerAlike last form (state_of model node) (state_of model other))) (λ replay_node node m.
+        if_node (λ other. AnswerAlike last form (state_of model replay_node.node) (state_of model other)) (λ next twin n left right one other here there first second answers says.
+        let a = answer_is replay_node node m left right one other first answers in
         let b = answer_is next twin n left right here there second says in
         let same = same_truth b.equal a.equal (λ t. a.tells.1 (b.tells.0 t)) (λ t. b.tells.1 (a.tells.0 t)) in
         record { equal = a.equal; first = a.is; second = b.is ∙ ap Some same; tells = a.tells }) j) i
 
-    pub sent_are : InTheRun model tables form schedule (LendsMessages last form (report_of replies told members))
-    sent_are = in_the_run once (LendsMessages last form (report_of replies told members)) (λ i.
+    pub sent_are : InTheRun model tables form schedule (LendsMessages last form (report_of replies told replay_nodes))
+    sent_are = in_the_run once (LendsMessages last form (report_of replies told replay_nodes)) (λ i.
         let lent : Option (List ℕ) → Option (List ℕ) → Type 0 = λ o l. MatchOption o (l ≡ None) (λ string. IsSomeAnd l (IsMessageUnder last form string)) in
         elim (sent_at (map model tables) form schedule.room told is.ends.world.sent i is.ends.shows.sent) [
           | inl none ↦ subst (λ o. lent o (slice_get (map bytes_in told) i)) (sym none.1) none.0
@@ -234,15 +234,15 @@ module _ {T : Type 0} {model : T → VersionData} {tables : List T} {form : Form
       };
     }
 
-    pub saved_are : InTheRun model tables form schedule (LendsImages (map model tables) last form (report_of replies told members))
-    saved_are = in_the_run once (LendsImages (map model tables) last form (report_of replies told members)) (λ i.
+    pub saved_are : InTheRun model tables form schedule (LendsImages (map model tables) last form (report_of replies told replay_nodes))
+    saved_are = in_the_run once (LendsImages (map model tables) last form (report_of replies told replay_nodes)) (λ i.
         let lent : Option MachineNode → Option (NodeAtEnd T) → Type 0 = λ o e.
         MatchOption o (option_and_then (λ (n : NodeAtEnd T). n.image) e ≡ None)
         (λ node. MatchOption (option_and_then (λ (n : NodeAtEnd T). n.image) e) (NeverSaved node) (IsSavedBy (map model tables) last form node)) in
         elim (at i) [
-          | inl none ↦ subst (λ o. lent o (slice_get (map end_of members) i)) (sym none.1) (ap (option_and_then (λ (n : NodeAtEnd T). n.image)) none.0)
+          | inl none ↦ subst (λ o. lent o (slice_get (map end_of replay_nodes) i)) (sym none.1) (ap (option_and_then (λ (n : NodeAtEnd T). n.image)) none.0)
           | inr both ↦
-              subst (λ o. lent o (slice_get (map end_of members) i)) (sym both.second)
+              subst (λ o. lent o (slice_get (map end_of replay_nodes) i)) (sym both.second)
               (subst (lent (Some both.node)) (sym both.first)
-              (image_is both.node (model both.member.node.table) both.member.image both.mirrors.saved))
+              (image_is both.node (model both.replay_node.node.table) both.replay_node.image both.mirrors.saved))
         ])

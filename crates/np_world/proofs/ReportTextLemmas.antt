@@ -6,12 +6,9 @@ use Rattle.std.proofs.lemmas.List.{take_more, flat_map_more, length-take-le}
 use Rattle.std.proofs.lemmas.Bool.{false≢true, true≢false}
 use Rattle.std.proofs.lemmas.Option.{get_or_from_slice_get, none-some, slice_get-map, slice_get_cases, slice_get_within}
 use Rattle.np_code_points.specs.Codes.{code_digits}
+use Rattle.np_code_points.proofs.Bytes.{behind}
 use Rattle.np_world.specs.ReportTexts.{codes_text}
 use Rattle.np_world.specs.inside.ReportWriting.{gap, is_nothing, joined_codes, numbered_lines}
-
--- one piece behind another
-pub behind : {y z : List ℕ} (x a b : List ℕ) → y ≡ x ++ a → z ≡ y ++ b → z ≡ x ++ (a ++ b)
-behind x a b first second = second ∙ ap (λ l. l ++ b) first ∙ append_assoc x a b
 
 -- ---- codes
 

@@ -13,13 +13,13 @@ use Rattle.np_world.specs.Reports.{ReportData}
 use Rattle.np_schedules.specs.Schedules.{NameNodes, NamesVersion, NameVersions}
 use Rattle.np_world.specs.World.{Setting, MachineNode, World, IsStep, IsRun, start}
 use Rattle.np_schedules.specs.declared.events.EventLine.{EventLine}
-use Rattle.np_world.specs.declared.members.Member.{Member}
+use Rattle.np_world.specs.declared.replay_nodes.ReplayNode.{ReplayNode}
 use Rattle.np_world.specs.declared.replies.Reply.{Reply}
 use Rattle.np_world.specs.inside.Mirrors.{Rules, setting_of, Mirrors, AreRules}
 use Rattle.np_world.specs.inside.Played.{IsPlayed}
 use Rattle.np_world.specs.inside.ReportViews.{report_of}
 use Rattle.np_schedules.specs.EventLines.{event_of}
-use Rattle.np_world.specs.inside.Worlds.{AreMirrored, HaveImages, IsShown, LeavesImages, Steps, Begins, EndsRun, first_node}
+use Rattle.np_world.specs.inside.Worlds.{AreMirrored, HaveImages, IsShown, LeavesImages, WorldSteps, Begins, EndsRun, first_node}
 use Rattle.np_world.proofs.ImageLemmas.{images_lack, images_more, images_none}
 
 run-push : (setting : Setting) (before : World) (events : List Event) (replies : List Reply) (between : World) (event : Event) (reply : Reply) (after : World)
@@ -30,24 +30,24 @@ run-push setting before (e ∷ es) replies between event reply after run step =
     (run.0, run.1 ++ reply ∷ [], run.2, ap (λ l. l ++ reply ∷ []) run.3, run.4, run-push setting run.2 es run.1 between event reply after run.5 step)
 
 module _ {T : Type 0} (model : T → VersionData) (rules : Rules T) where
-  pub length-mirrored : (members : List (Member T)) (nodes : List MachineNode) → AreMirrored model rules members nodes → length members ≡ length nodes
+  pub length-mirrored : (replay_nodes : List (ReplayNode T)) (nodes : List MachineNode) → AreMirrored model rules replay_nodes nodes → length replay_nodes ≡ length nodes
   length-mirrored [] [] are = refl
   length-mirrored (m ∷ ms) (n ∷ ns) are = ap suc (length-mirrored ms ns are.1)
   length-mirrored [] (n ∷ ns) are = absurd are
   length-mirrored (m ∷ ms) [] are = absurd are
 
-  pub mirrored-push : (members : List (Member T)) (nodes : List MachineNode) (member : Member T) (node : MachineNode) → AreMirrored model rules members nodes → Mirrors model rules member node → AreMirrored model rules (members ++ member ∷ []) (nodes ++ node ∷ [])
-  mirrored-push [] [] member node are is = (is, tt)
-  mirrored-push (m ∷ ms) (n ∷ ns) member node are is = (are.0, mirrored-push ms ns member node are.1 is)
-  mirrored-push [] (n ∷ ns) member node are is = absurd are
-  mirrored-push (m ∷ ms) [] member node are is = absurd are
+  pub mirrored-push : (replay_nodes : List (ReplayNode T)) (nodes : List MachineNode) (replay_node : ReplayNode T) (node : MachineNode) → AreMirrored model rules replay_nodes nodes → Mirrors model rules replay_node node → AreMirrored model rules (replay_nodes ++ replay_node ∷ []) (nodes ++ node ∷ [])
+  mirrored-push [] [] replay_node node are is = (is, tt)
+  mirrored-push (m ∷ ms) (n ∷ ns) replay_node node are is = (are.0, mirrored-push ms ns replay_node node are.1 is)
+  mirrored-push [] (n ∷ ns) replay_node node are is = absurd are
+  mirrored-push (m ∷ ms) [] replay_node node are is = absurd are
 
   -- one event more
-  pub ends-more : (starts : List ℕ) (events : List EventLine) (i : ℕ) (event : EventLine) (replies : List Reply) (members new : List (Member T)) (told new_told : List (Vec ℕ Global)) (reply : Reply) (more_replies : List Reply) → i < length events
+  pub ends-more : (starts : List ℕ) (events : List EventLine) (i : ℕ) (event : EventLine) (replies : List Reply) (replay_nodes new : List (ReplayNode T)) (told new_told : List (Vec ℕ Global)) (reply : Reply) (more_replies : List Reply) → i < length events
       → more_replies ≡ replies ++ reply ∷ [] → event ≡ get_or events i event → AreRules model rules
-      → EndsRun model rules starts (map event_of (take i events)) replies members told → Steps model rules members told (event_of event) reply new new_told → LeavesImages (event_of event) members new
+      → EndsRun model rules starts (map event_of (take i events)) replies replay_nodes told → WorldSteps model rules replay_nodes told (event_of event) reply new new_told → LeavesImages (event_of event) replay_nodes new
       → EndsRun model rules starts (map event_of (take (i + 1) events)) more_replies new new_told
-  ends-more starts events i event replies members new told new_told reply more_replies lt pushed here are ends steps leaves =
+  ends-more starts events i event replies replay_nodes new told new_told reply more_replies lt pushed here are ends steps leaves =
       let step = steps ends.world are ends.shows in
       let more : map event_of (take (i + 1) events) ≡ map event_of (take i events) ++ event_of event ∷ [] =
       ap (map event_of) (take_more events i event lt) ∙ map-append event_of (take i events) (get_or events i event ∷ []) ∙ ap (λ e. map event_of (take i events) ++ event_of e ∷ []) (sym here) in
@@ -57,7 +57,7 @@ module _ {T : Type 0} (model : T → VersionData) (rules : Rules T) where
             (subst (λ es. IsRun (setting_of model rules) (start starts) es (replies ++ reply ∷ []) step.0) (sym more)
             (run-push (setting_of model rules) (start starts) (map event_of (take i events)) replies ends.world (event_of event) reply step.0 ends.run step.1));
         shows = step.2;
-        images = subst (HaveImages new) (sym more) (images_more members new (map event_of (take i events)) (event_of event) ends.images leaves);
+        images = subst (HaveImages new) (sym more) (images_more replay_nodes new (map event_of (take i events)) (event_of event) ends.images leaves);
       }
 
   -- the nodes stay as many as there were
@@ -71,9 +71,9 @@ module _ {T : Type 0} (model : T → VersionData) (rules : Rules T) where
   length-run setting before (e ∷ es) replies after run =
       length-run setting run.2 es run.1 after run.5 ∙ ap length run.4.nodes ∙ length-set before.nodes (node_of e) run.4.new
 
-  pub count_ends : (starts : List ℕ) (events : List Event) (replies : List Reply) (members : List (Member T)) (told : List (Vec ℕ Global)) → EndsRun model rules starts events replies members told → length members ≡ length starts
-  count_ends starts events replies members told ends =
-      length-mirrored members ends.world.nodes ends.shows.nodes
+  pub count_ends : (starts : List ℕ) (events : List Event) (replies : List Reply) (replay_nodes : List (ReplayNode T)) (told : List (Vec ℕ Global)) → EndsRun model rules starts events replies replay_nodes told → length replay_nodes ≡ length starts
+  count_ends starts events replies replay_nodes told ends =
+      length-mirrored replay_nodes ends.world.nodes ends.shows.nodes
       ∙ length-run (setting_of model rules) (start starts) events replies ends.world ends.run
       ∙ length-map starts first_node
 
@@ -93,22 +93,22 @@ module _ {T : Type 0} (model : T → VersionData) (rules : Rules T) where
         saved = (refl, refl);
       })
 
-  pub begins-nothing : (members : List (Member T)) (starts : List ℕ) → members ≡ [] → Begins model rules members (take 0 starts)
-  begins-nothing members starts none = subst (λ l. Begins model rules l (take 0 starts)) (sym none) (record { nodes = tt; images = images_none T })
+  pub begins-nothing : (replay_nodes : List (ReplayNode T)) (starts : List ℕ) → replay_nodes ≡ [] → Begins model rules replay_nodes (take 0 starts)
+  begins-nothing replay_nodes starts none = subst (λ l. Begins model rules l (take 0 starts)) (sym none) (record { nodes = tt; images = images_none T })
 
-  pub begins-more : (members more : List (Member T)) (starts : List ℕ) (i : ℕ) (member : Member T) → i < length starts → more ≡ members ++ member ∷ [] → Begins model rules members (take i starts)
-      → member.image ≡ None → Mirrors model rules member (first_node (get_or starts i 0)) → Begins model rules more (take (i + 1) starts)
-  begins-more members more starts i member lt pushed begins none is =
+  pub begins-more : (replay_nodes more : List (ReplayNode T)) (starts : List ℕ) (i : ℕ) (replay_node : ReplayNode T) → i < length starts → more ≡ replay_nodes ++ replay_node ∷ [] → Begins model rules replay_nodes (take i starts)
+      → replay_node.image ≡ None → Mirrors model rules replay_node (first_node (get_or starts i 0)) → Begins model rules more (take (i + 1) starts)
+  begins-more replay_nodes more starts i replay_node lt pushed begins none is =
       let grown : (start (take (i + 1) starts)).nodes ≡ (start (take i starts)).nodes ++ first_node (get_or starts i 0) ∷ [] =
       ap (map first_node) (take_more starts i 0 lt) ∙ map-append first_node (take i starts) (get_or starts i 0 ∷ []) in
       subst (λ l. Begins model rules l (take (i + 1) starts)) (sym pushed)
       (record {
-        nodes = subst (AreMirrored model rules (members ++ member ∷ [])) (sym grown) (mirrored-push members (start (take i starts)).nodes member (first_node (get_or starts i 0)) begins.nodes is);
-        images = images_lack members member none begins.images;
+        nodes = subst (AreMirrored model rules (replay_nodes ++ replay_node ∷ [])) (sym grown) (mirrored-push replay_nodes (start (take i starts)).nodes replay_node (first_node (get_or starts i 0)) begins.nodes is);
+        images = images_lack replay_nodes replay_node none begins.images;
       })
 
-  pub shown : (starts : List ℕ) (events : List Event) (replies : List Reply) (members : List (Member T)) (told : List (Vec ℕ Global)) → AreRules model rules → EndsRun model rules starts events replies members told → IsShown model rules members told
-  shown starts events replies members told are ends = record { rules_hold = are; world = ends.world; shows = ends.shows }
+  pub shown : (starts : List ℕ) (events : List Event) (replies : List Reply) (replay_nodes : List (ReplayNode T)) (told : List (Vec ℕ Global)) → AreRules model rules → EndsRun model rules starts events replies replay_nodes told → IsShown model rules replay_nodes told
+  shown starts events replies replay_nodes told are ends = record { rules_hold = are; world = ends.world; shows = ends.shows }
 
 -- an event names one of the nodes
 pub named_at : (nodes : ℕ) (events : List EventLine) (i : ℕ) (d : EventLine) → NameNodes nodes (map event_of events) → i < length events → node_of (event_of (get_or events i d)) < nodes
@@ -126,18 +126,18 @@ abbrev pub rules_with : {T : Type 0} → List T → Form → ℕ → Rules T
 rules_with tables form room = record { tables = tables; form = form; room = room }
 
 pub played : {T : Type 0} (model : T → VersionData) (tables : List T) (form : Form) (schedule : ScheduleData) (report : ReportData T) (room : ℕ) (starts : List ℕ) (events : List Event)
-    (replies : List Reply) (told : List (Vec ℕ Global)) (members : List (Member T))
-    → AreRules model (rules_with tables form room) → room ≡ schedule.room → starts ≡ schedule.starts → events ≡ schedule.events → report ≡ report_of replies told members
-    → EndsRun model (rules_with tables form room) starts events replies members told → IsPlayed model tables form schedule report
-played model tables form schedule report room starts events replies told members are size same all is ends = record {
+    (replies : List Reply) (told : List (Vec ℕ Global)) (replay_nodes : List (ReplayNode T))
+    → AreRules model (rules_with tables form room) → room ≡ schedule.room → starts ≡ schedule.starts → events ≡ schedule.events → report ≡ report_of replies told replay_nodes
+    → EndsRun model (rules_with tables form room) starts events replies replay_nodes told → IsPlayed model tables form schedule report
+played model tables form schedule report room starts events replies told replay_nodes are size same all is ends = record {
   replies = replies;
   told = told;
-  members = members;
+  replay_nodes = replay_nodes;
   report_is = is;
   by = record {
     rules_hold = subst (λ r. AreRules model (rules_with tables form r)) size are;
-    ends = subst (λ r. EndsRun model (rules_with tables form r) schedule.starts schedule.events replies members told) size
-        (subst (λ es. EndsRun model (rules_with tables form room) schedule.starts es replies members told) all
-        (subst (λ ss. EndsRun model (rules_with tables form room) ss events replies members told) same ends));
+    ends = subst (λ r. EndsRun model (rules_with tables form r) schedule.starts schedule.events replies replay_nodes told) size
+        (subst (λ es. EndsRun model (rules_with tables form room) schedule.starts es replies replay_nodes told) all
+        (subst (λ ss. EndsRun model (rules_with tables form room) ss events replies replay_nodes told) same ends));
   };
 }

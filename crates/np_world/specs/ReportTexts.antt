@@ -2,7 +2,7 @@
 use Rattle.std.specs.Prelude.{ℕ, List, [], ◌∷◌, ◌++◌, length, map, flat_map, chars, codes}
 use Rattle.std.specs.Fmt.{decimal}
 use Rattle.std.specs.List.{enumerate_from, join_with_byte}
-use Rattle.np_code_points.specs.Codes.{code_digits}
+use Rattle.np_code_points.specs.Codes.{code_digits, unassigned}
 use Rattle.np_node.specs.Strings.{Entry}
 use Rattle.np_world.specs.Reports.{NodeReport, ReportData, nodes_of, replies_of}
 use Rattle.np_world.specs.declared.replies.Reply.{Reply}
@@ -16,7 +16,7 @@ reply_text Kept = codes "kept"
 reply_text Known = codes "known"
 reply_text Full = codes "full"
 reply_text TooLong = codes "too long"
-reply_text (Unassigned at code) = codes "unassigned " ++ (code_digits code ++ (codes " at byte " ++ decimal at))
+reply_text (Unassigned at code) = unassigned at code
 reply_text NoMessage = codes "no message"
 reply_text (Version index) = codes "version " ++ decimal index
 reply_text LastVersion = codes "last version"

@@ -2,13 +2,13 @@
 #![tactic(auto)]
 
 pub mod laws;
-mod members;
+mod node_steps;
+mod replay_nodes;
 mod replays;
 mod replies;
 mod report;
 mod report_texts;
-mod steps;
-mod turns;
+mod world_steps;
 
 // A schedule is read by those who replay it: one path more to what np_schedules has.
 pub use np_schedules::{Schedule, ScheduleFault, read_schedule};

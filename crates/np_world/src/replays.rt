@@ -12,10 +12,10 @@ ghost use Rattle.np_world.specs.inside.Worlds.{Begins, EndsRun};
 ghost use Rattle.np_schedules.specs.Schedules.{IsStandable, NameNodes, NameVersions};
 ghost use Rattle.np_schedules.specs.EventLines.{event_of};
 
-use crate::members::{Common, Member};
+use crate::replay_nodes::{Common, ReplayNode};
 use crate::replies::Reply;
 use crate::report::Report;
-use crate::steps::step;
+use crate::world_steps::step_world;
 use np_chain::Chain;
 use np_code_points::{Form, Memory};
 use np_node::Node;
@@ -24,24 +24,24 @@ use np_versions::NormTable;
 use std::alloc::Global;
 
 /// Each node at the start: it keeps nothing, under the version that the schedule gives it.
-fn first_members<'t, T: NormTable>(
+fn first_replay_nodes<'t, T: NormTable>(
     common: &Common<'_, 't, T>,
     starts: &[usize],
-) -> Result<Vec<Member<'t, T>>, Memory>
+) -> Result<Vec<ReplayNode<'t, T>>, Memory>
     requires rules { AreRules T.model (rules_of common.now) }
     requires starts { (i : ℕ) → i < length starts.now → slice_index starts.now i < length common.now.chain.now }
-    ensures { IfOk result (λ members. Begins T.model (rules_of common.now) members.items starts.now) }
+    ensures { IfOk result (λ replay_nodes. Begins T.model (rules_of common.now) replay_nodes.items starts.now) }
 {
-    let mut members = Vec::with_capacity(common.alloc, starts.len())?;
+    let mut replay_nodes = Vec::with_capacity(common.alloc, starts.len())?;
     for start in starts {
         let table = common.chain.at(*start);
-        members.push(Member {
+        replay_nodes.push(ReplayNode {
             index: *start,
             node: Node::new(common.alloc, table, common.form, common.room),
             image: None,
         })?;
     }
-    Ok(members)
+    Ok(replay_nodes)
 }
 
 /// A reply to each event, and the messages that were sent.
@@ -54,20 +54,20 @@ struct Told {
 /// Lets the events happen, one after another.
 fn run_events<'t, T: NormTable>(
     common: &Common<'_, 't, T>,
-    members: &mut [Member<'t, T>],
+    replay_nodes: &mut [ReplayNode<'t, T>],
     starts: &[usize],
     events: &[EventLine],
 ) -> Result<Told, Memory>
     requires rules { AreRules T.model (rules_of common.now) }
-    requires begun { Begins T.model (rules_of common.now) members.old starts.now }
+    requires begun { Begins T.model (rules_of common.now) replay_nodes.old starts.now }
     requires named { NameNodes (length starts.now) (map event_of events.now) }
     requires versions { NameVersions (length common.now.chain.now) (map event_of events.now) }
-    ensures { IfOk result (λ told. EndsRun T.model (rules_of common.now) starts.now (map event_of events.now) told.replies.items members.new told.sent.items) }
+    ensures { IfOk result (λ told. EndsRun T.model (rules_of common.now) starts.now (map event_of events.now) told.replies.items replay_nodes.new told.sent.items) }
 {
     let mut replies = Vec::with_capacity(common.alloc, events.len())?;
     let mut sent = Vec::new(common.alloc);
     for event in events {
-        replies.push(step(common, members, &mut sent, event)?)?;
+        replies.push(step_world(common, replay_nodes, &mut sent, event)?)?;
     }
     Ok(Told { replies, sent })
 }
@@ -84,12 +84,12 @@ fn play<'t, T: NormTable>(
     ensures { IfOk result (λ report. IsPlayed T.model common.now.chain.now common.now.form schedule.now report) }
 {
     let starts = schedule.starts();
-    let mut members = first_members(common, starts)?;
-    let Told { replies, sent } = run_events(common, &mut members, starts, schedule.events())?;
+    let mut replay_nodes = first_replay_nodes(common, starts)?;
+    let Told { replies, sent } = run_events(common, &mut replay_nodes, starts, schedule.events())?;
     Ok(Report {
         replies,
         sent,
-        members,
+        replay_nodes,
     })
 }
 

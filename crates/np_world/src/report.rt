@@ -3,7 +3,7 @@ ghost use Rattle.std.specs.Prelude.{◌≡◌};
 ghost use Rattle.std.specs.Option.{option_map};
 ghost use Rattle.np_world.specs.Reports.{image_at, message_at, node_at};
 
-use crate::members::Member;
+use crate::replay_nodes::ReplayNode;
 use crate::replies::Reply;
 use np_node::Node;
 use np_versions::NormTable;
@@ -18,7 +18,7 @@ use std::marker::Model;
 pub struct Report<'t, T: NormTable> {
     pub(crate) replies: Vec<Reply>,
     pub(crate) sent: Vec<Vec<u8>>,
-    pub(crate) members: Vec<Member<'t, T>>,
+    pub(crate) replay_nodes: Vec<ReplayNode<'t, T>>,
 }
 
 impl<'t, T: NormTable> Model for Report<'t, T> {
@@ -27,7 +27,7 @@ impl<'t, T: NormTable> Model for Report<'t, T> {
 
     ghost Value = { ReportData T };
 
-    ghost view = { λ a. report_of a.replies.items a.sent.items a.members.items };
+    ghost view = { λ a. report_of a.replies.items a.sent.items a.replay_nodes.items };
 }
 
 /// Shows how many replies, messages and nodes there are, and none of the strings in them: they may
@@ -37,7 +37,7 @@ impl<'t, T: NormTable> fmt::Debug for Report<'t, T> {
         f.debug_struct("Report")
             .field("replies", &self.replies.len())
             .field("sent", &self.sent.len())
-            .field("nodes", &self.members.len())
+            .field("nodes", &self.replay_nodes.len())
             .finish_non_exhaustive()
     }
 }
@@ -47,8 +47,8 @@ impl<'t, T: NormTable> Report<'t, T> {
     pub fn node(&self, number: usize) -> Option<&Node<'t, T>>
         ensures { option_map (λ n. n.now) result ≡ node_at self.now number }
     {
-        match self.members.get(number) {
-            Some(member) => Some(&member.node),
+        match self.replay_nodes.get(number) {
+            Some(replay_node) => Some(&replay_node.node),
             None => None,
         }
     }
@@ -69,7 +69,7 @@ impl<'t, T: NormTable> Report<'t, T> {
     pub fn saved(&self, number: usize) -> Option<&[u8]>
         ensures { option_map (λ b. b.now) result ≡ image_at self.now number }
     {
-        match &self.members.get(number)?.image {
+        match &self.replay_nodes.get(number)?.image {
             Some(image) => Some(image.as_slice()),
             None => None,
         }

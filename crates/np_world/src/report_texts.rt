@@ -6,14 +6,14 @@ ghost use Rattle.np_code_points.specs.Codes.{code_digits};
 ghost use Rattle.np_world.specs.Reports.{node_report};
 ghost use Rattle.np_world.specs.inside.ReportViews.{end_of};
 ghost use Rattle.np_world.specs.inside.ReportWriting.{gap};
-ghost use Rattle.np_world.specs.declared.replies.Reply.TheVariants.{OlderTables, Unassigned};
+ghost use Rattle.np_world.specs.declared.replies.Reply.TheVariants.{OlderTables};
 ghost use Rattle.np_world.specs.ReportTexts.{codes_text, entry_line, node_lines, reply_line, reply_text, text_of_report};
 
-use crate::members::Member;
+use crate::replay_nodes::ReplayNode;
 use crate::replies::Reply;
 use crate::report::Report;
 use np_code_points::Memory;
-use np_code_points::codes::write_code;
+use np_code_points::codes::{write_code, write_unassigned};
 use np_node::Node;
 use np_versions::NormTable;
 use std::alloc::Global;
@@ -40,16 +40,6 @@ fn write_codes(out: &mut String, text: &str) -> Result<(), Memory>
     if is_first {
         out.push_str("-")?;
     }
-    Ok(())
-}
-
-/// Adds a reply that names a code point.
-fn write_unassigned(out: &mut String, at: usize, code: char) -> Result<(), Memory>
-    ensures { IfOk result (λ _. string_bytes out.new ≡ string_bytes out.old ++ reply_text (Unassigned at code)) }
-{
-    out.push_str("unassigned ")?;
-    write_code(out, u32::from(code))?;
-    write!(out, " at byte {at}")?;
     Ok(())
 }
 
@@ -144,14 +134,14 @@ fn write_entries<T: NormTable>(out: &mut String, node: &Node<'_, T>) -> Result<(
 fn write_node<T: NormTable>(
     out: &mut String,
     number: usize,
-    member: &Member<'_, T>,
+    replay_node: &ReplayNode<'_, T>,
 ) -> Result<(), Memory>
-    ensures { IfOk result (λ _. string_bytes out.new ≡ string_bytes out.old ++ node_lines number (node_report (end_of member.now))) }
+    ensures { IfOk result (λ _. string_bytes out.new ≡ string_bytes out.old ++ node_lines number (node_report (end_of replay_node.now))) }
 {
-    let index = member.index;
-    let entries = member.node.len();
+    let index = replay_node.index;
+    let entries = replay_node.node.len();
     write!(out, "node {number} version {index} entries {entries}\n")?;
-    write_entries(out, &member.node)
+    write_entries(out, &replay_node.node)
 }
 
 /// Adds the lines of the events.
@@ -165,12 +155,15 @@ fn write_replies(out: &mut String, replies: &[Reply]) -> Result<(), Memory>
 }
 
 /// Adds the lines of the nodes.
-fn write_nodes<T: NormTable>(out: &mut String, members: &[Member<'_, T>]) -> Result<(), Memory>
+fn write_nodes<T: NormTable>(
+    out: &mut String,
+    replay_nodes: &[ReplayNode<'_, T>],
+) -> Result<(), Memory>
     ensures { IfOk result (λ _. string_bytes out.new ≡ string_bytes out.old ++
-        flat_map (λ p. node_lines p.0 p.1) (enumerate_from 0 (map node_report (map end_of members.now)))) }
+        flat_map (λ p. node_lines p.0 p.1) (enumerate_from 0 (map node_report (map end_of replay_nodes.now)))) }
 {
-    for number in 0..members.len() {
-        write_node(out, number, &members[number])?;
+    for number in 0..replay_nodes.len() {
+        write_node(out, number, &replay_nodes[number])?;
     }
     Ok(())
 }
@@ -189,6 +182,6 @@ pub fn report_text<T: NormTable>(alloc: Global, report: &Report<'_, T>) -> Resul
 {
     let mut text = String::new(alloc);
     write_replies(&mut text, report.replies.as_slice())?;
-    write_nodes(&mut text, report.members.as_slice())?;
+    write_nodes(&mut text, report.replay_nodes.as_slice())?;
     Ok(text)
 }

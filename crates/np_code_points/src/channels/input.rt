@@ -3,17 +3,14 @@ ghost use Rattle.std.specs.Prelude.{◌≡◌, ◌+◌, ◌<◌, ◌≤◌, ◌+
 ghost use Rattle.std.specs.Io.KnownBytes.{Consumes, Keeps, IsAtEnd};
 ghost use Rattle.np_code_points.specs.Watched.{device_of, has_failed};
 
+use super::pieces::{PIECE, new_piece, read_piece};
 use super::watched::Watched;
-use crate::Memory;
 use std::alloc::Global;
 use std::io::Read;
 use thiserror::Error;
 
 /// The most bytes that an input may have.
 pub const LIMIT: usize = 16_777_216;
-
-/// The most bytes that are asked for at once.
-const PIECE: usize = 65_536;
 
 /// Why an input was not read whole.
 #[derive(Clone, Copy, Debug, PartialEq, Eq, Error)]
@@ -29,15 +26,8 @@ pub enum InputFault {
     Memory,
 }
 
-/// Room for `count` bytes, on the heap.
-fn room_for(alloc: Global, count: usize) -> Result<Vec<u8>, Memory>
-    ensures { IfOk result (λ v. vec_len v ≡ count) }
-{
-    Ok(vec![in alloc; 0u8; count]?)
-}
-
-/// Reads at most the room of `piece` to the end of `bytes`, once, and answers how many bytes came.
-fn read_piece<R: Read>(
+/// Reads once to the end of `bytes`, at most up to the first byte past `LIMIT`, and answers how many bytes came.
+fn read_more<R: Read>(
     source: &mut Watched<R>,
     piece: &mut [u8],
     bytes: &mut Vec<u8>,
@@ -55,8 +45,7 @@ fn read_piece<R: Read>(
     ensures failed { result ≡ Err InputFault.ReadFailed ↔ (has_failed source.new ≡ true) }
     ensures large { result ≢ Err InputFault.TooLarge }
 {
-    let want = PIECE.min(LIMIT + 1 - bytes.len());
-    let Ok(n) = source.read(&mut piece[..want]) else {
+    let Ok(n) = read_piece(source, piece, LIMIT + 1 - bytes.len()) else {
         return Err(InputFault::ReadFailed);
     };
     if bytes.extend_from_slice(&piece[..n]).is_err() {
@@ -81,7 +70,7 @@ pub fn read_whole<R: Read>(alloc: Global, source: &mut Watched<R>) -> Result<Vec
         × Consumes (R.remaining (device_of source.old)) (R.remaining (device_of source.new)) xs) }
 {
     source.clear();
-    let Ok(mut piece) = room_for(alloc, PIECE) else {
+    let Ok(mut piece) = new_piece(alloc) else {
         return Err(InputFault::Memory);
     };
     let mut bytes = Vec::new(alloc);
@@ -89,7 +78,7 @@ pub fn read_whole<R: Read>(alloc: Global, source: &mut Watched<R>) -> Result<Vec
         if bytes.len() > LIMIT {
             return Err(InputFault::TooLarge);
         }
-        if read_piece(source, piece.as_mut_slice(), &mut bytes)? == 0 {
+        if read_more(source, &mut piece, &mut bytes)? == 0 {
             return Ok(bytes);
         }
     }

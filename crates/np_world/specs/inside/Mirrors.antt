@@ -11,8 +11,8 @@ use Rattle.np_node.specs.Strings.{Entry, IsEntry}
 use Rattle.np_versions.specs.Counts.{assigned_count}
 use Rattle.np_versions.specs.Versions.{VersionData}
 use Rattle.np_world.specs.World.{Setting, MachineNode, Scene}
-use Rattle.np_world.specs.declared.members.Common.{Common}
-use Rattle.np_world.specs.declared.members.Member.{Member}
+use Rattle.np_world.specs.declared.replay_nodes.Common.{Common}
+use Rattle.np_world.specs.declared.replay_nodes.ReplayNode.{ReplayNode}
 use Rattle.np_world.specs.declared.replies.Reply.{Reply}
 
 -- the strings of entries, as code points
@@ -52,15 +52,15 @@ abbrev pub HasSaved : Setting → VersionData → Option (Vec ℕ Global) → Li
 HasSaved setting version None saved saved_at = (saved ≡ []) × (saved_at ≡ None)
 HasSaved setting version (Some bytes) saved saved_at = HasImage setting version bytes.items saved saved_at
 
--- a member has the place, the strings and the image of what the machine's node has
-pub record Mirrors {T : Type 0} (model : T → VersionData) (rules : Rules T) (member : Member T) (twin : MachineNode) : Type 0 where
-  pub index : member.index ≡ twin.index
-  pub table : slice_get rules.tables member.index ≡ Some member.node.table
-  pub form : member.node.form ≡ rules.form
-  pub room : member.node.room ≡ rules.room
-  pub node : IsNode (state_of model member.node)
-  pub strings : twin.strings ≡ texts_of member.node.entries
-  pub saved : HasSaved (setting_of model rules) (model member.node.table) member.image twin.saved twin.saved_at
+-- a node has the place, the strings and the image of what the machine's node has
+pub record Mirrors {T : Type 0} (model : T → VersionData) (rules : Rules T) (replay_node : ReplayNode T) (twin : MachineNode) : Type 0 where
+  pub index : replay_node.index ≡ twin.index
+  pub table : slice_get rules.tables replay_node.index ≡ Some replay_node.node.table
+  pub form : replay_node.node.form ≡ rules.form
+  pub room : replay_node.node.room ≡ rules.room
+  pub node : IsNode (state_of model replay_node.node)
+  pub strings : twin.strings ≡ texts_of replay_node.node.entries
+  pub saved : HasSaved (setting_of model rules) (model replay_node.node.table) replay_node.image twin.saved twin.saved_at
 
 -- the bytes are the message of a string that some node sent under its version
 pub record IsMessageOf (setting : Setting) (bytes string : List ℕ) : Type 0 where
@@ -84,28 +84,28 @@ pub record AreRules {T : Type 0} (model : T → VersionData) (rules : Rules T) :
   pub room : rules.room ≤ 65536
 
 -- the machine has such a step, and what it leaves is mirrored
-pub record IsTurn {T : Type 0} (model : T → VersionData) (rules : Rules T)
+pub record IsNodeStep {T : Type 0} (model : T → VersionData) (rules : Rules T)
     (deed : VersionData → VersionData → Scene → Reply → Scene → Type 0) (node : MachineNode) (sent : List (List ℕ))
-    (version last : VersionData) (reply : Reply) (member : Member T) (told : List (Vec ℕ Global)) : Type 0 where
+    (version last : VersionData) (reply : Reply) (replay_node : ReplayNode T) (told : List (Vec ℕ Global)) : Type 0 where
   pub next : MachineNode
   pub more : List (List ℕ)
   pub does : deed version last (record { node = node; sent = sent }) reply (record { node = next; sent = more })
-  pub mirrors : Mirrors model rules member next
+  pub mirrors : Mirrors model rules replay_node next
   pub messages : AreMessages (setting_of model rules) told more
 
--- from whatever the machine has that a member and the messages mirror
-abbrev pub Turns : {T : Type 0} (model : T → VersionData) (rules : Rules T)
+-- from whatever the machine has that a node and the messages mirror
+abbrev pub NodeSteps : {T : Type 0} (model : T → VersionData) (rules : Rules T)
     (deed : VersionData → VersionData → Scene → Reply → Scene → Type 0)
-    (old : Member T) (sent : List (Vec ℕ Global)) (reply : Reply) (new : Member T) (messages : List (Vec ℕ Global)) → Type 0
-Turns model rules deed old sent reply new messages =
+    (old : ReplayNode T) (sent : List (Vec ℕ Global)) (reply : Reply) (new : ReplayNode T) (messages : List (Vec ℕ Global)) → Type 0
+NodeSteps model rules deed old sent reply new messages =
     (node : MachineNode) (strings : List (List ℕ)) (version last : VersionData)
     → AreRules model rules → Mirrors model rules old node → AreMessages (setting_of model rules) sent strings
     → slice_get (map model rules.tables) node.index ≡ Some version
     → slice_get (map model rules.tables) (length rules.tables - 1) ≡ Some last
-    → IsTurn model rules deed node strings version last reply new messages
+    → IsNodeStep model rules deed node strings version last reply new messages
 
 -- the rules hold, and some node of the machine is mirrored
-pub record IsReady {T : Type 0} (model : T → VersionData) (rules : Rules T) (member : Member T) : Type 0 where
+pub record IsReady {T : Type 0} (model : T → VersionData) (rules : Rules T) (replay_node : ReplayNode T) : Type 0 where
   pub rules_hold : AreRules model rules
   pub twin : MachineNode
-  pub mirrors : Mirrors model rules member twin
+  pub mirrors : Mirrors model rules replay_node twin

@@ -27,7 +27,7 @@ returns-in-Some-clause-ok g c =
     let on : e ≡ true = found.0 in
     let one = sym (ap codes_of c.deref.ensures.value) ∙ found.1.1 in
     let is : ended v true (canonical_order (class_of v) pending) ≡ found.1.0 ∷ [] =
-    ap (λ b. ended v b (canonical_order (class_of v) pending)) (sym on) ∙ sym (c.in_ok-settle.ensures pending c.requires.classed) ∙ one in
+    ap (λ b. ended v b (canonical_order (class_of v) pending)) (sym on) ∙ sym (c.in_ok-order_and_compose.ensures pending c.requires.classed) ∙ one in
     let pairs = ap (composite v found.1.0) (sym c.code.ensures) ∙ found.1.2 in
     let items = c.in_ok-push-2.ensures.items ∙ ap (λ l. l ++ c.with_class.result ∷ []) c.clear.ensures.items in
     let left = ap codes_of items ∙ ap (λ (y : CodeAndClass). y.code ∷ []) c.with_class.ensures in
@@ -41,7 +41,7 @@ returns-clause-ok g c =
     let v = g.T.NormTable.model c.args.table.now in
     let pending = codes_of c.args.held.now.pending.items in
     let low : class_of v c.args.d.code ≤ 0 = omega (arith, (ap (λ (y : CodeAndClass). y.class) c.requires.class), c.class.ensures, c.if-class-ne0.false) in
-    let settled = c.in_ok-settle.ensures pending c.requires.classed in
+    let settled = c.in_ok-order_and_compose.ensures pending c.requires.classed in
     let value = ended v _ (canonical_order (class_of v) pending) in
     let left = ap codes_of (c.in_ok-push-3.ensures.items ∙ ap (λ l. l ++ c.args.d ∷ []) c.clear-2.ensures.items) in
     record {

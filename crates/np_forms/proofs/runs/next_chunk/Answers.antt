@@ -4,10 +4,8 @@ use Rattle.np_forms.proofs.Words.{err_from_is_err_and, take_rest}
 use Rattle.np_forms.proofs.RunningLemmas.{chunk_next, input_cut, input_failed, input_memory, ok_on}
 use Rattle.np_forms.proofs.runs.next_chunk.Goals as goal
 
-pub returns-in_err-n-clause-err : goal.returns-in_err-n-clause-err
-returns-in_err-n-clause-err g c =
-    let p = err_from_is_err_and c.from_residual.result c.from_residual.ensures.1 in
-    rw (p.1, p.2, c.in_err-n.ensures.fault) (input_failed _ _ _ _ c.in_err-n.ensures.err c.requires.fits)
+pub returns-in_default-clause-err : goal.returns-in_default-clause-err
+returns-in_default-clause-err g c = input_failed _ _ _ _ c.in_default.ensures.err c.requires.fits
 
 pub returns-then-is_err-clause-err : goal.returns-then-is_err-clause-err
 returns-then-is_err-clause-err g c = input_memory _ _ _ _ _ c.in_ok-n.n c.in_ok-n.ensures.ok c.in_ok-n.ensures.bound.0 c.in_ok-n.ensures.bound.1

@@ -1,9 +1,9 @@
-use Rattle.std.proofs.Common.{ℕ, List, ◌++◌, ap, codes, ◌∙◌}
-use Rattle.std.specs.Fmt.{decimal}
-use Rattle.np_code_points.specs.Codes.{code_digits}
+use Rattle.std.proofs.Common.{ap, codes, ◌∙◌}
+use Rattle.np_code_points.specs.Codes.{unassigned}
+use Rattle.np_code_points.proofs.Bytes.{behind}
 use Rattle.np_jobs.proofs.lines.unassigned_text.Goals as goal
 
 pub returns : goal.returns
 returns c =
-    c.in_ok-format.ensures.ok
-    ∙ ap (λ (digits : List ℕ). c.args.head.now ++ (codes "unassigned " ++ (digits ++ (codes " at byte " ++ (decimal c.args.at ++ codes "\n"))))) (c.in_ok-code.ensures ∙ ap code_digits c.from.ensures)
+    behind c.args.head.now (unassigned c.args.at c.args.code) (codes "\n")
+    c.in_ok-write_unassigned.ensures c.in_ok-push_str.ensures.bytes

@@ -1,6 +1,5 @@
-use Rattle.std.proofs.Common.{◌≡◌, [], ◌∷◌, ◌++◌, Bool, true, false, not, option_map, refl, ap, ◌∙◌}
+use Rattle.std.proofs.Common.{◌≡◌, Bool, true, false, not, option_map, refl, ◌∙◌}
 use Rattle.std.proofs.lemmas.Bool.{false≢true, not-false}
-use Rattle.np_ucd.specs.Entries.{Entry}
 use Rattle.np_ucd.specs.RowValues.{entry_of}
 use Rattle.np_ucd.specs.inside.RecordValues.{neighbour_value}
 use Rattle.np_ucd.proofs.DataLemmas.{opening_adds, record_adds}
@@ -21,7 +20,7 @@ returns-clause-rows c =
           ∙ record_adds c.args.line.number c.args.line.text.now (option_map neighbour_value c.args.before) (neighbour_value n) (entry_of row)
           c.args.rows.now w.push.new.self
           c.in_ok-neighbour.ensures.neighbour (not_opening n.opens w.if-not-neighbour.true) c.in_ok-neighbour.ensures.row
-          (w.in_ok-push.ensures ∙ ap (λ (e : Entry). c.args.rows.now ++ e ∷ []) w.lent.ensures)
+          w.in_ok-push.ensures
       | else-not-neighbour w ↦
           w.rows-is
           ∙ opening_adds c.args.line.number c.args.line.text.now (option_map neighbour_value c.args.before) (neighbour_value n) (entry_of row)

@@ -12,10 +12,10 @@ pub returns : goal.returns
 returns g c =
     let model = g.T.NormTable.model in
     let common = c.args.common.now in
-    let v = c.in_ok-members.members in
-    let ws = c.run_events.new.members in
+    let v = c.in_ok-replay_nodes.replay_nodes in
+    let ws = c.run_events.new.replay_nodes in
     let starts = c.starts-starts.result.now in
-    let begun = length-mirrored model (rules_of common) v.items (start starts).nodes c.in_ok-members.ensures.nodes in
+    let begun = length-mirrored model (rules_of common) v.items (start starts).nodes c.in_ok-replay_nodes.ensures.nodes in
     let many = length-map starts first_node in
     let ended = count_ends model (rules_of common) starts (map event_of c.events.result.now) c.in_ok-replies.field-0.replies.items ws c.in_ok-replies.field-0.sent.items c.in_ok-replies.ensures in
     let told = c.in_ok-replies.field-0.sent.items in

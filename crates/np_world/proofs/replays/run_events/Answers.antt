@@ -9,17 +9,17 @@ use Rattle.np_world.specs.inside.Worlds.{EndsRun}
 use Rattle.np_world.proofs.RunLemmas.{count_ends, ends-more, named_at, version_at}
 use Rattle.np_world.proofs.replays.run_events.Goals as goal
 
-pub step-requires-clause-named : goal.step-requires-clause-named
-step-requires-clause-named g c =
+pub step_world-requires-clause-named : goal.step_world-requires-clause-named
+step_world-requires-clause-named g c =
     let model = g.T.NormTable.model in
     let rules = rules_of c.args.common.now in
     let i = c.loop-event.event-index in
-    let count = count_ends model rules c.args.starts.now (map event_of (take i c.args.events.now)) c.loop-event.replies.items c.loop-event.members c.loop-event.sent.items c.loop-event.invariant in
+    let count = count_ends model rules c.args.starts.now (map event_of (take i c.args.events.now)) c.loop-event.replies.items c.loop-event.replay_nodes c.loop-event.sent.items c.loop-event.invariant in
     let named = named_at (length c.args.starts.now) c.args.events.now i c.event-item.result c.requires.named c.loop-event-test.true in
     subst (λ n. node_of (event_of c.event-item.result) < n) (sym count) (subst (λ e. node_of (event_of e) < length c.args.starts.now) (sym c.event-item.is) named)
 
-pub step-requires-clause-version : goal.step-requires-clause-version
-step-requires-clause-version g c =
+pub step_world-requires-clause-version : goal.step_world-requires-clause-version
+step_world-requires-clause-version g c =
     let versions = length c.args.common.now.chain.now in
     subst (λ e. NamesVersion versions (event_of e)) (sym c.event-item.is)
     (version_at versions c.args.events.now c.loop-event.event-index c.event-item.result c.requires.versions c.loop-event-test.true)
@@ -29,12 +29,12 @@ loop-event-preserved g c =
     let model = g.T.NormTable.model in
     let rules = rules_of c.args.common.now in
     let i = c.loop-event.event-index in
-    ends-more model rules c.args.starts.now c.args.events.now i c.event-item.result c.loop-event.replies.items c.loop-event.members c.step.new.members c.loop-event.sent.items c.step.new.sent.items c.in_ok-step.field-0
-    c.push.new.self.items c.loop-event-test.true c.in_ok-push.ensures.items c.event-item.is c.requires.rules c.loop-event.invariant c.in_ok-step.ensures.step c.in_ok-step.ensures.images
+    ends-more model rules c.args.starts.now c.args.events.now i c.event-item.result c.loop-event.replies.items c.loop-event.replay_nodes c.step_world.new.replay_nodes c.loop-event.sent.items c.step_world.new.sent.items c.in_ok-step_world.field-0
+    c.push.new.self.items c.loop-event-test.true c.in_ok-push.ensures.items c.event-item.is c.requires.rules c.loop-event.invariant c.in_ok-step_world.ensures.step c.in_ok-step_world.ensures.images
 
 pub returns : goal.returns
 returns g c =
     let rules = rules_of c.args.common.now in
     let run = c.loop-event in
-    subst (λ (events : List EventLine). EndsRun g.T.NormTable.model rules c.args.starts.now (map event_of events) run.replies.items run.members run.sent.items)
+    subst (λ (events : List EventLine). EndsRun g.T.NormTable.model rules c.args.starts.now (map event_of events) run.replies.items run.replay_nodes run.sent.items)
     (take_all run.event-index c.args.events.now c.loop-event-test.false) run.invariant

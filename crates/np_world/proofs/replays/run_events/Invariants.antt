@@ -5,4 +5,4 @@ use Rattle.np_world.specs.inside.Worlds.{EndsRun}
 use Rattle.np_world.proofs.replays.run_events.Given as goal
 
 abbrev pub invariant-loop-event : goal.invariant-loop-event
-invariant-loop-event g l = EndsRun g.T.NormTable.model (rules_of l.common) l.starts (map event_of (take l.event-index l.events)) l.replies.items l.members l.sent.items
+invariant-loop-event g l = EndsRun g.T.NormTable.model (rules_of l.common) l.starts (map event_of (take l.event-index l.events)) l.replies.items l.replay_nodes l.sent.items

@@ -2,9 +2,10 @@ use Rattle.std.proofs.Common.{◌++◌, ap, sym, ◌∙◌, string_bytes, map-id
 use Rattle.std.proofs.lemmas.Iterator.{YieldsList-from_chars}
 use Rattle.std.proofs.lemmas.Iterator.Consumers.{YieldsList-end}
 use Rattle.np_code_points.specs.Codes.{code_digits}
+use Rattle.np_code_points.proofs.Bytes.{behind}
 use Rattle.np_world.specs.ReportTexts.{codes_text}
 use Rattle.np_world.specs.inside.ReportWriting.{gap, joined_codes}
-use Rattle.np_world.proofs.ReportTextLemmas.{behind, codes_end, codes_whole, joined_more, more_is_something}
+use Rattle.np_world.proofs.ReportTextLemmas.{codes_end, codes_whole, joined_more, more_is_something}
 use Rattle.np_world.proofs.report_texts.write_codes.Goals as goal
 
 pub loop-code-preserved : goal.loop-code-preserved

@@ -8,7 +8,7 @@ use Rattle.np_world.proofs.report_texts.write_nodes.Goals as goal
 
 pub loop-number-preserved : goal.loop-number-preserved
 loop-number-preserved g c =
-    let member = c.index-members-number.result in
-    let ends = mapped_there end_of c.args.members.now c.loop-number.number member (slice_get_read _ _ _ member refl c.loop-number-test.true c.index-members-number.is) in
-    let here = mapped_there node_report (map end_of c.args.members.now) c.loop-number.number (end_of member) ends in
-    numbered_written_more (string_bytes c.args.out.now) node_lines (map node_report (map end_of c.args.members.now)) c.loop-number.number (node_report (end_of member)) here c.loop-number.invariant c.in_ok-write_node.ensures
+    let replay_node = c.index-replay_nodes-number.result in
+    let ends = mapped_there end_of c.args.replay_nodes.now c.loop-number.number replay_node (slice_get_read _ _ _ replay_node refl c.loop-number-test.true c.index-replay_nodes-number.is) in
+    let here = mapped_there node_report (map end_of c.args.replay_nodes.now) c.loop-number.number (end_of replay_node) ends in
+    numbered_written_more (string_bytes c.args.out.now) node_lines (map node_report (map end_of c.args.replay_nodes.now)) c.loop-number.number (node_report (end_of replay_node)) here c.loop-number.invariant c.in_ok-write_node.ensures

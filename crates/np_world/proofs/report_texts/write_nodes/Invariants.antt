@@ -6,4 +6,4 @@ use Rattle.np_world.specs.inside.ReportWriting.{numbered_lines}
 use Rattle.np_world.proofs.report_texts.write_nodes.Given as goal
 
 abbrev pub invariant-loop-number : goal.invariant-loop-number
-invariant-loop-number g l = string_bytes l.out ≡ string_bytes l.initial.out ++ numbered_lines node_lines (take l.number (map node_report (map end_of l.members)))
+invariant-loop-number g l = string_bytes l.out ≡ string_bytes l.initial.out ++ numbered_lines node_lines (take l.number (map node_report (map end_of l.replay_nodes)))

@@ -14,14 +14,14 @@ returns g c =
     let left = codes_of c.clear.new.self.items in
     let empty = ap (λ (s : StreamState). s.ready) c.self.view_is ∙ c.requires in
     rw (← c.self.view_is)
-    (elim c.match-settled.branch [
+    (elim c.match-ordered.branch [
       | in-Ok w ↦
-          subst (λ r. OnOk r (Breaks (record { version = v; form = form; ready = ready; pending = pending }) (record { version = v; form = form; ready = ready; pending = left }) before c.match-settled.out)) (sym w.written-is)
+          subst (λ r. OnOk r (Breaks (record { version = v; form = form; ready = ready; pending = pending }) (record { version = v; form = form; ready = ready; pending = left }) before c.match-ordered.out)) (sym w.written-is)
           (on_ok_weaker w.append_codes-written.result
           (λ grown.
           subst (Breaks (record { version = v; form = form; ready = ready; pending = pending }) (record { version = v; form = form; ready = ready; pending = left }) before) (sym w.out-is)
           (Breaks-settled v c.meets_conditions.ensures form c.composes.result pending ready left before _ _ c.composes.ensures empty (ap codes_of c.clear.ensures.items)
           (ap codes_of w.deref.ensures.value ∙ w.in-Ok.ensures pending c.self.invariant) grown))
           w.append_codes-written.ensures)
-      | in-Err w ↦ subst (λ r. OnOk r (Breaks (record { version = v; form = form; ready = ready; pending = pending }) (record { version = v; form = form; ready = ready; pending = left }) before c.match-settled.out)) (sym w.written-is) tt
+      | in-Err w ↦ subst (λ r. OnOk r (Breaks (record { version = v; form = form; ready = ready; pending = pending }) (record { version = v; form = form; ready = ready; pending = left }) before c.match-ordered.out)) (sym w.written-is) tt
     ])

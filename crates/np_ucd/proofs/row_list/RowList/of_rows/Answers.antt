@@ -1,5 +1,4 @@
-use Rattle.std.proofs.Common.{◌++◌, ◌∷◌, [], option_map, ap, ◌∙◌, sym, arith, rules}
-use Rattle.np_ucd.specs.Entries.{Entry}
+use Rattle.std.proofs.Common.{option_map, ap, ◌∙◌, sym, arith, rules}
 use Rattle.np_ucd.specs.RowValues.{entry_of}
 use Rattle.np_ucd.proofs.KeptLemmas.{walked, within-some}
 use Rattle.np_ucd.proofs.row_list.RowList.of_rows.Goals as goal
@@ -10,7 +9,6 @@ loop-at-preserved c = elim c.match-get.branch [
   | in-Some+in_ok-push w ↦
       rw w.kept-is (
       w.in_ok-push.ensures
-      ∙ ap (λ (e : Entry). c.loop-at.kept ++ e ∷ []) w.lent.ensures
       ∙ walked c.args.rows c.loop-at.kept c.loop-at.at (entry_of w.in-Some.row.now) c.loop-at.invariant
       (sym c.get.ensures.row ∙ ap (option_map (λ r. entry_of r.now)) w.in-Some.is))
   | in_default w ↦

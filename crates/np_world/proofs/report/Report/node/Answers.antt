@@ -9,7 +9,7 @@ returns-in-Some g c =
     let list = c.deref.result.now in
     let k = c.args.number in
     rw (← c.self.view_is, ← c.deref.ensures.value)
-    (rw (slice_get-map end_of list k, slice_get_read list _ k c.in-Some.member.now refl found.3.0 found.1) refl)
+    (rw (slice_get-map end_of list k, slice_get_read list _ k c.in-Some.replay_node.now refl found.3.0 found.1) refl)
 
 pub returns-in-None : goal.returns-in-None
 returns-in-None g c =

@@ -1,5 +1,0 @@
-use Rattle.std.proofs.Common.{rules}
-use Rattle.np_world.proofs.turns.refusal.Goals as goal
-
-pub returns-in-Malformed : goal.returns-in-Malformed
-returns-in-Malformed c = search rules
