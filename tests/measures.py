@@ -36,7 +36,7 @@ ASIDE = {
     # the files of the version, and its table
     "read_version", "of", "meets_conditions", "new", "refuse_file", "open", "take_standard",
     # marks, lengths and values that see no byte
-    "alloc", "as_bytes", "clear", "flush", "len", "is_empty", "room_for", "into_inner", "least_quick_check", "status_of_answer", "as_str", "as_slice", "iter",
+    "alloc", "as_bytes", "clear", "flush", "len", "is_empty", "new_piece", "into_inner", "least_quick_check", "status_of_answer", "as_str", "as_slice", "iter",
     # where a table has what it tells of a code point
     "quick_check_place", "quick_checks_at",
     # what only a longer or another name meets

@@ -62,7 +62,8 @@ fn run_events<'t, T: NormTable>(
     requires begun { Begins T.model (rules_of common.now) replay_nodes.old starts.now }
     requires named { NameNodes (length starts.now) (map event_of events.now) }
     requires versions { NameVersions (length common.now.chain.now) (map event_of events.now) }
-    ensures { IfOk result (λ told. EndsRun T.model (rules_of common.now) starts.now (map event_of events.now) told.replies.items replay_nodes.new told.sent.items) }
+    ensures { IfOk result (λ told. EndsRun T.model (rules_of common.now) starts.now (map event_of events.now) told.replies.items
+        replay_nodes.new told.sent.items) }
 {
     let mut replies = Vec::with_capacity(common.alloc, events.len())?;
     let mut sent = Vec::new(common.alloc);
