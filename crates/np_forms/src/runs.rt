@@ -11,7 +11,7 @@ use crate::streams::Stream;
 use crate::utf8_prefixes::utf8_prefix_of;
 use crate::written::{close_text, feed_text};
 use np_code_points::output::{flush_once, write_whole};
-use np_code_points::pieces::{PIECE, new_piece, read_piece};
+use np_code_points::pieces::{new_piece, read_piece};
 use np_code_points::watched::Watched;
 use np_code_points::{Form, Memory};
 use np_versions::NormTable;
@@ -96,7 +96,7 @@ struct Input {
     chunk: Vec<u8>,
     /// How many bytes were read.
     total: u64,
-    ghost space: { vec_len piece ≡ PIECE },
+    ghost space: { vec_len piece ≡ 65536 },
 }
 
 /// Reads once, and answers how many bytes of the chunk are a text; the rest is kept. None at the end of the input.

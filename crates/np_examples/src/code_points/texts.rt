@@ -1,6 +1,6 @@
 //! Texts, codes, forms' names and syllables.
 use np_code_points::Form;
-use np_code_points::codes::{code_of, hex_value, scalar_of};
+use np_code_points::codes::{code_of, hex_value, scalar_of, write_unassigned};
 use np_code_points::hangul::{hangul_pair, hangul_parts};
 use np_code_points::text::{NotUtf8, chars_of, string_of, text_of};
 use np_examples_shared::told::want_told;
@@ -125,4 +125,14 @@ fn long_texts_have_memory(rt: HostRuntime) -> Result<(), Fail> {
 #[test]
 fn a_fault_says_the_place(rt: HostRuntime) -> Result<(), Fail> {
     want_told(rt.alloc(), &[(NotUtf8 { at: 17 }, "not UTF-8 at byte 17")])
+}
+
+#[test]
+fn an_unassigned_code_point_is_told_behind_what_was_written(rt: HostRuntime) -> Result<(), Fail> {
+    let mut text = String::from_str(rt.alloc(), "!")?;
+    write_unassigned(&mut text, 1, '\u{16D67}')?;
+    want(
+        text.as_str() == "!unassigned 16D67 at byte 1",
+        "the code and its place",
+    )
 }
