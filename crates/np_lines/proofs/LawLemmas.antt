@@ -8,7 +8,7 @@ use Rattle.std.specs.Fmt.{decimal}
 use Rattle.std.specs.Int.Digits.{digits_of}
 use Rattle.std.specs.List.{All, list_all}
 use Rattle.std.specs.Str.Lossy.{utf8_valid_len}
-use Rattle.np_code_points.specs.Codes.{code_digits, hex_digit}
+use Rattle.np_code_points.specs.Codes.{code_digits, hex_digit, unassigned}
 use Rattle.np_code_points.specs.Lines.{HasNo}
 use Rattle.np_code_points.specs.One.{HasOne}
 use Rattle.np_code_points.proofs.LineGrammar.{not_byte}
@@ -19,7 +19,7 @@ use Rattle.np_forms.proofs.RunTextLemmas.{longest_prefix, one_prefix}
 use Rattle.np_forms.proofs.TextLemmas.{lacks-unassigned}
 use Rattle.np_versions.specs.Conditions.{IsSound}
 use Rattle.np_versions.specs.Versions.{VersionData, is_assigned}
-use Rattle.np_lines.specs.Answers.{Wanted, AreAnswers, IsAnswer, IsAnswerWithin, IsKey, IsToldKey, IsUnassigned, most_bytes, not_utf8, told_key, told_refusal, unassigned}
+use Rattle.np_lines.specs.Answers.{Wanted, AreAnswers, IsAnswer, IsAnswerWithin, IsKey, IsToldKey, IsUnassigned, most_bytes, not_utf8, told_key, told_refusal}
 use Rattle.np_lines.specs.Laws.{AnswersAreLines, OneAnswer}
 use Rattle.np_lines.specs.Lines.{LineEnd, Lf, Nul, byte_of, ended}
 

@@ -26,16 +26,16 @@ pieces-init g c = record {
 
 pub returns-in_err-answer_piece-clause-err : goal.returns-in_err-answer_piece-clause-err
 returns-in_err-answer_piece-clause-err g c =
-    let p = err_from_is_err_and c.from_residual-in_err-answer_piece.result c.from_residual-in_err-answer_piece.ensures.1 in
+    let p = err_from_is_err_and c.from_residual.result c.from_residual.ensures.1 in
     rw (p.1, p.2)
     (cut_piece (g.T.NormTable.model c.args.table.now) c.args.wanted c.pieces.invariant.between (g.R.Read.remaining (device_of c.read_piece.new.source))
-    (g.W.Write.contents (device_of c.answer_piece.new.target)) (take c.in_ok-n.n c.deref.result.now) c.in_err-answer_piece.field-0.0 (subst (λ l. Consumes (g.R.Read.remaining (device_of c.pieces.source)) (g.R.Read.remaining (device_of c.read_piece.new.source)) (take c.in_ok-n.n l)) (sym (c.deref.ensures.value ∙ take_at c.read_piece.new.piece (drop (length c.read_piece.new.piece) c.pieces.piece.items) c.pieces.piece.len (c.read_piece.ensures.same ∙ c.deref_mut.ensures.len))) c.in_ok-n.ensures.ok) c.in_err-answer_piece.ensures.err)
+    (g.W.Write.contents (device_of c.answer_piece.new.target)) (take c.in-Ok-read_piece.n c.deref.result.now) c.in_err-answer_piece.field-0.0 (subst (λ l. Consumes (g.R.Read.remaining (device_of c.pieces.source)) (g.R.Read.remaining (device_of c.read_piece.new.source)) (take c.in-Ok-read_piece.n l)) (sym (c.deref.ensures.value ∙ take_at c.read_piece.new.piece (drop (length c.read_piece.new.piece) c.pieces.piece.items) c.pieces.piece.len (c.read_piece.ensures.same ∙ c.deref_mut.ensures.len))) c.in-Ok-read_piece.ensures.ok) c.in_err-answer_piece.ensures.err)
 
 pub pieces-preserved : goal.pieces-preserved
 pieces-preserved g c = record {
   between =
       between-piece (g.T.NormTable.model c.args.table.now) c.args.wanted c.pieces.invariant.between (g.R.Read.remaining (device_of c.read_piece.new.source))
-      (g.W.Write.contents (device_of c.answer_piece.new.target)) c.answer_piece.new.pending (take c.in_ok-n.n c.deref.result.now) (subst (λ l. Consumes (g.R.Read.remaining (device_of c.pieces.source)) (g.R.Read.remaining (device_of c.read_piece.new.source)) (take c.in_ok-n.n l)) (sym (c.deref.ensures.value ∙ take_at c.read_piece.new.piece (drop (length c.read_piece.new.piece) c.pieces.piece.items) c.pieces.piece.len (c.read_piece.ensures.same ∙ c.deref_mut.ensures.len))) c.in_ok-n.ensures.ok) c.in_ok-answer_piece.ensures.ok;
+      (g.W.Write.contents (device_of c.answer_piece.new.target)) c.answer_piece.new.pending (take c.in-Ok-read_piece.n c.deref.result.now) (subst (λ l. Consumes (g.R.Read.remaining (device_of c.pieces.source)) (g.R.Read.remaining (device_of c.read_piece.new.source)) (take c.in-Ok-read_piece.n l)) (sym (c.deref.ensures.value ∙ take_at c.read_piece.new.piece (drop (length c.read_piece.new.piece) c.pieces.piece.items) c.pieces.piece.len (c.read_piece.ensures.same ∙ c.deref_mut.ensures.len))) c.in-Ok-read_piece.ensures.ok) c.in_ok-answer_piece.ensures.ok;
   reads = search rules;
   writes = search rules;
   space = c.pieces.invariant.space;
