@@ -254,6 +254,10 @@ fn each_line_is_answered(rt: HostRuntime) -> Result<(), Fail> {
 const TOLD: &[(LinesFault, &str)] = &[
     (LinesFault::ReadFailed, "read failed"),
     (LinesFault::WriteFailed, "write failed"),
+    (
+        LinesFault::TooLarge,
+        "more than 18,446,744,073,709,551,615 bytes",
+    ),
     (LinesFault::Memory, "out of memory"),
 ];
 

@@ -257,7 +257,7 @@ module _ (v : VersionData) (sound : IsSound v) where
         length-decomposed v sound (is_compat form) xs,
       )
 
-length-encodes : (cs : List ℕ) → length (encode_utf8_all cs) ≤ 4 * length cs
+pub length-encodes : (cs : List ℕ) → length (encode_utf8_all cs) ≤ 4 * length cs
 length-encodes [] = omega arith
 length-encodes (c ∷ cs) = omega (arith, length-encodes cs, length-append (encode_utf8 c) (encode_utf8_all cs), length-encode c, (len_utf8_bounds c).1)
 

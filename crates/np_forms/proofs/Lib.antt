@@ -10,6 +10,7 @@ pub mod OutTextLemmas
 pub mod PieceLemmas
 pub mod PrecomputedLemmas
 pub mod QuickSpanLemmas
+pub mod RunCountLemmas
 pub mod RunTextLemmas
 pub mod RunningLemmas
 pub mod SegmentLemmas

@@ -88,6 +88,24 @@ module _ {v : VersionData} (sound : IsSound v) where
     fed : IsStreaming s.version s.form (chars r.done) r.ready s.pending
     fed = under (λ u f. IsStreaming u f (chars r.done) r.ready s.pending) (sym r.version) (sym r.form_is) r.streaming
 
+    -- nothing more came
+    pub still : {i₂ : Option (List ℕ)} {left : List ℕ} {new : ℕ} → Consumes i₁ i₂ [] → left ≡ kept → new ≡ total → IsRunning v form i₀ i₂ o₀ o₁ left new count s
+    still {i₂} {left} {new} taken same size =
+        record {
+          done = r.done;
+          taken = subst (λ l. Consumes i₀ i₂ (r.done ++ l)) (append-nil kept ∙ sym same) (taken_with i₂ [] taken);
+          utf8 = r.utf8;
+          cut = subst (λ l. IsLongestValidPrefix l 0) (sym same) r.cut;
+          size = omega (arith, r.size, size, ap length same);
+          ready = r.ready;
+          written = r.written;
+          count_is = r.count_is;
+          streaming = r.streaming;
+          version = r.version;
+          form_is = r.form_is;
+          moved = r.moved;
+        }
+
     -- where nothing of the last chunk was fed
     unfed : normal_form v form (chars r.done ++ chars (take 0 kept)) ≡ normal_form v form (chars r.done)
     unfed = ap (normal_form v form) (ap (λ l. chars r.done ++ l) chars-nil ∙ append-nil (chars r.done))

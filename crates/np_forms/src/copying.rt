@@ -162,35 +162,9 @@ fn may_go_on<T: NormTable>(table: &T, assigned: bool, unread: &str, rest: &str) 
     }
 }
 
-/// Appends the form of a text in one pass: what is known to pass is copied, and each segment of what is
-/// left is made by itself. Where `assigned` is asked for, it tells whether each code point is, and where
-/// one is not, the form may be cut short; most are known to be by what was looked up to write them.
-pub(crate) fn write_fronts<T: NormTable>(
-    normalizer: &Normalizer<'_, T>,
-    assigned: bool,
-    text: &str,
-    out: &mut OutText,
-) -> Result<bool, Memory>
-    ensures form { IfOk result (λ all. IsTrue all → out.new ≡ out.old ++
-        encode_utf8_all (normal_form (T.model normalizer.now.table.now) normalizer.now.form (chars text.now))) }
-    ensures assigned { IfOk result (λ all. IsTrue assigned → IsTrue all → IsAssigned (T.model normalizer.now.table.now) (chars text.now)) }
-    ensures lacking { IfOk result (λ all. all ≡ false → ¬ IsAssigned (T.model normalizer.now.table.now) (chars text.now)) }
-    ensures always { IfOk result (λ all. assigned ≡ false → IsTrue all) }
-{
-    let mut list = Vec::new(normalizer.alloc);
-    let mut rest = text;
-    'fronts: while !rest.is_empty() {
-        let written = write_front(normalizer, assigned, rest, &mut list, out)?;
-        if !may_go_on(normalizer.table, assigned, written.unread, written.rest) {
-            return Ok(false);
-        }
-        rest = written.rest;
-    }
-    Ok(true)
-}
-
-/// Writes the form of a text that was cut behind a front which passes the quick check, into an empty text. Where `assigned` is
-/// asked for, it tells whether each code point behind the front is, and where one is not, the form may be cut short.
+/// Appends the form of a text that was cut behind a front which passes the quick check, in one pass: what is known to pass
+/// is copied, and each segment of what is left is made by itself. Where `assigned` is asked for, it tells whether each code
+/// point is, and where one is not, the form may be cut short; most are known to be by what was looked up to write them.
 pub(crate) fn write_cut<T: NormTable>(
     normalizer: &Normalizer<'_, T>,
     assigned: bool,
@@ -200,16 +174,27 @@ pub(crate) fn write_cut<T: NormTable>(
 ) -> Result<bool, Memory>
     requires copied { IsCopied (T.model normalizer.now.table.now) normalizer.now.form text.now cut.front.now cut.rest.now }
     requires front { IsTrue assigned → IsAssigned (T.model normalizer.now.table.now) (chars cut.front.now) }
-    requires empty { out.old ≡ [] }
-    ensures form { IfOk result (λ all. IsTrue all → out.new ≡
+    ensures form { IfOk result (λ all. IsTrue all → out.new ≡ out.old ++
         encode_utf8_all (normal_form (T.model normalizer.now.table.now) normalizer.now.form (chars text.now))) }
     ensures assigned { IfOk result (λ all. IsTrue assigned → IsTrue all → IsAssigned (T.model normalizer.now.table.now) (chars text.now)) }
     ensures lacking { IfOk result (λ all. all ≡ false → ¬ IsAssigned (T.model normalizer.now.table.now) (chars text.now)) }
     ensures always { IfOk result (λ all. assigned ≡ false → IsTrue all) }
 {
-    out.append_front(text, cut.front)?;
-    let all = write_fronts(normalizer, assigned, cut.rest, out)?;
-    Ok(all)
+    let table = normalizer.table;
+    let mut list = Vec::new(normalizer.alloc);
+    let mut left = text;
+    let mut next = cut;
+    'fronts: loop {
+        let written = write_front(normalizer, left, next, &mut list, out)?;
+        if !may_go_on(table, assigned, written.unread, written.rest) {
+            return Ok(false);
+        }
+        left = written.rest;
+        if left.is_empty() {
+            return Ok(true);
+        }
+        next = split_quick_span(table, normalizer.form, assigned, left);
+    }
 }
 
 /// Appends the form of a text.
@@ -220,7 +205,8 @@ pub(crate) fn write_form<T: NormTable>(
 ) -> Result<(), Memory>
     ensures { OnOk result (out.new ≡ out.old ++ encode_utf8_all (normal_form (T.model normalizer.now.table.now) normalizer.now.form (chars text.now))) }
 {
+    let cut = split_quick_span(normalizer.table, normalizer.form, false, text);
     // where nothing is asked of the code points, none ends it
-    let _all = write_fronts(normalizer, false, text, out)?;
+    let _all = write_cut(normalizer, false, text, cut, out)?;
     Ok(())
 }

@@ -1,12 +1,13 @@
 //! Fronts of a text, one behind the other: what passes the quick check is copied, precomputed forms and
 //! syllables are written at once, and what is left goes segment by segment.
-ghost use Rattle.std.specs.Prelude.{◌≡◌, ◌<◌, length, true, false, IfOk, IfSome, IsTrue};
-ghost use Rattle.np_forms.specs.inside.Copies.{AppendsForm, IsEndOf};
+ghost use Rattle.std.specs.Prelude.{◌≡◌, ◌<◌, length, true, false, chars, IfOk, IfSome};
+ghost use Rattle.np_forms.specs.Assigned.{IsAssigned};
+ghost use Rattle.np_forms.specs.inside.Copies.{AppendsForm, IsCopied, IsEndOf};
 ghost use Rattle.np_forms.specs.inside.Readings.{IsReadAssigned};
 ghost use Rattle.np_forms.specs.inside.Segments.{IsFirstPrecomputed};
 
 use crate::classes::Classed;
-use crate::copying::{begins_at_boundary, split_quick_span, write_next};
+use crate::copying::{QuickCut, begins_at_boundary, write_next};
 use crate::normalizers::Normalizer;
 use crate::out_texts::OutText;
 use crate::precomputed_texts::{begins_with_letter, write_precomputed};
@@ -114,26 +115,25 @@ fn write_letters<'a, T: NormTable>(
     Ok(text)
 }
 
-/// Appends the form of some front of a text that isn't empty. Which code points are known to be assigned counts
-/// where `assigned` asks for them. What is asked of the code point behind what passes is asked before anything is
-/// written, and so once.
+/// Appends the form of some front of a text that was cut behind what passes the quick check. What is asked of the code point
+/// behind that is asked before anything is written, and so once.
 #[inline(always)]
 pub(crate) fn write_front<'a, T: NormTable>(
     normalizer: &Normalizer<'_, T>,
-    assigned: bool,
     text: &'a str,
+    cut: QuickCut<'a>,
     list: &mut Vec<Classed>,
     out: &mut OutText,
 ) -> Result<WrittenFront<'a>, Memory>
-    requires { 0 < length text.now }
+    requires { IsCopied (T.model normalizer.now.table.now) normalizer.now.form text.now cut.front.now cut.rest.now }
     ensures goes { IfOk result (λ left. AppendsForm (T.model normalizer.now.table.now) normalizer.now.form text.now left.rest.now out.old out.new) }
-    ensures read { IfOk result (λ left. IsTrue assigned → IsReadAssigned (T.model normalizer.now.table.now) text.now left.unread.now) }
+    ensures read { IfOk result (λ left. IsAssigned (T.model normalizer.now.table.now) (chars cut.entry.front.now)
+        → IsReadAssigned (T.model normalizer.now.table.now) text.now left.unread.now) }
     ensures end { IfOk result (λ left. IsEndOf left.unread.now left.rest.now) }
-    ensures shorter { IfOk result (λ left. length left.rest.now < length text.now) }
+    ensures shorter { IfOk result (λ left. 0 < length text.now → length left.rest.now < length text.now) }
 {
     let table = normalizer.table;
     let form = normalizer.form;
-    let cut = split_quick_span(table, form, assigned, text);
     let rest = cut.rest;
     let precomputed = split_precomputed(table, form, rest, cut.more);
     out.append_front(text, cut.front)?;

@@ -4,7 +4,8 @@ ghost use Rattle.std.specs.Io.KnownBytes.{Appends, Consumes, IsAtEnd};
 ghost use Rattle.np_code_points.specs.Text.{IsLongestValidPrefix};
 ghost use Rattle.np_code_points.specs.Watched.{device_of, has_failed};
 ghost use Rattle.np_forms.specs.RunEnds.{RunEnds};
-ghost use Rattle.np_forms.specs.inside.Running.{IsBetweenReads, MayBegin, MayNotBegin, IsChunkFault, IsNextChunk, IsInputFault, IsPieceWritten, IsPieceCut, IsRestWritten, IsRestCut, Goes, Stops};
+ghost use Rattle.np_versions.specs.Conditions.{IsSound};
+ghost use Rattle.np_forms.specs.inside.Running.{IsBetweenReads, IsCounted, MayBegin, MayNotBegin, IsChunkFault, IsNextChunk, IsInputFault, IsPieceWritten, IsPieceCut, IsRestWritten, IsRestCut, Goes, Stops};
 
 use crate::out_texts::OutText;
 use crate::streams::Stream;
@@ -145,25 +146,19 @@ struct Output {
 
 /// Writes a text out, and empties it.
 fn write_text_out<W: Write>(output: &mut Output, target: &mut Watched<W>) -> Result<(), RunFault>
+    requires fits { output.old.count + length output.old.text ≤ 18446744073709551615 }
     ensures ok { OnOk result (Appends (W.contents (device_of target.old)) (W.contents (device_of target.new)) output.old.text) }
     ensures count { OnOk result (output.new.count ≡ output.old.count + length output.old.text) }
     ensures empty { OnOk result (output.new.text ≡ []) }
     ensures err { OnErr result ((out : List ℕ) × ((rest : List ℕ) × (output.old.text ≡ out ++ rest)
         × Appends (W.contents (device_of target.old)) (W.contents (device_of target.new)) out)) }
     ensures failed { result ≡ Err RunFault.WriteFailed ↔ (has_failed target.new ≡ true) }
-    ensures fault { IfErr result (λ fault. (fault ≡ RunFault.WriteFailed) ⊎ (fault ≡ RunFault.Memory)) }
+    ensures fault { IfErr result (λ fault. fault ≡ RunFault.WriteFailed) }
 {
     let Ok(()) = write_whole(target, output.text.as_bytes()) else {
         return Err(RunFault::WriteFailed);
     };
-    // No output has so many bytes.
-    let Some(count) = output
-        .count
-        .checked_add(output.text.as_bytes().len() as u64)
-    else {
-        return Err(RunFault::Memory);
-    };
-    output.count = count;
+    output.count += output.text.as_bytes().len() as u64;
     output.text.clear();
     Ok(())
 }
@@ -175,6 +170,9 @@ fn write_piece<W: Write, T: NormTable>(
     target: &mut Watched<W>,
     text: &str,
 ) -> Result<(), RunFault>
+    requires sound { IsSound stream.old.version }
+    requires counted { IsCounted stream.old RUN_LIMIT output.old.count }
+    requires short { length text.now ≤ RUN_LIMIT }
     requires moved { stream.old.ready ≡ [] }
     requires empty { output.old.text ≡ [] }
     requires clear { has_failed target.old ≡ false }
@@ -197,6 +195,8 @@ fn write_rest<W: Write, T: NormTable>(
     output: &mut Output,
     target: &mut Watched<W>,
 ) -> Result<(), RunFault>
+    requires sound { IsSound stream.old.version }
+    requires counted { IsCounted stream.old RUN_LIMIT output.old.count }
     requires moved { stream.old.ready ≡ [] }
     requires empty { output.old.text ≡ [] }
     requires clear { has_failed target.old ≡ false }
@@ -224,13 +224,14 @@ fn feed_all<R: Read, W: Write, T: NormTable>(
     source: &mut Watched<R>,
     target: &mut Watched<W>,
 ) -> Result<(), RunFault>
-    requires { IsBetweenReads stream.old output.old.text (vec_len input.old.kept) input.old.total (has_failed source.old) (has_failed target.old) }
+    requires { IsBetweenReads stream.old output.old.text (vec_len input.old.kept) input.old.total output.old.count (has_failed source.old) (has_failed target.old) }
     ensures ok { OnOk result (Goes stream.old stream.new
         (R.remaining (device_of source.old)) (R.remaining (device_of source.new)) (W.contents (device_of target.old)) (W.contents (device_of target.new))
         input.old.kept.items input.new.kept.items input.old.total input.new.total output.old.count output.new.count) }
     ensures end { OnOk result (IsAtEnd (R.remaining (device_of source.new))) }
     ensures fits { OnOk result (input.new.total ≤ RUN_LIMIT) }
     ensures moved { OnOk result ((stream.new.ready ≡ []) × (output.new.text ≡ []) × (vec_len input.new.kept ≤ input.new.total)) }
+    ensures counted { OnOk result ((stream.new.version ≡ stream.old.version) × IsCounted stream.new input.new.total output.new.count) }
     ensures err { IfErr result (λ fault. Stops stream.old (R.remaining (device_of source.old)) (R.remaining (device_of source.new))
         (W.contents (device_of target.old)) (W.contents (device_of target.new)) input.old.kept.items input.old.total output.old.count (Err fault)) }
     ensures read { result ≡ Err RunFault.ReadFailed ↔ (has_failed source.new ≡ true) }
@@ -254,7 +255,7 @@ fn run_on<R: Read, W: Write, T: NormTable>(
     source: &mut Watched<R>,
     target: &mut Watched<W>,
 ) -> Result<u64, RunFault>
-    requires { IsBetweenReads stream.old output.old.text (vec_len input.old.kept) input.old.total (has_failed source.old) (has_failed target.old) }
+    requires { IsBetweenReads stream.old output.old.text (vec_len input.old.kept) input.old.total output.old.count (has_failed source.old) (has_failed target.old) }
     ensures ends { Stops stream.old (R.remaining (device_of source.old)) (R.remaining (device_of source.new))
         (W.contents (device_of target.old)) (W.contents (device_of target.new)) input.old.kept.items input.old.total output.old.count result }
     ensures read { result ≡ Err RunFault.ReadFailed ↔ (has_failed source.new ≡ true) }

@@ -1,16 +1,16 @@
 -- A run over a whole input, piece by piece.
-use Rattle.std.proofs.Common.{◌≡◌, ℕ, Bool, List, [], ◌++◌, length, take, drop, take_all, Option, Result, Ok, Err, IfOk, IfErr, arith, sym, ap, subst, ◌∙◌, inl, inr, append_assoc, append-nil}
+use Rattle.std.proofs.Common.{◌≡◌, ℕ, ◌+◌, ◌<◌, Bool, List, [], ◌++◌, length, take, drop, take_all, Option, Result, Ok, Err, IfOk, IfErr, arith, sym, ap, subst, ◌∙◌, inl, inr, append_assoc, append-nil, length-append}
 use Rattle.std.proofs.KnownBytes.{Appends-kept, Appends-nil, Appends-trans, Consumes-nil, Consumes-trans}
 use Rattle.std.proofs.lemmas.List.{take-append-drop}
 use Rattle.std.specs.Io.KnownBytes.{Appends, Consumes, IsAtEnd, Keeps}
 use Rattle.np_forms.specs.RunEnds.{Ends}
 use Rattle.np_versions.specs.Versions.{VersionData}
 use Rattle.np_lines.specs.Answers.{Wanted}
-use Rattle.np_lines.specs.Runs.{IsRunCut, IsRunWhole, RunEnds}
+use Rattle.np_lines.specs.Runs.{IsFirstLines, IsRunCut, IsRunWhole, IsWrittenOf, RunEnds}
 use Rattle.np_lines.specs.Whole.{IsAllAnswered}
 use Rattle.np_lines.specs.declared.pending.Pending.{Pending}
 use Rattle.np_lines.specs.declared.runs.LinesFault.{LinesFault}
-use Rattle.np_lines.specs.declared.runs.LinesFault.TheVariants.{ReadFailed, WriteFailed, Memory}
+use Rattle.np_lines.specs.declared.runs.LinesFault.TheVariants.{ReadFailed, WriteFailed, TooLarge, Memory}
 use Rattle.np_lines.specs.inside.Steps.{Finishes, Goes, IsBetweenReads, IsNew, IsPieceAnswered, IsPieceCut, IsPieceFront, IsRestAnswered, IsRestCut, IsRestFront}
 use Rattle.np_lines.proofs.CutLemmas.{cut_behind}
 use Rattle.np_lines.proofs.StepLemmas.{answered-new, answered-same}
@@ -81,25 +81,31 @@ module _ (v : VersionData) (wanted : Wanted) where
       nothing = a.nothing;
     }
 
-    -- no memory, where nothing more was written
-    pub cut_memory : (i₂ o₂ : Option (List ℕ)) (piece : List ℕ) → Consumes i₁ i₂ piece → Appends o₁ o₂ [] → IsRunCut v wanted (ends_of i₀ i₂ o₀ o₂) Memory
-    cut_memory i₂ o₂ piece taken written =
+    -- a piece was read, and nothing more was written
+    first_lines : (i₂ o₂ : Option (List ℕ)) (piece : List ℕ) → IsFirstLines v wanted (ends_of i₀ i₂ o₀ o₂) (b.came ++ piece) b.done
+    first_lines i₂ o₂ piece =
         let a = b.answered in
         let behind = cut_behind wanted.end b.came piece a.lines a.rest a.cut in
+        record { lines = a.lines; behind = behind.more; due = inl (behind.rest, behind.cut); answers = a.answers; answers_are = a.answers_are; out_is = a.done_is }
+
+    cut_early : (i₂ o₂ : Option (List ℕ)) (piece : List ℕ) (fault : LinesFault) → Consumes i₁ i₂ piece → Appends o₁ o₂ [] →
+        (IsFirstLines v wanted (ends_of i₀ i₂ o₀ o₂) (b.came ++ piece) b.done → IsWrittenOf v wanted (ends_of i₀ i₂ o₀ o₂) (b.came ++ piece) b.done fault) → IsRunCut v wanted (ends_of i₀ i₂ o₀ o₂) fault
+    cut_early i₂ o₂ piece fault taken written front =
         record {
           bytes = b.came ++ piece;
           taken = Consumes-trans i₀ i₁ i₂ b.came piece b.taken taken;
           out = b.done;
           written = subst (Appends o₀ o₂) (append-nil b.done) (Appends-trans o₀ o₁ o₂ b.done [] b.written written);
-          front = record {
-            lines = a.lines;
-            behind = behind.more;
-            due = inl (behind.rest, behind.cut);
-            answers = a.answers;
-            answers_are = a.answers_are;
-            out_is = a.done_is;
-          };
+          front = front (first_lines i₂ o₂ piece);
         }
+
+    -- no memory
+    pub cut_memory : (i₂ o₂ : Option (List ℕ)) (piece : List ℕ) → Consumes i₁ i₂ piece → Appends o₁ o₂ [] → IsRunCut v wanted (ends_of i₀ i₂ o₀ o₂) Memory
+    cut_memory i₂ o₂ piece taken written = cut_early i₂ o₂ piece Memory taken written (λ h. h)
+
+    -- more than is counted
+    pub cut_large : (i₂ : Option (List ℕ)) (piece : List ℕ) → Consumes i₁ i₂ piece → 18446744073709551615 < length b.came + length piece → IsRunCut v wanted (ends_of i₀ i₂ o₀ o₁) TooLarge
+    cut_large i₂ piece taken large = cut_early i₂ o₁ piece TooLarge taken (Appends-nil o₁) (λ h. (omega (arith, large, length-append b.came piece), h))
 
     -- a piece that was not written whole
     cut_front : (i₂ o₂ : Option (List ℕ)) (piece : List ℕ) → Consumes i₁ i₂ piece → IsPieceFront v wanted p o₁ o₂ piece → IsRunCut v wanted (ends_of i₀ i₂ o₀ o₂) WriteFailed
@@ -123,6 +129,7 @@ module _ (v : VersionData) (wanted : Wanted) where
     pub cut_piece : (i₂ o₂ : Option (List ℕ)) (piece : List ℕ) (fault : LinesFault) → Consumes i₁ i₂ piece → IsPieceCut v wanted p o₁ o₂ piece fault → IsRunCut v wanted (ends_of i₀ i₂ o₀ o₂) fault
     cut_piece i₂ o₂ piece ReadFailed taken c = absurd c
     cut_piece i₂ o₂ piece WriteFailed taken c = cut_front i₂ o₂ piece taken c
+    cut_piece i₂ o₂ piece TooLarge taken c = absurd c
     cut_piece i₂ o₂ piece Memory taken c = cut_memory i₂ o₂ piece taken c
 
     -- the end of the input
@@ -162,6 +169,7 @@ module _ (v : VersionData) (wanted : Wanted) where
     pub cut_rest : (o₂ : Option (List ℕ)) (fault : LinesFault) → IsAtEnd i₁ → IsRestCut v wanted p o₁ o₂ fault → IsRunCut v wanted (ends_of i₀ i₁ o₀ o₂) fault
     cut_rest o₂ ReadFailed end c = absurd c
     cut_rest o₂ WriteFailed end c = cut_rest_front o₂ end c
+    cut_rest o₂ TooLarge end c = absurd c
     cut_rest o₂ Memory end c = cut_memory i₁ o₂ [] (Consumes-nil i₁) c
 
 -- ---- bytes that are all here

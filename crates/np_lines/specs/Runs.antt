@@ -1,5 +1,5 @@
 -- How a run over the lines of an input ends, by what the reader had before and has after, and what the writer holds before and after.
-use Rattle.std.specs.Prelude.{◌≡◌, ◌⊎◌, ℕ, Bool, List, ◌++◌, Result, Ok, Err}
+use Rattle.std.specs.Prelude.{◌≡◌, ◌<◌, ◌⊎◌, ℕ, Bool, List, ◌++◌, length, Result, Ok, Err}
 use Rattle.std.specs.Io.KnownBytes.{Appends, Consumes, IsAtEnd}
 use Rattle.std.specs.List.{list_any}
 use Rattle.np_forms.specs.RunEnds.{Ends}
@@ -7,7 +7,7 @@ use Rattle.np_versions.specs.Versions.{VersionData}
 use Rattle.np_lines.specs.Answers.{Wanted, AreAnswers, is_refusal}
 use Rattle.np_lines.specs.Lines.{IsCut, AreLines, ended}
 use Rattle.np_lines.specs.declared.runs.LinesFault.{LinesFault}
-use Rattle.np_lines.specs.declared.runs.LinesFault.TheVariants.{ReadFailed, WriteFailed, Memory}
+use Rattle.np_lines.specs.declared.runs.LinesFault.TheVariants.{ReadFailed, WriteFailed, TooLarge, Memory}
 
 -- the input was read to its end, and the answers to all its lines were written, each with the byte that ends it; and whether one is a refusal
 pub record IsRunWhole (v : VersionData) (wanted : Wanted) (ends : Ends) (any_refused : Bool) : Type 0 where
@@ -52,10 +52,11 @@ pub record IsFirstLines (v : VersionData) (wanted : Wanted) (ends : Ends) (bytes
   pub answers_are : AreAnswers v wanted lines answers
   pub out_is : out ≡ ended wanted.end answers
 
--- what was written for each fault
+-- what was written for each fault; and of an input that is too large, how much was read
 abbrev pub IsWrittenOf : VersionData → Wanted → Ends → List ℕ → List ℕ → LinesFault → Type 0
 IsWrittenOf v wanted ends bytes out ReadFailed = IsWholeLines v wanted bytes out
 IsWrittenOf v wanted ends bytes out WriteFailed = IsFront v wanted ends bytes out
+IsWrittenOf v wanted ends bytes out TooLarge = (18446744073709551615 < length bytes) × IsFirstLines v wanted ends bytes out
 IsWrittenOf v wanted ends bytes out Memory = IsFirstLines v wanted ends bytes out
 
 -- the run ended early: what was read, and what was written of the answers to its lines

@@ -25,6 +25,9 @@ pub enum LinesFault {
     /// A write or the flush answered an error, or a write took nothing.
     #[error("write failed")]
     WriteFailed,
+    /// More than 18,446,744,073,709,551,615 bytes were read.
+    #[error("more than 18,446,744,073,709,551,615 bytes")]
+    TooLarge,
     /// Memory ran out.
     #[error("out of memory")]
     Memory,
@@ -125,17 +128,20 @@ fn answer_pieces<R: Read, W: Write, T: NormTable>(
     let Ok(mut piece) = new_piece(pending.alloc()) else {
         return Err(LinesFault::Memory);
     };
-    'pieces: for _ in 0..u64::MAX {
+    let mut total = 0u64;
+    'pieces: loop {
         let Ok(n) = read_piece(source, &mut piece, PIECE) else {
             return Err(LinesFault::ReadFailed);
         };
         if n == 0 {
             return Ok(());
         }
+        let Some(sum) = total.checked_add(n as u64) else {
+            return Err(LinesFault::TooLarge);
+        };
+        total = sum;
         answer_piece(table, wanted, pending, target, &piece[..n])?;
     }
-    // No input has so many pieces.
-    Err(LinesFault::Memory)
 }
 
 /// Answers each line of an input, as it is read: `=` and the key of the line, or `!` and why it has none,
@@ -160,6 +166,8 @@ fn answer_pieces<R: Read, W: Write, T: NormTable>(
 /// - `ReadFailed` exactly where the source failed; then exactly the answers to the whole lines that were
 ///   read are written.
 /// - `WriteFailed` exactly where the target failed, by its flush too; then some first bytes of the answers.
+/// - `TooLarge` where more than 18,446,744,073,709,551,615 bytes were read; then exactly the answers to some first
+///   lines.
 /// - `Memory` where memory ran out; then exactly the answers to some first lines.
 pub fn answer_lines<R: Read, W: Write, T: NormTable>(
     alloc: Global,

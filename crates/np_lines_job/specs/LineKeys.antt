@@ -20,6 +20,7 @@ use Rattle.np_lines_job.specs.declared.job.Asked.{Asked}
 abbrev pub told_as : LinesFault → JobFault
 told_as Lines.ReadFailed = Text (Texts.Input Inputs.ReadFailed)
 told_as Lines.WriteFailed = WriteFailed
+told_as Lines.TooLarge = Text (Texts.Input Inputs.TooLarge)
 told_as Lines.Memory = Text Texts.Memory
 
 -- the run over the lines of the input answered this; the input failed exactly where that is the answer, and so did the output

@@ -32,6 +32,9 @@ fn told(fault: LinesFault) -> JobFault
         LinesFault::ReadFailed => TextFault::Input {
             fault: InputFault::ReadFailed,
         },
+        LinesFault::TooLarge => TextFault::Input {
+            fault: InputFault::TooLarge,
+        },
         LinesFault::Memory => TextFault::Memory,
     };
     JobFault::Text { fault }
@@ -73,7 +76,8 @@ impl StreamingJob for Asked {
 /// refused; 3 in place of it where a line was refused and the status is to tell that. A refusal of the
 /// whole run is told in a line on `error`, with its status. After a fault of a file of the version nothing
 /// is written; after one of the input exactly the answers to its whole lines; after one of the output some
-/// first bytes of the answers; after want of memory the answers to some first lines.
+/// first bytes of the answers; after want of memory, or past 18,446,744,073,709,551,615 bytes, the answers to some first
+/// lines.
 pub fn lines_job<F: Read, I: Read, O: Write, E: Write>(
     alloc: Global,
     asked: Asked,

@@ -1,5 +1,5 @@
 -- A run between two reads.
-use Rattle.std.specs.Prelude.{◌≡◌, ℕ, ◌+◌, ◌<◌, ◌≤◌, ◌⊎◌, ◌++◌, Bool, false, List, [], length, take, drop}
+use Rattle.std.specs.Prelude.{◌≡◌, ℕ, ◌+◌, ◌-◌, ◌<◌, ◌≤◌, ◌⊎◌, ◌++◌, Bool, false, List, [], length, take, drop}
 use Rattle.std.specs.Prelude.{chars, encode_utf8_all, IsUtf8, Option, Result}
 use Rattle.std.specs.Io.KnownBytes.{Appends, Consumes}
 use Rattle.np_code_points.specs.Text.{IsLongestValidPrefix}
@@ -29,8 +29,17 @@ pub record IsRunning (v : VersionData) (form : Form) (i₀ i₁ o₀ o₁ : Opti
   pub form_is : s.form ≡ form
   pub moved : s.ready ≡ []
 
--- what holds between two reads: nothing is ready that is not written, what is kept of a character was read, and neither device failed
-pub record IsBetweenReads (s : StreamState) (text : List ℕ) (kept total : ℕ) (read_failed write_failed : Bool) : Type 0 where
+-- a text of at most so many code points was fed, and of what became ready so many bytes are written
+pub record IsCounted (s : StreamState) (most count : ℕ) : Type 0 where
+  pub fed : List ℕ
+  pub ready : List ℕ
+  pub few : length fed ≤ most
+  pub streaming : IsStreaming s.version s.form fed ready s.pending
+  pub count_is : count ≡ length (encode_utf8_all ready)
+
+-- what holds between two reads: nothing is ready that is not written, what is kept of a character was read, no more was fed than
+-- was read, and neither device failed
+pub record IsBetweenReads (s : StreamState) (text : List ℕ) (kept total count : ℕ) (read_failed write_failed : Bool) : Type 0 where
   pub sound : IsSound s.version
   pub moved : s.ready ≡ []
   pub empty : text ≡ []
@@ -38,6 +47,7 @@ pub record IsBetweenReads (s : StreamState) (text : List ℕ) (kept total : ℕ)
   pub writes : write_failed ≡ false
   pub fits : total ≤ 4294967295
   pub inside : kept ≤ total
+  pub counted : IsCounted s (total - kept) count
 
 -- that holds of a chunk without its last byte, of which k bytes are a text
 pub record IsBeforeLast (Begins : List ℕ → ℕ → Type 0) (chunk : List ℕ) : Type 0 where

@@ -9,7 +9,7 @@ use Rattle.np_lines.specs.Lines.{IsCut, byte_of, ended}
 use Rattle.np_lines.specs.Whole.{IsAllAnswered}
 use Rattle.np_lines.specs.declared.pending.Pending.{Pending}
 use Rattle.np_lines.specs.declared.runs.LinesFault.{LinesFault}
-use Rattle.np_lines.specs.declared.runs.LinesFault.TheVariants.{ReadFailed, WriteFailed, Memory}
+use Rattle.np_lines.specs.declared.runs.LinesFault.TheVariants.{ReadFailed, WriteFailed, TooLarge, Memory}
 
 -- of the line that has begun these bytes came: they are kept, or are too many
 abbrev pub HasBegun : Pending → List ℕ → Type 0
@@ -99,6 +99,7 @@ pub record IsPieceFront (v : VersionData) (wanted : Wanted) (old : Pending) (o�
 abbrev pub IsPieceCut : VersionData → Wanted → Pending → Option (List ℕ) → Option (List ℕ) → List ℕ → LinesFault → Type 0
 IsPieceCut v wanted old o₁ o₂ piece ReadFailed = ⊥
 IsPieceCut v wanted old o₁ o₂ piece WriteFailed = IsPieceFront v wanted old o₁ o₂ piece
+IsPieceCut v wanted old o₁ o₂ piece TooLarge = ⊥
 IsPieceCut v wanted old o₁ o₂ piece Memory = Appends o₁ o₂ []
 
 -- the input ended, and the answers to all its lines are written
@@ -118,4 +119,5 @@ pub record IsRestFront (v : VersionData) (wanted : Wanted) (old : Pending) (o₁
 abbrev pub IsRestCut : VersionData → Wanted → Pending → Option (List ℕ) → Option (List ℕ) → LinesFault → Type 0
 IsRestCut v wanted old o₁ o₂ ReadFailed = ⊥
 IsRestCut v wanted old o₁ o₂ WriteFailed = IsRestFront v wanted old o₁ o₂
+IsRestCut v wanted old o₁ o₂ TooLarge = ⊥
 IsRestCut v wanted old o₁ o₂ Memory = Appends o₁ o₂ []

@@ -1,5 +1,5 @@
-use Rattle.std.proofs.Common.{IsUtf8, refl, sym, subst, ◌∙◌}
-use Rattle.np_forms.proofs.Words.{eqb-true}
+use Rattle.std.proofs.Common.{IsUtf8, ◌++◌, ap, chars, encode_utf8_all, refl, sym, subst, ◌∙◌}
+use Rattle.np_forms.proofs.Words.{eqb-true, normal_form}
 use Rattle.np_forms.proofs.CopyLemmas.{IsCopied-own}
 use Rattle.np_forms.proofs.WrittenLemmas.{made_form}
 use Rattle.np_forms.proofs.forms.make_form.Goals as goal
@@ -11,4 +11,6 @@ returns-then-is_empty g c =
 
 pub returns : goal.returns
 returns g c =
-    made_form _ c.meets_conditions.ensures c.args.wanted _ _ (subst IsUtf8 c.as_text-made.ensures c.as_text-made.utf8) (c.in_ok-_all.ensures.form (c.in_ok-_all.ensures.always refl))
+    let made = normal_form (g.T.NormTable.model c.args.table.now) c.args.wanted (chars c.args.text.now) in
+    let bytes = c.in_ok-_all.ensures.form (c.in_ok-_all.ensures.always refl) ∙ ap (λ l. l ++ encode_utf8_all made) c.in_ok-begin.ensures in
+    made_form _ c.meets_conditions.ensures c.args.wanted _ _ (subst IsUtf8 c.as_text-made.ensures c.as_text-made.utf8) bytes

@@ -1,5 +1,6 @@
 use Rattle.std.proofs.Common.{◌≡◌, ◌≤◌, ◌-◌, [], false, vec_len}
 use Rattle.np_forms.proofs.Words.{device_of, has_failed, Goes}
+use Rattle.np_forms.specs.inside.Running.{IsCounted}
 use Rattle.np_forms.proofs.runs.feed_all.Given as goal
 
 abbrev pub invariant-chunks : goal.invariant-chunks
@@ -12,6 +13,7 @@ invariant-chunks g l = record {
   writes : has_failed l.target ≡ false;
   fits : l.input.total ≤ 4294967295;
   inside : vec_len l.input.kept ≤ l.input.total;
+  counted : IsCounted l.stream (l.input.total - vec_len l.input.kept) l.output.count;
 }
 
 abbrev pub decreases-chunks : goal.decreases-chunks

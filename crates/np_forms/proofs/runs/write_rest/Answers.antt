@@ -1,9 +1,13 @@
-use Rattle.std.proofs.Common.{◌+◌, ◌++◌, [], length, encode_utf8_all, inr, sym, ap, subst, ◌∙◌, append-nil}
+use Rattle.std.proofs.Common.{◌+◌, ◌++◌, arith, [], length, encode_utf8_all, inr, sym, ap, subst, ◌∙◌, append-nil}
 use Rattle.np_forms.proofs.Words.{err_from_is_err_and, chars-nil, device_of}
 use Rattle.std.specs.Io.KnownBytes.{Appends}
 use Rattle.np_forms.proofs.WrittenLemmas.{closes_end}
 use Rattle.std.proofs.KnownBytes.{Appends-kept}
+use Rattle.np_forms.proofs.RunCountLemmas.{rest_fits}
 use Rattle.np_forms.proofs.runs.write_rest.Goals as goal
+
+pub write_text_out-requires : goal.write_text_out-requires
+write_text_out-requires g c = record { fits = rest_fits c.requires.counted c.requires.sound (omega arith) c.requires.empty c.in-Ok.ensures }
 
 pub returns-in_err-write_text_out-clause-err : goal.returns-in_err-write_text_out-clause-err
 returns-in_err-write_text_out-clause-err g c =

@@ -1,4 +1,4 @@
-use Rattle.std.proofs.Common.{◌≡◌, false, vec_len}
+use Rattle.std.proofs.Common.{◌≡◌, ◌-◌, false, length, vec_len}
 use Rattle.np_code_points.specs.Watched.{device_of, has_failed}
 use Rattle.np_lines.specs.inside.Steps.{IsBetweenReads}
 use Rattle.np_lines.proofs.RunLemmas.{ends_of}
@@ -10,4 +10,8 @@ invariant-pieces g l = record {
   reads : has_failed l.source ≡ false;
   writes : has_failed l.target ≡ false;
   space : vec_len l.piece ≡ 65536;
+  size : l.total ≡ length between.came;
 }
+
+abbrev pub decreases-pieces : goal.decreases-pieces
+decreases-pieces g l = 18446744073709551616 - l.total
