@@ -1,5 +1,5 @@
 -- A run over a whole input, piece by piece.
-use Rattle.std.proofs.Common.{◌≡◌, ℕ, ◌+◌, ◌<◌, Bool, List, [], ◌++◌, length, take, drop, take_all, Option, Result, Ok, Err, IfOk, IfErr, arith, sym, ap, subst, ◌∙◌, inl, inr, append_assoc, append-nil, length-append}
+use Rattle.std.proofs.Common.{◌≡◌, ℕ, ◌+◌, ◌<◌, Bool, List, [], ◌++◌, length, take, drop, take_all, Option, Result, Ok, Err, IfOk, IfErr, arith, refl, sym, ap, subst, ◌∙◌, inl, inr, append_assoc, append-nil, length-append}
 use Rattle.std.proofs.KnownBytes.{Appends-kept, Appends-nil, Appends-trans, Consumes-nil, Consumes-trans}
 use Rattle.std.proofs.lemmas.List.{take-append-drop}
 use Rattle.std.specs.Io.KnownBytes.{Appends, Consumes, IsAtEnd, Keeps}
@@ -69,6 +69,10 @@ module _ (v : VersionData) (wanted : Wanted) where
     nothing = h.out;
   }
 
+  pub came-new : (i o : Option (List ℕ)) (p : Pending) (h : IsNew p) → length (between-new i o p h).came ≡ 0
+  unfolding between-new
+  came-new i o p h = refl
+
   module _ {i₀ i₁ o₀ o₁ : Option (List ℕ)} {p : Pending} (b : IsBetweenReads v wanted (ends_of i₀ i₁ o₀ o₁) p) where
     -- a piece
     pub between-piece : (i₂ o₂ : Option (List ℕ)) (q : Pending) (piece : List ℕ) → Consumes i₁ i₂ piece → IsPieceAnswered v wanted p q o₁ o₂ piece → IsBetweenReads v wanted (ends_of i₀ i₂ o₀ o₂) q
@@ -80,6 +84,10 @@ module _ (v : VersionData) (wanted : Wanted) where
       answered = a.carries b.came b.done b.answered;
       nothing = a.nothing;
     }
+
+    pub came-piece : (i₂ o₂ : Option (List ℕ)) (q : Pending) (piece : List ℕ) (taken : Consumes i₁ i₂ piece) (a : IsPieceAnswered v wanted p q o₁ o₂ piece) → length (between-piece i₂ o₂ q piece taken a).came ≡ length b.came + length piece
+    unfolding between-piece
+    came-piece i₂ o₂ q piece taken a = length-append b.came piece
 
     -- a piece was read, and nothing more was written
     first_lines : (i₂ o₂ : Option (List ℕ)) (piece : List ℕ) → IsFirstLines v wanted (ends_of i₀ i₂ o₀ o₂) (b.came ++ piece) b.done
