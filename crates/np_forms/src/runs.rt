@@ -224,7 +224,8 @@ fn feed_all<R: Read, W: Write, T: NormTable>(
     source: &mut Watched<R>,
     target: &mut Watched<W>,
 ) -> Result<(), RunFault>
-    requires { IsBetweenReads stream.old output.old.text (vec_len input.old.kept) input.old.total output.old.count (has_failed source.old) (has_failed target.old) }
+    requires { IsBetweenReads stream.old output.old.text (vec_len input.old.kept) input.old.total output.old.count
+        (has_failed source.old) (has_failed target.old) }
     ensures ok { OnOk result (Goes stream.old stream.new
         (R.remaining (device_of source.old)) (R.remaining (device_of source.new)) (W.contents (device_of target.old)) (W.contents (device_of target.new))
         input.old.kept.items input.new.kept.items input.old.total input.new.total output.old.count output.new.count) }
@@ -255,7 +256,8 @@ fn run_on<R: Read, W: Write, T: NormTable>(
     source: &mut Watched<R>,
     target: &mut Watched<W>,
 ) -> Result<u64, RunFault>
-    requires { IsBetweenReads stream.old output.old.text (vec_len input.old.kept) input.old.total output.old.count (has_failed source.old) (has_failed target.old) }
+    requires { IsBetweenReads stream.old output.old.text (vec_len input.old.kept) input.old.total output.old.count
+        (has_failed source.old) (has_failed target.old) }
     ensures ends { Stops stream.old (R.remaining (device_of source.old)) (R.remaining (device_of source.new))
         (W.contents (device_of target.old)) (W.contents (device_of target.new)) input.old.kept.items input.old.total output.old.count result }
     ensures read { result ≡ Err RunFault.ReadFailed ↔ (has_failed source.new ≡ true) }
