@@ -19,14 +19,14 @@ import ucd
 from harness import ROOT, Tally
 
 POSTGRESQL, SQLITE = ROOT / "databases" / "postgresql", ROOT / "databases" / "sqlite"
+sys.path.insert(0, str(POSTGRESQL))
+
+from server import is_here as has_postgresql
+
 PACKAGES = ("postgresql", "postgresql-server-dev-all", "libsqlite3-dev", "sqlite3")
 AGES = ((13, 0), (14, 0))
 SYSTEM_PYTHON = "/usr/bin/python3"
 LOADS = "import sqlite3; sqlite3.connect(':memory:').enable_load_extension(True)"
-
-
-def has_postgresql():
-    return all(Path("/usr/lib/postgresql/15", name).exists() for name in ("bin/initdb", "lib/pgxs"))
 
 
 def has_sqlite():

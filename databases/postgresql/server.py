@@ -12,13 +12,14 @@ from pathlib import Path
 
 MAJOR = "15"
 LIBRARIES, SHARED = Path("/usr/lib/postgresql", MAJOR), Path("/usr/share/postgresql", MAJOR)
+HEADER = Path("/usr/include/postgresql", MAJOR, "server", "postgres.h")
 HERE = Path(__file__).resolve().parent
 USER = "postgres"
 
 
 def is_here():
     """Whether PostgreSQL and its headers are here."""
-    return (LIBRARIES / "bin" / "initdb").exists() and (LIBRARIES / "lib" / "pgxs").exists()
+    return (LIBRARIES / "bin" / "initdb").exists() and HEADER.exists()
 
 
 def words_as_user(words):
