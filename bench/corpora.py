@@ -80,23 +80,34 @@ LINES = {
     "non-starters": lambda source: words(source, pointed_word),
     "runs": run_line,
 }
-NAMES = [*LINES, "tests"]
+# What `mixed` has like parts of, in bytes.
+PARTS = ("ascii", "latin", "korean", "japanese", "non-starters")
+NAMES = [*LINES, "mixed", "tests"]
 
 
-def drawn(line):
+def drawn(line, least=DRAWN):
     """Lines up to the size that is drawn."""
     source, found, size = random.Random(SEED), [], 0
-    while size < DRAWN:
+    while size < least:
         found.append(line(source).encode() + b"\n")
         size += len(found[-1])
     return found
+
+
+def lines_of(name, test_strings):
+    """The lines that a corpus repeats."""
+    if name == "tests":
+        return [string.encode() + b"\n" for string in test_strings]
+    if name == "mixed":
+        return [line for part in PARTS for line in drawn(LINES[part], DRAWN // len(PARTS))]
+    return drawn(LINES[name])
 
 
 def corpus(name, size, test_strings):
     """The bytes of a corpus of about that size; None where it needs strings that aren't there."""
     if name == "tests" and not test_strings:
         return None
-    lines = drawn(LINES[name]) if name in LINES else [string.encode() + b"\n" for string in test_strings]
+    lines = lines_of(name, test_strings)
     size = min(size, RUNS_LIMIT) if name == "runs" else size
     source, found, total = random.Random(SEED), [], 0
     while total < size:
