@@ -2,6 +2,7 @@
 
 import gc
 import random
+import sys
 import time
 from unicodedata import category, normalize
 
@@ -50,7 +51,8 @@ def checked(form, name):
 
 def calls(tables, form):
     """For each column what is done with a list of names."""
-    ours, theirs = form.lower(), form
+    # As a literal of a program is.
+    ours, theirs = sys.intern(form.lower()), form
     key, norm = tables.key, tables.normalize
     return {
         "key": lambda kept: [key(name, ours) for name in kept],

@@ -1,5 +1,5 @@
 //! ASCII at the front of bytes.
-ghost use Rattle.std.specs.Prelude.{◌≡◌, ◌+◌, ◌≤◌, length, take, IsAscii};
+ghost use Rattle.std.specs.Prelude.{◌≡◌, ◌+◌, ◌<◌, ◌≤◌, ℕ, length, slice_index, take, IsAscii};
 ghost use Rattle.std.specs.List.{prefix_len};
 ghost use lib.Lanes.{chunk};
 ghost use Rattle.np_versions.specs.inside.AsciiBytes.{is_ascii_byte};
@@ -25,8 +25,22 @@ fn ascii_in_lanes(bytes: &[u8], from: usize) -> usize
     }
 }
 
-/// How many bytes at the front are ASCII. At the end of the bytes fewer than sixteen are not looked
-/// at, and not counted.
+/// How many bytes at the front are ASCII, of which so many are known to be. They are looked at one by one.
+#[inline(always)]
+fn ascii_beyond(bytes: &[u8], known: usize) -> usize
+    requires fits { known ≤ length bytes.now }
+    requires ascii { (k : ℕ) → k < known → slice_index bytes.now k < 128 }
+    ensures fits { result ≤ length bytes.now }
+    ensures ascii { IsAscii (take result bytes.now) }
+{
+    let mut at = known;
+    while at < bytes.len() && bytes[at] < 0x80 {
+        at += 1;
+    }
+    at
+}
+
+/// How many bytes at the front are ASCII.
 #[inline(always)]
 pub fn ascii_front(bytes: &[u8]) -> usize
     ensures fits { result ≤ length bytes.now }
@@ -40,5 +54,6 @@ pub fn ascii_front(bytes: &[u8]) -> usize
         }
         at += LANES;
     }
-    at
+    // a name has fewer bytes than that, and so has the end of a line
+    ascii_beyond(bytes, at)
 }
