@@ -10,7 +10,7 @@ ghost use Rattle.np_c.specs.Versions.{content_of, version_of};
 use crate::answers::{Answer, CLOSED, DONE, MEMORY};
 use crate::comparing::{tell_ascii, tell_equivalent, tell_extension, tell_form};
 use crate::handles::Handle;
-use crate::keys::{write_form, write_key};
+use crate::keys::{form_by, key_by};
 use crate::lines::{Asked, write_answers};
 use crate::opening::{another_of, shared_of};
 use np_versions::NormTable;
@@ -74,12 +74,11 @@ pub extern "C" fn npss_key(
     ensures key { IfSome (version_of handle.old) (λ v. IsKeyAnswer v form text.now room.old room.new result) }
     ensures closed { version_of handle.old ≡ None → (result.status ≡ 5) × (room.new ≡ room.old) }
 {
-    match handle.take_table(alloc) {
+    match handle.take(alloc) {
         None => Answer::of(CLOSED),
-        Some((mut shared, content)) => {
-            let answer = write_key(&mut shared.workroom, &*shared.table, form, text, room);
-            shared.workroom.tidy();
-            handle.put_table(content, shared);
+        Some(mut content) => {
+            let answer = key_by(&mut content, form, text, room);
+            handle.put(content);
             answer
         }
     }
@@ -98,12 +97,11 @@ pub extern "C" fn npss_normalize(
     ensures made { IfSome (version_of handle.old) (λ v. IsFormAnswer v form text.now room.old room.new result) }
     ensures closed { version_of handle.old ≡ None → (result.status ≡ 5) × (room.new ≡ room.old) }
 {
-    match handle.take_table(alloc) {
+    match handle.take(alloc) {
         None => Answer::of(CLOSED),
-        Some((mut shared, content)) => {
-            let answer = write_form(&mut shared.workroom, &*shared.table, form, text, room);
-            shared.workroom.tidy();
-            handle.put_table(content, shared);
+        Some(mut content) => {
+            let answer = form_by(&mut content, form, text, room);
+            handle.put(content);
             answer
         }
     }

@@ -56,6 +56,13 @@ impl Handle {
         }
     }
 
+    /// Holds what stands in a box.
+    pub fn put(&mut self, content: Box<Content>)
+        ensures { self.new.held.held ≡ Some content.value }
+    {
+        *self = Handle::open(content);
+    }
+
     /// Takes out the table, and the box in which it stood; nothing changes where no table is held.
     pub fn take_table(&mut self, alloc: Global) -> Option<(Shared, Box<Content>)>
         ensures some { IfSome result (λ p. self.old.held.held ≡ Some (Table p.0)) }
@@ -74,7 +81,7 @@ impl Handle {
                 None
             }
             Content::Nothing => {
-                *self = Handle::open(content);
+                self.put(content);
                 None
             }
         }
@@ -85,7 +92,7 @@ impl Handle {
         ensures { self.new.held.held ≡ Some (Table shared) }
     {
         drop(Box::replace(&mut content, Content::Table(shared)));
-        *self = Handle::open(content);
+        self.put(content);
     }
 
     /// Takes out the node, and the box in which it stood; nothing changes where no node is held.
@@ -106,7 +113,7 @@ impl Handle {
                 None
             }
             Content::Nothing => {
-                *self = Handle::open(content);
+                self.put(content);
                 None
             }
         }
@@ -117,7 +124,7 @@ impl Handle {
         ensures { self.new.held.held ≡ Some (Node kept) }
     {
         drop(Box::replace(&mut content, Content::Node(kept)));
-        *self = Handle::open(content);
+        self.put(content);
     }
 
     /// Takes out the stream, and the box in which it stood; nothing changes where no stream is held.
@@ -138,7 +145,7 @@ impl Handle {
                 None
             }
             Content::Nothing => {
-                *self = Handle::open(content);
+                self.put(content);
                 None
             }
         }
@@ -149,6 +156,6 @@ impl Handle {
         ensures { self.new.held.held ≡ Some (Stream kept) }
     {
         drop(Box::replace(&mut content, Content::Stream(kept)));
-        *self = Handle::open(content);
+        self.put(content);
     }
 }

@@ -1,9 +1,11 @@
 //! Keys and normal forms of bytes, into room that the caller lends.
-ghost use Rattle.std.specs.Prelude.{IfOk, IfErr, IsAscii, IsTrue, if◌then◌else◌};
+ghost use Rattle.std.specs.Prelude.{◌≡◌, None, Some, IfOk, IfErr, IfSome, IsAscii, IsTrue, if◌then◌else◌};
 ghost use Rattle.np_c.specs.Answers.{IsFormAnswer, IsKeyAnswer, IsPut};
 ghost use Rattle.np_c.specs.Texts.{IsFormOf, IsKeyOf, IsNoForm, IsNoKey};
+ghost use Rattle.np_c.specs.Versions.{version_in};
 
-use crate::answers::{Answer, MEMORY, NO_FORM, UNASSIGNED};
+use crate::answers::{Answer, CLOSED, MEMORY, NO_FORM, UNASSIGNED};
+use crate::content::Content;
 use crate::room::put;
 use crate::texts::{form_in, text_in};
 use crate::workroom::Workroom;
@@ -121,7 +123,7 @@ fn put_made(buffer: &FormBuffer, made: bool, bytes: &[u8], room: &mut [u8]) -> A
 }
 
 /// Writes the key of bytes into the room.
-pub fn write_key<T: NormTable>(
+fn write_key<T: NormTable>(
     workroom: &mut Workroom,
     table: &T,
     letter: u8,
@@ -141,7 +143,7 @@ pub fn write_key<T: NormTable>(
 }
 
 /// Writes the normal form of bytes into the room.
-pub fn write_form<T: NormTable>(
+fn write_form<T: NormTable>(
     workroom: &mut Workroom,
     table: &T,
     letter: u8,
@@ -158,4 +160,36 @@ pub fn write_form<T: NormTable>(
         Err(answer) => return answer,
     };
     put_made(&workroom.buffer, made, bytes, room)
+}
+
+/// Writes the key of bytes into the room by the table that is held, which stays where it stands.
+pub fn key_by(content: &mut Content, letter: u8, bytes: &[u8], room: &mut [u8]) -> Answer
+    ensures same { content.new ≡ content.old }
+    ensures key { IfSome (version_in (Some content.old)) (λ v. IsKeyAnswer v letter bytes.now room.old room.new result) }
+    ensures closed { version_in (Some content.old) ≡ None → (result.status ≡ 5) × (room.new ≡ room.old) }
+{
+    match content {
+        Content::Table(shared) => {
+            let answer = write_key(&mut shared.workroom, &*shared.table, letter, bytes, room);
+            shared.workroom.tidy();
+            answer
+        }
+        Content::Nothing | Content::Node(_) | Content::Stream(_) => Answer::of(CLOSED),
+    }
+}
+
+/// Writes the normal form of bytes into the room by the table that is held, which stays where it stands.
+pub fn form_by(content: &mut Content, letter: u8, bytes: &[u8], room: &mut [u8]) -> Answer
+    ensures same { content.new ≡ content.old }
+    ensures made { IfSome (version_in (Some content.old)) (λ v. IsFormAnswer v letter bytes.now room.old room.new result) }
+    ensures closed { version_in (Some content.old) ≡ None → (result.status ≡ 5) × (room.new ≡ room.old) }
+{
+    match content {
+        Content::Table(shared) => {
+            let answer = write_form(&mut shared.workroom, &*shared.table, letter, bytes, room);
+            shared.workroom.tidy();
+            answer
+        }
+        Content::Nothing | Content::Node(_) | Content::Stream(_) => Answer::of(CLOSED),
+    }
 }
