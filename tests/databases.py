@@ -7,7 +7,6 @@ libsqlite3-dev and sqlite3 where they are missing, unless NO_APT=1 is set; what 
 in a line 'N passed, M failed'.
 """
 
-import os
 import re
 import shutil
 import subprocess
@@ -16,7 +15,7 @@ import tempfile
 from pathlib import Path
 
 import ucd
-from harness import ROOT, Tally
+from harness import ROOT, Tally, install
 
 POSTGRESQL, SQLITE = ROOT / "databases" / "postgresql", ROOT / "databases" / "sqlite"
 sys.path.insert(0, str(POSTGRESQL))
@@ -31,16 +30,6 @@ LOADS = "import sqlite3; sqlite3.connect(':memory:').enable_load_extension(True)
 
 def has_sqlite():
     return Path("/usr/include/sqlite3ext.h").exists() and shutil.which("sqlite3")
-
-
-def install():
-    """Asks Debian for what is missing, where that may be."""
-    if (has_postgresql() and has_sqlite()) or os.environ.get("NO_APT") or os.geteuid() or not shutil.which("apt-get"):
-        return
-    print(f"installing {' '.join(PACKAGES)} by apt-get", flush=True)
-    environment = {**os.environ, "DEBIAN_FRONTEND": "noninteractive"}
-    for words in (["update", "-q"], ["install", "-q", "-y", "--no-install-recommends", *PACKAGES]):
-        subprocess.run(["apt-get", *words], env=environment, stdout=subprocess.DEVNULL, stderr=subprocess.DEVNULL, check=False)
 
 
 def versions_below(files, folder):
@@ -96,7 +85,8 @@ def main():
     if files is None or not (prefix / "lib" / "libnpss.a").exists() or not (shutil.which("cc") and shutil.which("make")):
         print(f"skipped: keys in databases: {why or 'the library for C is not built, or there is no cc or make'}")
         tally.finish()
-    install()
+    if not (has_postgresql() and has_sqlite()):
+        install(PACKAGES)
     with tempfile.TemporaryDirectory() as name:
         versions, room = Path(name, "versions"), Path(name, "sqlite")
         Path(name).chmod(0o755)

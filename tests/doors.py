@@ -6,8 +6,8 @@ without it ./build-c is called first, with the flag where that is given. In turn
 that the shared library shows, each call and each status from C (also under valgrind), threads, the programs of the
 pages, built by pkg-config's flags; the module for Python; the crate for Rust; the worked host over a database; the
 programs for Java and Go of docs/DOORS.md. All strings of the published NormalizationTest.txt through C and Python are
-the program's own answers. What needs a command that isn't here is skipped, with the reason. Ends in a line
-'N passed, M failed'.
+the program's own answers. Run as root it installs Debian's packages that are missing (PACKAGES), unless NO_APT=1 is set.
+What needs a command that isn't here is skipped, with the reason. Ends in a line 'N passed, M failed'.
 """
 
 import os
@@ -28,7 +28,7 @@ sys.dont_write_bytecode = True
 import histories
 import ucd
 import versions
-from harness import ROOT, Tally, run
+from harness import ROOT, Tally, install, run
 
 HERE = ROOT / "tests" / "doors"
 V1, V2 = ([str(ROOT / "fixtures" / name) for name in version] for version in (versions.V1, versions.V2))
@@ -42,6 +42,9 @@ import sys, npss
 tables, texts = npss.Tables.open(*sys.argv[2:]), sys.stdin.read()[:-1].split("\\n")
 sys.stdout.writelines(key + "\\n" for key in tables.keys(texts, sys.argv[1]))
 """
+# For each file that the steps want Debian's package that has it.
+PACKAGES = {"/usr/bin/python3-dbg": "python3-dbg", "/usr/bin/mypy": "mypy", "/usr/bin/javac": "default-jdk-headless",
+            "/usr/share/java/jna.jar": "libjna-java", "/usr/bin/go": "golang-go", "/usr/bin/valgrind": "valgrind", "/usr/bin/pkg-config": "pkg-config"}
 # The ages of the versions of a history, before the published one.
 AGES = ((5, 2), (9, 0), (13, 0), (14, 0))
 # How many keys the threads make together.
@@ -329,6 +332,9 @@ def main():
     if not wanted("cc"):
         print("skipped: the library for C")
         tally.finish()
+    missing = [package for file, package in PACKAGES.items() if not Path(file).exists()]
+    if missing:
+        install(missing)
     flags = [word for word in sys.argv[2:] if word == "--after-gate"]
     made = len(sys.argv) > 2 and not flags
     prefix = Path(sys.argv[2]).resolve() if made else ROOT / "out" / "c"

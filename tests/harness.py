@@ -1,5 +1,6 @@
 """What the test scripts share: runs of the program, and the count."""
 
+import fcntl
 import os
 import shutil
 import subprocess
@@ -12,13 +13,17 @@ FORMS = ("nfd", "nfc", "nfkd", "nfkc")
 
 
 def install(packages):
-    """Asks Debian for packages, where that may be, and says so first."""
+    """Asks Debian for packages, where that may be, and says so first. Steps that run side by side wait for one another."""
     if os.environ.get("NO_APT") or os.geteuid() or not shutil.which("apt-get"):
         return
     print(f"installing {' '.join(packages)} by apt-get", flush=True)
     environment = {**os.environ, "DEBIAN_FRONTEND": "noninteractive"}
-    for words in (["update", "-q"], ["install", "-q", "-y", "--no-install-recommends", *packages]):
-        subprocess.run(["apt-get", *words], env=environment, stdin=subprocess.DEVNULL, stdout=subprocess.DEVNULL, stderr=subprocess.DEVNULL, check=False)
+    (ROOT / "out").mkdir(exist_ok=True)
+    # ./conformance has the same lock
+    with open(ROOT / "out" / "apt.lock", "w", encoding="utf-8") as lock:
+        fcntl.flock(lock, fcntl.LOCK_EX)
+        for words in (["update", "-q"], ["install", "-q", "-y", "--no-install-recommends", *packages]):
+            subprocess.run(["apt-get", *words], env=environment, stdin=subprocess.DEVNULL, stdout=subprocess.DEVNULL, stderr=subprocess.DEVNULL, check=False)
 
 
 def built_program(name="npss"):

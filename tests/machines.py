@@ -21,7 +21,7 @@ from pathlib import Path
 sys.dont_write_bytecode = True
 
 from hosts_apart import Hosts
-from harness import ROOT, Tally
+from harness import ROOT, Tally, install
 from ucd import DATA, EXCLUSIONS, package_files
 
 PACKAGES = ("python3-distributed", "parallel", "openssh-server", "openssh-client", "iproute2")
@@ -47,16 +47,6 @@ def missing():
     lacks = [name for name in ("parallel", "ssh", "sshd", "ip") if not shutil.which(name, path=f"{os.environ['PATH']}:/usr/sbin")]
     dask = subprocess.run([SYSTEM_PYTHON, "-c", "import distributed"], stderr=subprocess.DEVNULL, check=False).returncode if Path(SYSTEM_PYTHON).exists() else 1
     return [*lacks, *(["distributed"] if dask else [])]
-
-
-def install():
-    """Asks Debian for what is missing, where that may be."""
-    if not missing() or os.environ.get("NO_APT") or os.geteuid() or not shutil.which("apt-get"):
-        return
-    print(f"installing {' '.join(PACKAGES)} by apt-get", flush=True)
-    environment = {**os.environ, "DEBIAN_FRONTEND": "noninteractive"}
-    for words in (["update", "-q"], ["install", "-q", "-y", "--no-install-recommends", *PACKAGES]):
-        subprocess.run(["apt-get", *words], env=environment, stdout=subprocess.DEVNULL, stderr=subprocess.DEVNULL, check=False)
 
 
 def ran(words, **more):
@@ -108,7 +98,8 @@ def main():
     words = parser.parse_args()
     tally = Tally()
     files, why = package_files()
-    install()
+    if missing():
+        install(PACKAGES)
     lacks = missing()
     if files is None or not (words.prefix / "lib" / "libnpss.a").exists():
         print(f"skipped: many names on several workers: {why or 'the library for C is not built'}")

@@ -26,7 +26,7 @@ from pathlib import Path
 sys.dont_write_bytecode = True
 
 import roots
-from harness import ROOT, Tally
+from harness import ROOT, Tally, install
 
 sys.path.insert(0, str(ROOT / "packaging"))
 import release as releases
@@ -93,17 +93,6 @@ def told(tally, name, words, **options):
     done = subprocess.run(list(map(str, words)), stdin=subprocess.DEVNULL, stdout=subprocess.PIPE, stderr=subprocess.STDOUT, text=True,
                           check=False, **options)
     return done.stdout if tally.check(name, done.returncode == 0, f"status {done.returncode}: {done.stdout[-3000:]}") else ""
-
-
-def install_tools():
-    """Asks Debian for what is missing, where that may be."""
-    missing = [name for name in WANTED if not shutil.which(name)]
-    if not missing or os.environ.get("NO_APT") or os.geteuid() or not shutil.which("apt-get"):
-        return
-    print(f"installing {' '.join(missing)} by apt-get", flush=True)
-    for words in (["update", "-q"], ["install", "-q", "-y", "--no-install-recommends", *missing]):
-        subprocess.run(["apt-get", *words], env={**os.environ, "DEBIAN_FRONTEND": "noninteractive"}, stdin=subprocess.DEVNULL,
-                       stdout=subprocess.DEVNULL, stderr=subprocess.DEVNULL, check=False)
 
 
 def sums(folder):
@@ -426,7 +415,9 @@ def main():
     check_toolchain(tally)
     flags = [word for word in sys.argv[1:] if word.startswith("--")]
     named = [Path(word).resolve() for word in sys.argv[1:] if not word.startswith("--")]
-    install_tools()
+    missing = [name for name in WANTED if not shutil.which(name)]
+    if missing:
+        install(missing)
     # The folder goes when the root is no longer being made.
     with tempfile.TemporaryDirectory(dir=roots.place()) as name, concurrent.futures.ThreadPoolExecutor() as pool:
         room = Path(name)

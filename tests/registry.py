@@ -3,9 +3,9 @@
 
 PROGRAM is npss. PREFIX is where ./build-c installed the library, that of this tree where none is named; the module npss is
 built over it. In turn: the registry's own tests; chaos over a SQLite file and over a Redis server, for N seconds together,
-60 where nobody says otherwise. Run as root it installs Debian's redis-server, python3-redis, python3-starlette and
-python3-uvicorn where they are missing, unless NO_APT=1 is set; what can't be had is skipped, with its name. Ends in a line
-'N passed, M failed'.
+60 where nobody says otherwise. Run as root it installs Debian's redis-server, python3-redis, python3-starlette,
+python3-uvicorn, mypy and chromium where they are missing, unless NO_APT=1 is set; what can't be had is skipped, with its
+name. Ends in a line 'N passed, M failed'.
 """
 
 import argparse
@@ -17,10 +17,10 @@ import sys
 import tempfile
 from pathlib import Path
 
-from harness import ROOT, Tally
+from harness import ROOT, Tally, install
 
 HOST = ROOT / "hosts" / "registry"
-PACKAGES = ("redis-server", "python3-redis", "python3-starlette", "python3-uvicorn")
+PACKAGES = ("redis-server", "python3-redis", "python3-starlette", "python3-uvicorn", "mypy", "chromium")
 MODULES = "import redis, starlette, uvicorn"
 SYSTEM_PYTHON = "/usr/bin/python3"
 
@@ -31,16 +31,6 @@ def with_modules():
         if Path(python).exists() and subprocess.run([python, "-c", MODULES], stderr=subprocess.DEVNULL, check=False).returncode == 0:
             return python
     return None
-
-
-def install():
-    """Asks Debian for what is missing, where that may be."""
-    if (with_modules() and shutil.which("redis-server")) or os.environ.get("NO_APT") or os.geteuid() or not shutil.which("apt-get"):
-        return
-    print(f"installing {' '.join(PACKAGES)} by apt-get", flush=True)
-    environment = {**os.environ, "DEBIAN_FRONTEND": "noninteractive"}
-    for words in (["update", "-q"], ["install", "-q", "-y", "--no-install-recommends", *PACKAGES]):
-        subprocess.run(["apt-get", *words], env=environment, stdout=subprocess.DEVNULL, stderr=subprocess.DEVNULL, check=False)
 
 
 def counted(tally, name, command, environment):
@@ -68,7 +58,8 @@ def main():
     if not (words.prefix / "lib" / "libnpss.a").exists() or not shutil.which("cc"):
         print("skipped: the registry: the library for C isn't built, or there is no C compiler")
         tally.finish()
-    install()
+    if not (with_modules() and all(map(shutil.which, ("redis-server", "mypy", "chromium")))):
+        install(PACKAGES)
     python = with_modules()
     if python is None:
         print("skipped: the registry over HTTP and over Redis: python3-redis, python3-starlette or python3-uvicorn is missing")
