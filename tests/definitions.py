@@ -37,7 +37,7 @@ OF_THE_LANGUAGE = ("std", "std_collections", "std_io", "std_alloc")
 ROOTS = ("", "crates")
 ENDINGS = ("", ".antt", ".rt")
 # The folders that each crate may have, of which documents speak in general.
-OF_A_CRATE = ("src", "specs", "proofs", "must-fail", "out")
+OF_A_CRATE = ("src", "specs", "proofs", "must-fail", "must-fail-release", "out")
 # What no line of code or of a definition reaches.
 WIDTH = 160
 FILES, PROMISES = "## The files, in reading order", "## What a promise rests on"
