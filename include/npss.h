@@ -10,7 +10,8 @@
  *     if (a.status == NPSS_DONE) fwrite(room, 1, a.length, stdout);
  *     npss_close(&handle);
  *
- * What each call does is proved, but only for a caller who keeps these rules, which no proof can see:
+ * What each call answers and leaves is proved, but for memory, times, and that MEMORY is told only where none was to be
+ * had. It is proved for a caller who keeps these rules, which no proof can see:
  *
  * - No pointer is null. Where a length is 0, any address that is not null does.
  * - A pointer to bytes and its length name bytes that may be read, and of a room also written.
@@ -19,7 +20,8 @@
  * - Two handles of one call are two. A room, a handle, a node and the bytes of a text don't overlap one another.
  * - No call is made from a signal handler, nor from the forked child of a process with threads.
  *
- * Memory is malloc's and free's. No call keeps a pointer to what it was lent. */
+ * Memory is malloc's and free's. No call keeps a pointer to what it was lent. A refused call changes nothing but what it read:
+ * a handle that was to be opened holds what it held before. */
 #ifndef NPSS_H
 #define NPSS_H
 
@@ -66,7 +68,7 @@ enum npss_status {
     /* No such string, or no such entry, is kept. Of two strings `fault` tells which isn't, from 1: the first of
      * them. */
     NPSS_NOT_KEPT = 14,
-    /* The string has more than 65,536 bytes. */
+    /* The string has more than 65,536 bytes; of npss_stream_feed, more than 18,446,744,073,709,551,615 would have come. */
     NPSS_TOO_LONG = 15,
     /* The node keeps as many strings as its room; or its room is too small for an image. */
     NPSS_FULL = 16,
@@ -153,14 +155,15 @@ typedef struct npss_asked {
     uint8_t end;  /* the byte that ends lines and answers: 10 or 0 */
 } npss_asked;
 
-/* Closes the handle, and opens it on the version that the bytes of UnicodeData.txt and CompositionExclusions.txt
- * make. Where they make none it stays closed. Takes 5 to 10 ms for the published files, and holds 3 MB.
+/* Opens the handle on the version that the bytes of UnicodeData.txt and CompositionExclusions.txt make, and then lets go of
+ * what it held. Where they make none it holds what it held. Takes 5 to 10 ms for the published files, and holds 3 MB: where
+ * the handle was open, both tables until it is done.
  * DONE, DATA, EXCLUSIONS, TABLES, TOO_LARGE, MEMORY. */
 npss_answer npss_open(npss_handle *handle, const uint8_t *data, size_t data_length,
                       const uint8_t *exclusions, size_t exclusions_length);
 
-/* Closes `other`, and opens it on the version of `handle`, for another thread: both share one table, which lives
- * as long as the longer of them. DONE, MEMORY, CLOSED. */
+/* Opens `other` on the version of `handle`, for another thread, and lets go of what it held: both share one table, which lives
+ * as long as the longer of them. After a refusal `other` holds what it held. DONE, MEMORY, CLOSED. */
 npss_answer npss_share(npss_handle *handle, npss_handle *other);
 
 /* Writes the key of a text to the front of the room; `length` tells how many bytes it has.
@@ -238,15 +241,16 @@ typedef struct npss_node {
     void *held;      /* none of the caller's */
 } npss_node;
 
-/* Closes the node, and opens it on the version of the tables with nothing kept, for keys of a form and with room
- * for so many strings. The node shares the tables, which live as long as the longest of their handles and nodes.
- * In this order: CLOSED (the tables are), NO_FORM, BAD_ROOM, MEMORY, DONE. After a refusal the node is closed. */
+/* Opens the node on the version of the tables with nothing kept, for keys of a form and with room for so many strings, and
+ * lets go of what it was. The node shares the tables, which live as long as the longest of their handles and nodes.
+ * In this order: CLOSED (the tables are), NO_FORM, BAD_ROOM, MEMORY, DONE. After a refusal the node is as it was. */
 npss_answer npss_node_new(npss_node *node, npss_handle *tables, uint8_t form, uint32_t room);
 
 /* The same with what an image of either layout holds. No key of the image is trusted: each is made anew. A refusal
  * for the shape, the form, the version or the room takes no memory, whatever the image promises. In this order:
  * CLOSED, NO_FORM, BAD_ROOM, MALFORMED, OTHER_FORM, OLDER_TABLES, FULL, BAD_ENTRY, DONE. MEMORY may stand in
- * place of what comes behind FULL. After a refusal the node is closed. */
+ * place of what comes behind FULL. After a refusal the node is as it was. Where it was open, both nodes are held until the
+ * new one is made. */
 npss_answer npss_node_restore(npss_node *node, npss_handle *tables, uint8_t form, uint32_t room,
                               const uint8_t *image, size_t image_length);
 
@@ -260,8 +264,8 @@ npss_answer npss_node_message(npss_node *node, const uint8_t *string, size_t str
                               uint8_t *room, size_t room_length);
 
 /* Keeps the string of a message, where its key is right. Each status but DONE leaves the node as it was. Places of
- * NOT_UTF8 and UNASSIGNED count in the string. MEMORY may stand in place of KEY_DIFFERS too, where the string
- * isn't known. In this order: CLOSED, MALFORMED, OTHER_FORM, TOO_LONG, NOT_UTF8, UNASSIGNED, KEY_DIFFERS, KNOWN,
+ * NOT_UTF8 and UNASSIGNED count in the string. MEMORY may stand in place of KEY_DIFFERS and FULL too, where the
+ * string isn't known. In this order: CLOSED, MALFORMED, OTHER_FORM, TOO_LONG, NOT_UTF8, UNASSIGNED, KEY_DIFFERS, KNOWN,
  * FULL, MEMORY, DONE. */
 npss_answer npss_node_take(npss_node *node, const uint8_t *message, size_t message_length);
 
@@ -301,8 +305,8 @@ npss_answer npss_node_version(npss_node *node);
 /* Closes the node. A closed one stays closed. */
 void npss_node_close(npss_node *node);
 
-/* A stream makes the normal form of a text that comes in pieces, in the memory of a piece and of its longest run of
- * non-starters. The form can be taken as it becomes ready:
+/* A stream makes the normal form of a text that comes in pieces, in the memory of a piece, of its longest run of
+ * non-starters and of what is ready and wasn't taken. The form can be taken as it becomes ready:
  *
  *     npss_stream stream = {0};
  *     npss_answer a = npss_stream_new(&stream, &handle, NPSS_NFC);
@@ -321,14 +325,14 @@ typedef struct npss_stream {
     void *held;      /* none of the caller's */
 } npss_stream;
 
-/* Closes the stream, and opens it at the front of a text, under the version of the tables. It shares the tables, which live
- * as long as the longest of their handles and streams. After a refusal it is closed.
+/* Opens the stream at the front of a text, under the version of the tables, and lets go of what it was. It shares the tables,
+ * which live as long as the longest of their handles and streams. After a refusal it is as it was.
  * DONE, MEMORY, CLOSED (the tables are), NO_FORM. */
 npss_answer npss_stream_new(npss_stream *stream, npss_handle *tables, uint8_t form);
 
 /* Goes on with the next piece of the text, which may begin and end within a character. `length` tells how many bytes of the
  * form are ready. NOT_UTF8: what came and the piece begin no text; the longest front of them that is one has `place` bytes.
- * DONE, NOT_UTF8, MEMORY, CLOSED (also of a stream that was finished). */
+ * DONE, NOT_UTF8, TOO_LONG, MEMORY, CLOSED (also of a stream that was finished). */
 npss_answer npss_stream_feed(npss_stream *stream, const uint8_t *piece, size_t piece_length);
 
 /* Writes as much as fits of what is ready to the front of the room, which may end within a character: `length` bytes.

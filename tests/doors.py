@@ -137,6 +137,9 @@ def check_c(tally, prefix, folder):
     program = compiled(tally, prefix, folder, "fences")
     if program:
         counted(tally, "fences", [program, *V1, *V2])
+        if wanted("valgrind"):
+            counted(tally, "fences under valgrind", ["valgrind", "-q", "--error-exitcode=9", "--soname-synonyms=somalloc=nouserintercepts",
+                                                        program, *V1, *V2])
     program = compiled(tally, prefix, folder, "threads")
     if program:
         counted(tally, "threads", [program, *V1, KEYS])

@@ -23,14 +23,14 @@ static void check_closed(void) {
     npss_handle closed = {0}, other = {0};
     uint8_t room[8];
     CHECK("key of a closed handle", is(npss_key(&closed, NPSS_NFC, TEXT("a"), room, 8), NPSS_CLOSED, 0, 0, 0, 0));
-    CHECK("form of a closed handle", npss_normalize(&closed, NPSS_NFC, TEXT("a"), room, 8).status == NPSS_CLOSED);
+    CHECK("form of a closed handle", is(npss_normalize(&closed, NPSS_NFC, TEXT("a"), room, 8), NPSS_CLOSED, 0, 0, 0, 0));
     const npss_asked lines = {NPSS_NFC, '\n'};
     CHECK("lines to a closed handle", is(npss_answers(&closed, &lines, TEXT("a"), room, 8), NPSS_CLOSED, 0, 0, 0, 0));
-    CHECK("question to a closed handle", npss_is_form(&closed, 'x', TEXT("a")).status == NPSS_CLOSED);
-    CHECK("two texts to a closed handle", npss_equivalent(&closed, false, TEXT("a"), TEXT("a")).status == NPSS_CLOSED);
-    CHECK("two closed handles", npss_extends(&closed, &other).status == NPSS_CLOSED);
-    CHECK("count of a closed handle", npss_count(&closed).status == NPSS_CLOSED);
-    CHECK("sharing a closed handle", npss_share(&closed, &other).status == NPSS_CLOSED && is_closed(&other));
+    CHECK("question to a closed handle", is(npss_is_form(&closed, 'x', TEXT("a")), NPSS_CLOSED, 0, 0, 0, 0));
+    CHECK("two texts to a closed handle", is(npss_equivalent(&closed, false, TEXT("a"), TEXT("a")), NPSS_CLOSED, 0, 0, 0, 0));
+    CHECK("two closed handles", is(npss_extends(&closed, &other), NPSS_CLOSED, 0, 0, 0, 0));
+    CHECK("count of a closed handle", is(npss_count(&closed), NPSS_CLOSED, 0, 0, 0, 0));
+    CHECK("sharing a closed handle", is(npss_share(&closed, &other), NPSS_CLOSED, 0, 0, 0, 0) && is_closed(&other));
     npss_close(&closed);
     CHECK("closing a closed handle", is_closed(&closed));
 }
@@ -190,7 +190,7 @@ static void check_large(npss_handle *h, size_t times) {
 int main(int argc, char **argv) {
     if (argc != 6) return 2;
     file data = read_file(argv[1]), exclusions = read_file(argv[2]);
-    npss_handle first = {0}, second = {0}, shared = {0};
+    npss_handle first = {0}, second = {0}, shared = {0}, closed = {0};
     check_closed();
     check_files(&first, data, exclusions);
     free(data.bytes);
@@ -201,12 +201,16 @@ int main(int argc, char **argv) {
     check_answers(&first);
     check_questions(&first);
     check_large(&first, strtoul(argv[5], NULL, 10));
-    CHECK("one open handle", npss_extends(&first, &second).status == NPSS_CLOSED);
-    CHECK("the other open handle", npss_extends(&second, &first).status == NPSS_CLOSED);
+    CHECK("one open handle", is(npss_extends(&first, &second), NPSS_CLOSED, 0, 0, 0, 0));
+    CHECK("the other open handle", is(npss_extends(&second, &first), NPSS_CLOSED, 0, 0, 0, 0));
     CHECK("open the second", open_files(&second, argv[3], argv[4]).status == NPSS_DONE);
     CHECK("extends", is(npss_extends(&first, &second), NPSS_DONE, 0, 0, 0, 0));
     CHECK("breaks", is(npss_extends(&second, &first), NPSS_DIFFERENT, NPSS_LOST, 0x1DFA, 0, 0));
-    CHECK("share", npss_share(&first, &shared).status == NPSS_DONE && shared.is_open && first.is_open);
+    CHECK("share", is(npss_share(&first, &shared), NPSS_DONE, 0, 0, 0, 0) && shared.is_open && first.is_open);
+    CHECK("a closed handle is shared into an open one", is(npss_share(&closed, &shared), NPSS_CLOSED, 0, 0, 0, 0) && npss_count(&shared).length == 17660);
+    CHECK("files that make none leave an open handle", is(npss_open(&shared, TEXT("0041;x\n"), TEXT("")), NPSS_DATA, NPSS_FIELD_COUNT, 0, 1, 0));
+    CHECK("tables that are faulty leave it too", is(npss_open(&shared, TEXT("0041;X;Lu;0;L;0042;;;;N;;;;;\n"), TEXT("")), NPSS_TABLES, NPSS_MAPS_TO_UNASSIGNED, 0x41, 0, 0));
+    check_made(&shared, NPSS_NFC, "a\xcc\x82\xcc\xa3", "\xe1\xba\xad");
     CHECK("share once more", npss_share(&second, &shared).status == NPSS_DONE && npss_count(&shared).length == 17666);
     npss_close(&second);
     CHECK("the shared one stays open", is_closed(&second) && npss_count(&shared).length == 17666);

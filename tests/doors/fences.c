@@ -2,10 +2,11 @@
  *
  * Each text and each room lies right before a page that may not be touched, or right behind one. Then each call is made with
  * its first allocation refused, its second, and so on until it is done: it answers that memory ran out, and what it works on
- * is as it was. The second version extends the first. */
+ * is as it was. What is allocated is counted: all of it is given back. The second version extends the first. */
 #define _GNU_SOURCE
 #include "files.h"
 
+#include <malloc.h>
 #include <sys/mman.h>
 #include <unistd.h>
 
@@ -16,9 +17,12 @@
 /* ---- memory that is refused: the C library's own calls stand behind these. */
 
 extern void *__libc_malloc(size_t), *__libc_calloc(size_t, size_t), *__libc_realloc(void *, size_t), *__libc_memalign(size_t, size_t);
+extern void __libc_free(void *);
 static long left = -1; /* how many allocations are granted before one is refused; none is where it is negative */
 static int refused;
 static int met; /* how many calls answered that memory ran out */
+static long live; /* how many blocks are allocated */
+static size_t held; /* how many bytes they have */
 
 static int refuses(void) {
     if (left < 0 || left-- > 0) return 0;
@@ -26,26 +30,45 @@ static int refuses(void) {
     return 1;
 }
 
+static void *counted(void *made) {
+    live += made != NULL;
+    held += malloc_usable_size(made);
+    return made;
+}
+
 void *malloc(size_t size) {
-    return refuses() ? NULL : __libc_malloc(size);
+    return refuses() ? NULL : counted(__libc_malloc(size));
 }
 
 void *calloc(size_t count, size_t size) {
-    return refuses() ? NULL : __libc_calloc(count, size);
+    return refuses() ? NULL : counted(__libc_calloc(count, size));
 }
 
 void *realloc(void *old, size_t size) {
-    return refuses() ? NULL : __libc_realloc(old, size);
+    if (refuses()) return NULL;
+    const size_t before = malloc_usable_size(old);
+    void *made = __libc_realloc(old, size);
+    if (made) {
+        live += old == NULL;
+        held += malloc_usable_size(made) - before;
+    }
+    return made;
 }
 
 int posix_memalign(void **made, size_t alignment, size_t size) {
     if (refuses()) return 12; /* ENOMEM */
-    *made = __libc_memalign(alignment, size);
+    *made = counted(__libc_memalign(alignment, size));
     return *made ? 0 : 12;
 }
 
 void *aligned_alloc(size_t alignment, size_t size) {
-    return refuses() ? NULL : __libc_memalign(alignment, size);
+    return refuses() ? NULL : counted(__libc_memalign(alignment, size));
+}
+
+void free(void *old) {
+    live -= old != NULL;
+    held -= malloc_usable_size(old);
+    __libc_free(old);
 }
 
 /* ---- fences */
@@ -213,10 +236,12 @@ static npss_answer stream_finish(void *on) {
 
 static void check_refusals(npss_handle *old, npss_handle *new) {
     kept of = {0};
+    const long blocks = live;
     of.old = old;
     of.new = new;
     refuse_each("memory for a new node", make_new, is_closed_node, &of);
     remember(&of);
+    refuse_each("memory for a node in place of one", make_new, is_same_node, &of);
     refuse_each("memory for a string", accept_long, is_same_node, &of);
     remember(&of);
     refuse_each("memory for a message's string", take_one, is_same_node, &of);
@@ -224,16 +249,48 @@ static void check_refusals(npss_handle *old, npss_handle *new) {
     memcpy(of.saved, of.image, of.length);
     of.saved_length = of.length;
     refuse_each("memory for an upgrade", upgrade, is_same_node, &of);
-    refuse_each("memory for an image's node", restore, is_closed_node, &of);
+    remember(&of);
+    refuse_each("memory for an image's node", restore, is_same_node, &of);
     CHECK("the image came back", npss_node_count(&of.node).length == 2);
     npss_node_close(&of.node);
     refuse_each("memory for a new stream", stream_new, is_closed_stream, &of);
+    refuse_each("memory for a stream in place of one", stream_new, is_open_stream, &of);
     refuse_each("memory for a piece", stream_feed, is_open_stream, &of);
     refuse_each("memory for the end", stream_finish, is_open_stream, &of);
     npss_answer a = npss_stream_take(&of.stream, of.image, sizeof of.image);
     CHECK("the form is whole", a.length == 9 && !memcmp(of.image, KEY KEY KEY, 9));
     npss_stream_close(&of.stream);
-    CHECK("each kind of call was refused memory", met >= 8);
+    CHECK("each kind of call was refused memory", met >= 10);
+    /* A node may hold room that it asked for before a refusal, until it is closed. */
+    CHECK("nothing is lost behind a refusal", live == blocks);
+}
+
+/* The memory of a long text is given back, and so is that of each thing that is closed or opened anew. */
+static void check_given_back(npss_handle *old, npss_handle *new) {
+    enum { LONG = 1 << 20 };
+    static uint8_t text[LONG], room[LONG];
+    npss_handle shared = {0};
+    npss_node node = {0};
+    npss_stream stream = {0};
+    for (size_t at = 0; at + sizeof NAME - 1 <= LONG; at += sizeof NAME - 1)
+        memcpy(text + at, NAME, sizeof NAME - 1);
+    const size_t length = LONG - LONG % (sizeof NAME - 1);
+    CHECK("a short key", npss_key(old, NPSS_NFC, text, sizeof NAME - 1, room, LONG).status == NPSS_DONE);
+    const size_t before = held;
+    CHECK("a long key", npss_key(old, NPSS_NFC, text, length, room, LONG).status == NPSS_DONE && held <= before);
+    CHECK("a long form", npss_normalize(old, NPSS_NFD, text, length, room, LONG).status == NPSS_DONE && held <= before);
+    const long blocks = live;
+    for (int turn = 0; turn < 2; turn++) {
+        CHECK("shared", npss_share(turn ? old : new, &shared).status == NPSS_DONE);
+        CHECK("a node", npss_node_new(&node, &shared, NPSS_NFC, 3).status == NPSS_DONE);
+        CHECK("what it keeps", npss_node_accept(&node, text, 1000 * (sizeof NAME - 1)).status == NPSS_DONE);
+        CHECK("a stream", npss_stream_new(&stream, &shared, NPSS_NFC).status == NPSS_DONE);
+        CHECK("what is pending", npss_stream_feed(&stream, text, length).status == NPSS_DONE);
+    }
+    npss_stream_close(&stream);
+    npss_node_close(&node);
+    npss_close(&shared);
+    CHECK("all is given back", live == blocks && held <= before);
 }
 
 int main(int argc, char **argv) {
@@ -245,6 +302,7 @@ int main(int argc, char **argv) {
         check_stream(&old, at_end);
     }
     check_refusals(&old, &new);
+    check_given_back(&old, &new);
     npss_close(&old);
     npss_close(&new);
     return finish();

@@ -89,8 +89,25 @@ static void check_new(npss_handle *tables) {
     CHECK("the handle is as it was", npss_count(tables).length == 17660);
     CHECK("open anew", is_alone(npss_node_new(&node, tables, NPSS_NFD, 0), NPSS_DONE) && keeps(&node, 0));
     CHECK("no room at all", is_alone(npss_node_accept(&node, TEXT("a")), NPSS_FULL) && keeps(&node, 0));
-    CHECK("closed by a refusal", is_alone(npss_node_new(&node, tables, 0, 0), NPSS_NO_FORM));
+    npss_node_close(&node);
     check_closed(&node, tables);
+}
+
+/* A node that was to be opened anew is as it was after each refusal. */
+static void check_refused_anew(npss_handle *tables) {
+    npss_handle none = {0};
+    npss_node node = {0};
+    CHECK("new", is_alone(npss_node_new(&node, tables, NPSS_NFC, 9), NPSS_DONE));
+    CHECK("accept", is_alone(npss_node_accept(&node, TEXT("fa")), NPSS_DONE));
+    CHECK("anew without tables", is_alone(npss_node_new(&node, &none, NPSS_NFC, 9), NPSS_CLOSED));
+    CHECK("anew without a form", is_alone(npss_node_new(&node, tables, 'x', 9), NPSS_NO_FORM));
+    CHECK("anew with too much room", is_alone(npss_node_new(&node, tables, NPSS_NFC, 65537), NPSS_BAD_ROOM));
+    CHECK("restored without tables", is_alone(npss_node_restore(&node, &none, NPSS_NFC, 9, TEXT("x")), NPSS_CLOSED));
+    CHECK("restored without a form", is_alone(npss_node_restore(&node, tables, 'x', 9, TEXT("x")), NPSS_NO_FORM));
+    CHECK("restored with too much room", is_alone(npss_node_restore(&node, tables, NPSS_NFC, 65537, TEXT("x")), NPSS_BAD_ROOM));
+    check_entry(&node, 0, "fa", "fa");
+    CHECK("it is as it was", keeps(&node, 1));
+    npss_node_close(&node);
 }
 
 static void check_strings(npss_handle *tables) {
@@ -109,6 +126,8 @@ static void check_strings(npss_handle *tables) {
     CHECK("known where it is full", is_alone(npss_node_accept(&node, TEXT("fa")), NPSS_KNOWN));
     CHECK("forget", is_alone(npss_node_forget(&node, long_text, 65536), NPSS_DONE) && keeps(&node, 2));
     CHECK("forgotten", is_alone(npss_node_forget(&node, long_text, 65536), NPSS_NOT_KEPT) && keeps(&node, 2));
+    CHECK("no message of what is forgotten", is_alone(npss_node_message(&node, long_text, 65536, room, 64), NPSS_NOT_KEPT));
+    CHECK("no message of the empty string", is_alone(npss_node_message(&node, TEXT(""), room, 64), NPSS_NOT_KEPT));
     CHECK("forget what is no text", is_alone(npss_node_forget(&node, TEXT("\xff")), NPSS_NOT_KEPT));
     CHECK("forget what is too long", is_alone(npss_node_forget(&node, long_text, 65537), NPSS_NOT_KEPT));
     CHECK("a third", is_alone(npss_node_accept(&node, TEXT(MARKED_NFC)), NPSS_DONE) && keeps(&node, 3));
@@ -193,12 +212,19 @@ static void check_messages(npss_handle *tables) {
     npss_node_close(&node);
 }
 
-/* An image that is refused leaves the node closed. */
+/* An image that is refused leaves a closed node closed, and an open one as it was. */
 static void check_refused(npss_handle *tables, const char *image, size_t length, npss_answer wanted) {
-    npss_node node = {0};
+    npss_node node = {0}, live = {0};
     npss_answer a = npss_node_restore(&node, tables, NPSS_NFC, 2, (const uint8_t *)image, length);
     CHECK("a refused image",
           !node.is_open && is(a, wanted.status, wanted.fault, wanted.code, wanted.place, wanted.length));
+    CHECK("new", is_alone(npss_node_new(&live, tables, NPSS_NFC, 2), NPSS_DONE));
+    CHECK("accept", is_alone(npss_node_accept(&live, TEXT(MARKED)), NPSS_DONE));
+    a = npss_node_restore(&live, tables, NPSS_NFC, 2, (const uint8_t *)image, length);
+    CHECK("a refused image over a node",
+          keeps(&live, 1) && is(a, wanted.status, wanted.fault, wanted.code, wanted.place, wanted.length));
+    check_entry(&live, 0, MARKED, MARKED_NFC);
+    npss_node_close(&live);
 }
 
 #define REFUSED(image, status, fault, code, place, length)                                                             \
@@ -260,7 +286,7 @@ static void check_images(npss_handle *tables) {
     }
     for (size_t size = 0; size < length; size++) {
         a = npss_node_restore(&node, tables, NPSS_NFC, 2, (const uint8_t *)TWO_IMAGE, size);
-        CHECK("a cut image", a.status == NPSS_MALFORMED && a.place <= size && !node.is_open);
+        CHECK("a cut image", a.status == NPSS_MALFORMED && a.place <= size && keeps(&node, 2));
     }
     a = npss_node_restore(&node, tables, NPSS_NFC, 2, TEXT(TWO_IMAGE));
     CHECK("restored", is_alone(a, NPSS_DONE) && keeps(&node, 2));
@@ -325,6 +351,7 @@ int main(int argc, char **argv) {
     CHECK("open", open_files(&first, argv[1], argv[2]).status == NPSS_DONE);
     CHECK("open the second", open_files(&second, argv[3], argv[4]).status == NPSS_DONE);
     check_new(&first);
+    check_refused_anew(&first);
     check_strings(&first);
     check_messages(&first);
     check_images(&first);

@@ -95,7 +95,11 @@ static void check_closed(npss_handle *h) {
     CHECK("no more", is(npss_stream_take(&stream, room, 4), NPSS_DONE, 0, 0, 0, 0));
     CHECK("new again", npss_stream_new(&stream, h, NPSS_NFD).status == NPSS_DONE);
     CHECK("an empty text", is(npss_stream_finish(&stream), NPSS_DONE, 0, 0, 0, 0));
-    CHECK("new where the form is none", npss_stream_new(&stream, h, 0).status == NPSS_NO_FORM && !stream.is_open);
+    CHECK("new once more", npss_stream_new(&stream, h, NPSS_NFC).status == NPSS_DONE);
+    CHECK("a piece", is(npss_stream_feed(&stream, TEXT("aa")), NPSS_DONE, 0, 0, 0, 1));
+    CHECK("new where the form is none", is(npss_stream_new(&stream, h, 0), NPSS_NO_FORM, 0, 0, 0, 0) && stream.is_open);
+    CHECK("new where the tables are closed", is(npss_stream_new(&stream, &closed, NPSS_NFC), NPSS_CLOSED, 0, 0, 0, 0) && stream.is_open);
+    CHECK("it goes on", is(npss_stream_finish(&stream), NPSS_DONE, 0, 0, 0, 2));
     npss_stream_close(&stream);
 }
 

@@ -306,6 +306,8 @@ pub enum StreamError {
     },
     /// The stream was finished before.
     Finished,
+    /// More than 18,446,744,073,709,551,615 bytes would have come.
+    TooLong,
     /// Memory ran out.
     Memory,
 }
@@ -316,6 +318,7 @@ impl StreamError {
         match a.status {
             raw::NOT_UTF8 => StreamError::NotUtf8 { at: a.place },
             raw::CLOSED => StreamError::Finished,
+            raw::TOO_LONG => StreamError::TooLong,
             _ => StreamError::Memory,
         }
     }
@@ -326,6 +329,7 @@ impl fmt::Display for StreamError {
         match self {
             StreamError::NotUtf8 { at } => write!(f, "not UTF-8 at byte {at}"),
             StreamError::Finished => f.write_str("the stream was finished"),
+            StreamError::TooLong => f.write_str("the text is too long"),
             StreamError::Memory => f.write_str("out of memory"),
         }
     }
@@ -337,7 +341,7 @@ impl From<StreamError> for io::Error {
     fn from(error: StreamError) -> io::Error {
         let kind = match error {
             StreamError::NotUtf8 { .. } => io::ErrorKind::InvalidData,
-            StreamError::Finished => io::ErrorKind::InvalidInput,
+            StreamError::Finished | StreamError::TooLong => io::ErrorKind::InvalidInput,
             StreamError::Memory => io::ErrorKind::OutOfMemory,
         };
         io::Error::new(kind, error)

@@ -65,8 +65,8 @@ impl Stream {
     ///
     /// # Errors
     ///
-    /// `NotUtf8` where what came and the piece begin no text; `Finished` behind `finish`; `Memory` where memory ran out.
-    /// Then the stream is as it was.
+    /// `NotUtf8` where what came and the piece begin no text; `Finished` behind `finish`; `TooLong` where more than
+    /// 18,446,744,073,709,551,615 bytes would have come; `Memory` where memory ran out. Then the stream is as it was.
     pub fn feed(&mut self, piece: &[u8]) -> Result<usize, StreamError> {
         // SAFETY: the piece is readable.
         let a = unsafe { raw::npss_stream_feed(&mut self.handle, piece.as_ptr(), piece.len()) };

@@ -12,6 +12,7 @@ use Rattle.np_ucd.specs.declared.faults.UcdFault.{UcdFault}
 use Rattle.np_ucd.specs.declared.faults.UcdFault.TheVariants.{FieldCount, BadCode, OutOfOrder, BadCategory, BadClass, BadMapping, RangeOpen, RangeLone, RangeDiffers, RangeMaps, TooLarge, ReadFailed, Memory}
 use Rattle.np_c.specs.Answers.{Tells}
 use Rattle.np_c.specs.Files.{IsFileFault, IsFileRefused, IsTablesAnswer}
+use Rattle.np_c.specs.Statuses.{alone}
 use Rattle.np_c.specs.inside.FaultAnswers.{at_line, file_answer, tables_answer, told_answer}
 
 -- yes or no
@@ -22,7 +23,7 @@ tells P false same = inr (refl, λ p. absurd (false≢true (same.1 p)))
 -- a fault that has a line is that of the bytes
 lined : (status : ℕ) (IsFault : List ℕ → UcdFault → Type 0) (bytes : List ℕ) (after : Option (List ℕ)) (f : UcdFault) (line : ℕ) → line_of f ≡ Some line
     → ((read : List ℕ) × IsReadWhole (Some bytes) after read × IsFault read f) → IsFileFault status IsFault bytes (at_line status (naming_of f).test line)
-lined status IsFault bytes after f line at h = record { status_is = refl; first = f; is = subst (λ (bs : List ℕ). IsFault bs f) h.1.whole h.2; number = refl; line = at }
+lined status IsFault bytes after f line at h = record { first = f; is = subst (λ (bs : List ℕ). IsFault bs f) h.1.whole h.2; told = refl; line = at }
 
 pub refused_file : (status number : ℕ) (IsFault : List ℕ → UcdFault → Type 0) (bytes : List ℕ) (after : Option (List ℕ)) (f : UcdFault)
     → IsRefused IsFault (Some bytes) after f → IsFileRefused status number IsFault bytes (file_answer status number f)
@@ -36,15 +37,15 @@ refused_file status number IsFault bytes after (RangeOpen line) h = inl (lined s
 refused_file status number IsFault bytes after (RangeLone line) h = inl (lined status IsFault bytes after (RangeLone line) line refl h)
 refused_file status number IsFault bytes after (RangeDiffers line) h = inl (lined status IsFault bytes after (RangeDiffers line) line refl h)
 refused_file status number IsFault bytes after (RangeMaps line) h = inl (lined status IsFault bytes after (RangeMaps line) line refl h)
-refused_file status number IsFault bytes after TooLarge h = inr (inl (record { status = refl; file = refl; large = h.more }))
+refused_file status number IsFault bytes after TooLarge h = inr (inl (record { told = refl; large = h.more }))
 refused_file status number IsFault bytes after ReadFailed h = inr (inr refl)
 refused_file status number IsFault bytes after Memory h = inr (inr refl)
 
 -- a fault of tables is the least one of the version
-pub refused_tables : (v : VersionData) (f : TableFault) → (f ≡ table.Memory) ⊎ IsLeastFault v f → IsTablesAnswer v (tables_answer f) ⊎ ((tables_answer f).status ≡ 4)
-refused_tables v (table.MapsToUnassigned code) h = ⊎_elim (λ none. absurd (cc)) (λ least. inl (record { status = refl; least = table.MapsToUnassigned code; is = least; number = refl; code = refl })) h
-refused_tables v (table.TooDeep code) h = ⊎_elim (λ none. absurd (cc)) (λ least. inl (record { status = refl; least = table.TooDeep code; is = least; number = refl; code = refl })) h
-refused_tables v (table.TooLong code) h = ⊎_elim (λ none. absurd (cc)) (λ least. inl (record { status = refl; least = table.TooLong code; is = least; number = refl; code = refl })) h
-refused_tables v (table.AmbiguousPair code) h = ⊎_elim (λ none. absurd (cc)) (λ least. inl (record { status = refl; least = table.AmbiguousPair code; is = least; number = refl; code = refl })) h
-refused_tables v (table.HangulWrong code) h = ⊎_elim (λ none. absurd (cc)) (λ least. inl (record { status = refl; least = table.HangulWrong code; is = least; number = refl; code = refl })) h
+pub refused_tables : (v : VersionData) (f : TableFault) → (f ≡ table.Memory) ⊎ IsLeastFault v f → IsTablesAnswer v (tables_answer f) ⊎ (tables_answer f ≡ alone 4)
+refused_tables v (table.MapsToUnassigned code) h = ⊎_elim (λ none. absurd (cc)) (λ least. inl (record { least = table.MapsToUnassigned code; is = least; told = refl; code = refl })) h
+refused_tables v (table.TooDeep code) h = ⊎_elim (λ none. absurd (cc)) (λ least. inl (record { least = table.TooDeep code; is = least; told = refl; code = refl })) h
+refused_tables v (table.TooLong code) h = ⊎_elim (λ none. absurd (cc)) (λ least. inl (record { least = table.TooLong code; is = least; told = refl; code = refl })) h
+refused_tables v (table.AmbiguousPair code) h = ⊎_elim (λ none. absurd (cc)) (λ least. inl (record { least = table.AmbiguousPair code; is = least; told = refl; code = refl })) h
+refused_tables v (table.HangulWrong code) h = ⊎_elim (λ none. absurd (cc)) (λ least. inl (record { least = table.HangulWrong code; is = least; told = refl; code = refl })) h
 refused_tables v table.Memory h = inr refl

@@ -1,5 +1,5 @@
 -- Texts of ASCII are their own keys where each ASCII character is a starter that passes the quick check.
-use Rattle.std.proofs.Common.{◌≡◌, ◌⊎◌, ℕ, suc, Bool, false, inr, IsTrue, ◌<◌, true, List, [], ◌∷◌, ◌++◌, Option, Some, None, length, take, chars, refl, sym, ap, subst, ◌∙◌, inl, append-nil, take_all, le_refl, encode_utf8_all, IsUtf8}
+use Rattle.std.proofs.Common.{◌≡◌, ◌⊎◌, ℕ, suc, Bool, false, inr, IsTrue, ◌<◌, true, List, [], ◌∷◌, ◌++◌, Option, Some, None, length, chars, refl, sym, ap, subst, ◌∙◌, inl, append-nil, take_all, le_refl, encode_utf8_all}
 use Rattle.std.proofs.lemmas.Bool.{and_from}
 use Rattle.std.specs.Str.{IsAscii}
 use Rattle.std.proofs.lemmas.Str.{chars-IsAscii, chars-nil, encodes-IsAscii, IsUtf8-from_ascii}
@@ -9,12 +9,11 @@ use Rattle.np_forms.specs.Forms.{IsNormalForm}
 use Rattle.np_forms.specs.Laws.{QuickSpanForm}
 use Rattle.np_versions.specs.Boundaries.{IsYesStarter}
 use Rattle.np_versions.specs.Conditions.{IsSound}
-use Rattle.np_versions.specs.QuickSpans.{AreWalked, MayFollow, Walks, IsQuickSpan}
+use Rattle.np_versions.specs.QuickSpans.{MayFollow, Walks, IsQuickSpan}
 use Rattle.np_versions.specs.Versions.{VersionData, is_assigned}
 use Rattle.np_c.specs.Ascii.{KeepsAscii}
 use Rattle.np_c.specs.Statuses.{alone}
 use Rattle.np_c.specs.inside.FaultAnswers.{told_answer}
-use Rattle.np_c.specs.Texts.{IsFormOf, IsKeyOf}
 
 module _ (v : VersionData) (form : Form) (each_assigned : (c : ℕ) → c < 128 → is_assigned v c ≡ true) (yes_starter : (c : ℕ) → c < 128 → IsYesStarter v form c) where
   ascii_walks : (before : Option ℕ) (cs : List ℕ) → IsAscii cs → Walks (MayFollow v form) before 0 cs 0

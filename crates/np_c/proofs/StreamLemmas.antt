@@ -19,9 +19,9 @@ use Rattle.np_forms.proofs.RunTextLemmas.{prefix_left, prefix_past, whole_prefix
 use Rattle.np_forms.proofs.TextLemmas.{assigned-both}
 use Rattle.np_versions.specs.Versions.{VersionData, class_of, is_assigned}
 use Rattle.np_c.specs.Statuses.{not_utf8_at}
-use Rattle.np_c.specs.Streams.{HasCome, HasEnded, HasRead, IsAtFront, IsCutShort, IsFed, IsFeedAnswer, IsFirstOf, IsNoFront, IsWhole, StreamView}
+use Rattle.np_c.specs.Streams.{HasCome, HasEnded, HasRead, IsAtFront, IsCutShort, IsFed, IsFeedAnswer, IsFirstOf, IsNoFront, IsTooLarge, IsWhole, StreamView}
 use Rattle.np_c.specs.Texts.{IsFormOf}
-use Rattle.np_c.specs.inside.Streams.{EndsText, FeedsChunk, FeedsText, FindsFirst, StopsIn, TakesChunk}
+use Rattle.np_c.specs.inside.Streams.{EndsText, FeedsChunk, FeedsText, FindsFirst, Overflows, StopsIn, TakesChunk}
 use Rattle.np_c.specs.declared.answers.Answer.{Answer}
 use Rattle.np_c.specs.declared.first_unassigned.FirstUnassigned.{FirstUnassigned}
 
@@ -210,11 +210,23 @@ module _ (s t : StreamView) (piece : List ℕ) (a : Answer) (unfinished : s.is_f
             (subst (λ n. MayNotBegin (came.text ++ (s.cut ++ piece)) (n + h.n)) (sym came.reads.place) (stops_behind came.text (s.cut ++ piece) h.n came.reads.valid h.stops));
       }
 
+  too_large : Overflows s t (s.cut ++ piece) a → IsTooLarge s t piece a
+  too_large h =
+      record {
+        answer = h.answer;
+        same = h.same;
+        large = λ fed taken came.
+            let all : fed ++ piece ≡ came.text ++ (s.cut ++ piece) = ap (λ l. l ++ piece) came.split ∙ append_assoc came.text s.cut piece in
+            let long = ap length all ∙ length-append came.text (s.cut ++ piece) in
+            omega (arith, h.large, long, came.reads.place);
+      }
+
   -- a chunk that begins with what was cut
   pub feed_answer : FeedsChunk s t (s.cut ++ piece) a → IsFeedAnswer s t piece a
   feed_answer (inl h) = inr (unfinished, inl (fed h))
   feed_answer (inr (inl h)) = inr (unfinished, inr (inl (no_front h)))
-  feed_answer (inr (inr h)) = inr (unfinished, inr (inr h))
+  feed_answer (inr (inr (inl h))) = inr (unfinished, inr (inr (inl (too_large h))))
+  feed_answer (inr (inr (inr h))) = inr (unfinished, inr (inr (inr h)))
 
 -- ---- the text ended
 

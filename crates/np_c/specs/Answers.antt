@@ -8,6 +8,7 @@ use Rattle.np_code_points.specs.declared.forms.Form.{Form}
 use Rattle.np_forms.specs.Forms.{IsEquivalent, IsNormalForm}
 use Rattle.np_versions.specs.Versions.{VersionData}
 use Rattle.np_c.specs.Files.{IsNoVersion, IsVersionOf}
+use Rattle.np_c.specs.Statuses.{alone}
 use Rattle.np_c.specs.Texts.{IsFormLetter, IsFormOf, IsKeyOf, IsNoForm, IsNoKey, IsNoText}
 use Rattle.np_c.specs.Versions.{version_in}
 use Rattle.np_c.specs.declared.answers.Answer.{Answer}
@@ -45,13 +46,13 @@ pub record IsPutTelling (place : ℕ) (made before after : List ℕ) (a : Answer
 
 -- the letter is none, and nothing changed
 pub record LacksForm (letter : ℕ) (before after : List ℕ) (a : Answer) : Type 0 where
-  pub status : a.status ≡ 6
+  pub told : a ≡ alone 6
   pub none : ¬ (IsFormLetter letter)
   pub room : after ≡ before
 
 -- what is made of a text under a form is put into the room; or there is none, and nothing changed
 pub record IsMade (Makes : List ℕ → Type 0) (IsNone : Answer → Type 0) (before after : List ℕ) (a : Answer) : Type 0 where
-  pub how : ((made : List ℕ) × Makes made × IsPut made before after a) ⊎ (IsNone a × (after ≡ before))
+  pub how : ((made : List ℕ) × Makes made × IsPutTelling 0 made before after a) ⊎ (IsNone a × (after ≡ before))
 
 -- `npss_key`: the letter is that of a form, and the key under it is put into the room
 abbrev pub IsKeyAnswer : VersionData → ℕ → List ℕ → List ℕ → List ℕ → Answer → Type 0
@@ -67,19 +68,19 @@ IsFormAnswer v letter bytes before after a =
 
 -- yes, with status 0, or no, with status 11
 abbrev pub Tells : Type 0 → Answer → Type 0
-Tells P a = ((a.status ≡ 0) × P) ⊎ ((a.status ≡ 11) × (¬ P))
+Tells P a = ((a ≡ alone 0) × P) ⊎ ((a ≡ alone 11) × (¬ P))
 
 -- `npss_is_form`: whether a text is its own normal form
 abbrev pub IsOwnFormAnswer : VersionData → ℕ → List ℕ → Answer → Type 0
 IsOwnFormAnswer v letter bytes a =
-    ((a.status ≡ 6) × (¬ (IsFormLetter letter)))
+    ((a ≡ alone 6) × (¬ (IsFormLetter letter)))
     ⊎ ((form : Form) × (letter ≡ byte_of form) × ((IsUtf8 bytes × Tells (IsNormalForm v form (chars bytes) (chars bytes)) a) ⊎ IsNoForm bytes a))
 
 -- `npss_equivalent`: whether two texts are equivalent (The Unicode Standard, D70, or D67 where compatible ones are asked for)
 pub record AreEquivalentAnswer (v : VersionData) (compat : Bool) (left right : List ℕ) (a : Answer) : Type 0 where
   pub valid_left : IsUtf8 left
   pub valid_right : IsUtf8 right
-  pub told : Tells (IsEquivalent v compat (chars left) (chars right)) a ⊎ (a.status ≡ 4)
+  pub told : Tells (IsEquivalent v compat (chars left) (chars right)) a ⊎ (a ≡ alone 4)
 
 abbrev pub IsEquivalentAnswer : VersionData → Bool → List ℕ → List ℕ → Answer → Type 0
 IsEquivalentAnswer v compat left right a =
@@ -91,23 +92,21 @@ told_break first = record { status = 11; fault = number_of first.kind; code = fi
 
 -- `npss_extends`: the newer version extends the older one; or the break at the least code point that has one, by the number of its kind
 pub record IsBreakAnswer (old new : VersionData) (a : Answer) : Type 0 where
-  pub status : a.status ≡ 11
   pub first : Break
   pub is : IsFirstBreak old new first
-  pub number : a.fault ≡ number_of first.kind
-  pub code : a.code ≡ first.code
+  pub told : a ≡ told_break first
 
 abbrev pub IsExtensionAnswer : VersionData → VersionData → Answer → Type 0
-IsExtensionAnswer old new a = ((a.status ≡ 0) × Extends old new) ⊎ IsBreakAnswer old new a
+IsExtensionAnswer old new a = ((a ≡ alone 0) × Extends old new) ⊎ IsBreakAnswer old new a
 
 -- ---- handles
 
--- `npss_open`: the handle is open on the version of the two files; or closed, and they make none, or memory ran out
+-- `npss_open`: the version of the two files is what is opened; or nothing is, and they make none, or memory ran out
 abbrev pub IsOpenAnswer : List ℕ → List ℕ → Option Content → Answer → Type 0
-IsOpenAnswer data_file exclusions_file held a =
-    ((a.status ≡ 0) × ((v : VersionData) × (version_in held ≡ Some v) × IsVersionOf data_file exclusions_file v))
-    ⊎ ((held ≡ None) × IsNoVersion data_file exclusions_file a)
+IsOpenAnswer data_file exclusions_file opened a =
+    ((a ≡ alone 0) × ((v : VersionData) × (version_in opened ≡ Some v) × IsVersionOf data_file exclusions_file v))
+    ⊎ ((opened ≡ None) × IsNoVersion data_file exclusions_file a)
 
--- `npss_share`: the other handle is open on the same version; or closed, and memory ran out
+-- `npss_share`: the same version is what is opened; or nothing is, and memory ran out
 abbrev pub IsShareAnswer : VersionData → Option Content → Answer → Type 0
-IsShareAnswer v other a = ((a.status ≡ 0) × (version_in other ≡ Some v)) ⊎ ((a.status ≡ 4) × (other ≡ None))
+IsShareAnswer v opened a = ((a ≡ alone 0) × (version_in opened ≡ Some v)) ⊎ ((a ≡ alone 4) × (opened ≡ None))

@@ -1,5 +1,5 @@
 -- What a handle holds.
-use Rattle.std.specs.Prelude.{Option, Some, None}
+use Rattle.std.specs.Prelude.{◌≡◌, Option, Some, None}
 use Rattle.np_node.specs.Nodes.{NodeState}
 use Rattle.np_versions.specs.Versions.{VersionData}
 use Rattle.np_c.specs.Streams.{StreamView}
@@ -34,3 +34,12 @@ stream_in (Some Nothing) = None
 stream_in (Some (Table shared)) = None
 stream_in (Some (Node kept)) = None
 stream_in (Some (Stream kept)) = Some kept.value
+
+-- a handle holds what a call opened; where the call opened nothing, what the handle held before
+abbrev pub opened_or : Option Content → Option Content → Option Content
+opened_or (Some opened) before = Some opened
+opened_or None before = before
+
+-- a call opened this, or nothing, as told, and the handle holds it
+abbrev pub Holds : (Option Content → Type 0) → Option Content → Option Content → Type 0
+Holds IsOpened before after = (opened : Option Content) × IsOpened opened × (after ≡ opened_or opened before)

@@ -8,6 +8,7 @@ use Rattle.np_lines.specs.Lines as line
 use Rattle.np_lines.specs.Whole.{IsAllAnswered}
 use Rattle.np_versions.specs.Versions.{VersionData}
 use Rattle.np_c.specs.Answers.{IsPut, LacksForm}
+use Rattle.np_c.specs.Statuses.{alone}
 use Rattle.np_c.specs.declared.answers.Answer.{Answer}
 use Rattle.np_c.specs.declared.lines.Asked.{Asked}
 
@@ -17,7 +18,7 @@ IsLineByte byte = (end : LineEnd) × (byte ≡ line.byte_of end)
 
 -- the byte that is to end lines is none, and nothing changed
 pub record LacksEnd (byte : ℕ) (before after : List ℕ) (a : Answer) : Type 0 where
-  pub status : a.status ≡ 12
+  pub told : a ≡ alone 12
   pub none : ¬ (IsLineByte byte)
   pub room : after ≡ before
 
@@ -32,11 +33,11 @@ pub record AreAnswersPut (v : VersionData) (wanted : Wanted) (bytes before after
   pub any_refused : Bool
   pub all : IsAllAnswered v wanted bytes made any_refused
   pub put : IsPut made before after a
-  pub told : a.fault ≡ refused_number any_refused
+  pub told : a ≡ record { status = a.status; fault = refused_number any_refused; code = 0; place = 0; length = a.length }
 
 -- or memory ran out, and nothing changed
 pub record LacksMemory (before after : List ℕ) (a : Answer) : Type 0 where
-  pub status : a.status ≡ 4
+  pub told : a ≡ alone 4
   pub room : after ≡ before
 
 -- `npss_answers`: the letter is that of a form, the byte ends lines, and the answers to all lines are put into the room

@@ -1,4 +1,4 @@
--- How a node is opened, new or from an image, and how it moves to another version. Where a node isn't opened nothing is held.
+-- How a node is opened, new or from an image, and how it moves to another version. What is opened is none where there is none.
 use Rattle.std.specs.Prelude.{◌≡◌, ◌⊎◌, ◌<◌, ◌≤◌, ℕ, List, [], Option, Some, None, Result, Ok, Err}
 use Rattle.np_chain.specs.Breaks.{IsFirstBreak}
 use Rattle.np_chain.specs.Extension.{Extends}
@@ -30,19 +30,19 @@ pub record HasBigRoom (letter room : ℕ) (a : Answer) : Type 0 where
 abbrev pub IsNoFrame : ℕ → ℕ → Answer → Type 0
 IsNoFrame letter room a = HasNoForm letter a ⊎ HasBigRoom letter room a
 
--- the node is held; or memory ran out
+-- the node is what is opened; or memory ran out
 abbrev pub IsOpened : HeldNode → Option Content → Answer → Type 0
-IsOpened node held a = ((a ≡ alone 0) × (node_in held ≡ Some node)) ⊎ ((a ≡ alone 4) × (held ≡ None))
+IsOpened node opened a = ((a ≡ alone 0) × (node_in opened ≡ Some node)) ⊎ ((a ≡ alone 4) × (opened ≡ None))
 
 -- a node may have the form of the letter and the room, and then it is opened as told; or it may not
 abbrev pub IsFramed : ℕ → ℕ → (Form → Option Content → Answer → Type 0) → Option Content → Answer → Type 0
-IsFramed letter room Opens held a =
-    ((held ≡ None) × IsNoFrame letter room a) ⊎ ((form : Form) × (letter ≡ byte_of form) × (room ≤ 65536) × Opens form held a)
+IsFramed letter room Opens opened a =
+    ((opened ≡ None) × IsNoFrame letter room a) ⊎ ((form : Form) × (letter ≡ byte_of form) × (room ≤ 65536) × Opens form opened a)
 
 -- `npss_node_new`: the node keeps nothing
 abbrev pub IsNewAnswer : VersionData → ℕ → ℕ → Option Content → Answer → Type 0
-IsNewAnswer v letter room held a =
-    IsFramed letter room (λ form. IsOpened (record { table = v; form = form; room = room; entries = [] })) held a
+IsNewAnswer v letter room opened a =
+    IsFramed letter room (λ form. IsOpened (record { table = v; form = form; room = room; entries = [] })) opened a
 
 -- the refusal of an image, or of an entry of it: then `length` is the entry's number, and the others tell its fault
 abbrev pub told_refusal : Option ℕ → NodeFault → Answer
@@ -51,18 +51,18 @@ told_refusal (Some number) fault =
     record { status = 21; fault = (told_fault fault).status; code = (told_fault fault).code; place = (told_fault fault).place; length = number }
 
 abbrev pub IsRestoreTold : Result HeldNode ImageFault → Option Content → Answer → Type 0
-IsRestoreTold (Ok node) held a = IsOpened node held a
-IsRestoreTold (Err refused) held a = (a ≡ told_refusal refused.entry refused.fault) × (held ≡ None)
+IsRestoreTold (Ok node) opened a = IsOpened node opened a
+IsRestoreTold (Err refused) opened a = (a ≡ told_refusal refused.entry refused.fault) × (opened ≡ None)
 
--- what an image makes under a version, a form and a room is held; or told why it makes nothing
-pub record IsImageOpened (v : VersionData) (room : ℕ) (image : List ℕ) (form : Form) (held : Option Content) (a : Answer) : Type 0 where
+-- what an image makes under a version, a form and a room is opened; or told why it makes nothing
+pub record IsImageOpened (v : VersionData) (room : ℕ) (image : List ℕ) (form : Form) (opened : Option Content) (a : Answer) : Type 0 where
   pub outcome : Result HeldNode ImageFault
   pub answers : AnswersRestore itself v form room image outcome
-  pub told : IsRestoreTold outcome held a
+  pub told : IsRestoreTold outcome opened a
 
 -- `npss_node_restore`
 abbrev pub IsRestoreAnswer : VersionData → ℕ → ℕ → List ℕ → Option Content → Answer → Type 0
-IsRestoreAnswer v letter room image held a = IsFramed letter room (IsImageOpened v room image) held a
+IsRestoreAnswer v letter room image opened a = IsFramed letter room (IsImageOpened v room image) opened a
 
 -- the version extends that of the node, which has it now, and what is kept is the same
 pub record IsUpgraded (w : VersionData) (old new : HeldNode) (a : Answer) : Type 0 where

@@ -28,9 +28,9 @@ IsBegun v letter held = (form : Form) × (letter ≡ byte_of form) × IsOpenOn v
 abbrev pub IsNotBegun : ℕ → Answer → Type 0
 IsNotBegun letter a = ((a ≡ alone 6) × (¬ (IsFormLetter letter))) ⊎ (a ≡ alone 4)
 
--- `npss_stream_new`: the handle holds a stream at the front of a text, or it is closed
+-- `npss_stream_new`: a stream at the front of a text is what is opened, or nothing
 abbrev pub IsStreamAnswer : VersionData → ℕ → Option Content → Answer → Type 0
-IsStreamAnswer v letter held a = ((a ≡ alone 0) × IsBegun v letter held) ⊎ ((held ≡ None) × IsNotBegun letter a)
+IsStreamAnswer v letter opened a = ((a ≡ alone 0) × IsBegun v letter opened) ⊎ ((opened ≡ None) × IsNotBegun letter a)
 
 -- a call on the stream of a handle ends so, and the handle goes on holding a stream
 abbrev pub GoesOn : (StreamView → StreamView → Type 0) → Option StreamView → Option StreamView → Type 0

@@ -1,5 +1,5 @@
 -- Streams: what a handle on one holds, by what came to it and what was taken from it.
-use Rattle.std.specs.Prelude.{◌≡◌, ◌≢◌, ◌⊎◌, ◌++◌, ℕ, min, Bool, true, false, List, [], take, drop, length, chars, encode_utf8_all, IsUtf8, Option, Some, None}
+use Rattle.std.specs.Prelude.{◌≡◌, ◌≢◌, ◌⊎◌, ◌<◌, ◌++◌, ℕ, min, Bool, true, false, List, [], take, drop, length, chars, encode_utf8_all, IsUtf8, Option, Some, None}
 use Rattle.np_code_points.specs.Text.{IsLongestValidPrefix}
 use Rattle.np_code_points.specs.declared.forms.Form.{Form}
 use Rattle.np_forms.specs.Assigned.{IsAssigned, IsFirstUnassigned}
@@ -76,11 +76,17 @@ pub record IsNoFront (s t : StreamView) (piece : List ℕ) (a : Answer) : Type 0
   pub same : t ≡ s
   pub stops : (fed taken : List ℕ) → HasCome s fed taken → MayNotBegin (fed ++ piece) place
 
+-- or with the piece more than 18,446,744,073,709,551,615 bytes would have come, and nothing changed
+pub record IsTooLarge (s t : StreamView) (piece : List ℕ) (a : Answer) : Type 0 where
+  pub answer : a ≡ alone 15
+  pub same : t ≡ s
+  pub large : (fed taken : List ℕ) → HasCome s fed taken → 18446744073709551615 < length (fed ++ piece)
+
 -- or the stream was finished, or memory ran out, and nothing changed
 abbrev pub IsFeedAnswer : StreamView → StreamView → List ℕ → Answer → Type 0
 IsFeedAnswer s t piece a =
     ((s.is_finished ≡ true) × (a ≡ alone 5) × (t ≡ s))
-    ⊎ ((s.is_finished ≡ false) × (IsFed s t piece a ⊎ (IsNoFront s t piece a ⊎ ((a ≡ alone 4) × (t ≡ s)))))
+    ⊎ ((s.is_finished ≡ false) × (IsFed s t piece a ⊎ (IsNoFront s t piece a ⊎ (IsTooLarge s t piece a ⊎ ((a ≡ alone 4) × (t ≡ s))))))
 
 -- `npss_stream_take`: as much as fits of what is ready stands at the front of the room
 pub record IsTaken (s t : StreamView) (before after : List ℕ) (a : Answer) : Type 0 where

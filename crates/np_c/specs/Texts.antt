@@ -6,6 +6,7 @@ use Rattle.np_code_points.specs.Text.{IsLongestValidPrefix}
 use Rattle.np_forms.specs.Assigned.{IsAssigned, IsFirstUnassigned}
 use Rattle.np_forms.specs.Forms.{IsNormalForm}
 use Rattle.np_versions.specs.Versions.{VersionData}
+use Rattle.np_c.specs.Statuses.{alone}
 use Rattle.np_c.specs.declared.answers.Answer.{Answer}
 
 -- a letter stands for a form: D, C, d or c
@@ -14,8 +15,7 @@ IsFormLetter letter = (form : Form) × (letter ≡ byte_of form)
 
 -- the bytes are no text behind their longest front that is one; `fault` is the number of the text
 pub record IsNoText (number : ℕ) (bytes : List ℕ) (a : Answer) : Type 0 where
-  pub status : a.status ≡ 2
-  pub text : a.fault ≡ number
+  pub told : a ≡ record { status = 2; fault = number; code = 0; place = a.place; length = 0 }
   pub invalid : ¬ (IsUtf8 bytes)
   pub place : IsLongestValidPrefix bytes a.place
 
@@ -33,19 +33,19 @@ pub record IsKeyOf (v : VersionData) (form : Form) (bytes made : List ℕ) : Typ
 
 -- the first code point of the text that is not assigned
 pub record IsUnassigned (v : VersionData) (bytes : List ℕ) (a : Answer) : Type 0 where
-  pub status : a.status ≡ 1
+  pub told : a ≡ record { status = 1; fault = 0; code = a.code; place = a.place; length = 0 }
   pub valid : IsUtf8 bytes
   pub first : IsFirstUnassigned v (chars bytes) a.place a.code
 
 -- memory ran out, though the bytes are a text whose code points are assigned
 pub record IsKeyRefused (v : VersionData) (bytes : List ℕ) (a : Answer) : Type 0 where
-  pub status : a.status ≡ 4
+  pub told : a ≡ alone 4
   pub valid : IsUtf8 bytes
   pub assigned : IsAssigned v (chars bytes)
 
 -- memory ran out, though the bytes are a text
 pub record IsFormRefused (bytes : List ℕ) (a : Answer) : Type 0 where
-  pub status : a.status ≡ 4
+  pub told : a ≡ alone 4
   pub valid : IsUtf8 bytes
 
 -- why there is no key of bytes

@@ -31,7 +31,7 @@ pub const NO_END: u32 = 12;
 pub const KNOWN: u32 = 13;
 /// No such string, or no such entry, is kept.
 pub const NOT_KEPT: u32 = 14;
-/// A string has more than 65,536 bytes.
+/// A string has more than 65,536 bytes, or more than 18,446,744,073,709,551,615 came to a stream.
 pub const TOO_LONG: u32 = 15;
 /// The node keeps as many strings as its room.
 pub const FULL: u32 = 16;

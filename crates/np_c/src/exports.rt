@@ -4,7 +4,8 @@ ghost use Rattle.np_versions.specs.Counts.{assigned_count};
 ghost use Rattle.np_c.specs.Answers.{IsEquivalentAnswer, IsExtensionAnswer, IsFormAnswer, IsKeyAnswer, IsOpenAnswer, IsOwnFormAnswer, IsShareAnswer};
 ghost use Rattle.np_c.specs.Ascii.{IsAsciiAnswer};
 ghost use Rattle.np_c.specs.Lines.{IsAnswersAnswer};
-ghost use Rattle.np_c.specs.Statuses.{alone};
+ghost use Rattle.np_c.specs.Contents.{Holds};
+ghost use Rattle.np_c.specs.Statuses.{alone, with_length};
 ghost use Rattle.np_c.specs.Versions.{content_of, version_of};
 
 use crate::answers::{Answer, CLOSED, DONE, MEMORY};
@@ -16,7 +17,7 @@ use crate::opening::{another_of, shared_of};
 use np_versions::NormTable;
 use std::alloc::Global;
 
-/// Closes the handle, and opens it on the version of two files. It stays closed where they make none.
+/// Opens the handle on the version of two files, and lets go of what it held. Where they make none it holds what it held.
 #[unsafe(no_mangle)]
 pub extern "C" fn npss_open(
     alloc: Global,
@@ -24,26 +25,25 @@ pub extern "C" fn npss_open(
     data_file: &[u8],
     exclusions_file: &[u8],
 ) -> Answer
-    ensures { IsOpenAnswer data_file.now exclusions_file.now (content_of handle.new) result }
+    ensures { Holds (λ opened. IsOpenAnswer data_file.now exclusions_file.now opened result) (content_of handle.old) (content_of handle.new) }
 {
-    drop(handle.take(alloc));
     match shared_of(alloc, data_file, exclusions_file) {
         Ok(content) => {
-            *handle = Handle::open(content);
+            handle.exchange(alloc, content);
             Answer::of(DONE)
         }
         Err(answer) => answer,
     }
 }
 
-/// Closes the other handle, and opens it on the version of the handle, for another thread: both share the table.
+/// Opens the other handle on the version of the handle, for another thread, and lets go of what it held: both share the table.
+/// After a refusal it holds what it held.
 #[unsafe(no_mangle)]
 pub extern "C" fn npss_share(alloc: Global, handle: &mut Handle, other: &mut Handle) -> Answer
     ensures same { content_of handle.new ≡ content_of handle.old }
-    ensures shared { IfSome (version_of handle.old) (λ v. IsShareAnswer v (content_of other.new) result) }
-    ensures closed { version_of handle.old ≡ None → (result.status ≡ 5) × (content_of other.new ≡ None) }
+    ensures shared { IfSome (version_of handle.old) (λ v. Holds (λ opened. IsShareAnswer v opened result) (content_of other.old) (content_of other.new)) }
+    ensures closed { version_of handle.old ≡ None → (result ≡ alone 5) × (content_of other.new ≡ content_of other.old) }
 {
-    drop(other.take(alloc));
     match handle.take_table(alloc) {
         None => Answer::of(CLOSED),
         Some((shared, content)) => {
@@ -51,7 +51,7 @@ pub extern "C" fn npss_share(alloc: Global, handle: &mut Handle, other: &mut Han
             handle.put_table(content, shared);
             match made {
                 Ok(second) => {
-                    *other = Handle::open(second);
+                    other.exchange(alloc, second);
                     Answer::of(DONE)
                 }
                 Err(_) => Answer::of(MEMORY),
@@ -72,7 +72,7 @@ pub extern "C" fn npss_key(
 ) -> Answer
     ensures same { content_of handle.new ≡ content_of handle.old }
     ensures key { IfSome (version_of handle.old) (λ v. IsKeyAnswer v form text.now room.old room.new result) }
-    ensures closed { version_of handle.old ≡ None → (result.status ≡ 5) × (room.new ≡ room.old) }
+    ensures closed { version_of handle.old ≡ None → (result ≡ alone 5) × (room.new ≡ room.old) }
 {
     match handle.take(alloc) {
         None => Answer::of(CLOSED),
@@ -95,7 +95,7 @@ pub extern "C" fn npss_normalize(
 ) -> Answer
     ensures same { content_of handle.new ≡ content_of handle.old }
     ensures made { IfSome (version_of handle.old) (λ v. IsFormAnswer v form text.now room.old room.new result) }
-    ensures closed { version_of handle.old ≡ None → (result.status ≡ 5) × (room.new ≡ room.old) }
+    ensures closed { version_of handle.old ≡ None → (result ≡ alone 5) × (room.new ≡ room.old) }
 {
     match handle.take(alloc) {
         None => Answer::of(CLOSED),
@@ -118,7 +118,7 @@ pub extern "C" fn npss_answers(
 ) -> Answer
     ensures same { content_of handle.new ≡ content_of handle.old }
     ensures made { IfSome (version_of handle.old) (λ v. IsAnswersAnswer v asked.now text.now room.old room.new result) }
-    ensures closed { version_of handle.old ≡ None → (result.status ≡ 5) × (room.new ≡ room.old) }
+    ensures closed { version_of handle.old ≡ None → (result ≡ alone 5) × (room.new ≡ room.old) }
 {
     match handle.take_table(alloc) {
         None => Answer::of(CLOSED),
@@ -135,7 +135,7 @@ pub extern "C" fn npss_answers(
 pub extern "C" fn npss_is_form(alloc: Global, handle: &mut Handle, form: u8, text: &[u8]) -> Answer
     ensures same { content_of handle.new ≡ content_of handle.old }
     ensures told { IfSome (version_of handle.old) (λ v. IsOwnFormAnswer v form text.now result) }
-    ensures closed { version_of handle.old ≡ None → result.status ≡ 5 }
+    ensures closed { version_of handle.old ≡ None → result ≡ alone 5 }
 {
     match handle.take_table(alloc) {
         None => Answer::of(CLOSED),
@@ -176,7 +176,7 @@ pub extern "C" fn npss_equivalent(
 ) -> Answer
     ensures same { content_of handle.new ≡ content_of handle.old }
     ensures told { IfSome (version_of handle.old) (λ v. IsEquivalentAnswer v compat left.now right.now result) }
-    ensures closed { version_of handle.old ≡ None → result.status ≡ 5 }
+    ensures closed { version_of handle.old ≡ None → result ≡ alone 5 }
 {
     match handle.take_table(alloc) {
         None => Answer::of(CLOSED),
@@ -194,8 +194,8 @@ pub extern "C" fn npss_extends(alloc: Global, older: &mut Handle, newer: &mut Ha
     ensures same_older { content_of older.new ≡ content_of older.old }
     ensures same_newer { content_of newer.new ≡ content_of newer.old }
     ensures told { IfSome (version_of older.old) (λ old. IfSome (version_of newer.old) (λ new. IsExtensionAnswer old new result)) }
-    ensures older_closed { version_of older.old ≡ None → result.status ≡ 5 }
-    ensures newer_closed { version_of newer.old ≡ None → result.status ≡ 5 }
+    ensures older_closed { version_of older.old ≡ None → result ≡ alone 5 }
+    ensures newer_closed { version_of newer.old ≡ None → result ≡ alone 5 }
 {
     match older.take_table(alloc) {
         None => Answer::of(CLOSED),
@@ -218,8 +218,8 @@ pub extern "C" fn npss_extends(alloc: Global, older: &mut Handle, newer: &mut Ha
 #[unsafe(no_mangle)]
 pub extern "C" fn npss_count(alloc: Global, handle: &mut Handle) -> Answer
     ensures same { content_of handle.new ≡ content_of handle.old }
-    ensures count { IfSome (version_of handle.old) (λ v. (result.status ≡ 0) × (result.length ≡ assigned_count v)) }
-    ensures closed { version_of handle.old ≡ None → result.status ≡ 5 }
+    ensures count { IfSome (version_of handle.old) (λ v. result ≡ with_length 0 (assigned_count v)) }
+    ensures closed { version_of handle.old ≡ None → result ≡ alone 5 }
 {
     match handle.take_table(alloc) {
         None => Answer::of(CLOSED),

@@ -63,6 +63,14 @@ impl Handle {
         *self = Handle::open(content);
     }
 
+    /// Lets go of what is held, and holds what stands in a box.
+    pub fn exchange(&mut self, alloc: Global, content: Box<Content>)
+        ensures { self.new.held.held ≡ Some content.value }
+    {
+        drop(self.take(alloc));
+        self.put(content);
+    }
+
     /// Takes out the table, and the box in which it stood; nothing changes where no table is held.
     pub fn take_table(&mut self, alloc: Global) -> Option<(Shared, Box<Content>)>
         ensures some { IfSome result (λ p. self.old.held.held ≡ Some (Table p.0)) }

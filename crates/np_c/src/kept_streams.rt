@@ -4,7 +4,7 @@ ghost use Rattle.std.specs.Arc.{arc_value};
 ghost use Rattle.np_c.specs.Streams.{IsAtFront, IsFeedAnswer, IsFinishAnswer, IsTaken, finish_answer};
 ghost use Rattle.np_c.specs.inside.Streams.{EndsText, FeedsChunk, FeedsText, FindsFirst};
 
-use crate::answers::{Answer, CLOSED, DONE, MEMORY, NOT_UTF8, UNASSIGNED};
+use crate::answers::{Answer, CLOSED, DONE, MEMORY, NOT_UTF8, TOO_LONG, UNASSIGNED};
 use crate::first_unassigned::FirstUnassigned;
 use crate::shared::Shared;
 use np_code_points::{Form, Memory};
@@ -110,9 +110,8 @@ impl KeptStream {
         ensures { FeedsChunk self.old self.new chunk.now result }
     {
         let prefix = utf8_prefix_of(chunk);
-        // no text has so many bytes
         let Some(place) = self.place.checked_add(prefix.text as u64) else {
-            return Answer::of(MEMORY);
+            return Answer::of(TOO_LONG);
         };
         if !prefix.may_begin {
             return Answer {

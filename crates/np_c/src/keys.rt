@@ -1,6 +1,7 @@
 //! Keys and normal forms of bytes, into room that the caller lends.
-ghost use Rattle.std.specs.Prelude.{◌≡◌, None, Some, IfOk, IfErr, IfSome, IsAscii, IsTrue, if◌then◌else◌};
-ghost use Rattle.np_c.specs.Answers.{IsFormAnswer, IsKeyAnswer, IsPut};
+ghost use Rattle.std.specs.Prelude.{◌≡◌, None, Some, IfOk, IfErr, IfSome, IsTrue, if◌then◌else◌};
+ghost use Rattle.np_c.specs.Answers.{IsFormAnswer, IsKeyAnswer, IsPutTelling};
+ghost use Rattle.np_c.specs.Statuses.{alone};
 ghost use Rattle.np_c.specs.Texts.{IsFormOf, IsKeyOf, IsNoForm, IsNoKey};
 ghost use Rattle.np_c.specs.Versions.{version_in};
 
@@ -11,22 +12,10 @@ use crate::texts::{form_in, text_in};
 use crate::workroom::Workroom;
 use np_code_points::Form;
 use np_forms::{FormBuffer, NpssFault, make_form, make_npss};
-use np_versions::NormTable;
+use np_versions::{NormTable, ascii_front};
 
 /// The most bytes of a text that is looked at byte by byte.
 const SHORT: usize = 64;
-
-/// Whether bytes are ASCII. It ends at the first that isn't: std's call looks at words first, which few bytes don't repay.
-fn are_ascii(bytes: &[u8]) -> bool
-    ensures { IsTrue result → IsAscii bytes.now }
-{
-    for byte in bytes {
-        if *byte >= 0x80 {
-            return false;
-        }
-    }
-    true
-}
 
 /// Whether bytes are known to be their own key, and so their own form: they are few and ASCII, as many names are.
 fn stays<T: NormTable>(table: &T, form: Form, bytes: &[u8]) -> bool
@@ -37,7 +26,7 @@ fn stays<T: NormTable>(table: &T, form: Form, bytes: &[u8]) -> bool
     if bytes.len() > SHORT {
         return false;
     }
-    if !are_ascii(bytes) {
+    if ascii_front(bytes) < bytes.len() {
         return false;
     }
     table.ascii_passes(form)
@@ -113,7 +102,7 @@ fn make_form_of<T: NormTable>(
 
 /// Puts what was made of bytes into the room: what stands in the buffer, or they themselves.
 fn put_made(buffer: &FormBuffer, made: bool, bytes: &[u8], room: &mut [u8]) -> Answer
-    ensures { IsPut (if made then buffer.now else bytes.now) room.old room.new result }
+    ensures { IsPutTelling 0 (if made then buffer.now else bytes.now) room.old room.new result }
 {
     if made {
         put(buffer.as_str().as_bytes(), room)
@@ -166,7 +155,7 @@ fn write_form<T: NormTable>(
 pub fn key_by(content: &mut Content, letter: u8, bytes: &[u8], room: &mut [u8]) -> Answer
     ensures same { content.new ≡ content.old }
     ensures key { IfSome (version_in (Some content.old)) (λ v. IsKeyAnswer v letter bytes.now room.old room.new result) }
-    ensures closed { version_in (Some content.old) ≡ None → (result.status ≡ 5) × (room.new ≡ room.old) }
+    ensures closed { version_in (Some content.old) ≡ None → (result ≡ alone 5) × (room.new ≡ room.old) }
 {
     match content {
         Content::Table(shared) => {
@@ -182,7 +171,7 @@ pub fn key_by(content: &mut Content, letter: u8, bytes: &[u8], room: &mut [u8]) 
 pub fn form_by(content: &mut Content, letter: u8, bytes: &[u8], room: &mut [u8]) -> Answer
     ensures same { content.new ≡ content.old }
     ensures made { IfSome (version_in (Some content.old)) (λ v. IsFormAnswer v letter bytes.now room.old room.new result) }
-    ensures closed { version_in (Some content.old) ≡ None → (result.status ≡ 5) × (room.new ≡ room.old) }
+    ensures closed { version_in (Some content.old) ≡ None → (result ≡ alone 5) × (room.new ≡ room.old) }
 {
     match content {
         Content::Table(shared) => {

@@ -36,7 +36,7 @@ fn end_in(byte: u8) -> Option<LineEnd>
 /// Puts answers into the room, and tells whether a line was refused.
 fn put_answers(answers: &Answers, room: &mut [u8]) -> Answer
     ensures put { IsPut answers.now.bytes.items room.old room.new result }
-    ensures refused { result.fault ≡ refused_number answers.now.any_refused }
+    ensures told { result ≡ record { status = result.status; fault = refused_number answers.now.any_refused; code = 0; place = 0; length = result.length } }
 {
     Answer {
         fault: u32::from(answers.any_refused),

@@ -1,7 +1,7 @@
 //! The calls of nodes that C makes. Each takes the node out of its handle, and puts it back.
 ghost use Rattle.std.specs.Prelude.{◌≡◌, false, Some, None, IfSome, length};
 ghost use Rattle.np_versions.specs.Counts.{assigned_count};
-ghost use Rattle.np_c.specs.Contents.{HeldNode};
+ghost use Rattle.np_c.specs.Contents.{HeldNode, Holds};
 ghost use Rattle.np_c.specs.NodeOpening.{IsNewAnswer, IsRestoreAnswer, IsUpgradeAnswer};
 ghost use Rattle.np_c.specs.NodeReading.{told_count, IsEntryAnswer, IsImageAnswer, IsKeptKeyAnswer, IsMessageAnswer, IsSameAnswer};
 ghost use Rattle.np_c.specs.Nodes.{alone, node_of, state_in, IsAcceptAnswer, IsChanged, IsClosedNode, IsForgetAnswer, IsTakeAnswer};
@@ -15,7 +15,8 @@ use crate::node_reading::{count_in, entry_in, key_in, same_in, version_in};
 use crate::node_writing::{image_in, message_in};
 use std::alloc::Global;
 
-/// Closes the node, and opens it on the version of the tables, with nothing kept and room for so many strings.
+/// Opens the node on the version of the tables, with nothing kept and room for so many strings, and lets go of what the handle held.
+/// After a refusal it holds what it held.
 #[unsafe(no_mangle)]
 pub extern "C" fn npss_node_new(
     alloc: Global,
@@ -25,10 +26,10 @@ pub extern "C" fn npss_node_new(
     room: u32,
 ) -> Answer
     ensures same { content_of tables.new ≡ content_of tables.old }
-    ensures opened { IfSome (version_of tables.old) (λ v. IsNewAnswer v form room (content_of node.new) result) }
-    ensures closed { version_of tables.old ≡ None → (result ≡ alone 5) × (content_of node.new ≡ None) }
+    ensures opened { IfSome (version_of tables.old) (λ v.
+        Holds (λ opened. IsNewAnswer v form room opened result) (content_of node.old) (content_of node.new)) }
+    ensures closed { version_of tables.old ≡ None → (result ≡ alone 5) × (content_of node.new ≡ content_of node.old) }
 {
-    drop(node.take(alloc));
     match tables.take_table(alloc) {
         None => Answer::of(CLOSED),
         Some((shared, content)) => {
@@ -36,7 +37,7 @@ pub extern "C" fn npss_node_new(
             tables.put_table(content, shared);
             match made {
                 Ok(opened) => {
-                    *node = Handle::open(opened);
+                    node.exchange(alloc, opened);
                     Answer::of(DONE)
                 }
                 Err(answer) => answer,
@@ -45,7 +46,8 @@ pub extern "C" fn npss_node_new(
     }
 }
 
-/// Closes the node, and opens it on the version of the tables, with what an image holds.
+/// Opens the node on the version of the tables, with what an image holds, and lets go of what the handle held. After a refusal it
+/// holds what it held.
 #[unsafe(no_mangle)]
 pub extern "C" fn npss_node_restore(
     alloc: Global,
@@ -56,10 +58,10 @@ pub extern "C" fn npss_node_restore(
     image: &[u8],
 ) -> Answer
     ensures same { content_of tables.new ≡ content_of tables.old }
-    ensures opened { IfSome (version_of tables.old) (λ v. IsRestoreAnswer v form room image.now (content_of node.new) result) }
-    ensures closed { version_of tables.old ≡ None → (result ≡ alone 5) × (content_of node.new ≡ None) }
+    ensures opened { IfSome (version_of tables.old) (λ v.
+        Holds (λ opened. IsRestoreAnswer v form room image.now opened result) (content_of node.old) (content_of node.new)) }
+    ensures closed { version_of tables.old ≡ None → (result ≡ alone 5) × (content_of node.new ≡ content_of node.old) }
 {
-    drop(node.take(alloc));
     match tables.take_table(alloc) {
         None => Answer::of(CLOSED),
         Some((shared, content)) => {
@@ -67,7 +69,7 @@ pub extern "C" fn npss_node_restore(
             tables.put_table(content, shared);
             match made {
                 Ok(restored) => {
-                    *node = Handle::open(restored);
+                    node.exchange(alloc, restored);
                     Answer::of(DONE)
                 }
                 Err(answer) => answer,

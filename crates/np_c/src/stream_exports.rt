@@ -1,5 +1,6 @@
 //! The functions that C calls for a text that comes in pieces.
 ghost use Rattle.std.specs.Prelude.{◌≡◌, None, IfSome, false};
+ghost use Rattle.np_c.specs.Contents.{Holds};
 ghost use Rattle.np_c.specs.Statuses.{alone};
 ghost use Rattle.np_c.specs.StreamAnswers.{GoesOn, IsStreamAnswer, stream_of};
 ghost use Rattle.np_c.specs.Streams.{IsFeedAnswer, IsFinishAnswer, IsTaken};
@@ -10,7 +11,8 @@ use crate::handles::Handle;
 use crate::stream_opening::stream_over;
 use std::alloc::Global;
 
-/// Closes the stream, and opens it at the front of a text. The form is one of the letters `D`, `C`, `d` and `c`.
+/// Opens the stream at the front of a text, and lets go of what the handle held. The form is one of the letters `D`, `C`, `d`
+/// and `c`. After a refusal the handle holds what it held.
 #[unsafe(no_mangle)]
 pub extern "C" fn npss_stream_new(
     alloc: Global,
@@ -19,10 +21,10 @@ pub extern "C" fn npss_stream_new(
     form: u8,
 ) -> Answer
     ensures same { content_of tables.new ≡ content_of tables.old }
-    ensures begun { IfSome (version_of tables.old) (λ v. IsStreamAnswer v form (content_of stream.new) result) }
-    ensures closed { version_of tables.old ≡ None → (result ≡ alone 5) × (content_of stream.new ≡ None) }
+    ensures begun { IfSome (version_of tables.old) (λ v.
+        Holds (λ opened. IsStreamAnswer v form opened result) (content_of stream.old) (content_of stream.new)) }
+    ensures closed { version_of tables.old ≡ None → (result ≡ alone 5) × (content_of stream.new ≡ content_of stream.old) }
 {
-    drop(stream.take(alloc));
     match tables.take_table(alloc) {
         None => Answer::of(CLOSED),
         Some((shared, content)) => {
@@ -30,7 +32,7 @@ pub extern "C" fn npss_stream_new(
             tables.put_table(content, shared);
             match made {
                 Ok(begun) => {
-                    *stream = Handle::open(begun);
+                    stream.exchange(alloc, begun);
                     Answer::of(DONE)
                 }
                 Err(answer) => answer,

@@ -1,5 +1,5 @@
 //! The four normalization forms (The Unicode Standard, D118 to D121).
-ghost use Rattle.std.specs.Prelude.{◌≡◌, ◌↔◌, IsTrue, chars, encode_utf8_all, string_bytes, IfOk, if◌then◌else◌};
+ghost use Rattle.std.specs.Prelude.{◌≡◌, ◌↔◌, IsTrue, chars, encode_utf8_all, string_bytes, IfOk, OnErr, [], false, if◌then◌else◌};
 ghost use Rattle.std.specs.Cow.{cow_str_bytes};
 ghost use Rattle.np_forms.specs.Forms.{IsNormalForm};
 ghost use Rattle.np_forms.specs.inside.Copies.{IsCopied};
@@ -76,18 +76,21 @@ pub fn lend_form<'a, T: NormTable>(
 }
 
 /// Makes the normal form of a text in a buffer, and answers whether it stands there. Where the text is known to be its own
-/// form, nothing is made. A text that is no longer than those before it takes no memory, but for long runs of non-starters.
+/// form, nothing is made, and the buffer is as it was. A text that is no longer than those before it takes no memory, but for long
+/// runs of non-starters.
 ///
 /// # Errors
 ///
-/// `Memory` where memory ran out.
+/// `Memory` where memory ran out. Then nothing stands in the buffer.
 pub fn make_form<T: NormTable>(
     buffer: &mut FormBuffer,
     table: &T,
     wanted: Form,
     text: &str,
 ) -> Result<bool, Memory>
-    ensures { IfOk result (λ made. IsNormalForm (T.model table.now) wanted (chars text.now) (chars (if made then buffer.new else text.now))) }
+    ensures normal { IfOk result (λ made. IsNormalForm (T.model table.now) wanted (chars text.now) (chars (if made then buffer.new else text.now))) }
+    ensures own { IfOk result (λ made. made ≡ false → buffer.new ≡ buffer.old) }
+    ensures refused { OnErr result (buffer.new ≡ []) }
 {
     table.meets_conditions();
     let cut = split_quick_span(table, wanted, false, text);
@@ -100,10 +103,17 @@ pub fn make_form<T: NormTable>(
         form: wanted,
     };
     buffer.out.begin(text.len())?;
-    let _all = write_cut(&normalizer, false, text, cut, &mut buffer.out)?;
-    // that its bytes are a text, which the prover sees where they are lent
-    let _made = buffer.out.as_text();
-    Ok(true)
+    match write_cut(&normalizer, false, text, cut, &mut buffer.out) {
+        Ok(_all) => {
+            // that its bytes are a text, which the prover sees where they are lent
+            let _made = buffer.out.as_text();
+            Ok(true)
+        }
+        Err(fault) => {
+            buffer.out.clear();
+            Err(fault)
+        }
+    }
 }
 
 /// Whether a text is its own normal form. The form is made segment by segment, and no further than

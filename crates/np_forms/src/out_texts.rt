@@ -201,9 +201,9 @@ impl OutText {
         Ok(OutText { buffer, len: 0 })
     }
 
-    /// Takes the text away, and sees that the buffer has a place for so many bytes and `LANES` more.
+    /// Takes the text away, also where memory ran out, and sees that the buffer has a place for so many bytes and `LANES` more.
     pub(crate) fn begin(&mut self, count: usize) -> Result<(), Memory>
-        ensures { OnOk result (self.new ≡ []) }
+        ensures { self.new ≡ [] }
     {
         self.len = 0;
         let filled = count.min(FILLED) + LANES;

@@ -1,5 +1,5 @@
 //! Stabilized strings (UAX #15, section 12).
-ghost use Rattle.std.specs.Prelude.{◌≡◌, [], chars, string_bytes, encode_utf8_all, IfOk, IfErr, IsUtf8, OnOk, if◌then◌else◌};
+ghost use Rattle.std.specs.Prelude.{◌≡◌, [], chars, string_bytes, encode_utf8_all, IfOk, IfErr, IsUtf8, OnErr, OnOk, false, if◌then◌else◌};
 ghost use Rattle.std.specs.Cow.{cow_str_bytes};
 ghost use Rattle.np_forms.specs.Assigned.{IsAssigned};
 ghost use Rattle.np_forms.specs.Faults.{IsNpssFault};
@@ -165,12 +165,12 @@ pub fn lend_npss<'a, T: NormTable>(
 }
 
 /// Makes the stabilized form of a text in a buffer (UAX #15, section 12), and answers whether it stands there. Where the text
-/// is known to be its own stabilized form, nothing is made. A text that is no longer than those before it takes no memory, but
-/// for long runs of non-starters.
+/// is known to be its own stabilized form, nothing is made, and the buffer is as it was. A text that is no longer than those
+/// before it takes no memory, but for long runs of non-starters.
 ///
 /// # Errors
 ///
-/// As `npss`.
+/// As `npss`. Then nothing stands in the buffer.
 pub fn make_npss<T: NormTable>(
     buffer: &mut FormBuffer,
     table: &T,
@@ -179,7 +179,9 @@ pub fn make_npss<T: NormTable>(
 ) -> Result<bool, NpssFault>
     ensures normal { IfOk result (λ made. IsNormalForm (T.model table.now) wanted (chars text.now) (chars (if made then buffer.new else text.now))) }
     ensures assigned { OnOk result (IsAssigned (T.model table.now) (chars text.now)) }
+    ensures own { IfOk result (λ made. made ≡ false → buffer.new ≡ buffer.old) }
     ensures fault { IfErr result (IsNpssFault (T.model table.now) (chars text.now)) }
+    ensures refused { OnErr result (buffer.new ≡ []) }
 {
     table.meets_conditions();
     let cut = split_quick_span(table, wanted, true, text);
@@ -194,8 +196,15 @@ pub fn make_npss<T: NormTable>(
     if buffer.out.begin(text.len()).is_err() {
         return Err(fault_of(table, text));
     }
-    write_stabilized(&normalizer, text, cut, &mut buffer.out)?;
-    // that its bytes are a text, which the prover sees where they are lent
-    let _made = buffer.out.as_text();
-    Ok(true)
+    match write_stabilized(&normalizer, text, cut, &mut buffer.out) {
+        Ok(()) => {
+            // that its bytes are a text, which the prover sees where they are lent
+            let _made = buffer.out.as_text();
+            Ok(true)
+        }
+        Err(fault) => {
+            buffer.out.clear();
+            Err(fault)
+        }
+    }
 }

@@ -233,8 +233,9 @@ impl<'t, T: NormTable> Stream<'t, T> {
         }
     }
 
-    /// Takes the stream apart: what it is without its table and without what is ready. Nothing is copied.
+    /// Takes the stream apart, of which all that was ready was taken: what it is without its table. Nothing is copied.
     pub fn into_apart(self) -> ApartStream
+        requires taken { self.ready ≡ [] }
         ensures { result ≡ record { form = self.entry.form; pending = self.entry.pending; classes = map (class_of self.entry.version) self.entry.pending } }
     {
         let Stream {

@@ -13,7 +13,7 @@ use Rattle.np_words.specs.declared.files.VersionFiles.{VersionFiles}
 abbrev pub both_files : VersionReaders → List Stream
 both_files files = files.data_file ∷ (files.exclusions_file ∷ [])
 
--- each name was opened, as it stands and in this order, and gave the file of its place: by which contents a file of a name may have
+-- each name was opened, as it stands, and gave the file of its place: by which contents a file of a name may have
 abbrev pub WereOpened : (List ℕ → Option (List ℕ) → Type 0) → List (List ℕ) → List Stream → Type 0
 WereOpened Gives names files = AllZip Gives names (map (λ (file : Stream). file.before) files)
 

@@ -1,6 +1,6 @@
 -- The lowest bit of a mask of bytes that are not ASCII.
 use Rattle.std.proofs.Common.{◌≡◌, ◌≢◌, zero, suc, ℕ, ◌+◌, ◌<◌, ◌≤◌, ◌^◌, ◌%◌, cond, leb, List, [], ◌∷◌, length, map, replicate, take, get_or, sym, ap, ◌∙◌, arith}
-use Rattle.np_versions.proofs.Words.{prefix_len, leb-false, length-map, leading_from_mask_l, mask_l-mod, run_in_chunk_fails, run_in_chunk_le, tops_compared}
+use Rattle.np_versions.proofs.Words.{prefix_len, leb-false, length-map, leading_from_mask_l, mask_l-mod, run_in_chunk_fails, run_in_chunk_le, run_in_chunk_stops, tops_compared}
 use Rattle.np_versions.proofs.Words.{trailing_mask_l, count_trailing_zeros, chunk, mask_l, top, zip2}
 use mir.Syntax.{w8}
 use Rattle.std.proofs.lemmas.Simd.{zip2_splat_left}
@@ -29,6 +29,12 @@ pub lanes_ascii : (bytes : List ℕ) (at passed : ℕ) → at + 16 ≤ length by
 lanes_ascii bytes at passed room is so_far k lt =
     let before = so_far k in
     let behind = λ (h : at ≤ k). leb-false 128 (get_or bytes k 0) (run_in_chunk_fails (λ x. leb 128 x) bytes at 16 passed 0 room is k h lt) in
+    grind arith
+
+-- the byte behind them is not
+pub lanes_end : (bytes : List ℕ) (at passed : ℕ) → at + 16 ≤ length bytes → passed ≡ prefix_len is_ascii_byte (chunk at 16 bytes) → passed < 16 → 128 ≤ get_or bytes (at + passed) 0
+lanes_end bytes at passed room is few =
+    let stops = run_in_chunk_stops (λ x. leb 128 x) bytes at 16 passed 0 room is few in
     grind arith
 
 -- as a list of their own

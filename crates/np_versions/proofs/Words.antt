@@ -10,7 +10,7 @@ pub use Rattle.std.proofs.lemmas.List.{drop-drop, drop-map, drop_all, drop_at, g
 pub use Rattle.std.proofs.lemmas.List.{take-append-drop, take_all, take_more}
 pub use Rattle.std.proofs.lemmas.List.Elements.{All-push, Contains-append_cases, Contains-append_left, Contains-append_right}
 pub use Rattle.std.proofs.lemmas.Option.{get_or_from_slice_get, none-some, same_Some, slice_get-get_or, slice_get_within}
-pub use Rattle.std.proofs.lemmas.Simd.{leading_from_mask_l, length-chunk, mask_l-mod, run_in_chunk_fails, run_in_chunk_le, tops_compared, trailing_mask_l}
+pub use Rattle.std.proofs.lemmas.Simd.{leading_from_mask_l, length-chunk, mask_l-mod, run_in_chunk_fails, run_in_chunk_le, run_in_chunk_stops, tops_compared, trailing_mask_l}
 pub use Rattle.std.proofs.lemmas.Str.{chars-append, chars-IsAscii, chars-nil, encodes-IsAscii, IsCharBoundary-at_seam, IsCharBoundary-from_take, IsUtf8-drop}
 pub use Rattle.std.proofs.lemmas.Str.{IsUtf8-from_ascii}
 pub use Rattle.std.specs.Char.{IsScalar}

@@ -25,13 +25,15 @@ fn ascii_in_lanes(bytes: &[u8], from: usize) -> usize
     }
 }
 
-/// How many bytes at the front are ASCII, of which so many are known to be. They are looked at one by one.
+/// How many bytes at the front are ASCII, of which so many are known to be: all, or those before the first that isn't. They are
+/// looked at one by one.
 #[inline(always)]
 fn ascii_beyond(bytes: &[u8], known: usize) -> usize
     requires fits { known ≤ length bytes.now }
     requires ascii { (k : ℕ) → k < known → slice_index bytes.now k < 128 }
     ensures fits { result ≤ length bytes.now }
     ensures ascii { IsAscii (take result bytes.now) }
+    ensures whole { result < length bytes.now → 128 ≤ slice_index bytes.now result }
 {
     let mut at = known;
     while at < bytes.len() && bytes[at] < 0x80 {
@@ -40,11 +42,12 @@ fn ascii_beyond(bytes: &[u8], known: usize) -> usize
     at
 }
 
-/// How many bytes at the front are ASCII.
+/// How many bytes at the front are ASCII: all, or those before the first that isn't.
 #[inline(always)]
 pub fn ascii_front(bytes: &[u8]) -> usize
     ensures fits { result ≤ length bytes.now }
     ensures ascii { IsAscii (take result bytes.now) }
+    ensures whole { result < length bytes.now → 128 ≤ slice_index bytes.now result }
 {
     let mut at = 0;
     while bytes.len() - at >= LANES {

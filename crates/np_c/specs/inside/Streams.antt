@@ -1,5 +1,5 @@
 -- Streams: a text at a time, and bytes that begin with those of a character that was cut.
-use Rattle.std.specs.Prelude.{◌≡◌, ◌⊎◌, ◌++◌, ◌+◌, ℕ, List, false, take, drop, length, chars, encode_utf8_all, IsUtf8, Option}
+use Rattle.std.specs.Prelude.{◌≡◌, ◌⊎◌, ◌++◌, ◌+◌, ◌<◌, ℕ, List, false, take, drop, length, chars, encode_utf8_all, IsUtf8, Option}
 use Rattle.np_forms.specs.Forms.{IsNormalForm}
 use Rattle.np_forms.specs.Streams.{IsStreaming}
 use Rattle.np_forms.specs.Utf8Prefixes.{MayBegin, MayNotBegin}
@@ -42,5 +42,11 @@ pub record StopsIn (s t : StreamView) (chunk : List ℕ) (a : Answer) : Type 0 w
   pub same : t ≡ s
   pub stops : MayNotBegin chunk n
 
+-- with the chunk more than 18,446,744,073,709,551,615 bytes would have come, and nothing changed
+pub record Overflows (s t : StreamView) (chunk : List ℕ) (a : Answer) : Type 0 where
+  pub answer : a ≡ alone 15
+  pub same : t ≡ s
+  pub large : 18446744073709551615 < s.place + length chunk
+
 abbrev pub FeedsChunk : StreamView → StreamView → List ℕ → Answer → Type 0
-FeedsChunk s t chunk a = TakesChunk s t chunk a ⊎ (StopsIn s t chunk a ⊎ ((a ≡ alone 4) × (t ≡ s)))
+FeedsChunk s t chunk a = TakesChunk s t chunk a ⊎ (StopsIn s t chunk a ⊎ (Overflows s t chunk a ⊎ ((a ≡ alone 4) × (t ≡ s))))

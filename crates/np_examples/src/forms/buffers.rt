@@ -65,6 +65,7 @@ fn wants_refusals<T: NormTable>(buffer: &mut FormBuffer, table: &T) -> Result<()
         code: '\u{16D67}',
     };
     want(told == Some(wanted), "the first that is not assigned")?;
+    want(buffer.as_str().is_empty(), "nothing stands in the buffer")?;
     wants_rows(buffer, table)
 }
 

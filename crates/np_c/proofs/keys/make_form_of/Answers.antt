@@ -14,7 +14,7 @@ returns-in-Ok-make_form-clause-made g c =
     record {
       valid = c.in-Ok.ensures.valid;
       codes = chars (if made then buffer else c.args.bytes.now);
-      is = subst (λ (l : List ℕ). IsNormalForm v c.args.form (chars l) (chars (if made then buffer else l))) c.in-Ok.ensures.text c.in-Ok-make_form.ensures;
+      is = subst (λ (l : List ℕ). IsNormalForm v c.args.form (chars l) (chars (if made then buffer else l))) c.in-Ok.ensures.text c.in-Ok-make_form.ensures.normal;
       bytes_are = sym (encodes-chars (if made then buffer else c.args.bytes.now) utf8);
     }
 

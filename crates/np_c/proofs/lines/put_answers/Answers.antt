@@ -1,5 +1,5 @@
 use Rattle.std.proofs.Common.{rules}
 use Rattle.np_c.proofs.lines.put_answers.Goals as goal
 
-pub returns-clause-refused : goal.returns-clause-refused
-returns-clause-refused c = search rules
+pub returns-clause-told : goal.returns-clause-told
+returns-clause-told c = search rules

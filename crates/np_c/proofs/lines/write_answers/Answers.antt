@@ -14,7 +14,7 @@ returns-in-Ok g c =
           any_refused = c.in-Ok.answers.any_refused;
           all = c.in-Ok.ensures;
           put = c.put_answers.ensures.put;
-          told = c.put_answers.ensures.refused;
+          told = c.put_answers.ensures.told;
         }),
       ),
     )

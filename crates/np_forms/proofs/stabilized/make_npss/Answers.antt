@@ -9,6 +9,6 @@ returns-then-is_empty-clause-normal g c =
     let none = eqb-true _ _ (sym c.is_empty.ensures ∙ c.if-is_empty.true) in
     made_form _ c.meets_conditions.ensures c.args.wanted _ _ c.utf8.text (IsCopied-own _ _ _ _ _ c.split_quick_span-cut.ensures.copied none)
 
-pub returns-clause-normal : goal.returns-clause-normal
-returns-clause-normal g c =
-    made_form _ c.meets_conditions.ensures c.args.wanted _ _ (subst IsUtf8 c.as_text-made.ensures c.as_text-made.utf8) c.in_ok-write_stabilized.ensures.bytes
+pub returns-in-Ok-clause-normal : goal.returns-in-Ok-clause-normal
+returns-in-Ok-clause-normal g c =
+    made_form _ c.meets_conditions.ensures c.args.wanted _ _ (subst IsUtf8 c.as_text-made.ensures c.as_text-made.utf8) c.in-Ok.ensures.bytes
