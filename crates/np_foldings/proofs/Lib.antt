@@ -1,0 +1,10 @@
+pub mod FieldGrammar
+pub mod HeadGrammar
+pub mod RecordLemmas
+pub mod TestGrammar
+pub mod FoldingGrammar
+pub mod FileLemmas
+pub mod RecordGrammar
+pub mod FaultGrammar
+pub mod LawGrammar
+pub mod ReaderLemmas

@@ -1,0 +1,6 @@
+pub mod FieldReading
+pub mod FileReading
+pub mod HeadReading
+pub mod Memories
+pub mod RecordReading
+pub mod RecordValues
