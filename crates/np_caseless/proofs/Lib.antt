@@ -1,0 +1,3 @@
+pub mod KeyLemmas
+pub mod QuietLemmas
+pub mod StabilityLemmas
