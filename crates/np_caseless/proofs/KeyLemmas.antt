@@ -1,5 +1,5 @@
 -- The relation of the caseless list and the function are one; equal lists are matches.
-use Rattle.std.proofs.Common.{◌≡◌, ℕ, ◌↔◌, Bool, true, false, List, refl, sym, ap, subst, ◌∙◌}
+use Rattle.std.proofs.Common.{◌≡◌, ℕ, ◌↔◌, Bool, true, false, List, Result, Ok, Err, IfOk, IsTrue, refl, sym, ap, subst, ◌∙◌}
 use Rattle.np_code_points.specs.Forms.{is_compat}
 use Rattle.np_code_points.specs.declared.forms.Form.{Form}
 use Rattle.np_code_points.specs.declared.forms.Form.TheVariants.{Nfd, Nfkd}
@@ -50,16 +50,24 @@ module _ (v : FoldedVersion) (sound : IsSound v.version) where
   same_folded : (compat : Bool) (xs zs ws : List ℕ) → IsFolded v compat xs zs → IsFolded v compat xs ws → zs ≡ ws
   same_folded compat xs zs ws h k = folded_is compat xs zs h ∙ sym (folded_is compat xs ws k)
 
+  -- what tells whether two lists are equivalent that were folded tells whether the strings match
+  told : (P : Type 0) (compat : Bool) (xs ys left right : List ℕ) → IsFolded v compat xs left → IsFolded v compat ys right → (P ↔ IsEquivalent v.version compat left right) → P ↔ MatchCaselessly v compat xs ys
+  told P compat xs ys left right of_left of_right both = (
+    λ yes. record { left = left; right = right; left_folds = of_left; right_folds = of_right; equivalent = both.0 yes },
+    λ match'. both.1 (
+        subst (λ zs. IsEquivalent v.version compat zs right) (same_folded compat xs match'.left left match'.left_folds of_left)
+        (subst (IsEquivalent v.version compat match'.left) (same_folded compat ys match'.right right match'.right_folds of_right) match'.equivalent)
+        ),
+  )
+
   -- equal lists are matches, and matches have equal lists
   one_match_of : (form : Form) (xs ys ks ls : List ℕ) → IsCaseless v form xs ks → IsCaseless v form ys ls → (ks ≡ ls) ↔ MatchCaselessly v (is_compat form) xs ys
   one_match_of form xs ys ks ls k l =
-      let both = same_forms v.version form k.folded l.folded ks ls sound k.normal l.normal in (
-        λ same. record { left = k.folded; right = l.folded; left_folds = k.folds; right_folds = l.folds; equivalent = both.0 same },
-        λ match'. both.1 (
-            subst (λ zs. IsEquivalent v.version (is_compat form) zs l.folded) (same_folded (is_compat form) xs match'.left k.folded match'.left_folds k.folds)
-            (subst (IsEquivalent v.version (is_compat form) match'.left) (same_folded (is_compat form) ys match'.right l.folded match'.right_folds l.folds) match'.equivalent)
-            ),
-      )
+      told (ks ≡ ls) (is_compat form) xs ys k.folded l.folded k.folds l.folds (same_forms v.version form k.folded l.folded ks ls sound k.normal l.normal)
+
+  pub match_told : {E : Type 0} (compat : Bool) (xs ys left right : List ℕ) (r : Result Bool E) → IsFolded v compat xs left → IsFolded v compat ys right → IfOk r (λ b. IsTrue b ↔ IsEquivalent v.version compat left right) → IfOk r (λ b. IsTrue b ↔ MatchCaselessly v compat xs ys)
+  match_told compat xs ys left right (Ok b) of_left of_right h = told (IsTrue b) compat xs ys left right of_left of_right h
+  match_told compat xs ys left right (Err e) of_left of_right h = tt
 
   -- what comes of the NFD form is the same where the NFD forms are
   folded_alike : (compat : Bool) (xs ys : List ℕ) → normal_form v.version Nfd xs ≡ normal_form v.version Nfd ys → folded v compat xs ≡ folded v compat ys

@@ -1,3 +1,4 @@
+pub mod FoldLemmas
 pub mod KeyLemmas
 pub mod QuietLemmas
 pub mod StabilityLemmas

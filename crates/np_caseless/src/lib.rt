@@ -2,4 +2,9 @@
 //! the same under each later version.
 #![tactic(auto)]
 
+mod folding;
+mod keys;
 pub mod laws;
+
+pub use folding::fold_text;
+pub use keys::{caseless_form, caseless_key, caseless_match};

@@ -6,5 +6,6 @@ pub mod FoldingGrammar
 pub mod FileLemmas
 pub mod RecordGrammar
 pub mod FaultGrammar
+pub mod FindLemmas
 pub mod LawGrammar
 pub mod ReaderLemmas

@@ -1,6 +1,6 @@
 //! The foldings of CaseFolding.txt.
-ghost use Rattle.std.specs.Prelude.{◌≡◌, ◌↔◌, [], length, map, option_map, slice_get, IsTrue};
-ghost use Rattle.np_foldings.specs.Foldings.{AreFoldings};
+ghost use Rattle.std.specs.Prelude.{◌≡◌, ◌↔◌, [], ◌∷◌, length, map, option_map, slice_get, IsTrue, MatchOption};
+ghost use Rattle.np_foldings.specs.Foldings.{AreFoldings, folding_at};
 ghost use Rattle.np_foldings.specs.FoldingValues.{folding_of};
 
 use smallvec::SmallVec;
@@ -71,5 +71,17 @@ impl Foldings {
         ensures { option_map (λ f. folding_of f.now) result ≡ slice_get self.now at }
     {
         self.foldings.get(at)
+    }
+
+    /// What a code point folds to, where that is not the code point alone. In time linear in the foldings.
+    pub fn find(&self, code: char) -> Option<&[char]>
+        ensures { MatchOption result (folding_at self.now code ≡ code ∷ []) (λ mapping. folding_at self.now code ≡ mapping.now) }
+    {
+        for folding in &self.foldings {
+            if folding.code == code {
+                return Some(folding.mapping.as_slice());
+            }
+        }
+        None
     }
 }
