@@ -1,5 +1,5 @@
 -- The laws of caseless keys, over the definitions alone.
-use Rattle.std.specs.Prelude.{◌≡◌, ◌↔◌, ℕ, false, List}
+use Rattle.std.specs.Prelude.{◌≡◌, ◌↔◌, ℕ, ◌*◌, ◌≤◌, false, List, length, chars, IsUtf8}
 use Rattle.np_code_points.specs.Forms.{is_compat}
 use Rattle.np_code_points.specs.One.{HasOne}
 use Rattle.np_code_points.specs.declared.forms.Form.{Form}
@@ -42,3 +42,14 @@ Stability =
 -- extension is transitive
 abbrev pub AlongChains : Type 0
 AlongChains = (a b c : FoldedVersion) → ExtendsFolded a b → ExtendsFolded b c → ExtendsFolded a c
+
+-- a caseless list has at most 64 code points for each of its string
+abbrev pub FewCodePoints : Type 0
+FewCodePoints =
+    (v : FoldedVersion) (form : Form) (xs ks : List ℕ) → IsSoundFolding v → IsCaseless v form xs ks → length ks ≤ 64 * length xs
+
+-- and at most 256 bytes for each byte of it
+abbrev pub FewBytes : Type 0
+FewBytes =
+    (v : FoldedVersion) (form : Form) (string key : List ℕ) → IsSoundFolding v → IsUtf8 string → IsUtf8 key →
+    IsCaseless v form (chars string) (chars key) → length key ≤ 256 * length string

@@ -1,5 +1,5 @@
 //! The laws of caseless keys, over the definitions alone: each function is empty, and its contract is what is proved.
-ghost use Rattle.np_caseless.specs.Laws.{AlongChains, EquivalentsHaveOneKey, OneCaselessKey, OneKeyIsOneMatch, OwnKey, Stability};
+ghost use Rattle.np_caseless.specs.Laws.{AlongChains, EquivalentsHaveOneKey, FewBytes, FewCodePoints, OneCaselessKey, OneKeyIsOneMatch, OwnKey, Stability};
 
 /// Under each version that meets the conditions, a string has exactly one caseless list of each form.
 pub fn one_key()
@@ -28,4 +28,11 @@ pub fn own()
 pub fn stability()
     ensures one { Stability }
     ensures transitive { AlongChains }
+{}
+
+/// A caseless list has at most 64 code points for each code point of its string, and a caseless key at most 256 bytes
+/// for each byte, where the folding meets its conditions.
+pub fn length()
+    ensures code_points { FewCodePoints }
+    ensures bytes { FewBytes }
 {}
