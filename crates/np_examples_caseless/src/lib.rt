@@ -13,4 +13,6 @@ mod key_rows;
 #[cfg(test)]
 mod keys;
 #[cfg(test)]
+mod lowercases;
+#[cfg(test)]
 mod match_rows;

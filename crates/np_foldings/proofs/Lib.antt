@@ -8,4 +8,5 @@ pub mod RecordGrammar
 pub mod FaultGrammar
 pub mod FindLemmas
 pub mod LawGrammar
+pub mod LowercaseGrammar
 pub mod ReaderLemmas

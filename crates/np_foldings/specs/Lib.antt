@@ -5,6 +5,7 @@ pub mod FirstFaults
 pub mod FoldingValues
 pub mod Foldings
 pub mod Laws
+pub mod Lowercases
 pub mod Reading
 pub mod Records
 pub mod Statuses

@@ -36,7 +36,7 @@ pub(crate) fn text_of(bytes: &[u8]) -> &[u8]
 }
 
 /// The first field, and what is behind its `;`; nothing where there is one field.
-fn next_field(rest: &[u8]) -> Option<(&[u8], &[u8])>
+pub(crate) fn next_field(rest: &[u8]) -> Option<(&[u8], &[u8])>
     ensures { MatchOption result (parts rest.now ≡ rest.now ∷ []) (λ p. parts rest.now ≡ p.0.now ∷ parts p.1.now) }
 {
     let (field, rest) = cut_short(rest, b';');

@@ -7,6 +7,7 @@ mod fields;
 mod foldings;
 mod heads;
 pub mod laws;
+mod lowercases;
 mod mappings;
 mod readers;
 mod records;
@@ -14,4 +15,5 @@ mod statuses;
 
 pub use faults::{FoldingFault, RecordFault};
 pub use foldings::{Folding, Foldings};
+pub use lowercases::{Lowercase, lowercases_of};
 pub use readers::read_foldings;

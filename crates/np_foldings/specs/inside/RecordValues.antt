@@ -2,22 +2,22 @@
 use Rattle.std.specs.Prelude.{◌≡◌, ℕ, List, [], ◌∷◌, Option, Some, None, Result, Err, ◌⊎◌}
 use Rattle.np_code_points.specs.Inputs.{IsReadPastLimit}
 use Rattle.np_ucd.specs.Reading.{IsReadInPart}
-use Rattle.np_foldings.specs.declared.fields as fields
-use Rattle.np_foldings.specs.declared.foldings as foldings
-use Rattle.np_foldings.specs.declared.records as records
+use Rattle.np_foldings.specs.declared.fields.Fields.{Fields as CodeFields}
+use Rattle.np_foldings.specs.declared.foldings.Folding.{Folding as CodeFolding}
+use Rattle.np_foldings.specs.declared.records.Record.{Record as CodeRecord}
 use Rattle.np_foldings.specs.Faults.{RecordFault, FoldingFault, BadRecord, TooLarge, ReadFailed, Memory}
 use Rattle.np_foldings.specs.Fields.{Fields}
 use Rattle.np_foldings.specs.Foldings.{Folding}
 use Rattle.np_foldings.specs.FoldingValues.{folding_of}
 use Rattle.np_foldings.specs.inside.RecordReading.{Record}
 
-abbrev pub fields_said : fields.Fields.Fields → Fields
+abbrev pub fields_said : CodeFields → Fields
 fields_said f = record { code = f.code.now; status = f.status.now; mapping = f.mapping.now }
 
-abbrev pub record_of : records.Record.Record → Record
+abbrev pub record_of : CodeRecord → Record
 record_of r = record { head = r.head; mapping = r.mapping.items }
 
-abbrev pub listed : Option foldings.Folding.Folding → List Folding
+abbrev pub listed : Option CodeFolding → List Folding
 listed None = []
 listed (Some f) = folding_of f ∷ []
 
