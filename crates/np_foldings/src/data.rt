@@ -21,7 +21,8 @@ fn take_line(
     line: DataLine<'_>,
 ) -> Result<Option<Head>, FoldingFault>
     ensures next { IfOk result (λ next. next ≡ head_behind before line.entry.text.now) }
-    ensures grown { OnOk result (onto (map folding_of foldings.old.items) (line_verdict before line.entry.number line.entry.text.now) ≡ Ok (map folding_of foldings.new.items)) }
+    ensures grown { OnOk result (onto (map folding_of foldings.old.items) (line_verdict before line.entry.number line.entry.text.now)
+        ≡ Ok (map folding_of foldings.new.items)) }
     ensures fault { IfErr result (λ e. IsMemoryOrErr (line_verdict before line.entry.number line.entry.text.now) e) }
 {
     let text = text_of(line.text);
