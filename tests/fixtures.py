@@ -21,6 +21,7 @@ sys.dont_write_bytecode = True
 ROOT = Path(__file__).resolve().parent.parent
 sys.path.append(str(ROOT / "bench"))
 
+import caseless_rows
 import error_texts
 import forged_images
 import history_model
@@ -35,8 +36,9 @@ FILES = {
     "EXCLUSIONS": "{}/CompositionExclusions.txt",
     "SCHEDULE": "scripts/{}.schedule",
     "REPORT": "scripts/{}.report",
+    "FOLDING": "caseless/{}/CaseFolding.txt",
 }
-CONSTANT = re.compile(r'const (\w+)_(DATA|EXCLUSIONS|SCHEDULE|REPORT): &(?:\'static )?str =\s*"((?:[^"\\]|\\.)*)";',
+CONSTANT = re.compile(r'const (\w+)_(DATA|EXCLUSIONS|SCHEDULE|REPORT|FOLDING): &(?:\'static )?str =\s*"((?:[^"\\]|\\.)*)";',
                       re.DOTALL)
 ESCAPES = {"n": "\n", "r": "\r", "t": "\t", "0": "\0", "\\": "\\", '"': '"', "'": "'"}
 
@@ -63,10 +65,13 @@ def constants():
 
 
 def files(wanted):
-    """The texts of the files. Scripts count once a crate has a constant of one."""
+    """The texts of the files. Scripts count once a crate has a constant of one, and of caseless/ the folding files of the
+    versions alone: caseless_rows.py compares the others row by row."""
     folder = ROOT / "fixtures"
     found = {str(path.relative_to(folder)): path.read_bytes().decode("utf-8")
-             for path in sorted(folder.rglob("*")) if path.is_file()}
+             for path in sorted(folder.rglob("*")) if path.is_file() and "caseless" not in path.relative_to(folder).parts}
+    found |= {f"caseless/{version}/CaseFolding.txt": (folder / "caseless" / version / "CaseFolding.txt").read_text(encoding="utf-8")
+              for version in ("v1", "v2")}
     has_scripts = any(name.startswith("scripts/") for name in wanted)
     return {name: text for name, text in found.items() if has_scripts or not name.startswith("scripts/")}
 
@@ -163,6 +168,7 @@ def main():
     check_manual(tally, usage)
     check_lines_manual(tally)
     forged_images.check(tally)
+    caseless_rows.check(tally, unescaped)
     check_example(tally)
     tally.finish()
 

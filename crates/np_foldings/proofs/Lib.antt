@@ -1,0 +1,12 @@
+pub mod FieldGrammar
+pub mod HeadGrammar
+pub mod RecordLemmas
+pub mod TestGrammar
+pub mod FoldingGrammar
+pub mod FileLemmas
+pub mod RecordGrammar
+pub mod FaultGrammar
+pub mod FindLemmas
+pub mod LawGrammar
+pub mod LowercaseGrammar
+pub mod ReaderLemmas

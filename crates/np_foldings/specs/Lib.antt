@@ -1,0 +1,14 @@
+pub mod AllFoldings
+pub mod Faults
+pub mod Fields
+pub mod FirstFaults
+pub mod FoldingValues
+pub mod Foldings
+pub mod Laws
+pub mod Lowercases
+pub mod Reading
+pub mod Records
+pub mod Statuses
+pub mod Tests
+pub mod Verdicts
+pub mod inside
