@@ -4,15 +4,20 @@ import argparse
 import os
 import sys
 from collections.abc import Sequence
+from dataclasses import replace
 from pathlib import Path
 from typing import Optional, Union
 
 from npss import BadTables, Refused
 
 from npss_registry import LogAway, Outcome, Registration, Registry, RegistryError, Version, init
-from npss_registry.judge import MOST_BYTES, MOST_EVENTS, Judge
+from npss_registry.errors import UnknownScheme
+from npss_registry.judge import Judge
+from npss_registry.logs import scheme_of
 from npss_registry.records import FORMS, Setup
+from npss_registry.registry import told as told_setup
 from npss_registry.relog import relog
+from npss_registry.replay import MOST_BYTES, MOST_EVENTS
 
 # The statuses are those of `npss` where they mean the same.
 DONE, NO, REFUSED, FAULTY, AWAY = 0, 1, 3, 4, 5
@@ -43,6 +48,15 @@ def owner_of(word: str) -> str:
     return word
 
 
+def log_of(word: str) -> str:
+    """A log as it was named."""
+    try:
+        scheme_of(word)
+    except UnknownScheme as error:
+        raise argparse.ArgumentTypeError(str(error)) from error
+    return word
+
+
 def told(outcome: Outcome) -> str:
     """What became of a claim or a forget, as a line."""
     holder = outcome.holder
@@ -60,8 +74,8 @@ def _init(words: argparse.Namespace) -> int:
     if any(value is not None for value in (words.form, words.room, words.shards)) or words.equivalents:
         setup = Setup(words.form or "nfc", 65536 if words.room is None else words.room, 1 if words.shards is None else words.shards,
                       words.equivalents)
-    made = init(words.store, version_of(words.data, words.exclusions), setup, words.log or f"{words.store}.log")
-    print(f"form {made.form}, room {made.room}, shards {made.shards}, equivalents {'allowed' if made.equivalents else 'refused'}")
+    made = init(words.store, version_of(words.data, words.exclusions), setup, words.log or f"{os.path.basename(words.store)}.log")
+    print(told_setup(replace(made, name="")))
     return DONE
 
 
@@ -125,11 +139,13 @@ def _backup(words: argparse.Namespace, registry: Registry) -> int:
 
 
 def _relog(words: argparse.Namespace) -> int:
-    count, lost = relog(words.stores, words.log)
-    print(f"{count} strings are registered in the new log, {len(lost)} are lost")
-    for one in lost:
+    done = relog(words.stores, words.log, words.source)
+    for name in done.without_end:
+        print(f"the old log {name} can't be reached, and has no end: see that no other machine goes on over it")
+    print(f"{done.registered} strings are registered in the new log, {len(done.lost)} are lost")
+    for one in done.lost:
         print(f"lost from {one.store}: {row_of(one.registration)}")
-    return NO if lost else DONE
+    return NO if done.lost else DONE
 
 
 def _check(words: argparse.Namespace) -> int:
@@ -140,6 +156,8 @@ def _check(words: argparse.Namespace) -> int:
         judge.close()
     for finding in findings:
         print(finding)
+    if judge.unjudged:
+        print(f"{len(judge.unjudged)} names were compared with the log alone: no version of these stores has all their code points")
     print(f"{judge.events} events of {len(words.stores)} stores replayed: " + (f"{len(findings)} differ" if findings else "all as they are kept"))
     return NO if findings else DONE
 
@@ -156,7 +174,7 @@ def parser() -> argparse.ArgumentParser:
         return one
 
     one = command("init", "makes a store over a log, which it sets up where nobody has", "store", "data", "exclusions")
-    one.add_argument("--log", help="the path of a SQLite file, or redis://HOST:PORT/NUMBER#PREFIX; else STORE.log")
+    one.add_argument("--log", type=log_of, help="the path of a SQLite file, relative to the store's folder, or redis://HOST:PORT/NUMBER#PREFIX; else STORE.log")
     one.add_argument("--form", choices=FORMS, help="the form of the keys; nfc where nobody says otherwise")
     one.add_argument("--room", type=int, help="the most strings of a shard, up to 65536")
     one.add_argument("--shards", type=int, help="how many shards, up to 1024; never to be changed")
@@ -171,9 +189,10 @@ def parser() -> argparse.ArgumentParser:
     command("status", "tells how far each shard was read, and what is parked", "store")
     command("upgrade", "goes on to a later version of Unicode", "store", "data", "exclusions")
     command("backup", "copies the store into a new file", "store", "to")
-    one = command("relog", "begins a new log from what stores have read, where the old one lost records")
+    one = command("relog", "brings stores over to another log, which begins with what they have read; once more where it was cut off")
     one.add_argument("stores", metavar="STORE", nargs="+")
-    one.add_argument("--log", required=True, help="the new log, as init names it")
+    one.add_argument("--log", type=log_of, required=True, help="the new log, as init names it")
+    one.add_argument("--from", dest="source", metavar="STORE", help="the store whose names are taken; else the one that has read farthest")
     one = command("serve", "serves the registry as JSON over HTTP, and as pages", "store")
     one.add_argument("--host", default="127.0.0.1", help="the address; else that of this machine alone")
     one.add_argument("--port", type=int, default=8765)

@@ -18,6 +18,20 @@ class InUse(StoreError):
         super().__init__(f"{path}: another process works on this store; ask it, or stop it first")
 
 
+class NoLog(StoreError):
+    """No log stands where one was named. `init` and `relog` alone make one."""
+
+    def __init__(self, name: str):
+        super().__init__(f"no log at {name}")
+
+
+class UnknownScheme(StoreError):
+    """A log was named by a scheme that no log has."""
+
+    def __init__(self, name: str, schemes: str):
+        super().__init__(f"{name}: no log has this scheme; one of {schemes}, or a path")
+
+
 class Differs(StoreError):
     """A store and its log were set up unlike one another."""
 
@@ -34,9 +48,21 @@ class LogAway(RegistryError):
     """The log can't be reached. Whether a record was written isn't known: ask again with the same owner."""
 
 
+class LogReadOnly(LogAway):
+    """The log may be read and not written, so nothing was written."""
+
+
 class LogBroken(RegistryError):
     """The log is not what nodes wrote. The node stops."""
 
     def __init__(self, place: int, why: str):
         super().__init__(f"the log at place {place}: {why}")
         self.place = place
+
+
+class LogEnded(LogBroken):
+    """The registry goes on in another log. The node stops, and what it wrote behind the end is registered nowhere."""
+
+    def __init__(self, place: int, log: str):
+        super().__init__(place, f"it ends here, the registry goes on in {log}; `npss-registry relog STORE --log LOG` brings a store over")
+        self.log = log

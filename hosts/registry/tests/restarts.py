@@ -1,29 +1,13 @@
 """Stores that are opened again."""
 
-import contextlib
 import os
-import sqlite3
+import shutil
 import tempfile
 from pathlib import Path
 
-from cases import OLD, PROGRAM, Case, version
+from cases import OLD, Case, version
 from npss_registry import InUse, LogBroken, Registry, StoreError, init
-from npss_registry.judge import Judge
 from npss_registry.records import Setup, claim_of, message, spelled
-from npss_registry.relog import relog
-
-# Makes a store of the first layout of the present one.
-FIRST_LAYOUT = """
-ALTER TABLE image ADD COLUMN place INTEGER;
-ALTER TABLE image ADD COLUMN sum BLOB;
-UPDATE image SET (place, sum) = (SELECT place, sum FROM shard WHERE shard.number = image.number);
-DROP TABLE shard;
-ALTER TABLE image RENAME TO shard;
-DROP INDEX registered;
-CREATE UNIQUE INDEX registered_string ON registration (shard, string) WHERE ended IS NULL;
-CREATE INDEX registered_key ON registration (shard, key, place) WHERE ended IS NULL;
-UPDATE setup SET layout = 1;
-"""
 
 
 class Restarts(Case):
@@ -44,42 +28,31 @@ class Restarts(Case):
         node = self.node("one")
         self.assertRaises(InUse, Registry, node.store.path)
 
-    def test_a_log_that_lost_its_tail_is_not_read_on(self):
+    def test_no_other_name_of_a_store_gets_round_its_lock(self):
         node = self.node("one")
-        place = node.claim("A", "x").holder.place
-        node.abandon()
-        base = sqlite3.connect(self.log)
-        with base:
-            base.execute("DELETE FROM record WHERE place = ?", (place,))
-        self.assertRaisesRegex(LogBroken, "missing", Registry, node.store.path)
-        with base:
-            base.execute("INSERT INTO record VALUES (?, 0, ?)", (place, spelled(claim_of(message("nfc", "a", "a"), "y"))))
-        self.assertRaisesRegex(LogBroken, "another one", Registry, node.store.path)
-        base.close()
-
-    def test_a_log_that_loses_its_tail_under_a_node_is_not_read_on(self):
-        node = self.node("one")
-        place = node.claim("A", "x").holder.place
-        with contextlib.closing(sqlite3.connect(self.log)) as base, base:
-            base.execute("UPDATE record SET body = ? WHERE place = ?", (spelled(claim_of(message("nfc", "a", "a"), "y")), place))
-        with self.assertRaisesRegex(LogBroken, "another one") as caught:
-            node.claim("i", "x")
-        self.assertEqual(caught.exception.place, place)
-
-    def test_a_store_of_the_first_layout_is_brought_to_the_present_one(self):
-        node = self.node("one")
-        for name in ("a", "A", "i"):
-            node.claim(name, "x")
-        node.forget("A")
+        other = str(self.folder / "other")
+        os.symlink(node.store.path, other)
+        self.assertRaises(InUse, Registry, other)
+        os.unlink(other)
+        os.link(node.store.path, other)
+        for path in (other, node.store.path):
+            self.assertRaisesRegex(StoreError, "another name besides", Registry, path)
+        os.unlink(other)
+        os.rename(node.store.path, other)
+        self.assertRaises(InUse, Registry, other)
+        os.rename(other, node.store.path)
+        self.assertEqual(node.claim("a", "x").what, "registered")
         node.close()
-        with contextlib.closing(sqlite3.connect(node.store.path)) as base:
-            base.executescript(FIRST_LAYOUT)
-        self.assertRaisesRegex(StoreError, "an earlier one", Judge, [node.store.path], PROGRAM)
-        again = self.open(node.store.path)
-        self.assertEqual([entry.string for entry in again.shards[0].node], ["a", "i"])
-        self.assertEqual([again.claim(name, "y").what for name in ("a", "A")], ["taken", "registered"])
-        again.close()
-        self.assertEqual(self.judged(again.store.path), [])
+        self.assertEqual(self.judged(node.store.path), [])
+
+    def test_a_symbolic_link_is_the_store(self):
+        node = self.node("one")
+        node.close()
+        link = self.folder / "elsewhere" / "link"
+        link.parent.mkdir()
+        link.symlink_to(node.store.path)
+        again = self.open(str(link))
+        self.assertEqual((again.claim("a", "x").what, again.store.node), ("registered", node.store.node))
 
     def test_a_log_that_no_node_wrote_stops_the_node_at_its_place(self):
         for body in (b"[]", b"\xff", spelled(claim_of(message("nfc", "a\u0302", "a"), "x")), b'{"claim":"Qw==","owner":"x"}',
@@ -129,34 +102,13 @@ class Restarts(Case):
         back.close()
         self.assertEqual(self.judged(path), [])
 
-    def test_a_new_log_tells_what_is_lost(self):
-        one, other = self.node("one"), self.node("other")
-        for name in ("a", "A"):
-            one.claim(name, "x")
-        other.catch_up()
-        one.forget("A")
-        one.claim("i", "x")
-        paths = [one.store.path, other.store.path]
-        one.abandon()
-        other.abandon()
-        with contextlib.closing(sqlite3.connect(paths[1])) as base, base:
-            base.execute("UPDATE registration SET owner = 'y' WHERE string = CAST('a' AS BLOB)")
-        count, lost = relog(paths, str(self.folder / "new"))
-        self.assertEqual((count, [(one.store, one.registration.string, one.registration.owner) for one in lost]), (2, [(paths[1], "a", "y")]))
-
-    def test_a_new_log_from_what_stores_read(self):
-        one, other = self.node("one"), self.node("other")
-        for name in ("a", "A"):
-            one.claim(name, "x")
-        other.catch_up()
-        one.claim("i", "x")
-        paths = [one.store.path, other.store.path]
-        one.abandon()
-        other.abandon()
-        count, lost = relog(paths, str(self.folder / "new"))
-        self.assertEqual((count, lost), (3, []))
-        for path in paths:
-            again = self.open(path)
-            again.catch_up()
-            self.assertEqual([entry.string for entry in again.shards[0].node], ["a", "A", "i"])
-        self.assertEqual(self.judged(*paths), [])
+    def test_a_folder_that_was_copied_whole_gets_another_name(self):
+        node = self.node("one")
+        node.claim("a", "x")
+        node.close()
+        name, copy = node.store.node, self.folder / "copy"
+        copy.mkdir()
+        for end in ("", "-lock"):
+            shutil.copy(node.store.path + end, copy / f"one{end}")
+        self.assertNotEqual(self.open(str(copy / "one")).store.node, name)
+        self.assertEqual(self.open(node.store.path).store.node, name)

@@ -37,12 +37,12 @@ class Rules(Case):
 
     def test_what_is_refused_at_once_writes_no_record(self):
         node = self.node("one")
-        before = node.log.last(0)
+        before = node.log.lasts(1)[0]
         for name, error in (("A" * 65_537, TooLong), (b"A\xff", NotUtf8), (YOUNG, Unassigned)):
             self.assertRaises(error, node.claim, name, "x")
         self.assertRaises(UnicodeEncodeError, node.claim, "\ud800", "x")
         self.assertEqual(node.claim("A" * 65_536, "x").what, "registered")
-        self.assertEqual(node.log.last(0), before + 1)
+        self.assertEqual(node.log.lasts(1)[0], before + 1)
 
     def test_a_forget_ends_the_registration_that_it_names_alone(self):
         one, other = self.node("one"), self.node("other")

@@ -1,12 +1,11 @@
 #!/usr/bin/env python3
-"""test_registry.py PROGRAM FIXTURES: tests the registry over the fixtures v1 and v2. PROGRAM is npss.
+"""test_registry.py PROGRAM FIXTURES [NAME..]: tests the registry over the fixtures v1 and v2. PROGRAM is npss.
 
-The modules npss and npss_registry are on PYTHONPATH. Ends in a line 'N passed, M failed'.
+A NAME is that of a class of tests, or CLASS.TEST; all are run where none is named. The modules npss and npss_registry are on PYTHONPATH. Ends in a line 'N passed, M failed'.
 """
 
 import contextlib
 import http.client
-import io
 import json
 import shutil
 import socket
@@ -17,24 +16,20 @@ import unittest
 import urllib.parse
 
 from cases import NEW, OLD, PROGRAM, YOUNG, Case
-from npss_registry.command import main as command
+from judging import Judging  # noqa: F401
 from npss_registry.logs import SqliteLog
 from over_redis import Redis  # noqa: F401
+from pasts import Earlier, Examined, Pasts  # noqa: F401
+from relogging import Relogging  # noqa: F401
 from restarts import Restarts  # noqa: F401
 from rules import Rules, Versions  # noqa: F401
-from setups import Judging, Setups  # noqa: F401
+from setups import Setups  # noqa: F401
 
 TOKEN = "a token of the tests"
 
 
 class Words(Case):
     """The command."""
-
-    def run_words(self, *words):
-        out, err = io.StringIO(), io.StringIO()
-        with contextlib.redirect_stdout(out), contextlib.redirect_stderr(err):
-            status = command(words)
-        return status, out.getvalue(), err.getvalue()
 
     def test_each_command(self):
         store = str(self.folder / "store")
@@ -170,7 +165,7 @@ class Serving(Case):
 
 
 if __name__ == "__main__":
-    result = unittest.main(argv=sys.argv[:1], exit=False, verbosity=0).result
+    result = unittest.main(argv=[sys.argv[0], *sys.argv[3:]], exit=False, verbosity=0).result
     for case, why in result.skipped:
         print(f"skipped: {case.id().partition('.')[2]} of the registry: {why}")
     bad = len(result.failures) + len(result.errors)
