@@ -3,7 +3,7 @@
 import argparse
 import os
 import sys
-from collections.abc import Sequence
+from collections.abc import Callable, Sequence
 from dataclasses import replace
 from pathlib import Path
 from typing import Optional, Union
@@ -15,6 +15,7 @@ from npss_registry.errors import UnknownScheme
 from npss_registry.judge import Judge
 from npss_registry.logs import scheme_of
 from npss_registry.records import FORMS, Setup
+from npss_registry.registry import MOST_SHARDS
 from npss_registry.registry import told as told_setup
 from npss_registry.relog import relog
 from npss_registry.replay import MOST_BYTES, MOST_EVENTS
@@ -55,6 +56,15 @@ def log_of(word: str) -> str:
     except UnknownScheme as error:
         raise argparse.ArgumentTypeError(str(error)) from error
     return word
+
+
+def between(least: int, most: int) -> Callable[[str], int]:
+    """What reads a number as it was typed, which has to be between two others."""
+    def number(word: str) -> int:
+        if not word.isdecimal() or not least <= int(word) <= most:
+            raise argparse.ArgumentTypeError(f"{word} is no number from {least} to {most}")
+        return int(word)
+    return number
 
 
 def told(outcome: Outcome) -> str:
@@ -176,8 +186,8 @@ def parser() -> argparse.ArgumentParser:
     one = command("init", "makes a store over a log, which it sets up where nobody has", "store", "data", "exclusions")
     one.add_argument("--log", type=log_of, help="the path of a SQLite file, relative to the store's folder, or redis://HOST:PORT/NUMBER#PREFIX; else STORE.log")
     one.add_argument("--form", choices=FORMS, help="the form of the keys; nfc where nobody says otherwise")
-    one.add_argument("--room", type=int, help="the most strings of a shard, up to 65536")
-    one.add_argument("--shards", type=int, help="how many shards, up to 1024; never to be changed")
+    one.add_argument("--room", type=between(0, 65536), help="the most strings of a shard, up to 65536")
+    one.add_argument("--shards", type=between(1, MOST_SHARDS), help="how many shards, up to 1024; never to be changed")
     one.add_argument("--equivalents", action="store_true", help="register equivalent strings side by side, as file names")
     one = command("claim", "registers a name for an owner", "store", "name")
     one.add_argument("--owner", type=owner_of, required=True)

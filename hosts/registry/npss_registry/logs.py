@@ -70,11 +70,10 @@ class SqliteLog:
         self._path = path
         if how != "make":
             _check_file(path, os.R_OK if how == "read" else os.R_OK | os.W_OK)
-        mode = {"make": "rwc", "use": "rw", "read": "ro"}[how]
+        uri = uri_to_read(path) if how == "read" else f"file:{uri_path(path)}?mode={'rwc' if how == 'make' else 'rw'}"
         with _reached(path):
             # Each call is under the registry's own lock, whichever thread makes it.
-            self._base = sqlite3.connect(f"file:{uri_path(path)}?mode={mode}", uri=True, timeout=patience, isolation_level=None,
-                                         check_same_thread=False)
+            self._base = sqlite3.connect(uri, uri=True, timeout=patience, isolation_level=None, check_same_thread=False)
             if how == "make":
                 self._make()
             elif not self._base.execute("SELECT EXISTS (SELECT 1 FROM sqlite_master WHERE name = 'record')").fetchone()[0]:
@@ -260,6 +259,12 @@ def shown(name: str) -> str:
 def uri_path(path: str) -> str:
     """A path as SQLite's URIs spell it."""
     return os.path.abspath(path).replace("%", "%25").replace("?", "%3f").replace("#", "%23")
+
+
+def uri_to_read(path: str) -> str:
+    """The URI by which a file is read, also in a folder that nobody may write, where SQLite can't have files beside it."""
+    alone = not allowed(os.path.dirname(os.path.abspath(path)), os.W_OK) and not os.path.exists(f"{path}-wal")
+    return f"file:{uri_path(path)}?mode=ro" + ("&immutable=1" if alone else "")
 
 
 def open_log(name: str, how: How = "use") -> Log:

@@ -11,7 +11,7 @@ from typing import Any, Optional
 from npss_registry.errors import StoreError
 from npss_registry.layout import LAYOUT, TABLES, execute, raise_layout
 from npss_registry.lock import Lock
-from npss_registry.logs import allowed, located, uri_path
+from npss_registry.logs import located, uri_path, uri_to_read
 from npss_registry.records import NOTHING_READ, Setup, form_of
 from npss_registry.rows import Event as Event
 from npss_registry.rows import Registration as Registration
@@ -89,7 +89,7 @@ class Store:
         """A copy of a store, of one moment, whatever others write meanwhile; in the present layout."""
         file = _file_of(path)
         try:
-            with closing(_reading(file)) as base, closing(sqlite3.connect(to)) as copy:
+            with closing(sqlite3.connect(uri_to_read(file), uri=True)) as base, closing(sqlite3.connect(to)) as copy:
                 base.backup(copy)
                 copy.execute("BEGIN")
                 raise_layout(copy, file)
@@ -367,13 +367,6 @@ def _file_of(path: str) -> str:
     if not os.path.isfile(file):
         raise StoreError(f"{path}: it is no file")
     return file
-
-
-def _reading(file: str) -> sqlite3.Connection:
-    """A connection that reads a store, also where nobody may write beside it."""
-    if not allowed(os.path.dirname(file), os.W_OK) and not os.path.exists(f"{file}-wal"):
-        return sqlite3.connect(f"file:{uri_path(file)}?mode=ro&immutable=1", uri=True)
-    return sqlite3.connect(f"file:{uri_path(file)}?mode=ro", uri=True)
 
 
 def _add_version(base: sqlite3.Connection, number: int, version: Version) -> None:

@@ -7,7 +7,7 @@ import shutil
 import sqlite3
 from pathlib import Path
 
-from cases import NEW, PROGRAM, YOUNG, Case, changed, version
+from cases import NEW, PROGRAM, YOUNG, Case, changed, version, without_rights
 from npss_registry.judge import Judge
 from npss_registry.logs import SqliteLog
 from npss_registry.records import NOTHING_READ, Setup, claim_of, message, shard_of, spelled, sum_behind, sum_of
@@ -145,6 +145,19 @@ class Judging(Case):
         self.assertEqual(judge.run(), [])
         judge.close()
         self.assertEqual(self.judged(node.store.path), [])
+
+    def test_a_store_in_a_folder_that_nobody_may_write(self):
+        node = self.node("one")
+        node.claim("a", "x")
+        node.close()
+        os.chmod(self.folder, 0o555)
+        for name in os.listdir(self.folder):
+            os.chmod(self.folder / name, 0o444)
+        try:
+            with without_rights():
+                self.assertEqual(self.judged(node.store.path), [])
+        finally:
+            os.chmod(self.folder, 0o700)
 
     def test_a_store_that_is_upgraded_meanwhile(self):
         old, new = self.node("old"), self.node("new", NEW)

@@ -88,6 +88,13 @@ class Setups(Case):
                 self.assertEqual(caught.exception.code, 2)
         self.assertEqual(os.listdir(self.folder), [])
 
+    def test_numbers_that_are_bad_words(self):
+        for words in (("--shards", "0"), ("--shards", "1025"), ("--room", "-1"), ("--room", "65537"), ("--room", "many")):
+            with self.assertRaises(SystemExit) as caught:
+                self.run_words("init", str(self.folder / "one"), *OLD, *words)
+            self.assertEqual(caught.exception.code, 2)
+        self.assertEqual(os.listdir(self.folder), [])
+
     def test_a_default_log_stands_beside_the_store(self):
         (self.folder / "data").mkdir()
         path = str(self.folder / "data" / "store")
