@@ -6,12 +6,12 @@ PROGRAM is npss, with which the judge replays. The nodes are processes of their 
 13.0, 14.0 and 15.0 of the published files, the earlier two cut from the last. Each ends itself at a write to store or
 log that the seed draws; a Redis server is killed and started again, and nodes are cut off from it by a proxy that drops;
 nodes are upgraded in any order; names are claimed at all nodes at once, given up, and claimed again. Names with young
-code points are claimed at nodes that have them, and old ones of the same keys at nodes that don't. At the end the judge
-has to be silent; nodes that read to the end register the same; each key has one holder; each key is what PROGRAM makes under the
-last version; and what was answered over time can be (chaos_history.py): each key has one holder at each moment, what was
-answered `registered` isn't gone without a forget, and who claimed finds it at the same node. Then come the log's own faults
-(chaos_log.py): relog that is killed and called again while a node goes on, a tail that was cut off and grown again with
-the same claims, a log that is brought back older, and one that lost its last record.
+code points are claimed at nodes that have them, and old ones of the same keys at nodes that don't. Meanwhile and at the
+end the judge has to be silent. At the end nodes that read on register the same, each key has one holder and is what PROGRAM
+makes under the last version, and what was answered over time can be (chaos_history.py): each key has one holder at each
+moment, what was answered `registered` isn't gone without a forget, and who claimed finds it at the same node. Then come the
+log's own faults (chaos_log.py): relog that is killed and called again while a node goes on, a tail that was cut off and
+grown again with the same claims, a log that is brought back older, and one that lost its last record.
 Prints its seed. Ends in a line 'N passed, M failed'. The modules npss and npss_registry are on PYTHONPATH.
 """
 
@@ -202,7 +202,8 @@ class Chaos:
         drawn = self.source.choice(("nfc", "nfkc"))
         setup = Setup(words.form or drawn, self.source.choice((40, 65536)), self.source.choice((1, 3)), self.source.random() < 0.2)
         self.setup = setup
-        self.seconds, self.seed = words.seconds, words.seed
+        self.seconds, self.seed, self.program = words.seconds, words.seed, words.program
+        self.judged = 0
 
     def begin_nodes(self):
         """Makes the stores, and the nodes over them, whose time begins now."""
@@ -246,12 +247,27 @@ class Chaos:
                 self.server.kill()
                 time.sleep(self.source.uniform(0, 0.5))
                 self.server.start()
+            if self.source.random() < 0.15:
+                self.judge_meanwhile()
             for proxy in self.proxies:
                 proxy.drop(self.source.random() < 0.15)
         for proxy in self.proxies:
             proxy.drop(False)
         for node in self.nodes:
             node.join()
+
+
+    def judge_meanwhile(self):
+        """The judge has to be silent while nodes work, end and are upgraded."""
+        try:
+            judge = Judge([str(self.store(number)) for number in range(NODES)], self.program)
+            try:
+                self.told.broken += judge.run()
+            finally:
+                judge.close()
+            self.judged += 1
+        except LogAway:
+            pass  # the way was cut
 
 
 def finished(chaos):
@@ -336,7 +352,7 @@ def check(tally, chaos, program):
     check_lost_tail(tally, chaos)
     answers = chaos.told.history
     print(f"{len(answers.registered)} claims answered registered, {len(answers.forgotten)} forgets, {len(answers.found)} names found at their node")
-    print(f"{judge.events} events replayed, {len(rows[0])} names registered, {chaos.told.ends} times a node ended itself")
+    print(f"{chaos.judged} times judged meanwhile; in the end {judge.events} events replayed, {len(rows[0])} names registered, {chaos.told.ends} times a node ended itself")
 
 
 def main():

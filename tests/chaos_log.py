@@ -135,13 +135,20 @@ def claimed(tally, path, names, owner):
     node.close()
 
 
+def without(tally, path, owners):
+    """Gives all names up, so that there is room."""
+    node = Registry(str(path))
+    tally.same("forgets that make room", {node.forget(name).what for name in owners}, {"forgotten"})
+    node.close()
+    return {}
+
+
 def check_grown_again(tally, chaos, program, owners):
     """A log that lost its tail and has grown again with the same claims is never read on; relog keeps the branch that is chosen."""
-    log, room = Log(chaos, "third"), chaos.setup.room - len(owners)
-    names = [f"grown {count}" for count in range(min(room // (2 * chaos.setup.shards), 8))]
+    log, names = Log(chaos, "third"), [f"grown {count}" for count in range(8)]
     one, other, third = (chaos.store(number) for number in range(3))
-    if not names:
-        return
+    if chaos.setup.room <= len(owners) + len(names):
+        owners = without(tally, one, owners)
     claimed(tally, one, names[:1], "g")
     for path in (other, third):
         claimed(tally, path, names[:1], "g")
@@ -151,7 +158,7 @@ def check_grown_again(tally, chaos, program, owners):
     node.catch_up()
     log.bring_back(kept)
     # One owner is another one, where the last record is the same all the same.
-    lost = names[1:2] if chaos.setup.shards == 1 and len(names) > 2 else []
+    lost = names[1:2] if chaos.setup.shards == 1 else []
     for name in names:
         claimed(tally, other, [name], "h" if name in lost else "g")
     for what, asked in (("reading on", node.catch_up), ("a claim", lambda: node.claim("grown more", "g")), ("a start", lambda: Registry(str(one)))):

@@ -60,7 +60,7 @@ PLANTS = {
     "an image with the wrong place": ("shards.py", """self._store.save(self.number, self.node.image(), self.place, self._version)""",
                                       """self._store.save(self.number, self.node.image(), max(self.place - 1, 0), self._version)"""),
     "the last record is not compared": ("shards.py", """(found is None or records.sum_of(found) != self._last)""", """found is None"""),
-    "an answer before the record is read back": ("registry.py", """        told = self.catch_up({number for _, number, _ in publish})
+    "an answer before the record is read back": ("registry.py", """        told = self._read_on({number for _, number, _ in publish})
 """, """        return {index: Outcome("registered") for index, _, _ in publish}
 """),
     "the random bytes are left out": ("records.py", """secrets.token_bytes(_NONCE)""", """bytes(_NONCE)"""),

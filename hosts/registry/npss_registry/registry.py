@@ -196,7 +196,15 @@ class Registry:
     # ---- reading the log
 
     def catch_up(self, shards: Optional[Iterable[int]] = None) -> dict[tuple[int, int], Outcome]:
-        """Reads shards of the log to their ends, and tells what became of each record, by its shard and place."""
+        """Reads shards of the log to their ends, and tells what became of each record, by its shard and place.
+
+        LogEnded where the log has an end, behind which nothing is read.
+        """
+        outcomes = self._read_on(shards)
+        self._check_ends()
+        return outcomes
+
+    def _read_on(self, shards: Optional[Iterable[int]] = None) -> dict[tuple[int, int], Outcome]:
         outcomes: dict[tuple[int, int], Outcome] = {}
         with self._lock:
             self._check_going()
@@ -207,10 +215,12 @@ class Registry:
                     for number, piece in pieces.items():
                         for place, outcome in self.shards[number].apply(piece).items():
                             outcomes[number, place] = outcome
-                for number in left:
-                    self.shards[number].check_end()
-                left = {number for number, piece in pieces.items() if len(piece) == PIECE}
+                left = {number for number, piece in pieces.items() if len(piece) == PIECE and not self.shards[number].end}
         return outcomes
+
+    def _check_ends(self) -> None:
+        for shard in self.shards:
+            shard.check_end()
 
     # ---- what clients ask
 
@@ -260,9 +270,10 @@ class Registry:
         if not publish:
             return {}
         places = self.log.append([(number, body) for _, number, body in publish])
-        told = self.catch_up({number for _, number, _ in publish})
+        told = self._read_on({number for _, number, _ in publish})
         lost = [place for (_, number, _), place in zip(publish, places) if (number, place) not in told]
         if lost:
+            self._check_ends()
             raise LogBroken(lost[0], "the record that this node wrote is missing; see `npss-registry relog`")
         return {index: told[number, place] for (index, number, _), place in zip(publish, places)}
 

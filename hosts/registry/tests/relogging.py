@@ -233,6 +233,35 @@ class Relogging(Case):
         self.assertEqual((done.registered, done.lost), (2, []))
         self.assertEqual(self.open(other.store.path).claim("A", "y").what, "taken")
 
+    def beside(self, behind):
+        """A node that wasn't named, and the path of a store that goes over before, or right behind, what the node writes next."""
+        one, other = self.node("one"), self.node("other")
+        one.catch_up()
+        one.close()
+        append = other.log.append
+
+        def beside(records):
+            if not behind:
+                relog([one.store.path], self.new)
+            places = append(records)
+            if behind:
+                relog([one.store.path], self.new)
+            return places
+
+        other.log.append = beside
+        return other, one.store.path
+
+    def test_a_claim_before_the_end_is_answered(self):
+        node, path = self.beside(behind=True)
+        self.assertEqual(node.claim("a", "x").what, "registered")
+        self.assertRaises(LogEnded, node.claim, "A", "x")
+        self.assertEqual(self.names(path), ["a"])
+
+    def test_a_claim_behind_the_end_is_registered_nowhere(self):
+        node, path = self.beside(behind=False)
+        self.assertRaises(LogEnded, node.claim, "a", "x")
+        self.assertEqual((self.names(path), self.names(node.store.path)), ([], []))
+
     def test_a_store_that_comes_over_later_tells_what_it_loses(self):
         one, other, third = (self.node(name) for name in ("one", "other", "third"))
         for node, name in ((one, "a"), (one, "A"), (one, "i")):
