@@ -87,10 +87,8 @@ TESTED = {
     "a symbolic link is another store": ("store.py", """    file = os.path.realpath(path)
 """, """    file = os.path.abspath(path)
 """, "Restarts.test_a_symbolic_link_is_the_store"),
-    "the file itself is not locked": ("lock.py", """            if self._file in _held:
-                raise InUse(path)
-            self._locks = [_locked(path, os.O_RDWR, path)]
-""", """            self._locks = [os.open(path, os.O_RDWR)]
+    "a file of two names is two stores": ("lock.py", """        if found.st_nlink > 1:
+""", """        if False:
 """, "Restarts.test_no_other_name_of_a_store_gets_round_its_lock"),
 }
 
