@@ -19,6 +19,7 @@ from npss_registry.registry import MOST_SHARDS
 from npss_registry.registry import told as told_setup
 from npss_registry.relog import relog
 from npss_registry.replay import MOST_BYTES, MOST_EVENTS
+from npss_registry.store import Store
 
 # The statuses are those of `npss` where they mean the same.
 DONE, NO, REFUSED, FAULTY, AWAY = 0, 1, 3, 4, 5
@@ -143,8 +144,12 @@ def _upgrade(words: argparse.Namespace, registry: Registry) -> int:
     return DONE
 
 
-def _backup(words: argparse.Namespace, registry: Registry) -> int:
-    registry.store.backup(words.to)
+def _backup(words: argparse.Namespace) -> int:
+    store = Store(words.store, read_only=True)
+    try:
+        store.backup(words.to)
+    finally:
+        store.close()
     return DONE
 
 
@@ -216,7 +221,7 @@ def parser() -> argparse.ArgumentParser:
 
 
 RUNS = {"claim": _claim, "forget": _forget, "find": _find, "same": _same, "list": _list, "status": _status,
-        "upgrade": _upgrade, "backup": _backup}
+        "upgrade": _upgrade}
 
 
 def run(words: argparse.Namespace) -> int:
@@ -231,6 +236,8 @@ def run(words: argparse.Namespace) -> int:
         from npss_registry.server import serve
 
         return serve(words.store, words.host, words.port, words.token_file)
+    if words.command == "backup":
+        return _backup(words)
     registry = Registry(words.store)
     try:
         status = RUNS[words.command](words, registry)

@@ -53,10 +53,7 @@ class Judge:
         self.events = 0
         with ExitStack() as opened:
             folder = opened.enter_context(tempfile.TemporaryDirectory())
-            self._stores = []
-            for number, path in enumerate(paths):
-                self._stores.append(Store.copied(path, os.path.join(folder, f"store{number}")))
-                opened.callback(self._stores[-1].close)
+            self._stores = self._copied(paths, folder, opened)
             # Each machine may reach the log by a name of its own: that it is one log, the running sums tell.
             log = open_log(self._stores[0].log, "read")
             opened.callback(log.close)
@@ -67,6 +64,21 @@ class Judge:
             replay = Replay(program, folder, setup.form, setup.room, _write_files(folder, chain))
             self._world = _World(setup, log, chain, tables, replay, Limits(most_events, most_bytes))
             self._opened = opened.pop_all()
+
+    def _copied(self, paths: Sequence[str], folder: str, opened: ExitStack) -> list[Store]:
+        """Copies of the stores. One that can't be read is a finding, where others can."""
+        stores = []
+        for number, path in enumerate(paths):
+            try:
+                stores.append(Store.copied(path, os.path.join(folder, f"store{number}")))
+                opened.callback(stores[-1].close)
+                stores[-1].versions()
+            except StoreError as error:
+                self.findings.append(str(error))
+                if len(self.findings) == len(paths):
+                    raise
+                stores = [store for store in stores if store.path != path]
+        return stores
 
     def close(self) -> None:
         """Removes the copies, and lets the log go."""

@@ -8,6 +8,7 @@ import sqlite3
 from pathlib import Path
 
 from cases import NEW, PROGRAM, YOUNG, Case, changed, version, without_rights
+from npss_registry import StoreError
 from npss_registry.judge import Judge
 from npss_registry.logs import SqliteLog
 from npss_registry.records import NOTHING_READ, Setup, claim_of, message, shard_of, spelled, sum_behind, sum_of
@@ -145,6 +146,20 @@ class Judging(Case):
         self.assertEqual(judge.run(), [])
         judge.close()
         self.assertEqual(self.judged(node.store.path), [])
+
+    def test_a_store_that_cannot_be_read_keeps_no_other_one_from_being_judged(self):
+        node, other = self.node("one"), self.node("other")
+        node.claim("a", "x")
+        for one in (node, other):
+            one.close()
+        text = str(self.folder / "text")
+        Path(text).write_text("no store, but a text that is long enough to be looked at")
+        changed(other.store.path, "UPDATE version SET data = zeroblob(9)")
+        found = self.judged(text, other.store.path, node.store.path, str(self.folder / "none"))
+        self.assertEqual([line.partition(": ")[0] for line in found], [text, other.store.path, str(self.folder / "none")])
+        changed(node.store.path, "UPDATE registration SET owner = 'y'")
+        self.assertRegex("\n".join(self.judged(text, node.store.path)), "at place 2")
+        self.assertRaises(StoreError, self.judged, text, other.store.path)
 
     def test_a_store_in_a_folder_that_nobody_may_write(self):
         node = self.node("one")

@@ -129,6 +129,27 @@ class Relogging(Case):
             self.assertEqual((status, out), (1, f"1 strings are registered in the new log, 1 are lost\nlost from {one.store.path}: 3\t'A'\tx\n"))
         self.assertEqual(self.run_words("check", one.store.path, other.store.path, "--program", PROGRAM)[0], 0)
 
+    def test_three_machines_as_the_guide_tells_it(self):
+        stores = []
+        for name in "ABC":
+            (self.folder / name).mkdir()
+            stores.append(self.store(f"{name}/store"))
+            node = self.open(stores[-1])
+            node.claim(name * 2 if name == "A" else "a" * len(stores), "x")
+            node.abandon()  # it was killed: what it wrote last stands beside the store
+        self.without_tail(4)
+        copies = [stores[0], *(str(self.folder / name) for name in ("B copy", "C copy"))]
+        for store, copy in zip(stores[1:], copies[1:]):
+            self.assertEqual(self.run_words("backup", store, copy)[0], 0)
+        self.assertEqual(self.run_words("relog", *copies, "--log", self.new)[:2], (0, "3 strings are registered in the new log, 0 are lost\n"))
+        for store, copy in zip(stores[1:], copies[1:]):
+            for end in ("", "-wal", "-shm"):
+                Path(store + end).unlink(missing_ok=True)
+            shutil.copy(copy, store)
+        for store in stores:
+            self.assertEqual(self.run_words("list", store)[1], "2\t'AA'\tx\n3\t'aa'\tx\n4\t'aaa'\tx\n")
+            self.assertEqual(self.run_words("check", store, "--program", PROGRAM)[0], 0)
+
     def test_called_again_it_loses_nothing(self):
         paths = self.two()
         self.without_tail(4)
