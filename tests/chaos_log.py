@@ -67,7 +67,7 @@ def rows_of(path):
 
 def relogged(tally, chaos, stores, log):
     """Calls relog again and again, each time killed at a write, until it ends: what it told."""
-    for left in reversed(range(12)):
+    for left in reversed(range(5)):
         number = chaos.source.randint(1, WRITES) if left else 0
         words = [sys.executable, HERE / "chaos_relog.py", number, chaos.source.randint(0, 1), log, *stores]
         ran = subprocess.run(list(map(str, words)), stdout=subprocess.PIPE, stderr=subprocess.PIPE, text=True, check=False)

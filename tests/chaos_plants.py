@@ -29,7 +29,7 @@ PLANTS = {
 """, """                for number, piece in pieces.items():
                     for one in piece:
                         with self._writing():
-                            self.store.applied(number, one[0], records.sum_of(one[1]), records.sum_behind(self.shards[number]._sum, *one))
+                            self.store.applied(number, one[0], records.sum_of(one[1]), records.sum_behind(self.shards[number]._sum, one[0], records.sum_of(one[1])))
                         with self._writing():
                             for place, outcome in self.shards[number].apply([one]).items():
                                 outcomes[number, place] = outcome
@@ -40,7 +40,7 @@ PLANTS = {
         if piece:
             total = self._sum
             for one in piece:
-                total = records.sum_behind(total, *one)
+                total = records.sum_behind(total, one[0], records.sum_of(one[1]))
             self._store.applied(self.number, piece[-1][0], records.sum_of(piece[-1][1]), total)
             self._store._base.execute("COMMIT")
             self._store._base.execute("BEGIN IMMEDIATE")
@@ -64,8 +64,8 @@ PLANTS = {
 """, """        return {index: Outcome("registered") for index, _, _ in publish}
 """),
     "the random bytes are left out": ("records.py", """secrets.token_bytes(_NONCE)""", """bytes(_NONCE)"""),
-    "the running sum is begun anew": ("shards.py", """            self._sum = records.sum_behind(self._sum, place, body)
-""", """            self._sum = records.sum_behind(records.NOTHING_READ, place, body)
+    "the running sum is begun anew": ("shards.py", """            self._sum = records.sum_behind(self._sum, place, self._last)
+""", """            self._sum = records.sum_behind(records.NOTHING_READ, place, self._last)
 """),
     "relog doesn't apply the new log": ("relog.py", """    while piece := shard.read():
         shard.apply(piece)

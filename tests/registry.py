@@ -3,7 +3,7 @@
 
 PROGRAM is npss. PREFIX is where ./build-c installed the library, that of this tree where none is named; the module npss is
 built over it. In turn: the registry's own tests; chaos over a SQLite file and over a Redis server, for N seconds together,
-36 where nobody says otherwise, and behind each the log's own faults, which take some 10 seconds. Run as root it installs
+30 where nobody says otherwise, and behind each the log's own faults, which take some 10 seconds. Run as root it installs
 Debian's redis-server, python3-redis, python3-starlette, python3-uvicorn, mypy and chromium where they are missing, unless
 NO_APT=1 is set; what can't be had is skipped, with its name. Ends in a line 'N passed, M failed'.
 """
@@ -52,7 +52,7 @@ def main():
     parser = argparse.ArgumentParser()
     parser.add_argument("program", type=Path)
     parser.add_argument("prefix", nargs="?", type=Path, default=ROOT / "out" / "c")
-    parser.add_argument("--seconds", type=float, default=36)
+    parser.add_argument("--seconds", type=float, default=30)
     words = parser.parse_args()
     tally = Tally()
     if not (words.prefix / "lib" / "libnpss.a").exists() or not shutil.which("cc"):

@@ -26,10 +26,10 @@ class Examiner:
     def record(self, place: int, body: bytes, first: bool) -> Record:
         """The record of bytes at a place. `first` is whether it is the shard's first one."""
         record = records.read(place, body, self._layout)
-        if first or isinstance(record, Setup):
-            self._check_setup(place, record, first)
-        elif isinstance(record, Claim):
+        if isinstance(record, Claim) and not first:
             self._check_claim(place, record)
+        elif first or isinstance(record, Setup):
+            self._check_setup(place, record, first)
         elif isinstance(record, Forget):
             self._check_shard(place, self._key(record.string))
         return record

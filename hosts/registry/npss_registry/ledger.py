@@ -49,7 +49,7 @@ class Ledger:
             record = examiner.record(place, body, first=total == records.NOTHING_READ)
             if isinstance(record, End):
                 break
-            total = records.sum_behind(total, place, body)
+            total = records.sum_behind(total, place, records.sum_of(body))
             if place in places:
                 self.sums[place] = total
             self._add(place, record)

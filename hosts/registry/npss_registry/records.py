@@ -17,7 +17,8 @@ from npss_registry.errors import LogBroken
 
 # A message is the form's byte, the length of the string in four bytes, the string, and its key likewise.
 _LENGTH = 4
-_NONCE = 16
+# So many random bytes stand in a record, and so many characters tell them.
+_NONCE, _SPELLED_NONCE = 16, 24
 # The running sum of a shard of which nothing was read.
 NOTHING_READ = bytes(32)
 _FORM_BYTES = {"nfd": b"D", "nfc": b"C", "nfkd": b"d", "nfkc": b"c"}
@@ -153,7 +154,9 @@ def _setup(told: dict[str, object]) -> Setup:
 
 
 def _check_nonce(told: dict[str, object]) -> None:
-    if len(base64.b64decode(_text(told["nonce"]), validate=True)) != _NONCE:
+    """Random bytes stand in a record. Nothing is read from them."""
+    nonce = told["nonce"]
+    if not isinstance(nonce, str) or len(nonce) != _SPELLED_NONCE:
         raise ValueError("its random bytes are not whole")
 
 
@@ -177,9 +180,9 @@ def sum_of(body: bytes) -> bytes:
     return hashlib.sha256(body).digest()
 
 
-def sum_behind(before: bytes, place: int, body: bytes) -> bytes:
-    """The running sum of a shard behind a record, from that before it: it tells all records up to here, with their places."""
-    return hashlib.sha256(before + place.to_bytes(8, "big") + sum_of(body)).digest()
+def sum_behind(before: bytes, place: int, last: bytes) -> bytes:
+    """The running sum of a shard behind a record of a sum, from that before it: it tells all records up to here, with their places."""
+    return hashlib.sha256(before + place.to_bytes(8, "big") + last).digest()
 
 
 def shard_of(key: str, shards: int) -> int:

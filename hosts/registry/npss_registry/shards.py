@@ -79,7 +79,7 @@ class Shard:
         """Takes what stands between the image's place and the one where the store stands, whose running sum is known."""
         for place, body in self._read_again(at):
             record = self._record(place, body, first=total == records.NOTHING_READ)
-            total = records.sum_behind(total, place, body)
+            total = records.sum_behind(total, place, records.sum_of(body))
             self._redo_one(place, record)
         if total != self._sum:
             raise LogBroken(self.place, "what this node read before it was another one; see `npss-registry relog`")
@@ -93,7 +93,7 @@ class Shard:
         made = ended = 0
         for place, body in self._read_again(0):
             record = self._record(place, body, first=total == records.NOTHING_READ)
-            total = records.sum_behind(total, place, body)
+            total = records.sum_behind(total, place, records.sum_of(body))
             image_total = total if place <= image_place else image_total
             row = self._store.at(self.number, record.place if isinstance(record, Forget) else place)
             if isinstance(record, Forget):
@@ -142,7 +142,7 @@ class Shard:
                 break
             outcomes[place] = self._apply_one(place, record)
             self.place, self._last = place, records.sum_of(body)
-            self._sum = records.sum_behind(self._sum, place, body)
+            self._sum = records.sum_behind(self._sum, place, self._last)
         if outcomes and self._last is not None:
             self._store.applied(self.number, self.place, self._last, self._sum)
         self._behind += len(outcomes)

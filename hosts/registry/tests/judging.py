@@ -46,7 +46,7 @@ class Judging(Case):
         self.open(copy).close()
         body = spelled(claim_of(message("nfc", "a", "a"), "x"))
         changed(self.log, ("UPDATE record SET body = ? WHERE place = 2", body))
-        total = sum_behind(sum_behind(NOTHING_READ, *self.bodies()[0]), 2, body)
+        total = sum_behind(sum_behind(NOTHING_READ, 1, sum_of(self.bodies()[0][1])), 2, sum_of(body))
         changed(copy, ("UPDATE shard SET last = ?, sum = ?, image_sum = ?", sum_of(body), total, total))
         self.assertRegex("\n".join(self.judged(copy)), "its node kept what the log doesn't register: 'A'")
 
