@@ -40,6 +40,8 @@ def init(path: str, version: Version, setup: Optional[Setup], log_name: str) -> 
     A relative path of the log counts from the store's folder. StoreError of a log that `relog` has begun and not ended.
     """
     tables = version.tables()
+    if os.path.lexists(path):
+        raise StoreError(f"{path}: there is a file of this name already")
     log = open_log(located(log_name, os.path.dirname(os.path.realpath(path))), "make")
     try:
         found = setup_of(log, 0)

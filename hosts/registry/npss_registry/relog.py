@@ -77,6 +77,8 @@ def _bring_over(stores: Sequence[Store], target: str, source: Optional[str]) -> 
     going = [store for store in stores if store.moving is not None or not _is_log(store.log, target)]
     if not going:
         return []
+    for store in going:
+        _check_store(store, going[0], target)
     if not scheme_of(target):
         make_file(target, stores[0].path)
     log = open_log(target, "make")
@@ -95,6 +97,16 @@ def _is_log(one: str, other: str) -> bool:
     return one == other or not scheme_of(one) and not scheme_of(other) and os.path.realpath(one) == os.path.realpath(other)
 
 
+def _check_store(store: Store, first: Store, target: str) -> None:
+    """StoreError where a store can't go over to a log beside another one."""
+    if store.setup != first.setup:
+        raise StoreError(f"{store.path} and {first.path} are of two registries, or over two logs of one")
+    if not any(store.places()):
+        raise StoreError(f"{store.path}: it has read nothing of its log; leave it out, and make it anew by `npss-registry init`")
+    if store.moving is not None and store.moving != target and _is_begun(store.moving):
+        raise StoreError(f"{store.path}: it goes over to {shown(store.moving)} already; call relog with that log again")
+
+
 class _Moving:
     """Stores that go over to a log."""
 
@@ -109,8 +121,6 @@ class _Moving:
 
     def run(self) -> list[str]:
         """Does all steps that are left. Answers the old logs that have no end."""
-        for store in self._stores:
-            self._check_store(store)
         begun = self._begun()
         without_end = sorted({shown(store.log) for store in self._stores if not self._end(store)})
         self._mark(begun is not None and is_whole(self._log, begun))
@@ -121,14 +131,6 @@ class _Moving:
         return without_end
 
     # ---- what has to be so
-
-    def _check_store(self, store: Store) -> None:
-        if store.setup != self._old:
-            raise StoreError(f"{store.path} and {self._stores[0].path} are of two registries, or over two logs of one")
-        if not any(store.places()):
-            raise StoreError(f"{store.path}: it has read nothing of its log; leave it out, and make it anew by `npss-registry init`")
-        if store.moving not in (None, self._target) and _is_begun(store.moving):
-            raise StoreError(f"{store.path}: it goes over to {shown(store.moving)} already; call relog with that log again")
 
     def _begun(self) -> Optional[Setup]:
         """The setup of the log; None of an empty one. StoreError where it doesn't go on from that of the stores."""
@@ -238,10 +240,10 @@ def _name_of(setup: Setup) -> str:
     return setup.name or "-"
 
 
-def _is_begun(name: Optional[str]) -> bool:
+def _is_begun(name: str) -> bool:
     """Whether a log can be opened, and has all that was to be carried over."""
     try:
-        log = open_log(name or "", "read")
+        log = open_log(name, "read")
     except StoreError:
         return False
     try:

@@ -205,6 +205,7 @@ class Relogging(Case):
         paths = [*self.two(), self.store("fresh")]
         self.assertRaisesRegex(StoreError, "has read nothing", relog, paths, self.new)
         self.assertRaisesRegex(StoreError, "has read nothing", relog, paths[2:], self.new)
+        self.assertFalse(os.path.exists(self.new))
         node = self.open(paths[0])  # nothing was done
         self.assertEqual(node.claim("f", "x").what, "registered")
 
@@ -392,6 +393,28 @@ class Relogging(Case):
                 node = self.open(paths[0])
                 self.assertEqual(node.claim("f", "x").what, "registered")
                 node.close()
+
+    def test_another_log_where_the_first_one_could_not_be_written(self):
+        paths = self.two()
+        self.without_tail(4)
+        with killed_at(5, True) as did:
+            relog(paths, self.new)
+        self.assertTrue(did)
+        done = relog(paths, str(self.folder / "third"))
+        self.assertEqual((done.registered, done.lost), (3, []))
+        self.assertRaisesRegex(StoreError, "name a new one", relog, paths, self.new)
+        self.goes_on(paths, ["a", "A", "i"])
+
+    def test_a_log_that_is_whole_is_the_one(self):
+        paths = self.two()
+        self.without_tail(4)
+        relog(paths[:1], self.new)
+        with killed_at(3, False) as did:
+            relog(paths[1:], self.new)
+        self.assertTrue(did)
+        self.assertRaisesRegex(StoreError, "goes over to .*new already", relog, paths[1:], str(self.folder / "third"))
+        self.assertEqual(relog(paths, self.new).lost, [])
+        self.goes_on(paths, ["a", "A", "i"])
 
     def test_a_log_that_is_silent_is_not_ended(self):
         paths = self.two()
