@@ -32,7 +32,7 @@ from pathlib import Path
 import ucd
 from harness import Tally
 
-from chaos_history import History, keys_of
+from chaos_history import History, keys_of, try_checker
 from chaos_log import check_log_faults
 from chaos_servers import Proxy, Server
 from npss_registry import LogAway, LogBroken, Registry, Version, init
@@ -366,6 +366,7 @@ def main():
     print(f"seed {words.seed}, {words.seconds} seconds over {words.log}", flush=True)
     signal.signal(signal.SIGTERM, lambda *_: sys.exit(143))
     tally = Tally()
+    try_checker(tally)
     with tempfile.TemporaryDirectory() as name:
         chaos = Chaos(Path(name), words)
         try:

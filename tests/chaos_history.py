@@ -121,3 +121,20 @@ def keys_of(names, answered) -> Optional[dict]:
     if len(lines) != len(names):
         return None
     return {name: line[1:].decode() if line.startswith(b"=") else name for name, line in zip(names, lines)}
+
+
+def try_checker(tally):
+    """Histories of one answer after another, each with what has to be found in it."""
+    one, other = ({"do": "claim", "name": name, "owner": owner} for name, owner in (("a", "x"), ("b", "y")))
+    forget, find = {"do": "forget", "name": "a"}, {"do": "find", "name": "b"}
+    yes, found, none = {"what": "registered"}, {"what": "found", "holders": [["a", "x"]]}, {"what": "found", "holders": []}
+    keys = {"a": "k", "b": "k"}
+    for answers, final, wanted in (([(one, yes), (one, yes), (find, found)], {"a": "x"}, None), ([(one, yes), (other, yes)], {"b": "y"}, "two holders of one key"),
+                                   ([(one, yes), (forget, {"what": "forgotten"}), (other, yes)], {"b": "y"}, None), ([(one, yes), (forget, None), (other, yes)], {"b": "y"}, None),
+                                   ([(one, yes), (forget, {"what": "not registered"})], {}, "gone"), ([(one, yes), (one, None)], {"a": "z"}, "gone"),
+                                   ([(one, yes), (find, none)], {"a": "x"}, "not found"), ([(forget, {"what": "forgotten"}), (one, yes)], {}, "gone")):
+        history = History()
+        for time, (asked, answer) in enumerate(answers):
+            history.add(0, (2 * time, 2 * time + 1), asked, answer)
+        violations = history.violations(keys, False, final)
+        tally.check(f"what is found in {answers}", any(wanted in line for line in violations) if wanted else not violations, violations)
