@@ -1,7 +1,7 @@
 """A new log from what stores have read, where the old one lost its tail, is gone, or is given up for another one.
 
-It goes in steps, each of which can be done again: stores are marked, so that no node opens them; the old logs get an end,
-at which nodes stop that weren't named; stores read them on up to there; the new log is written; each store goes over to it
+It goes in steps, each of which can be done again: the old logs get an end, at which nodes stop that weren't named; stores
+read them on up to there; they are marked, so that no node opens them; the new log is written; each store goes over to it
 within a transaction, and has read it then. A call that was cut off is called again, and goes on.
 """
 
