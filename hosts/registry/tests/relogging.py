@@ -4,12 +4,10 @@ import contextlib
 import os
 import shutil
 import sqlite3
-from pathlib import Path
 from unittest import mock
 
-from cases import NEW, OLD, PROGRAM, SECOND_LAYOUT, YOUNG, Case, changed, earlier, first_record, version, without_rights
-from npss_registry import LogBroken, Registry, StoreError, init
-from npss_registry.errors import LogEnded
+from cases import NEW, OLD, PROGRAM, YOUNG, Case, changed, version, without_rights
+from npss_registry import Registry, StoreError, init
 from npss_registry.logs import SqliteLog
 from npss_registry.records import Setup
 from npss_registry.relog import relog
@@ -54,8 +52,8 @@ def killed_at(number, behind):
         yield did
 
 
-class Relogging(Case):
-    """relog"""
+class Relog(Case):
+    """Two stores over a log, and another one to which they go over."""
 
     def setUp(self):
         super().setUp()
@@ -91,6 +89,21 @@ class Relogging(Case):
         self.assertEqual(node.claim("f", "x").what, "registered")
         node.close()
         self.assertEqual(self.judged(*paths), [])
+
+    def places(self, path):
+        with contextlib.closing(sqlite3.connect(path)) as base:
+            return [row[0] for row in base.execute("SELECT place FROM shard")]
+
+    def goes_on_with(self, paths, owners):
+        for path in paths:
+            node = self.open(path)
+            self.assertEqual({row.string: row.owner for row in node.store.registrations(0)}, owners)
+            node.close()
+        self.assertEqual(self.judged(*paths), [])
+
+
+class Relogging(Relog):
+    """relog, called once and again, and killed."""
 
     def test_a_new_log_from_what_stores_read(self):
         paths = self.two()
@@ -128,27 +141,6 @@ class Relogging(Case):
             status, out, _ = self.run_words(*words)
             self.assertEqual((status, out), (1, f"1 strings are registered in the new log, 1 are lost\nlost from {one.store.path}: 3\t'A'\tx\n"))
         self.assertEqual(self.run_words("check", one.store.path, other.store.path, "--program", PROGRAM)[0], 0)
-
-    def test_three_machines_as_the_guide_tells_it(self):
-        stores = []
-        for name in "ABC":
-            (self.folder / name).mkdir()
-            stores.append(self.store(f"{name}/store"))
-            node = self.open(stores[-1])
-            node.claim(name * 2 if name == "A" else "a" * len(stores), "x")
-            node.abandon()  # it was killed: what it wrote last stands beside the store
-        self.without_tail(4)
-        copies = [stores[0], *(str(self.folder / name) for name in ("B copy", "C copy"))]
-        for store, copy in zip(stores[1:], copies[1:]):
-            self.assertEqual(self.run_words("backup", store, copy)[0], 0)
-        self.assertEqual(self.run_words("relog", *copies, "--log", self.new)[:2], (0, "3 strings are registered in the new log, 0 are lost\n"))
-        for store, copy in zip(stores[1:], copies[1:]):
-            for end in ("", "-wal", "-shm"):
-                Path(store + end).unlink(missing_ok=True)
-            shutil.copy(copy, store)
-        for store in stores:
-            self.assertEqual(self.run_words("list", store)[1], "2\t'AA'\tx\n3\t'aa'\tx\n4\t'aaa'\tx\n")
-            self.assertEqual(self.run_words("check", store, "--program", PROGRAM)[0], 0)
 
     def test_called_again_it_loses_nothing(self):
         paths = self.two()
@@ -221,85 +213,6 @@ class Relogging(Case):
         os.unlink(self.new)
         self.assertEqual(sorted(self.names(one.store.path)), ["a", "i"])
 
-    def places(self, path):
-        with contextlib.closing(sqlite3.connect(path)) as base:
-            return [row[0] for row in base.execute("SELECT place FROM shard")]
-
-    def test_the_old_log_is_read_to_its_end_first(self):
-        one, other = self.node("one"), self.node("other")
-        one.claim("a", "x")
-        one.catch_up()
-        other.claim("A", "x")
-        one.abandon()
-        done = relog([one.store.path], self.new)
-        self.assertEqual((done.registered, done.lost, done.without_end), (2, [], []))
-        self.assertEqual(self.names(one.store.path), ["a", "A"])
-
-    def test_no_node_goes_on_over_the_old_log(self):
-        one, other = self.node("one"), self.node("other")
-        one.claim("a", "x")
-        other.catch_up()
-        one.close()
-        relog([one.store.path], self.new)
-        for asked in (other.catch_up, lambda: other.claim("A", "y")):
-            with self.assertRaisesRegex(LogEnded, f"goes on in {self.new}") as caught:
-                asked()
-            self.assertEqual(caught.exception.place, 3)
-        other.abandon()
-        again = self.open(other.store.path)
-        self.assertRaises(LogEnded, again.catch_up)
-        again.abandon()
-        # The machine that wasn't named comes over later.
-        self.assertEqual(self.open(one.store.path).claim("A", "x").what, "registered")
-        done = relog([other.store.path], self.new)
-        self.assertEqual((done.registered, done.lost), (2, []))
-        self.assertEqual(self.open(other.store.path).claim("A", "y").what, "taken")
-
-    def beside(self, behind):
-        """A node that wasn't named, and the path of a store that goes over before, or right behind, what the node writes next."""
-        one, other = self.node("one"), self.node("other")
-        one.catch_up()
-        one.close()
-        append = other.log.append
-
-        def beside(records):
-            if not behind:
-                relog([one.store.path], self.new)
-            places = append(records)
-            if behind:
-                relog([one.store.path], self.new)
-            return places
-
-        other.log.append = beside
-        return other, one.store.path
-
-    def test_a_claim_before_the_end_is_answered(self):
-        node, path = self.beside(behind=True)
-        self.assertEqual(node.claim("a", "x").what, "registered")
-        self.assertRaises(LogEnded, node.claim, "A", "x")
-        self.assertEqual(self.names(path), ["a"])
-
-    def test_a_claim_behind_the_end_is_registered_nowhere(self):
-        node, path = self.beside(behind=False)
-        self.assertRaises(LogEnded, node.claim, "a", "x")
-        self.assertEqual((self.names(path), self.names(node.store.path)), ([], []))
-
-    def test_a_store_that_comes_over_later_tells_what_it_loses(self):
-        one, other, third = (self.node(name) for name in ("one", "other", "third"))
-        for node, name in ((one, "a"), (one, "A"), (one, "i")):
-            node.claim(name, "x")
-        third.catch_up()
-        one.forget("A")
-        for node in (one, third):
-            node.close()
-        self.without_tail(4)  # a and A are left
-        other.catch_up()
-        other.close()
-        relog([other.store.path], self.new)
-        done = relog([third.store.path], self.new)
-        self.assertEqual([(row.registration.string, row.registration.owner) for row in done.lost], [("i", "x")])
-        self.assertEqual(relog([third.store.path], self.new).lost, done.lost)
-
     def test_the_branch_is_chosen(self):
         one, other = self.node("one"), self.node("other")
         one.claim("a", "x")
@@ -317,13 +230,6 @@ class Relogging(Case):
         self.assertEqual((done.registered, [row.registration.string for row in done.lost]), (3, ["A", "i", "f"]))
         self.goes_on_with(paths, {"a": "x", "f": "kept", "fi": "kept"})
 
-    def goes_on_with(self, paths, owners):
-        for path in paths:
-            node = self.open(path)
-            self.assertEqual({row.string: row.owner for row in node.store.registrations(0)}, owners)
-            node.close()
-        self.assertEqual(self.judged(*paths), [])
-
     def test_a_log_in_which_something_else_stands(self):
         paths, log = self.two(), self.log
         self.log = self.new
@@ -336,20 +242,6 @@ class Relogging(Case):
         shutil.copy(self.log, self.folder / "copied")
         self.assertRaisesRegex(StoreError, "by another name", relog, paths, str(self.folder / "copied"))
         self.goes_on(paths[:1], ["a", "A", "i"])
-
-    def test_an_old_registry_goes_over(self):
-        self.old_log(first_record("claim", "a", "a", "x"), first_record("claim", "A", "A", "y"))
-        paths = [self.store("one"), self.store("other")]
-        for path in paths:
-            node = self.open(path)
-            node.catch_up()
-            node.close()
-            earlier(path, SECOND_LAYOUT)
-        self.assertEqual(relog(paths[:1], self.new).registered, 2)
-        self.assertRaisesRegex(StoreError, "name a new one", relog, paths[1:], self.new)
-        with self.assertRaises(LogEnded):
-            self.open(paths[1]).catch_up()
-        self.goes_on(paths[:1], ["a", "A"])
 
     def test_parked_names_go_over(self):
         old, new = self.node("old"), self.node("new", NEW)
@@ -415,18 +307,3 @@ class Relogging(Case):
         self.assertRaisesRegex(StoreError, "goes over to .*new already", relog, paths[1:], str(self.folder / "third"))
         self.assertEqual(relog(paths, self.new).lost, [])
         self.goes_on(paths, ["a", "A", "i"])
-
-    def test_a_log_that_is_silent_is_not_ended(self):
-        paths = self.two()
-        Path(self.log).write_bytes(b"no log, but a text that is long enough to be looked at" * 100)
-        done = relog(paths, self.new)
-        self.assertEqual((done.registered, done.without_end), (3, [self.log]))
-
-    def test_what_was_lost_under_a_node_stops_it(self):
-        one, other = self.node("one"), self.node("other")
-        one.claim("a", "x")
-        other.catch_up()
-        self.without_tail(2)
-        one.abandon()
-        relog([one.store.path], self.new)
-        self.assertRaises(LogBroken, other.catch_up)

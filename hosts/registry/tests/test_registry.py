@@ -18,6 +18,7 @@ import urllib.parse
 from cases import NEW, OLD, PROGRAM, YOUNG, Case
 from judging import Judging  # noqa: F401
 from npss_registry.logs import SqliteLog
+from old_logs import OldLogs  # noqa: F401
 from over_redis import Redis  # noqa: F401
 from pasts import Earlier, Examined, Pasts  # noqa: F401
 from relogging import Relogging  # noqa: F401
