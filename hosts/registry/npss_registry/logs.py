@@ -6,6 +6,7 @@ A place is a number that rises with each record. What was written stands on the 
 import os
 import re
 import sqlite3
+import time
 from collections.abc import Iterator, Sequence
 from contextlib import contextmanager, suppress
 from typing import Any, Literal, Optional, Protocol
@@ -16,6 +17,8 @@ from npss_registry.errors import LogAway, LogBroken, LogReadOnly, NoLog, StoreEr
 How = Literal["make", "use", "read"]
 # A log is read in pieces of so many records.
 PIECE = 1000
+# A file is looked at for news after so many seconds.
+LOOK = 0.05
 
 
 class Log(Protocol):
@@ -32,6 +35,9 @@ class Log(Protocol):
 
     def lasts(self, shards: int) -> list[int]:
         """The places of the last records of the first so many shards, by one question; 0 of a shard that has none."""
+
+    def news(self, known: Sequence[int], patience: float) -> list[int]:
+        """`lasts` as soon as one of them isn't the known one, or once so many seconds are over."""
 
     def close(self) -> None:
         """Lets the log go."""
@@ -126,6 +132,22 @@ class SqliteLog:
                                        "SELECT coalesce((SELECT max(place) FROM record WHERE record.shard = number.shard), 0) FROM number", (shards,))
             return [int(place) for place, in found]
 
+    def news(self, known: Sequence[int], patience: float) -> list[int]:
+        end = time.monotonic() + patience
+        seen = None
+        while True:
+            with _reached(self._path):
+                version = self._base.execute("PRAGMA data_version").fetchone()[0]
+            if version != seen:
+                lasts = self.lasts(len(known))
+                if lasts != list(known):
+                    return lasts
+                seen = version
+            left = end - time.monotonic()
+            if left <= 0:
+                return list(known)
+            time.sleep(min(LOOK, left))
+
     def close(self) -> None:
         self._base.close()
 
@@ -170,6 +192,7 @@ class RedisLog:
         self._away = redis.RedisError
         address, _, prefix = url.partition("#")
         self._prefix = prefix or "npss"
+        self._patience = patience
         try:
             self._server: Any = redis.Redis.from_url(address, socket_timeout=patience, socket_connect_timeout=patience)
         except ValueError as error:
@@ -228,6 +251,13 @@ class RedisLog:
             for shard in range(shards):
                 pipe.xrevrange(self._stream(shard), count=1)
             return [self._place(found[0][0]) if found else 0 for found in pipe.execute()]
+
+    def news(self, known: Sequence[int], patience: float) -> list[int]:
+        # A server that is silent is told from one without news by the patience of a question, which has to be the longer one.
+        wait = min(patience, self._patience / 2)
+        with self._asked():
+            self._server.xread({self._stream(shard): f"0-{place}" for shard, place in enumerate(known)}, count=1, block=max(1, int(wait * 1000)))
+        return self.lasts(len(known))
 
     def close(self) -> None:
         self._server.close()
