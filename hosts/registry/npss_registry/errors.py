@@ -66,3 +66,15 @@ class LogEnded(LogBroken):
     def __init__(self, place: int, log: str):
         super().__init__(place, f"it ends here, the registry goes on in {log}; `npss-registry relog STORE --log LOG` brings a store over")
         self.log = log
+
+
+class NotTried(RegistryError):
+    """The log or the store is known to be away, so nothing was written."""
+
+
+class StoreAway(RegistryError):
+    """The store can't be read or written just now, as on a full disk. It can be used once that is over."""
+
+
+class CannotServe(RegistryError):
+    """What a server wants is missing: a port, a file of tokens, a module."""

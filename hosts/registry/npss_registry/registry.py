@@ -116,10 +116,11 @@ class Registry:
     Raises NoLog where its log isn't there, Differs where it is another registry's, and LogBroken where it isn't the one that was read.
     """
 
-    def __init__(self, path: str):
+    def __init__(self, path: str, store: Optional[Store] = None):
+        """Over the store of a path; one that is open already is left open where this fails."""
         self._lock = threading.RLock()
         self._ended = False
-        self.store = Store(path)
+        self.store = store or Store(path)
         try:
             if self.store.moving is not None:
                 raise StoreError(f"{path}: `npss-registry relog` into {shown(self.store.moving)} was begun and has not ended; call it again")
@@ -132,7 +133,8 @@ class Registry:
                 self.log.close()
                 raise
         except BaseException:
-            self.store.close()
+            if store is None:
+                self.store.close()
             raise
 
     def _use(self, tables: Tables) -> None:

@@ -122,6 +122,11 @@ class Shard:
             if named and named.ended == place:
                 self.node.forget(record.string)
 
+    @property
+    def count(self) -> int:
+        """How many strings are registered."""
+        return self._count
+
     # ---- records
 
     def read(self) -> list[tuple[int, bytes]]:

@@ -5,10 +5,11 @@ import secrets
 import sqlite3
 import zlib
 from collections.abc import Iterator, Sequence
-from contextlib import closing, contextmanager
+from contextlib import closing, contextmanager, suppress
 from typing import Any, Optional
 
 from npss_registry.errors import StoreError
+from npss_registry.failures import told
 from npss_registry.layout import LAYOUT, TABLES, execute, raise_layout
 from npss_registry.lock import Lock
 from npss_registry.logs import located, uri_path, uri_to_read
@@ -45,12 +46,12 @@ class Store:
             self._base = self._connected(file, read_only)
         except sqlite3.Error as error:
             self._unlock()
-            raise StoreError(f"{path}: it is no store: {error}") from error
+            raise told(path, error, "it is no store") from error
         try:
             self._read_setup(file, read_only)
         except sqlite3.Error as error:
             self.close()
-            raise StoreError(f"{path}: it is no store: {error}") from error
+            raise told(path, error, "it is no store") from error
         except BaseException:
             self.close()
             raise
@@ -95,7 +96,7 @@ class Store:
                 raise_layout(copy, file)
                 copy.execute("COMMIT")
         except sqlite3.Error as error:
-            raise StoreError(f"{path}: it is no store: {error}") from error
+            raise told(path, error, "it is no store") from error
         made = cls(to, read_only=True)
         made.path, made.folder = path, os.path.dirname(file)
         return made
@@ -160,14 +161,17 @@ class Store:
             self._base.execute("ROLLBACK")
 
     def backup(self, to: str) -> None:
-        """Copies the store into a new file, while others may read this one."""
+        """Copies the store into a new file, of one moment, while others work on this one. What couldn't be copied whole isn't left."""
         if os.path.exists(to):
             raise StoreError(f"{to}: there is a file of this name already")
         try:
             with closing(sqlite3.connect(to)) as copy:
                 self._base.backup(copy)
         except sqlite3.Error as error:
-            raise StoreError(f"{to}: the copy can't be written: {error}") from error
+            for end in ("", "-journal"):
+                with suppress(OSError):
+                    os.unlink(to + end)
+            raise told(to, error, "the copy can't be written") from error
 
     def faults(self) -> list[str]:
         """What SQLite finds wrong in the file, as an index that differs from its table."""
@@ -326,6 +330,26 @@ class Store:
     def parked(self, number: int) -> list[Registration]:
         """The registrations of which the node lacks a code point, in the order of their places."""
         return list(self._some(_PARKED, number))
+
+    def parked_counts(self) -> dict[int, int]:
+        """How many registrations are parked, by their shards; shards without any are left out."""
+        return dict(self._base.execute("SELECT shard, count(*) FROM registration INDEXED BY parked_place WHERE parked AND ended IS NULL "
+                                       "GROUP BY shard"))
+
+    def first_parked(self, most: int) -> list[tuple[int, str]]:
+        """The first parked strings of all shards, at most so many, each with its shard."""
+        rows = self._base.execute("SELECT shard, string FROM registration INDEXED BY parked_place WHERE parked AND ended IS NULL "
+                                  "ORDER BY shard, place LIMIT ?", (most,))
+        return [(shard, string.decode()) for shard, string in rows]
+
+    def registered_counts(self) -> dict[int, int]:
+        """How many strings are registered, by their shards; shards without any are left out."""
+        return dict(self._base.execute("SELECT shard, count(*) FROM registration WHERE ended IS NULL GROUP BY shard"))
+
+    @property
+    def data_version(self) -> int:
+        """A number that is another one once somebody else has written to the store."""
+        return int(self._base.execute("PRAGMA data_version").fetchone()[0])
 
     def count(self, number: int) -> int:
         """How many strings are registered."""
