@@ -294,7 +294,7 @@ def check_python(tally, root, wheel, version):
 
 def check_registry(tally, root):
     """A registry over the package for Python, with the program as its judge."""
-    for words, wanted in ((["init", "/tmp/store", *FILES, "--form", "nfkc"], "form nfkc, room 65536, shards 1, equivalents refused\n"),
+    for words, wanted in ((["init", "/tmp/store", *FILES, "--form", "nfkc"], "form nfkc, room 65536, shards 1, equivalents refused, names of at most 1024 bytes\n"),
                           (["claim", "/tmp/store", TEXT, "--owner", "17"], None), (["find", "/tmp/store", COMPATIBLE], None),
                           (["check", "/tmp/store"], None)):
         status, written = root.run("npss-registry", *words)

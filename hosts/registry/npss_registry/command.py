@@ -21,6 +21,7 @@ from npss_registry.judge import Judge
 from npss_registry.logs import scheme_of
 from npss_registry.opening import opened
 from npss_registry.records import FORMS, Setup
+from npss_registry.records import MOST_BYTES as MOST_BYTES_OF_NAME
 from npss_registry.registry import MOST_SHARDS
 from npss_registry.registry import told as told_setup
 from npss_registry.relog import relog
@@ -96,9 +97,9 @@ def row_of(found: Registration) -> str:
 
 def _init(words: argparse.Namespace) -> int:
     setup: Optional[Setup] = None
-    if any(value is not None for value in (words.form, words.room, words.shards)) or words.equivalents:
+    if any(value is not None for value in (words.form, words.room, words.shards, words.most_bytes)) or words.equivalents:
         setup = Setup(words.form or "nfc", 65536 if words.room is None else words.room, 1 if words.shards is None else words.shards,
-                      words.equivalents)
+                      words.equivalents, most_bytes=words.most_bytes or 0)
     made = init(words.store, version_of(words.data, words.exclusions), setup, words.log or f"{os.path.basename(words.store)}.log")
     print(told_setup(replace(made, name="")))
     return DONE
@@ -210,6 +211,7 @@ def parser() -> argparse.ArgumentParser:
     one.add_argument("--form", type=_lowered, choices=FORMS, help="the form of the keys; nfc where nobody says otherwise")
     one.add_argument("--room", type=between(0, 65536), help="the most strings of a shard, up to 65536")
     one.add_argument("--shards", type=between(1, MOST_SHARDS), help="how many shards, up to 1024; never to be changed")
+    one.add_argument("--most-bytes", type=between(1, MOST_BYTES_OF_NAME), help="the most bytes of a name, up to 65536; 1024 where nobody says otherwise")
     one.add_argument("--equivalents", action="store_true", help="register equivalent strings side by side, as file names")
     one = command("claim", "registers a name for an owner", "store", "name")
     one.add_argument("--owner", type=owner_of, required=True)

@@ -1,6 +1,6 @@
 """What goes wrong, with a sentence for each."""
 
-from npss import Break
+from npss import Break, Refused
 
 
 class RegistryError(Exception):
@@ -66,6 +66,20 @@ class LogEnded(LogBroken):
     def __init__(self, place: int, log: str):
         super().__init__(place, f"it ends here, the registry goes on in {log}; `npss-registry relog STORE --log LOG` brings a store over")
         self.log = log
+
+
+class NameTooLong(Refused):
+    """A name has more bytes than the registry allows.
+
+    most: how many it allows
+    """
+
+    def __init__(self, most: int):
+        super().__init__(most)
+        self.most = most
+
+    def __str__(self) -> str:
+        return f"the name has more than {self.most:,} bytes, which is the most that this registry allows"
 
 
 class NotTried(RegistryError):

@@ -8,9 +8,6 @@ from npss_registry import records
 from npss_registry.errors import LogBroken
 from npss_registry.records import Claim, Forget, Record, Setup
 
-# A string may have so many bytes.
-MOST_BYTES = 65_536
-
 
 class Examiner:
     """Examines the records of a shard, whatever they will come to. LogBroken of one that no node wrote."""
@@ -45,8 +42,9 @@ class Examiner:
     def _check_claim(self, place: int, claim: Claim) -> None:
         if claim.message[:1] != self._form_byte:
             raise LogBroken(place, "its message is of another form")
-        if len(claim.message) > MOST_BYTES and len(claim.string.encode()) > MOST_BYTES:
-            raise LogBroken(place, f"its string has more than {MOST_BYTES:,} bytes")
+        most = self.setup.most_bytes
+        if len(claim.message) > most and len(claim.string.encode()) > most:
+            raise LogBroken(place, f"its string has more than {most:,} bytes")
         # The key of a string with code points that this version lacks can't be made: the record's own is gone by.
         if self._key(claim.string) not in (None, claim.key):
             raise LogBroken(place, "its key is not that of its string")

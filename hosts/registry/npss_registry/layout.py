@@ -7,12 +7,13 @@ from npss_registry.logs import scheme_of
 
 LAYOUT = 3
 _REGISTERED = "CREATE UNIQUE INDEX registered ON registration (shard, key, string) WHERE ended IS NULL"
+_REST = "CREATE TABLE image_rest (shard INTEGER NOT NULL, of TEXT NOT NULL, number INTEGER NOT NULL, body BLOB NOT NULL, PRIMARY KEY (shard, of, number))"
 _LOST = "CREATE TABLE lost (shard INTEGER NOT NULL, place INTEGER NOT NULL, string BLOB NOT NULL, key BLOB NOT NULL, owner TEXT NOT NULL)"
 # Images stand apart from places: a batch writes places, and would read what stands beside them.
 TABLES = f"""
 CREATE TABLE setup (layout INTEGER NOT NULL, form TEXT NOT NULL, room INTEGER NOT NULL, shards INTEGER NOT NULL,
     equivalents INTEGER NOT NULL, log TEXT NOT NULL, node TEXT NOT NULL, openings INTEGER NOT NULL, name TEXT NOT NULL DEFAULT '',
-    moving TEXT);
+    moving TEXT, most_bytes INTEGER NOT NULL DEFAULT 65536);
 CREATE TABLE version (number INTEGER PRIMARY KEY, data BLOB NOT NULL, exclusions BLOB NOT NULL,
     data_sum BLOB NOT NULL, exclusions_sum BLOB NOT NULL, assigned INTEGER NOT NULL);
 CREATE TABLE shard (number INTEGER PRIMARY KEY, place INTEGER NOT NULL, last BLOB, sum BLOB, image_sum BLOB, events INTEGER NOT NULL DEFAULT 0);
@@ -25,6 +26,7 @@ CREATE INDEX parked_place ON registration (shard, place) WHERE parked;
 CREATE TABLE journal (number INTEGER PRIMARY KEY AUTOINCREMENT, shard INTEGER NOT NULL, event TEXT NOT NULL,
     place INTEGER NOT NULL, version INTEGER NOT NULL);
 {_LOST};
+{_REST};
 """
 # What makes the next layout of an earlier one.
 _RAISING = {
@@ -47,7 +49,9 @@ ALTER TABLE shard ADD COLUMN events INTEGER NOT NULL DEFAULT 0;
 UPDATE shard SET events = (SELECT count(*) FROM journal WHERE journal.shard = shard.number);
 ALTER TABLE setup ADD COLUMN name TEXT NOT NULL DEFAULT '';
 ALTER TABLE setup ADD COLUMN moving TEXT;
+ALTER TABLE setup ADD COLUMN most_bytes INTEGER NOT NULL DEFAULT 65536;
 {_LOST};
+{_REST};
 UPDATE setup SET layout = 3;
 """,
 }

@@ -7,7 +7,7 @@ import os
 import re
 import sqlite3
 import time
-from collections.abc import Iterator, Sequence
+from collections.abc import Iterable, Iterator, Sequence
 from contextlib import contextmanager, suppress
 from typing import Any, Literal, Optional, Protocol
 
@@ -17,6 +17,10 @@ from npss_registry.errors import LogAway, LogBroken, LogReadOnly, NoLog, StoreEr
 How = Literal["make", "use", "read"]
 # A log is read in pieces of so many records.
 PIECE = 1000
+# A piece ends where it has so many bytes, but not before its second record.
+MOST_READ = 1 << 22
+# A Redis server is asked for so many records at a time.
+STEP = 100
 # A file is looked at for news after so many seconds.
 LOOK = 0.05
 
@@ -31,7 +35,7 @@ class Log(Protocol):
         """Writes the first record of each shard, unless somebody has begun the log meanwhile."""
 
     def read(self, shard: int, behind: int, most: int) -> list[tuple[int, bytes]]:
-        """The first records behind a place, at most so many, in their order."""
+        """The first records behind a place, at most so many, in their order; fewer where these have many bytes, but two at least."""
 
     def lasts(self, shards: int) -> list[int]:
         """The places of the last records of the first so many shards, by one question; 0 of a shard that has none."""
@@ -124,7 +128,7 @@ class SqliteLog:
         with _reached(self._path):
             found = self._base.execute("SELECT place, body FROM record WHERE shard = ? AND place > ? ORDER BY place LIMIT ?",
                                        (shard, behind, most))
-            return [(place, _body(place, body)) for place, body in found]
+            return bounded((place, _body(place, body)) for place, body in found)
 
     def lasts(self, shards: int) -> list[int]:
         with _reached(self._path):
@@ -150,6 +154,28 @@ class SqliteLog:
 
     def close(self) -> None:
         self._base.close()
+
+
+def size_of(piece: Iterable[tuple[int, bytes]]) -> int:
+    """How many bytes the records of a piece have."""
+    return sum(len(body) for _, body in piece)
+
+
+def may_go_on(piece: Sequence[tuple[int, bytes]], most: int) -> bool:
+    """Whether there may be more behind the records that a log answered where at most so many were asked for."""
+    return len(piece) >= most or size_of(piece) >= MOST_READ
+
+
+def bounded(records: Iterable[tuple[int, bytes]]) -> list[tuple[int, bytes]]:
+    """The first of some records, as many as a piece may have by their bytes."""
+    piece: list[tuple[int, bytes]] = []
+    size = 0
+    for place, body in records:
+        piece.append((place, body))
+        size += len(body)
+        if size >= MOST_READ and len(piece) > 1:
+            break
+    return piece
 
 
 def _body(place: int, body: object) -> bytes:
@@ -241,9 +267,17 @@ class RedisLog:
             pipe.execute(raise_on_error=False)
 
     def read(self, shard: int, behind: int, most: int) -> list[tuple[int, bytes]]:
-        with self._asked():
-            found = self._server.xrange(self._stream(shard), min=f"(0-{behind}" if behind else "-", count=most)
-        return [(self._place(identifier), fields.get(b"record", b"")) for identifier, fields in found]
+        return bounded(self._some(shard, behind, most))
+
+    def _some(self, shard: int, behind: int, most: int) -> Iterator[tuple[int, bytes]]:
+        """The records behind a place, a few at a time."""
+        while most > 0:
+            with self._asked():
+                found = self._server.xrange(self._stream(shard), min=f"(0-{behind}" if behind else "-", count=min(most, STEP))
+            for identifier, fields in found:
+                behind = self._place(identifier)
+                yield behind, fields.get(b"record", b"")
+            most = most - STEP if len(found) == STEP else 0
 
     def lasts(self, shards: int) -> list[int]:
         with self._asked():

@@ -19,6 +19,8 @@ from npss_registry.errors import LogBroken
 _LENGTH = 4
 # So many random bytes stand in a record, and so many characters tell them.
 _NONCE, _SPELLED_NONCE = 16, 24
+# A string may have so many bytes, whatever a registry allows.
+MOST_BYTES = 65_536
 # The running sum of a shard of which nothing was read.
 NOTHING_READ = bytes(32)
 _FORM_BYTES = {"nfd": b"D", "nfc": b"C", "nfkd": b"d", "nfkc": b"c"}
@@ -29,6 +31,8 @@ _ENCODER, _DECODER = json.JSONEncoder(ensure_ascii=False, separators=(",", ":"))
 @dataclass(frozen=True)
 class Setup:
     """What all stores of a log share. It is each shard's first record.
+
+    A name has at most `most_bytes` bytes of UTF-8; of a log that tells none, as many as a node takes.
 
     `name` is random, and no other log has it; a log whose setup is of the first layout has none. Where the log goes on
     from an earlier one, `before` is the name of that, and `kept` how many claims were carried over from it: they stand
@@ -42,6 +46,7 @@ class Setup:
     name: str = ""
     before: str = field(default="", compare=False)
     kept: int = field(default=0, compare=False)
+    most_bytes: int = MOST_BYTES
 
 
 class Claim(NamedTuple):
@@ -108,7 +113,7 @@ def spelled(record: Record) -> bytes:
         told = {"end": record.log}
     else:
         told = {"setup": 2, "form": record.form, "room": record.room, "shards": record.shards, "equivalents": record.equivalents,
-                "name": record.name, "before": record.before, "kept": record.kept}
+                "name": record.name, "before": record.before, "kept": record.kept, "most_bytes": record.most_bytes}
     told["nonce"] = base64.b64encode(secrets.token_bytes(_NONCE)).decode()
     return _ENCODER.encode(told).encode()
 
@@ -150,7 +155,10 @@ def _setup(told: dict[str, object]) -> Setup:
     _check_nonce(told)
     if not _text(told["name"]):
         raise ValueError("the log's name is empty")
-    return replace(first, name=_text(told["name"]), before=_text(told["before"]), kept=_number(told["kept"]))
+    most = _number(told.get("most_bytes", MOST_BYTES))
+    if not 0 < most <= MOST_BYTES:
+        raise ValueError(f"a name has 1 to {MOST_BYTES} bytes at most, not {most}")
+    return replace(first, name=_text(told["name"]), before=_text(told["before"]), kept=_number(told["kept"]), most_bytes=most)
 
 
 def _check_nonce(told: dict[str, object]) -> None:

@@ -11,13 +11,17 @@ from typing import Optional, Union
 from npss import Node, Refused, Tables
 
 from npss_registry import records
-from npss_registry.errors import Differs, LogAway, LogBroken, NoLog, NotOneChain, StoreError
-from npss_registry.logs import PIECE, Log, located, open_log, shown
+from npss_registry.errors import Differs, LogAway, LogBroken, NameTooLong, NoLog, NotOneChain, StoreError
+from npss_registry.logs import PIECE, Log, located, open_log, shown, size_of
 from npss_registry.records import Claim, Forget, Setup
 from npss_registry.shards import Outcome, Shard
 from npss_registry.store import Registration, Store, Version
 
 MOST_SHARDS = 1024
+# Pieces of shards are applied together up to so many bytes.
+BYTES = 1 << 24
+# A name of a new registry has at most so many bytes, where nobody says otherwise.
+MOST_BYTES = 1024
 
 
 @dataclass(frozen=True)
@@ -37,7 +41,8 @@ class ShardStatus:
 def init(path: str, version: Version, setup: Optional[Setup], log_name: str) -> Setup:
     """Makes a store over a log, and sets the log up where nobody has. Without a setup the log's own is taken.
 
-    A relative path of the log counts from the store's folder. StoreError of a log that `relog` has begun and not ended.
+    Where it tells 0 for the most bytes of a name, a new log allows 1,024, and of another one they are taken. A relative path of
+    the log counts from the store's folder. StoreError of a log that `relog` has begun and not ended.
     """
     tables = version.tables()
     if os.path.lexists(path):
@@ -46,11 +51,12 @@ def init(path: str, version: Version, setup: Optional[Setup], log_name: str) -> 
     try:
         found = setup_of(log, 0)
         if found is None:
-            _set_up(log, setup or Setup("nfc", 65536, 1, False))
+            wanted = setup or Setup("nfc", 65536, 1, False, most_bytes=0)
+            _set_up(log, replace(wanted, most_bytes=wanted.most_bytes or MOST_BYTES))
             found = setup_of(log, 0)
             if found is None:
                 raise LogAway("the log: its setup could not be written")
-        if setup is not None and replace(setup, name=found.name) != found:
+        if setup is not None and replace(setup, name=found.name, most_bytes=setup.most_bytes or found.most_bytes) != found:
             raise Differs(f"the log was set up otherwise: {told(found)}")
         check_whole(log, found, log_name)
     finally:
@@ -62,7 +68,7 @@ def init(path: str, version: Version, setup: Optional[Setup], log_name: str) -> 
 def told(setup: Setup) -> str:
     """A setup for people."""
     return (f"form {setup.form}, room {setup.room}, shards {setup.shards}, equivalents {'allowed' if setup.equivalents else 'refused'}"
-            + (f", name {setup.name}" if setup.name else ""))
+            + f", names of at most {setup.most_bytes} bytes" + (f", name {setup.name}" if setup.name else ""))
 
 
 def setup_of(log: Log, shard: int) -> Optional[Setup]:
@@ -212,15 +218,25 @@ class Registry:
         outcomes: dict[tuple[int, int], Outcome] = {}
         with self._lock:
             self._check_going()
-            left = set(range(self.setup.shards) if shards is None else shards)
+            left = list(range(self.setup.shards) if shards is None else shards)
             while left:
-                pieces = {number: self.shards[number].read() for number in left}
+                pieces = self._pieces(left)
                 with self._writing():
                     for number, piece in pieces.items():
                         for place, outcome in self.shards[number].apply(piece).items():
                             outcomes[number, place] = outcome
-                left = {number for number, piece in pieces.items() if len(piece) == PIECE and not self.shards[number].end}
+                left += [number for number in pieces if self.shards[number].more and not self.shards[number].end]
         return outcomes
+
+    def _pieces(self, left: list[int]) -> dict[int, list[tuple[int, bytes]]]:
+        """The next pieces of shards that are left, which they aren't any more: as many as are worked on at a time."""
+        pieces: dict[int, list[tuple[int, bytes]]] = {}
+        size = 0
+        while left and size < BYTES:
+            number = left.pop()
+            pieces[number] = self.shards[number].read()
+            size += size_of(pieces[number])
+        return pieces
 
     def _check_ends(self) -> None:
         for shard in self.shards:
@@ -260,6 +276,9 @@ class Registry:
 
     def _claim_of(self, string: Union[str, bytes], owner: str) -> Claim:
         """The claim of a string, by a node that keeps nothing else."""
+        most = self.setup.most_bytes
+        if most < records.MOST_BYTES and len(string if isinstance(string, bytes) else string.encode()) > most:
+            raise NameTooLong(most)
         self._speller.accept(string)
         message = self._speller.message(string)
         assert message is not None

@@ -110,7 +110,7 @@ class Service:
         names: dict[int, list[str]] = {}
         for shard, name in told.parked:
             names.setdefault(shard, []).append(name)
-        return JSONResponse({"node": told.node, "assigned": told.assigned, "form": told.form, "room": told.room, "versions": told.versions,
+        return JSONResponse({"node": told.node, "assigned": told.assigned, "form": told.form, "room": told.room, "most_bytes": told.most_bytes, "versions": told.versions,
                              "claims": told.claims, "log": {"away": told.log_away, "age": told.age}, "store": {"away": told.store_away},
                              "shards": [_state(one, names.get(one.shard, [])) for one in told.shards]})
 

@@ -8,7 +8,7 @@ from npss import Accepted, Node, Refused, Tables, Unassigned
 from npss_registry import records
 from npss_registry.errors import LogBroken, LogEnded, NotOneChain, StoreError
 from npss_registry.examine import Examiner
-from npss_registry.logs import PIECE, Log, record_at
+from npss_registry.logs import PIECE, Log, may_go_on, record_at
 from npss_registry.records import Claim, End, Forget, Record
 from npss_registry.store import Event, Registration, Store
 
@@ -46,6 +46,8 @@ class Shard:
         self._behind = 0
         self._count = store.count(number)
         self._last, self._sum = row.last, row.sum or records.NOTHING_READ
+        # Whether the log may have more behind what was read last.
+        self.more = False
         # Behind which record the shard ends, and where the registry goes on.
         self.end: Optional[tuple[int, str]] = None
         # The running sums that a store of an earlier layout has not yet: that of the place, and that of the image's.
@@ -132,8 +134,11 @@ class Shard:
     def read(self) -> list[tuple[int, bytes]]:
         """The next records of the log, at most a piece of them, behind the one that was read last."""
         if not self.place:
-            return self._log.read(self.number, 0, PIECE)
+            found = self._log.read(self.number, 0, PIECE)
+            self.more = may_go_on(found, PIECE)
+            return found
         found = self._log.read(self.number, self.place - 1, PIECE + 1)
+        self.more = may_go_on(found, PIECE + 1)
         self._check_last(found[0][1] if found and found[0][0] == self.place else None)
         return found[1:]
 

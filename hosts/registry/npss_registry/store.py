@@ -6,10 +6,12 @@ import sqlite3
 import zlib
 from collections.abc import Iterator, Sequence
 from contextlib import closing, contextmanager, suppress
+from dataclasses import replace
 from typing import Any, Optional
 
 from npss_registry.errors import StoreError
 from npss_registry.failures import told
+from npss_registry.images import first_of, whole, write_rest
 from npss_registry.layout import LAYOUT, TABLES, execute, raise_layout
 from npss_registry.lock import Lock
 from npss_registry.logs import located, uri_path, uri_to_read
@@ -65,10 +67,10 @@ class Store:
                 raise StoreError(f"{self.path}: its layout is an earlier one; `npss-registry status` brings it to the present one")
             with self.transaction():
                 raise_layout(self._base, file)
-        row = self._base.execute("SELECT form, room, shards, equivalents, name, log, node, openings, moving FROM setup").fetchone()
-        self.setup = Setup(form_of(row[0]), row[1], row[2], bool(row[3]), row[4])
+        row = self._base.execute("SELECT form, room, shards, equivalents, name, log, node, openings, moving, most_bytes FROM setup").fetchone()
+        self.setup = Setup(form_of(row[0]), row[1], row[2], bool(row[3]), row[4], most_bytes=row[9])
         # The log as it was named, and the one to which `relog` brings the store.
-        self.named_log, self.node, self._openings, self.moving = row[5:]
+        self.named_log, self.node, self._openings, self.moving = row[5:9]
 
     @property
     def log(self) -> str:
@@ -113,8 +115,8 @@ class Store:
             base.execute("PRAGMA synchronous = FULL")
             base.execute("BEGIN")
             execute(base, TABLES)
-            base.execute("INSERT INTO setup VALUES (?, ?, ?, ?, ?, ?, ?, 0, ?, NULL)",
-                         (LAYOUT, setup.form, setup.room, setup.shards, setup.equivalents, log, secrets.token_hex(8), setup.name))
+            base.execute("INSERT INTO setup VALUES (?, ?, ?, ?, ?, ?, ?, 0, ?, NULL, ?)",
+                         (LAYOUT, setup.form, setup.room, setup.shards, setup.equivalents, log, secrets.token_hex(8), setup.name, setup.most_bytes))
             _add_version(base, 0, version)
             base.executemany("INSERT INTO shard VALUES (?1, 0, NULL, ?2, ?2, 0)", ((number, NOTHING_READ) for number in range(setup.shards)))
             base.executemany("INSERT INTO image VALUES (?1, ?2, 0, ?2, 0, 0)", ((number, empty) for number in range(setup.shards)))
@@ -238,7 +240,8 @@ class Store:
     def shard(self, number: int) -> ShardRow:
         row = self._base.execute("SELECT place, last, sum, image, image_place, image_sum, base, base_place, base_version, events "
                                  "FROM shard JOIN image USING (number) WHERE number = ?", (number,)).fetchone()
-        return ShardRow(*row)
+        found = ShardRow(*row)
+        return replace(found, image=whole(self._base, number, "image", found.image), base=whole(self._base, number, "base", found.base))
 
     def applied(self, number: int, place: int, last: bytes, total: bytes) -> None:
         """Writes how far a shard was read, with the sum of its last record and the running sum."""
@@ -250,7 +253,8 @@ class Store:
 
     def save(self, number: int, image: bytes, place: int, version: int) -> None:
         """Writes the image of a shard's node behind the record at the place where the shard stands."""
-        self._base.execute("UPDATE image SET image = ?, image_place = ? WHERE number = ?", (image, place, number))
+        self._base.execute("UPDATE image SET image = ?, image_place = ? WHERE number = ?", (first_of(image), place, number))
+        write_rest(self._base, number, "image", image)
         self._base.execute("UPDATE shard SET image_sum = sum WHERE number = ?", (number,))
         self.note(number, Event("save", place, version))
 
@@ -258,7 +262,9 @@ class Store:
         """Begins a shard's journal anew with what its node keeps now."""
         self._base.execute("DELETE FROM journal WHERE shard = ?", (number,))
         self._base.execute("UPDATE image SET image = ?1, image_place = ?2, base = ?1, base_place = ?2, base_version = ?3 "
-                           "WHERE number = ?4", (image, place, version, number))
+                           "WHERE number = ?4", (first_of(image), place, version, number))
+        write_rest(self._base, number, "image", image)
+        write_rest(self._base, number, "base", image)
         self._base.execute("UPDATE shard SET image_sum = sum, events = 0 WHERE number = ?", (number,))
 
     def note(self, number: int, event: Event) -> None:
@@ -297,6 +303,7 @@ class Store:
         self._base.execute("DELETE FROM journal")
         self._base.execute("UPDATE shard SET place = 0, last = NULL, sum = ?1, image_sum = ?1, events = 0", (NOTHING_READ,))
         self._base.execute("UPDATE image SET image = ?1, image_place = 0, base = ?1, base_place = 0, base_version = ?2", (empty, version))
+        self._base.execute("DELETE FROM image_rest")
         self._base.execute("UPDATE setup SET log = ?, name = ?, moving = NULL", (log, setup.name))
         self.named_log, self.setup, self.moving = log, setup, None
         self.rename_node()

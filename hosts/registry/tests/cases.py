@@ -30,7 +30,9 @@ ALTER TABLE shard DROP COLUMN events;
 ALTER TABLE shard RENAME COLUMN last TO sum;
 ALTER TABLE setup DROP COLUMN name;
 ALTER TABLE setup DROP COLUMN moving;
+ALTER TABLE setup DROP COLUMN most_bytes;
 DROP TABLE lost;
+DROP TABLE image_rest;
 UPDATE setup SET layout = 2;
 """
 FIRST_LAYOUT = """

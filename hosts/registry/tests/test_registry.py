@@ -16,7 +16,7 @@ from restarts import Restarts  # noqa: F401
 from rules import Rules, Versions  # noqa: F401
 from setups import Setups  # noqa: F401
 from test_http import Addresses, Pages, Requests, Strangers  # noqa: F401
-from test_large import Large  # noqa: F401
+from test_large import Images, Large, Lengths, Memory  # noqa: F401
 from test_news import News  # noqa: F401
 from test_service import Ends, Logs, Reading, Stores, Telling, Tokens, Watching  # noqa: F401
 from test_words import Listings, Serve, Statuses, Taken  # noqa: F401

@@ -59,7 +59,7 @@ class Statuses(WordsCase):
 
     def test_done_and_no(self):
         for status, pattern, words in (
-                (DONE, r"\Aform nfkc, room 9, shards 2, equivalents refused", ("init", "store", *OLD, "--form", "NFKC", "--room", "9", "--shards", "2")),
+                (DONE, r"\Aform nfkc, room 9, shards 2, equivalents refused, names of at most 1024 bytes\n\Z", ("init", "store", *OLD, "--form", "NFKC", "--room", "9", "--shards", "2")),
                 (DONE, r"\Aregistered '\ufb01' of 'x' at place 3\n\Z", ("claim", "store", "\ufb01", "--owner", "x")),
                 (DONE, "registered", ("claim", "store", "\ufb01", "--owner", "x")), (NO, "taken", ("claim", "store", "fi", "--owner", "y")),
                 (DONE, r"\A3\t'\ufb01'\tx\n\Z", ("find", "store", "fi")), (NO, r"\Anot registered\n\Z", ("find", "store", "A")),
