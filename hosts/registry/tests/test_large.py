@@ -126,7 +126,7 @@ class Memory(Case):
         ran = subprocess.run([sys.executable, "-c", READS, path], stdout=subprocess.PIPE, text=True, check=True, env=dict(os.environ))
         most, count = map(int, ran.stdout.split())
         self.assertEqual(count, 600)
-        # The nodes keep 600 names and keys, 75 MiB, and SQLite a part of the store's file.
+        # The nodes keep 600 names, 40 MiB, and SQLite a part of the store's file.
         self.assertLess(most, 190)
 
     def test_over_a_file(self):
