@@ -17,8 +17,9 @@ from rules import Rules, Versions  # noqa: F401
 from setups import Setups  # noqa: F401
 from test_http import Addresses, Pages, Requests, Strangers  # noqa: F401
 from test_large import Images, Large, Lengths, Memory  # noqa: F401
+from test_logs import Logs, Reading, Stores, Watching  # noqa: F401
 from test_news import News  # noqa: F401
-from test_service import Ends, Logs, Reading, Stores, Telling, Tokens, Watching  # noqa: F401
+from test_service import Ends, Telling, Tokens  # noqa: F401
 from test_words import Listings, Serve, Statuses, Taken  # noqa: F401
 
 if __name__ == "__main__":
