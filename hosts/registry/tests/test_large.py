@@ -17,6 +17,7 @@ from npss_registry import LogBroken, init
 from npss_registry.errors import NameTooLong
 from npss_registry.logs import open_log
 from npss_registry.records import Setup, claim_of, message, shard_of, spelled
+from npss_registry.relog import relog
 from serving import TOKEN, RedisServer, ServingCase, answered, claim, with_redis
 
 LONGEST = 65_536
@@ -59,6 +60,14 @@ class Lengths(Case):
         with self.assertRaisesRegex(LogBroken, "more than 3 bytes") as caught:
             node.catch_up()
         self.assertEqual(caught.exception.place, place)
+
+    def test_another_log_allows_as_much(self):
+        node = self.node("one", setup=Setup("nfc", 9, 1, False, most_bytes=3))
+        node.claim("a", "x")
+        node.close()
+        relog([node.store.path], str(self.folder / "new"))
+        again = self.open(node.store.path)
+        self.assertEqual((again.setup.most_bytes, again.find("a")[0].owner), (3, "x"))
 
     def test_a_log_that_tells_no_length_has_names_as_long_as_a_node_takes(self):
         path = self.store("store")
