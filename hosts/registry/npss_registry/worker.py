@@ -22,6 +22,7 @@ from npss_registry.store import Store
 LOGGER = logging.getLogger("npss_registry")
 # So many claims that wait are published together, or until their names have so many characters.
 BATCH, CHARACTERS = 1000, 1 << 20
+WORK = 1 << 16
 # So many shards with news are read on at a time, between what is asked.
 SHARDS = 32
 # A registry that can't be begun is tried again after so many seconds, at first and at most.
@@ -39,8 +40,8 @@ class _Asked:
 
     @property
     def size(self) -> int:
-        """How long a claimed name is."""
-        return 0 if self.claim is None else len(self.claim[0])
+        """How long a claimed name is; other work counts as one of the longest, since it isn't published together."""
+        return WORK if self.claim is None else len(self.claim[0])
 
 
 class Worker:

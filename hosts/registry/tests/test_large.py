@@ -123,15 +123,14 @@ class Images(Case):
 class Memory(Case):
     """What a node takes that reads many of the longest names."""
 
-    setup = Setup("nfc", 1000, 8, False)
-
-    def check(self):
+    def check(self, shards):
+        self.setup = Setup("nfc", 1000, shards, False)
         path = self.store("store")
         log = open_log(self.log)
         self.addCleanup(log.close)
         names = ["A" * number + "a" * (LONGEST - number) for number in range(1, 601)]
         for at in range(0, len(names), 50):
-            log.append([(shard_of(name, 8), spelled(claim_of(message("nfc", name, name), "x"))) for name in names[at:at + 50]])
+            log.append([(shard_of(name, shards), spelled(claim_of(message("nfc", name, name), "x"))) for name in names[at:at + 50]])
         ran = subprocess.run([sys.executable, "-c", READS, path], stdout=subprocess.PIPE, text=True, check=True, env=dict(os.environ))
         most, count = map(int, ran.stdout.split())
         self.assertEqual(count, 600)
@@ -139,14 +138,14 @@ class Memory(Case):
         self.assertLess(most, 190)
 
     def test_over_a_file(self):
-        self.check()
+        self.check(1)
 
     @with_redis
     def test_over_a_redis_server(self):
         server = RedisServer(self.folder)
         self.addCleanup(server.kill)
         self.log = server.log
-        self.check()
+        self.check(8)
 
 
 class Large(ServingCase):

@@ -21,6 +21,7 @@ from npss_registry.logs import SqliteLog, open_log
 from npss_registry.reader import Reader
 from npss_registry.records import Setup
 from npss_registry.watch import Watch
+from npss_registry.worker import Worker
 from serving import TOKEN, RedisServer, ServingCase, answered, claim, with_redis
 
 
@@ -50,6 +51,18 @@ class Reading(ServingCase):
             done.set()
             for thread in asking:
                 thread.join()
+
+    def test_work_that_always_waits_keeps_no_node_from_reading(self):
+        path = self.store("store")
+        worker, reader, other = Worker(path, Health()), Reader(path), self.node("other")
+        self.addCleanup(reader.close)
+        self.addCleanup(worker.close, 10)
+        worker.start()
+        for _ in range(250):
+            worker.work(lambda registry: time.sleep(0.02))
+        other.claim("A", "x")
+        worker.news(other.log.lasts(1))
+        self.until(lambda: reader.find("A"), 2.5)
 
     def test_a_node_that_is_behind_says_so(self):
         server = self.serve()

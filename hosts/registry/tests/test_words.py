@@ -127,8 +127,8 @@ class Statuses(WordsCase):
     def test_a_full_disk(self):
         store = self.store()
         # A limit on the size of files is what a full disk is to SQLite; the signal that comes with it is not waited for.
-        for words in (("claim", store, "A", "--owner", "x"), ("backup", store, "copy"), ("init", "other", *OLD, "--log", "l")):
-            self.sees(AWAY, "", *words, before="trap '' XFSZ; ulimit -f 8;")
+        for blocks, words in ((8, ("claim", store, "A", "--owner", "x")), (36, ("backup", store, "copy")), (8, ("init", "other", *OLD, "--log", "l"))):
+            self.sees(AWAY, "", *words, before=f"trap '' XFSZ; ulimit -f {blocks};")
         self.assertFalse(list(self.folder.glob("copy*")))
         self.sees(DONE, "", "claim", store, "A", "--owner", "x")
 
